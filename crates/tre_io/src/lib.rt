@@ -1,0 +1,2 @@
+//! Sources and sinks of bytes.
+#![tactic(auto)]

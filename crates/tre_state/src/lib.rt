@@ -1,0 +1,2 @@
+//! States and names.
+#![tactic(auto)]

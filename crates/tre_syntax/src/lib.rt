@@ -1,0 +1,2 @@
+//! Patterns and their meaning.
+#![tactic(auto)]

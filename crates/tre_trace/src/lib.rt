@@ -1,0 +1,2 @@
+//! Traces of constant segments.
+#![tactic(auto)]

@@ -1,0 +1,21 @@
+-- Intervals of durations (FORMATS 2014, section 2: the restriction of an expression to an interval).
+use Rattle.std.specs.Prelude.{ℕ, ◌≤◌, ◌<◌, ◌*◌, Bool, Option, MatchOption, MatchBool}
+
+-- What an interval is: its ends in ticks, and whether each end belongs to it. Without `high` it has no upper end.
+pub record IntervalEnds : Type 0 where
+  pub low : ℕ
+  pub low_weak : Bool
+  pub high : Option ℕ
+  pub high_weak : Bool
+
+-- The duration d/n is above the low end, or is it where that belongs to the interval.
+abbrev pub IsAboveLow : IntervalEnds → ℕ → ℕ → Type 0
+IsAboveLow ends d n = MatchBool ends.low_weak (ends.low * n ≤ d) (ends.low * n < d)
+
+-- The duration d/n is below the high end, or is it where that belongs to the interval.
+abbrev pub IsBelowHigh : IntervalEnds → ℕ → ℕ → Type 0
+IsBelowHigh ends d n = MatchOption ends.high (Unit {0}) (λ high. MatchBool ends.high_weak (d ≤ high * n) (d < high * n))
+
+-- The duration d/n is in the interval.
+abbrev pub LastsWithin : IntervalEnds → ℕ → ℕ → Type 0
+LastsWithin ends d n = IsAboveLow ends d n × IsBelowHigh ends d n

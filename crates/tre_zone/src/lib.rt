@@ -1,0 +1,2 @@
+//! Intervals, bounds and zones.
+#![tactic(auto)]
