@@ -1,0 +1,19 @@
+-- Lists of segments, and one more behind them.
+use Rattle.std.proofs.Common.{◌≡◌, ℕ, ◌+◌, ◌≤◌, List, [], ◌∷◌, ◌++◌, refl}
+use Rattle.tre_trace.specs.declared.segment.Segment.{Segment}
+use Rattle.tre_trace.specs.Trace.{end_of, AreLong, IsTrace, Fits}
+
+pub end_of-append : (start : ℕ) (xs ys : List Segment) → end_of start (xs ++ ys) ≡ end_of (end_of start xs) ys
+end_of-append start [] ys = refl
+end_of-append start (x ∷ xs) ys = end_of-append (start + x.len) xs ys
+
+pub AreLong-push : (xs : List Segment) (y : Segment) → AreLong xs → 1 ≤ y.len → AreLong (xs ++ y ∷ [])
+AreLong-push [] y long last = (last, tt)
+AreLong-push (x ∷ xs) y long last = (long.0, AreLong-push xs y long.1 last)
+
+-- a segment that fits makes a longer trace
+pub IsTrace-push : (xs : List Segment) (y : Segment) → IsTrace xs → Fits xs y → IsTrace (xs ++ y ∷ [])
+IsTrace-push xs y trace fits = record {
+  long = AreLong-push xs y trace.long fits.long;
+  in_time = rw (end_of-append 0 xs (y ∷ [])) fits.in_time;
+}
