@@ -1,2 +1,20 @@
-//! Sources and sinks of bytes.
+//! Sources and sinks of bytes, and whether a failure came from outside.
+//!
+//! A program that reads and writes takes a [`Source`] and a [`Sink`]. Each says what a call does to
+//! the bytes where the object tells them, and keeps a count of faults: a call answers [`Failed`] only
+//! where that count rose. [`put_all`] writes a whole slice, however few bytes a sink takes at a time.
+//!
+//! ```
+//! fn greet<K: Sink>(sink: &mut K) -> Result<(), Failed> {
+//!     put_all(sink, b"hello\n")
+//! }
+//! ```
 #![tactic(auto)]
+
+mod put;
+mod sink;
+mod source;
+
+pub use put::put_all;
+pub use sink::Sink;
+pub use source::{Failed, Source};
