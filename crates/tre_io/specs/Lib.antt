@@ -1,2 +1,5 @@
+pub mod Calls
 pub mod Faults
+pub mod MemoryInput
+pub mod MemoryOutput
 pub mod Written

@@ -11,10 +11,15 @@
 //! ```
 #![tactic(auto)]
 
+mod calls;
+mod memory_sink;
+mod memory_source;
 mod put;
 mod sink;
 mod source;
 
+pub use memory_sink::MemSink;
+pub use memory_source::MemSource;
 pub use put::put_all;
 pub use sink::Sink;
 pub use source::{Failed, Source};
