@@ -2,4 +2,5 @@ pub mod Calls
 pub mod Faults
 pub mod MemoryInput
 pub mod MemoryOutput
+pub mod SystemInput
 pub mod Written

@@ -12,14 +12,18 @@
 #![tactic(auto)]
 
 mod calls;
+mod file_source;
 mod memory_sink;
 mod memory_source;
 mod put;
 mod sink;
 mod source;
+mod std_sink;
 
+pub use file_source::FileSource;
 pub use memory_sink::MemSink;
 pub use memory_source::MemSource;
 pub use put::put_all;
 pub use sink::Sink;
 pub use source::{Failed, Source};
+pub use std_sink::StdSink;

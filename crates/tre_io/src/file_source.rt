@@ -1,0 +1,112 @@
+// A file or standard input as a source.
+ghost use Rattle.std.specs.Prelude.{◌≡◌, IsTrue, IfOk, None, true, false, refl};
+ghost use Rattle.std.specs.Io.{ReadsAtMost};
+ghost use Rattle.tre_io.specs.SystemInput.{is_open};
+
+use crate::source::{Failed, Source};
+use std::io::{Input, Read};
+use std::marker::Model;
+use std::rt::Files;
+use std::{fs, io};
+
+/// Opens a file of the system, or standard input by the name `-`. It tells no bytes and is never
+/// sound.
+#[derive(Drop)]
+pub struct FileSource<'a, R: Files + Input> {
+    rt: &'a R,
+    input: Opened<R::File, R::Reader>,
+    faults: u64,
+}
+
+#[derive(Drop)]
+enum Opened<F, I> {
+    Nothing,
+    File(F),
+    Standard(I),
+}
+
+impl<'a, R: Files + Input> Model for FileSource<'a, R> {
+    ghost use Rattle.tre_io.specs.SystemInput.{SystemInput, is_open};
+
+    ghost Value = { SystemInput };
+
+    ghost view = { λ a. record { opened = is_open a.input; faults = a.faults } };
+}
+
+impl<F: Read, I: Read> Opened<F, I> {
+    fn read(&mut self, buf: &mut [u8]) -> io::Result<usize>
+        requires { IsTrue (is_open self.old) }
+        ensures within { ReadsAtMost result buf.new }
+        ensures same { is_open self.new ≡ is_open self.old }
+    {
+        match self {
+            Opened::Nothing => unreachable!(),
+            Opened::File(file) => file.read(buf),
+            Opened::Standard(input) => input.read(buf),
+        }
+    }
+}
+
+// What a name stands for.
+fn opened_by_name<R: Files + Input>(rt: &R, name: &str) -> io::Result<Opened<R::File, R::Reader>>
+    ensures { IfOk result (λ input. IsTrue (is_open input)) }
+{
+    if name == "-" {
+        return Ok(Opened::Standard(rt.reader()));
+    }
+    Ok(Opened::File(fs::open(rt, name)?))
+}
+
+impl<'a, R: Files + Input> FileSource<'a, R> {
+    /// Nothing is opened.
+    pub fn new(rt: &'a R) -> FileSource<'a, R>
+        ensures { result ≡ record { opened = false; faults = 0 } }
+    {
+        FileSource {
+            rt,
+            input: Opened::Nothing,
+            faults: 0,
+        }
+    }
+}
+
+impl<'a, R: Files + Input> Source for FileSource<'a, R> {
+    ghost file_name = { λ _. None };
+
+    ghost file = { λ _. None };
+
+    ghost left = { λ _. None };
+
+    ghost opened = { λ source. source.opened };
+
+    ghost sound = { λ _. false };
+
+    ghost faults = { λ source. source.faults };
+
+    ghost told_together = { λ _. (λ told. told, λ told. told) };
+
+    ghost sound_tells = { λ _ sound. sound };
+
+    fn open(&mut self, name: &str) -> Result<(), Failed> {
+        match opened_by_name(self.rt, name) {
+            Ok(input) => {
+                self.input = input;
+                Ok(())
+            }
+            Err(_) => {
+                self.faults = self.faults.saturating_add(1);
+                Err(Failed)
+            }
+        }
+    }
+
+    fn read(&mut self, buf: &mut [u8]) -> Result<usize, Failed> {
+        match self.input.read(buf) {
+            Ok(count) => Ok(count),
+            Err(_) => {
+                self.faults = self.faults.saturating_add(1);
+                Err(Failed)
+            }
+        }
+    }
+}

@@ -1,0 +1,68 @@
+// Standard output and standard error as sinks.
+ghost use Rattle.std.specs.Prelude.{◌≡◌, None};
+
+use crate::sink::Sink;
+use crate::source::Failed;
+use std::io::{Stderr, Stdout, Write};
+use std::marker::Model;
+
+/// Writes to standard output or to standard error, or to another writer. It tells no bytes, and a
+/// contract sees it as its count of faults.
+///
+/// A write that takes nothing is a fault, so whoever writes all bytes comes to an end.
+#[derive(Drop)]
+pub struct StdSink<W: Write> {
+    writer: W,
+    faults: u64,
+}
+
+impl<W: Write> Model for StdSink<W> {
+    ghost use Rattle.std.specs.Prelude.{ℕ};
+
+    ghost Value = { ℕ };
+
+    ghost view = { λ a. a.faults };
+}
+
+impl StdSink<Stdout> {
+    /// Standard output, as `rt.stdout()` gives it.
+    pub fn out(stdout: Stdout) -> StdSink<Stdout>
+        ensures { result ≡ 0 }
+    {
+        StdSink::over(stdout)
+    }
+}
+
+impl StdSink<Stderr> {
+    /// Standard error, as `rt.stderr()` gives it.
+    pub fn err(stderr: Stderr) -> StdSink<Stderr>
+        ensures { result ≡ 0 }
+    {
+        StdSink::over(stderr)
+    }
+}
+
+impl<W: Write> StdSink<W> {
+    /// Any other writer.
+    pub fn over(writer: W) -> StdSink<W>
+        ensures { result ≡ 0 }
+    {
+        StdSink { writer, faults: 0 }
+    }
+}
+
+impl<W: Write> Sink for StdSink<W> {
+    ghost written = { λ _. None };
+
+    ghost faults = { λ sink. sink };
+
+    fn write(&mut self, bytes: &[u8]) -> Result<usize, Failed> {
+        match self.writer.write(bytes) {
+            Ok(count) if count > 0 => Ok(count),
+            _ => {
+                self.faults = self.faults.saturating_add(1);
+                Err(Failed)
+            }
+        }
+    }
+}
