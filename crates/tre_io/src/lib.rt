@@ -19,6 +19,8 @@ mod put;
 mod sink;
 mod source;
 mod std_sink;
+#[cfg(test)]
+mod tests;
 
 pub use file_source::FileSource;
 pub use memory_sink::MemSink;
