@@ -43,8 +43,7 @@ impl Calls {
     {
         self.made = self.made.saturating_add(1);
         if self.fails.contains(&self.made) {
-            self.faults = self.faults.saturating_add(1);
-            return Err(Failed);
+            return Err(self.fail());
         }
         Ok(())
     }
