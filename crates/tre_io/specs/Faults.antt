@@ -1,6 +1,6 @@
 -- Counts of faults, and what a failed call shows.
 use Rattle.std.specs.Prelude.{◌≡◌, ℕ, ◌+◌, ◌-◌, ◌^◌, ◌<◌, ◌≤◌, min, Result, OnOk, OnErr}
-use Rattle.tre_io.specs.declared.source.Failed.{Failed}
+use Rattle.tre_io.specs.declared.faults.Failed.{Failed}
 
 -- the number after this one; the last that a u64 can hold stays
 abbrev pub counted : ℕ → ℕ

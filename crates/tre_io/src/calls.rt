@@ -3,7 +3,7 @@ ghost use Rattle.std.specs.Prelude.{◌≡◌, ◌^◌, ◌<◌, OnOk, OnErr, fa
 ghost use Rattle.tre_io.specs.Calls.{new_calls, is_next_failing, after_call, after_fault, with_fault};
 ghost use Rattle.tre_io.specs.Faults.{HasCause};
 
-use crate::source::Failed;
+use crate::faults::{Failed, count_fault};
 use std::marker::Model;
 
 #[derive(Drop)]
@@ -53,7 +53,6 @@ impl Calls {
         ensures one_more { self.new ≡ with_fault self.old }
         ensures fits { self.old.faults < 2 ^ 64 }
     {
-        self.faults = self.faults.saturating_add(1);
-        Failed
+        count_fault(&mut self.faults)
     }
 }

@@ -3,7 +3,8 @@ ghost use Rattle.std.specs.Prelude.{◌≡◌, IsTrue, IfOk, None, true, false, 
 ghost use Rattle.std.specs.Io.{ReadsAtMost};
 ghost use Rattle.tre_io.specs.SystemInput.{is_open};
 
-use crate::source::{Failed, Source};
+use crate::faults::{Failed, count_fault};
+use crate::source::Source;
 use std::io::{Input, Read};
 use std::marker::Model;
 use std::rt::Files;
@@ -93,20 +94,14 @@ impl<'a, R: Files + Input> Source for FileSource<'a, R> {
                 self.input = input;
                 Ok(())
             }
-            Err(_) => {
-                self.faults = self.faults.saturating_add(1);
-                Err(Failed)
-            }
+            Err(_) => Err(count_fault(&mut self.faults)),
         }
     }
 
     fn read(&mut self, buf: &mut [u8]) -> Result<usize, Failed> {
         match self.input.read(buf) {
             Ok(count) => Ok(count),
-            Err(_) => {
-                self.faults = self.faults.saturating_add(1);
-                Err(Failed)
-            }
+            Err(_) => Err(count_fault(&mut self.faults)),
         }
     }
 }

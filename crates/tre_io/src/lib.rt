@@ -12,6 +12,7 @@
 #![tactic(auto)]
 
 mod calls;
+mod faults;
 mod file_source;
 mod memory_sink;
 mod memory_source;
@@ -22,10 +23,11 @@ mod std_sink;
 #[cfg(test)]
 mod tests;
 
+pub use faults::Failed;
 pub use file_source::FileSource;
 pub use memory_sink::MemSink;
 pub use memory_source::MemSource;
 pub use put::put_all;
 pub use sink::Sink;
-pub use source::{Failed, Source};
+pub use source::Source;
 pub use std_sink::StdSink;

@@ -5,8 +5,8 @@ ghost use Rattle.tre_io.specs.Faults.{HasCause};
 ghost use Rattle.tre_io.specs.MemoryOutput.{new_output, after_write, after_failed_output};
 
 use crate::calls::Calls;
+use crate::faults::Failed;
 use crate::sink::Sink;
-use crate::source::Failed;
 use std::alloc::Global;
 use std::marker::Model;
 

@@ -5,7 +5,8 @@ ghost use Rattle.tre_io.specs.Faults.{HasCause};
 ghost use Rattle.tre_io.specs.MemoryInput.{new_input, is_sound, CanOpen, after_open, after_read, after_failed_input};
 
 use crate::calls::Calls;
-use crate::source::{Failed, Source};
+use crate::faults::Failed;
+use crate::source::Source;
 use std::marker::Model;
 
 /// One file in memory, with its name and its bytes. It tells everything.

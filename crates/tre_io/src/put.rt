@@ -4,8 +4,8 @@ ghost use Rattle.std.specs.Io.KnownBytes.{Appends};
 ghost use Rattle.tre_io.specs.Faults.{HasCause};
 ghost use Rattle.tre_io.specs.Written.{AppendsPart};
 
+use crate::faults::Failed;
 use crate::sink::Sink;
-use crate::source::Failed;
 
 /// Writes all these bytes, in as many calls as the sink needs. Of no bytes it makes no call.
 ///

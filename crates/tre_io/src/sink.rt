@@ -3,7 +3,7 @@ ghost use Rattle.std.specs.Prelude.{◌<◌, ◌≤◌, ℕ, List, Option, IfOk,
 ghost use Rattle.std.specs.Io.KnownBytes.{WriteAppends};
 ghost use Rattle.tre_io.specs.Faults.{HasCause};
 
-use crate::source::Failed;
+use crate::faults::Failed;
 
 /// Takes bytes, maybe only some of those that a call offers.
 pub trait Sink {

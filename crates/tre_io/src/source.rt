@@ -1,12 +1,10 @@
-// Where bytes come from, and how a call fails.
+// Where bytes come from.
 ghost use Rattle.std.specs.Prelude.{◌≡◌, ◌↔◌, ℕ, ◌<◌, List, [], Bool, Option, Some, IsTrue, IsSome, IsOk, OnOk, OnErr, IfOk, IfSome, length};
 ghost use Rattle.std.specs.Io.{ReadsAtMost};
 ghost use Rattle.std.specs.Io.KnownBytes.{Keeps, ReadConsumes};
 ghost use Rattle.tre_io.specs.Faults.{HasCause};
 
-/// A call didn't do its work. The object's count of faults says that this came from outside.
-#[derive(Clone, Copy, Debug, PartialEq, Eq)]
-pub struct Failed;
+use crate::faults::Failed;
 
 /// Opens one input at a time, by its name, and reads it from front to back.
 ///

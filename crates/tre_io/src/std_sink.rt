@@ -1,8 +1,8 @@
 // Standard output and standard error as sinks.
 ghost use Rattle.std.specs.Prelude.{◌≡◌, None};
 
+use crate::faults::{Failed, count_fault};
 use crate::sink::Sink;
-use crate::source::Failed;
 use std::io::{Stderr, Stdout, Write};
 use std::marker::Model;
 
@@ -59,10 +59,7 @@ impl<W: Write> Sink for StdSink<W> {
     fn write(&mut self, bytes: &[u8]) -> Result<usize, Failed> {
         match self.writer.write(bytes) {
             Ok(count) if count > 0 => Ok(count),
-            _ => {
-                self.faults = self.faults.saturating_add(1);
-                Err(Failed)
-            }
+            _ => Err(count_fault(&mut self.faults)),
         }
     }
 }
