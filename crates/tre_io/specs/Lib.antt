@@ -3,4 +3,5 @@ pub mod Faults
 pub mod MemoryInput
 pub mod MemoryOutput
 pub mod SystemInput
+pub mod SystemOutput
 pub mod Written

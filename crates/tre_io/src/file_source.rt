@@ -1,7 +1,8 @@
 // A file or standard input as a source.
 ghost use Rattle.std.specs.Prelude.{◌≡◌, IsTrue, IfOk, None, true, false, refl};
 ghost use Rattle.std.specs.Io.{ReadsAtMost};
-ghost use Rattle.tre_io.specs.SystemInput.{is_open};
+ghost use Rattle.std.specs.Io.KnownBytes.{ReadConsumes};
+ghost use Rattle.tre_io.specs.SystemInput.{is_open, left_in};
 
 use crate::faults::{Failed, count_fault};
 use crate::source::Source;
@@ -10,8 +11,10 @@ use std::marker::Model;
 use std::rt::Files;
 use std::{fs, io};
 
-/// Opens a file of the system, or standard input by the name `-`. It tells no bytes and is never
-/// sound.
+/// Opens a file of the system, or standard input by the name `-`.
+///
+/// It doesn't tell its file and is never sound. The real system tells no bytes; over a runtime whose
+/// readers tell what they have left, it tells the same.
 #[derive(Drop)]
 pub struct FileSource<'a, R: Files + Input> {
     rt: &'a R,
@@ -27,11 +30,15 @@ enum Opened<F, I> {
 }
 
 impl<'a, R: Files + Input> Model for FileSource<'a, R> {
-    ghost use Rattle.tre_io.specs.SystemInput.{SystemInput, is_open};
+    ghost use Rattle.tre_io.specs.SystemInput.{SystemInput, is_open, left_in};
 
     ghost Value = { SystemInput };
 
-    ghost view = { λ a. record { opened = is_open a.input; faults = a.faults } };
+    ghost view = { λ a. record {
+      opened = is_open a.input;
+      left = left_in R.File.remaining R.Reader.remaining a.input;
+      faults = a.faults;
+    } };
 }
 
 impl<F: Read, I: Read> Opened<F, I> {
@@ -39,6 +46,7 @@ impl<F: Read, I: Read> Opened<F, I> {
         requires { IsTrue (is_open self.old) }
         ensures within { ReadsAtMost result buf.new }
         ensures same { is_open self.new ≡ is_open self.old }
+        ensures bytes { ReadConsumes (left_in F.remaining I.remaining self.old) (left_in F.remaining I.remaining self.new) result buf.new }
     {
         match self {
             Opened::Nothing => unreachable!(),
@@ -61,7 +69,7 @@ fn opened_by_name<R: Files + Input>(rt: &R, name: &str) -> io::Result<Opened<R::
 impl<'a, R: Files + Input> FileSource<'a, R> {
     /// Nothing is opened.
     pub fn new(rt: &'a R) -> FileSource<'a, R>
-        ensures { result ≡ record { opened = false; faults = 0 } }
+        ensures { result ≡ record { opened = false; left = None; faults = 0 } }
     {
         FileSource {
             rt,
@@ -76,7 +84,7 @@ impl<'a, R: Files + Input> Source for FileSource<'a, R> {
 
     ghost file = { λ _. None };
 
-    ghost left = { λ _. None };
+    ghost left = { λ source. source.left };
 
     ghost opened = { λ source. source.opened };
 

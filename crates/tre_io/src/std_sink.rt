@@ -6,8 +6,8 @@ use crate::sink::Sink;
 use std::io::{Stderr, Stdout, Write};
 use std::marker::Model;
 
-/// Writes to standard output or to standard error, or to another writer. It tells no bytes, and a
-/// contract sees it as its count of faults.
+/// Writes to standard output or to standard error, which tell no bytes, or to another writer, and
+/// then tells what that one does.
 ///
 /// A write that takes nothing is a fault, so whoever writes all bytes comes to an end.
 #[derive(Drop)]
@@ -17,17 +17,17 @@ pub struct StdSink<W: Write> {
 }
 
 impl<W: Write> Model for StdSink<W> {
-    ghost use Rattle.std.specs.Prelude.{ℕ};
+    ghost use Rattle.tre_io.specs.SystemOutput.{SystemOutput};
 
-    ghost Value = { ℕ };
+    ghost Value = { SystemOutput };
 
-    ghost view = { λ a. a.faults };
+    ghost view = { λ a. record { written = W.contents a.writer; faults = a.faults } };
 }
 
 impl StdSink<Stdout> {
     /// Standard output, as `rt.stdout()` gives it.
     pub fn out(stdout: Stdout) -> StdSink<Stdout>
-        ensures { result ≡ 0 }
+        ensures { result ≡ record { written = None; faults = 0 } }
     {
         StdSink::over(stdout)
     }
@@ -36,7 +36,7 @@ impl StdSink<Stdout> {
 impl StdSink<Stderr> {
     /// Standard error, as `rt.stderr()` gives it.
     pub fn err(stderr: Stderr) -> StdSink<Stderr>
-        ensures { result ≡ 0 }
+        ensures { result ≡ record { written = None; faults = 0 } }
     {
         StdSink::over(stderr)
     }
@@ -45,16 +45,16 @@ impl StdSink<Stderr> {
 impl<W: Write> StdSink<W> {
     /// Any other writer.
     pub fn over(writer: W) -> StdSink<W>
-        ensures { result ≡ 0 }
+        ensures { result ≡ record { written = W.contents writer; faults = 0 } }
     {
         StdSink { writer, faults: 0 }
     }
 }
 
 impl<W: Write> Sink for StdSink<W> {
-    ghost written = { λ _. None };
+    ghost written = { λ sink. sink.written };
 
-    ghost faults = { λ sink. sink };
+    ghost faults = { λ sink. sink.faults };
 
     fn write(&mut self, bytes: &[u8]) -> Result<usize, Failed> {
         match self.writer.write(bytes) {
