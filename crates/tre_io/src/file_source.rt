@@ -1,0 +1,115 @@
+// A file or standard input as a source.
+ghost use Rattle.std.specs.Prelude.{◌≡◌, IsTrue, IfOk, None, true, false, refl};
+ghost use Rattle.std.specs.Io.{ReadsAtMost};
+ghost use Rattle.std.specs.Io.KnownBytes.{ReadConsumes};
+ghost use Rattle.tre_io.specs.SystemInput.{is_open, left_in};
+
+use crate::faults::{Failed, count_fault};
+use crate::source::Source;
+use std::io::{Input, Read};
+use std::marker::Model;
+use std::rt::Files;
+use std::{fs, io};
+
+/// Opens a file of the system, or standard input by the name `-`.
+///
+/// It doesn't tell its file and is never sound. The real system tells no bytes; over a runtime whose
+/// readers tell what they have left, it tells the same.
+#[derive(Drop)]
+pub struct FileSource<'a, R: Files + Input> {
+    rt: &'a R,
+    input: Opened<R::File, R::Reader>,
+    faults: u64,
+}
+
+#[derive(Drop)]
+enum Opened<F, I> {
+    Nothing,
+    File(F),
+    Standard(I),
+}
+
+impl<'a, R: Files + Input> Model for FileSource<'a, R> {
+    ghost use Rattle.tre_io.specs.SystemInput.{SystemInput, is_open, left_in};
+
+    ghost Value = { SystemInput };
+
+    ghost view = { λ a. record {
+      opened = is_open a.input;
+      left = left_in R.File.remaining R.Reader.remaining a.input;
+      faults = a.faults;
+    } };
+}
+
+impl<F: Read, I: Read> Opened<F, I> {
+    fn read(&mut self, buf: &mut [u8]) -> io::Result<usize>
+        requires { IsTrue (is_open self.old) }
+        ensures within { ReadsAtMost result buf.new }
+        ensures same { is_open self.new ≡ is_open self.old }
+        ensures bytes { ReadConsumes (left_in F.remaining I.remaining self.old) (left_in F.remaining I.remaining self.new) result buf.new }
+    {
+        match self {
+            Opened::Nothing => unreachable!(),
+            Opened::File(file) => file.read(buf),
+            Opened::Standard(input) => input.read(buf),
+        }
+    }
+}
+
+// What a name stands for.
+fn opened_by_name<R: Files + Input>(rt: &R, name: &str) -> io::Result<Opened<R::File, R::Reader>>
+    ensures { IfOk result (λ input. IsTrue (is_open input)) }
+{
+    if name == "-" {
+        return Ok(Opened::Standard(rt.reader()));
+    }
+    Ok(Opened::File(fs::open(rt, name)?))
+}
+
+impl<'a, R: Files + Input> FileSource<'a, R> {
+    /// Nothing is opened.
+    pub fn new(rt: &'a R) -> FileSource<'a, R>
+        ensures { result ≡ record { opened = false; left = None; faults = 0 } }
+    {
+        FileSource {
+            rt,
+            input: Opened::Nothing,
+            faults: 0,
+        }
+    }
+}
+
+impl<'a, R: Files + Input> Source for FileSource<'a, R> {
+    ghost file_name = { λ _. None };
+
+    ghost file = { λ _. None };
+
+    ghost left = { λ source. source.left };
+
+    ghost opened = { λ source. source.opened };
+
+    ghost sound = { λ _. false };
+
+    ghost faults = { λ source. source.faults };
+
+    ghost told_together = { λ _. (λ told. told, λ told. told) };
+
+    ghost sound_tells = { λ _ sound. sound };
+
+    fn open(&mut self, name: &str) -> Result<(), Failed> {
+        match opened_by_name(self.rt, name) {
+            Ok(input) => {
+                self.input = input;
+                Ok(())
+            }
+            Err(_) => Err(count_fault(&mut self.faults)),
+        }
+    }
+
+    fn read(&mut self, buf: &mut [u8]) -> Result<usize, Failed> {
+        match self.input.read(buf) {
+            Ok(count) => Ok(count),
+            Err(_) => Err(count_fault(&mut self.faults)),
+        }
+    }
+}

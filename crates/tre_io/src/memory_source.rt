@@ -1,0 +1,115 @@
+// A file in memory, read in as small pieces as a test wants, with failures where it wants them.
+ghost use Rattle.std.specs.Prelude.{◌≡◌, ◌<◌, ◌↔◌, ◌++◌, Some, IsTrue, IsOk, OnOk, OnErr, IfOk, length, min, take, drop, false, string_bytes, refl};
+ghost use Rattle.tre_io.specs.Calls.{is_next_failing};
+ghost use Rattle.tre_io.specs.Faults.{HasCause};
+ghost use Rattle.tre_io.specs.MemoryInput.{new_input, is_sound, CanOpen, after_open, after_read, after_failed_input};
+
+use crate::calls::Calls;
+use crate::faults::Failed;
+use crate::source::Source;
+use std::marker::Model;
+
+/// One file in memory, with its name and its bytes. It tells everything.
+///
+/// Its calls of `open` and `read` are counted together from 1, and the count stays at 2^64 - 1 once
+/// it is there.
+#[derive(Drop)]
+pub struct MemSource {
+    name: String,
+    bytes: Vec<u8>,
+    place: usize,
+    opened: bool,
+    most: usize,
+    calls: Calls,
+}
+
+impl Model for MemSource {
+    ghost use Rattle.std.specs.Prelude.{◌≤◌, ◌<◌, length, drop, string_bytes};
+    ghost use Rattle.tre_io.specs.MemoryInput.{MemoryInput};
+
+    ghost Value = { MemoryInput };
+
+    ghost view = { λ a. record {
+      name = string_bytes a.name;
+      bytes = a.bytes.items;
+      left = drop a.place a.bytes.items;
+      opened = a.opened;
+      most = a.most;
+      calls = a.calls;
+    } };
+
+    ghost invariant = { λ a. (a.place ≤ length a.bytes.items) × (0 < a.most) };
+}
+
+impl MemSource {
+    /// A file of this name with these bytes, not opened. A read gives at most `most` bytes, and the
+    /// calls with the numbers in `fails` fail. Without such numbers the source is sound.
+    pub fn new(name: String, bytes: Vec<u8>, most: usize, fails: Vec<u64>) -> MemSource
+        requires { 0 < most }
+        ensures { result ≡ new_input (string_bytes name) bytes.items most fails.items }
+    {
+        MemSource {
+            name,
+            bytes,
+            place: 0,
+            opened: false,
+            most,
+            calls: Calls::new(fails),
+        }
+    }
+}
+
+impl Source for MemSource {
+    ghost file_name = { λ source. Some source.name };
+
+    ghost file = { λ source. Some source.bytes };
+
+    ghost left = { λ source. Some source.left };
+
+    ghost opened = { λ source. source.opened };
+
+    ghost sound = { is_sound };
+
+    ghost faults = { λ source. source.calls.faults };
+
+    ghost told_together = { λ source. (λ _. refl, λ _. refl) };
+
+    ghost sound_tells = { λ source _. refl };
+
+    /// Fails where this call is to fail, and under any name but the file's.
+    fn open(&mut self, name: &str) -> Result<(), Failed>
+        ensures answer { IsOk result ↔ CanOpen self.old name.now }
+        ensures ok { OnOk result (self.new ≡ after_open self.old) }
+        ensures err { OnErr result (self.new ≡ after_failed_input self.old) }
+        ensures cause { HasCause self.old.calls.faults self.new.calls.faults result }
+    {
+        self.calls.begin()?;
+        if name != self.name.as_str() {
+            return Err(self.calls.fail());
+        }
+        self.place = 0;
+        self.opened = true;
+        Ok(())
+    }
+
+    /// Fails where this call is to fail. Else it gives as many bytes as `most`, the buffer and what
+    /// is left allow, and leaves the rest of the buffer alone.
+    fn read(&mut self, buf: &mut [u8]) -> Result<usize, Failed>
+        requires opened { IsTrue self.old.opened }
+        requires room { 0 < length buf.old }
+        ensures some { 0 < self.old.most }
+        ensures answer { IsOk result ↔ (is_next_failing self.old.calls ≡ false) }
+        ensures count { IfOk result (λ count. count ≡ min self.old.most (min (length buf.old) (length self.old.left))) }
+        ensures bytes { IfOk result (λ count. buf.new ≡ take count self.old.left ++ drop count buf.old) }
+        ensures ok { IfOk result (λ count. self.new ≡ after_read self.old count) }
+        ensures err { OnErr result (self.new ≡ after_failed_input self.old) }
+        ensures cause { HasCause self.old.calls.faults self.new.calls.faults result }
+    {
+        self.calls.begin()?;
+        let left = &self.bytes[self.place..];
+        let count = self.most.min(buf.len().min(left.len()));
+        buf[..count].copy_from_slice(&left[..count]);
+        self.place += count;
+        Ok(count)
+    }
+}
