@@ -4,3 +4,7 @@ pub mod Spans
 pub mod ZoneKeys
 pub mod ZoneListLemmas
 pub mod SpanLists
+pub mod Paths
+pub mod Sums
+pub mod Closing
+pub mod Tightness

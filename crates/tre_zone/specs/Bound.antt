@@ -27,3 +27,8 @@ sum_of left right = (left +ℤ right) -ℤ pos (max (weakness_of left) (weakness
 pub record IsValueWithin (limit : ℕ) (key : ℤ) : Type 0 where
   pub low : neg_ℤ (pos limit) ≤ℤ value_of key
   pub high : value_of key ≤ℤ pos limit
+
+-- The key is a whole number from -limit to limit.
+pub record IsKeyWithin (limit : ℕ) (key : ℤ) : Type 0 where
+  pub low : neg_ℤ (pos limit) ≤ℤ key
+  pub high : key ≤ℤ pos limit

@@ -1,7 +1,8 @@
 -- Zones: sets of pairs of times under six bounds.
-use Rattle.std.specs.Prelude.{ℕ, ◌+◌, ◌-◌, ◌*◌, ◌<◌, ◌≤◌, ◌≡◌, ◌↔◌, List, [], ◌∷◌, ℤ, pos, ◌+ℤ◌, ◌-ℤ◌, ◌*ℤ◌, ◌≤ℤ◌, neg_ℤ, ◌^◌}
+use Rattle.std.specs.Prelude.{ℕ, ◌+◌, ◌-◌, ◌*◌, ◌<◌, ◌≤◌, ◌≡◌, ◌↔◌, List, [], ◌∷◌, ℤ, pos, ◌-ℤ◌, ◌≤ℤ◌, neg_ℤ, ◌^◌, Option, MatchOption}
+use Rattle.std.specs.Int.{int_min}
 use Rattle.tre_pairs.specs.Pairs.{Pairs}
-use Rattle.tre_zone.specs.Bound.{value_of, weakness_of, sum_of, Meets}
+use Rattle.tre_zone.specs.Bound.{sum_of, Meets, IsKeyWithin, IsValueWithin}
 use Rattle.tre_zone.specs.declared.zone_bounds.ZoneBounds.{ZoneBounds}
 
 -- The zone holds the pair of the times a/n and b/n: its six bounds hold of -a, a, -b, b, a - b and b - a, in units of 1/n.
@@ -26,8 +27,8 @@ pub record Covers (outer inner : ZoneBounds) : Type 0 where
   pub dur_low : inner.dur_low ≤ℤ outer.dur_low
   pub dur_high : inner.dur_high ≤ℤ outer.dur_high
 
--- Whatever bounds a sum of two differences bounds nothing tighter than each of them: the six bounds of a zone that is not
--- empty, lies in the frame of the pairs of times that can be named, and says of each difference the most that can be said.
+-- The canonical bounds: those of a zone that is not empty, lies in the frame of the times that can be named, and has for
+-- each difference the tightest bound that its other bounds allow.
 pub record IsCanonical (zone : ZoneBounds) : Type 0 where
   -- it is not empty: no difference is asked to be below itself
   pub begin_loop : pos 1 ≤ℤ sum_of zone.begin_low zone.begin_high
@@ -61,6 +62,119 @@ pub record IsInSpan (begin end a b n : ℕ) : Type 0 where
   pub starts : begin * n ≤ a
   pub lasts : a < b
   pub ends : b ≤ end * n
+
+-- The pair of instants (t,t) with from ≤ t ≤ to.
+pub record IsInstant (from to a b n : ℕ) : Type 0 where
+  pub starts : from * n ≤ a
+  pub same : a ≡ b
+  pub ends : b ≤ to * n
+
+-- The pair ends at the time t.
+pub record EndsAt (t a b n : ℕ) : Type 0 where
+  pub ends : b ≡ t * n
+
+-- The pair lies in the frame of the times that can be named: 0 ≤ begin ≤ end ≤ limit.
+pub record IsInFrame (limit a b n : ℕ) : Type 0 where
+  pub rising : a ≤ b
+  pub ends : b ≤ limit * n
+
+-- Some pair is in the zone.
+pub record HoldsSome (zone : ZoneBounds) : Type 0 where
+  pub a : ℕ
+  pub b : ℕ
+  pub n : ℕ
+  pub some : 0 < n
+  pub rising : a ≤ b
+  pub held : ZoneHolds zone a b n
+
+-- The key is the tightest for the difference of the two times that `left` and `right` pick from a pair:
+-- each bound that every pair of the zone meets has at least this key.
+pub record IsTightest (zone : ZoneBounds) (key : ℤ) (left right : ℕ → ℕ → ℕ) : Type 0 where
+  pub tightest : (other : ℤ) → ((a b n : ℕ) → 0 < n → a ≤ b → ZoneHolds zone a b n → Meets other (left a b) (right a b) n) → key ≤ℤ other
+
+-- Each of the six bounds is the tightest that the pairs of the zone allow.
+pub record IsTight (zone : ZoneBounds) : Type 0 where
+  pub begin_low : IsTightest zone zone.begin_low (λ a b. 0) (λ a b. a)
+  pub begin_high : IsTightest zone zone.begin_high (λ a b. a) (λ a b. 0)
+  pub end_low : IsTightest zone zone.end_low (λ a b. 0) (λ a b. b)
+  pub end_high : IsTightest zone zone.end_high (λ a b. b) (λ a b. 0)
+  pub dur_low : IsTightest zone zone.dur_low (λ a b. a) (λ a b. b)
+  pub dur_high : IsTightest zone zone.dur_high (λ a b. b) (λ a b. a)
+
+-- The zone holds a pair, at every denominator, exactly where the relation holds of it.
+pub record HoldsExactly (zone : ZoneBounds) (relation : Pairs) : Type 0 where
+  pub exact : (a b n : ℕ) → 0 < n → a ≤ b → ZoneHolds zone a b n ↔ relation a b n
+
+-- The relation holds of no pair, at any denominator.
+pub record HoldsNever (relation : Pairs) : Type 0 where
+  pub never : (a b n : ℕ) → 0 < n → a ≤ b → relation a b n → ⊥
+
+-- The answer is the zone of exactly the pairs of the relation, and None where there are none.
+abbrev pub GivesZone : Option ZoneBounds → Pairs → Type 0
+GivesZone answer relation = MatchOption answer (HoldsNever relation) (λ zone. HoldsExactly zone relation)
+
+-- Each key is a whole number from -limit to limit.
+pub record AreKeysWithin (limit : ℕ) (zone : ZoneBounds) : Type 0 where
+  pub begin_low : IsKeyWithin limit zone.begin_low
+  pub begin_high : IsKeyWithin limit zone.begin_high
+  pub end_low : IsKeyWithin limit zone.end_low
+  pub end_high : IsKeyWithin limit zone.end_high
+  pub dur_low : IsKeyWithin limit zone.dur_low
+  pub dur_high : IsKeyWithin limit zone.dur_high
+
+-- Each value is a whole number from -limit to limit.
+pub record AreValuesWithin (limit : ℕ) (zone : ZoneBounds) : Type 0 where
+  pub begin_low : IsValueWithin limit zone.begin_low
+  pub begin_high : IsValueWithin limit zone.begin_high
+  pub end_low : IsValueWithin limit zone.end_low
+  pub end_high : IsValueWithin limit zone.end_high
+  pub dur_low : IsValueWithin limit zone.dur_low
+  pub dur_high : IsValueWithin limit zone.dur_high
+
+-- The bounds together with those of the frame.
+unfoldable pub framed_of : ZoneBounds → ZoneBounds
+framed_of zone = record {
+  begin_low = int_min zone.begin_low (pos 1);
+  begin_high = zone.begin_high;
+  end_low = zone.end_low;
+  end_high = int_min zone.end_high (pos (2 ^ 41 + 1));
+  dur_low = int_min zone.dur_low (pos 1);
+  dur_high = zone.dur_high;
+}
+
+-- Each bound, or the way round through the third time where that is tighter.
+unfoldable pub closed_of : ZoneBounds → ZoneBounds
+closed_of zone = record {
+  begin_low = int_min zone.begin_low (sum_of zone.end_low zone.dur_high);
+  begin_high = int_min zone.begin_high (sum_of zone.dur_low zone.end_high);
+  end_low = int_min zone.end_low (sum_of zone.begin_low zone.dur_low);
+  end_high = int_min zone.end_high (sum_of zone.dur_high zone.begin_high);
+  dur_low = int_min zone.dur_low (sum_of zone.begin_high zone.end_low);
+  dur_high = int_min zone.dur_high (sum_of zone.end_high zone.begin_low);
+}
+
+-- The tighter bound of each two.
+unfoldable pub tighter_of : ZoneBounds → ZoneBounds → ZoneBounds
+tighter_of one other = record {
+  begin_low = int_min one.begin_low other.begin_low;
+  begin_high = int_min one.begin_high other.begin_high;
+  end_low = int_min one.end_low other.end_low;
+  end_high = int_min one.end_high other.end_high;
+  dur_low = int_min one.dur_low other.dur_low;
+  dur_high = int_min one.dur_high other.dur_high;
+}
+
+-- No time and no difference is asked to be below itself.
+pub record HasLoops (zone : ZoneBounds) : Type 0 where
+  pub begin_loop : pos 1 ≤ℤ sum_of zone.begin_low zone.begin_high
+  pub end_loop : pos 1 ≤ℤ sum_of zone.end_low zone.end_high
+  pub dur_loop : pos 1 ≤ℤ sum_of zone.dur_low zone.dur_high
+
+-- The bounds keep each pair in the frame.
+pub record IsFramed (zone : ZoneBounds) : Type 0 where
+  pub starts : zone.begin_low ≤ℤ pos 1
+  pub ends : zone.end_high ≤ℤ pos (2 ^ 41 + 1)
+  pub lasts : zone.dur_low ≤ℤ pos 1
 
 -- The six keys in the order of the fields, and two zeros.
 abbrev pub row_of : ZoneBounds → List ℤ

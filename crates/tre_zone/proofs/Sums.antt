@@ -1,0 +1,41 @@
+-- The sum of bounds has the laws of a sum, and "at most 0" for its zero.
+use Rattle.std.proofs.Common.{◌≡◌, ℕ, ◌+◌, ◌*◌, ◌<◌, ◌≤◌, min, max, arith, ℤ, pos, ◌+ℤ◌, ◌-ℤ◌, ◌*ℤ◌, ◌≤ℤ◌, ◌<ℤ◌, sym, subst}
+use Rattle.std.proofs.lemmas.Int.{ints}
+use Rattle.std.specs.Int.{int_min}
+use Rattle.tre_zone.specs.Bound.{value_of, weakness_of, sum_of}
+use Rattle.tre_zone.proofs.Bounds.{split, split-sum, value_of-sum_of, weakness_of-sum_of}
+use Rattle.tre_zone.proofs.Paths.{int_min-case, int_min-left, int_min-right}
+
+pub sum_of-comm : (x y : ℤ) → sum_of x y ≡ sum_of y x
+sum_of-comm x y =
+    let one = split-sum x y in
+    let two = split-sum y x in
+    omega (arith, ints)
+
+pub sum_of-assoc : (x y z : ℤ) → sum_of (sum_of x y) z ≡ sum_of x (sum_of y z)
+sum_of-assoc x y z =
+    let one = split-sum (sum_of x y) z in
+    let two = split-sum x (sum_of y z) in
+    let e = value_of-sum_of x y in
+    let f = value_of-sum_of y z in
+    let g = weakness_of-sum_of x y in
+    let h = weakness_of-sum_of y z in
+    omega (arith, ints)
+
+pub sum_of-le : (x x' y y' : ℤ) → x ≤ℤ x' → y ≤ℤ y' → sum_of x y ≤ℤ sum_of x' y'
+sum_of-le x x' y y' h k =
+    let one = split-sum x y in
+    let two = split-sum x' y' in
+    let a = split x in
+    let a' = split x' in
+    let b = split y in
+    let b' = split y' in
+    omega (arith, ints)
+
+-- A bound that is "at most 0" or looser tightens nothing.
+pub le_sum_of-right : (x y : ℤ) → pos 1 ≤ℤ y → x ≤ℤ sum_of x y
+le_sum_of-right x y h =
+    let one = split-sum x y in
+    let a = split x in
+    let b = split y in
+    omega (arith, ints)
