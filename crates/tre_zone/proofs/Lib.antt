@@ -8,3 +8,4 @@ pub mod Paths
 pub mod Sums
 pub mod Closing
 pub mod Tightness
+pub mod Ends

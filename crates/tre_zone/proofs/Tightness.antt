@@ -3,7 +3,7 @@ use Rattle.std.proofs.Common.{◌≡◌, ℕ, ◌+◌, ◌-◌, ◌*◌, ◌<◌
 use Rattle.std.proofs.lemmas.Int.{ints, clamps}
 use Rattle.std.specs.Int.{int_max}
 use borrow.Author.Differences.{up, down}
-use Rattle.tre_zone.specs.Bound.{value_of, weakness_of, sum_of, Meets}
+use Rattle.tre_zone.specs.Bound.{value_of, weakness_of, sum_of, Meets, IsKeyWithin}
 use Rattle.tre_zone.specs.Zone.{ZoneHolds, IsCanonical, IsTightest, IsTight, HoldsSome, Includes, Covers, AreKeysWithin}
 use Rattle.tre_zone.specs.declared.zone_bounds.ZoneBounds.{ZoneBounds}
 use Rattle.tre_zone.proofs.Bounds.{split, split-sum}
@@ -330,8 +330,8 @@ limit_high : (key left right : ℤ) (limit : ℕ) → key ≤ℤ sum_of left rig
 limit_high key left right limit le small large =
     let a = split left in let b = split right in let d = split-sum left right in omega (arith, ints)
 
-pub canonical-keys : (z : ZoneBounds) → IsCanonical z → AreKeysWithin (2 ^ 41 + 1) z
-canonical-keys z c =
+within_limits : (z : ZoneBounds) → IsCanonical z → AreKeysWithin (2 ^ 41 + 1) z
+within_limits z c =
     let begin_high = limit_high z.begin_high z.dur_low z.end_high (2 ^ 41 + 1) c.begin_high c.lasts c.ends in
     let end_low = limit_high z.end_low z.begin_low z.dur_low 1 c.end_low c.starts c.lasts in
     let dur_high = limit_high z.dur_high z.begin_low z.end_high (2 ^ 41 + 1) (rw (sum_of-comm z.begin_low z.end_high) c.dur_high) c.starts c.ends in
@@ -343,3 +343,19 @@ canonical-keys z c =
       dur_low = record { low = limit_low z.dur_low z.dur_high (2 ^ 41 + 1) c.dur_loop dur_high; high = omega (arith, ints, c.lasts) };
       dur_high = record { low = omega (arith, ints, limit_low z.dur_high z.dur_low 1 (swapped _ _ c.dur_loop) c.lasts); high = dur_high };
     }
+
+pub key-wider : (limit wide : ℕ) → limit ≤ wide → (key : ℤ) → IsKeyWithin limit key → IsKeyWithin wide key
+key-wider limit wide le key h = record { low = omega (arith, ints, h.low); high = omega (arith, ints, h.high) }
+
+pub keys-wider : (limit wide : ℕ) → limit ≤ wide → (z : ZoneBounds) → AreKeysWithin limit z → AreKeysWithin wide z
+keys-wider limit wide le z h = record {
+  begin_low = key-wider limit wide le z.begin_low h.begin_low;
+  begin_high = key-wider limit wide le z.begin_high h.begin_high;
+  end_low = key-wider limit wide le z.end_low h.end_low;
+  end_high = key-wider limit wide le z.end_high h.end_high;
+  dur_low = key-wider limit wide le z.dur_low h.dur_low;
+  dur_high = key-wider limit wide le z.dur_high h.dur_high;
+}
+
+pub canonical-keys : (z : ZoneBounds) → IsCanonical z → AreKeysWithin (2 ^ 42) z
+canonical-keys z c = keys-wider (2 ^ 41 + 1) (2 ^ 42) (omega arith) z (within_limits z c)

@@ -57,13 +57,24 @@ span_of begin end = record {
   dur_high = pos (2 * (end - begin) + 1);
 }
 
+-- The bounds of the instants (t,t) with from ≤ t ≤ to, in the line of a zone `[from,to] [from,to] [0,0]`.
+unfoldable pub instants_of : ℕ → ℕ → ZoneBounds
+instants_of from to = record {
+  begin_low = pos 1 -ℤ pos (2 * from);
+  begin_high = pos (2 * to + 1);
+  end_low = pos 1 -ℤ pos (2 * from);
+  end_high = pos (2 * to + 1);
+  dur_low = pos 1;
+  dur_high = pos 1;
+}
+
 -- The pairs with begin ≤ t < t' ≤ end.
 pub record IsInSpan (begin end a b n : ℕ) : Type 0 where
   pub starts : begin * n ≤ a
   pub lasts : a < b
   pub ends : b ≤ end * n
 
--- The pair of instants (t,t) with from ≤ t ≤ to.
+-- The pair is an instant (t,t) with from ≤ t ≤ to.
 pub record IsInstant (from to a b n : ℕ) : Type 0 where
   pub starts : from * n ≤ a
   pub same : a ≡ b

@@ -1,5 +1,6 @@
 ghost use Rattle.std.specs.Prelude.{◌≡◌, ℕ, pos, neg_ℤ, ◌+◌, ◌*◌, ◌^◌, ◌+ℤ◌, ◌*ℤ◌, ◌≤ℤ◌, ◌<ℤ◌, ◌↔◌, IsTrue};
-ghost use Rattle.tre_zone.specs.Bound.{value_of, weakness_of, sum_of, Meets, IsValueWithin};
+ghost use Rattle.tre_zone.specs.Bound.{value_of, weakness_of, sum_of, Meets, IsKeyWithin, IsValueWithin};
+ghost use Rattle.std.specs.Int.{int_min};
 
 use std::marker::Model;
 
@@ -72,9 +73,43 @@ impl Bound {
         ensures value { value_of result ≡ value_of self.now +ℤ value_of other.now }
         ensures weak { (weakness_of result ≡ 1) ↔ (weakness_of self.now ≡ 1) × (weakness_of other.now ≡ 1) }
     {
+        self.sum(other)
+    }
+
+    /// `plus`, for keys in the middle half of their range.
+    pub(crate) fn sum(&self, other: &Bound) -> Bound
+        requires own { IsKeyWithin (2 ^ 61) self.now }
+        requires others { IsKeyWithin (2 ^ 61) other.now }
+        ensures { result ≡ sum_of self.now other.now }
+    {
         Bound {
             key: self.key + other.key - self.weakness().max(other.weakness()),
         }
+    }
+
+    /// The tighter of two bounds.
+    pub(crate) fn tighter(&self, other: &Bound) -> Bound
+        ensures { result ≡ int_min self.now other.now }
+    {
+        Bound {
+            key: self.key.min(other.key),
+        }
+    }
+
+    /// Whether some `x` meets this bound while `-x` meets `other`.
+    pub(crate) fn leaves_room(&self, other: &Bound) -> bool
+        requires own { IsKeyWithin (2 ^ 61) self.now }
+        requires others { IsKeyWithin (2 ^ 61) other.now }
+        ensures { IsTrue result ↔ (pos 1 ≤ℤ sum_of self.now other.now) }
+    {
+        self.sum(other).key >= 1
+    }
+
+    /// Whether every difference that meets `other` meets this bound.
+    pub(crate) fn covers(&self, other: &Bound) -> bool
+        ensures { IsTrue result ↔ (other.now ≤ℤ self.now) }
+    {
+        other.key <= self.key
     }
 
     /// 1 for a weak bound and 0 for a strict one.

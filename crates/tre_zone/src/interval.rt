@@ -1,6 +1,8 @@
-ghost use Rattle.std.specs.Prelude.{◌≡◌, ℕ, ◌+◌, ◌*◌, ◌^◌, ◌≤◌, ◌<◌, ◌↔◌, IsTrue, IsNone, IfSome, MatchOption};
+ghost use Rattle.std.specs.Prelude.{◌≡◌, ℕ, ◌+◌, ◌-◌, ◌*◌, ◌^◌, ◌≤◌, ◌<◌, ◌↔◌, IsTrue, IsNone, IfSome, MatchOption, MatchBool, pos, neg_ℤ, ◌≤ℤ◌};
+ghost use Rattle.tre_zone.specs.Bound.{Meets, IsKeyWithin};
 ghost use Rattle.tre_zone.specs.Interval.{IsAboveLow, IsBelowHigh, LastsWithin, kept_weak, HasRoom, IsIntervalWithin};
 
+use crate::bound::Bound;
 use std::marker::Model;
 use tre_pairs::TIME_MAX;
 
@@ -102,6 +104,33 @@ impl Interval {
         self.is_above_low(d, n) && self.is_below_high(d, n)
     }
 
+    /// The low end as a bound on a negated duration.
+    pub(crate) fn low_bound(&self) -> Bound
+        ensures key { IsKeyWithin (2 ^ 42) result }
+        ensures meaning { (p q n : ℕ) → p ≤ q → Meets result p q n ↔ IsAboveLow self.now (q - p) n }
+    {
+        let low = -(self.low as i64);
+        if self.low_weak {
+            Bound::weak(low)
+        } else {
+            Bound::strict(low)
+        }
+    }
+
+    /// A bound on a duration, or the high end where that is tighter.
+    pub(crate) fn bounded(&self, bound: &Bound) -> Bound
+        ensures tighter { result ≤ℤ bound.now }
+        ensures key { neg_ℤ (pos (2 ^ 42)) ≤ℤ bound.now → neg_ℤ (pos (2 ^ 42)) ≤ℤ result }
+        ensures meaning {
+            (p q n : ℕ) → 0 < n → q ≤ p → Meets result p q n ↔ (Meets bound.now p q n × IsBelowHigh self.now (p - q) n)
+        }
+    {
+        match self.high {
+            None => *bound,
+            Some(high) => bound.tighter(&high_bound(high, self.high_weak)),
+        }
+    }
+
     fn is_above_low(&self, d: u64, n: u32) -> bool
         ensures { IsTrue result ↔ IsAboveLow self.now d n }
     {
@@ -128,5 +157,18 @@ fn has_room(low: u64, low_weak: bool, high: u64, high_weak: bool) -> bool
         low <= high
     } else {
         low < high
+    }
+}
+
+/// The high end as a bound on a duration.
+fn high_bound(high: u64, weak: bool) -> Bound
+    requires { high ≤ TIME_MAX }
+    ensures key { pos 0 ≤ℤ result }
+    ensures meaning { (p q n : ℕ) → q ≤ p → Meets result p q n ↔ MatchBool weak (p - q ≤ high * n) (p - q < high * n) }
+{
+    if weak {
+        Bound::weak(high as i64)
+    } else {
+        Bound::strict(high as i64)
     }
 }

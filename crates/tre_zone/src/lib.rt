@@ -8,6 +8,7 @@ pub use zone::Zone;
 pub use zone_bounds::ZoneBounds;
 
 mod bound;
+mod canonical;
 mod interval;
 mod zone;
 mod zone_bounds;

@@ -1,7 +1,13 @@
-ghost use Rattle.std.specs.Prelude.{◌≡◌, ℕ, ◌+◌, ◌*◌, ◌^◌, ◌≤◌, ◌<◌, ◌↔◌, IsTrue, pos, ◌*ℤ◌};
+ghost use Rattle.std.specs.Prelude.{◌≡◌, ℕ, ◌+◌, ◌-◌, ◌*◌, ◌^◌, ◌≤◌, ◌<◌, ◌↔◌, IsTrue, pos, ◌*ℤ◌};
 ghost use Rattle.tre_zone.specs.Bound.{Meets};
+ghost use Rattle.tre_zone.specs.Interval.{LastsWithin};
+ghost use Rattle.tre_zone.specs.Zone.{ZoneHolds, Includes, Covers, IsCanonical, IsTight, IsFramed, HoldsSome, IsInSpan};
+ghost use Rattle.tre_zone.specs.Zone.{IsInstant, EndsAt, IsInFrame, GivesZone, AreKeysWithin, AreValuesWithin};
+ghost use Rattle.tre_zone.specs.Zone.{span_of, instants_of, row_of};
 
 use crate::bound::Bound;
+use crate::canonical::{closed, covers, framed, has_loops, tighter};
+use crate::interval::Interval;
 use crate::zone_bounds::ZoneBounds;
 use std::marker::Model;
 use tre_pairs::TIME_MAX;
@@ -27,7 +33,14 @@ impl Model for Zone {
 }
 
 impl Zone {
-    ghost use Rattle.tre_zone.specs.Zone.{ZoneHolds, IsCanonical, IsInSpan, span_of, row_of};
+    /// The pairs that meet the six bounds and lie in the frame `0 <= t <= t' <= TIME_MAX`, None where
+    /// there is none.
+    pub fn new(bounds: &ZoneBounds) -> Option<Zone>
+        requires { AreValuesWithin (2 ^ 42) bounds.now }
+        ensures { GivesZone result (λ a b n. ZoneHolds bounds.now a b n × IsInFrame TIME_MAX a b n) }
+    {
+        canonical(&framed(bounds))
+    }
 
     /// The pairs with `begin <= t < t' <= end`: a stretch of more than an instant inside a run.
     pub fn span(begin: u64, end: u64) -> Zone
@@ -50,6 +63,28 @@ impl Zone {
         }
     }
 
+    /// The pairs of instants `(t,t)` with `from <= t <= to`.
+    pub fn instants(from: u64, to: u64) -> Zone
+        requires rising { from ≤ to }
+        requires limit { to ≤ TIME_MAX }
+        ensures bounds { result ≡ instants_of from to }
+        ensures held { (a b n : ℕ) → 0 < n → ZoneHolds result a b n ↔ IsInstant from to a b n }
+    {
+        let low = Bound::weak(-(from as i64));
+        let high = Bound::weak(to as i64);
+        let zero = Bound::weak(0);
+        Zone {
+            bounds: ZoneBounds {
+                begin_low: low,
+                begin_high: high,
+                end_low: low,
+                end_high: high,
+                dur_low: zero,
+                dur_high: zero,
+            },
+        }
+    }
+
     /// Whether the pair of the times `a/n` and `b/n` is in the zone.
     pub fn holds(&self, a: u64, b: u64, n: u32) -> bool
         requires { 0 < n }
@@ -64,12 +99,69 @@ impl Zone {
             && is_met(&bounds.dur_high, b, a, n)
     }
 
+    /// Whether every pair of `other` is in this zone: by the six keys alone.
+    pub fn includes(&self, other: &Zone) -> bool
+        ensures keys { IsTrue result ↔ Covers self.now other.now }
+        ensures pairs { IsTrue result ↔ Includes self.now other.now }
+    {
+        covers(&self.bounds, &other.bounds)
+    }
+
+    /// The pairs in both zones, None where there is none.
+    pub fn meet(&self, other: &Zone) -> Option<Zone>
+        ensures { GivesZone result (λ a b n. ZoneHolds self.now a b n × ZoneHolds other.now a b n) }
+    {
+        canonical(&tighter(&self.bounds, &other.bounds))
+    }
+
+    /// The pairs whose duration is in the interval, None where there is none.
+    pub fn within(&self, i: &Interval) -> Option<Zone>
+        ensures { GivesZone result (λ a b n. ZoneHolds self.now a b n × LastsWithin i.now (b - a) n) }
+    {
+        let b = &self.bounds;
+        canonical(&ZoneBounds {
+            begin_low: b.begin_low,
+            begin_high: b.begin_high,
+            end_low: b.end_low,
+            end_high: b.end_high,
+            dur_low: b.dur_low.tighter(&i.low_bound()),
+            dur_high: i.bounded(&b.dur_high),
+        })
+    }
+
+    /// The pairs that end at `t`, None where there is none.
+    pub fn ending_at(&self, t: u64) -> Option<Zone>
+        requires { t ≤ TIME_MAX }
+        ensures { GivesZone result (λ a b n. ZoneHolds self.now a b n × EndsAt t a b n) }
+    {
+        let b = &self.bounds;
+        canonical(&ZoneBounds {
+            begin_low: b.begin_low,
+            begin_high: b.begin_high,
+            end_low: b.end_low.tighter(&Bound::weak(-(t as i64))),
+            end_high: b.end_high.tighter(&Bound::weak(t as i64)),
+            dur_low: b.dur_low,
+            dur_high: b.dur_high,
+        })
+    }
+
     /// The six bounds, each the tightest that the zone allows.
     pub fn bounds(&self) -> ZoneBounds
         ensures same { result ≡ self.now }
         ensures canonical { IsCanonical self.now }
+        ensures keys { AreKeysWithin (2 ^ 42) self.now }
+        ensures tight { IsTight self.now }
+        ensures some { HoldsSome self.now }
     {
         self.bounds
+    }
+
+    /// A law, and no work: two zones that hold the same pairs are one zone.
+    pub fn same_pairs(one: &Zone, other: &Zone)
+        ensures { Includes one.now other.now → Includes other.now one.now → one.now ≡ other.now }
+    {
+        let _one = &one.bounds;
+        let _other = &other.bounds;
     }
 
     /// The six keys in the order of the fields, then 0 and 0.
@@ -87,6 +179,20 @@ impl Zone {
             0,
             0,
         ]
+    }
+}
+
+/// The zone of the pairs that meet the bounds, None where there is none.
+fn canonical(bounds: &ZoneBounds) -> Option<Zone>
+    requires framed { IsFramed bounds.now }
+    requires keys { AreKeysWithin (2 ^ 45) bounds.now }
+    ensures { GivesZone result (ZoneHolds bounds.now) }
+{
+    let closed = closed(bounds);
+    if has_loops(&closed) {
+        Some(Zone { bounds: closed })
+    } else {
+        None
     }
 }
 

@@ -1,4 +1,4 @@
-use Rattle.std.proofs.Common.{refl, false}
+use Rattle.std.proofs.Common.{refl}
 use Rattle.tre_zone.proofs.Durations.{no_end, room, no_room, not_empty}
 use Rattle.tre_zone.proofs.interval.Interval.new.Goals as goal
 

@@ -1,4 +1,4 @@
-use Rattle.std.proofs.Common.{◌≡◌, arith, ap, sym, subst, ℕ, ◌<◌, ◌↔◌}
+use Rattle.std.proofs.Common.{arith, sym, subst, ◌↔◌}
 use Rattle.std.proofs.lemmas.Int.{ints}
 use Rattle.tre_zone.specs.declared.zone_bounds.ZoneBounds.{ZoneBounds}
 use Rattle.tre_zone.specs.Zone.{span_of, IsCanonical, ZoneHolds, IsInSpan}
