@@ -9,3 +9,5 @@ pub mod Sums
 pub mod Closing
 pub mod Tightness
 pub mod Ends
+pub mod Given
+pub mod Instants
