@@ -5,7 +5,7 @@ use Rattle.std.proofs.lemmas.Int.{ints}
 use Rattle.std.proofs.lemmas.Nat.{and_mask}
 use mir.Val.{SFits}
 use lib.Signed.{shr_z}
-use Rattle.tre_zone.specs.Bound.{value_of, weakness_of, sum_of, Meets}
+use Rattle.tre_zone.specs.Bound.{value_of, weakness_of, sum_of, Meets, IsKeyWithin, IsValueWithin}
 
 -- A key is twice its value and its weakness.
 pub record Splits (key value : ℤ) (weakness : ℕ) : Type 0 where
@@ -97,3 +97,13 @@ Meets-more key c e p q n =
 
 pub not_weak : (key : ℤ) → (weakness_of key ≡ 1 → ⊥) → weakness_of key ≡ 0
 not_weak key not_one = let s = split key in omega (arith, not_one)
+
+pub value-weak : (key c : ℤ) → key ≡ (pos 2 *ℤ c) +ℤ pos 1 → value_of key ≡ c
+value-weak key c e = let s = split key in omega (arith, ints)
+
+pub value-strict : (key c : ℤ) → key ≡ pos 2 *ℤ c → value_of key ≡ c
+value-strict key c e = let s = split key in omega (arith, ints)
+
+-- A key of a canonical zone has a value that may be summed.
+pub IsValueWithin-key : (limit wide : ℕ) → limit ≤ wide → (key : ℤ) → IsKeyWithin limit key → IsValueWithin wide key
+IsValueWithin-key limit wide le key h = let s = split key in record { low = omega (arith, ints, h.low); high = omega (arith, ints, h.high) }

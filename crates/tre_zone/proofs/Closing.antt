@@ -3,7 +3,8 @@ use Rattle.std.proofs.Common.{◌≡◌, ℕ, ◌+◌, ◌*◌, ◌<◌, ◌≤�
 use Rattle.std.proofs.lemmas.Int.{ints, clamps}
 use Rattle.std.specs.Int.{int_min}
 use Rattle.tre_zone.specs.Bound.{value_of, weakness_of, sum_of, Meets, IsKeyWithin, IsValueWithin}
-use Rattle.tre_zone.specs.Zone.{ZoneHolds, IsCanonical, IsFramed, HasLoops, IsInFrame, framed_of, closed_of, tighter_of}
+use Rattle.tre_zone.specs.Zone.{ZoneHolds, IsCanonical, IsInFrame}
+use Rattle.tre_zone.specs.Closing.{IsFramed, LeavesRoom, framed_of, closed_of, tighter_of}
 use Rattle.tre_zone.specs.declared.zone_bounds.ZoneBounds.{ZoneBounds}
 use Rattle.tre_zone.proofs.Bounds.{split, Meets-at_most, Meets-at_least}
 use Rattle.tre_zone.proofs.Paths.{Meets-min, Meets-sum, Meets-loop, int_min-case, int_min-left, int_min-right}
@@ -109,7 +110,7 @@ tighter-holds one other a b n some =
 
 -- ---- where there is a pair, no loop is below zero
 
-pub holds-loops : (zone : ZoneBounds) (a b n : ℕ) → 0 < n → ZoneHolds zone a b n → HasLoops zone
+pub holds-loops : (zone : ZoneBounds) (a b n : ℕ) → 0 < n → ZoneHolds zone a b n → LeavesRoom zone
 holds-loops zone a b n some h = record {
   begin_loop = Meets-loop _ 0 n some (Meets-sum _ _ 0 a 0 n h.begin_low h.begin_high);
   end_loop = Meets-loop _ 0 n some (Meets-sum _ _ 0 b 0 n h.end_low h.end_high);
@@ -144,7 +145,7 @@ triangle ij ji ik ki jk kj loop_ij loop_ik loop_jk =
 swapped : (x y : ℤ) → pos 1 ≤ℤ sum_of x y → pos 1 ≤ℤ sum_of y x
 swapped x y h = rw (sum_of-comm y x) h
 
-pub closed-canonical : (z : ZoneBounds) → IsFramed z → HasLoops (closed_of z) → IsCanonical (closed_of z)
+pub closed-canonical : (z : ZoneBounds) → IsFramed z → LeavesRoom (closed_of z) → IsCanonical (closed_of z)
 unfolding closed_of
 closed-canonical z framed loops =
     let begin_back = swapped _ _ loops.begin_loop in

@@ -5,7 +5,8 @@ use Rattle.std.specs.Int.{int_min}
 use Rattle.tre_pairs.specs.Pairs.{Pairs}
 use Rattle.tre_zone.specs.Bound.{value_of, weakness_of, sum_of, Meets, IsKeyWithin, IsValueWithin}
 use Rattle.tre_zone.specs.Interval.{IntervalEnds, IsAboveLow, IsBelowHigh, LastsWithin}
-use Rattle.tre_zone.specs.Zone.{ZoneHolds, IsCanonical, IsFramed, HasLoops, IsInFrame, EndsAt, HoldsExactly, HoldsNever, GivesZone, AreKeysWithin, AreValuesWithin, framed_of, closed_of, tighter_of}
+use Rattle.tre_zone.specs.Zone.{ZoneHolds, IsCanonical, IsInFrame, EndsAt, IsZoneOf, HasNoPair, GivesZone, AreKeysWithin, AreValuesWithin}
+use Rattle.tre_zone.specs.Closing.{IsFramed, LeavesRoom, framed_of, closed_of, tighter_of}
 use Rattle.tre_zone.specs.declared.zone_bounds.ZoneBounds.{ZoneBounds}
 use Rattle.tre_zone.proofs.Bounds.{split, Meets-at_most, Meets-at_least}
 use Rattle.tre_zone.proofs.Paths.{Meets-min, int_min-left}
@@ -21,10 +22,10 @@ GivesZone-same (Some zone) one other same h = record {
       ((λ held. (same a b n some le).0 ((h.exact a b n some le).0 held)), (λ held. (h.exact a b n some le).1 ((same a b n some le).1 held)));
 }
 
-pub closed-exact : (zone : ZoneBounds) → HoldsExactly (closed_of zone) (ZoneHolds zone)
+pub closed-exact : (zone : ZoneBounds) → IsZoneOf (closed_of zone) (ZoneHolds zone)
 closed-exact zone = record { exact = λ a b n some le. closed-holds zone a b n some }
 
-pub closed-never : (zone : ZoneBounds) → (HasLoops (closed_of zone) → ⊥) → HoldsNever (ZoneHolds zone)
+pub closed-never : (zone : ZoneBounds) → (LeavesRoom (closed_of zone) → ⊥) → HasNoPair (ZoneHolds zone)
 closed-never zone not_loops = record {
   never = λ a b n some le held. not_loops (holds-loops (closed_of zone) a b n some ((closed-holds zone a b n some).1 held));
 }

@@ -1,6 +1,5 @@
 -- Zones: sets of pairs of times under six bounds.
 use Rattle.std.specs.Prelude.{ℕ, ◌+◌, ◌-◌, ◌*◌, ◌<◌, ◌≤◌, ◌≡◌, ◌↔◌, List, [], ◌∷◌, ℤ, pos, ◌-ℤ◌, ◌≤ℤ◌, neg_ℤ, ◌^◌, Option, MatchOption}
-use Rattle.std.specs.Int.{int_min}
 use Rattle.tre_pairs.specs.Pairs.{Pairs}
 use Rattle.tre_zone.specs.Bound.{sum_of, Meets, IsKeyWithin, IsValueWithin}
 use Rattle.tre_zone.specs.declared.zone_bounds.ZoneBounds.{ZoneBounds}
@@ -113,16 +112,16 @@ pub record IsTight (zone : ZoneBounds) : Type 0 where
   pub dur_high : IsTightest zone zone.dur_high (λ a b. b) (λ a b. a)
 
 -- The zone holds a pair, at every denominator, exactly where the relation holds of it.
-pub record HoldsExactly (zone : ZoneBounds) (relation : Pairs) : Type 0 where
+pub record IsZoneOf (zone : ZoneBounds) (relation : Pairs) : Type 0 where
   pub exact : (a b n : ℕ) → 0 < n → a ≤ b → ZoneHolds zone a b n ↔ relation a b n
 
 -- The relation holds of no pair, at any denominator.
-pub record HoldsNever (relation : Pairs) : Type 0 where
+pub record HasNoPair (relation : Pairs) : Type 0 where
   pub never : (a b n : ℕ) → 0 < n → a ≤ b → relation a b n → ⊥
 
 -- The answer is the zone of exactly the pairs of the relation, and None where there are none.
 abbrev pub GivesZone : Option ZoneBounds → Pairs → Type 0
-GivesZone answer relation = MatchOption answer (HoldsNever relation) (λ zone. HoldsExactly zone relation)
+GivesZone answer relation = MatchOption answer (HasNoPair relation) (λ zone. IsZoneOf zone relation)
 
 -- Each key is a whole number from -limit to limit.
 pub record AreKeysWithin (limit : ℕ) (zone : ZoneBounds) : Type 0 where
@@ -141,51 +140,6 @@ pub record AreValuesWithin (limit : ℕ) (zone : ZoneBounds) : Type 0 where
   pub end_high : IsValueWithin limit zone.end_high
   pub dur_low : IsValueWithin limit zone.dur_low
   pub dur_high : IsValueWithin limit zone.dur_high
-
--- The bounds together with those of the frame.
-unfoldable pub framed_of : ZoneBounds → ZoneBounds
-framed_of zone = record {
-  begin_low = int_min zone.begin_low (pos 1);
-  begin_high = zone.begin_high;
-  end_low = zone.end_low;
-  end_high = int_min zone.end_high (pos (2 ^ 41 + 1));
-  dur_low = int_min zone.dur_low (pos 1);
-  dur_high = zone.dur_high;
-}
-
--- Each bound, or the way round through the third time where that is tighter.
-unfoldable pub closed_of : ZoneBounds → ZoneBounds
-closed_of zone = record {
-  begin_low = int_min zone.begin_low (sum_of zone.end_low zone.dur_high);
-  begin_high = int_min zone.begin_high (sum_of zone.dur_low zone.end_high);
-  end_low = int_min zone.end_low (sum_of zone.begin_low zone.dur_low);
-  end_high = int_min zone.end_high (sum_of zone.dur_high zone.begin_high);
-  dur_low = int_min zone.dur_low (sum_of zone.begin_high zone.end_low);
-  dur_high = int_min zone.dur_high (sum_of zone.end_high zone.begin_low);
-}
-
--- The tighter bound of each two.
-unfoldable pub tighter_of : ZoneBounds → ZoneBounds → ZoneBounds
-tighter_of one other = record {
-  begin_low = int_min one.begin_low other.begin_low;
-  begin_high = int_min one.begin_high other.begin_high;
-  end_low = int_min one.end_low other.end_low;
-  end_high = int_min one.end_high other.end_high;
-  dur_low = int_min one.dur_low other.dur_low;
-  dur_high = int_min one.dur_high other.dur_high;
-}
-
--- No time and no difference is asked to be below itself.
-pub record HasLoops (zone : ZoneBounds) : Type 0 where
-  pub begin_loop : pos 1 ≤ℤ sum_of zone.begin_low zone.begin_high
-  pub end_loop : pos 1 ≤ℤ sum_of zone.end_low zone.end_high
-  pub dur_loop : pos 1 ≤ℤ sum_of zone.dur_low zone.dur_high
-
--- The bounds keep each pair in the frame.
-pub record IsFramed (zone : ZoneBounds) : Type 0 where
-  pub starts : zone.begin_low ≤ℤ pos 1
-  pub ends : zone.end_high ≤ℤ pos (2 ^ 41 + 1)
-  pub lasts : zone.dur_low ≤ℤ pos 1
 
 -- The six keys in the order of the fields, and two zeros.
 abbrev pub row_of : ZoneBounds → List ℤ

@@ -29,6 +29,7 @@ impl Bound {
         requires low { neg_ℤ (pos (2 ^ 60)) ≤ℤ c }
         requires high { c ≤ℤ pos (2 ^ 60) }
         ensures key { result ≡ (pos 2 *ℤ c) +ℤ pos 1 }
+        ensures value { value_of result ≡ c }
         ensures meaning { (p q n : ℕ) → Meets result p q n ↔ (pos p ≤ℤ (pos q +ℤ (c *ℤ pos n))) }
     {
         Bound { key: 2 * c + 1 }
@@ -39,6 +40,7 @@ impl Bound {
         requires low { neg_ℤ (pos (2 ^ 60)) ≤ℤ c }
         requires high { c ≤ℤ pos (2 ^ 60) }
         ensures key { result ≡ pos 2 *ℤ c }
+        ensures value { value_of result ≡ c }
         ensures meaning { (p q n : ℕ) → Meets result p q n ↔ (pos p <ℤ (pos q +ℤ (c *ℤ pos n))) }
     {
         Bound { key: 2 * c }
@@ -88,7 +90,7 @@ impl Bound {
     }
 
     /// The tighter of two bounds.
-    pub(crate) fn tighter(&self, other: &Bound) -> Bound
+    pub fn tighter(&self, other: &Bound) -> Bound
         ensures { result ≡ int_min self.now other.now }
     {
         Bound {

@@ -1,5 +1,6 @@
 ghost use Rattle.std.specs.Prelude.{◌≡◌, ◌^◌, ◌↔◌, IsTrue};
-ghost use Rattle.tre_zone.specs.Zone.{AreKeysWithin, Covers, HasLoops, framed_of, closed_of, tighter_of};
+ghost use Rattle.tre_zone.specs.Zone.{AreKeysWithin, Covers};
+ghost use Rattle.tre_zone.specs.Closing.{LeavesRoom, framed_of, closed_of, tighter_of};
 
 use crate::bound::Bound;
 use crate::zone_bounds::ZoneBounds;
@@ -35,10 +36,10 @@ pub(crate) fn closed(b: &ZoneBounds) -> ZoneBounds
     }
 }
 
-/// Whether no difference is asked to be below itself. Closed bounds then hold some pair.
-pub(crate) fn has_loops(b: &ZoneBounds) -> bool
+/// Whether each difference has room between its two bounds. Closed bounds then hold some pair.
+pub(crate) fn leaves_room(b: &ZoneBounds) -> bool
     requires { AreKeysWithin (2 ^ 47) b.now }
-    ensures { IsTrue result ↔ HasLoops b.now }
+    ensures { IsTrue result ↔ LeavesRoom b.now }
 {
     b.begin_low.leaves_room(&b.begin_high)
         && b.end_low.leaves_room(&b.end_high)

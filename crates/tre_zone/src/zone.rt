@@ -1,12 +1,13 @@
 ghost use Rattle.std.specs.Prelude.{◌≡◌, ℕ, ◌+◌, ◌-◌, ◌*◌, ◌^◌, ◌≤◌, ◌<◌, ◌↔◌, IsTrue, pos, ◌*ℤ◌};
 ghost use Rattle.tre_zone.specs.Bound.{Meets};
 ghost use Rattle.tre_zone.specs.Interval.{LastsWithin};
-ghost use Rattle.tre_zone.specs.Zone.{ZoneHolds, Includes, Covers, IsCanonical, IsTight, IsFramed, HoldsSome, IsInSpan};
+ghost use Rattle.tre_zone.specs.Zone.{ZoneHolds, Includes, Covers, IsCanonical, IsTight, HoldsSome, IsInSpan};
+ghost use Rattle.tre_zone.specs.Closing.{IsFramed};
 ghost use Rattle.tre_zone.specs.Zone.{IsInstant, EndsAt, IsInFrame, GivesZone, AreKeysWithin, AreValuesWithin};
 ghost use Rattle.tre_zone.specs.Zone.{span_of, instants_of, row_of};
 
 use crate::bound::Bound;
-use crate::canonical::{closed, covers, framed, has_loops, tighter};
+use crate::canonical::{closed, covers, framed, leaves_room, tighter};
 use crate::interval::Interval;
 use crate::zone_bounds::ZoneBounds;
 use std::marker::Model;
@@ -189,7 +190,7 @@ fn canonical(bounds: &ZoneBounds) -> Option<Zone>
     ensures { GivesZone result (ZoneHolds bounds.now) }
 {
     let closed = closed(bounds);
-    if has_loops(&closed) {
+    if leaves_room(&closed) {
         Some(Zone { bounds: closed })
     } else {
         None

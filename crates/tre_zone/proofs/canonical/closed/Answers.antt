@@ -1,4 +1,4 @@
-use Rattle.tre_zone.specs.Zone.{closed_of}
+use Rattle.tre_zone.specs.Closing.{closed_of}
 use Rattle.tre_zone.proofs.ZoneKeys.{zones_same}
 use Rattle.tre_zone.proofs.canonical.closed.Goals as goal
 

@@ -1,4 +1,4 @@
-use Rattle.tre_zone.specs.Zone.{tighter_of}
+use Rattle.tre_zone.specs.Closing.{tighter_of}
 use Rattle.tre_zone.proofs.ZoneKeys.{zones_same}
 use Rattle.tre_zone.proofs.canonical.tighter.Goals as goal
 
