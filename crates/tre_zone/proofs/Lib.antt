@@ -11,3 +11,4 @@ pub mod Tightness
 pub mod Ends
 pub mod Given
 pub mod Instants
+pub mod Scaling

@@ -37,7 +37,7 @@ tighter_of one other = record {
   dur_high = int_min one.dur_high other.dur_high;
 }
 
--- No difference of two times is asked to be at once above and below what it can be.
+-- Each difference has room between its two bounds: together they bound nothing by less than 0.
 pub record LeavesRoom (zone : ZoneBounds) : Type 0 where
   pub begin_loop : pos 1 ≤ℤ sum_of zone.begin_low zone.begin_high
   pub end_loop : pos 1 ≤ℤ sum_of zone.end_low zone.end_high
