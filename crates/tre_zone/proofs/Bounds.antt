@@ -1,5 +1,5 @@
 -- A bound as a value and a weakness, the sum of bounds, and what a difference of times meets.
-use Rattle.std.proofs.Common.{◌≡◌, ℕ, ◌+◌, ◌-◌, ◌*◌, ◌/◌, ◌%◌, ◌≤◌, ◌<◌, min, max, ap, sym, ◌∙◌, arith, ℤ, pos, negsuc, ◌+ℤ◌, ◌-ℤ◌, ◌*ℤ◌, ◌≤ℤ◌, ◌<ℤ◌, refl}
+use Rattle.std.proofs.Common.{◌≡◌, ℕ, ◌+◌, ◌-◌, ◌*◌, ◌≤◌, ◌<◌, min, arith, ℤ, pos, negsuc, ◌+ℤ◌, ◌-ℤ◌, ◌*ℤ◌, ◌≤ℤ◌, ◌<ℤ◌, refl}
 use Rattle.std.proofs.Common.{◌^◌, ◌↔◌, zero, suc, neg_ℤ, bit_and, to_z, of_z, w64}
 use Rattle.std.proofs.lemmas.Int.{ints}
 use Rattle.std.proofs.lemmas.Nat.{and_mask}
@@ -39,19 +39,17 @@ weakness_of-sum_of left right = (split-unique (sum_of left right) (value_of left
 pub Meets-weak : (key c : ℤ) → key ≡ (pos 2 *ℤ c) +ℤ pos 1 → (p q n : ℕ) → Meets key p q n ↔ (pos p ≤ℤ (pos q +ℤ (c *ℤ pos n)))
 Meets-weak key c e p q n =
     let apart : Splits key c 1 = record { whole = e; small = omega arith } in
-    let one = split-unique key c 1 apart in
-    (
-        (λ m. let met = rw (one.0, one.1) at m.met in omega (arith, ints)),
-        (λ h. record { met = rw (one.0, one.1) (omega (arith, ints)) }),
+    let one = split-unique key c 1 apart in (
+      (λ m. let met = rw (one.0, one.1) at m.met in omega (arith, ints)),
+      (λ h. record { met = rw (one.0, one.1) (omega (arith, ints)) }),
     )
 
 pub Meets-strict : (key c : ℤ) → key ≡ pos 2 *ℤ c → (p q n : ℕ) → Meets key p q n ↔ (pos p <ℤ (pos q +ℤ (c *ℤ pos n)))
 Meets-strict key c e p q n =
     let apart : Splits key c 0 = record { whole = omega (arith, ints); small = omega arith } in
-    let one = split-unique key c 0 apart in
-    (
-        (λ m. let met = rw (one.0, one.1) at m.met in omega (arith, ints)),
-        (λ h. record { met = rw (one.0, one.1) (omega (arith, ints)) }),
+    let one = split-unique key c 0 apart in (
+      (λ m. let met = rw (one.0, one.1) at m.met in omega (arith, ints)),
+      (λ h. record { met = rw (one.0, one.1) (omega (arith, ints)) }),
     )
 
 -- The low bit of a key, as the machine has it, is its weakness.

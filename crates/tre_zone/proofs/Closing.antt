@@ -1,12 +1,12 @@
 -- The closure of six bounds: it holds the same pairs, and is canonical where it is not empty.
-use Rattle.std.proofs.Common.{◌≡◌, ℕ, ◌+◌, ◌*◌, ◌<◌, ◌≤◌, ◌^◌, ◌↔◌, refl, sym, subst, arith, ℤ, pos, neg_ℤ, ◌+ℤ◌, ◌-ℤ◌, ◌*ℤ◌, ◌≤ℤ◌, ◌<ℤ◌}
-use Rattle.std.proofs.lemmas.Int.{ints, clamps}
+use Rattle.std.proofs.Common.{ℕ, ◌+◌, ◌<◌, ◌^◌, ◌↔◌, refl, arith, ℤ, pos, ◌≤ℤ◌}
+use Rattle.std.proofs.lemmas.Int.{ints}
 use Rattle.std.specs.Int.{int_min}
-use Rattle.tre_zone.specs.Bound.{value_of, weakness_of, sum_of, Meets, IsKeyWithin, IsValueWithin}
+use Rattle.tre_zone.specs.Bound.{sum_of}
 use Rattle.tre_zone.specs.Zone.{ZoneHolds, IsCanonical, IsInFrame}
 use Rattle.tre_zone.specs.Closing.{IsFramed, LeavesRoom, framed_of, closed_of, tighter_of}
 use Rattle.tre_zone.specs.declared.zone_bounds.ZoneBounds.{ZoneBounds}
-use Rattle.tre_zone.proofs.Bounds.{split, Meets-at_most, Meets-at_least}
+use Rattle.tre_zone.proofs.Bounds.{Meets-at_most}
 use Rattle.tre_zone.proofs.Paths.{Meets-min, Meets-sum, Meets-loop, int_min-case, int_min-left, int_min-right}
 use Rattle.tre_zone.proofs.Sums.{sum_of-comm, sum_of-assoc, sum_of-le, le_sum_of-right}
 
@@ -17,96 +17,91 @@ le_trans x y z h k = omega (arith, ints)
 
 pub closed-holds : (zone : ZoneBounds) (a b n : ℕ) → 0 < n → ZoneHolds (closed_of zone) a b n ↔ ZoneHolds zone a b n
 unfolding closed_of
-closed-holds zone a b n some =
-    (
-        (λ h. record {
-          begin_low = ((Meets-min _ _ 0 a n some).0 h.begin_low).0;
-          begin_high = ((Meets-min _ _ a 0 n some).0 h.begin_high).0;
-          end_low = ((Meets-min _ _ 0 b n some).0 h.end_low).0;
-          end_high = ((Meets-min _ _ b 0 n some).0 h.end_high).0;
-          dur_low = ((Meets-min _ _ a b n some).0 h.dur_low).0;
-          dur_high = ((Meets-min _ _ b a n some).0 h.dur_high).0;
-        }),
-        (λ h. record {
-          begin_low = (Meets-min _ _ 0 a n some).1 (h.begin_low, Meets-sum _ _ 0 b a n h.end_low h.dur_high);
-          begin_high = (Meets-min _ _ a 0 n some).1 (h.begin_high, Meets-sum _ _ a b 0 n h.dur_low h.end_high);
-          end_low = (Meets-min _ _ 0 b n some).1 (h.end_low, Meets-sum _ _ 0 a b n h.begin_low h.dur_low);
-          end_high = (Meets-min _ _ b 0 n some).1 (h.end_high, Meets-sum _ _ b a 0 n h.dur_high h.begin_high);
-          dur_low = (Meets-min _ _ a b n some).1 (h.dur_low, Meets-sum _ _ a 0 b n h.begin_high h.end_low);
-          dur_high = (Meets-min _ _ b a n some).1 (h.dur_high, Meets-sum _ _ b 0 a n h.end_high h.begin_low);
-        }),
-    )
+closed-holds zone a b n some = (
+  (λ h. record {
+    begin_low = ((Meets-min _ _ 0 a n some).0 h.begin_low).0;
+    begin_high = ((Meets-min _ _ a 0 n some).0 h.begin_high).0;
+    end_low = ((Meets-min _ _ 0 b n some).0 h.end_low).0;
+    end_high = ((Meets-min _ _ b 0 n some).0 h.end_high).0;
+    dur_low = ((Meets-min _ _ a b n some).0 h.dur_low).0;
+    dur_high = ((Meets-min _ _ b a n some).0 h.dur_high).0;
+  }),
+  (λ h. record {
+    begin_low = (Meets-min _ _ 0 a n some).1 (h.begin_low, Meets-sum _ _ 0 b a n h.end_low h.dur_high);
+    begin_high = (Meets-min _ _ a 0 n some).1 (h.begin_high, Meets-sum _ _ a b 0 n h.dur_low h.end_high);
+    end_low = (Meets-min _ _ 0 b n some).1 (h.end_low, Meets-sum _ _ 0 a b n h.begin_low h.dur_low);
+    end_high = (Meets-min _ _ b 0 n some).1 (h.end_high, Meets-sum _ _ b a 0 n h.dur_high h.begin_high);
+    dur_low = (Meets-min _ _ a b n some).1 (h.dur_low, Meets-sum _ _ a 0 b n h.begin_high h.end_low);
+    dur_high = (Meets-min _ _ b a n some).1 (h.dur_high, Meets-sum _ _ b 0 a n h.end_high h.begin_low);
+  }),
+)
 
 pub framed-holds : (zone : ZoneBounds) (a b n : ℕ) → 0 < n → ZoneHolds (framed_of zone) a b n ↔ (ZoneHolds zone a b n × IsInFrame (2 ^ 40) a b n)
 unfolding framed_of
 framed-holds zone a b n some =
     let starts = Meets-at_most (pos 1) 0 refl 0 a n in
     let ends = Meets-at_most (pos (2 ^ 41 + 1)) (2 ^ 40) refl b 0 n in
-    let lasts = Meets-at_most (pos 1) 0 refl a b n in
-    (
-        (λ h.
-            let begin_low = (Meets-min zone.begin_low (pos 1) 0 a n some).0 h.begin_low in
-            let end_high = (Meets-min zone.end_high (pos (2 ^ 41 + 1)) b 0 n some).0 h.end_high in
-            let dur_low = (Meets-min zone.dur_low (pos 1) a b n some).0 h.dur_low in
-            (
-                record {
-                  begin_low = begin_low.0;
-                  begin_high = h.begin_high;
-                  end_low = h.end_low;
-                  end_high = end_high.0;
-                  dur_low = dur_low.0;
-                  dur_high = h.dur_high;
-                },
-                record { rising = omega (arith, lasts.0 dur_low.1); ends = omega (arith, ends.0 end_high.1) },
-            )),
-        (λ h. record {
-          begin_low = (Meets-min zone.begin_low (pos 1) 0 a n some).1 (h.0.begin_low, starts.1 (omega arith));
-          begin_high = h.0.begin_high;
-          end_low = h.0.end_low;
-          end_high = (Meets-min zone.end_high (pos (2 ^ 41 + 1)) b 0 n some).1 (h.0.end_high, ends.1 (omega (arith, h.1.ends)));
-          dur_low = (Meets-min zone.dur_low (pos 1) a b n some).1 (h.0.dur_low, lasts.1 (omega (arith, h.1.rising)));
-          dur_high = h.0.dur_high;
-        }),
+    let lasts = Meets-at_most (pos 1) 0 refl a b n in (
+      (λ h.
+          let begin_low = (Meets-min zone.begin_low (pos 1) 0 a n some).0 h.begin_low in
+          let end_high = (Meets-min zone.end_high (pos (2 ^ 41 + 1)) b 0 n some).0 h.end_high in
+          let dur_low = (Meets-min zone.dur_low (pos 1) a b n some).0 h.dur_low in (
+            record {
+              begin_low = begin_low.0;
+              begin_high = h.begin_high;
+              end_low = h.end_low;
+              end_high = end_high.0;
+              dur_low = dur_low.0;
+              dur_high = h.dur_high;
+            },
+            record { rising = omega (arith, lasts.0 dur_low.1); ends = omega (arith, ends.0 end_high.1) },
+          )),
+      (λ h. record {
+        begin_low = (Meets-min zone.begin_low (pos 1) 0 a n some).1 (h.0.begin_low, starts.1 (omega arith));
+        begin_high = h.0.begin_high;
+        end_low = h.0.end_low;
+        end_high = (Meets-min zone.end_high (pos (2 ^ 41 + 1)) b 0 n some).1 (h.0.end_high, ends.1 (omega (arith, h.1.ends)));
+        dur_low = (Meets-min zone.dur_low (pos 1) a b n some).1 (h.0.dur_low, lasts.1 (omega (arith, h.1.rising)));
+        dur_high = h.0.dur_high;
+      }),
     )
 
 pub tighter-holds : (one other : ZoneBounds) (a b n : ℕ) → 0 < n → ZoneHolds (tighter_of one other) a b n ↔ (ZoneHolds one a b n × ZoneHolds other a b n)
 unfolding tighter_of
-tighter-holds one other a b n some =
-    (
-        (λ h.
-            let begin_low = (Meets-min _ _ 0 a n some).0 h.begin_low in
-            let begin_high = (Meets-min _ _ a 0 n some).0 h.begin_high in
-            let end_low = (Meets-min _ _ 0 b n some).0 h.end_low in
-            let end_high = (Meets-min _ _ b 0 n some).0 h.end_high in
-            let dur_low = (Meets-min _ _ a b n some).0 h.dur_low in
-            let dur_high = (Meets-min _ _ b a n some).0 h.dur_high in
-            (
-                record {
-                  begin_low = begin_low.0;
-                  begin_high = begin_high.0;
-                  end_low = end_low.0;
-                  end_high = end_high.0;
-                  dur_low = dur_low.0;
-                  dur_high = dur_high.0;
-                },
-                record {
-                  begin_low = begin_low.1;
-                  begin_high = begin_high.1;
-                  end_low = end_low.1;
-                  end_high = end_high.1;
-                  dur_low = dur_low.1;
-                  dur_high = dur_high.1;
-                },
-            )),
-        (λ h. record {
-          begin_low = (Meets-min _ _ 0 a n some).1 (h.0.begin_low, h.1.begin_low);
-          begin_high = (Meets-min _ _ a 0 n some).1 (h.0.begin_high, h.1.begin_high);
-          end_low = (Meets-min _ _ 0 b n some).1 (h.0.end_low, h.1.end_low);
-          end_high = (Meets-min _ _ b 0 n some).1 (h.0.end_high, h.1.end_high);
-          dur_low = (Meets-min _ _ a b n some).1 (h.0.dur_low, h.1.dur_low);
-          dur_high = (Meets-min _ _ b a n some).1 (h.0.dur_high, h.1.dur_high);
-        }),
-    )
+tighter-holds one other a b n some = (
+  (λ h.
+      let begin_low = (Meets-min _ _ 0 a n some).0 h.begin_low in
+      let begin_high = (Meets-min _ _ a 0 n some).0 h.begin_high in
+      let end_low = (Meets-min _ _ 0 b n some).0 h.end_low in
+      let end_high = (Meets-min _ _ b 0 n some).0 h.end_high in
+      let dur_low = (Meets-min _ _ a b n some).0 h.dur_low in
+      let dur_high = (Meets-min _ _ b a n some).0 h.dur_high in (
+        record {
+          begin_low = begin_low.0;
+          begin_high = begin_high.0;
+          end_low = end_low.0;
+          end_high = end_high.0;
+          dur_low = dur_low.0;
+          dur_high = dur_high.0;
+        },
+        record {
+          begin_low = begin_low.1;
+          begin_high = begin_high.1;
+          end_low = end_low.1;
+          end_high = end_high.1;
+          dur_low = dur_low.1;
+          dur_high = dur_high.1;
+        },
+      )),
+  (λ h. record {
+    begin_low = (Meets-min _ _ 0 a n some).1 (h.0.begin_low, h.1.begin_low);
+    begin_high = (Meets-min _ _ a 0 n some).1 (h.0.begin_high, h.1.begin_high);
+    end_low = (Meets-min _ _ 0 b n some).1 (h.0.end_low, h.1.end_low);
+    end_high = (Meets-min _ _ b 0 n some).1 (h.0.end_high, h.1.end_high);
+    dur_low = (Meets-min _ _ a b n some).1 (h.0.dur_low, h.1.dur_low);
+    dur_high = (Meets-min _ _ b a n some).1 (h.0.dur_high, h.1.dur_high);
+  }),
+)
 
 -- ---- where there is a pair, no loop is below zero
 
@@ -128,19 +123,19 @@ triangle : (ij ji ik ki jk kj : ℤ)
 triangle ij ji ik ki jk kj loop_ij loop_ik loop_jk =
     let direct : int_min ij (sum_of ik kj) ≤ℤ ij = int_min-left ij (sum_of ik kj) in
     let ik_loop : pos 1 ≤ℤ sum_of ik ki =
-        le_trans _ _ _ loop_ik (sum_of-le _ _ _ _ (int_min-left ik (sum_of ij jk)) (int_min-left ki (sum_of kj ji))) in
+    le_trans _ _ _ loop_ik (sum_of-le _ _ _ _ (int_min-left ik (sum_of ij jk)) (int_min-left ki (sum_of kj ji))) in
     let jk_loop : pos 1 ≤ℤ sum_of jk kj =
-        le_trans _ _ _ loop_jk (sum_of-le _ _ _ _ (int_min-left jk (sum_of ji ik)) (int_min-left kj (sum_of ki ij))) in
+    le_trans _ _ _ loop_jk (sum_of-le _ _ _ _ (int_min-left jk (sum_of ji ik)) (int_min-left kj (sum_of ki ij))) in
     let whole_loop : pos 1 ≤ℤ sum_of ij (sum_of jk ki) =
-        le_trans _ _ _ loop_ij (sum_of-le _ _ _ _ (int_min-left ij (sum_of ik kj)) (int_min-right ji (sum_of jk ki))) in
+    le_trans _ _ _ loop_ij (sum_of-le _ _ _ _ (int_min-left ij (sum_of ik kj)) (int_min-right ji (sum_of jk ki))) in
     let around : pos 1 ≤ℤ sum_of (sum_of jk ki) ij = rw (sum_of-comm (sum_of jk ki) ij) whole_loop in
     int_min-case (λ x. int_min ij (sum_of ik kj) ≤ℤ sum_of x (int_min kj (sum_of ki ij))) ik (sum_of ij jk)
     (λ h. int_min-case (λ y. int_min ij (sum_of ik kj) ≤ℤ sum_of ik y) kj (sum_of ki ij)
-        (λ k. int_min-right ij (sum_of ik kj))
-        (λ k. rw (← sum_of-assoc ik ki ij) (rw (sum_of-comm (sum_of ik ki) ij) (le_trans _ _ _ direct (le_sum_of-right ij (sum_of ik ki) ik_loop)))))
+    (λ k. int_min-right ij (sum_of ik kj))
+    (λ k. rw (← sum_of-assoc ik ki ij) (rw (sum_of-comm (sum_of ik ki) ij) (le_trans _ _ _ direct (le_sum_of-right ij (sum_of ik ki) ik_loop)))))
     (λ h. int_min-case (λ y. int_min ij (sum_of ik kj) ≤ℤ sum_of (sum_of ij jk) y) kj (sum_of ki ij)
-        (λ k. rw (sum_of-assoc ij jk kj) (le_trans _ _ _ direct (le_sum_of-right ij (sum_of jk kj) jk_loop)))
-        (λ k. rw (sum_of-assoc ij jk (sum_of ki ij), ← sum_of-assoc jk ki ij) (le_trans _ _ _ direct (le_sum_of-right ij (sum_of (sum_of jk ki) ij) around))))
+    (λ k. rw (sum_of-assoc ij jk kj) (le_trans _ _ _ direct (le_sum_of-right ij (sum_of jk kj) jk_loop)))
+    (λ k. rw (sum_of-assoc ij jk (sum_of ki ij), ← sum_of-assoc jk ki ij) (le_trans _ _ _ direct (le_sum_of-right ij (sum_of (sum_of jk ki) ij) around))))
 
 swapped : (x y : ℤ) → pos 1 ≤ℤ sum_of x y → pos 1 ≤ℤ sum_of y x
 swapped x y h = rw (sum_of-comm y x) h

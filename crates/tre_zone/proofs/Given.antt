@@ -1,16 +1,16 @@
 -- What each call of a zone gives: the closure of bounds that hold exactly the pairs that it names.
-use Rattle.std.proofs.Common.{◌≡◌, ℕ, ◌+◌, ◌-◌, ◌*◌, ◌^◌, ◌<◌, ◌≤◌, ◌↔◌, Option, Some, None, refl, sym, subst, arith, ℤ, pos, neg_ℤ, ◌-ℤ◌, ◌≤ℤ◌}
+use Rattle.std.proofs.Common.{◌≡◌, ℕ, ◌+◌, ◌-◌, ◌*◌, ◌^◌, ◌<◌, ◌≤◌, ◌↔◌, Option, Some, None, arith, ℤ, pos, neg_ℤ, ◌-ℤ◌, ◌≤ℤ◌}
 use Rattle.std.proofs.lemmas.Int.{ints, clamps}
 use Rattle.std.specs.Int.{int_min}
 use Rattle.tre_pairs.specs.Pairs.{Pairs}
-use Rattle.tre_zone.specs.Bound.{value_of, weakness_of, sum_of, Meets, IsKeyWithin, IsValueWithin}
+use Rattle.tre_zone.specs.Bound.{sum_of, Meets, IsKeyWithin, IsValueWithin}
 use Rattle.tre_zone.specs.Interval.{IntervalEnds, IsAboveLow, IsBelowHigh, LastsWithin}
-use Rattle.tre_zone.specs.Zone.{ZoneHolds, IsCanonical, IsInFrame, EndsAt, IsZoneOf, HasNoPair, GivesZone, AreKeysWithin, AreValuesWithin}
+use Rattle.tre_zone.specs.Zone.{ZoneHolds, IsCanonical, EndsAt, IsZoneOf, HasNoPair, GivesZone, AreKeysWithin, AreValuesWithin}
 use Rattle.tre_zone.specs.Closing.{IsFramed, LeavesRoom, framed_of, closed_of, tighter_of}
 use Rattle.tre_zone.specs.declared.zone_bounds.ZoneBounds.{ZoneBounds}
 use Rattle.tre_zone.proofs.Bounds.{split, Meets-at_most, Meets-at_least}
-use Rattle.tre_zone.proofs.Paths.{Meets-min, int_min-left}
-use Rattle.tre_zone.proofs.Closing.{closed-holds, framed-holds, tighter-holds, holds-loops}
+use Rattle.tre_zone.proofs.Paths.{Meets-min}
+use Rattle.tre_zone.proofs.Closing.{closed-holds, holds-loops}
 use Rattle.tre_zone.proofs.Tightness.{canonical-keys, key-wider, keys-wider}
 
 -- An answer for one relation is an answer for another that holds of the same pairs.
@@ -117,32 +117,30 @@ ending-holds z low high t e f a b n some =
     let least = Meets-at_least low t e 0 b n in
     let most = Meets-at_most high t f b 0 n in
     let end_low = Meets-min z.end_low low 0 b n some in
-    let end_high = Meets-min z.end_high high b 0 n some in
-    (
-        (λ h.
-            let le = least.0 (end_low.0 h.end_low).1 in
-            let ge = most.0 (end_high.0 h.end_high).1 in
-            (
-                record {
-                  begin_low = h.begin_low;
-                  begin_high = h.begin_high;
-                  end_low = (end_low.0 h.end_low).0;
-                  end_high = (end_high.0 h.end_high).0;
-                  dur_low = h.dur_low;
-                  dur_high = h.dur_high;
-                },
-                record { ends = omega arith },
-            )),
-        (λ h.
-            let ends = h.1.ends in
+    let end_high = Meets-min z.end_high high b 0 n some in (
+      (λ h.
+          let le = least.0 (end_low.0 h.end_low).1 in
+          let ge = most.0 (end_high.0 h.end_high).1 in (
             record {
-              begin_low = h.0.begin_low;
-              begin_high = h.0.begin_high;
-              end_low = end_low.1 (h.0.end_low, least.1 (omega arith));
-              end_high = end_high.1 (h.0.end_high, most.1 (omega arith));
-              dur_low = h.0.dur_low;
-              dur_high = h.0.dur_high;
-            }),
+              begin_low = h.begin_low;
+              begin_high = h.begin_high;
+              end_low = (end_low.0 h.end_low).0;
+              end_high = (end_high.0 h.end_high).0;
+              dur_low = h.dur_low;
+              dur_high = h.dur_high;
+            },
+            record { ends = omega arith },
+          )),
+      (λ h.
+          let ends = h.1.ends in
+          record {
+            begin_low = h.0.begin_low;
+            begin_high = h.0.begin_high;
+            end_low = end_low.1 (h.0.end_low, least.1 (omega arith));
+            end_high = end_high.1 (h.0.end_high, most.1 (omega arith));
+            dur_low = h.0.dur_low;
+            dur_high = h.0.dur_high;
+          }),
     )
 
 pub within-keys : (z : ZoneBounds) → IsCanonical z → (low high : ℤ) → neg_ℤ (pos (2 ^ 45)) ≤ℤ low → high ≤ℤ z.dur_high → neg_ℤ (pos (2 ^ 45)) ≤ℤ high
@@ -166,25 +164,24 @@ pub within-holds : (z : ZoneBounds) (low high : ℤ) (ends : IntervalEnds)
 within-holds z low high ends above below a b n some le =
     let least = above a b n le in
     let most = below b a n some le in
-    let dur_low = Meets-min z.dur_low low a b n some in
-    (
-        (λ h. (
-            record {
-              begin_low = h.begin_low;
-              begin_high = h.begin_high;
-              end_low = h.end_low;
-              end_high = h.end_high;
-              dur_low = (dur_low.0 h.dur_low).0;
-              dur_high = (most.0 h.dur_high).0;
-            },
-            (least.0 (dur_low.0 h.dur_low).1, (most.0 h.dur_high).1),
-        )),
-        (λ h. record {
-          begin_low = h.0.begin_low;
-          begin_high = h.0.begin_high;
-          end_low = h.0.end_low;
-          end_high = h.0.end_high;
-          dur_low = dur_low.1 (h.0.dur_low, least.1 h.1.0);
-          dur_high = most.1 (h.0.dur_high, h.1.1);
-        }),
+    let dur_low = Meets-min z.dur_low low a b n some in (
+      (λ h. (
+        record {
+          begin_low = h.begin_low;
+          begin_high = h.begin_high;
+          end_low = h.end_low;
+          end_high = h.end_high;
+          dur_low = (dur_low.0 h.dur_low).0;
+          dur_high = (most.0 h.dur_high).0;
+        },
+        (least.0 (dur_low.0 h.dur_low).1, (most.0 h.dur_high).1),
+      )),
+      (λ h. record {
+        begin_low = h.0.begin_low;
+        begin_high = h.0.begin_high;
+        end_low = h.0.end_low;
+        end_high = h.0.end_high;
+        dur_low = dur_low.1 (h.0.dur_low, least.1 h.1.0);
+        dur_high = most.1 (h.0.dur_high, h.1.1);
+      }),
     )

@@ -1,5 +1,5 @@
 -- The bounds of the instants between two times.
-use Rattle.std.proofs.Common.{◌≡◌, ℕ, ◌+◌, ◌*◌, ◌^◌, ◌<◌, ◌≤◌, ◌↔◌, refl, arith, pos, ◌-ℤ◌}
+use Rattle.std.proofs.Common.{ℕ, ◌+◌, ◌*◌, ◌^◌, ◌<◌, ◌≤◌, ◌↔◌, refl, arith, pos, ◌-ℤ◌}
 use Rattle.std.proofs.lemmas.Int.{ints}
 use Rattle.tre_zone.specs.Bound.{sum_of}
 use Rattle.tre_zone.specs.Zone.{ZoneHolds, IsCanonical, IsInstant, instants_of}
@@ -34,24 +34,23 @@ instants-holds from to a b n some =
     let end_low = Meets-at_least (pos 1 -ℤ pos (2 * from)) from refl 0 b n in
     let end_high = Meets-at_most (pos (2 * to + 1)) to refl b 0 n in
     let dur_low = Meets-at_most (pos 1) 0 refl a b n in
-    let dur_high = Meets-at_most (pos 1) 0 refl b a n in
-    (
-        (λ z.
-            let low = begin_low.0 z.begin_low in
-            let high = end_high.0 z.end_high in
-            let le = dur_low.0 z.dur_low in
-            let ge = dur_high.0 z.dur_high in
-            record { starts = omega arith; same = omega arith; ends = omega arith }),
-        (λ s.
-            let starts = s.starts in
-            let same = s.same in
-            let ends = s.ends in
-            record {
-              begin_low = begin_low.1 (omega arith);
-              begin_high = begin_high.1 (omega arith);
-              end_low = end_low.1 (omega arith);
-              end_high = end_high.1 (omega arith);
-              dur_low = dur_low.1 (omega arith);
-              dur_high = dur_high.1 (omega arith);
-            }),
+    let dur_high = Meets-at_most (pos 1) 0 refl b a n in (
+      (λ z.
+          let low = begin_low.0 z.begin_low in
+          let high = end_high.0 z.end_high in
+          let le = dur_low.0 z.dur_low in
+          let ge = dur_high.0 z.dur_high in
+          record { starts = omega arith; same = omega arith; ends = omega arith }),
+      (λ s.
+          let starts = s.starts in
+          let same = s.same in
+          let ends = s.ends in
+          record {
+            begin_low = begin_low.1 (omega arith);
+            begin_high = begin_high.1 (omega arith);
+            end_low = end_low.1 (omega arith);
+            end_high = end_high.1 (omega arith);
+            dur_low = dur_low.1 (omega arith);
+            dur_high = dur_high.1 (omega arith);
+          }),
     )

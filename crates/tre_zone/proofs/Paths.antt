@@ -1,5 +1,5 @@
 -- Bounds along a path of times: what follows of a sum, what a looser bound keeps, and what a bound on nothing means.
-use Rattle.std.proofs.Common.{◌≡◌, ℕ, zero, suc, ◌+◌, ◌*◌, ◌<◌, ◌≤◌, ◌⊎◌, ◌↔◌, min, max, refl, ap, sym, subst, inl, inr, arith, ℤ, pos, negsuc, ◌+ℤ◌, ◌-ℤ◌, ◌*ℤ◌, ◌≤ℤ◌, ◌<ℤ◌, neg_ℤ}
+use Rattle.std.proofs.Common.{◌≡◌, ℕ, zero, suc, ◌+◌, ◌*◌, ◌<◌, ◌≤◌, ◌⊎◌, ◌↔◌, ap, sym, subst, inl, inr, arith, ℤ, pos, negsuc, ◌+ℤ◌, ◌*ℤ◌, ◌≤ℤ◌, ◌<ℤ◌}
 use Rattle.std.proofs.lemmas.Int.{ints, clamps, by_lt_z}
 use Rattle.std.proofs.Math.Nat.{mul-le-mul_right}
 use Rattle.std.specs.Int.{int_min}
@@ -33,9 +33,9 @@ Meets-looser key other p q n some le m =
     by_lt_z (value_of key) (value_of other)
     (λ lt. let more = lt_times (value_of key) (value_of other) n lt in record { met = omega (arith, ints) })
     (λ not_lt.
-        let same : value_of key ≡ value_of other = omega (arith, ints) in
-        let times = le_times (value_of key) (value_of other) n (omega (arith, ints)) in
-        record { met = omega (arith, ints) })
+    let same : value_of key ≡ value_of other = omega (arith, ints) in
+    let times = le_times (value_of key) (value_of other) n (omega (arith, ints)) in
+    record { met = omega (arith, ints) })
 
 pub Meets-sum : (left right : ℤ) (p q r n : ℕ) → Meets left p q n → Meets right q r n → Meets (sum_of left right) p r n
 Meets-sum left right p q r n one two =
@@ -75,8 +75,7 @@ int_min-right x y = omega (arith, ints, clamps)
 
 -- The tighter of two bounds is met exactly where both are.
 pub Meets-min : (x y : ℤ) (p q n : ℕ) → 0 < n → Meets (int_min x y) p q n ↔ (Meets x p q n × Meets y p q n)
-Meets-min x y p q n some =
-    (
-        (λ m. (Meets-looser (int_min x y) x p q n some (int_min-left x y) m, Meets-looser (int_min x y) y p q n some (int_min-right x y) m)),
-        (λ both. int_min-case (λ k. Meets k p q n) x y (λ h. both.0) (λ h. both.1)),
-    )
+Meets-min x y p q n some = (
+  (λ m. (Meets-looser (int_min x y) x p q n some (int_min-left x y) m, Meets-looser (int_min x y) y p q n some (int_min-right x y) m)),
+  (λ both. int_min-case (λ k. Meets k p q n) x y (λ h. both.0) (λ h. both.1)),
+)

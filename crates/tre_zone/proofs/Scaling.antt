@@ -1,8 +1,8 @@
 -- What a zone holds does not depend on the denominator that a pair is written over; and where its pairs lie.
 use Rattle.std.proofs.lemmas.Bool.{cases_lt}
-use Rattle.std.proofs.Common.{◌≡◌, ℕ, zero, suc, ◌+◌, ◌*◌, ◌^◌, ◌<◌, ◌≤◌, ◌⊎◌, ◌↔◌, List, [], ◌∷◌, inl, inr, ⊎_elim, refl, ap, arith, ℤ, pos, ◌+ℤ◌, ◌*ℤ◌, ◌≤ℤ◌, ◌<ℤ◌}
+use Rattle.std.proofs.Common.{◌≡◌, ℕ, zero, suc, ◌+◌, ◌*◌, ◌^◌, ◌<◌, ◌≤◌, ◌↔◌, List, [], ◌∷◌, inl, inr, ⊎_elim, refl, arith, ℤ, pos}
 use Rattle.std.proofs.lemmas.Int.{ints}
-use Rattle.std.proofs.Math.Nat.{mul-le-mul_right, mul-le-mul_left}
+use Rattle.std.proofs.Math.Nat.{mul-le-mul_left}
 use borrow.Author.Differences.{up, down}
 use Rattle.tre_zone.specs.Bound.{value_of, weakness_of, Meets}
 use Rattle.tre_zone.specs.Zone.{ZoneHolds, IsCanonical, IsInFrame}
@@ -27,29 +27,28 @@ shrinks : (weakness k p q n x y : ℕ) → 0 < k → weakness ≤ 1 → k * p + 
 shrinks zero k p q n x y some small lt =
     ⊎_elim (λ h. h)
     (λ h.
-        let le : k * (q + x * n) ≤ k * (p + y * n) = mul-le-mul_left k (omega arith) in
-        absurd (omega arith))
+    let le : k * (q + x * n) ≤ k * (p + y * n) = mul-le-mul_left k (omega arith) in
+    absurd (omega arith))
     (cases_lt (p + y * n) (q + x * n + zero))
 shrinks (suc zero) k p q n x y some small lt =
     ⊎_elim (λ h. h)
     (λ h.
-        let le : k * (q + x * n + 1) ≤ k * (p + y * n) = mul-le-mul_left k (omega arith) in
-        absurd (omega arith))
+    let le : k * (q + x * n + 1) ≤ k * (p + y * n) = mul-le-mul_left k (omega arith) in
+    absurd (omega arith))
     (cases_lt (p + y * n) (q + x * n + suc zero))
 shrinks (suc (suc w)) k p q n x y some small lt = absurd (omega arith)
 
 pub Meets-scale : (key : ℤ) (k p q n : ℕ) → 0 < k → Meets key p q n ↔ Meets key (k * p) (k * q) (k * n)
 Meets-scale key k p q n some =
-    let s = split key in
-    (
-        (λ m.
-            let met = m.met in
-            let h = grows (weakness_of key) k p q n (up (value_of key)) (down (value_of key)) some s.small (omega (arith, ints)) in
-            record { met = omega (arith, ints) }),
-        (λ m.
-            let met = m.met in
-            let h = shrinks (weakness_of key) k p q n (up (value_of key)) (down (value_of key)) some s.small (omega (arith, ints)) in
-            record { met = omega (arith, ints) }),
+    let s = split key in (
+      (λ m.
+          let met = m.met in
+          let h = grows (weakness_of key) k p q n (up (value_of key)) (down (value_of key)) some s.small (omega (arith, ints)) in
+          record { met = omega (arith, ints) }),
+      (λ m.
+          let met = m.met in
+          let h = shrinks (weakness_of key) k p q n (up (value_of key)) (down (value_of key)) some s.small (omega (arith, ints)) in
+          record { met = omega (arith, ints) }),
     )
 
 zero_times : (k : ℕ) → k * 0 ≡ 0
@@ -58,24 +57,23 @@ zero_times k = omega arith
 pub ZoneHolds-scale : (zone : ZoneBounds) (k a b n : ℕ) → 0 < k → ZoneHolds zone a b n ↔ ZoneHolds zone (k * a) (k * b) (k * n)
 ZoneHolds-scale zone k a b n some =
     let from_zero = λ (key : ℤ) (q : ℕ). rw (zero_times k) at (Meets-scale key k 0 q n some) in
-    let to_zero = λ (key : ℤ) (p : ℕ). rw (zero_times k) at (Meets-scale key k p 0 n some) in
-    (
-        (λ h. record {
-          begin_low = (from_zero zone.begin_low a).0 h.begin_low;
-          begin_high = (to_zero zone.begin_high a).0 h.begin_high;
-          end_low = (from_zero zone.end_low b).0 h.end_low;
-          end_high = (to_zero zone.end_high b).0 h.end_high;
-          dur_low = (Meets-scale zone.dur_low k a b n some).0 h.dur_low;
-          dur_high = (Meets-scale zone.dur_high k b a n some).0 h.dur_high;
-        }),
-        (λ h. record {
-          begin_low = (from_zero zone.begin_low a).1 h.begin_low;
-          begin_high = (to_zero zone.begin_high a).1 h.begin_high;
-          end_low = (from_zero zone.end_low b).1 h.end_low;
-          end_high = (to_zero zone.end_high b).1 h.end_high;
-          dur_low = (Meets-scale zone.dur_low k a b n some).1 h.dur_low;
-          dur_high = (Meets-scale zone.dur_high k b a n some).1 h.dur_high;
-        }),
+    let to_zero = λ (key : ℤ) (p : ℕ). rw (zero_times k) at (Meets-scale key k p 0 n some) in (
+      (λ h. record {
+        begin_low = (from_zero zone.begin_low a).0 h.begin_low;
+        begin_high = (to_zero zone.begin_high a).0 h.begin_high;
+        end_low = (from_zero zone.end_low b).0 h.end_low;
+        end_high = (to_zero zone.end_high b).0 h.end_high;
+        dur_low = (Meets-scale zone.dur_low k a b n some).0 h.dur_low;
+        dur_high = (Meets-scale zone.dur_high k b a n some).0 h.dur_high;
+      }),
+      (λ h. record {
+        begin_low = (from_zero zone.begin_low a).1 h.begin_low;
+        begin_high = (to_zero zone.begin_high a).1 h.begin_high;
+        end_low = (from_zero zone.end_low b).1 h.end_low;
+        end_high = (to_zero zone.end_high b).1 h.end_high;
+        dur_low = (Meets-scale zone.dur_low k a b n some).1 h.dur_low;
+        dur_high = (Meets-scale zone.dur_high k b a n some).1 h.dur_high;
+      }),
     )
 
 pub SetHolds-scale : (zones : List ZoneBounds) (k a b n : ℕ) → 0 < k → SetHolds zones a b n ↔ SetHolds zones (k * a) (k * b) (k * n)
@@ -83,10 +81,9 @@ unfolding SetHolds
 SetHolds-scale [] k a b n some = ((λ h. h), (λ h. h))
 SetHolds-scale (zone ∷ zones) k a b n some =
     let one = ZoneHolds-scale zone k a b n some in
-    let rest = SetHolds-scale zones k a b n some in
-    (
-        (λ h. ⊎_elim (λ x. inl (one.0 x)) (λ x. inr (rest.0 x)) h),
-        (λ h. ⊎_elim (λ x. inl (one.1 x)) (λ x. inr (rest.1 x)) h),
+    let rest = SetHolds-scale zones k a b n some in (
+      (λ h. ⊎_elim (λ x. inl (one.0 x)) (λ x. inr (rest.0 x)) h),
+      (λ h. ⊎_elim (λ x. inl (one.1 x)) (λ x. inr (rest.1 x)) h),
     )
 
 -- Each pair of a canonical zone lies in the frame.

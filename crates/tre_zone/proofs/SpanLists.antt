@@ -1,8 +1,8 @@
 -- Spans in rising order, each beginning where the one before it has ended or later, are apart.
-use Rattle.std.proofs.Common.{◌≡◌, ℕ, ◌+◌, ◌*◌, ◌<◌, ◌≤◌, List, [], ◌∷◌, ◌++◌, arith}
+use Rattle.std.proofs.Common.{ℕ, ◌*◌, ◌<◌, ◌≤◌, List, [], ◌∷◌, ◌++◌, arith}
 use Rattle.std.proofs.Math.Nat.{mul-le-mul_right}
-use Rattle.tre_zone.specs.Zone.{ZoneHolds, Includes, IsInSpan, span_of}
-use Rattle.tre_zone.specs.ZoneList.{AreApart, IsApartFrom, IsApart}
+use Rattle.tre_zone.specs.Zone.{ZoneHolds, span_of}
+use Rattle.tre_zone.specs.ZoneList.{AreApart, IsApartFrom}
 use Rattle.tre_zone.specs.declared.zone_bounds.ZoneBounds.{ZoneBounds}
 use Rattle.tre_zone.proofs.Spans.{span-holds}
 

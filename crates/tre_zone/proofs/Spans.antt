@@ -1,7 +1,7 @@
 -- The bounds of a span.
 use Rattle.std.proofs.Common.{◌≡◌, ℕ, ◌+◌, ◌-◌, ◌*◌, ◌^◌, ◌<◌, ◌≤◌, ◌↔◌, refl, ap, arith, ℤ, pos, ◌+ℤ◌, ◌-ℤ◌, ◌*ℤ◌, neg_ℤ}
 use Rattle.std.proofs.lemmas.Int.{ints}
-use Rattle.tre_zone.specs.Bound.{value_of, weakness_of, sum_of, Meets}
+use Rattle.tre_zone.specs.Bound.{weakness_of, sum_of}
 use Rattle.tre_zone.specs.Zone.{ZoneHolds, IsCanonical, IsInSpan, span_of}
 use Rattle.tre_zone.proofs.Bounds.{split, Meets-at_most, Meets-at_least, Meets-less, Meets-more}
 
@@ -48,19 +48,18 @@ span-holds begin end rising a b n some =
     let end_high = Meets-at_most (pos (2 * end + 1)) end refl b 0 n in
     let dur_low = Meets-more (pos 0) 0 refl a b n in
     let dur_high = Meets-at_most (pos (2 * (end - begin) + 1)) (end - begin) refl b a n in
-    let width : (end - begin) * n + begin * n ≡ end * n = omega (arith, ap (λ (t : ℕ). t * n) (whole end begin rising)) in
-    (
-        (λ z.
-            let low = begin_low.0 z.begin_low in
-            let lasts = dur_low.0 z.dur_low in
-            let high = end_high.0 z.end_high in
-            record { starts = omega arith; lasts = omega arith; ends = omega arith }),
-        (λ s. record {
-          begin_low = begin_low.1 (omega arith);
-          begin_high = begin_high.1 (omega arith);
-          end_low = end_low.1 (omega arith);
-          end_high = end_high.1 (omega arith);
-          dur_low = dur_low.1 (omega arith);
-          dur_high = dur_high.1 (omega arith);
-        }),
+    let width : (end - begin) * n + begin * n ≡ end * n = omega (arith, ap (λ (t : ℕ). t * n) (whole end begin rising)) in (
+      (λ z.
+          let low = begin_low.0 z.begin_low in
+          let lasts = dur_low.0 z.dur_low in
+          let high = end_high.0 z.end_high in
+          record { starts = omega arith; lasts = omega arith; ends = omega arith }),
+      (λ s. record {
+        begin_low = begin_low.1 (omega arith);
+        begin_high = begin_high.1 (omega arith);
+        end_low = end_low.1 (omega arith);
+        end_high = end_high.1 (omega arith);
+        dur_low = dur_low.1 (omega arith);
+        dur_high = dur_high.1 (omega arith);
+      }),
     )

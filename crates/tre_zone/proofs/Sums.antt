@@ -1,10 +1,8 @@
 -- The sum of bounds has the laws of a sum, and "at most 0" for its zero.
-use Rattle.std.proofs.Common.{◌≡◌, ℕ, ◌+◌, ◌*◌, ◌<◌, ◌≤◌, min, max, arith, ℤ, pos, ◌+ℤ◌, ◌-ℤ◌, ◌*ℤ◌, ◌≤ℤ◌, ◌<ℤ◌, sym, subst}
+use Rattle.std.proofs.Common.{◌≡◌, arith, ℤ, pos, ◌≤ℤ◌}
 use Rattle.std.proofs.lemmas.Int.{ints}
-use Rattle.std.specs.Int.{int_min}
-use Rattle.tre_zone.specs.Bound.{value_of, weakness_of, sum_of}
+use Rattle.tre_zone.specs.Bound.{sum_of}
 use Rattle.tre_zone.proofs.Bounds.{split, split-sum, value_of-sum_of, weakness_of-sum_of}
-use Rattle.tre_zone.proofs.Paths.{int_min-case, int_min-left, int_min-right}
 
 pub sum_of-comm : (x y : ℤ) → sum_of x y ≡ sum_of y x
 sum_of-comm x y =

@@ -1,8 +1,8 @@
 -- Each bound of canonical bounds is met to the last: by a pair at the denominator 4.
-use Rattle.std.proofs.Common.{◌≡◌, ℕ, ◌+◌, ◌-◌, ◌*◌, ◌<◌, ◌≤◌, ◌^◌, ◌↔◌, refl, sym, subst, arith, ℤ, pos, negsuc, neg_ℤ, ◌+ℤ◌, ◌-ℤ◌, ◌*ℤ◌, ◌≤ℤ◌, ◌<ℤ◌}
+use Rattle.std.proofs.Common.{◌≡◌, ℕ, ◌+◌, ◌≤◌, ◌^◌, refl, sym, arith, ℤ, pos, negsuc, neg_ℤ, ◌+ℤ◌, ◌-ℤ◌, ◌*ℤ◌, ◌≤ℤ◌}
 use Rattle.std.proofs.lemmas.Int.{ints, clamps}
 use Rattle.std.specs.Int.{int_max}
-use borrow.Author.Differences.{up, down}
+use borrow.Author.Differences.{up}
 use Rattle.tre_zone.specs.Bound.{value_of, weakness_of, sum_of, Meets, IsKeyWithin}
 use Rattle.tre_zone.specs.Zone.{ZoneHolds, IsCanonical, IsTightest, IsTight, HoldsSome, Includes, Covers, AreKeysWithin}
 use Rattle.tre_zone.specs.declared.zone_bounds.ZoneBounds.{ZoneBounds}
@@ -147,14 +147,14 @@ tight_begin_low : (z : ZoneBounds) → IsCanonical z → IsTightest z z.begin_lo
 tight_begin_low z c =
     let f = facet z.begin_low z.begin_high z.end_low z.end_high z.dur_low z.dur_high c.begin_loop c.end_loop c.dur_loop c.begin_low c.begin_high in
     let point : Point z (neg_ℤ f.first) (f.third -ℤ f.first) =
-      record {
-        begin_low = omega (arith, ints, f.ij_met);
-        begin_high = omega (arith, ints, f.ji_met);
-        end_low = omega (arith, ints, f.ik_met);
-        end_high = omega (arith, ints, f.ki_met);
-        dur_low = omega (arith, ints, f.jk_met);
-        dur_high = omega (arith, ints, f.kj_met);
-      } in
+    record {
+      begin_low = omega (arith, ints, f.ij_met);
+      begin_high = omega (arith, ints, f.ji_met);
+      end_low = omega (arith, ints, f.ik_met);
+      end_high = omega (arith, ints, f.ki_met);
+      dur_low = omega (arith, ints, f.jk_met);
+      dur_high = omega (arith, ints, f.kj_met);
+    } in
     let p = pair_at z c (neg_ℤ f.first) (f.third -ℤ f.first) point in
     record {
       tightest = λ other every.
@@ -165,14 +165,14 @@ tight_begin_high : (z : ZoneBounds) → IsCanonical z → IsTightest z z.begin_h
 tight_begin_high z c =
     let f = facet z.begin_high z.begin_low z.dur_low z.dur_high z.end_low z.end_high (swapped _ _ c.begin_loop) c.dur_loop c.end_loop c.begin_high c.begin_low in
     let point : Point z f.first f.third =
-      record {
-        begin_low = omega (arith, ints, f.ji_met);
-        begin_high = omega (arith, ints, f.ij_met);
-        end_low = omega (arith, ints, f.jk_met);
-        end_high = omega (arith, ints, f.kj_met);
-        dur_low = omega (arith, ints, f.ik_met);
-        dur_high = omega (arith, ints, f.ki_met);
-      } in
+    record {
+      begin_low = omega (arith, ints, f.ji_met);
+      begin_high = omega (arith, ints, f.ij_met);
+      end_low = omega (arith, ints, f.jk_met);
+      end_high = omega (arith, ints, f.kj_met);
+      dur_low = omega (arith, ints, f.ik_met);
+      dur_high = omega (arith, ints, f.ki_met);
+    } in
     let p = pair_at z c f.first f.third point in
     record {
       tightest = λ other every.
@@ -183,14 +183,14 @@ tight_end_low : (z : ZoneBounds) → IsCanonical z → IsTightest z z.end_low (�
 tight_end_low z c =
     let f = facet z.end_low z.end_high z.begin_low z.begin_high z.dur_high z.dur_low c.end_loop c.begin_loop (swapped _ _ c.dur_loop) c.end_low c.end_high in
     let point : Point z (f.third -ℤ f.first) (neg_ℤ f.first) =
-      record {
-        begin_low = omega (arith, ints, f.ik_met);
-        begin_high = omega (arith, ints, f.ki_met);
-        end_low = omega (arith, ints, f.ij_met);
-        end_high = omega (arith, ints, f.ji_met);
-        dur_low = omega (arith, ints, f.kj_met);
-        dur_high = omega (arith, ints, f.jk_met);
-      } in
+    record {
+      begin_low = omega (arith, ints, f.ik_met);
+      begin_high = omega (arith, ints, f.ki_met);
+      end_low = omega (arith, ints, f.ij_met);
+      end_high = omega (arith, ints, f.ji_met);
+      dur_low = omega (arith, ints, f.kj_met);
+      dur_high = omega (arith, ints, f.jk_met);
+    } in
     let p = pair_at z c (f.third -ℤ f.first) (neg_ℤ f.first) point in
     record {
       tightest = λ other every.
@@ -201,14 +201,14 @@ tight_end_high : (z : ZoneBounds) → IsCanonical z → IsTightest z z.end_high 
 tight_end_high z c =
     let f = facet z.end_high z.end_low z.dur_high z.dur_low z.begin_low z.begin_high (swapped _ _ c.end_loop) (swapped _ _ c.dur_loop) c.begin_loop c.end_high c.end_low in
     let point : Point z f.third f.first =
-      record {
-        begin_low = omega (arith, ints, f.jk_met);
-        begin_high = omega (arith, ints, f.kj_met);
-        end_low = omega (arith, ints, f.ji_met);
-        end_high = omega (arith, ints, f.ij_met);
-        dur_low = omega (arith, ints, f.ki_met);
-        dur_high = omega (arith, ints, f.ik_met);
-      } in
+    record {
+      begin_low = omega (arith, ints, f.jk_met);
+      begin_high = omega (arith, ints, f.kj_met);
+      end_low = omega (arith, ints, f.ji_met);
+      end_high = omega (arith, ints, f.ij_met);
+      dur_low = omega (arith, ints, f.ki_met);
+      dur_high = omega (arith, ints, f.ik_met);
+    } in
     let p = pair_at z c f.third f.first point in
     record {
       tightest = λ other every.
@@ -219,14 +219,14 @@ tight_dur_low : (z : ZoneBounds) → IsCanonical z → IsTightest z z.dur_low (�
 tight_dur_low z c =
     let f = facet z.dur_low z.dur_high z.begin_high z.begin_low z.end_high z.end_low c.dur_loop (swapped _ _ c.begin_loop) (swapped _ _ c.end_loop) c.dur_low c.dur_high in
     let point : Point z (f.first -ℤ f.third) (neg_ℤ f.third) =
-      record {
-        begin_low = omega (arith, ints, f.ki_met);
-        begin_high = omega (arith, ints, f.ik_met);
-        end_low = omega (arith, ints, f.kj_met);
-        end_high = omega (arith, ints, f.jk_met);
-        dur_low = omega (arith, ints, f.ij_met);
-        dur_high = omega (arith, ints, f.ji_met);
-      } in
+    record {
+      begin_low = omega (arith, ints, f.ki_met);
+      begin_high = omega (arith, ints, f.ik_met);
+      end_low = omega (arith, ints, f.kj_met);
+      end_high = omega (arith, ints, f.jk_met);
+      dur_low = omega (arith, ints, f.ij_met);
+      dur_high = omega (arith, ints, f.ji_met);
+    } in
     let p = pair_at z c (f.first -ℤ f.third) (neg_ℤ f.third) point in
     record {
       tightest = λ other every.
@@ -237,14 +237,14 @@ tight_dur_high : (z : ZoneBounds) → IsCanonical z → IsTightest z z.dur_high 
 tight_dur_high z c =
     let f = facet z.dur_high z.dur_low z.end_high z.end_low z.begin_high z.begin_low (swapped _ _ c.dur_loop) (swapped _ _ c.end_loop) (swapped _ _ c.begin_loop) c.dur_high c.dur_low in
     let point : Point z (neg_ℤ f.third) (f.first -ℤ f.third) =
-      record {
-        begin_low = omega (arith, ints, f.kj_met);
-        begin_high = omega (arith, ints, f.jk_met);
-        end_low = omega (arith, ints, f.ki_met);
-        end_high = omega (arith, ints, f.ik_met);
-        dur_low = omega (arith, ints, f.ji_met);
-        dur_high = omega (arith, ints, f.ij_met);
-      } in
+    record {
+      begin_low = omega (arith, ints, f.kj_met);
+      begin_high = omega (arith, ints, f.jk_met);
+      end_low = omega (arith, ints, f.ki_met);
+      end_high = omega (arith, ints, f.ik_met);
+      dur_low = omega (arith, ints, f.ji_met);
+      dur_high = omega (arith, ints, f.ij_met);
+    } in
     let p = pair_at z c (neg_ℤ f.third) (f.first -ℤ f.third) point in
     record {
       tightest = λ other every.
@@ -265,14 +265,14 @@ pub canonical-some : (z : ZoneBounds) → IsCanonical z → HoldsSome z
 canonical-some z c =
     let f = facet z.begin_high z.begin_low z.dur_low z.dur_high z.end_low z.end_high (swapped _ _ c.begin_loop) c.dur_loop c.end_loop c.begin_high c.begin_low in
     let point : Point z f.first f.third =
-      record {
-        begin_low = f.ji_met;
-        begin_high = f.ij_met;
-        end_low = f.jk_met;
-        end_high = f.kj_met;
-        dur_low = f.ik_met;
-        dur_high = f.ki_met;
-      } in
+    record {
+      begin_low = f.ji_met;
+      begin_high = f.ij_met;
+      end_low = f.jk_met;
+      end_high = f.kj_met;
+      dur_low = f.ik_met;
+      dur_high = f.ki_met;
+    } in
     let p = pair_at z c f.first f.third point in
     record {
       a = p.a;

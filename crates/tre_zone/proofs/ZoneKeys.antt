@@ -13,4 +13,4 @@ pub zones_same : (one other : ZoneBounds) → one.begin_low ≡ other.begin_low 
     → one.end_low ≡ other.end_low → one.end_high ≡ other.end_high → one.dur_low ≡ other.dur_low → one.dur_high ≡ other.dur_high → one ≡ other
 zones_same one other a b c d e f =
     keys_same one.begin_low one.begin_high one.end_low one.end_high one.dur_low one.dur_high
-        other.begin_low other.begin_high other.end_low other.end_high other.dur_low other.dur_high a b c d e f
+    other.begin_low other.begin_high other.end_low other.end_high other.dur_low other.dur_high a b c d e f

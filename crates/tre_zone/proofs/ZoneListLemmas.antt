@@ -1,7 +1,7 @@
 -- Lists of zones: one more zone at the end.
-use Rattle.std.proofs.Common.{◌≡◌, ℕ, ◌<◌, ◌≤◌, ◌⊎◌, ◌↔◌, List, [], ◌∷◌, ◌++◌, inl, inr, ⊎_elim}
+use Rattle.std.proofs.Common.{ℕ, ◌<◌, ◌≤◌, ◌⊎◌, ◌↔◌, List, [], ◌∷◌, ◌++◌, inl, inr, ⊎_elim}
 use Rattle.tre_pairs.specs.Pairs.{Pairs}
-use Rattle.tre_zone.specs.Zone.{ZoneHolds, Includes}
+use Rattle.tre_zone.specs.Zone.{ZoneHolds}
 use Rattle.tre_zone.specs.ZoneList.{SetHolds, AreApart, IsApartFrom, IsApart, HoldExactly}
 use Rattle.tre_zone.specs.declared.zone_bounds.ZoneBounds.{ZoneBounds}
 
@@ -18,20 +18,18 @@ pub SetHolds-append : (left right : List ZoneBounds) (a b n : ℕ) → SetHolds 
 unfolding SetHolds
 SetHolds-append [] right a b n = ((λ h. inr h), (λ h. ⊎_elim (λ x. absurd x) (λ x. x) h))
 SetHolds-append (zone ∷ left) right a b n =
-    let rest = SetHolds-append left right a b n in
-    (
-        (λ h. ⊎_elim (λ x. inl (inl x)) (λ x. ⊎_elim (λ y. inl (inr y)) (λ y. inr y) (rest.0 x)) h),
-        (λ h. ⊎_elim (λ x. ⊎_elim (λ y. inl y) (λ y. inr (rest.1 (inl y))) x) (λ x. inr (rest.1 (inr x))) h),
+    let rest = SetHolds-append left right a b n in (
+      (λ h. ⊎_elim (λ x. inl (inl x)) (λ x. ⊎_elim (λ y. inl (inr y)) (λ y. inr y) (rest.0 x)) h),
+      (λ h. ⊎_elim (λ x. ⊎_elim (λ y. inl y) (λ y. inr (rest.1 (inl y))) x) (λ x. inr (rest.1 (inr x))) h),
     )
 
 -- A list with one more zone holds the pairs of the list and those of the zone.
 pub SetHolds-push : (zones : List ZoneBounds) (zone : ZoneBounds) (a b n : ℕ) → SetHolds (zones ++ zone ∷ []) a b n ↔ (SetHolds zones a b n ⊎ ZoneHolds zone a b n)
 unfolding SetHolds
 SetHolds-push zones zone a b n =
-    let parts = SetHolds-append zones (zone ∷ []) a b n in
-    (
-        (λ h. ⊎_elim (λ x. inl x) (λ x. ⊎_elim (λ y. inr y) (λ y. absurd y) x) (parts.0 h)),
-        (λ h. ⊎_elim (λ x. parts.1 (inl x)) (λ x. parts.1 (inr (inl x))) h),
+    let parts = SetHolds-append zones (zone ∷ []) a b n in (
+      (λ h. ⊎_elim (λ x. inl x) (λ x. ⊎_elim (λ y. inr y) (λ y. absurd y) x) (parts.0 h)),
+      (λ h. ⊎_elim (λ x. parts.1 (inl x)) (λ x. parts.1 (inr (inl x))) h),
     )
 
 pub AreApart-swap : (one other : ZoneBounds) → AreApart one other → AreApart other one

@@ -1,5 +1,5 @@
 -- Bounds from above on a difference of two times, each seen as its key.
-use Rattle.std.specs.Prelude.{ℕ, ◌-◌, ◌/◌, ◌%◌, max, ℤ, pos, negsuc, ◌+ℤ◌, ◌-ℤ◌, ◌*ℤ◌, ◌<ℤ◌, ◌≤ℤ◌, neg_ℤ, ◌^◌, ◌≡◌}
+use Rattle.std.specs.Prelude.{ℕ, ◌-◌, ◌/◌, ◌%◌, max, ℤ, pos, negsuc, ◌+ℤ◌, ◌-ℤ◌, ◌*ℤ◌, ◌<ℤ◌, ◌≤ℤ◌, neg_ℤ}
 
 -- The key of the bound "at most c" is 2c + 1, that of "less than c" is 2c. So the key is twice the value, and one more
 -- where the bound is weak; and the smaller key is the tighter bound.

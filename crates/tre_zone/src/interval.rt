@@ -36,13 +36,9 @@ impl Interval {
     pub fn new(low: u64, low_weak: bool, high: Option<u64>, high_weak: bool) -> Option<Interval>
         requires low { low ≤ TIME_MAX }
         requires high { MatchOption high (Unit {0}) (λ h. h ≤ TIME_MAX) }
-        ensures ends {
-            IfSome result (λ i. i ≡ record { low = low; low_weak = low_weak; high = high; high_weak = kept_weak high high_weak })
-        }
-        ensures empty {
-            IsNone result ↔ ((d n : ℕ) → 0 < n →
-                LastsWithin (record { low = low; low_weak = low_weak; high = high; high_weak = high_weak }) d n → ⊥)
-        }
+        ensures ends { IfSome result (λ i. i ≡ record { low = low; low_weak = low_weak; high = high; high_weak = kept_weak high high_weak }) }
+        ensures empty { IsNone result ↔ ((d n : ℕ) → 0 < n →
+            LastsWithin (record { low = low; low_weak = low_weak; high = high; high_weak = high_weak }) d n → ⊥) }
     {
         match high {
             None => Some(Interval {
@@ -121,9 +117,7 @@ impl Interval {
     pub(crate) fn bounded(&self, bound: &Bound) -> Bound
         ensures tighter { result ≤ℤ bound.now }
         ensures key { neg_ℤ (pos (2 ^ 42)) ≤ℤ bound.now → neg_ℤ (pos (2 ^ 42)) ≤ℤ result }
-        ensures meaning {
-            (p q n : ℕ) → 0 < n → q ≤ p → Meets result p q n ↔ (Meets bound.now p q n × IsBelowHigh self.now (p - q) n)
-        }
+        ensures meaning { (p q n : ℕ) → 0 < n → q ≤ p → Meets result p q n ↔ (Meets bound.now p q n × IsBelowHigh self.now (p - q) n) }
     {
         match self.high {
             None => *bound,

@@ -1,6 +1,5 @@
-use Rattle.std.proofs.Common.{◌≡◌, refl, arith, ap, ◌∙◌, ℤ, pos, ◌^◌, ◌+◌}
+use Rattle.std.proofs.Common.{◌≡◌, refl, arith, pos, ◌^◌, ◌+◌}
 use Rattle.std.proofs.lemmas.Int.{ints}
-use Rattle.std.specs.Int.{int_min}
 use Rattle.tre_zone.specs.Closing.{framed_of}
 use Rattle.tre_zone.proofs.ZoneKeys.{zones_same}
 use Rattle.tre_zone.proofs.canonical.framed.Goals as goal

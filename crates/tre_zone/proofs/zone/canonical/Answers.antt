@@ -1,6 +1,5 @@
 use Rattle.std.proofs.Common.{sym, subst, refl}
-use Rattle.tre_zone.specs.Zone.{AreKeysWithin, ZoneHolds, IsZoneOf, IsCanonical}
-use Rattle.tre_zone.specs.Closing.{LeavesRoom, closed_of}
+use Rattle.tre_zone.specs.Closing.{LeavesRoom}
 use Rattle.tre_zone.proofs.Closing.{closed-canonical}
 use Rattle.tre_zone.proofs.Given.{closed-keys, closed-exact, closed-never}
 use Rattle.tre_zone.proofs.zone.canonical.Goals as goal

@@ -1,6 +1,5 @@
-use Rattle.std.proofs.Common.{◌≡◌, ℕ, ◌+◌, ◌-◌, ◌*◌, ◌<◌, ◌≤◌, ◌↔◌, Bool, true, false, arith, ℤ, pos, neg_ℤ, ◌-ℤ◌}
+use Rattle.std.proofs.Common.{arith}
 use Rattle.std.proofs.lemmas.Int.{ints}
-use Rattle.tre_zone.specs.Bound.{Meets}
 use Rattle.tre_zone.proofs.Ends.{weak_low, strict_low}
 use Rattle.tre_zone.proofs.interval.Interval.low_bound.Goals as goal
 

@@ -1,5 +1,3 @@
-use Rattle.std.proofs.Common.{arith}
-use Rattle.std.proofs.lemmas.Int.{ints}
 use Rattle.tre_zone.proofs.Tightness.{canonical-keys, canonical-tight, canonical-some}
 use Rattle.tre_zone.proofs.zone.Zone.bounds.Goals as goal
 

@@ -1,4 +1,4 @@
-use Rattle.std.proofs.Common.{◌≡◌, arith, pos, neg_ℤ, ◌-ℤ◌, ◌+◌, ◌*◌}
+use Rattle.std.proofs.Common.{arith}
 use Rattle.std.proofs.lemmas.Int.{ints}
 use Rattle.tre_zone.proofs.Given.{GivesZone-same, ending-keys, ending-holds}
 use Rattle.tre_zone.proofs.zone.Zone.ending_at.Goals as goal
@@ -12,6 +12,6 @@ pub returns : goal.returns
 returns c =
     GivesZone-same c.canonical.result _ _
     (λ a b n some le.
-        rw (c.tighter.ensures, c.tighter-2.ensures, ← c.self.view_is)
-        (ending-holds c.self.inside.bounds c.weak.result c.weak-2.result c.args.t (omega (arith, ints)) (omega (arith, ints)) a b n some))
+    rw (c.tighter.ensures, c.tighter-2.ensures, ← c.self.view_is)
+    (ending-holds c.self.inside.bounds c.weak.result c.weak-2.result c.args.t (omega (arith, ints)) (omega (arith, ints)) a b n some))
     c.canonical.ensures

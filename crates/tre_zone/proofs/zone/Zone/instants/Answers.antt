@@ -1,4 +1,4 @@
-use Rattle.std.proofs.Common.{◌≡◌, arith, sym, subst, ℕ, ◌<◌, ◌↔◌, pos, ◌-ℤ◌, ◌+◌, ◌*◌}
+use Rattle.std.proofs.Common.{◌≡◌, arith, sym, subst, ◌↔◌, pos, ◌-ℤ◌, ◌+◌, ◌*◌}
 use Rattle.std.proofs.lemmas.Int.{ints}
 use Rattle.tre_zone.specs.declared.zone_bounds.ZoneBounds.{ZoneBounds}
 use Rattle.tre_zone.specs.Zone.{instants_of, IsCanonical, ZoneHolds, IsInstant}

@@ -1,4 +1,3 @@
-use Rattle.std.proofs.Common.{sym, subst}
 use Rattle.tre_zone.proofs.Closing.{framed-framed, framed-holds}
 use Rattle.tre_zone.proofs.Given.{GivesZone-same, framed-keys}
 use Rattle.tre_zone.proofs.zone.Zone.new.Goals as goal

@@ -1,4 +1,4 @@
-use Rattle.std.proofs.Common.{◌≡◌, arith, pos, neg_ℤ, ◌-ℤ◌, ◌+◌, ◌*◌}
+use Rattle.std.proofs.Common.{arith}
 use Rattle.std.proofs.lemmas.Int.{ints}
 use Rattle.tre_zone.proofs.Given.{GivesZone-same, within-keys, within-holds}
 use Rattle.tre_zone.proofs.Tightness.{canonical-keys}
@@ -14,6 +14,6 @@ pub returns : goal.returns
 returns c =
     GivesZone-same c.canonical.result _ _
     (λ a b n some le.
-        rw (c.tighter.ensures, ← c.self.view_is)
-        (within-holds c.self.inside.bounds c.low_bound.result c.bounded.result c.args.i.now c.low_bound.ensures.meaning c.bounded.ensures.meaning a b n some le))
+    rw (c.tighter.ensures, ← c.self.view_is)
+    (within-holds c.self.inside.bounds c.low_bound.result c.bounded.result c.args.i.now c.low_bound.ensures.meaning c.bounded.ensures.meaning a b n some le))
     c.canonical.ensures
