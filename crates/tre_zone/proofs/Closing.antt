@@ -2,6 +2,7 @@
 use Rattle.std.proofs.Common.{ℕ, ◌+◌, ◌<◌, ◌^◌, ◌↔◌, refl, arith, ℤ, pos, ◌≤ℤ◌}
 use Rattle.std.proofs.lemmas.Int.{ints}
 use Rattle.std.specs.Int.{int_min}
+use Rattle.tre_pairs.specs.Pairs.{Both}
 use Rattle.tre_zone.specs.Bound.{sum_of}
 use Rattle.tre_zone.specs.Zone.{ZoneHolds, IsCanonical, IsInFrame}
 use Rattle.tre_zone.specs.Closing.{IsFramed, LeavesRoom, framed_of, closed_of, tighter_of}
@@ -36,7 +37,7 @@ closed-holds zone a b n some = (
   }),
 )
 
-pub framed-holds : (zone : ZoneBounds) (a b n : ℕ) → 0 < n → ZoneHolds (framed_of zone) a b n ↔ (ZoneHolds zone a b n × IsInFrame (2 ^ 40) a b n)
+pub framed-holds : (zone : ZoneBounds) (a b n : ℕ) → 0 < n → ZoneHolds (framed_of zone) a b n ↔ Both (ZoneHolds zone) (IsInFrame (2 ^ 40)) a b n
 unfolding framed_of
 framed-holds zone a b n some =
     let starts = Meets-at_most (pos 1) 0 refl 0 a n in
@@ -45,28 +46,29 @@ framed-holds zone a b n some =
       (λ h.
           let begin_low = (Meets-min zone.begin_low (pos 1) 0 a n some).0 h.begin_low in
           let end_high = (Meets-min zone.end_high (pos (2 ^ 41 + 1)) b 0 n some).0 h.end_high in
-          let dur_low = (Meets-min zone.dur_low (pos 1) a b n some).0 h.dur_low in (
-            record {
+          let dur_low = (Meets-min zone.dur_low (pos 1) a b n some).0 h.dur_low in
+          record {
+            left = record {
               begin_low = begin_low.0;
               begin_high = h.begin_high;
               end_low = h.end_low;
               end_high = end_high.0;
               dur_low = dur_low.0;
               dur_high = h.dur_high;
-            },
-            record { rising = omega (arith, lasts.0 dur_low.1); ends = omega (arith, ends.0 end_high.1) },
-          )),
+            };
+            right = record { rising = omega (arith, lasts.0 dur_low.1); ends = omega (arith, ends.0 end_high.1) };
+          }),
       (λ h. record {
-        begin_low = (Meets-min zone.begin_low (pos 1) 0 a n some).1 (h.0.begin_low, starts.1 (omega arith));
-        begin_high = h.0.begin_high;
-        end_low = h.0.end_low;
-        end_high = (Meets-min zone.end_high (pos (2 ^ 41 + 1)) b 0 n some).1 (h.0.end_high, ends.1 (omega (arith, h.1.ends)));
-        dur_low = (Meets-min zone.dur_low (pos 1) a b n some).1 (h.0.dur_low, lasts.1 (omega (arith, h.1.rising)));
-        dur_high = h.0.dur_high;
+        begin_low = (Meets-min zone.begin_low (pos 1) 0 a n some).1 (h.left.begin_low, starts.1 (omega arith));
+        begin_high = h.left.begin_high;
+        end_low = h.left.end_low;
+        end_high = (Meets-min zone.end_high (pos (2 ^ 41 + 1)) b 0 n some).1 (h.left.end_high, ends.1 (omega (arith, h.right.ends)));
+        dur_low = (Meets-min zone.dur_low (pos 1) a b n some).1 (h.left.dur_low, lasts.1 (omega (arith, h.right.rising)));
+        dur_high = h.left.dur_high;
       }),
     )
 
-pub tighter-holds : (one other : ZoneBounds) (a b n : ℕ) → 0 < n → ZoneHolds (tighter_of one other) a b n ↔ (ZoneHolds one a b n × ZoneHolds other a b n)
+pub tighter-holds : (one other : ZoneBounds) (a b n : ℕ) → 0 < n → ZoneHolds (tighter_of one other) a b n ↔ Both (ZoneHolds one) (ZoneHolds other) a b n
 unfolding tighter_of
 tighter-holds one other a b n some = (
   (λ h.
@@ -75,31 +77,32 @@ tighter-holds one other a b n some = (
       let end_low = (Meets-min _ _ 0 b n some).0 h.end_low in
       let end_high = (Meets-min _ _ b 0 n some).0 h.end_high in
       let dur_low = (Meets-min _ _ a b n some).0 h.dur_low in
-      let dur_high = (Meets-min _ _ b a n some).0 h.dur_high in (
-        record {
+      let dur_high = (Meets-min _ _ b a n some).0 h.dur_high in
+      record {
+        left = record {
           begin_low = begin_low.0;
           begin_high = begin_high.0;
           end_low = end_low.0;
           end_high = end_high.0;
           dur_low = dur_low.0;
           dur_high = dur_high.0;
-        },
-        record {
+        };
+        right = record {
           begin_low = begin_low.1;
           begin_high = begin_high.1;
           end_low = end_low.1;
           end_high = end_high.1;
           dur_low = dur_low.1;
           dur_high = dur_high.1;
-        },
-      )),
+        };
+      }),
   (λ h. record {
-    begin_low = (Meets-min _ _ 0 a n some).1 (h.0.begin_low, h.1.begin_low);
-    begin_high = (Meets-min _ _ a 0 n some).1 (h.0.begin_high, h.1.begin_high);
-    end_low = (Meets-min _ _ 0 b n some).1 (h.0.end_low, h.1.end_low);
-    end_high = (Meets-min _ _ b 0 n some).1 (h.0.end_high, h.1.end_high);
-    dur_low = (Meets-min _ _ a b n some).1 (h.0.dur_low, h.1.dur_low);
-    dur_high = (Meets-min _ _ b a n some).1 (h.0.dur_high, h.1.dur_high);
+    begin_low = (Meets-min _ _ 0 a n some).1 (h.left.begin_low, h.right.begin_low);
+    begin_high = (Meets-min _ _ a 0 n some).1 (h.left.begin_high, h.right.begin_high);
+    end_low = (Meets-min _ _ 0 b n some).1 (h.left.end_low, h.right.end_low);
+    end_high = (Meets-min _ _ b 0 n some).1 (h.left.end_high, h.right.end_high);
+    dur_low = (Meets-min _ _ a b n some).1 (h.left.dur_low, h.right.dur_low);
+    dur_high = (Meets-min _ _ b a n some).1 (h.left.dur_high, h.right.dur_high);
   }),
 )
 

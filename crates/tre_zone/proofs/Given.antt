@@ -2,7 +2,7 @@
 use Rattle.std.proofs.Common.{◌≡◌, ℕ, ◌+◌, ◌-◌, ◌*◌, ◌^◌, ◌<◌, ◌≤◌, ◌↔◌, Option, Some, None, arith, ℤ, pos, neg_ℤ, ◌-ℤ◌, ◌≤ℤ◌}
 use Rattle.std.proofs.lemmas.Int.{ints, clamps}
 use Rattle.std.specs.Int.{int_min}
-use Rattle.tre_pairs.specs.Pairs.{Pairs}
+use Rattle.tre_pairs.specs.Pairs.{Pairs, Both, Lasting}
 use Rattle.tre_zone.specs.Bound.{sum_of, Meets, IsKeyWithin, IsValueWithin}
 use Rattle.tre_zone.specs.Interval.{IntervalEnds, IsAboveLow, IsBelowHigh, LastsWithin}
 use Rattle.tre_zone.specs.Zone.{ZoneHolds, IsCanonical, EndsAt, IsZoneOf, HasNoPair, GivesZone, AreKeysWithin, AreValuesWithin}
@@ -112,7 +112,7 @@ ending-keys z c low high h k =
     }
 
 pub ending-holds : (z : ZoneBounds) (low high : ℤ) (t : ℕ) → low ≡ pos 1 -ℤ pos (2 * t) → high ≡ pos (2 * t + 1) → (a b n : ℕ) → 0 < n
-    → ZoneHolds (record z { end_low = int_min z.end_low low; end_high = int_min z.end_high high }) a b n ↔ (ZoneHolds z a b n × EndsAt t a b n)
+    → ZoneHolds (record z { end_low = int_min z.end_low low; end_high = int_min z.end_high high }) a b n ↔ Both (ZoneHolds z) (EndsAt t) a b n
 ending-holds z low high t e f a b n some =
     let least = Meets-at_least low t e 0 b n in
     let most = Meets-at_most high t f b 0 n in
@@ -120,26 +120,27 @@ ending-holds z low high t e f a b n some =
     let end_high = Meets-min z.end_high high b 0 n some in (
       (λ h.
           let le = least.0 (end_low.0 h.end_low).1 in
-          let ge = most.0 (end_high.0 h.end_high).1 in (
-            record {
+          let ge = most.0 (end_high.0 h.end_high).1 in
+          record {
+            left = record {
               begin_low = h.begin_low;
               begin_high = h.begin_high;
               end_low = (end_low.0 h.end_low).0;
               end_high = (end_high.0 h.end_high).0;
               dur_low = h.dur_low;
               dur_high = h.dur_high;
-            },
-            record { ends = omega arith },
-          )),
+            };
+            right = record { ends = omega arith };
+          }),
       (λ h.
-          let ends = h.1.ends in
+          let ends = h.right.ends in
           record {
-            begin_low = h.0.begin_low;
-            begin_high = h.0.begin_high;
-            end_low = end_low.1 (h.0.end_low, least.1 (omega arith));
-            end_high = end_high.1 (h.0.end_high, most.1 (omega arith));
-            dur_low = h.0.dur_low;
-            dur_high = h.0.dur_high;
+            begin_low = h.left.begin_low;
+            begin_high = h.left.begin_high;
+            end_low = end_low.1 (h.left.end_low, least.1 (omega arith));
+            end_high = end_high.1 (h.left.end_high, most.1 (omega arith));
+            dur_low = h.left.dur_low;
+            dur_high = h.left.dur_high;
           }),
     )
 
@@ -160,28 +161,28 @@ pub within-holds : (z : ZoneBounds) (low high : ℤ) (ends : IntervalEnds)
     → ((p q n : ℕ) → p ≤ q → Meets low p q n ↔ IsAboveLow ends (q - p) n)
     → ((p q n : ℕ) → 0 < n → q ≤ p → Meets high p q n ↔ (Meets z.dur_high p q n × IsBelowHigh ends (p - q) n))
     → (a b n : ℕ) → 0 < n → a ≤ b
-    → ZoneHolds (record z { dur_low = int_min z.dur_low low; dur_high = high }) a b n ↔ (ZoneHolds z a b n × LastsWithin ends (b - a) n)
+    → ZoneHolds (record z { dur_low = int_min z.dur_low low; dur_high = high }) a b n ↔ Lasting (LastsWithin ends) (ZoneHolds z) a b n
 within-holds z low high ends above below a b n some le =
     let least = above a b n le in
     let most = below b a n some le in
     let dur_low = Meets-min z.dur_low low a b n some in (
-      (λ h. (
-        record {
+      (λ h. record {
+        related = record {
           begin_low = h.begin_low;
           begin_high = h.begin_high;
           end_low = h.end_low;
           end_high = h.end_high;
           dur_low = (dur_low.0 h.dur_low).0;
           dur_high = (most.0 h.dur_high).0;
-        },
-        (least.0 (dur_low.0 h.dur_low).1, (most.0 h.dur_high).1),
-      )),
+        };
+        admitted = (least.0 (dur_low.0 h.dur_low).1, (most.0 h.dur_high).1);
+      }),
       (λ h. record {
-        begin_low = h.0.begin_low;
-        begin_high = h.0.begin_high;
-        end_low = h.0.end_low;
-        end_high = h.0.end_high;
-        dur_low = dur_low.1 (h.0.dur_low, least.1 h.1.0);
-        dur_high = most.1 (h.0.dur_high, h.1.1);
+        begin_low = h.related.begin_low;
+        begin_high = h.related.begin_high;
+        end_low = h.related.end_low;
+        end_high = h.related.end_high;
+        dur_low = dur_low.1 (h.related.dur_low, least.1 h.admitted.0);
+        dur_high = most.1 (h.related.dur_high, h.admitted.1);
       }),
     )

@@ -2,7 +2,7 @@
 use Rattle.std.proofs.Common.{ℕ, ◌+◌, ◌*◌, ◌^◌, ◌<◌, ◌≤◌, ◌↔◌, refl, arith, pos, ◌-ℤ◌}
 use Rattle.std.proofs.lemmas.Int.{ints}
 use Rattle.tre_zone.specs.Bound.{sum_of}
-use Rattle.tre_zone.specs.Zone.{ZoneHolds, IsCanonical, IsInstant, instants_of}
+use Rattle.tre_zone.specs.Zone.{ZoneHolds, IsCanonical, IsInstantBetween, instants_of}
 use Rattle.tre_zone.proofs.Bounds.{split, Meets-at_most, Meets-at_least}
 
 pub instants-canonical : (from to : ℕ) → from ≤ to → to ≤ 2 ^ 40 → IsCanonical (instants_of from to)
@@ -26,7 +26,7 @@ instants-canonical from to rising limit =
       lasts = omega (arith, ints);
     }
 
-pub instants-holds : (from to : ℕ) → (a b n : ℕ) → 0 < n → ZoneHolds (instants_of from to) a b n ↔ IsInstant from to a b n
+pub instants-holds : (from to : ℕ) → (a b n : ℕ) → 0 < n → ZoneHolds (instants_of from to) a b n ↔ IsInstantBetween from to a b n
 unfolding instants_of
 instants-holds from to a b n some =
     let begin_low = Meets-at_least (pos 1 -ℤ pos (2 * from)) from refl 0 a n in

@@ -74,7 +74,7 @@ pub record IsInSpan (begin end a b n : ℕ) : Type 0 where
   pub ends : b ≤ end * n
 
 -- The pair is an instant (t,t) with from ≤ t ≤ to.
-pub record IsInstant (from to a b n : ℕ) : Type 0 where
+pub record IsInstantBetween (from to a b n : ℕ) : Type 0 where
   pub starts : from * n ≤ a
   pub same : a ≡ b
   pub ends : b ≤ to * n

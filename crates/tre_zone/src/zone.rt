@@ -1,10 +1,11 @@
-ghost use Rattle.std.specs.Prelude.{◌≡◌, ℕ, ◌+◌, ◌-◌, ◌*◌, ◌^◌, ◌≤◌, ◌<◌, ◌↔◌, IsTrue, pos, ◌*ℤ◌};
+ghost use Rattle.std.specs.Prelude.{◌≡◌, ℕ, ◌+◌, ◌*◌, ◌^◌, ◌≤◌, ◌<◌, ◌↔◌, IsTrue, pos, ◌*ℤ◌};
+ghost use Rattle.tre_pairs.specs.Pairs.{Both, Lasting};
 ghost use Rattle.tre_zone.specs.Bound.{Meets};
 ghost use Rattle.tre_zone.specs.Interval.{LastsWithin};
 ghost use Rattle.tre_zone.specs.Zone.{ZoneHolds, Includes, Covers, IsCanonical, IsTight, HoldsSome, IsInSpan};
-ghost use Rattle.tre_zone.specs.Closing.{IsFramed};
-ghost use Rattle.tre_zone.specs.Zone.{IsInstant, EndsAt, IsInFrame, GivesZone, AreKeysWithin, AreValuesWithin};
+ghost use Rattle.tre_zone.specs.Zone.{IsInstantBetween, EndsAt, IsInFrame, GivesZone, AreKeysWithin, AreValuesWithin};
 ghost use Rattle.tre_zone.specs.Zone.{span_of, instants_of, row_of};
+ghost use Rattle.tre_zone.specs.Closing.{IsFramed};
 
 use crate::bound::Bound;
 use crate::canonical::{closed, covers, framed, leaves_room, tighter};
@@ -38,7 +39,7 @@ impl Zone {
     /// there is none.
     pub fn new(bounds: &ZoneBounds) -> Option<Zone>
         requires { AreValuesWithin (2 ^ 42) bounds.now }
-        ensures { GivesZone result (λ a b n. ZoneHolds bounds.now a b n × IsInFrame TIME_MAX a b n) }
+        ensures { GivesZone result (Both (ZoneHolds bounds.now) (IsInFrame TIME_MAX)) }
     {
         canonical(&framed(bounds))
     }
@@ -69,7 +70,7 @@ impl Zone {
         requires rising { from ≤ to }
         requires limit { to ≤ TIME_MAX }
         ensures bounds { result ≡ instants_of from to }
-        ensures held { (a b n : ℕ) → 0 < n → ZoneHolds result a b n ↔ IsInstant from to a b n }
+        ensures held { (a b n : ℕ) → 0 < n → ZoneHolds result a b n ↔ IsInstantBetween from to a b n }
     {
         let low = Bound::weak(-(from as i64));
         let high = Bound::weak(to as i64);
@@ -110,14 +111,14 @@ impl Zone {
 
     /// The pairs in both zones, None where there is none.
     pub fn meet(&self, other: &Zone) -> Option<Zone>
-        ensures { GivesZone result (λ a b n. ZoneHolds self.now a b n × ZoneHolds other.now a b n) }
+        ensures { GivesZone result (Both (ZoneHolds self.now) (ZoneHolds other.now)) }
     {
         canonical(&tighter(&self.bounds, &other.bounds))
     }
 
     /// The pairs whose duration is in the interval, None where there is none.
     pub fn within(&self, i: &Interval) -> Option<Zone>
-        ensures { GivesZone result (λ a b n. ZoneHolds self.now a b n × LastsWithin i.now (b - a) n) }
+        ensures { GivesZone result (Lasting (LastsWithin i.now) (ZoneHolds self.now)) }
     {
         let b = &self.bounds;
         canonical(&ZoneBounds {
@@ -133,7 +134,7 @@ impl Zone {
     /// The pairs that end at `t`, None where there is none.
     pub fn ending_at(&self, t: u64) -> Option<Zone>
         requires { t ≤ TIME_MAX }
-        ensures { GivesZone result (λ a b n. ZoneHolds self.now a b n × EndsAt t a b n) }
+        ensures { GivesZone result (Both (ZoneHolds self.now) (EndsAt t)) }
     {
         let b = &self.bounds;
         canonical(&ZoneBounds {
@@ -155,6 +156,14 @@ impl Zone {
         ensures some { HoldsSome self.now }
     {
         self.bounds
+    }
+
+    /// The zone with these bounds, which are canonical already: the inverse of `bounds`, and no work.
+    pub fn from_canonical(bounds: &ZoneBounds) -> Zone
+        requires { IsCanonical bounds.now }
+        ensures { result ≡ bounds.now }
+    {
+        Zone { bounds: *bounds }
     }
 
     /// A law, and no work: two zones that hold the same pairs are one zone.

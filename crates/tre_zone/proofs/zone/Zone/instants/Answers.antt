@@ -1,7 +1,7 @@
 use Rattle.std.proofs.Common.{◌≡◌, arith, sym, subst, ◌↔◌, pos, ◌-ℤ◌, ◌+◌, ◌*◌}
 use Rattle.std.proofs.lemmas.Int.{ints}
 use Rattle.tre_zone.specs.declared.zone_bounds.ZoneBounds.{ZoneBounds}
-use Rattle.tre_zone.specs.Zone.{instants_of, IsCanonical, ZoneHolds, IsInstant}
+use Rattle.tre_zone.specs.Zone.{instants_of, IsCanonical, ZoneHolds, IsInstantBetween}
 use Rattle.tre_zone.proofs.Instants.{instants-canonical, instants-holds}
 use Rattle.tre_zone.proofs.ZoneKeys.{zones_same}
 use Rattle.tre_zone.proofs.zone.Zone.instants.Goals as goal
@@ -20,5 +20,5 @@ invariant_of-result c =
 
 pub returns-clause-held : goal.returns-clause-held
 returns-clause-held c = λ a b n some.
-    let P : ZoneBounds → Type 0 = λ z. ZoneHolds z a b n ↔ IsInstant c.args.from c.args.to a b n in
+    let P : ZoneBounds → Type 0 = λ z. ZoneHolds z a b n ↔ IsInstantBetween c.args.from c.args.to a b n in
     subst P (sym (returns-clause-bounds c)) (instants-holds c.args.from c.args.to a b n some)
