@@ -9,27 +9,18 @@ use Rattle.tre_zone.specs.declared.zone_bounds.ZoneBounds.{ZoneBounds}
 use Rattle.tre_zone.proofs.Bounds.{split, split-sum}
 use Rattle.tre_zone.proofs.Closing.{closed-canonical}
 use Rattle.tre_zone.proofs.Paths.{int_min-case, int_min-left, int_min-right}
-use Rattle.tre_zone.proofs.Sums.{sum_of-comm, sum_of-assoc, sum_of-le, le_sum_of-right}
+use Rattle.tre_zone.proofs.Sums.{sum_of-comm, sum_of-assoc, sum_of-le, le_sum_of-right, le_trans, le_sum_of-left, sum_of-swap}
 use Rattle.tre_zone.proofs.ZoneKeys.{zones_same}
 use Rattle.tre_compose.specs.Composition.{Touch, joined_of, composed_of}
 
 le_refl : (x : ℤ) → x ≤ℤ x
 le_refl x = omega (arith, ints)
 
-le_trans : (x y z : ℤ) → x ≤ℤ y → y ≤ℤ z → x ≤ℤ z
-le_trans x y z h k = omega (arith, ints)
-
-le_sum_of-left : (x y : ℤ) → pos 1 ≤ℤ y → x ≤ℤ sum_of y x
-le_sum_of-left x y h = rw (sum_of-comm y x) (le_sum_of-right x y h)
-
 sum_left : (x x' y : ℤ) → x ≤ℤ x' → sum_of x y ≤ℤ sum_of x' y
 sum_left x x' y h = sum_of-le x x' y y h (le_refl y)
 
 sum_right : (x y y' : ℤ) → y ≤ℤ y' → sum_of x y ≤ℤ sum_of x y'
 sum_right x y y' h = sum_of-le x x y y' (le_refl x) h
-
-swapped : (x y : ℤ) → pos 1 ≤ℤ sum_of x y → pos 1 ≤ℤ sum_of y x
-swapped x y h = rw (sum_of-comm y x) h
 
 -- What lies below each of two keys lies below the tighter.
 below_min : (z x y : ℤ) → z ≤ℤ x → z ≤ℤ y → z ≤ℤ int_min x y
@@ -61,12 +52,12 @@ side_loop : (u U v V e f low high : ℤ) → pos 1 ≤ℤ sum_of u U → pos 1 �
 side_loop u U v V e f low high own moment way under low_loop over high_loop =
     int_min-case (λ k. pos 1 ≤ℤ sum_of k (int_min U (sum_of f V))) u (sum_of v e)
     (λ h. int_min-case (λ k. pos 1 ≤ℤ sum_of u k) U (sum_of f V)
-        (λ i. own)
-        (λ i. rw (← sum_of-assoc u f V) (le_trans _ _ _ low_loop (sum_left low (sum_of u f) V under))))
+    (λ i. own)
+    (λ i. rw (← sum_of-assoc u f V) (le_trans _ _ _ low_loop (sum_left low (sum_of u f) V under))))
     (λ h. int_min-case (λ k. pos 1 ≤ℤ sum_of (sum_of v e) k) U (sum_of f V)
-        (λ i. rw (sum_of-assoc v e U) (le_trans _ _ _ high_loop (sum_right v high (sum_of e U) over)))
-        (λ i. rw (sum_of-assoc v e (sum_of f V), ← sum_of-assoc e f V)
-            (le_trans _ _ _ moment (sum_right v V (sum_of (sum_of e f) V) (le_sum_of-left V (sum_of e f) way)))))
+    (λ i. rw (sum_of-assoc v e U) (le_trans _ _ _ high_loop (sum_right v high (sum_of e U) over)))
+    (λ i. rw (sum_of-assoc v e (sum_of f V), ← sum_of-assoc e f V)
+    (le_trans _ _ _ moment (sum_right v V (sum_of (sum_of e f) V) (le_sum_of-left V (sum_of e f) way)))))
 
 -- ---- the durations
 
@@ -78,15 +69,15 @@ dur_loop : (xl xh yl yh bl bh el eh low high : ℤ)
 dur_loop xl xh yl yh bl bh el eh low high x_loop y_loop begin_loop end_loop moment f1 f2 f3 f4 =
     int_min-case (λ k. pos 1 ≤ℤ sum_of k (int_min (sum_of yh xh) (sum_of eh bl))) (sum_of xl yl) (sum_of bh el)
     (λ h. int_min-case (λ k. pos 1 ≤ℤ sum_of (sum_of xl yl) k) (sum_of yh xh) (sum_of eh bl)
-        (λ i. rw (sum_of-assoc xl yl (sum_of yh xh), ← sum_of-assoc yl yh xh)
-            (le_trans _ _ _ x_loop (sum_right xl xh (sum_of (sum_of yl yh) xh) (le_sum_of-left xh (sum_of yl yh) y_loop))))
-        (λ i. rw (sum_of-assoc xl yl (sum_of eh bl), ← sum_of-assoc yl eh bl, sum_of-comm xl (sum_of (sum_of yl eh) bl), sum_of-assoc (sum_of yl eh) bl xl)
-            (le_trans _ _ _ (swapped low high moment) (sum_of-le high (sum_of yl eh) low (sum_of bl xl) f4 f1))))
+    (λ i. rw (sum_of-assoc xl yl (sum_of yh xh), ← sum_of-assoc yl yh xh)
+    (le_trans _ _ _ x_loop (sum_right xl xh (sum_of (sum_of yl yh) xh) (le_sum_of-left xh (sum_of yl yh) y_loop))))
+    (λ i. rw (sum_of-assoc xl yl (sum_of eh bl), ← sum_of-assoc yl eh bl, sum_of-comm xl (sum_of (sum_of yl eh) bl), sum_of-assoc (sum_of yl eh) bl xl)
+    (le_trans _ _ _ (sum_of-swap low high moment) (sum_of-le high (sum_of yl eh) low (sum_of bl xl) f4 f1))))
     (λ h. int_min-case (λ k. pos 1 ≤ℤ sum_of (sum_of bh el) k) (sum_of yh xh) (sum_of eh bl)
-        (λ i. rw (sum_of-assoc bh el (sum_of yh xh), ← sum_of-assoc el yh xh, sum_of-comm bh (sum_of (sum_of el yh) xh), sum_of-assoc (sum_of el yh) xh bh)
-            (le_trans _ _ _ moment (sum_of-le low (sum_of el yh) high (sum_of xh bh) f3 f2)))
-        (λ i. rw (sum_of-assoc bh el (sum_of eh bl), ← sum_of-assoc el eh bl)
-            (le_trans _ _ _ (swapped bl bh begin_loop) (sum_right bh bl (sum_of (sum_of el eh) bl) (le_sum_of-left bl (sum_of el eh) end_loop)))))
+    (λ i. rw (sum_of-assoc bh el (sum_of yh xh), ← sum_of-assoc el yh xh, sum_of-comm bh (sum_of (sum_of el yh) xh), sum_of-assoc (sum_of el yh) xh bh)
+    (le_trans _ _ _ moment (sum_of-le low (sum_of el yh) high (sum_of xh bh) f3 f2)))
+    (λ i. rw (sum_of-assoc bh el (sum_of eh bl), ← sum_of-assoc el eh bl)
+    (le_trans _ _ _ (sum_of-swap bl bh begin_loop) (sum_right bh bl (sum_of (sum_of el eh) bl) (le_sum_of-left bl (sum_of el eh) end_loop)))))
 
 -- ---- together
 
@@ -120,35 +111,35 @@ sides x y c d t =
       low = int_min x.end_low y.begin_low;
       high = int_min x.end_high y.begin_high;
       room =
-        int_min-case (λ k. pos 1 ≤ℤ sum_of k (int_min x.end_high y.begin_high)) x.end_low y.begin_low
-        (λ h. int_min-case (λ k. pos 1 ≤ℤ sum_of x.end_low k) x.end_high y.begin_high (λ i. c.end_loop) (λ i. t.not_late))
-        (λ h. int_min-case (λ k. pos 1 ≤ℤ sum_of y.begin_low k) x.end_high y.begin_high (λ i. t.not_early) (λ i. d.begin_loop));
-      from_begin = there_and_back _ x.begin_low y.begin_low x.dur_high x.dur_low x.end_low (swapped _ _ c.dur_loop) low_y low_x c.end_low;
-      to_begin = back_and_there _ x.begin_high y.begin_high x.dur_high x.dur_low x.end_high (swapped _ _ c.dur_loop) high_y high_x c.end_high;
+          int_min-case (λ k. pos 1 ≤ℤ sum_of k (int_min x.end_high y.begin_high)) x.end_low y.begin_low
+          (λ h. int_min-case (λ k. pos 1 ≤ℤ sum_of x.end_low k) x.end_high y.begin_high (λ i. c.end_loop) (λ i. t.not_late))
+          (λ h. int_min-case (λ k. pos 1 ≤ℤ sum_of y.begin_low k) x.end_high y.begin_high (λ i. t.not_early) (λ i. d.begin_loop));
+      from_begin = there_and_back _ x.begin_low y.begin_low x.dur_high x.dur_low x.end_low (sum_of-swap _ _ c.dur_loop) low_y low_x c.end_low;
+      to_begin = back_and_there _ x.begin_high y.begin_high x.dur_high x.dur_low x.end_high (sum_of-swap _ _ c.dur_loop) high_y high_x c.end_high;
       from_end = there_and_back _ y.end_low x.end_low y.dur_low y.dur_high y.begin_low d.dur_loop low_x low_y d.begin_low;
       to_end = back_and_there _ y.end_high x.end_high y.dur_low y.dur_high y.begin_high d.dur_loop high_x high_y d.begin_high;
       begin_low =
-        int_min-case (λ k. int_min x.begin_low (sum_of y.begin_low x.dur_high) ≤ℤ sum_of k x.dur_high) x.end_low y.begin_low
-        (λ h. le_trans _ _ _ (int_min-left x.begin_low (sum_of y.begin_low x.dur_high)) c.begin_low)
-        (λ h. int_min-right x.begin_low (sum_of y.begin_low x.dur_high));
+          int_min-case (λ k. int_min x.begin_low (sum_of y.begin_low x.dur_high) ≤ℤ sum_of k x.dur_high) x.end_low y.begin_low
+          (λ h. le_trans _ _ _ (int_min-left x.begin_low (sum_of y.begin_low x.dur_high)) c.begin_low)
+          (λ h. int_min-right x.begin_low (sum_of y.begin_low x.dur_high));
       begin_high =
-        int_min-case (λ k. int_min x.begin_high (sum_of x.dur_low y.begin_high) ≤ℤ sum_of x.dur_low k) x.end_high y.begin_high
-        (λ h. le_trans _ _ _ (int_min-left x.begin_high (sum_of x.dur_low y.begin_high)) c.begin_high)
-        (λ h. int_min-right x.begin_high (sum_of x.dur_low y.begin_high));
+          int_min-case (λ k. int_min x.begin_high (sum_of x.dur_low y.begin_high) ≤ℤ sum_of x.dur_low k) x.end_high y.begin_high
+          (λ h. le_trans _ _ _ (int_min-left x.begin_high (sum_of x.dur_low y.begin_high)) c.begin_high)
+          (λ h. int_min-right x.begin_high (sum_of x.dur_low y.begin_high));
       end_low =
-        int_min-case (λ k. int_min y.end_low (sum_of x.end_low y.dur_low) ≤ℤ sum_of k y.dur_low) x.end_low y.begin_low
-        (λ h. int_min-right y.end_low (sum_of x.end_low y.dur_low))
-        (λ h. le_trans _ _ _ (int_min-left y.end_low (sum_of x.end_low y.dur_low)) d.end_low);
+          int_min-case (λ k. int_min y.end_low (sum_of x.end_low y.dur_low) ≤ℤ sum_of k y.dur_low) x.end_low y.begin_low
+          (λ h. int_min-right y.end_low (sum_of x.end_low y.dur_low))
+          (λ h. le_trans _ _ _ (int_min-left y.end_low (sum_of x.end_low y.dur_low)) d.end_low);
       end_high =
-        int_min-case (λ k. int_min y.end_high (sum_of y.dur_high x.end_high) ≤ℤ sum_of y.dur_high k) x.end_high y.begin_high
-        (λ h. int_min-right y.end_high (sum_of y.dur_high x.end_high))
-        (λ h. le_trans _ _ _ (int_min-left y.end_high (sum_of y.dur_high x.end_high)) d.end_high);
+          int_min-case (λ k. int_min y.end_high (sum_of y.dur_high x.end_high) ≤ℤ sum_of y.dur_high k) x.end_high y.begin_high
+          (λ h. int_min-right y.end_high (sum_of y.dur_high x.end_high))
+          (λ h. le_trans _ _ _ (int_min-left y.end_high (sum_of y.dur_high x.end_high)) d.end_high);
       begin_loop =
-        side_loop x.begin_low x.begin_high y.begin_low y.begin_high x.dur_high x.dur_low x.end_low x.end_high
-        c.begin_loop d.begin_loop (swapped _ _ c.dur_loop) c.end_low t.not_late c.end_high t.not_early;
+          side_loop x.begin_low x.begin_high y.begin_low y.begin_high x.dur_high x.dur_low x.end_low x.end_high
+          c.begin_loop d.begin_loop (sum_of-swap _ _ c.dur_loop) c.end_low t.not_late c.end_high t.not_early;
       end_loop =
-        side_loop y.end_low y.end_high x.end_low x.end_high y.dur_low y.dur_high y.begin_low y.begin_high
-        d.end_loop c.end_loop d.dur_loop d.begin_low t.not_early d.begin_high t.not_late;
+          side_loop y.end_low y.end_high x.end_low x.end_high y.dur_low y.dur_high y.begin_low y.begin_high
+          d.end_loop c.end_loop d.dur_loop d.begin_low t.not_early d.begin_high t.not_late;
     }
 
 -- The closure of the joined bounds changes durations alone.
@@ -179,8 +170,8 @@ composed-room x y c d s = record {
   begin_loop = s.begin_loop;
   end_loop = s.end_loop;
   dur_loop =
-    dur_loop x.dur_low x.dur_high y.dur_low y.dur_high _ _ _ _ s.low s.high c.dur_loop d.dur_loop s.begin_loop s.end_loop s.room
-    s.from_begin s.to_begin s.from_end s.to_end;
+      dur_loop x.dur_low x.dur_high y.dur_low y.dur_high _ _ _ _ s.low s.high c.dur_loop d.dur_loop s.begin_loop s.end_loop s.room
+      s.from_begin s.to_begin s.from_end s.to_end;
 }
 
 pub composed-canonical : (x y : ZoneBounds) → IsCanonical x → IsCanonical y → Touch x y → IsCanonical (composed_of x y)

@@ -9,8 +9,8 @@ use Rattle.tre_zone.specs.Bound.{value_of, weakness_of, sum_of, Meets}
 use Rattle.tre_zone.specs.Zone.{ZoneHolds, IsCanonical, IsZoneOf, HasNoPair, AreKeysWithin, AreValuesWithin}
 use Rattle.tre_zone.specs.declared.zone_bounds.ZoneBounds.{ZoneBounds}
 use Rattle.tre_zone.proofs.Bounds.{split, IsValueWithin-key, Meets-at_most, value_of-sum_of, weakness_of-sum_of}
-use Rattle.tre_zone.proofs.Paths.{Meets-looser, Meets-sum, Meets-min, Meets-loop, int_min-left, int_min-right}
-use Rattle.tre_zone.proofs.Sums.{sum_of-comm}
+use Rattle.tre_zone.proofs.Paths.{Meets-looser, Meets-sum, Meets-min, Meets-loop, int_min-left, int_min-right, pos-up, add_times, le_times}
+use Rattle.tre_zone.proofs.Sums.{sum_of-comm, sum_of-swap}
 use Rattle.tre_zone.proofs.Scaling.{ZoneHolds-scale, Meets-scale}
 use Rattle.tre_compose.specs.Composition.{HasHalfway, Touch, joined_of, composed_of}
 
@@ -27,11 +27,6 @@ Meets-reach : (key : ℤ) (p q n : ℕ) → (pos p -ℤ pos q) ≤ℤ reach_of k
 unfolding reach_of
 Meets-reach key p q n le = record { met = rw (twice (value_of key) n) (omega (arith, ints)) }
 
-add_times : (x y : ℤ) (n : ℕ) → (x +ℤ y) *ℤ pos n ≡ (x *ℤ pos n) +ℤ (y *ℤ pos n)
-add_times x y n =
-    let times : (up (x +ℤ y) + down x + down y) * n ≡ (down (x +ℤ y) + up x + up y) * n = ap (λ (t : ℕ). t * n) (sum_is_lem x y) in
-    omega (arith, ints)
-
 -- Where the sum of two bounds is met by p and q, the bound on p leaves a moment that is no later than the bound on q asks.
 gap : (left right : ℤ) (p q n : ℕ) → Meets (sum_of left right) p q n
     → (pos (2 * p) -ℤ reach_of left n) ≤ℤ (pos (2 * q) +ℤ reach_of right n)
@@ -44,14 +39,6 @@ gap left right p q n m =
 
 own : (p n : ℕ) → Meets (pos 1) p p n
 own p n = (Meets-at_most (pos 1) 0 refl p p n).1 (omega arith)
-
-swapped : (x y : ℤ) → pos 1 ≤ℤ sum_of x y → pos 1 ≤ℤ sum_of y x
-swapped x y h = rw (sum_of-comm y x) h
-
-nothing_times : (value : ℤ) (n : ℕ) → value ≤ℤ pos 0 → (value *ℤ pos n) ≤ℤ pos 0
-nothing_times (pos zero) n h = omega (arith, ints)
-nothing_times (pos (suc m)) n h = absurd (omega (arith, ints))
-nothing_times (negsuc m) n h = omega (arith, ints)
 
 -- The same at one time, where the two bounds leave room.
 room : (left right : ℤ) (p n : ℕ) → 0 < n → pos 1 ≤ℤ sum_of left right → (pos (2 * p) -ℤ reach_of left n) ≤ℤ (pos (2 * p) +ℤ reach_of right n)
@@ -80,16 +67,12 @@ greatest a b c d = record {
   least = λ u h k l m. max_le _ _ u (max_le a b u h k) (max_le c d u l m);
 }
 
-natural : (z : ℤ) → pos 0 ≤ℤ z → z ≡ pos (up z)
-natural (pos n) h = refl
-natural (negsuc n) h = absurd (omega (arith, ints))
-
 below_zero : (key : ℤ) (n : ℕ) → key ≤ℤ pos 1 → pos 0 ≤ℤ (pos 0 -ℤ reach_of key n)
 unfolding reach_of
 below_zero key n le =
     let s = split key in
     let value : value_of key ≤ℤ pos 0 = omega (arith, ints) in
-    let times = nothing_times (value_of key) n value in
+    let times = le_times (value_of key) (pos 0) n value in
     omega (arith, ints)
 
 -- ---- the moment of two zones
@@ -130,28 +113,28 @@ halfway_in x y z c d t way a b n some h =
     let y_end_low = Meets-looser _ _ 0 b n some way.end_low h.end_low in
     let y_end_high = Meets-looser _ _ b 0 n some way.end_high h.end_high in
     let g = greatest (pos (2 * 0) -ℤ reach_of x.end_low n) (pos (2 * 0) -ℤ reach_of y.begin_low n)
-        (pos (2 * a) -ℤ reach_of x.dur_low n) (pos (2 * b) -ℤ reach_of y.dur_high n) in
+    (pos (2 * a) -ℤ reach_of x.dur_low n) (pos (2 * b) -ℤ reach_of y.dur_high n) in
     let by_x_end : g.top ≤ℤ (pos (2 * 0) +ℤ reach_of x.end_high n) =
-      g.least _ (room x.end_low x.end_high 0 n some c.end_loop) (room y.begin_low x.end_high 0 n some t.not_early)
-      (gap x.dur_low x.end_high a 0 n (Meets-looser _ _ a 0 n some c.begin_high x_begin_high))
-      (gap y.dur_high x.end_high b 0 n (Meets-looser _ _ b 0 n some way.end_high_by h.end_high)) in
+    g.least _ (room x.end_low x.end_high 0 n some c.end_loop) (room y.begin_low x.end_high 0 n some t.not_early)
+    (gap x.dur_low x.end_high a 0 n (Meets-looser _ _ a 0 n some c.begin_high x_begin_high))
+    (gap y.dur_high x.end_high b 0 n (Meets-looser _ _ b 0 n some way.end_high_by h.end_high)) in
     let by_y_begin : g.top ≤ℤ (pos (2 * 0) +ℤ reach_of y.begin_high n) =
-      g.least _ (room x.end_low y.begin_high 0 n some t.not_late) (room y.begin_low y.begin_high 0 n some d.begin_loop)
-      (gap x.dur_low y.begin_high a 0 n (Meets-looser _ _ a 0 n some way.begin_high_by h.begin_high))
-      (gap y.dur_high y.begin_high b 0 n (Meets-looser _ _ b 0 n some d.end_high y_end_high)) in
+    g.least _ (room x.end_low y.begin_high 0 n some t.not_late) (room y.begin_low y.begin_high 0 n some d.begin_loop)
+    (gap x.dur_low y.begin_high a 0 n (Meets-looser _ _ a 0 n some way.begin_high_by h.begin_high))
+    (gap y.dur_high y.begin_high b 0 n (Meets-looser _ _ b 0 n some d.end_high y_end_high)) in
     let by_x_dur : g.top ≤ℤ (pos (2 * a) +ℤ reach_of x.dur_high n) =
-      g.least _ (gap x.end_low x.dur_high 0 a n (Meets-looser _ _ 0 a n some c.begin_low x_begin_low))
-      (gap y.begin_low x.dur_high 0 a n (Meets-looser _ _ 0 a n some way.begin_low_by h.begin_low))
-      (room x.dur_low x.dur_high a n some c.dur_loop)
-      (gap y.dur_high x.dur_high b a n (Meets-looser _ _ b a n some way.dur_high_by h.dur_high)) in
+    g.least _ (gap x.end_low x.dur_high 0 a n (Meets-looser _ _ 0 a n some c.begin_low x_begin_low))
+    (gap y.begin_low x.dur_high 0 a n (Meets-looser _ _ 0 a n some way.begin_low_by h.begin_low))
+    (room x.dur_low x.dur_high a n some c.dur_loop)
+    (gap y.dur_high x.dur_high b a n (Meets-looser _ _ b a n some way.dur_high_by h.dur_high)) in
     let by_y_dur : g.top ≤ℤ (pos (2 * b) +ℤ reach_of y.dur_low n) =
-      g.least _ (gap x.end_low y.dur_low 0 b n (Meets-looser _ _ 0 b n some way.end_low_by h.end_low))
-      (gap y.begin_low y.dur_low 0 b n (Meets-looser _ _ 0 b n some d.end_low y_end_low))
-      (gap x.dur_low y.dur_low a b n (Meets-looser _ _ a b n some way.dur_low_by h.dur_low))
-      (room y.dur_high y.dur_low b n some (swapped _ _ d.dur_loop)) in
+    g.least _ (gap x.end_low y.dur_low 0 b n (Meets-looser _ _ 0 b n some way.end_low_by h.end_low))
+    (gap y.begin_low y.dur_low 0 b n (Meets-looser _ _ 0 b n some d.end_low y_end_low))
+    (gap x.dur_low y.dur_low a b n (Meets-looser _ _ a b n some way.dur_low_by h.dur_low))
+    (room y.dur_high y.dur_low b n some (sum_of-swap _ _ d.dur_loop)) in
     let at_least = g.second in
     let start = below_zero y.begin_low n d.starts in
-    let e = natural g.top (omega (arith, ints)) in
+    let e = pos-up g.top (omega (arith, ints)) in
     record {
       midpoint = up g.top;
       left = record {

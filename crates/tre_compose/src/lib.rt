@@ -20,6 +20,9 @@ ghost use Rattle.tre_compose.specs.Composition.{HasHalfway, Touch, composed_of};
 
 use tre_zone::{Bound, Zone, ZoneBounds};
 
+#[cfg(test)]
+mod tests;
+
 /// The pairs `(t,t')` for which some `m` has `(t,m)` in `x` and `(m,t')` in `y`, None where there is
 /// none.
 pub fn compose(x: &Zone, y: &Zone) -> Option<Zone>
@@ -69,10 +72,8 @@ fn no_looser(direct: &Bound, left: &Bound, right: &Bound) -> Bound
     requires left { IsValueWithin (2 ^ 50) left.now }
     requires right { IsValueWithin (2 ^ 50) right.now }
     ensures bound { result ≡ int_min direct.now (sum_of left.now right.now) }
-    ensures value {
-        IsValueWithin (2 ^ 42) direct.now → IsValueWithin (2 ^ 42) left.now → IsValueWithin (2 ^ 42) right.now
-        → IsValueWithin (2 ^ 44) result
-    }
+    ensures value { IsValueWithin (2 ^ 42) direct.now → IsValueWithin (2 ^ 42) left.now → IsValueWithin (2 ^ 42) right.now
+        → IsValueWithin (2 ^ 44) result }
 {
     direct.tighter(&left.plus(right))
 }

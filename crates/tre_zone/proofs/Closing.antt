@@ -9,10 +9,7 @@ use Rattle.tre_zone.specs.Closing.{IsFramed, LeavesRoom, framed_of, closed_of, t
 use Rattle.tre_zone.specs.declared.zone_bounds.ZoneBounds.{ZoneBounds}
 use Rattle.tre_zone.proofs.Bounds.{Meets-at_most}
 use Rattle.tre_zone.proofs.Paths.{Meets-min, Meets-sum, Meets-loop, int_min-case, int_min-left, int_min-right}
-use Rattle.tre_zone.proofs.Sums.{sum_of-comm, sum_of-assoc, sum_of-le, le_sum_of-right}
-
-le_trans : (x y z : ℤ) → x ≤ℤ y → y ≤ℤ z → x ≤ℤ z
-le_trans x y z h k = omega (arith, ints)
+use Rattle.tre_zone.proofs.Sums.{sum_of-comm, sum_of-assoc, sum_of-le, le_sum_of-right, le_trans, sum_of-swap}
 
 -- ---- the same pairs
 
@@ -140,15 +137,12 @@ triangle ij ji ik ki jk kj loop_ij loop_ik loop_jk =
     (λ k. rw (sum_of-assoc ij jk kj) (le_trans _ _ _ direct (le_sum_of-right ij (sum_of jk kj) jk_loop)))
     (λ k. rw (sum_of-assoc ij jk (sum_of ki ij), ← sum_of-assoc jk ki ij) (le_trans _ _ _ direct (le_sum_of-right ij (sum_of (sum_of jk ki) ij) around))))
 
-swapped : (x y : ℤ) → pos 1 ≤ℤ sum_of x y → pos 1 ≤ℤ sum_of y x
-swapped x y h = rw (sum_of-comm y x) h
-
 pub closed-canonical : (z : ZoneBounds) → IsFramed z → LeavesRoom (closed_of z) → IsCanonical (closed_of z)
 unfolding closed_of
 closed-canonical z framed loops =
-    let begin_back = swapped _ _ loops.begin_loop in
-    let end_back = swapped _ _ loops.end_loop in
-    let dur_back = swapped _ _ loops.dur_loop in
+    let begin_back = sum_of-swap _ _ loops.begin_loop in
+    let end_back = sum_of-swap _ _ loops.end_loop in
+    let dur_back = sum_of-swap _ _ loops.dur_loop in
     record {
       begin_loop = loops.begin_loop;
       end_loop = loops.end_loop;

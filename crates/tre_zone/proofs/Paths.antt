@@ -1,5 +1,5 @@
 -- Bounds along a path of times: what follows of a sum, what a looser bound keeps, and what a bound on nothing means.
-use Rattle.std.proofs.Common.{◌≡◌, ℕ, zero, suc, ◌+◌, ◌*◌, ◌<◌, ◌≤◌, ◌⊎◌, ◌↔◌, ap, sym, subst, inl, inr, arith, ℤ, pos, negsuc, ◌+ℤ◌, ◌*ℤ◌, ◌≤ℤ◌, ◌<ℤ◌}
+use Rattle.std.proofs.Common.{refl, ◌≡◌, ℕ, zero, suc, ◌+◌, ◌*◌, ◌<◌, ◌≤◌, ◌⊎◌, ◌↔◌, ap, sym, subst, inl, inr, arith, ℤ, pos, negsuc, ◌+ℤ◌, ◌*ℤ◌, ◌≤ℤ◌, ◌<ℤ◌}
 use Rattle.std.proofs.lemmas.Int.{ints, clamps, by_lt_z}
 use Rattle.std.proofs.Math.Nat.{mul-le-mul_right}
 use Rattle.std.specs.Int.{int_min}
@@ -7,12 +7,12 @@ use borrow.Author.Differences.{up, down, sum_is_lem, le_out}
 use Rattle.tre_zone.specs.Bound.{value_of, weakness_of, sum_of, Meets}
 use Rattle.tre_zone.proofs.Bounds.{split, value_of-sum_of, weakness_of-sum_of}
 
-add_times : (x y : ℤ) (n : ℕ) → (x +ℤ y) *ℤ pos n ≡ (x *ℤ pos n) +ℤ (y *ℤ pos n)
+pub add_times : (x y : ℤ) (n : ℕ) → (x +ℤ y) *ℤ pos n ≡ (x *ℤ pos n) +ℤ (y *ℤ pos n)
 add_times x y n =
     let times : (up (x +ℤ y) + down x + down y) * n ≡ (down (x +ℤ y) + up x + up y) * n = ap (λ (t : ℕ). t * n) (sum_is_lem x y) in
     omega (arith, ints)
 
-le_times : (x y : ℤ) (n : ℕ) → x ≤ℤ y → (x *ℤ pos n) ≤ℤ (y *ℤ pos n)
+pub le_times : (x y : ℤ) (n : ℕ) → x ≤ℤ y → (x *ℤ pos n) ≤ℤ (y *ℤ pos n)
 le_times x y n le =
     let times : (up x + down y) * n ≤ (up y + down x) * n = mul-le-mul_right n (le_out x y le) in
     omega (arith, ints)
@@ -79,3 +79,8 @@ Meets-min x y p q n some = (
   (λ m. (Meets-looser (int_min x y) x p q n some (int_min-left x y) m, Meets-looser (int_min x y) y p q n some (int_min-right x y) m)),
   (λ both. int_min-case (λ k. Meets k p q n) x y (λ h. both.0) (λ h. both.1)),
 )
+
+-- An integer that is not negative, as a natural.
+pub pos-up : (z : ℤ) → pos 0 ≤ℤ z → z ≡ pos (up z)
+pos-up (pos n) h = refl
+pos-up (negsuc n) h = absurd (omega (arith, ints))

@@ -37,3 +37,12 @@ le_sum_of-right x y h =
     let a = split x in
     let b = split y in
     omega (arith, ints)
+
+pub le_sum_of-left : (x y : ℤ) → pos 1 ≤ℤ y → x ≤ℤ sum_of y x
+le_sum_of-left x y h = rw (sum_of-comm y x) (le_sum_of-right x y h)
+
+pub sum_of-swap : (x y : ℤ) → pos 1 ≤ℤ sum_of x y → pos 1 ≤ℤ sum_of y x
+sum_of-swap x y h = rw (sum_of-comm y x) h
+
+pub le_trans : (x y z : ℤ) → x ≤ℤ y → y ≤ℤ z → x ≤ℤ z
+le_trans x y z h k = omega (arith, ints)

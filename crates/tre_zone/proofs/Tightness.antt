@@ -7,8 +7,8 @@ use Rattle.tre_zone.specs.Bound.{value_of, weakness_of, sum_of, Meets, IsKeyWith
 use Rattle.tre_zone.specs.Zone.{ZoneHolds, IsCanonical, IsTightest, IsTight, HoldsSome, Includes, Covers, AreKeysWithin}
 use Rattle.tre_zone.specs.declared.zone_bounds.ZoneBounds.{ZoneBounds}
 use Rattle.tre_zone.proofs.Bounds.{split, split-sum}
-use Rattle.tre_zone.proofs.Paths.{Meets-looser}
-use Rattle.tre_zone.proofs.Sums.{sum_of-comm}
+use Rattle.tre_zone.proofs.Paths.{Meets-looser, pos-up}
+use Rattle.tre_zone.proofs.Sums.{sum_of-comm, sum_of-swap}
 use Rattle.tre_zone.proofs.ZoneKeys.{zones_same}
 
 -- The greatest whole number of quarters of a tick that meets a bound.
@@ -92,10 +92,6 @@ quarters_of-at_most_zero : (key : ℤ) → key ≤ℤ pos 1 → quarters_of key 
 unfolding quarters_of
 quarters_of-at_most_zero key le = let s = split key in omega (arith, ints)
 
-natural : (z : ℤ) → pos 0 ≤ℤ z → z ≡ pos (up z)
-natural (pos n) h = refl
-natural (negsuc n) h = absurd (omega (arith, ints))
-
 -- The pair of a point: its two times, as naturals.
 record Pair (zone : ZoneBounds) (x y : ℤ) : Type 0 where
   a : ℕ
@@ -111,8 +107,8 @@ pair_at zone canonical x y p =
     let lasts = quarters_of-at_most_zero zone.dur_low canonical.lasts in
     let begin_low = p.begin_low in
     let dur_low = p.dur_low in
-    let e = natural x (omega (arith, ints)) in
-    let f = natural y (omega (arith, ints)) in
+    let e = pos-up x (omega (arith, ints)) in
+    let f = pos-up y (omega (arith, ints)) in
     record {
       a = up x;
       b = up y;
@@ -138,9 +134,6 @@ at_place key other p q e m =
     let le = quarters-met other p q m in
     omega (arith, ints)
 
-swapped : (x y : ℤ) → pos 1 ≤ℤ sum_of x y → pos 1 ≤ℤ sum_of y x
-swapped x y h = rw (sum_of-comm y x) h
-
 -- ---- the six bounds, each with its pair
 
 tight_begin_low : (z : ZoneBounds) → IsCanonical z → IsTightest z z.begin_low (λ a b. 0) (λ a b. a)
@@ -163,7 +156,7 @@ tight_begin_low z c =
 
 tight_begin_high : (z : ZoneBounds) → IsCanonical z → IsTightest z z.begin_high (λ a b. a) (λ a b. 0)
 tight_begin_high z c =
-    let f = facet z.begin_high z.begin_low z.dur_low z.dur_high z.end_low z.end_high (swapped _ _ c.begin_loop) c.dur_loop c.end_loop c.begin_high c.begin_low in
+    let f = facet z.begin_high z.begin_low z.dur_low z.dur_high z.end_low z.end_high (sum_of-swap _ _ c.begin_loop) c.dur_loop c.end_loop c.begin_high c.begin_low in
     let point : Point z f.first f.third =
     record {
       begin_low = omega (arith, ints, f.ji_met);
@@ -181,7 +174,7 @@ tight_begin_high z c =
 
 tight_end_low : (z : ZoneBounds) → IsCanonical z → IsTightest z z.end_low (λ a b. 0) (λ a b. b)
 tight_end_low z c =
-    let f = facet z.end_low z.end_high z.begin_low z.begin_high z.dur_high z.dur_low c.end_loop c.begin_loop (swapped _ _ c.dur_loop) c.end_low c.end_high in
+    let f = facet z.end_low z.end_high z.begin_low z.begin_high z.dur_high z.dur_low c.end_loop c.begin_loop (sum_of-swap _ _ c.dur_loop) c.end_low c.end_high in
     let point : Point z (f.third -ℤ f.first) (neg_ℤ f.first) =
     record {
       begin_low = omega (arith, ints, f.ik_met);
@@ -199,7 +192,7 @@ tight_end_low z c =
 
 tight_end_high : (z : ZoneBounds) → IsCanonical z → IsTightest z z.end_high (λ a b. b) (λ a b. 0)
 tight_end_high z c =
-    let f = facet z.end_high z.end_low z.dur_high z.dur_low z.begin_low z.begin_high (swapped _ _ c.end_loop) (swapped _ _ c.dur_loop) c.begin_loop c.end_high c.end_low in
+    let f = facet z.end_high z.end_low z.dur_high z.dur_low z.begin_low z.begin_high (sum_of-swap _ _ c.end_loop) (sum_of-swap _ _ c.dur_loop) c.begin_loop c.end_high c.end_low in
     let point : Point z f.third f.first =
     record {
       begin_low = omega (arith, ints, f.jk_met);
@@ -217,7 +210,7 @@ tight_end_high z c =
 
 tight_dur_low : (z : ZoneBounds) → IsCanonical z → IsTightest z z.dur_low (λ a b. a) (λ a b. b)
 tight_dur_low z c =
-    let f = facet z.dur_low z.dur_high z.begin_high z.begin_low z.end_high z.end_low c.dur_loop (swapped _ _ c.begin_loop) (swapped _ _ c.end_loop) c.dur_low c.dur_high in
+    let f = facet z.dur_low z.dur_high z.begin_high z.begin_low z.end_high z.end_low c.dur_loop (sum_of-swap _ _ c.begin_loop) (sum_of-swap _ _ c.end_loop) c.dur_low c.dur_high in
     let point : Point z (f.first -ℤ f.third) (neg_ℤ f.third) =
     record {
       begin_low = omega (arith, ints, f.ki_met);
@@ -235,7 +228,7 @@ tight_dur_low z c =
 
 tight_dur_high : (z : ZoneBounds) → IsCanonical z → IsTightest z z.dur_high (λ a b. b) (λ a b. a)
 tight_dur_high z c =
-    let f = facet z.dur_high z.dur_low z.end_high z.end_low z.begin_high z.begin_low (swapped _ _ c.dur_loop) (swapped _ _ c.end_loop) (swapped _ _ c.begin_loop) c.dur_high c.dur_low in
+    let f = facet z.dur_high z.dur_low z.end_high z.end_low z.begin_high z.begin_low (sum_of-swap _ _ c.dur_loop) (sum_of-swap _ _ c.end_loop) (sum_of-swap _ _ c.begin_loop) c.dur_high c.dur_low in
     let point : Point z (neg_ℤ f.third) (f.first -ℤ f.third) =
     record {
       begin_low = omega (arith, ints, f.kj_met);
@@ -263,7 +256,7 @@ canonical-tight zone c = record {
 
 pub canonical-some : (z : ZoneBounds) → IsCanonical z → HoldsSome z
 canonical-some z c =
-    let f = facet z.begin_high z.begin_low z.dur_low z.dur_high z.end_low z.end_high (swapped _ _ c.begin_loop) c.dur_loop c.end_loop c.begin_high c.begin_low in
+    let f = facet z.begin_high z.begin_low z.dur_low z.dur_high z.end_low z.end_high (sum_of-swap _ _ c.begin_loop) c.dur_loop c.end_loop c.begin_high c.begin_low in
     let point : Point z f.first f.third =
     record {
       begin_low = f.ji_met;
@@ -337,11 +330,11 @@ within_limits z c =
     let dur_high = limit_high z.dur_high z.begin_low z.end_high (2 ^ 41 + 1) (rw (sum_of-comm z.begin_low z.end_high) c.dur_high) c.starts c.ends in
     record {
       begin_low = record { low = limit_low z.begin_low z.begin_high (2 ^ 41 + 1) c.begin_loop begin_high; high = omega (arith, ints, c.starts) };
-      begin_high = record { low = omega (arith, ints, limit_low z.begin_high z.begin_low 1 (swapped _ _ c.begin_loop) c.starts); high = begin_high };
+      begin_high = record { low = omega (arith, ints, limit_low z.begin_high z.begin_low 1 (sum_of-swap _ _ c.begin_loop) c.starts); high = begin_high };
       end_low = record { low = limit_low z.end_low z.end_high (2 ^ 41 + 1) c.end_loop c.ends; high = omega (arith, ints) };
-      end_high = record { low = omega (arith, ints, limit_low z.end_high z.end_low 1 (swapped _ _ c.end_loop) end_low); high = c.ends };
+      end_high = record { low = omega (arith, ints, limit_low z.end_high z.end_low 1 (sum_of-swap _ _ c.end_loop) end_low); high = c.ends };
       dur_low = record { low = limit_low z.dur_low z.dur_high (2 ^ 41 + 1) c.dur_loop dur_high; high = omega (arith, ints, c.lasts) };
-      dur_high = record { low = omega (arith, ints, limit_low z.dur_high z.dur_low 1 (swapped _ _ c.dur_loop) c.lasts); high = dur_high };
+      dur_high = record { low = omega (arith, ints, limit_low z.dur_high z.dur_low 1 (sum_of-swap _ _ c.dur_loop) c.lasts); high = dur_high };
     }
 
 pub key-wider : (limit wide : ℕ) → limit ≤ wide → (key : ℤ) → IsKeyWithin limit key → IsKeyWithin wide key

@@ -40,5 +40,5 @@ pub returns-else-touch-clause-pairs : goal.returns-else-touch-clause-pairs
 returns-else-touch-clause-pairs c =
     apart-never c.args.x.now c.args.y.now
     (λ t.
-        let e = c.if-touch.ensures.1 (rw (c.bounds-first.ensures.same, c.bounds-second.ensures.same) t) in
-        (cc))
+    let e = c.if-touch.ensures.1 (rw (c.bounds-first.ensures.same, c.bounds-second.ensures.same) t) in
+    (cc))
