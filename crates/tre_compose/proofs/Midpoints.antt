@@ -1,16 +1,16 @@
 -- The composed bounds hold exactly the pairs that have a moment in the middle.
-use Rattle.std.proofs.Common.{◌≡◌, ℕ, zero, suc, ap, ◌+◌, ◌*◌, ◌<◌, ◌≤◌, ◌↔◌, min, ◌^◌, refl, sym, subst, arith, ℤ, pos, negsuc, neg_ℤ, ◌+ℤ◌, ◌-ℤ◌, ◌*ℤ◌, ◌≤ℤ◌, ◌<ℤ◌}
+use Rattle.std.proofs.Common.{◌≡◌, ℕ, ◌*◌, ◌<◌, ◌^◌, refl, arith, ℤ, pos, ◌+ℤ◌, ◌-ℤ◌, ◌*ℤ◌, ◌≤ℤ◌}
 use Rattle.std.proofs.lemmas.Int.{ints, clamps}
-use Rattle.std.proofs.Math.Nat.{mul-le-mul_right, mul-pos}
-use Rattle.std.specs.Int.{int_min, int_max}
-use borrow.Author.Differences.{up, down, sum_is_lem}
+use Rattle.std.proofs.Math.Nat.{mul-pos}
+use Rattle.std.specs.Int.{int_max}
+use borrow.Author.Differences.{up}
 use Rattle.tre_pairs.specs.Pairs.{Composed}
 use Rattle.tre_zone.specs.Bound.{value_of, weakness_of, sum_of, Meets}
 use Rattle.tre_zone.specs.Zone.{ZoneHolds, IsCanonical, IsZoneOf, HasNoPair, AreKeysWithin, AreValuesWithin}
 use Rattle.tre_zone.specs.declared.zone_bounds.ZoneBounds.{ZoneBounds}
 use Rattle.tre_zone.proofs.Bounds.{split, IsValueWithin-key, Meets-at_most, value_of-sum_of, weakness_of-sum_of}
 use Rattle.tre_zone.proofs.Paths.{Meets-looser, Meets-sum, Meets-min, Meets-loop, int_min-left, int_min-right, pos-up, add_times, le_times}
-use Rattle.tre_zone.proofs.Sums.{sum_of-comm, sum_of-swap}
+use Rattle.tre_zone.proofs.Sums.{sum_of-swap}
 use Rattle.tre_zone.proofs.Scaling.{ZoneHolds-scale, Meets-scale}
 use Rattle.tre_compose.specs.Composition.{HasHalfway, Touch, joined_of, composed_of}
 

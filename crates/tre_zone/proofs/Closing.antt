@@ -1,6 +1,5 @@
 -- The closure of six bounds: it holds the same pairs, and is canonical where it is not empty.
 use Rattle.std.proofs.Common.{ℕ, ◌+◌, ◌<◌, ◌^◌, ◌↔◌, refl, arith, ℤ, pos, ◌≤ℤ◌}
-use Rattle.std.proofs.lemmas.Int.{ints}
 use Rattle.std.specs.Int.{int_min}
 use Rattle.tre_pairs.specs.Pairs.{Both}
 use Rattle.tre_zone.specs.Bound.{sum_of}

@@ -1,7 +1,4 @@
-use Rattle.std.proofs.Common.{sym, subst, refl}
-use Rattle.tre_zone.specs.Zone.{IsCanonical, AreKeysWithin, AreValuesWithin}
-use Rattle.tre_zone.specs.declared.zone_bounds.ZoneBounds.{ZoneBounds}
-use Rattle.tre_compose.specs.Composition.{Touch}
+use Rattle.std.proofs.Common.{refl}
 use Rattle.tre_compose.proofs.Joined.{composed-canonical}
 use Rattle.tre_compose.proofs.Midpoints.{halfway, touch-exact, apart-never, values-within}
 use Rattle.tre_compose.proofs.compose.Goals as goal
