@@ -1,7 +1,7 @@
 -- Lists of zones: one more zone at the end.
 use Rattle.std.proofs.Common.{ℕ, ◌<◌, ◌≤◌, ◌⊎◌, ◌↔◌, List, [], ◌∷◌, ◌++◌, inl, inr, ⊎_elim}
 use Rattle.tre_pairs.specs.Pairs.{Pairs}
-use Rattle.tre_zone.specs.Zone.{ZoneHolds}
+use Rattle.tre_zone.specs.Zone.{ZoneHolds, Includes}
 use Rattle.tre_zone.specs.ZoneList.{SetHolds, AreApart, IsApartFrom, IsApart, HoldExactly}
 use Rattle.tre_zone.specs.declared.zone_bounds.ZoneBounds.{ZoneBounds}
 
@@ -31,6 +31,12 @@ SetHolds-push zones zone a b n =
       (λ h. ⊎_elim (λ x. inl x) (λ x. ⊎_elim (λ y. inr y) (λ y. absurd y) x) (parts.0 h)),
       (λ h. ⊎_elim (λ x. parts.1 (inl x)) (λ x. parts.1 (inr (inl x))) h),
     )
+
+pub Includes-refl : (zone : ZoneBounds) → Includes zone zone
+Includes-refl zone = record { every = λ a b n some le held. held }
+
+pub Includes-trans : (outer middle inner : ZoneBounds) → Includes outer middle → Includes middle inner → Includes outer inner
+Includes-trans outer middle inner h k = record { every = λ a b n some le held. h.every a b n some le (k.every a b n some le held) }
 
 pub AreApart-swap : (one other : ZoneBounds) → AreApart one other → AreApart other one
 AreApart-swap one other apart = record { left = apart.right; right = apart.left }

@@ -68,6 +68,24 @@ fn tightened(rt: HostRuntime) {
 }
 
 #[test]
+fn operations(rt: HostRuntime) {
+    let run = Zone::span(0, 3);
+    let lasting = Interval::new(1, false, Some(2), false).and_then(|i| run.within(&i));
+    // [0,2) (1,3] (1,2)
+    assert!(rt; lasting.map(|zone| zone.row()) == Some([1, 4, -2, 7, -2, 4, 0, 0]));
+    let (early, late) = (Zone::span(3, 9), Zone::span(5, 9));
+    assert!(rt; early.meet(&late) == Some(late));
+    assert!(rt; run.meet(&early).is_none());
+    assert!(rt; early.includes(&late));
+    assert!(rt; !late.includes(&early));
+    // [0,1] [0,1] [0,0]
+    assert!(rt; Zone::instants(0, 1).row() == [1, 3, 1, 3, 1, 1, 0, 0]);
+    // [3,4) [4,4] (0,1]
+    let ending = early.ending_at(4).map(|zone| zone.row());
+    assert!(rt; ending == Some([-5, 8, -7, 9, 0, 3, 0, 0]));
+}
+
+#[test]
 fn impossible(rt: HostRuntime) {
     let rows = [
         [-3, 3, 1, FREE, 1, FREE],
