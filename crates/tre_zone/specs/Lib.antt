@@ -1,1 +1,5 @@
+pub mod Bound
+pub mod Closing
 pub mod Interval
+pub mod Zone
+pub mod ZoneList

@@ -1,0 +1,14 @@
+pub mod Bounds
+pub mod Durations
+pub mod Spans
+pub mod ZoneKeys
+pub mod ZoneListLemmas
+pub mod SpanLists
+pub mod Paths
+pub mod Sums
+pub mod Closing
+pub mod Tightness
+pub mod Ends
+pub mod Given
+pub mod Instants
+pub mod Scaling
