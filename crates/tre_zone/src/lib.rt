@@ -1,2 +1,7 @@
 //! Intervals, bounds and zones.
 #![tactic(auto)]
+
+pub use bound::Bound;
+pub use tre_pairs::TIME_MAX;
+
+mod bound;

@@ -1,0 +1,86 @@
+ghost use Rattle.std.specs.Prelude.{◌≡◌, ℕ, pos, neg_ℤ, ◌+◌, ◌*◌, ◌^◌, ◌+ℤ◌, ◌*ℤ◌, ◌≤ℤ◌, ◌<ℤ◌, ◌↔◌, IsTrue};
+ghost use Rattle.tre_zone.specs.Bound.{value_of, weakness_of, sum_of, Meets, IsValueWithin};
+
+use std::marker::Model;
+
+/// An upper bound on a difference of two times in ticks: `x <= c` (weak) or `x < c` (strict).
+///
+/// It is one number, its key: `2c + 1` for a weak bound and `2c` for a strict one. The smaller key is
+/// the tighter bound, so bounds are compared by their keys. Contracts see a bound as its key.
+#[derive(Clone, Copy, Debug, PartialEq, Eq)]
+pub struct Bound {
+    key: i64,
+}
+
+impl Model for Bound {
+    ghost use Rattle.std.specs.Prelude.{ℤ};
+
+    ghost Value = { ℤ };
+
+    ghost view = { λ bound. bound.key };
+
+    ghost inverse = { λ key. record { key = key } };
+}
+
+impl Bound {
+    /// The bound `x <= c`.
+    pub fn weak(c: i64) -> Bound
+        requires low { neg_ℤ (pos (2 ^ 60)) ≤ℤ c }
+        requires high { c ≤ℤ pos (2 ^ 60) }
+        ensures key { result ≡ (pos 2 *ℤ c) +ℤ pos 1 }
+        ensures meaning { (p q n : ℕ) → Meets result p q n ↔ (pos p ≤ℤ (pos q +ℤ (c *ℤ pos n))) }
+    {
+        Bound { key: 2 * c + 1 }
+    }
+
+    /// The bound `x < c`.
+    pub fn strict(c: i64) -> Bound
+        requires low { neg_ℤ (pos (2 ^ 60)) ≤ℤ c }
+        requires high { c ≤ℤ pos (2 ^ 60) }
+        ensures key { result ≡ pos 2 *ℤ c }
+        ensures meaning { (p q n : ℕ) → Meets result p q n ↔ (pos p <ℤ (pos q +ℤ (c *ℤ pos n))) }
+    {
+        Bound { key: 2 * c }
+    }
+
+    /// The number `c` of `x <= c` or `x < c`.
+    pub fn value(&self) -> i64
+        ensures { result ≡ value_of self.now }
+    {
+        self.key >> 1
+    }
+
+    /// Whether the bound is `x <= c`, which takes in `c` itself.
+    pub fn is_weak(&self) -> bool
+        ensures { IsTrue result ↔ (weakness_of self.now ≡ 1) }
+    {
+        self.weakness() == 1
+    }
+
+    /// `2c + 1` for `x <= c`, and `2c` for `x < c`.
+    pub fn key(&self) -> i64
+        ensures { result ≡ self.now }
+    {
+        self.key
+    }
+
+    /// The bound that this one and `other` put on the sum of what each is on.
+    pub fn plus(&self, other: &Bound) -> Bound
+        requires own { IsValueWithin (2 ^ 59) self.now }
+        requires others { IsValueWithin (2 ^ 59) other.now }
+        ensures key { result ≡ sum_of self.now other.now }
+        ensures value { value_of result ≡ value_of self.now +ℤ value_of other.now }
+        ensures weak { (weakness_of result ≡ 1) ↔ (weakness_of self.now ≡ 1) × (weakness_of other.now ≡ 1) }
+    {
+        Bound {
+            key: self.key + other.key - self.weakness().max(other.weakness()),
+        }
+    }
+
+    /// 1 for a weak bound and 0 for a strict one.
+    fn weakness(&self) -> i64
+        ensures { result ≡ pos (weakness_of self.now) }
+    {
+        self.key & 1
+    }
+}
