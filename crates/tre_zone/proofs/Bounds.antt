@@ -1,6 +1,6 @@
 -- A bound as a value and a weakness, the sum of bounds, and what a difference of times meets.
 use Rattle.std.proofs.Common.{◌≡◌, ℕ, ◌+◌, ◌-◌, ◌*◌, ◌/◌, ◌%◌, ◌≤◌, ◌<◌, min, max, ap, sym, ◌∙◌, arith, ℤ, pos, negsuc, ◌+ℤ◌, ◌-ℤ◌, ◌*ℤ◌, ◌≤ℤ◌, ◌<ℤ◌, refl}
-use Rattle.std.proofs.Common.{◌^◌, ◌↔◌, suc, bit_and, to_z, of_z, w64}
+use Rattle.std.proofs.Common.{◌^◌, ◌↔◌, zero, suc, neg_ℤ, bit_and, to_z, of_z, w64}
 use Rattle.std.proofs.lemmas.Int.{ints}
 use Rattle.std.proofs.lemmas.Nat.{and_mask}
 use mir.Val.{SFits}
@@ -67,3 +67,33 @@ pub half : (key : ℤ) → SFits w64 key → to_z w64 (of_z w64 (shr_z key 2)) �
 unfolding value_of
 half (pos key) fits = omega (arith, ints)
 half (negsuc key) fits = omega (arith, ints)
+
+-- The same at a value above zero and at one below.
+down_product : (c n : ℕ) → neg_ℤ (pos c) *ℤ pos n ≡ neg_ℤ (pos (c * n))
+down_product zero n = omega (arith, ints)
+down_product (suc c) n = refl
+
+pub Meets-at_most : (key : ℤ) (c : ℕ) → key ≡ pos (2 * c + 1) → (p q n : ℕ) → Meets key p q n ↔ (p ≤ q + c * n)
+Meets-at_most key c e p q n =
+    let both = Meets-weak key (pos c) (omega (arith, ints)) p q n in
+    ((λ m. let le = both.0 m in omega (arith, ints)), (λ h. both.1 (omega (arith, ints))))
+
+pub Meets-less : (key : ℤ) (c : ℕ) → key ≡ pos (2 * c) → (p q n : ℕ) → Meets key p q n ↔ (p < q + c * n)
+Meets-less key c e p q n =
+    let both = Meets-strict key (pos c) (omega (arith, ints)) p q n in
+    ((λ m. let lt = both.0 m in omega (arith, ints)), (λ h. both.1 (omega (arith, ints))))
+
+pub Meets-at_least : (key : ℤ) (c : ℕ) → key ≡ pos 1 -ℤ pos (2 * c) → (p q n : ℕ) → Meets key p q n ↔ (p + c * n ≤ q)
+Meets-at_least key c e p q n =
+    let both = Meets-weak key (neg_ℤ (pos c)) (omega (arith, ints)) p q n in
+    let down = down_product c n in
+    ((λ m. let le = rw down at (both.0 m) in omega (arith, ints)), (λ h. both.1 (rw down (omega (arith, ints)))))
+
+pub Meets-more : (key : ℤ) (c : ℕ) → key ≡ neg_ℤ (pos (2 * c)) → (p q n : ℕ) → Meets key p q n ↔ (p + c * n < q)
+Meets-more key c e p q n =
+    let both = Meets-strict key (neg_ℤ (pos c)) (omega (arith, ints)) p q n in
+    let down = down_product c n in
+    ((λ m. let lt = rw down at (both.0 m) in omega (arith, ints)), (λ h. both.1 (rw down (omega (arith, ints)))))
+
+pub not_weak : (key : ℤ) → (weakness_of key ≡ 1 → ⊥) → weakness_of key ≡ 0
+not_weak key not_one = let s = split key in omega (arith, not_one)

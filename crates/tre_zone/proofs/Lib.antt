@@ -1,1 +1,5 @@
 pub mod Bounds
+pub mod Durations
+pub mod Spans
+pub mod ZoneKeys
+pub mod ZoneListLemmas

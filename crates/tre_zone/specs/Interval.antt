@@ -1,5 +1,5 @@
 -- Intervals of durations (FORMATS 2014, section 2: the restriction of an expression to an interval).
-use Rattle.std.specs.Prelude.{ℕ, ◌≤◌, ◌<◌, ◌*◌, Bool, Option, MatchOption, MatchBool}
+use Rattle.std.specs.Prelude.{ℕ, ◌≤◌, ◌<◌, ◌*◌, Bool, false, Option, Some, None, MatchOption, MatchBool}
 
 -- What an interval is: its ends in ticks, and whether each end belongs to it. Without `high` it has no upper end.
 pub record IntervalEnds : Type 0 where
@@ -19,3 +19,17 @@ IsBelowHigh ends d n = MatchOption ends.high (Unit {0}) (λ high. MatchBool ends
 -- The duration d/n is in the interval.
 abbrev pub LastsWithin : IntervalEnds → ℕ → ℕ → Type 0
 LastsWithin ends d n = IsAboveLow ends d n × IsBelowHigh ends d n
+
+-- Whether the high end belongs to the interval: never where there is none.
+abbrev pub kept_weak : Option ℕ → Bool → Bool
+kept_weak None weak = false
+kept_weak (Some high) weak = weak
+
+-- Each end is a time that can be named.
+pub record IsIntervalWithin (limit : ℕ) (ends : IntervalEnds) : Type 0 where
+  pub low : ends.low ≤ limit
+  pub high : MatchOption ends.high (Unit {0}) (λ high. high ≤ limit)
+
+-- Some duration lies between the two ends.
+abbrev pub HasRoom : ℕ → Bool → ℕ → Bool → Type 0
+HasRoom low low_weak high high_weak = MatchBool low_weak (MatchBool high_weak (low ≤ high) (low < high)) (low < high)

@@ -1,2 +1,4 @@
 pub mod Bound
 pub mod Interval
+pub mod Zone
+pub mod ZoneList

@@ -1,0 +1,52 @@
+-- Between which ends of an interval a duration lies.
+use Rattle.std.proofs.Common.{◌≡◌, ℕ, ◌+◌, ◌*◌, ◌<◌, ◌≤◌, Bool, true, false, Option, Some, None, arith}
+use Rattle.std.proofs.Math.Nat.{mul-le-mul_right}
+use Rattle.tre_zone.specs.Interval.{LastsWithin, HasRoom, IntervalEnds}
+
+-- The interval holds d/n.
+pub record Lasts (ends : IntervalEnds) : Type 0 where
+  pub d : ℕ
+  pub n : ℕ
+  pub some : 0 < n
+  pub within : LastsWithin ends d n
+
+pub no_end : (low : ℕ) (low_weak high_weak : Bool) → Lasts (record { low = low; low_weak = low_weak; high = None; high_weak = high_weak })
+no_end low true high_weak = record { d = low + 1; n = 1; some = omega arith; within = (omega arith, tt) }
+no_end low false high_weak = record { d = low + 1; n = 1; some = omega arith; within = (omega arith, tt) }
+
+pub room : (low : ℕ) (low_weak : Bool) (high : ℕ) (high_weak : Bool) → HasRoom low low_weak high high_weak
+    → Lasts (record { low = low; low_weak = low_weak; high = Some high; high_weak = high_weak })
+room low true high true h = record { d = low + high; n = 2; some = omega arith; within = (omega arith, omega arith) }
+room low true high false h = record { d = low + high; n = 2; some = omega arith; within = (omega arith, omega arith) }
+room low false high true h = record { d = low + high; n = 2; some = omega arith; within = (omega arith, omega arith) }
+room low false high false h = record { d = low + high; n = 2; some = omega arith; within = (omega arith, omega arith) }
+
+scale : (low high n : ℕ) → high ≤ low → high * n ≤ low * n
+scale low high n le = mul-le-mul_right n le
+
+scale_more : (low high n : ℕ) → 0 < n → high < low → high * n + 1 ≤ low * n
+scale_more low high n some lt =
+    let e : (high + 1) * n ≤ low * n = mul-le-mul_right n (omega arith) in
+    omega arith
+
+pub no_room : (low : ℕ) (low_weak : Bool) (high : ℕ) (high_weak : Bool) → (HasRoom low low_weak high high_weak → ⊥)
+    → (d n : ℕ) → 0 < n → LastsWithin (record { low = low; low_weak = low_weak; high = Some high; high_weak = high_weak }) d n → ⊥
+no_room low true high true h d n some w =
+    let lt : high < low = omega arith in
+    omega (arith, scale_more low high n some lt)
+no_room low true high false h d n some w =
+    let le : high ≤ low = omega arith in
+    omega (arith, scale low high n le)
+no_room low false high true h d n some w =
+    let le : high ≤ low = omega arith in
+    omega (arith, scale low high n le)
+no_room low false high false h d n some w =
+    let le : high ≤ low = omega arith in
+    omega (arith, scale low high n le)
+
+-- No duration is in the interval.
+abbrev pub IsEmpty : IntervalEnds → Type 0
+IsEmpty ends = (d n : ℕ) → 0 < n → LastsWithin ends d n → ⊥
+
+pub not_empty : (ends : IntervalEnds) → Lasts ends → (true ≡ false → IsEmpty ends) × (IsEmpty ends → true ≡ false)
+not_empty ends l = ((λ e. (cc)), (λ h. absurd (h l.d l.n l.some l.within)))

@@ -1,0 +1,29 @@
+-- Lists of zones, as sets of pairs of times.
+use Rattle.std.specs.Prelude.{ℕ, ◌<◌, ◌≤◌, ◌⊎◌, ◌↔◌, List, [], ◌∷◌}
+use Rattle.tre_pairs.specs.Pairs.{Pairs}
+use Rattle.tre_zone.specs.Zone.{ZoneHolds, Includes}
+use Rattle.tre_zone.specs.declared.zone_bounds.ZoneBounds.{ZoneBounds}
+
+-- Some zone of the list holds the pair.
+unfoldable pub SetHolds : List ZoneBounds → Pairs
+SetHolds [] a b n = ⊥
+SetHolds (zone ∷ zones) a b n = ZoneHolds zone a b n ⊎ SetHolds zones a b n
+
+-- Neither of two zones is included in the other.
+pub record AreApart (one other : ZoneBounds) : Type 0 where
+  pub left : Includes one other → ⊥
+  pub right : Includes other one → ⊥
+
+-- The zone is apart from each of the list.
+unfoldable pub IsApartFrom : ZoneBounds → List ZoneBounds → Type 0
+IsApartFrom zone [] = Unit {0}
+IsApartFrom zone (other ∷ others) = AreApart zone other × IsApartFrom zone others
+
+-- No member of the list is included in another, by place: with a zone in two places it is not apart.
+unfoldable pub IsApart : List ZoneBounds → Type 0
+IsApart [] = Unit {0}
+IsApart (zone ∷ zones) = IsApartFrom zone zones × IsApart zones
+
+-- The zones hold a pair, at every denominator, exactly where the relation holds of it.
+pub record HoldExactly (zones : List ZoneBounds) (relation : Pairs) : Type 0 where
+  pub exact : (a b n : ℕ) → 0 < n → a ≤ b → SetHolds zones a b n ↔ relation a b n
