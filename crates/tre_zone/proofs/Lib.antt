@@ -3,3 +3,4 @@ pub mod Durations
 pub mod Spans
 pub mod ZoneKeys
 pub mod ZoneListLemmas
+pub mod SpanLists
