@@ -1,0 +1,4 @@
+pub mod Scaling
+pub mod Order
+pub mod Chains
+pub mod Implication
