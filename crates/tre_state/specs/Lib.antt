@@ -1,1 +1,4 @@
 pub mod StateTree
+pub mod State
+pub mod Name
+pub mod Names

@@ -1,5 +1,5 @@
 -- States as trees, and when one holds on a valuation (FORMATS 2014, section 2: Boolean combinations of propositions).
-use Rattle.std.specs.Prelude.{ℕ, ◌⊎◌, IsBitSet}
+use Rattle.std.specs.Prelude.{ℕ, suc, ◌+◌, ◌⊎◌, IsBitSet, List, [], ◌∷◌, ◌++◌}
 
 -- A Boolean combination of propositions, which go by their numbers.
 pub data StateTree : Type 0 where
@@ -16,3 +16,19 @@ HoldsOn (proposition i) valuation = IsBitSet valuation i
 HoldsOn (negation s) valuation = ¬ HoldsOn s valuation
 HoldsOn (conjunction s t) valuation = HoldsOn s valuation × HoldsOn t valuation
 HoldsOn (disjunction s t) valuation = HoldsOn s valuation ⊎ HoldsOn t valuation
+
+-- The numbers of the propositions that the state names, from the left, each as often as it stands there.
+abbrev pub numbers_of : StateTree → List ℕ
+numbers_of always = []
+numbers_of (proposition i) = i ∷ []
+numbers_of (negation s) = numbers_of s
+numbers_of (conjunction s t) = numbers_of s ++ numbers_of t
+numbers_of (disjunction s t) = numbers_of s ++ numbers_of t
+
+-- How many nodes the tree has.
+abbrev pub node_count : StateTree → ℕ
+node_count always = 1
+node_count (proposition i) = 1
+node_count (negation s) = 1 + node_count s
+node_count (conjunction s t) = 1 + node_count s + node_count t
+node_count (disjunction s t) = 1 + node_count s + node_count t

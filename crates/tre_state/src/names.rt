@@ -1,0 +1,134 @@
+ghost use Rattle.std.specs.Prelude.{◌≡◌, ◌<◌, ◌↔◌, [], ◌∷◌, ◌++◌, length, slice_get, IsTrue, IsSome, IsOk, IfOk, IfErr, OnOk, OnErr};
+ghost use Rattle.std.specs.Option.{option_map};
+ghost use Rattle.tre_state.specs.Name.{IsName};
+ghost use Rattle.tre_state.specs.Names.{place_of, IsNameList};
+
+use indexmap::IndexSet;
+use std::alloc::{AllocError, Global};
+use std::marker::Model;
+use thiserror::Error;
+
+/// How many names a pattern may have, one for each bit of a valuation.
+pub const NAMES_MAX: usize = 64;
+
+/// Why a name was given no number.
+#[derive(Clone, Copy, Debug, Error, PartialEq, Eq)]
+pub enum NameFault {
+    #[error("TooMany")]
+    TooMany,
+    #[error("Memory")]
+    Memory,
+}
+
+/// The names of propositions in the order in which they were first seen. The place of a name is its
+/// number, counted from 0.
+#[derive(Drop)]
+pub struct Names {
+    names: IndexSet<String>,
+}
+
+impl Model for Names {
+    ghost use Rattle.std.specs.Prelude.{ℕ, List, map};
+    ghost use Rattle.std.specs.String.{string_bytes};
+    ghost use Rattle.tre_state.specs.Names.{IsNameList};
+
+    ghost Value = { List (List ℕ) };
+
+    ghost view = { λ n. map string_bytes n.names.keys };
+
+    ghost invariant = { λ n. IsNameList (map string_bytes n.names.keys) };
+}
+
+impl Names {
+    /// No names. What is added later is kept in memory of the allocator.
+    pub fn new(alloc: Global) -> Names
+        ensures { result ≡ [] }
+    {
+        Names {
+            names: IndexSet::new(alloc),
+        }
+    }
+
+    /// How many names there are.
+    pub fn len(&self) -> usize
+        ensures len { result ≡ length self.now }
+        ensures list { IsNameList self.now }
+    {
+        self.names.len()
+    }
+
+    /// Whether there is no name.
+    pub fn is_empty(&self) -> bool
+        ensures { IsTrue result ↔ (self.now ≡ []) }
+    {
+        self.names.is_empty()
+    }
+
+    /// The number of a name, if it is held.
+    pub fn find(&self, name: &str) -> Option<u8>
+        ensures { result ≡ place_of self.now name.now }
+    {
+        match self.names.get_index_of(name) {
+            Some(place) => Some(place as u8),
+            None => None,
+        }
+    }
+
+    /// The name of a number, if there is one.
+    pub fn name(&self, number: u8) -> Option<&str>
+        ensures { option_map (λ name. name.now) result ≡ slice_get self.now number }
+    {
+        match self.names.get_index(usize::from(number)) {
+            Some(name) => Some(name.as_str()),
+            None => None,
+        }
+    }
+
+    /// The number of a name. One that is not held yet goes to the end of the list; that alone can fail.
+    pub fn number(&mut self, name: &str) -> Result<u8, NameFault>
+        requires is_name { IsName name.now }
+        ensures number { IfOk result (λ i. place_of self.new name.now ≡ Some i) }
+        ensures held { IsSome (place_of self.old name.now) → IsOk result × (self.new ≡ self.old) }
+        ensures added { place_of self.old name.now ≡ None → OnOk result (self.new ≡ self.old ++ name.now ∷ []) }
+        ensures too_many { (result ≡ Err NameFault.TooMany) ↔ ((length self.old ≡ 64) × (place_of self.old name.now ≡ None)) }
+        ensures err { OnErr result (self.new ≡ self.old) }
+        ensures list { IsNameList self.new }
+    {
+        if let Some(held) = self.find(name) {
+            return Ok(held);
+        }
+        if self.names.len() == NAMES_MAX {
+            return Err(NameFault::TooMany);
+        }
+        self.add(name)
+    }
+
+    // Puts a name that is not held at the end of the list.
+    fn add(&mut self, name: &str) -> Result<u8, NameFault>
+        requires is_name { IsName name.now }
+        requires room { length self.old < 64 }
+        requires absent { place_of self.old name.now ≡ None }
+        ensures number { IfOk result (λ i. place_of self.new name.now ≡ Some i) }
+        ensures added { OnOk result (self.new ≡ self.old ++ name.now ∷ []) }
+        ensures memory { IfErr result (λ fault. fault ≡ NameFault.Memory) }
+        ensures err { OnErr result (self.new ≡ self.old) }
+        ensures list { IsNameList self.new }
+    {
+        let alloc = *self.names.allocator();
+        let owned = String::from_str(alloc, name).map_err(|_| NameFault::Memory)?;
+        let (place, _) = self
+            .names
+            .insert_full(owned)
+            .map_err(|_| NameFault::Memory)?;
+        Ok(place as u8)
+    }
+
+    /// The same names once more.
+    pub fn try_clone(&self) -> Result<Names, AllocError>
+        ensures { IfOk result (λ copy. copy ≡ self.now) }
+    {
+        Ok(Names {
+            names: self.names.clone()?,
+        })
+    }
+}
