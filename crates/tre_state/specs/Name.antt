@@ -1,7 +1,8 @@
 -- What a name is.
-use Rattle.std.specs.Prelude.{◌≡◌, ℕ, Bool, ◌==◌, ◌||◌, List, [], ◌∷◌, IsTrue, Contains, codes}
+use Rattle.std.specs.Prelude.{◌≡◌, ℕ, Bool, ◌==◌, ◌||◌, List, [], ◌∷◌, IsTrue, codes}
 use Rattle.std.specs.Char.{is_ascii_alphabetic, is_ascii_alphanumeric}
 use Rattle.std.specs.List.{AllPass}
+use Rattle.std.specs.Str.{bytes_eq}
 
 -- A letter A to Z or a to z, or the underscore (95).
 abbrev pub starts_name : ℕ → Bool
@@ -16,10 +17,12 @@ abbrev pub IsWord : List ℕ → Type 0
 IsWord [] = ⊥
 IsWord (first ∷ rest) = IsTrue (starts_name first) × AllPass continues_name rest
 
--- The words that expressions keep for themselves.
-abbrev pub reserved_words : List (List ℕ)
-reserved_words = codes "eps" ∷ codes "rise" ∷ codes "fall" ∷ codes "inf" ∷ codes "true" ∷ codes "event" ∷ []
+-- One of the words that expressions keep for themselves.
+abbrev pub is_reserved : List ℕ → Bool
+is_reserved bytes =
+    bytes_eq bytes (codes "eps") || bytes_eq bytes (codes "rise") || bytes_eq bytes (codes "fall")
+    || bytes_eq bytes (codes "inf") || bytes_eq bytes (codes "true") || bytes_eq bytes (codes "event")
 
 -- The bytes are a name: spelt as one, and no reserved word.
 abbrev pub IsName : List ℕ → Type 0
-IsName bytes = IsWord bytes × ¬ Contains reserved_words bytes
+IsName bytes = IsWord bytes × ¬ IsTrue (is_reserved bytes)

@@ -1,5 +1,5 @@
 -- States as trees, and when one holds on a valuation (FORMATS 2014, section 2: Boolean combinations of propositions).
-use Rattle.std.specs.Prelude.{ℕ, suc, ◌+◌, ◌⊎◌, IsBitSet, List, [], ◌∷◌, ◌++◌}
+use Rattle.std.specs.Prelude.{ℕ, ◌+◌, ◌<◌, ◌⊎◌, IsBitSet, List, [], ◌∷◌, ◌++◌}
 
 -- A Boolean combination of propositions, which go by their numbers.
 pub data StateTree : Type 0 where
@@ -16,6 +16,14 @@ HoldsOn (proposition i) valuation = IsBitSet valuation i
 HoldsOn (negation s) valuation = ¬ HoldsOn s valuation
 HoldsOn (conjunction s t) valuation = HoldsOn s valuation × HoldsOn t valuation
 HoldsOn (disjunction s t) valuation = HoldsOn s valuation ⊎ HoldsOn t valuation
+
+-- Every proposition that the state names has a number below the bound.
+abbrev pub NumbersBelow : ℕ → StateTree → Type 0
+NumbersBelow bound always = Unit {0}
+NumbersBelow bound (proposition i) = i < bound
+NumbersBelow bound (negation s) = NumbersBelow bound s
+NumbersBelow bound (conjunction s t) = NumbersBelow bound s × NumbersBelow bound t
+NumbersBelow bound (disjunction s t) = NumbersBelow bound s × NumbersBelow bound t
 
 -- The numbers of the propositions that the state names, from the left, each as often as it stands there.
 abbrev pub numbers_of : StateTree → List ℕ

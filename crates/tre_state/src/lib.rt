@@ -10,6 +10,10 @@
 //! ```
 #![tactic(auto)]
 
-pub mod name;
-pub mod names;
-pub mod state;
+pub use name::{continues_name, is_name, is_word, starts_name};
+pub use names::{NAMES_MAX, NameFault, Names};
+pub use state::State;
+
+mod name;
+mod names;
+mod state;

@@ -1,5 +1,5 @@
 ghost use Rattle.std.specs.Prelude.{◌≡◌, ◌↔◌, IsTrue};
-ghost use Rattle.tre_state.specs.Name.{starts_name, continues_name, IsWord, IsName};
+ghost use Rattle.tre_state.specs.Name.{starts_name, continues_name, is_reserved, IsWord, IsName};
 
 /// Whether a name may begin with this byte: a letter A to Z or a to z, or `_`.
 pub fn starts_name(byte: u8) -> bool
@@ -32,7 +32,14 @@ pub fn is_name(text: &str) -> bool
     is_word(text.as_bytes()) && !is_reserved(text)
 }
 
-// Whether the text is one of the words that the expressions keep for themselves.
-fn is_reserved(text: &str) -> bool {
-    matches!(text, "eps" | "rise" | "fall" | "inf" | "true" | "event")
+// Whether the text is one of the words that expressions keep for themselves.
+fn is_reserved(text: &str) -> bool
+    ensures { result ≡ is_reserved text.now }
+{
+    text == "eps"
+        || text == "rise"
+        || text == "fall"
+        || text == "inf"
+        || text == "true"
+        || text == "event"
 }

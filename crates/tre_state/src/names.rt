@@ -1,4 +1,5 @@
-ghost use Rattle.std.specs.Prelude.{◌≡◌, ◌<◌, ◌↔◌, [], ◌∷◌, ◌++◌, length, slice_get, IsTrue, IsSome, IsOk, IfOk, IfErr, OnOk, OnErr};
+ghost use Rattle.std.specs.Prelude.{◌≡◌, ◌<◌, ◌↔◌, [], ◌∷◌, ◌++◌, length, map, slice_get, IsTrue, IsSome, IsOk, IfOk, OnOk, OnErr};
+ghost use Rattle.std.specs.String.{string_bytes};
 ghost use Rattle.std.specs.Option.{option_map};
 ghost use Rattle.tre_state.specs.Name.{IsName};
 ghost use Rattle.tre_state.specs.Names.{place_of, IsNameList};
@@ -18,6 +19,17 @@ pub enum NameFault {
     TooMany,
     #[error("Memory")]
     Memory,
+}
+
+impl From<AllocError> for NameFault {
+    ghost use Rattle.std.specs.Prelude.{◌≡◌};
+    ghost use Rattle.tre_state.specs.declared.names.NameFault.{NameFault};
+
+    ghost from_gives = { λ _ fault. fault ≡ NameFault.Memory };
+
+    fn from(_: AllocError) -> NameFault {
+        NameFault::Memory
+    }
 }
 
 /// The names of propositions in the order in which they were first seen. The place of a name is its
@@ -100,27 +112,8 @@ impl Names {
         if self.names.len() == NAMES_MAX {
             return Err(NameFault::TooMany);
         }
-        self.add(name)
-    }
-
-    // Puts a name that is not held at the end of the list.
-    fn add(&mut self, name: &str) -> Result<u8, NameFault>
-        requires is_name { IsName name.now }
-        requires room { length self.old < 64 }
-        requires absent { place_of self.old name.now ≡ None }
-        ensures number { IfOk result (λ i. place_of self.new name.now ≡ Some i) }
-        ensures added { OnOk result (self.new ≡ self.old ++ name.now ∷ []) }
-        ensures memory { IfErr result (λ fault. fault ≡ NameFault.Memory) }
-        ensures err { OnErr result (self.new ≡ self.old) }
-        ensures list { IsNameList self.new }
-    {
-        let alloc = *self.names.allocator();
-        let owned = String::from_str(alloc, name).map_err(|_| NameFault::Memory)?;
-        let (place, _) = self
-            .names
-            .insert_full(owned)
-            .map_err(|_| NameFault::Memory)?;
-        Ok(place as u8)
+        let place = insert_last(&mut self.names, name)?;
+        Ok(place)
     }
 
     /// The same names once more.
@@ -131,4 +124,17 @@ impl Names {
             names: self.names.clone()?,
         })
     }
+}
+
+// Puts a text that is not in the set at its end, and gives its place.
+fn insert_last(names: &mut IndexSet<String>, text: &str) -> Result<u8, AllocError>
+    requires room { length names.old.keys < 64 }
+    requires absent { place_of (map string_bytes names.old.keys) text.now ≡ None }
+    ensures place { IfOk result (λ place. place ≡ length (map string_bytes names.old.keys)) }
+    ensures ok { OnOk result (map string_bytes names.new.keys ≡ map string_bytes names.old.keys ++ text.now ∷ []) }
+    ensures err { OnErr result (names.new.keys ≡ names.old.keys) }
+{
+    let owned = String::from_str(*names.allocator(), text)?;
+    let (place, _) = names.insert_full(owned)?;
+    Ok(place as u8)
 }

@@ -1,5 +1,5 @@
-ghost use Rattle.std.specs.Prelude.{◌≡◌, ◌<◌, ◌↔◌, IsTrue, IfOk, All};
-ghost use Rattle.tre_state.specs.StateTree.{HoldsOn, numbers_of};
+ghost use Rattle.std.specs.Prelude.{◌≡◌, ◌↔◌, IsTrue, IfOk};
+ghost use Rattle.tre_state.specs.StateTree.{HoldsOn, NumbersBelow};
 ghost use Rattle.tre_state.specs.State.{tree_of};
 
 use std::alloc::{AllocError, Global};
@@ -19,7 +19,7 @@ pub enum State {
 impl State {
     /// The truth of the state on a valuation, whose bit i is the value of proposition i.
     pub fn eval(&self, val: u64) -> bool
-        requires below_64 { All (λ i. i < 64) (numbers_of (tree_of self.now)) }
+        requires below_64 { NumbersBelow 64 (tree_of self.now) }
         ensures holds { IsTrue result ↔ HoldsOn (tree_of self.now) val }
     {
         match self {
