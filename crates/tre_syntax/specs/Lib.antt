@@ -1,1 +1,2 @@
 pub mod PatternTree
+pub mod Expr

@@ -1,4 +1,6 @@
 -- Timed regular expressions as trees (FORMATS 2014, section 2).
+use Rattle.std.specs.Prelude.{◌≡◌, ℕ, ◌+◌, ◌<◌, Option, Some, None, List, [], ◌∷◌, ◌++◌, ◌==◌, nat_lt, if◌then◌else◌, option_and_then}
+use Rattle.tre_state.specs.StateTree as state
 use Rattle.tre_state.specs.StateTree.{StateTree}
 use Rattle.tre_zone.specs.Interval.{IntervalEnds}
 
@@ -17,3 +19,46 @@ pub data PatternTree : Type 0 where
   intersection : PatternTree → PatternTree → PatternTree
   repetition : PatternTree → PatternTree
   restriction : PatternTree → IntervalEnds → PatternTree
+
+-- The numbers of the propositions that an atom names, from the left, each as often as it stands there.
+abbrev pub numbers_of_atom : Atom → List ℕ
+numbers_of_atom empty = []
+numbers_of_atom (literal s) = state.numbers_of s
+numbers_of_atom (rise s) = state.numbers_of s
+numbers_of_atom (fall s) = state.numbers_of s
+
+-- The numbers of the propositions that the expression names, from the left, each as often as it stands there.
+abbrev pub numbers_of : PatternTree → List ℕ
+numbers_of (atom x) = numbers_of_atom x
+numbers_of (sequence e f) = numbers_of e ++ numbers_of f
+numbers_of (alternation e f) = numbers_of e ++ numbers_of f
+numbers_of (intersection e f) = numbers_of e ++ numbers_of f
+numbers_of (repetition e) = numbers_of e
+numbers_of (restriction e ends) = numbers_of e
+
+-- How many nodes an atom has: itself, and those of its state.
+abbrev pub atom_node_count : Atom → ℕ
+atom_node_count empty = 1
+atom_node_count (literal s) = 1 + state.node_count s
+atom_node_count (rise s) = 1 + state.node_count s
+atom_node_count (fall s) = 1 + state.node_count s
+
+-- How many nodes the expression has, those of its states among them.
+abbrev pub node_count : PatternTree → ℕ
+node_count (atom x) = atom_node_count x
+node_count (sequence e f) = 1 + node_count e + node_count f
+node_count (alternation e f) = 1 + node_count e + node_count f
+node_count (intersection e f) = 1 + node_count e + node_count f
+node_count (repetition e) = 1 + node_count e
+node_count (restriction e ends) = 1 + node_count e
+
+-- How many numbers were seen, counted from 0, once the list was read after `seen` others: each number must be one that was
+-- seen already or the next one.
+abbrev pub seen_after : ℕ → List ℕ → Option ℕ
+seen_after seen [] = Some seen
+seen_after seen (i ∷ rest) =
+    if nat_lt i seen then seen_after seen rest else (if i == seen then seen_after (seen + 1) rest else None)
+
+-- The numbers of the propositions, by their first use from the left, are 0, 1 and so on up to the count.
+abbrev pub IsNumbered : PatternTree → ℕ → Type 0
+IsNumbered tree count = seen_after 0 (numbers_of tree) ≡ Some count

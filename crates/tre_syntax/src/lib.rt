@@ -1,2 +1,17 @@
-//! Patterns and their meaning.
+//! Timed regular expressions, patterns, and their meaning.
+//!
+//! The central type is `Pattern`: an expression with the names of its propositions, of at most 1,000
+//! nodes. The layers above may rely on the tree that an expression is seen as, on what a pattern always
+//! is, and on the meaning: `Matches tree segments a b n` says that the stretch of a trace from a/n to
+//! b/n is in the expression. The meaning's laws stand in `laws`, each as a function whose contract it is.
+//!
+//! ```text
+//! Pattern::new(Expr::Seq(p, q), names)     the pattern `p;q`
+//! ```
 #![tactic(auto)]
+
+pub use expr::Expr;
+pub use pattern::{NODES_MAX, Pattern};
+
+mod expr;
+mod pattern;

@@ -1,0 +1,63 @@
+ghost use Rattle.std.specs.Prelude.{◌≡◌, IfOk};
+ghost use Rattle.tre_syntax.specs.Expr.{tree_of};
+
+use std::alloc::{AllocError, Global};
+use tre_state::State;
+use tre_zone::Interval;
+
+/// A timed regular expression.
+#[derive(Debug, Drop, PartialEq, Eq)]
+pub enum Expr {
+    /// The stretch of no length.
+    Eps,
+    /// A stretch of some length on which the state holds throughout.
+    Lit(State),
+    /// A moment at which the state becomes true.
+    Rise(State),
+    /// A moment at which the state becomes false.
+    Fall(State),
+    /// The first, and then the second.
+    Seq(Box<Expr>, Box<Expr>),
+    /// One of the two.
+    Alt(Box<Expr>, Box<Expr>),
+    /// Both, on the same stretch.
+    Meet(Box<Expr>, Box<Expr>),
+    /// Any number of times, one after another.
+    Star(Box<Expr>),
+    /// With its duration in the interval.
+    Within(Box<Expr>, Interval),
+}
+
+impl Expr {
+    /// The same expression once more. It goes as deep as the expression does.
+    pub fn try_clone(&self, alloc: Global) -> Result<Expr, AllocError>
+        ensures same { IfOk result (λ copy. tree_of copy ≡ tree_of self.now) }
+    {
+        match self {
+            Expr::Eps => Ok(Expr::Eps),
+            Expr::Lit(s) => Ok(Expr::Lit(s.try_clone(alloc)?)),
+            Expr::Rise(s) => Ok(Expr::Rise(s.try_clone(alloc)?)),
+            Expr::Fall(s) => Ok(Expr::Fall(s.try_clone(alloc)?)),
+            Expr::Seq(e, f) => {
+                let left = Box::new(alloc, e.try_clone(alloc)?)?;
+                let right = Box::new(alloc, f.try_clone(alloc)?)?;
+                Ok(Expr::Seq(left, right))
+            }
+            Expr::Alt(e, f) => {
+                let left = Box::new(alloc, e.try_clone(alloc)?)?;
+                let right = Box::new(alloc, f.try_clone(alloc)?)?;
+                Ok(Expr::Alt(left, right))
+            }
+            Expr::Meet(e, f) => {
+                let left = Box::new(alloc, e.try_clone(alloc)?)?;
+                let right = Box::new(alloc, f.try_clone(alloc)?)?;
+                Ok(Expr::Meet(left, right))
+            }
+            Expr::Star(e) => Ok(Expr::Star(Box::new(alloc, e.try_clone(alloc)?)?)),
+            Expr::Within(e, interval) => Ok(Expr::Within(
+                Box::new(alloc, e.try_clone(alloc)?)?,
+                *interval,
+            )),
+        }
+    }
+}
