@@ -1,2 +1,3 @@
 pub mod PatternTree
 pub mod Expr
+pub mod Pattern

@@ -36,6 +36,22 @@ numbers_of (intersection e f) = numbers_of e ++ numbers_of f
 numbers_of (repetition e) = numbers_of e
 numbers_of (restriction e ends) = numbers_of e
 
+-- Every proposition that an atom names has a number below the bound.
+abbrev pub AtomNumbersBelow : ℕ → Atom → Type 0
+AtomNumbersBelow bound empty = Unit {0}
+AtomNumbersBelow bound (literal s) = state.NumbersBelow bound s
+AtomNumbersBelow bound (rise s) = state.NumbersBelow bound s
+AtomNumbersBelow bound (fall s) = state.NumbersBelow bound s
+
+-- Every proposition that the expression names has a number below the bound.
+abbrev pub NumbersBelow : ℕ → PatternTree → Type 0
+NumbersBelow bound (atom x) = AtomNumbersBelow bound x
+NumbersBelow bound (sequence e f) = NumbersBelow bound e × NumbersBelow bound f
+NumbersBelow bound (alternation e f) = NumbersBelow bound e × NumbersBelow bound f
+NumbersBelow bound (intersection e f) = NumbersBelow bound e × NumbersBelow bound f
+NumbersBelow bound (repetition e) = NumbersBelow bound e
+NumbersBelow bound (restriction e ends) = NumbersBelow bound e
+
 -- How many nodes an atom has: itself, and those of its state.
 abbrev pub atom_node_count : Atom → ℕ
 atom_node_count empty = 1

@@ -13,5 +13,6 @@
 pub use expr::Expr;
 pub use pattern::{NODES_MAX, Pattern};
 
+mod count;
 mod expr;
 mod pattern;

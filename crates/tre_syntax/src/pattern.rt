@@ -1,7 +1,9 @@
-ghost use Rattle.std.specs.Prelude.{◌≡◌, ◌<◌, ◌≤◌, ◌↔◌, ℕ, length, All, IsSome, IfSome, IfOk, Some};
-ghost use Rattle.tre_syntax.specs.PatternTree.{node_count, numbers_of, IsNumbered};
+ghost use Rattle.std.specs.Prelude.{◌≡◌, ◌≤◌, ◌↔◌, length, IsSome, IfSome, IfOk};
+ghost use Rattle.tre_syntax.specs.PatternTree.{node_count, IsNumbered};
 ghost use Rattle.tre_syntax.specs.Expr.{tree_of};
+ghost use Rattle.tre_syntax.specs.declared.pattern.TheConstants.{NODES_MAX};
 
+use crate::count::{left_after, seen_after};
 use crate::expr::Expr;
 use std::alloc::{AllocError, Global};
 use tre_state::Names;
@@ -11,11 +13,72 @@ pub const NODES_MAX: u64 = 1000;
 
 /// An expression with the names of its propositions, each at the place that is its number.
 ///
-/// A pattern has at most `NODES_MAX` nodes, so what goes down its expression goes at most so deep.
+/// A pattern has at most `NODES_MAX` nodes, so whatever goes down its expression goes at most so deep.
 #[derive(Drop)]
 pub struct Pattern {
     expr: Expr,
     names: Names,
-    ghost small: { node_count (tree_of expr) ≤ 1000 },
+    ghost small: { node_count (tree_of expr) ≤ NODES_MAX },
     ghost numbered: { IsNumbered (tree_of expr) (length names) },
+    ghost few: { length names ≤ 64 },
+}
+
+impl Pattern {
+    ghost use Rattle.tre_syntax.specs.Pattern.{pattern_tree, names_of, IsPattern};
+
+    /// The pattern of an expression and the names of its propositions. None where the expression has more
+    /// than `NODES_MAX` nodes, or its numbers, by their first use from the left, aren't 0, 1 and so on up
+    /// to the count of names. However large the expression is, no more than `NODES_MAX` nodes are counted;
+    /// that one which is refused can be dropped is the caller's to see to.
+    pub fn new(expr: Expr, names: Names) -> Option<Pattern>
+        ensures some { IsSome result ↔ ((node_count (tree_of expr) ≤ NODES_MAX) × IsNumbered (tree_of expr) (length names)) }
+        ensures tree { IfSome result (λ pattern. pattern_tree pattern ≡ tree_of expr) }
+        ensures names { IfSome result (λ pattern. names_of pattern ≡ names) }
+    {
+        if left_after(&expr, NODES_MAX).is_none() {
+            return None;
+        }
+        if seen_after(&expr, 0) != Some(names.len()) {
+            return None;
+        }
+        Some(Pattern { expr, names })
+    }
+
+    /// The expression.
+    pub fn expr(&self) -> &Expr
+        ensures tree { tree_of result.now ≡ pattern_tree self.now }
+        ensures pattern { IsPattern (pattern_tree self.now) (names_of self.now) }
+    {
+        &self.expr
+    }
+
+    /// The names of the propositions.
+    pub fn names(&self) -> &Names
+        ensures names { result.now ≡ names_of self.now }
+        ensures pattern { IsPattern (pattern_tree self.now) (names_of self.now) }
+    {
+        &self.names
+    }
+
+    /// How many nodes the expression has, those of its states among them.
+    pub fn nodes(&self) -> u64
+        ensures nodes { result ≡ node_count (pattern_tree self.now) }
+        ensures limit { result ≤ NODES_MAX }
+    {
+        match left_after(&self.expr, NODES_MAX) {
+            Some(left) => NODES_MAX - left,
+            None => unreachable!(),
+        }
+    }
+
+    /// The same pattern once more.
+    pub fn try_clone(&self, alloc: Global) -> Result<Pattern, AllocError>
+        ensures tree { IfOk result (λ copy. pattern_tree copy ≡ pattern_tree self.now) }
+        ensures names { IfOk result (λ copy. names_of copy ≡ names_of self.now) }
+    {
+        Ok(Pattern {
+            expr: self.expr.try_clone(alloc)?,
+            names: self.names.try_clone()?,
+        })
+    }
 }

@@ -1,0 +1,31 @@
+use Rattle.std.proofs.Common.{◌≡◌, ◌++◌, Some, None, sym, ap, ◌∙◌, ⊎_elim}
+use Rattle.tre_state.specs.State.{tree_of}
+use Rattle.tre_state.specs.StateTree.{numbers_of}
+use Rattle.tre_syntax.specs.PatternTree.{seen_after}
+use Rattle.tre_syntax.proofs.Counts.{seen_after_both, seen_after_none}
+use Rattle.tre_syntax.proofs.count.+seen_after_state.Goals as goal
+
+pub returns-in-Some : goal.returns-in-Some
+returns-in-Some t c =
+    let left = numbers_of (tree_of c.in-And.s.value) in
+    let right = numbers_of (tree_of c.in-And.t.value) in
+    let whole : numbers_of (tree_of c.args.state.now) ≡ left ++ right =
+    ⊎_elim (ap (λ x. numbers_of (tree_of x))) (ap (λ x. numbers_of (tree_of x))) c.in-And.is in
+    let first : seen_after c.args.seen left ≡ Some c.in-Some.seen =
+    ap (λ x. seen_after c.args.seen (numbers_of (tree_of x))) (sym c.deref-in-And.ensures)
+    ∙ sym c.seen_after_state-in-And.ensures ∙ c.in-Some.is in
+    c.seen_after_state-in-Some.ensures
+    ∙ ap (λ x. seen_after c.in-Some.seen (numbers_of (tree_of x))) c.deref-in-Some.ensures
+    ∙ sym (seen_after_both c.args.seen left right c.in-Some.seen first)
+    ∙ ap (seen_after c.args.seen) (sym whole)
+
+pub returns-in-None : goal.returns-in-None
+returns-in-None t c =
+    let left = numbers_of (tree_of c.in-And.s.value) in
+    let right = numbers_of (tree_of c.in-And.t.value) in
+    let whole : numbers_of (tree_of c.args.state.now) ≡ left ++ right =
+    ⊎_elim (ap (λ x. numbers_of (tree_of x))) (ap (λ x. numbers_of (tree_of x))) c.in-And.is in
+    let first : seen_after c.args.seen left ≡ None =
+    ap (λ x. seen_after c.args.seen (numbers_of (tree_of x))) (sym c.deref-in-And.ensures)
+    ∙ sym c.seen_after_state-in-And.ensures ∙ c.in-None.is in
+    sym (seen_after_none c.args.seen left right first) ∙ ap (seen_after c.args.seen) (sym whole)
