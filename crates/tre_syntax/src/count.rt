@@ -4,8 +4,8 @@
 // however an expression is shaped, the count goes no deeper than the budget.
 
 ghost use Rattle.std.specs.Prelude.{◌≡◌, ◌+◌, ◌<◌, [], ◌∷◌, MatchOption};
-ghost use Rattle.tre_state.specs.State as state_view;
-ghost use Rattle.tre_state.specs.StateTree as state_tree;
+ghost use Rattle.tre_state.specs.State.{tree_of as state_tree_of};
+ghost use Rattle.tre_state.specs.StateTree.{node_count as state_node_count, numbers_of as state_numbers_of};
 ghost use Rattle.tre_syntax.specs.Expr.{tree_of};
 ghost use Rattle.tre_syntax.specs.PatternTree.{node_count, numbers_of, seen_after};
 
@@ -14,7 +14,8 @@ use tre_state::State;
 
 /// What is left of the budget once the nodes of the state are taken from it, None where they are more.
 fn left_after_state(state: &State, budget: u64) -> Option<u64>
-    ensures { MatchOption result (budget < state_tree.node_count (state_view.tree_of state.now)) (λ left. left + state_tree.node_count (state_view.tree_of state.now) ≡ budget) }
+    ensures { let count = state_node_count (state_tree_of state.now) in
+        MatchOption result (budget < count) (λ left. left + count ≡ budget) }
 {
     if budget == 0 {
         return None;
@@ -32,7 +33,8 @@ fn left_after_state(state: &State, budget: u64) -> Option<u64>
 
 /// The same for an expression, with the nodes of its states.
 pub fn left_after(expr: &Expr, budget: u64) -> Option<u64>
-    ensures { MatchOption result (budget < node_count (tree_of expr.now)) (λ left. left + node_count (tree_of expr.now) ≡ budget) }
+    ensures { let count = node_count (tree_of expr.now) in
+        MatchOption result (budget < count) (λ left. left + count ≡ budget) }
 {
     if budget == 0 {
         return None;
@@ -52,7 +54,7 @@ pub fn left_after(expr: &Expr, budget: u64) -> Option<u64>
 /// How many numbers were seen once the state is read from the left after `seen` others, None where it
 /// uses one out of order.
 fn seen_after_state(state: &State, seen: usize) -> Option<usize>
-    ensures { result ≡ seen_after seen (state_tree.numbers_of (state_view.tree_of state.now)) }
+    ensures { result ≡ seen_after seen (state_numbers_of (state_tree_of state.now)) }
 {
     match state {
         State::Yes => Some(seen),

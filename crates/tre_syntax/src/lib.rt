@@ -15,4 +15,5 @@ pub use pattern::{NODES_MAX, Pattern};
 
 mod count;
 mod expr;
+pub mod laws;
 mod pattern;

@@ -1,0 +1,24 @@
+-- The meaning of timed regular expressions (FORMATS 2014, section 2).
+use Rattle.std.specs.Prelude.{List}
+use Rattle.tre_pairs.specs.Pairs.{Pairs, Composed, Either, Both, Lasting, Chain}
+use Rattle.tre_trace.specs.declared.segment.Segment.{Segment}
+use Rattle.tre_zone.specs.Interval.{LastsWithin}
+use Rattle.tre_syntax.specs.PatternTree.{Atom, PatternTree, empty, atom, sequence, alternation, intersection, repetition, restriction}
+use Rattle.tre_syntax.specs.Rest.{Rest, whole, AtomMatches}
+
+-- Which pairs of times an expression matches, where it is known which of them each atom does.
+abbrev pub Meaning : (Atom → Pairs) → PatternTree → Pairs
+Meaning reading (atom x) = reading x
+Meaning reading (sequence e f) = Composed (Meaning reading e) (Meaning reading f)
+Meaning reading (alternation e f) = Either (Meaning reading e) (Meaning reading f)
+Meaning reading (intersection e f) = Both (Meaning reading e) (Meaning reading f)
+Meaning reading (repetition e) = Chain (Meaning reading e) (reading empty)
+Meaning reading (restriction e ends) = Lasting (LastsWithin ends) (Meaning reading e)
+
+-- The expression matches the stretch from a/n to b/n over a rest of a trace.
+abbrev pub MatchesRest : PatternTree → Rest → Pairs
+MatchesRest tree rest = Meaning (AtomMatches rest) tree
+
+-- The expression matches the stretch from a/n to b/n over a whole trace.
+abbrev pub Matches : PatternTree → List Segment → Pairs
+Matches tree segments = MatchesRest tree (whole segments)
