@@ -17,3 +17,5 @@ pub use state::State;
 mod name;
 mod names;
 mod state;
+#[cfg(test)]
+mod tests;
