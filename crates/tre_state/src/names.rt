@@ -34,7 +34,7 @@ impl From<AllocError> for NameFault {
 
 /// The names of propositions in the order in which they were first seen. The place of a name is its
 /// number, counted from 0.
-#[derive(Drop)]
+#[derive(Debug, Drop)]
 pub struct Names {
     names: IndexSet<String>,
 }

@@ -17,3 +17,5 @@ mod count;
 mod expr;
 pub mod laws;
 mod pattern;
+#[cfg(test)]
+mod tests;

@@ -14,7 +14,7 @@ pub const NODES_MAX: u64 = 1000;
 /// An expression with the names of its propositions, each at the place that is its number.
 ///
 /// A pattern has at most `NODES_MAX` nodes, so whatever goes down its expression goes at most so deep.
-#[derive(Drop)]
+#[derive(Debug, Drop)]
 pub struct Pattern {
     expr: Expr,
     names: Names,
