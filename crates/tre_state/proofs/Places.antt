@@ -1,7 +1,7 @@
 -- Where a list first has an element that passes a test, and what an element at its end changes.
-use Rattle.std.proofs.Common.{◌≡◌, ◌≢◌, ℕ, suc, ◌+◌, ◌<◌, ◌≤◌, Bool, true, false, cond, ◌||◌, not, List, [], ◌∷◌, ◌++◌, length, get_or, map, Option, None, Some, refl, sym, ap, ◌∙◌, subst, arith, length-append}
+use Rattle.std.proofs.Common.{◌≡◌, ◌≢◌, ℕ, suc, ◌+◌, ◌<◌, ◌≤◌, Bool, true, false, cond, ◌||◌, not, List, [], ◌∷◌, ◌++◌, length, get_or, map, None, Some, refl, sym, ap, ◌∙◌, subst, arith, length-append}
 use Rattle.std.proofs.lemmas.Bool.{false≢true}
-use Rattle.std.specs.Prelude.{String, position, nat_lt, All, AllPairs, if◌then◌else◌}
+use Rattle.std.specs.Prelude.{String, position, nat_lt, All, if◌then◌else◌}
 use Rattle.std.specs.List.{position_or_len, prefix_len, list_any, AllZip}
 use Rattle.std.specs.String.{string_bytes, string_eq}
 use Rattle.indexmap.specs.IndexSet.{insert_key}

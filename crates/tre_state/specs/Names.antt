@@ -1,5 +1,5 @@
 -- Lists of names, each with its place as its number.
-use Rattle.std.specs.Prelude.{◌≡◌, ◌≢◌, ℕ, ◌≤◌, ◌<◌, ◌++◌, List, [], ◌∷◌, Option, length, All, AllPairs, position}
+use Rattle.std.specs.Prelude.{◌≢◌, ℕ, ◌≤◌, List, Option, length, All, AllPairs, position}
 use Rattle.std.specs.Str.{bytes_eq}
 use Rattle.tre_state.specs.Name.{IsName}
 

@@ -101,8 +101,10 @@ impl Names {
         requires is_name { IsName name.now }
         ensures number { IfOk result (λ i. place_of self.new name.now ≡ Some i) }
         ensures held { IsSome (place_of self.old name.now) → IsOk result × (self.new ≡ self.old) }
-        ensures added { place_of self.old name.now ≡ None → OnOk result (self.new ≡ self.old ++ name.now ∷ []) }
-        ensures too_many { (result ≡ Err NameFault.TooMany) ↔ ((length self.old ≡ 64) × (place_of self.old name.now ≡ None)) }
+        ensures added { place_of self.old name.now ≡ None →
+            OnOk result (self.new ≡ self.old ++ name.now ∷ []) }
+        ensures too_many { (result ≡ Err NameFault.TooMany) ↔
+            ((length self.old ≡ 64) × (place_of self.old name.now ≡ None)) }
         ensures err { OnErr result (self.new ≡ self.old) }
         ensures list { IsNameList self.new }
     {
@@ -131,7 +133,8 @@ fn insert_last(names: &mut IndexSet<String>, text: &str) -> Result<u8, AllocErro
     requires room { length names.old.keys < 64 }
     requires absent { place_of (map string_bytes names.old.keys) text.now ≡ None }
     ensures place { IfOk result (λ place. place ≡ length (map string_bytes names.old.keys)) }
-    ensures ok { OnOk result (map string_bytes names.new.keys ≡ map string_bytes names.old.keys ++ text.now ∷ []) }
+    ensures ok { OnOk result (
+        map string_bytes names.new.keys ≡ map string_bytes names.old.keys ++ text.now ∷ []) }
     ensures err { OnErr result (names.new.keys ≡ names.old.keys) }
 {
     let owned = String::from_str(*names.allocator(), text)?;

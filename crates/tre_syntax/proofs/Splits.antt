@@ -8,11 +8,7 @@ use Rattle.tre_trace.specs.declared.segment.Segment.{Segment}
 use Rattle.tre_trace.specs.Literal.{HoldsBetween}
 use Rattle.tre_trace.specs.Trace.{end_of}
 use Rattle.tre_syntax.specs.PatternTree.{Atom, empty, literal, rise, fall}
-use Rattle.tre_syntax.specs.Rest.{rest_of, HasEdge, EdgeMatches, AtomMatches}
-
--- a segment of this length and valuation
-abbrev pub segment_of : ℕ → ℕ → Segment
-segment_of len val = record { len = len; val = val }
+use Rattle.tre_syntax.specs.Rest.{rest_of, segment_of, HasEdge, EdgeMatches, AtomMatches}
 
 module _ (first second val : ℕ) (back : List Segment) where
   -- the segments from the one that is cut on, and once it is cut

@@ -18,6 +18,10 @@ pub record Rest : Type 0 where
 abbrev pub rest_of : ℕ → Option ℕ → List Segment → Rest
 rest_of start before segments = record { start = start; before = before; segments = segments }
 
+-- The segment of this length and valuation.
+abbrev pub segment_of : ℕ → ℕ → Segment
+segment_of len val = record { len = len; val = val }
+
 -- A whole trace: it starts at 0, and nothing was before.
 abbrev pub whole : List Segment → Rest
 whole segments = rest_of 0 None segments

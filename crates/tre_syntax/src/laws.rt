@@ -4,7 +4,7 @@
 ghost use Rattle.std.specs.Prelude.{◌≡◌, ◌+◌, ◌*◌, ◌<◌, ◌≤◌, ◌↔◌, ◌∷◌, ◌++◌, ℕ, Option, List};
 ghost use Rattle.tre_syntax.specs.Meaning.{Matches, MatchesRest};
 ghost use Rattle.tre_syntax.specs.PatternTree.{PatternTree};
-ghost use Rattle.tre_syntax.specs.Rest.{Rest, rest_of};
+ghost use Rattle.tre_syntax.specs.Rest.{Rest, rest_of, segment_of};
 ghost use Rattle.tre_trace.specs.Trace.{end_of};
 ghost use Rattle.tre_trace.specs.declared.segment.Segment.{Segment};
 
@@ -19,38 +19,44 @@ pub fn scaling()
 
 /// A match begins no later than it ends, and lies within the rest.
 pub fn bounds()
-    ensures begin { (tree : PatternTree) (rest : Rest) (a b n : ℕ) → MatchesRest tree rest a b n → rest.start * n ≤ a }
-    ensures order { (tree : PatternTree) (rest : Rest) (a b n : ℕ) → MatchesRest tree rest a b n → a ≤ b }
-    ensures end { (tree : PatternTree) (rest : Rest) (a b n : ℕ) → MatchesRest tree rest a b n → b ≤ end_of rest.start rest.segments * n }
+    ensures begin { (tree : PatternTree) (rest : Rest) (a b n : ℕ) →
+        MatchesRest tree rest a b n → rest.start * n ≤ a }
+    ensures order { (tree : PatternTree) (rest : Rest) (a b n : ℕ) →
+        MatchesRest tree rest a b n → a ≤ b }
+    ensures end { (tree : PatternTree) (rest : Rest) (a b n : ℕ) → MatchesRest tree rest a b n →
+        b ≤ end_of rest.start rest.segments * n }
 {}
 
 /// Where a segment is cut in two with the same valuation, the meaning is unchanged.
 pub fn splitting()
-    ensures rest { (tree : PatternTree) (start : ℕ) (before : Option ℕ) (front back : List Segment) (first second val a b n : ℕ) →
-        let one : Segment = record { len = first + second; val = val } in
-        let left : Segment = record { len = first; val = val } in
-        let right : Segment = record { len = second; val = val } in
-        MatchesRest tree (rest_of start before (front ++ one ∷ back)) a b n ↔
-        MatchesRest tree (rest_of start before (front ++ left ∷ right ∷ back)) a b n }
+    ensures rest { (tree : PatternTree) (start : ℕ) (before : Option ℕ) (front back : List Segment)
+        (first second val a b n : ℕ) →
+        MatchesRest tree (rest_of start before (front ++ segment_of (first + second) val ∷ back)) a b n ↔
+        MatchesRest tree (rest_of start before
+        (front ++ segment_of first val ∷ segment_of second val ∷ back)) a b n }
     ensures whole { (tree : PatternTree) (front back : List Segment) (first second val a b n : ℕ) →
-        let one : Segment = record { len = first + second; val = val } in
-        let left : Segment = record { len = first; val = val } in
-        let right : Segment = record { len = second; val = val } in
-        Matches tree (front ++ one ∷ back) a b n ↔ Matches tree (front ++ left ∷ right ∷ back) a b n }
+        Matches tree (front ++ segment_of (first + second) val ∷ back) a b n ↔
+        Matches tree (front ++ segment_of first val ∷ segment_of second val ∷ back) a b n }
 {}
 
 /// A match stays a match when more segments follow.
 pub fn growing()
-    ensures rest { (tree : PatternTree) (start : ℕ) (before : Option ℕ) (u v : List Segment) (a b n : ℕ) →
-        MatchesRest tree (rest_of start before u) a b n → MatchesRest tree (rest_of start before (u ++ v)) a b n }
-    ensures whole { (tree : PatternTree) (u v : List Segment) (a b n : ℕ) → Matches tree u a b n → Matches tree (u ++ v) a b n }
+    ensures rest { (tree : PatternTree) (start : ℕ) (before : Option ℕ)
+        (u v : List Segment) (a b n : ℕ) →
+        MatchesRest tree (rest_of start before u) a b n →
+        MatchesRest tree (rest_of start before (u ++ v)) a b n }
+    ensures whole { (tree : PatternTree) (u v : List Segment) (a b n : ℕ) →
+        Matches tree u a b n → Matches tree (u ++ v) a b n }
 {}
 
 /// A match that ends before some of the segments begin is a match without them. One that ends just as
 /// they begin needn't be: an edge there is known only once they are.
 pub fn cutting_off()
-    ensures rest { (tree : PatternTree) (start : ℕ) (before : Option ℕ) (u v : List Segment) (a b n : ℕ) → b < end_of start u * n →
-        MatchesRest tree (rest_of start before (u ++ v)) a b n → MatchesRest tree (rest_of start before u) a b n }
+    ensures rest { (tree : PatternTree) (start : ℕ) (before : Option ℕ)
+        (u v : List Segment) (a b n : ℕ) →
+        b < end_of start u * n →
+        MatchesRest tree (rest_of start before (u ++ v)) a b n →
+        MatchesRest tree (rest_of start before u) a b n }
     ensures whole { (tree : PatternTree) (u v : List Segment) (a b n : ℕ) → b < end_of 0 u * n →
         Matches tree (u ++ v) a b n → Matches tree u a b n }
 {}

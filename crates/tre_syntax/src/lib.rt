@@ -3,7 +3,7 @@
 //! The central type is `Pattern`: an expression with the names of its propositions, of at most 1,000
 //! nodes. The layers above may rely on the tree that an expression is seen as, on what a pattern always
 //! is, and on the meaning: `Matches tree segments a b n` says that the stretch of a trace from a/n to
-//! b/n is in the expression. The meaning's laws stand in `laws`, each as a function whose contract it is.
+//! b/n is in the expression. Its laws stand in `laws`, each as the contract of a function.
 //!
 //! ```text
 //! Pattern::new(Expr::Seq(p, q), names)     the pattern `p;q`

@@ -26,12 +26,14 @@ pub struct Pattern {
 impl Pattern {
     ghost use Rattle.tre_syntax.specs.Pattern.{pattern_tree, names_of, IsPattern};
 
-    /// The pattern of an expression and the names of its propositions. None where the expression has more
-    /// than `NODES_MAX` nodes, or its numbers, by their first use from the left, aren't 0, 1 and so on up
-    /// to the count of names. However large the expression is, no more than `NODES_MAX` nodes are counted;
-    /// that one which is refused can be dropped is the caller's to see to.
+    /// The pattern of an expression and the names of its propositions.
+    ///
+    /// None where the expression has more than `NODES_MAX` nodes, or where its numbers, by their first
+    /// use from the left, aren't 0, 1 and so on up to the count of names. No more than `NODES_MAX` nodes
+    /// are looked at. A refused expression is dropped, which goes as deep as the expression does.
     pub fn new(expr: Expr, names: Names) -> Option<Pattern>
-        ensures some { IsSome result ↔ ((node_count (tree_of expr) ≤ NODES_MAX) × IsNumbered (tree_of expr) (length names)) }
+        ensures some { IsSome result ↔
+            ((node_count (tree_of expr) ≤ NODES_MAX) × IsNumbered (tree_of expr) (length names)) }
         ensures tree { IfSome result (λ pattern. pattern_tree pattern ≡ tree_of expr) }
         ensures names { IfSome result (λ pattern. names_of pattern ≡ names) }
     {
