@@ -1,4 +1,4 @@
-ghost use Rattle.std.specs.Prelude.{◌≡◌, List, [], ◌∷◌, ◌++◌, IfErr, OnOk, OnErr};
+ghost use Rattle.std.specs.Prelude.{◌≡◌, ◌+◌, List, [], ◌∷◌, ◌++◌, IfErr, OnOk, OnErr};
 
 use crate::{PushFault, Segment};
 use std::alloc::Global;
@@ -29,7 +29,8 @@ impl Trace {
 
     /// The trace of no segments.
     pub fn new(alloc: Global) -> Self
-        ensures { result ≡ [] }
+        ensures empty { result ≡ [] }
+        ensures trace { IsTrace result }
     {
         Trace {
             segments: Vec::new(alloc),
@@ -41,6 +42,7 @@ impl Trace {
     pub fn push(&mut self, segment: Segment) -> Result<(), PushFault>
         ensures pushed { OnOk result (self.new ≡ self.old ++ segment ∷ []) }
         ensures fits { OnOk result (Fits self.old segment) }
+        ensures ends { OnOk result (end_of 0 self.new ≡ end_of 0 self.old + segment.len) }
         ensures trace { IsTrace self.new }
 
         // Each fault comes exactly where it says, and the trace is unchanged after it.

@@ -1,0 +1,10 @@
+pub mod Cuts
+pub mod Digits
+pub mod Entries
+pub mod Inputs
+pub mod Lines
+pub mod Literals
+pub mod Outcomes
+pub mod Promise
+pub mod SpanLists
+pub mod Words

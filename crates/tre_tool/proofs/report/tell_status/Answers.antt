@@ -1,0 +1,22 @@
+use Rattle.std.proofs.Common.{append_assoc}
+use Rattle.tre_tool.proofs.report.tell_status.Goals as goal
+
+pub returns-in-Expression-clause-line : goal.returns-in-Expression-clause-line
+returns-in-Expression-clause-line g c =
+    rw c.in-Expression.is (simp append_assoc (rw c.parse_fault_name-name.ensures at c.put_pieces-in-Expression.ensures.all))
+
+pub returns-in-Trace-clause-line : goal.returns-in-Trace-clause-line
+returns-in-Trace-clause-line g c =
+    rw c.in-Trace.is (simp append_assoc (rw (c.kind_name-name.ensures, c.format-place.ensures.text) at c.put_pieces-in-Trace.ensures.all))
+
+pub returns-in-InputTooLong-clause-line : goal.returns-in-InputTooLong-clause-line
+returns-in-InputTooLong-clause-line g c = rw c.in-InputTooLong.is c.put_pieces-in-InputTooLong.ensures.all
+
+pub returns-in-ReadFault-clause-line : goal.returns-in-ReadFault-clause-line
+returns-in-ReadFault-clause-line g c = rw c.in-ReadFault.is c.put_pieces-in-ReadFault.ensures.all
+
+pub returns-in-WriteFault-clause-line : goal.returns-in-WriteFault-clause-line
+returns-in-WriteFault-clause-line g c = rw c.in-WriteFault.is c.put_pieces-in-WriteFault.ensures.all
+
+pub returns-in-Memory-clause-line : goal.returns-in-Memory-clause-line
+returns-in-Memory-clause-line g c = rw c.in-Memory.is c.put_pieces-in-Memory.ensures.all

@@ -1,0 +1,33 @@
+//! One run of Montre, from the words of a command line and the bytes of an input to the bytes of an
+//! output.
+//!
+//! The central call is [`run`]: its clauses are the promise of a run, over any source and sinks, and
+//! the program `montre` makes it over the system's own. [`read_words`] reads the words into a [`Job`],
+//! and [`Status`] is how a run ends, with its code and its line on standard error. The pattern, the
+//! text of a trace and the printed zones have their definitions in specs/.
+//!
+//! ```text
+//! let status = run(alloc, &words, &mut input, &mut out, &mut err);
+//! ```
+#![tactic(auto)]
+
+mod answer;
+mod input;
+mod job;
+mod line;
+mod literal;
+mod matching;
+mod output;
+mod report;
+mod runs;
+mod status;
+mod text;
+
+pub use job::{Job, MAX_BYTES, Word, WordsFault, read_words};
+pub use literal::{Literal, ParseFault, read_literal};
+pub use matching::run;
+pub use report::tell_status;
+pub use status::Status;
+
+#[cfg(test)]
+mod tests;

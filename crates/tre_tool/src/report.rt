@@ -1,0 +1,71 @@
+ghost use Rattle.std.specs.Prelude.{◌≡◌, List, flat_map, OnOk};
+ghost use Rattle.std.specs.Io.KnownBytes.{Appends};
+ghost use Rattle.tre_io.specs.Faults.{HasCause};
+ghost use Rattle.tre_tool.specs.Status.{kind_name, parse_fault_name, error_line};
+
+use crate::{ParseFault, Status};
+use itoa::Buffer;
+use tre_io::{Failed, Sink, put_all};
+use tre_trace::TraceKind;
+
+fn kind_name(kind: TraceKind) -> &'static str
+    ensures { result.now ≡ kind_name kind }
+{
+    match kind {
+        TraceKind::LineTooLong => "LineTooLong",
+        TraceKind::BadNumber => "BadNumber",
+        TraceKind::Zero => "Zero",
+        TraceKind::TooLate => "TooLate",
+        TraceKind::BadName => "BadName",
+        TraceKind::BadToken => "BadToken",
+        TraceKind::UnknownName => "UnknownName",
+        TraceKind::TimeBack => "TimeBack",
+        TraceKind::CutShort => "CutShort",
+        TraceKind::Spent => "Spent",
+        TraceKind::Memory => "Memory",
+    }
+}
+
+fn parse_fault_name(fault: ParseFault) -> &'static str
+    ensures { result.now ≡ parse_fault_name fault }
+{
+    match fault {
+        ParseFault::Syntax => "Syntax",
+        ParseFault::Memory => "Memory",
+    }
+}
+
+fn put_pieces<E: Sink>(err: &mut E, pieces: &[&str]) -> Result<(), Failed>
+    ensures all { OnOk result (Appends (E.written err.old) (E.written err.new) (flat_map (λ piece. piece.now) pieces.now)) }
+    ensures cause { HasCause (E.faults err.old) (E.faults err.new) result }
+{
+    for piece in pieces {
+        put_all(err, piece.as_bytes())?;
+    }
+    Ok(())
+}
+
+/// Tells standard error how the run ended. It takes no memory: the line goes out piece by piece.
+pub fn tell_status<E: Sink>(status: &Status, err: &mut E) -> Result<(), Failed>
+    ensures line { OnOk result (Appends (E.written err.old) (E.written err.new) (error_line status.now)) }
+    ensures cause { HasCause (E.faults err.old) (E.faults err.new) result }
+{
+    match status {
+        Status::Done => Ok(()),
+        Status::Usage => put_pieces(err, &["montre: wrong arguments\n"]),
+        Status::Expression(fault) => {
+            let name = parse_fault_name(*fault);
+            put_pieces(err, &["montre: expression: ", name, "\n"])
+        }
+        Status::Trace(fault) => {
+            let mut buffer = Buffer::new();
+            let place = buffer.format(fault.place);
+            let name = kind_name(fault.kind);
+            put_pieces(err, &["montre: trace: ", name, " at ", place, "\n"])
+        }
+        Status::InputTooLong => put_pieces(err, &["montre: input too long\n"]),
+        Status::ReadFault => put_pieces(err, &["montre: read fault\n"]),
+        Status::WriteFault => put_pieces(err, &["montre: write fault\n"]),
+        Status::Memory => put_pieces(err, &["montre: out of memory\n"]),
+    }
+}
