@@ -1,0 +1,4 @@
+pub mod Composing
+pub mod Sums
+pub mod Reaching
+pub mod Chaining
