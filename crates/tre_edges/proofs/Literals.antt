@@ -1,0 +1,76 @@
+-- A literal over segments: what one more segment does to the stretches on which it holds.
+use Rattle.std.proofs.Common.{ℕ, ◌+◌, ◌*◌, ◌<◌, ◌≤◌, ◌↔◌, ◌⊎◌, List, [], ◌∷◌, arith, inl, inr, ⊎_elim}
+use Rattle.std.proofs.lemmas.Bool.{cases_lt}
+use Rattle.std.proofs.Math.Nat.{mul-le-mul_right}
+use Rattle.tre_trace.specs.declared.segment.Segment.{Segment}
+use Rattle.tre_trace.specs.Trace.{end_of}
+use Rattle.tre_trace.specs.Literal.{HoldsBetween, LiteralMatches}
+use Rattle.tre_zone.specs.Zone.{IsInSpan}
+use Rattle.tre_syntax.proofs.Atoms.{end_of-le}
+
+-- A stretch of the literal that begins at `begin` or later, where it has held from there until `start` and the rest
+-- begins.
+pub record HoldsFrom (P : ℕ → Type 0) (begin start : ℕ) (rest : List Segment) (a b n : ℕ) : Type 0 where
+  pub starts : begin * n ≤ a
+  pub lasts : a < b
+  pub ends : b ≤ end_of start rest * n
+  pub throughout : HoldsBetween P start rest a b n
+
+-- later segments have no moment before b
+vacuous : (P : ℕ → Type 0) (start : ℕ) (rest : List Segment) (a b n : ℕ) → b ≤ start * n → HoldsBetween P start rest a b n
+vacuous P start [] a b n over = tt
+vacuous P start (segment ∷ rest) a b n over =
+    let later : start * n ≤ (start + segment.len) * n = mul-le-mul_right n (omega arith) in
+    (λ before _. absurd (omega (arith, over, before)), vacuous P (start + segment.len) rest a b n (omega (arith, over, later)))
+
+pub HoldsFrom-literal : (P : ℕ → Type 0) (segments : List Segment) (a b n : ℕ) → LiteralMatches P 0 segments a b n ↔ HoldsFrom P 0 0 segments a b n
+HoldsFrom-literal P segments a b n = (
+  λ h. record { starts = h.begin; lasts = h.some_time; ends = h.end; throughout = h.throughout },
+  λ h. record { begin = h.starts; some_time = h.lasts; end = h.ends; throughout = h.throughout },
+)
+
+-- a segment on which it holds makes the stretch longer
+pub HoldsFrom-true : (P : ℕ → Type 0) (begin start : ℕ) (segment : Segment) (rest : List Segment) (a b n : ℕ) → P segment.val
+    → HoldsFrom P begin start (segment ∷ rest) a b n ↔ HoldsFrom P begin (start + segment.len) rest a b n
+HoldsFrom-true P begin start segment rest a b n holds = (
+  λ h. record { starts = h.starts; lasts = h.lasts; ends = h.ends; throughout = h.throughout.1 },
+  λ h. record { starts = h.starts; lasts = h.lasts; ends = h.ends; throughout = (λ _ _. holds, h.throughout) },
+)
+
+-- one on which it doesn't ends the stretch, and another may begin behind it
+pub HoldsFrom-false : (P : ℕ → Type 0) (begin start : ℕ) (segment : Segment) (rest : List Segment) (a b n : ℕ) → begin ≤ start → ¬ P segment.val
+    → HoldsFrom P begin start (segment ∷ rest) a b n ↔ (IsInSpan begin start a b n ⊎ HoldsFrom P (start + segment.len) (start + segment.len) rest a b n)
+HoldsFrom-false P begin start segment rest a b n order fails =
+    let here = start * n in
+    let next = (start + segment.len) * n in
+    let mono : here ≤ next = mul-le-mul_right n (omega arith) in
+    let first : begin * n ≤ here = mul-le-mul_right n order in (
+      λ h. ⊎_elim
+          (λ late. ⊎_elim
+          (λ inside. absurd (fails (h.throughout.0 late inside)))
+          (λ behind. inr (record { starts = behind; lasts = h.lasts; ends = h.ends; throughout = h.throughout.1 }))
+          (cases_lt a next))
+          (λ early. inl (record { starts = h.starts; lasts = h.lasts; ends = early }))
+          (cases_lt here b),
+      λ h. ⊎_elim
+          (λ span. record {
+            starts = span.starts;
+            lasts = span.lasts;
+            ends = omega (arith, span.ends, mul-le-mul_right n (end_of-le start (segment ∷ rest)));
+            throughout = vacuous P start (segment ∷ rest) a b n span.ends;
+          })
+          (λ more. record {
+            starts = omega (arith, first, mono, more.starts);
+            lasts = more.lasts;
+            ends = more.ends;
+            throughout = (λ _ inside. absurd (omega (arith, more.starts, inside)), more.throughout);
+          })
+          h,
+    )
+
+-- at the end there is no more
+pub HoldsFrom-end : (P : ℕ → Type 0) (begin start : ℕ) (a b n : ℕ) → HoldsFrom P begin start [] a b n ↔ IsInSpan begin start a b n
+HoldsFrom-end P begin start a b n = (
+  λ h. record { starts = h.starts; lasts = h.lasts; ends = h.ends },
+  λ h. record { starts = h.starts; lasts = h.lasts; ends = h.ends; throughout = tt },
+)

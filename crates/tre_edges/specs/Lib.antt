@@ -1,0 +1,4 @@
+pub mod Ends
+pub mod Runs
+pub mod Instants
+pub mod Truth
