@@ -1,0 +1,19 @@
+//! The matches of a pattern over a whole trace, as a set of zones.
+//!
+//! [`matches`] holds a pair of times exactly where the stretch between them is in the pattern's
+//! expression, at every denominator, and none of its zones is included in another. It goes up the
+//! expression once, and each operator is one exact call of the layers below: `;` composes, `|` joins,
+//! `&` meets, `*` closes, `%` restricts. The layers above may rely on every pair, and on nothing of
+//! the order of the zones.
+//!
+//! ```
+//! let zones = matches(alloc, &pattern, &trace)?;
+//! let whole = zones.holds(0, trace.end(), 1);
+//! ```
+#![tactic(auto)]
+
+pub use matching::matches;
+
+mod matching;
+#[cfg(test)]
+mod tests;

@@ -1,0 +1,299 @@
+ghost use Rattle.std.specs.Prelude.{◌^◌};
+ghost use Rattle.tre_zone.specs.Bound.{IsValueWithin};
+
+use crate::matches;
+use std::alloc::{AllocError, Global};
+use std::test::Fail;
+use tre_state::{Names, State, is_name};
+use tre_syntax::{Expr, Pattern};
+use tre_trace::{Segment, Trace};
+use tre_zone::{Bound, Interval, Zone, ZoneBounds};
+use tre_zoneset::ZoneSet;
+
+/// The keys of a zone, in the order of its bounds.
+type Keys = [i8; 6];
+
+/// The lengths and valuations of segments. On a valuation of 1 p is true, of 2 q, of 3 both.
+type Lengths<'a> = &'a [(u64, u64)];
+
+/// `[0,1) (0,1] (0,1]`
+const UNIT: Keys = [1, 2, 0, 3, 0, 3];
+/// `[5,9) (5,9] (0,4]`
+const LAST_OF_BOTH: Keys = [-9, 18, -10, 19, 0, 9];
+/// `[0,3) (3,9] (0,9]`
+const FOLLOWS: Keys = [1, 6, -6, 19, 0, 19];
+/// `[0,1] [0,1] [0,0]`
+const MOMENTS: Keys = [1, 3, 1, 3, 1, 1];
+/// `3 p / 2 q / 4 p q`
+const BOTH: [(u64, u64); 3] = [(3, 1), (2, 2), (4, 3)];
+
+/// `1 p / 1 q`
+const TURNS: [(u64, u64); 2] = [(1, 1), (1, 2)];
+/// `10 / 2 p / 3 / 1 q / 4`
+const BUS: [(u64, u64); 5] = [(10, 0), (2, 1), (3, 0), (1, 2), (4, 0)];
+/// `[0,0] [3,3] [3,3]`, `[0,1] [2,3] [2,2]`, `[0,2] [1,3] [1,1]`, `[0,3] [0,3] [0,0]`
+const TICKS: [Keys; 4] = [
+    [1, 1, -5, 7, -5, 7],
+    [1, 3, -3, 7, -3, 5],
+    [1, 5, -1, 7, -1, 3],
+    [1, 7, 1, 7, 1, 1],
+];
+
+fn bound(key: i8) -> Bound
+    ensures { IsValueWithin (2 ^ 42) result }
+{
+    let c = i64::from(key) >> 1;
+    if key & 1 == 1 {
+        Bound::weak(c)
+    } else {
+        Bound::strict(c)
+    }
+}
+
+fn zone(keys: &Keys) -> Option<Zone> {
+    Zone::new(&ZoneBounds {
+        begin_low: bound(keys[0]),
+        begin_high: bound(keys[1]),
+        end_low: bound(keys[2]),
+        end_high: bound(keys[3]),
+        dur_low: bound(keys[4]),
+        dur_high: bound(keys[5]),
+    })
+}
+
+/// Whether the set has exactly the zones of the rows, no two of which are the same, in any order.
+fn is(set: &ZoneSet, rows: &[Keys]) -> bool {
+    let zones = set.zones();
+    zones.len() == rows.len() && rows.iter().all(|keys| has(zones, keys))
+}
+
+fn has(zones: &[Zone], keys: &Keys) -> bool {
+    zones.iter().any(|member| zone(keys) == Some(*member))
+}
+
+/// The matches of the expression, which names as many of p and q.
+fn found(alloc: Global, case: Case, count: usize, lengths: Lengths) -> Result<ZoneSet, Fail> {
+    let mut names = Names::new(alloc);
+    for name in ["p", "q"].into_iter().take(count) {
+        if is_name(name) {
+            names.number(name)?;
+        }
+    }
+    let pattern = Pattern::new(expr(alloc, case)?, names).ok_or("no pattern")?;
+    let mut trace = Trace::new(alloc);
+    for (len, val) in lengths {
+        trace.push(Segment {
+            len: *len,
+            val: *val,
+        })?;
+    }
+    let found = matches(alloc, &pattern, &trace)?;
+    Ok(found)
+}
+
+/// The expressions of the rows.
+#[derive(Clone, Copy, Debug)]
+enum Case {
+    Eps,
+    /// `p;p`
+    Twice,
+    /// `p;q`
+    Follows,
+    /// `p|q`
+    Either,
+    /// `{p || q}`
+    EitherState,
+    /// `p & q`
+    Both,
+    /// `p % (1,2)`
+    Short,
+    /// `<:p:>`
+    Pulse,
+    /// `<:p:> ; (!q % [1,4]) ; rise(q)`: p asks, and q answers within four ticks.
+    Answered,
+    /// `(p % [1,1])*`
+    Ticks,
+    /// `eps*`
+    Moments,
+    /// `(p*)*`
+    Nested,
+    /// `(p;fall(p)) & {p}`
+    Falling,
+}
+
+fn expr(alloc: Global, case: Case) -> Result<Expr, Fail> {
+    let expr = match case {
+        Case::Eps => Expr::Eps,
+        Case::Twice => sequence(alloc, p(), p())?,
+        Case::Follows => sequence(alloc, p(), q())?,
+        Case::Either => either(alloc, p(), q())?,
+        Case::EitherState => either_state(alloc)?,
+        Case::Both => both(alloc, p(), q())?,
+        Case::Short => within(alloc, p(), 1, 2, false)?,
+        Case::Pulse => pulse(alloc)?,
+        Case::Answered => answered(alloc)?,
+        Case::Ticks => star(alloc, within(alloc, p(), 1, 1, true)?)?,
+        Case::Moments => star(alloc, Expr::Eps)?,
+        Case::Nested => star(alloc, star(alloc, p())?)?,
+        Case::Falling => falling(alloc)?,
+    };
+    Ok(expr)
+}
+
+fn p() -> Expr {
+    Expr::Lit(State::Prop(0))
+}
+
+fn q() -> Expr {
+    Expr::Lit(State::Prop(1))
+}
+
+fn sequence(alloc: Global, first: Expr, second: Expr) -> Result<Expr, AllocError> {
+    let first = Box::new(alloc, first)?;
+    let second = Box::new(alloc, second)?;
+    Ok(Expr::Seq(first, second))
+}
+
+fn either(alloc: Global, one: Expr, other: Expr) -> Result<Expr, AllocError> {
+    let one = Box::new(alloc, one)?;
+    let other = Box::new(alloc, other)?;
+    Ok(Expr::Alt(one, other))
+}
+
+fn both(alloc: Global, one: Expr, other: Expr) -> Result<Expr, AllocError> {
+    let one = Box::new(alloc, one)?;
+    let other = Box::new(alloc, other)?;
+    Ok(Expr::Meet(one, other))
+}
+
+fn star(alloc: Global, expr: Expr) -> Result<Expr, AllocError> {
+    Ok(Expr::Star(Box::new(alloc, expr)?))
+}
+
+/// The expression with a duration in the interval, whose ends both belong to it, or both don't.
+fn within(alloc: Global, expr: Expr, low: u8, high: u8, weak: bool) -> Result<Expr, Fail> {
+    let interval = Interval::new(u64::from(low), weak, Some(u64::from(high)), weak).ok_or(
+        "no interval",
+    )?;
+    let expr = Box::new(alloc, expr)?;
+    Ok(Expr::Within(expr, interval))
+}
+
+/// `<:p:>`
+fn pulse(alloc: Global) -> Result<Expr, AllocError> {
+    let begin = sequence(alloc, Expr::Rise(State::Prop(0)), p())?;
+    sequence(alloc, begin, Expr::Fall(State::Prop(0)))
+}
+
+/// `{p || q}`
+fn either_state(alloc: Global) -> Result<Expr, AllocError> {
+    let one = Box::new(alloc, State::Prop(0))?;
+    let other = Box::new(alloc, State::Prop(1))?;
+    Ok(Expr::Lit(State::Or(one, other)))
+}
+
+/// `<:p:> ; (!q % [1,4]) ; rise(q)`: p asks, and q answers within four ticks.
+fn answered(alloc: Global) -> Result<Expr, Fail> {
+    let quiet = Expr::Lit(State::Not(Box::new(alloc, State::Prop(1))?));
+    let wait = within(alloc, quiet, 1, 4, true)?;
+    let asked = sequence(alloc, pulse(alloc)?, wait)?;
+    let whole = sequence(alloc, asked, Expr::Rise(State::Prop(1)))?;
+    Ok(whole)
+}
+
+/// `(p;fall(p)) & {p}`
+fn falling(alloc: Global) -> Result<Expr, AllocError> {
+    let ends = sequence(alloc, p(), Expr::Fall(State::Prop(0)))?;
+    both(alloc, ends, p())
+}
+
+#[test]
+fn matches_are_the_zones(rt: HostRuntime) -> Result<(), Fail> {
+    let table = [
+        (Case::Eps, 0, [].as_slice(), [[1, 1, 1, 1, 1, 1]].as_slice()),
+        (Case::Twice, 1, [(1, 1)].as_slice(), [UNIT].as_slice()),
+        (
+            Case::Follows,
+            2,
+            BOTH.as_slice(),
+            [FOLLOWS, LAST_OF_BOTH].as_slice(),
+        ),
+        (
+            Case::Short,
+            1,
+            [(3, 1)].as_slice(),
+            [[1, 4, -2, 7, -2, 4]].as_slice(),
+        ),
+        (
+            Case::Pulse,
+            1,
+            [(2, 0), (3, 1), (1, 0)].as_slice(),
+            [[-3, 5, -9, 11, -5, 7]].as_slice(),
+        ),
+        (Case::Pulse, 1, [(3, 1)].as_slice(), [].as_slice()),
+        (Case::Ticks, 1, [(3, 1)].as_slice(), TICKS.as_slice()),
+        (Case::Moments, 0, [(1, 1)].as_slice(), [MOMENTS].as_slice()),
+        (
+            Case::Nested,
+            1,
+            [(1, 1)].as_slice(),
+            [UNIT, MOMENTS].as_slice(),
+        ),
+        (
+            Case::EitherState,
+            2,
+            TURNS.as_slice(),
+            [[1, 4, 0, 5, 0, 5]].as_slice(),
+        ),
+        (
+            Case::Either,
+            2,
+            TURNS.as_slice(),
+            [UNIT, [-1, 4, -2, 5, 0, 3]].as_slice(),
+        ),
+        (Case::Both, 2, BOTH.as_slice(), [LAST_OF_BOTH].as_slice()),
+        (
+            Case::Answered,
+            2,
+            BUS.as_slice(),
+            [[-19, 21, -29, 31, -9, 11]].as_slice(),
+        ),
+    ];
+    for (case, count, lengths, zones) in table {
+        let found = found(rt.alloc(), case, count, lengths)?;
+        assert!(rt; is(&found, zones), "{case:?}");
+    }
+    Ok(())
+}
+
+#[test]
+fn matches_hold_the_pairs(rt: HostRuntime) -> Result<(), Fail> {
+    let table = [
+        // The moment between p and p is no whole number.
+        (Case::Twice, 1, [(1, 1)].as_slice(), (0, 1, 1), true),
+        (Case::Twice, 1, [(1, 1)].as_slice(), (0, 3, 2), false),
+        // p and then q is one stretch of {p || q}, and none of p|q.
+        (Case::EitherState, 2, TURNS.as_slice(), (0, 2, 1), true),
+        (Case::Either, 2, TURNS.as_slice(), (0, 2, 1), false),
+        // The edge at which p ends belongs to the match.
+        (
+            Case::Falling,
+            1,
+            [(2, 1), (1, 0)].as_slice(),
+            (0, 2, 1),
+            true,
+        ),
+        (
+            Case::Falling,
+            1,
+            [(2, 1), (1, 0)].as_slice(),
+            (0, 1, 1),
+            false,
+        ),
+    ];
+    for (case, count, lengths, (a, b, n), want) in table {
+        let found = found(rt.alloc(), case, count, lengths)?;
+        assert_eq!(rt; n > 0 && found.holds(a, b, n), want, "{case:?} {a} {b}");
+    }
+    Ok(())
+}
