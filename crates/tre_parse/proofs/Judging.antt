@@ -1,0 +1,162 @@
+-- Which outcome each step of parsing comes to.
+use Rattle.std.proofs.Common.{◌≡◌, ℕ, ◌<◌, ◌≤◌, Bool, true, false, Option, Some, None, Ok, Err, List, length, ◌⊎◌, inl, inr, refl, sym, ◌∙◌, ap, subst, arith}
+use Rattle.std.specs.Prelude.{Result, MatchOption, nat_lt, min, if◌then◌else◌}
+use Rattle.std.specs.Option.{option_map}
+use Rattle.std.proofs.lemmas.Bool.Decides.{nat_tests}
+use Rattle.tre_syntax.specs.declared.pattern.Pattern.{Pattern}
+use Rattle.tre_syntax.specs.Pattern.{pattern_tree, names_of}
+use Rattle.tre_syntax.specs.PatternTree.{PatternTree, node_count}
+use Rattle.tre_parse.specs.declared.fault.ParseFault.{ParseFault}
+use Rattle.tre_parse.specs.declared.fault.ParseFault.TheVariants.{TooLong, BadByte, Number, Syntax, EmptyInterval, TooManyNames, TooLarge, Memory}
+use Rattle.tre_parse.specs.declared.operand.Operand.{Operand}
+use Rattle.tre_parse.specs.declared.scan.Scan.{Scan}
+use Rattle.tre_parse.specs.Grammar.{expr}
+use Rattle.tre_parse.specs.Machine.{read_from, start}
+use Rattle.tre_parse.specs.Places.{EndGives}
+use Rattle.tre_parse.specs.Tokens.{earlier, bad_byte}
+use Rattle.tre_parse.specs.Scan.{IsScan, IsBadByte}
+use Rattle.tre_parse.specs.Numbering.{IsNumberedByUse}
+use Rattle.tre_parse.specs.Outcome.{Outcome, spelt, refused, Words, words_of, offset_of, byte_fault, limit_fault, IsFirstEmpty, NoneEmpty, past_or, verdict, IsRead, IsOutcomeOfWords, IsOutcome}
+use Rattle.tre_parse.specs.Answers.{Answers, IsAnswered, words_in, IsWhole, IsBuildable}
+use Rattle.tre_parse.proofs.Completeness.{read_spelt}
+use Rattle.tre_parse.proofs.Soundness.{spelt_read}
+use Rattle.tre_parse.proofs.Numbers.{counts_alike}
+use Rattle.tre_parse.proofs.NumberedWords.{text_numbered}
+use Rattle.tre_parse.proofs.Fine.{none_big, stand_fine, fine_intervals}
+use Rattle.tre_parse.proofs.Outcomes.{outcome_once}
+
+along_none : (made : Option ParseFault) (P : Type 0) (Q : ParseFault → Type 0) → made ≡ None → P → MatchOption made P Q
+along_none made P Q e h = let R = λ (m : Option ParseFault). MatchOption m P Q in subst R (sym e) h
+
+along_some : (made : Option ParseFault) (fault : ParseFault) (P : Type 0) (Q : ParseFault → Type 0) → made ≡ Some fault → Q fault → MatchOption made P Q
+along_some made fault P Q e h = let R = λ (m : Option ParseFault). MatchOption m P Q in subst R (sym e) h
+
+pub read_outcome : (words : Words) (outcome : Outcome) → limit_fault words ≡ None → IsRead words outcome → IsOutcomeOfWords words outcome
+read_outcome words outcome e h = along_none (limit_fault words) _ _ e h
+
+pub limit_outcome : (words : Words) (fault : ParseFault) → limit_fault words ≡ Some fault → IsOutcomeOfWords words (refused fault)
+limit_outcome words fault e = along_some (limit_fault words) fault _ _ e refl
+
+-- Tokens that are not read to an end spell no expression.
+unread : (words : Words) → read_from words.tokens start ≡ None → IsRead words (refused Syntax)
+unread words e = inl ((λ tree h. let q = read_spelt words.tokens tree h in (cc)), refl)
+
+pub read_fails : (words : Words) (fault : ParseFault) → limit_fault words ≡ None → EndGives (Err fault) (read_from words.tokens start) → (fault ≡ Memory) ⊎ IsOutcomeOfWords words (refused fault)
+read_fails words fault e (inl h) = inl h
+read_fails words fault e (inr h) =
+    let P = λ (f : ParseFault). IsOutcomeOfWords words (refused f) in
+    inr (subst P (sym h.0) (read_outcome words (refused Syntax) e (unread words h.1)))
+
+whole_from : (words : Words) (operand : Operand) (made : Option PatternTree) → read_from words.tokens start ≡ made → EndGives (Ok operand) made → IsWhole words operand
+whole_from words operand None e h = absurd h
+whole_from words operand (Some tree) e h = record { tree = tree; spells = spelt_read words.tokens tree e; stands = h }
+
+pub is_whole : (words : Words) (operand : Operand) → EndGives (Ok operand) (read_from words.tokens start) → IsWhole words operand
+is_whole words operand h = whole_from words operand (read_from words.tokens start) refl h
+
+-- The limits of an expression that is spelt.
+pub empty_outcome : (words : Words) (operand : Operand) (place : ℕ) → limit_fault words ≡ None → IsWhole words operand → IsFirstEmpty words.tokens place →
+    IsOutcomeOfWords words (refused (EmptyInterval (offset_of words place)))
+empty_outcome words operand place e w h = read_outcome words _ e (inr (w.tree, w.spells, inl (place, h, refl)))
+
+judged : (words : Words) (operand : Operand) (outcome : Outcome) → limit_fault words ≡ None → (w : IsWhole words operand) → NoneEmpty words.tokens → outcome ≡ verdict words w.tree → IsOutcomeOfWords words outcome
+judged words operand outcome e w h q = read_outcome words outcome e (inr (w.tree, w.spells, inr (h, q)))
+
+pub past_outcome : (words : Words) (operand : Operand) (at : ℕ) → limit_fault words ≡ None → IsWhole words operand → NoneEmpty words.tokens → words.past ≡ Some at →
+    IsOutcomeOfWords words (refused (TooManyNames at))
+past_outcome words operand at e w h q =
+    judged words operand (refused (TooManyNames at)) e w h
+    (sym (ap (λ past. past_or past (if nat_lt 1000 (node_count w.tree) then refused (TooLarge (min (node_count w.tree) 1000000000)) else spelt w.tree words.names)) q))
+
+size_large : (is : Bool) (n : ℕ) (whole : Outcome) → nat_lt 1000 n ≡ is → 1000 < n → (if is then refused (TooLarge (min n 1000000000)) else whole) ≡ refused (TooLarge (min n 1000000000))
+size_large true n whole t lt = refl
+size_large false n whole t lt = absurd (grind (arith, nat_tests))
+
+size_small : (is : Bool) (n : ℕ) (large whole : Outcome) → nat_lt 1000 n ≡ is → n ≤ 1000 → (if is then large else whole) ≡ whole
+size_small true n large whole t le = absurd (grind (arith, nat_tests))
+size_small false n large whole t le = refl
+
+pub large_outcome : (words : Words) (operand : Operand) (nodes : ℕ) → limit_fault words ≡ None → (w : IsWhole words operand) → NoneEmpty words.tokens → words.past ≡ None → nodes ≡ operand.nodes → 1000 < nodes →
+    IsOutcomeOfWords words (refused (TooLarge nodes))
+large_outcome words operand nodes e w h q same lt =
+    let count = w.stands.nodes in
+    judged words operand (refused (TooLarge nodes)) e w h
+    (ap (λ n. refused (TooLarge n)) (same ∙ count)
+    ∙ sym (size_large (nat_lt 1000 (node_count w.tree)) (node_count w.tree) (spelt w.tree words.names) refl (omega (arith, count)))
+    ∙ sym (ap (λ past. past_or past (if nat_lt 1000 (node_count w.tree) then refused (TooLarge (min (node_count w.tree) 1000000000)) else spelt w.tree words.names)) q))
+
+-- What is within all limits can be built, and is the pattern.
+pub is_buildable : (words : Words) (operand : Operand) → limit_fault words ≡ None → (w : IsWhole words operand) → NoneEmpty words.tokens → words.past ≡ None → operand.nodes ≤ 1000 → IsNumberedByUse words →
+    IsBuildable words.names operand
+is_buildable words operand e w h q le n =
+    let count = w.stands.nodes in
+    record {
+      tree = w.tree;
+      stands = w.stands;
+      small = omega (arith, count);
+      fine = fine_intervals expr words.tokens w.tree w.spells (stand_fine words.tokens (none_big words.tokens (first_none _ _ e)) h);
+      numbered = (counts_alike expr words.tokens w.tree w.spells).alike 0 (length words.names) (n q);
+    }
+  where
+    first_none : (place : Option ℕ) (later : Option ParseFault) → earlier (option_map (λ at. Number (offset_of words at)) place) later ≡ None → place ≡ None
+    first_none None later e = refl
+    first_none (Some at) later e = absurd (cc)
+
+pub spelt_outcome : (words : Words) (operand : Operand) (tree : PatternTree) (names : List (List ℕ)) → limit_fault words ≡ None → (w : IsWhole words operand) → NoneEmpty words.tokens → words.past ≡ None → operand.nodes ≤ 1000 →
+    tree ≡ w.tree → names ≡ words.names → IsOutcomeOfWords words (spelt tree names)
+spelt_outcome words operand tree names e w h q le same kept =
+    let count = w.stands.nodes in
+    judged words operand (spelt tree names) e w h
+    (ap (λ t. spelt t names) same ∙ ap (λ n. spelt w.tree n) kept
+    ∙ sym (size_small (nat_lt 1000 (node_count w.tree)) (node_count w.tree) (refused (TooLarge (min (node_count w.tree) 1000000000))) (spelt w.tree words.names) refl (omega (arith, count)))
+    ∙ sym (ap (λ past. past_or past (if nat_lt 1000 (node_count w.tree) then refused (TooLarge (min (node_count w.tree) 1000000000)) else spelt w.tree words.names)) q))
+
+-- The text as a whole.
+pub words_outcome : (text : List ℕ) (outcome : Outcome) → byte_fault text ≡ None → IsOutcomeOfWords (words_of text) outcome → IsOutcome text outcome
+words_outcome text outcome e h = along_none (byte_fault text) _ _ e h
+
+pub byte_outcome : (text : List ℕ) (fault : ParseFault) → byte_fault text ≡ Some fault → IsOutcome text (refused fault)
+byte_outcome text fault e = along_some (byte_fault text) fault _ _ e refl
+
+long_by : (is : Bool) (n : ℕ) (later : Option ParseFault) → nat_lt 16384 n ≡ is → 16384 < n → (if is then Some TooLong else later) ≡ Some TooLong
+long_by true n later t lt = refl
+long_by false n later t lt = absurd (grind (arith, nat_tests))
+
+short_by : (is : Bool) (n : ℕ) (first later : Option ParseFault) → nat_lt 16384 n ≡ is → n ≤ 16384 → (if is then first else later) ≡ later
+short_by true n first later t le = absurd (grind (arith, nat_tests))
+short_by false n first later t le = refl
+
+pub long_outcome : (text : List ℕ) → 16384 < length text → IsOutcome text (refused TooLong)
+long_outcome text lt = byte_outcome text TooLong (long_by (nat_lt 16384 (length text)) (length text) _ refl lt)
+
+pub bad_outcome : (text : List ℕ) (fault : ParseFault) → length text ≤ 16384 → IsBadByte text 0 fault → (fault ≡ Memory) ⊎ IsOutcome text (refused fault)
+bad_outcome text fault le (inl h) = inl h
+bad_outcome text fault le (inr h) =
+    let P = λ (f : ParseFault). IsOutcome text (refused f) in
+    inr (subst P (sym h.1) (byte_outcome text (BadByte h.0)
+    (short_by (nat_lt 16384 (length text)) (length text) (Some TooLong) _ refl le ∙ ap (option_map (λ at. BadByte at)) h.2)))
+
+pub good_bytes : (text : List ℕ) → length text ≤ 16384 → bad_byte text ≡ None → byte_fault text ≡ None
+good_bytes text le e = short_by (nat_lt 16384 (length text)) (length text) (Some TooLong) _ refl le ∙ ap (option_map (λ at. BadByte at)) e
+
+-- A scan of a text holds its words.
+pub same_words : (text : List ℕ) (scan : Scan) → IsScan text scan → words_in scan ≡ words_of text
+same_words text scan s = let a = s.tokens in let b = s.offsets in let c = s.names in let d = s.past in (cc)
+
+pub scan_numbered : (text : List ℕ) (scan : Scan) → IsScan text scan → IsNumberedByUse (words_in scan)
+scan_numbered text scan s = let P = λ (w : Words). IsNumberedByUse w in subst P (sym (same_words text scan s)) (text_numbered text)
+
+pub answers_text : (text : List ℕ) (scan : Scan) (result : Result Pattern ParseFault) → length text ≤ 16384 → IsScan text scan → Answers (IsOutcomeOfWords (words_in scan)) result → Answers (IsOutcome text) result
+answers_text text scan (Ok pattern) le s h =
+    let P = λ (w : Words). IsOutcomeOfWords w (spelt (pattern_tree pattern) (names_of pattern)) in
+    words_outcome text _ (good_bytes text le s.good) (subst P (same_words text scan s) h)
+answers_text text scan (Err fault) le s (inl h) = inl h
+answers_text text scan (Err fault) le s (inr h) =
+    let P = λ (w : Words). IsOutcomeOfWords w (refused fault) in
+    inr (words_outcome text _ (good_bytes text le s.good) (subst P (same_words text scan s) h))
+
+-- The outcome is what is answered.
+pub answered : (text : List ℕ) (outcome : Outcome) (result : Result Pattern ParseFault) → Answers (IsOutcome text) result → IsOutcome text outcome → IsAnswered outcome result
+answered text outcome (Ok pattern) h k = outcome_once text outcome _ k h
+answered text outcome (Err fault) (inl h) k = inl h
+answered text outcome (Err fault) (inr h) k = inr (outcome_once text outcome _ k h)

@@ -1,0 +1,15 @@
+pub mod Completeness
+pub mod LevelSpelling
+pub mod Soundness
+pub mod Words
+pub mod Scans
+pub mod Counts
+pub mod Intervals
+pub mod Readers
+pub mod Readings
+pub mod Empties
+pub mod Outcomes
+pub mod Numbers
+pub mod Fine
+pub mod NumberedWords
+pub mod Judging

@@ -1,0 +1,187 @@
+-- The words of a text number its names by first use from the left.
+use Rattle.std.proofs.Common.{◌≡◌, ℕ, ◌+◌, ◌-◌, ◌<◌, zero, suc, Bool, true, false, ◌&&◌, Option, Some, None, List, [], ◌∷◌, ◌++◌, length, refl, sym, ◌∙◌, ap, arith, length-append}
+use Rattle.std.specs.Prelude.{nat_lt, ◌==◌, if◌then◌else◌, is_none, unwrap_or, IfSome, codes}
+use Rattle.std.specs.List.{take_while}
+use Rattle.std.specs.Str.{bytes_eq}
+use Rattle.std.specs.Char.{is_ascii_digit}
+use Rattle.std.proofs.lemmas.Bool.Decides.{nat_tests}
+use Rattle.std.proofs.lemmas.List.Quantifiers.{position-Some}
+use Rattle.tre_state.specs.Names.{place_of}
+use Rattle.tre_state.specs.Name.{starts_name, continues_name}
+use Rattle.tre_state.proofs.Places.{place_of-push}
+use Rattle.tre_syntax.specs.PatternTree.{seen_after}
+use Rattle.tre_parse.specs.declared.token.Token.{Token}
+use Rattle.tre_parse.specs.declared.token.Token.TheVariants.{Name as Numbered, LeftParen, RightParen, LeftBracket, RightBracket, LeftBrace, RightBrace, Comma, Semicolon, Bar, DoubleBar, Ampersand, DoubleAmpersand, Bang, Star, Plus, Question, Percent, Begins, Ends, Eps, Rise, Fall, Inf, True, Event}
+use Rattle.tre_parse.specs.declared.lexeme.Lexeme.{Lexeme}
+use Rattle.tre_parse.specs.declared.lexeme.Lexeme.TheVariants.{Blank, Wrong, Name, Sign}
+use Rattle.tre_parse.specs.Lexeme.{is_blank, reserved, named, word_lexeme, number_lexeme, signed, sign_lexeme, lexeme_of, double_sign, bracket, single_sign}
+use Rattle.tre_parse.specs.Tokens.{Word, name, sign, Spot, Lexed, lexed, scanned, token_of, known_after, tokens_from, names_from, past_from, is_past, spots_of}
+use Rattle.tre_parse.specs.Numbering.{numbers_in, IsNumberedByUse}
+use Rattle.tre_parse.specs.Outcome.{words_of}
+
+-- A token that is no name.
+abbrev IsNoName : Token → Type 0
+IsNoName (Numbered i) = ⊥
+IsNoName _ = Unit {0}
+
+reserved_by : (a b c d e f : Bool) → IfSome (if a then Some Eps else (if b then Some Rise else (if c then Some Fall else (if d then Some Inf else (if e then Some True else (if f then Some Event else None)))))) IsNoName
+reserved_by true _ _ _ _ _ = tt
+reserved_by false true _ _ _ _ = tt
+reserved_by false false true _ _ _ = tt
+reserved_by false false false true _ _ = tt
+reserved_by false false false false true _ = tt
+reserved_by false false false false false true = tt
+reserved_by false false false false false false = tt
+
+reserved_no_name : (word : List ℕ) → IfSome (reserved word) IsNoName
+reserved_no_name word =
+    reserved_by (bytes_eq word (codes "eps")) (bytes_eq word (codes "rise")) (bytes_eq word (codes "fall")) (bytes_eq word (codes "inf")) (bytes_eq word (codes "true")) (bytes_eq word (codes "event"))
+
+double_by : (a b c d : Bool) → IfSome (if a then Some DoubleBar else (if b then Some DoubleAmpersand else (if c then Some Begins else (if d then Some Ends else None)))) IsNoName
+double_by true _ _ _ = tt
+double_by false true _ _ = tt
+double_by false false true _ = tt
+double_by false false false true = tt
+double_by false false false false = tt
+
+double_no_name : (a b : ℕ) → IfSome (double_sign a b) IsNoName
+double_no_name a b = double_by (a == 124 && b == 124) (a == 38 && b == 38) (a == 60 && b == 58) (a == 58 && b == 62)
+
+bracket_by : (a b c d e f : Bool) → IfSome (if a then Some LeftParen else (if b then Some RightParen else (if c then Some LeftBracket else (if d then Some RightBracket else (if e then Some LeftBrace else (if f then Some RightBrace else None)))))) IsNoName
+bracket_by true _ _ _ _ _ = tt
+bracket_by false true _ _ _ _ = tt
+bracket_by false false true _ _ _ = tt
+bracket_by false false false true _ _ = tt
+bracket_by false false false false true _ = tt
+bracket_by false false false false false true = tt
+bracket_by false false false false false false = tt
+
+bracket_no_name : (b : ℕ) → IfSome (bracket b) IsNoName
+bracket_no_name b = bracket_by (b == 40) (b == 41) (b == 91) (b == 93) (b == 123) (b == 125)
+
+single_by : (a b c d e f g h i : Bool) → IfSome (if a then Some Comma else (if b then Some Semicolon else (if c then Some Bar else (if d then Some Ampersand else (if e then Some Bang else (if f then Some Star else (if g then Some Plus else (if h then Some Question else (if i then Some Percent else None))))))))) IsNoName
+single_by true _ _ _ _ _ _ _ _ = tt
+single_by false true _ _ _ _ _ _ _ = tt
+single_by false false true _ _ _ _ _ _ = tt
+single_by false false false true _ _ _ _ _ = tt
+single_by false false false false true _ _ _ _ = tt
+single_by false false false false false true _ _ _ = tt
+single_by false false false false false false true _ _ = tt
+single_by false false false false false false false true _ = tt
+single_by false false false false false false false false true = tt
+single_by false false false false false false false false false = tt
+
+single_no_name : (b : ℕ) → IfSome (single_sign b) IsNoName
+single_no_name b = single_by (b == 44) (b == 59) (b == 124) (b == 38) (b == 33) (b == 42) (b == 43) (b == 63) (b == 37)
+
+abbrev SaysNoName : Lexeme → Type 0
+SaysNoName (Sign token len) = IsNoName token
+SaysNoName _ = Unit {0}
+
+named_no_name : (n : ℕ) (o : Option Token) → IfSome o IsNoName → SaysNoName (named n o)
+named_no_name n None h = tt
+named_no_name n (Some t) h = h
+
+signed_no_name : (a b c : Option Token) → IfSome a IsNoName → IfSome b IsNoName → IfSome c IsNoName → SaysNoName (signed a b c)
+signed_no_name (Some t) b c h k m = h
+signed_no_name None (Some t) c h k m = k
+signed_no_name None None (Some t) h k m = m
+signed_no_name None None None h k m = tt
+
+sign_no_name : (rest : List ℕ) → SaysNoName (sign_lexeme rest)
+sign_no_name [] = tt
+sign_no_name (b ∷ []) = signed_no_name None (bracket b) (single_sign b) tt (bracket_no_name b) (single_no_name b)
+sign_no_name (b ∷ c ∷ rest) = signed_no_name (double_sign b c) (bracket b) (single_sign b) (double_no_name b c) (bracket_no_name b) (single_no_name b)
+
+lexeme_by : (blank starts digit : Bool) (word number other : Lexeme) → SaysNoName word → SaysNoName number → SaysNoName other →
+    SaysNoName (if blank then Blank else (if starts then word else (if digit then number else other)))
+lexeme_by true starts digit word number other h k m = tt
+lexeme_by false true digit word number other h k m = h
+lexeme_by false false true word number other h k m = k
+lexeme_by false false false word number other h k m = m
+
+lexeme_no_name : (rest : List ℕ) → SaysNoName (lexeme_of rest)
+lexeme_no_name [] = tt
+lexeme_no_name (b ∷ bs) =
+    lexeme_by (is_blank b) (starts_name b) (is_ascii_digit b) (word_lexeme (b ∷ bs)) (number_lexeme (b ∷ bs)) (sign_lexeme (b ∷ bs))
+    (named_no_name _ _ (reserved_no_name (take_while continues_name (b ∷ bs)))) tt (sign_no_name (b ∷ bs))
+
+-- Names stand among the words by their bytes alone.
+abbrev IsPlain : Word → Type 0
+IsPlain (name bytes) = Unit {0}
+IsPlain (sign token) = IsNoName token
+
+abbrev ArePlain : List Spot → Type 0
+ArePlain [] = Unit {0}
+ArePlain (spot ∷ rest) = IsPlain spot.word × ArePlain rest
+
+scanned_plain : (lexeme : Lexeme) (at : ℕ) (bytes : List ℕ) (next : ℕ → Lexed) → SaysNoName lexeme → ((k : ℕ) → ArePlain (next k).spots) → ArePlain (scanned lexeme at bytes next).spots
+scanned_plain Blank at bytes next h go = go 0
+scanned_plain Wrong at bytes next h go = tt
+scanned_plain (Name len) at bytes next h go = (tt, go (len - 1))
+scanned_plain (Sign token len) at bytes next h go = (h, go (len - 1))
+
+lexed_plain : (skip at : ℕ) (bytes : List ℕ) → ArePlain (lexed skip at bytes).spots
+lexed_plain skip at [] = tt
+lexed_plain (suc skip) at (b ∷ bs) = lexed_plain skip (at + 1) bs
+lexed_plain zero at (b ∷ bs) = scanned_plain (lexeme_of (b ∷ bs)) at (b ∷ bs) (λ skip. lexed skip (at + 1) bs) (lexeme_no_name (b ∷ bs)) (λ skip. lexed_plain skip (at + 1) bs)
+
+no_name_numbers : (token : Token) (rest : List Token) → IsNoName token → numbers_in (token ∷ rest) ≡ numbers_in rest
+no_name_numbers (Numbered i) rest h = absurd h
+no_name_numbers _ rest h = refl
+
+-- A name that is known, or is the next to be known, is seen as such.
+seen_known : (n i : ℕ) (rest : List ℕ) (m : ℕ) → i < n → seen_after n rest ≡ Some m → seen_after n (i ∷ rest) ≡ Some m
+seen_known n i rest m lt e = by (nat_lt i n) (i == n) refl
+  where
+    by : (below same : Bool) → nat_lt i n ≡ below → (if below then seen_after n rest else (if same then seen_after (n + 1) rest else None)) ≡ Some m
+    by true same t = e
+    by false same t = absurd (grind (arith, nat_tests))
+
+seen_next : (n : ℕ) (rest : List ℕ) (m : ℕ) → seen_after (n + 1) rest ≡ Some m → seen_after n (n ∷ rest) ≡ Some m
+seen_next n rest m e = by (nat_lt n n) (n == n) refl refl
+  where
+    by : (below same : Bool) → nat_lt n n ≡ below → (n == n) ≡ same → (if below then seen_after n rest else (if same then seen_after (n + 1) rest else None)) ≡ Some m
+    by true same t u = absurd (grind (arith, nat_tests))
+    by false true t u = e
+    by false false t u = absurd (grind (arith, nat_tests))
+
+-- What the number of a name is, where it is not past the first 64.
+name_seen : (known : List (List ℕ)) (bytes : List ℕ) (found : Option ℕ) (room : Bool) (rest : List ℕ) (m : ℕ) → place_of known bytes ≡ found →
+    is_none (place_of (if is_none found && room then known ++ bytes ∷ [] else known) bytes) ≡ false →
+    seen_after (length (if is_none found && room then known ++ bytes ∷ [] else known)) rest ≡ Some m →
+    seen_after (length known) (unwrap_or (place_of (if is_none found && room then known ++ bytes ∷ [] else known) bytes) 64 ∷ rest) ≡ Some m
+name_seen known bytes (Some i) room rest m f p e =
+    let bound = position-Some (bytes_eq bytes) known i [] f in
+    ap (λ (o : Option ℕ). seen_after (length known) (unwrap_or o 64 ∷ rest)) f ∙ seen_known (length known) i rest m bound.0 e
+name_seen known bytes None true rest m f p e =
+    let pushed = place_of-push known bytes f in
+    let size : length (known ++ bytes ∷ []) ≡ length known + 1 = length-append known (bytes ∷ []) in
+    ap (λ (o : Option ℕ). seen_after (length known) (unwrap_or o 64 ∷ rest)) pushed
+    ∙ seen_next (length known) rest m (ap (λ n. seen_after n rest) (sym size) ∙ e)
+name_seen known bytes None false rest m f p e =
+    let none = ap is_none f in absurd (cc)
+
+past_none : (is : Bool) (at : ℕ) (later : Option ℕ) → (if is then Some at else later) ≡ None → (is ≡ false) × (later ≡ None)
+past_none true at later e = absurd (cc)
+past_none false at later e = (refl, e)
+
+spot_numbered : (word : Word) (at : ℕ) (known : List (List ℕ)) (rest : List Token) (later : Option ℕ) (m : ℕ) → IsPlain word →
+    (if is_past known word then Some at else later) ≡ None → (later ≡ None → seen_after (length (known_after known word)) (numbers_in rest) ≡ Some m) →
+    seen_after (length known) (numbers_in (token_of known word ∷ rest)) ≡ Some m
+spot_numbered (name bytes) at known rest later m h e go =
+    let split = past_none (is_past known (name bytes)) at later e in
+    name_seen known bytes (place_of known bytes) (nat_lt (length known) 64) (numbers_in rest) m refl split.0 (go split.1)
+spot_numbered (sign token) at known rest later m h e go =
+    ap (seen_after (length known)) (no_name_numbers token rest h) ∙ go e
+
+numbered_from : (spots : List Spot) (known : List (List ℕ)) → ArePlain spots → past_from known spots ≡ None →
+    seen_after (length known) (numbers_in (tokens_from known spots)) ≡ Some (length (names_from known spots))
+numbered_from [] known h e = refl
+numbered_from (spot ∷ rest) known h e =
+    spot_numbered spot.word spot.at known (tokens_from (known_after known spot.word) rest) (past_from (known_after known spot.word) rest)
+    (length (names_from (known_after known spot.word) rest)) h.0 e (λ later. numbered_from rest (known_after known spot.word) h.1 later)
+
+-- The words of a text are numbered by use.
+pub text_numbered : (text : List ℕ) → IsNumberedByUse (words_of text)
+text_numbered text = λ e. numbered_from (spots_of text) [] (lexed_plain 0 0 text) e

@@ -1,0 +1,92 @@
+-- Words of a text: which bytes they have, and that a word which is no token of its own is a name.
+use Rattle.std.proofs.Common.{◌≡◌, ℕ, ◌+◌, ◌<◌, zero, suc, Bool, true, false, cond, ◌||◌, Option, Some, None, List, [], ◌∷◌, take, get_or, refl, sym, ◌∙◌, ap, subst, arith}
+use Rattle.std.specs.Prelude.{IsTrue, if◌then◌else◌, codes}
+use Rattle.std.specs.List.{prefix_len, take_while, AllPass}
+use Rattle.std.specs.Str.{bytes_eq, IsAscii}
+use Rattle.std.specs.Char.{is_ascii_digit}
+use Rattle.std.proofs.lemmas.Bool.Decides.{nat_tests}
+use Rattle.std.proofs.lemmas.List.{get_or-take, length-take-le}
+use Rattle.std.proofs.lemmas.List.Sums.{prefix_len_passes, prefix_len-le-length}
+use Rattle.tre_state.specs.Name.{starts_name, continues_name, is_reserved, IsWord, IsName}
+use Rattle.tre_parse.specs.declared.token.Token.{Token}
+use Rattle.tre_parse.specs.declared.token.Token.TheVariants.{Eps, Rise, Fall, Inf, True, Event}
+use Rattle.tre_parse.specs.declared.lexeme.Lexeme.{Lexeme}
+use Rattle.tre_parse.specs.declared.lexeme.Lexeme.TheVariants.{Blank, Name, Sign}
+use Rattle.tre_parse.specs.Lexeme.{is_blank, reserved, named, word_lexeme, signed, sign_lexeme, lexeme_of, double_sign, bracket, single_sign}
+
+-- The front that passes a test does.
+pub prefix_passes : (p : ℕ → Bool) (xs : List ℕ) (n : ℕ) → n ≡ prefix_len p xs → AllPass p (take n xs)
+prefix_passes p xs n e = λ k d h.
+    let fits = prefix_len-le-length p xs in
+    let below : k < n = omega (arith, length-take-le n xs (omega arith)) in
+    rw get_or-take (prefix_len_passes p xs k d (omega arith))
+
+starts_continues : (b : ℕ) → starts_name b ≡ true → continues_name b ≡ true
+starts_continues b h = grind (arith, nat_tests)
+
+continues_below : (b : ℕ) → continues_name b ≡ true → b < 128
+continues_below b h = grind (arith, nat_tests)
+
+-- The bytes of a word are all below 128.
+pub word_ascii : (bytes : List ℕ) → IsWord bytes → IsAscii bytes
+word_ascii [] h = absurd h
+word_ascii (b ∷ bs) h = λ i. elim i as (λ i. get_or (b ∷ bs) i 0 < 128) [
+  | zero ↦ continues_below b (starts_continues b h.0)
+  | suc k ↦ rest_below bs h.1 k
+]
+  where
+    rest_below : (bs : List ℕ) → AllPass continues_name bs → (k : ℕ) → get_or bs k 0 < 128
+    rest_below [] h k = omega arith
+    rest_below (b ∷ bs) h zero = continues_below b (h 0 0 (omega arith))
+    rest_below (b ∷ bs) h (suc k) = rest_below bs (λ j d lt. h (suc j) d (omega arith)) k
+
+not_reserved : (a b c d e f : Bool) → (if a then Some Eps else (if b then Some Rise else (if c then Some Fall else (if d then Some Inf else (if e then Some True else (if f then Some Event else None)))))) ≡ None →
+    a || b || c || d || e || f ≡ true → ⊥
+not_reserved true b c d e f p q = cc
+not_reserved false true c d e f p q = cc
+not_reserved false false true d e f p q = cc
+not_reserved false false false true e f p q = cc
+not_reserved false false false false true f p q = cc
+not_reserved false false false false false true p q = cc
+not_reserved false false false false false false p q = cc
+
+named_name : (n len : ℕ) (o : Option Token) → named n o ≡ Name len → (o ≡ None) × (n ≡ len)
+named_name n len None e = (refl, cc)
+named_name n len (Some t) e = absurd (cc)
+
+signed_no_name : (a b c : Option Token) (len : ℕ) → signed a b c ≡ Name len → ⊥
+signed_no_name (Some t) b c len e = cc
+signed_no_name None (Some t) c len e = cc
+signed_no_name None None (Some t) len e = cc
+signed_no_name None None None len e = cc
+
+sign_no_name : (rest : List ℕ) (len : ℕ) → sign_lexeme rest ≡ Name len → ⊥
+sign_no_name [] len e = cc
+sign_no_name (b ∷ []) len e = signed_no_name None (bracket b) (single_sign b) len e
+sign_no_name (b ∷ c ∷ rest) len e = signed_no_name (double_sign b c) (bracket b) (single_sign b) len e
+
+name_starts : (blank starts digit : Bool) (word sign : Lexeme) (token : Token) (n len : ℕ) → (sign ≡ Name len → ⊥) →
+    (if blank then Blank else (if starts then word else (if digit then Sign token n else sign))) ≡ Name len → (starts ≡ true) × (word ≡ Name len)
+name_starts true starts digit word sign token n len never e = absurd (cc)
+name_starts false true digit word sign token n len never e = (refl, e)
+name_starts false false true word sign token n len never e = absurd (cc)
+name_starts false false false word sign token n len never e = absurd (never e)
+
+word_from : (b : ℕ) (bs : List ℕ) (len : ℕ) → starts_name b ≡ true → prefix_len continues_name (b ∷ bs) ≡ len → IsWord (take len (b ∷ bs))
+word_from b bs len h e =
+    let one = ap (λ t. cond t (1 + prefix_len continues_name bs) 0) (starts_continues b h) in
+    let more : len ≡ suc (prefix_len continues_name bs) = omega (arith, sym e ∙ one) in
+    let P = λ (n : ℕ). IsWord (take n (b ∷ bs)) in
+    subst P (sym more) (h, prefix_passes continues_name bs (prefix_len continues_name bs) refl)
+
+-- Where a text goes on with a name, its bytes are one.
+pub name_bytes : (rest : List ℕ) (len : ℕ) → lexeme_of rest ≡ Name len → IsName (take len rest)
+name_bytes [] len e = absurd (cc)
+name_bytes (b ∷ bs) len e =
+    let found = name_starts (is_blank b) (starts_name b) (is_ascii_digit b) (word_lexeme (b ∷ bs)) (sign_lexeme (b ∷ bs)) _ _ len (sign_no_name (b ∷ bs) len) e in
+    let known = named_name (prefix_len continues_name (b ∷ bs)) len (reserved (take_while continues_name (b ∷ bs))) found.1 in
+    let word = take_while continues_name (b ∷ bs) in
+    let P = λ (n : ℕ). IsTrue (is_reserved (take n (b ∷ bs))) → ⊥ in (
+      word_from b bs len found.0 known.1,
+      subst P known.1 (not_reserved (bytes_eq word (codes "eps")) (bytes_eq word (codes "rise")) (bytes_eq word (codes "fall")) (bytes_eq word (codes "inf")) (bytes_eq word (codes "true")) (bytes_eq word (codes "event")) known.0),
+    )

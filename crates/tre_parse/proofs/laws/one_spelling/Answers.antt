@@ -1,0 +1,10 @@
+use Rattle.std.proofs.Common.{◌∙◌, sym}
+use Rattle.tre_parse.specs.Tokens.{tokens_of}
+use Rattle.tre_parse.proofs.Completeness.{spelt_once}
+use Rattle.tre_parse.proofs.laws.one_spelling.Goals as goal
+
+pub returns : goal.returns
+returns c = record {
+  tree = λ text tree other names others h k. spelt_once (tokens_of text) tree other h.spells k.spells;
+  names = λ text tree other names others h k. h.numbered ∙ sym k.numbered;
+}

@@ -1,0 +1,5 @@
+use Rattle.tre_parse.proofs.Judging.{answered}
+use Rattle.tre_parse.proofs.parser.parse.Goals as goal
+
+pub returns-clause-only : goal.returns-clause-only
+returns-clause-only c = λ outcome h. answered c.args.text.now outcome _ c.parse_text.ensures h

@@ -1,0 +1,40 @@
+-- What `parse` answers, against the outcome of the text.
+use Rattle.std.specs.Prelude.{◌≡◌, ℕ, ◌≤◌, ◌⊎◌, Result, Ok, Err, List, length}
+use Rattle.tre_syntax.specs.declared.pattern.Pattern.{Pattern}
+use Rattle.tre_syntax.specs.Pattern.{pattern_tree, names_of}
+use Rattle.tre_syntax.specs.PatternTree.{PatternTree, node_count, IsNumbered}
+use Rattle.tre_parse.specs.declared.fault.ParseFault.{ParseFault}
+use Rattle.tre_parse.specs.declared.fault.ParseFault.TheVariants.{Memory}
+use Rattle.tre_parse.specs.declared.operand.Operand.{Operand}
+use Rattle.tre_parse.specs.declared.scan.Scan.{Scan}
+use Rattle.tre_parse.specs.Grammar.{expr, Spells}
+use Rattle.tre_parse.specs.Operands.{Stands, HasFineIntervals}
+use Rattle.tre_parse.specs.Outcome.{Outcome, spelt, refused, Words}
+
+-- The answer is an outcome of which this is so, or want of memory.
+abbrev pub Answers : (Outcome → Type 0) → Result Pattern ParseFault → Type 0
+Answers IsIt (Ok pattern) = IsIt (spelt (pattern_tree pattern) (names_of pattern))
+Answers IsIt (Err fault) = (fault ≡ Memory) ⊎ IsIt (refused fault)
+
+-- This outcome is the answer, where there was memory enough.
+abbrev pub IsAnswered : Outcome → Result Pattern ParseFault → Type 0
+IsAnswered outcome (Ok pattern) = outcome ≡ spelt (pattern_tree pattern) (names_of pattern)
+IsAnswered outcome (Err fault) = (fault ≡ Memory) ⊎ (outcome ≡ refused fault)
+
+-- The words that a scan holds.
+abbrev pub words_in : Scan → Words
+words_in scan = record { tokens = scan.tokens.items; offsets = scan.offsets.items; names = scan.names; past = scan.past }
+
+-- What was read stands for the expression that the tokens spell.
+pub record IsWhole (words : Words) (operand : Operand) : Type 0 where
+  pub tree : PatternTree
+  pub spells : Spells expr words.tokens tree
+  pub stands : Stands operand tree
+
+-- What was read is a pattern with these names.
+pub record IsBuildable (names : List (List ℕ)) (operand : Operand) : Type 0 where
+  pub tree : PatternTree
+  pub stands : Stands operand tree
+  pub small : node_count tree ≤ 1000
+  pub fine : HasFineIntervals tree
+  pub numbered : IsNumbered tree (length names)

@@ -1,0 +1,102 @@
+-- What stands at a place of a text: the longest token there, a blank, or a byte at which no token begins.
+use Rattle.std.specs.Prelude.{ℕ, ◌+◌, ◌-◌, ◌*◌, ◌≤◌, ◌<◌, Bool, ◌&&◌, ◌||◌, ◌==◌, if◌then◌else◌, Option, Some, None, List, [], ◌∷◌, codes, fold, min}
+use Rattle.std.specs.Char.{is_ascii_digit}
+use Rattle.std.specs.List.{prefix_len, take_while}
+use Rattle.std.specs.Str.{bytes_eq}
+use Rattle.tre_state.specs.Name.{starts_name, continues_name}
+use Rattle.tre_parse.specs.declared.token.Token.{Token}
+use Rattle.tre_parse.specs.declared.token.Token.TheVariants.{Number, LeftParen, RightParen, LeftBracket, RightBracket, LeftBrace, RightBrace, Comma, Semicolon, Bar, DoubleBar, Ampersand, DoubleAmpersand, Bang, Star, Plus, Question, Percent, Begins, Ends, Eps, Rise, Fall, Inf, True, Event}
+use Rattle.tre_parse.specs.declared.lexeme.Lexeme.{Lexeme}
+use Rattle.tre_parse.specs.declared.lexeme.Lexeme.TheVariants.{Blank, Wrong, Name, Sign}
+
+-- A space (32), a tab (9), CR (13) or LF (10).
+abbrev pub is_blank : ℕ → Bool
+is_blank byte = byte == 32 || byte == 9 || byte == 13 || byte == 10
+
+-- The words that are tokens of their own.
+abbrev pub reserved : List ℕ → Option Token
+reserved word =
+    if bytes_eq word (codes "eps") then Some Eps
+    else (if bytes_eq word (codes "rise") then Some Rise
+    else (if bytes_eq word (codes "fall") then Some Fall
+    else (if bytes_eq word (codes "inf") then Some Inf
+    else (if bytes_eq word (codes "true") then Some True
+    else (if bytes_eq word (codes "event") then Some Event
+    else None)))))
+
+abbrev pub named : ℕ → Option Token → Lexeme
+named len None = Name len
+named len (Some token) = Sign token len
+
+-- A word: as many bytes as can stand in a name.
+abbrev pub word_lexeme : List ℕ → Lexeme
+word_lexeme rest = named (prefix_len continues_name rest) (reserved (take_while continues_name rest))
+
+-- The whole number that decimal digits spell.
+abbrev pub decimal : List ℕ → ℕ
+decimal digits = fold (λ n digit. 10 * n + (digit - 48)) 0 digits
+
+-- A number: as many digits as there are. All those above 2^40 are the one number 2^40 + 1.
+abbrev pub number_lexeme : List ℕ → Lexeme
+number_lexeme rest = Sign (Number (min (decimal (take_while is_ascii_digit rest)) 1099511627777)) (prefix_len is_ascii_digit rest)
+
+-- The signs of two bytes: `||`, `&&`, `<:` and `:>`.
+abbrev pub double_sign : ℕ → ℕ → Option Token
+double_sign first second =
+    if first == 124 && second == 124 then Some DoubleBar
+    else (if first == 38 && second == 38 then Some DoubleAmpersand
+    else (if first == 60 && second == 58 then Some Begins
+    else (if first == 58 && second == 62 then Some Ends
+    else None)))
+
+-- The brackets: `(`, `)`, `[`, `]`, `{` and `}`.
+abbrev pub bracket : ℕ → Option Token
+bracket byte =
+    if byte == 40 then Some LeftParen
+    else (if byte == 41 then Some RightParen
+    else (if byte == 91 then Some LeftBracket
+    else (if byte == 93 then Some RightBracket
+    else (if byte == 123 then Some LeftBrace
+    else (if byte == 125 then Some RightBrace
+    else None)))))
+
+-- The other signs of one byte: `,`, `;`, `|`, `&`, `!`, `*`, `+`, `?` and `%`.
+abbrev pub single_sign : ℕ → Option Token
+single_sign byte =
+    if byte == 44 then Some Comma
+    else (if byte == 59 then Some Semicolon
+    else (if byte == 124 then Some Bar
+    else (if byte == 38 then Some Ampersand
+    else (if byte == 33 then Some Bang
+    else (if byte == 42 then Some Star
+    else (if byte == 43 then Some Plus
+    else (if byte == 63 then Some Question
+    else (if byte == 37 then Some Percent
+    else None))))))))
+
+-- The first of them that is there, with its number of bytes.
+abbrev pub signed : Option Token → Option Token → Option Token → Lexeme
+signed (Some token) _ _ = Sign token 2
+signed None (Some token) _ = Sign token 1
+signed None None (Some token) = Sign token 1
+signed None None None = Wrong
+
+abbrev pub sign_lexeme : List ℕ → Lexeme
+sign_lexeme [] = Wrong
+sign_lexeme (byte ∷ []) = signed None (bracket byte) (single_sign byte)
+sign_lexeme (byte ∷ next ∷ rest) = signed (double_sign byte next) (bracket byte) (single_sign byte)
+
+-- What the rest of a text begins with.
+abbrev pub lexeme_of : List ℕ → Lexeme
+lexeme_of [] = Wrong
+lexeme_of (byte ∷ rest) =
+    if is_blank byte then Blank
+    else (if starts_name byte then word_lexeme (byte ∷ rest)
+    else (if is_ascii_digit byte then number_lexeme (byte ∷ rest)
+    else sign_lexeme (byte ∷ rest)))
+
+-- The lexeme takes at least one byte, and no more than there are.
+abbrev pub FitsIn : ℕ → Lexeme → Type 0
+FitsIn available (Name len) = (0 < len) × (len ≤ available)
+FitsIn available (Sign token len) = (0 < len) × (len ≤ available)
+FitsIn available _ = 1 ≤ available

@@ -1,0 +1,12 @@
+pub mod Grammar
+pub mod Machine
+pub mod Lexeme
+pub mod Tokens
+pub mod Scan
+pub mod Joins
+pub mod Parts
+pub mod Operands
+pub mod Places
+pub mod Outcome
+pub mod Numbering
+pub mod Answers

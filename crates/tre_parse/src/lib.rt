@@ -1,0 +1,33 @@
+//! The language of patterns: from a text to the one pattern that it spells.
+//!
+//! The central call is `parse`. The grammar stands in specs/Grammar.antt as a relation between tokens
+//! and what they spell, apart from the way in which the parser reads them: once, from the left, with
+//! one step for each token and no recursion. The layers above may rely on `IsOutcome`, which says for
+//! every text what becomes of it: a text has one outcome, and `parse` answers it or `Memory`.
+//!
+//! ```text
+//! parse(alloc, "<:p:> % [2,5]")?     rise(p), then p, then fall(p), which lasts 2 to 5 ticks
+//! parse(alloc, "p % [3,2]")          Err(ParseFault::EmptyInterval { at: 4 })
+//! ```
+#![tactic(auto)]
+
+pub use fault::ParseFault;
+pub use parser::{TEXT_MAX, parse};
+pub use token::Token;
+
+mod connective;
+mod fault;
+mod formula;
+pub mod laws;
+mod levels;
+mod lexeme;
+mod limits;
+mod operand;
+mod parser;
+mod part;
+mod place;
+mod reader;
+mod scan;
+#[cfg(test)]
+mod tests;
+mod token;

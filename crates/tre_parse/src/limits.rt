@@ -1,0 +1,111 @@
+ghost use Rattle.std.specs.Prelude.{◌≡◌, ◌≤◌, ◌↔◌, IsTrue, ◌<◌, ◌+◌, length, IsSomeAnd, MatchOption, position};
+ghost use Rattle.std.specs.Option.{option_map};
+ghost use Rattle.tre_parse.specs.Machine.{interval_from};
+ghost use Rattle.tre_parse.specs.Outcome.{is_big, open_after, deep_place, HasEmptyAt, IsFirstEmpty, NoneEmpty};
+ghost use Rattle.tre_parse.specs.Parts.{ends_of, IsEmptyInterval};
+
+use crate::part::{Ends, Part, PartStep};
+use crate::token::Token;
+use tre_pairs::TIME_MAX;
+
+/// How many brackets may be open.
+const DEPTH_MAX: usize = 200;
+
+/// The place of the first number above the latest time.
+pub(crate) fn first_big(tokens: &[Token]) -> Option<usize>
+    ensures { result ≡ position is_big tokens.now }
+{
+    tokens.iter().position(|token| is_big(*token))
+}
+
+fn is_big(token: Token) -> bool
+    ensures { result ≡ is_big token }
+{
+    match token {
+        Token::Number(number) => number > TIME_MAX,
+        _ => false,
+    }
+}
+
+/// The place of the first bracket at which more than 200 are open.
+pub(crate) fn first_deep(tokens: &[Token]) -> Option<usize>
+    ensures { result ≡ deep_place 0 0 tokens.now }
+{
+    let mut depth = 0;
+    for (place, token) in tokens.iter().enumerate() {
+        depth = open_after(depth, *token);
+        if depth > DEPTH_MAX {
+            return Some(place);
+        }
+    }
+    None
+}
+
+// How many brackets are open after one more token.
+fn open_after(depth: usize, token: Token) -> usize
+    requires { depth ≤ 200 }
+    ensures { result ≡ open_after depth token }
+{
+    match token {
+        Token::LeftParen | Token::LeftBracket | Token::LeftBrace => depth + 1,
+        Token::RightParen | Token::RightBracket | Token::RightBrace => depth.saturating_sub(1),
+        _ => depth,
+    }
+}
+
+/// The place of the first interval that no duration is in.
+pub(crate) fn first_empty(tokens: &[Token]) -> Option<usize>
+    ensures { MatchOption result (NoneEmpty tokens.now) (IsFirstEmpty tokens.now) }
+{
+    for place in 0..tokens.len() {
+        if is_empty_after(tokens, place) {
+            return Some(place + 1);
+        }
+    }
+    None
+}
+
+// Whether a `%` stands at the place, and after it an interval that no duration is in.
+fn is_empty_after(tokens: &[Token], place: usize) -> bool
+    requires { place < length tokens.now }
+    ensures { IsTrue result ↔ HasEmptyAt tokens.now (place + 1) }
+{
+    if is_percent(tokens[place]) {
+        return begins_empty(&tokens[place + 1..]);
+    }
+    false
+}
+
+fn is_percent(token: Token) -> bool
+    ensures { IsTrue result ↔ (token ≡ Token.Percent) }
+{
+    match token {
+        Token::Percent => true,
+        _ => false,
+    }
+}
+
+// Whether the tokens begin with an interval that no duration is in.
+fn begins_empty(tokens: &[Token]) -> bool
+    ensures { IsTrue result ↔ IsSomeAnd (interval_from tokens.now Part.Opening) IsEmptyInterval }
+{
+    match interval_of(tokens) {
+        Some(ends) => ends.is_empty(),
+        None => false,
+    }
+}
+
+// The interval that the tokens begin with.
+fn interval_of(tokens: &[Token]) -> Option<Ends>
+    ensures { option_map ends_of result ≡ interval_from tokens.now Part.Opening }
+{
+    let mut part = Part::Opening;
+    for token in tokens {
+        match part.step(*token) {
+            PartStep::Wrong => return None,
+            PartStep::Going(next) => part = next,
+            PartStep::Whole(ends) => return Some(ends),
+        }
+    }
+    None
+}

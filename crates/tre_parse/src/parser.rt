@@ -1,0 +1,108 @@
+ghost use Rattle.std.specs.Prelude.{◌≡◌, Some, None, MatchResult};
+ghost use Rattle.tre_syntax.specs.PatternTree.{PatternTree};
+ghost use Rattle.tre_syntax.specs.Pattern.{pattern_tree, names_of};
+ghost use Rattle.tre_parse.specs.Numbering.{IsNumberedByUse};
+ghost use Rattle.tre_parse.specs.Operands.{Stands};
+ghost use Rattle.tre_parse.specs.Outcome.{Outcome, limit_fault, IsOutcomeOfWords, IsOutcome};
+ghost use Rattle.tre_parse.specs.Answers.{words_in, IsWhole, IsBuildable, Answers, IsAnswered};
+
+use crate::fault::ParseFault;
+use crate::limits::{first_big, first_deep, first_empty};
+use crate::operand::Operand;
+use crate::reader::read_tokens;
+use crate::scan::{Scan, scan_text};
+use std::alloc::Global;
+use tre_state::Names;
+use tre_syntax::{NODES_MAX, Pattern};
+
+/// How many bytes the text of a pattern may have.
+pub const TEXT_MAX: usize = 16_384;
+
+/// The pattern that the text spells.
+///
+/// The refusals come in the order of the variants of `ParseFault`, each over the whole text before the
+/// next. Want of memory may come at any point.
+pub fn parse(alloc: Global, text: &str) -> Result<Pattern, ParseFault>
+    ensures outcome { Answers (IsOutcome text.now) result }
+    ensures only { (outcome : Outcome) → IsOutcome text.now outcome → IsAnswered outcome result }
+{
+    parse_text(alloc, text)
+}
+
+fn parse_text(alloc: Global, text: &str) -> Result<Pattern, ParseFault>
+    ensures { Answers (IsOutcome text.now) result }
+{
+    if text.len() > TEXT_MAX {
+        return Err(ParseFault::TooLong);
+    }
+    let scan = scan_text(alloc, text)?;
+    let pattern = parse_words(alloc, scan)?;
+    Ok(pattern)
+}
+
+// The pattern that the words of a text spell.
+fn parse_words(alloc: Global, scan: Scan) -> Result<Pattern, ParseFault>
+    requires { IsNumberedByUse (words_in scan) }
+    ensures { Answers (IsOutcomeOfWords (words_in scan)) result }
+{
+    check_limits(&scan)?;
+    let whole = read_tokens(alloc, &scan.tokens)?;
+    let pattern = judge(scan, whole)?;
+    Ok(pattern)
+}
+
+// The limits on numbers and on open brackets.
+fn check_limits(scan: &Scan) -> Result<(), ParseFault>
+    ensures { MatchResult result (λ _. limit_fault (words_in scan.now) ≡ None) (λ fault. limit_fault (words_in scan.now) ≡ Some fault) }
+{
+    if let Some(place) = first_big(&scan.tokens) {
+        return Err(ParseFault::Number {
+            at: scan.offset(place),
+        });
+    }
+    if let Some(place) = first_deep(&scan.tokens) {
+        return Err(ParseFault::TooDeep {
+            at: scan.offset(place),
+        });
+    }
+    Ok(())
+}
+
+// What becomes of an expression that is spelt: the limits on its intervals, its names and its size.
+fn judge(scan: Scan, whole: Operand) -> Result<Pattern, ParseFault>
+    requires numbered { IsNumberedByUse (words_in scan) }
+    requires small { limit_fault (words_in scan) ≡ None }
+    requires whole { IsWhole (words_in scan) whole }
+    ensures { Answers (IsOutcomeOfWords (words_in scan)) result }
+{
+    if let Some(place) = first_empty(&scan.tokens) {
+        return Err(ParseFault::EmptyInterval {
+            at: scan.offset(place),
+        });
+    }
+    if let Some(at) = scan.past {
+        return Err(ParseFault::TooManyNames { at });
+    }
+    let nodes = whole.nodes();
+    if nodes > NODES_MAX {
+        return Err(ParseFault::TooLarge { nodes });
+    }
+    let names = scan.into_names();
+    Ok(build(names, whole))
+}
+
+// The pattern of an expression that is within all limits.
+fn build(names: Names, whole: Operand) -> Pattern
+    requires { IsBuildable names whole }
+    ensures tree { (tree : PatternTree) → Stands whole tree → pattern_tree result ≡ tree }
+    ensures names { names_of result ≡ names }
+{
+    let nodes = whole.nodes();
+    let Some(expr) = whole.into_expr(nodes) else {
+        unreachable!()
+    };
+    let Some(pattern) = Pattern::new(expr, names) else {
+        unreachable!()
+    };
+    pattern
+}

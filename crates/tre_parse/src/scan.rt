@@ -1,0 +1,130 @@
+ghost use Rattle.std.specs.Prelude.{◌≡◌, ◌<◌, ◌≤◌, ℕ, ◌+◌, ◌++◌, [], ◌∷◌, Some, None, length, slice_index, OnOk, IfOk, IfErr};
+ghost use Rattle.tre_state.specs.Name.{IsName};
+ghost use Rattle.tre_state.specs.Names.{place_of};
+ghost use Rattle.tre_parse.specs.Tokens.{name, sign, noted};
+ghost use Rattle.tre_parse.specs.Scan.{TakesSpot, GoesOn, IsBadByte, IsScan};
+
+use crate::fault::ParseFault;
+use crate::lexeme::{Lexeme, lexeme_of};
+use crate::token::Token;
+use std::alloc::{AllocError, Global};
+use tre_state::{NameFault, Names};
+
+/// The number of a name past the first 64.
+pub(crate) const PAST: u8 = 64;
+
+/// The tokens of a text, the offset of each, and the names among them.
+#[derive(Drop)]
+pub(crate) struct Scan {
+    pub(crate) tokens: Vec<Token>,
+    pub(crate) offsets: Vec<u64>,
+    pub(crate) names: Names,
+    /// Where the first name past the first 64 stands, if there is one.
+    pub(crate) past: Option<u64>,
+}
+
+impl Scan {
+    fn new(alloc: Global) -> Scan
+        ensures tokens { result.tokens.items ≡ [] }
+        ensures offsets { result.offsets.items ≡ [] }
+        ensures names { result.names ≡ [] }
+        ensures past { result.past ≡ None }
+    {
+        Scan {
+            tokens: Vec::new(alloc),
+            offsets: Vec::new(alloc),
+            names: Names::new(alloc),
+            past: None,
+        }
+    }
+
+    /// The offset of the token at a place, 0 where there is none.
+    pub(crate) fn offset(&self, place: usize) -> u64
+        ensures { result ≡ slice_index self.now.offsets.items place }
+    {
+        self.offsets.get(place).copied().unwrap_or(0)
+    }
+
+    /// The names alone.
+    pub(crate) fn into_names(self) -> Names
+        ensures { result ≡ self.names }
+    {
+        let Scan { names, .. } = self;
+        names
+    }
+
+    // A token that is no name.
+    fn put(&mut self, token: Token, at: usize) -> Result<(), AllocError>
+        ensures { OnOk result (TakesSpot self.old self.new (record { at = at; word = sign token })) }
+    {
+        self.tokens.push(token)?;
+        self.offsets.push(at as u64)?;
+        Ok(())
+    }
+
+    // A name, which is numbered.
+    fn put_name(&mut self, word: &[u8], at: usize) -> Result<(), ParseFault>
+        requires { IsName word.now }
+        ensures ok { OnOk result (TakesSpot self.old self.new (record { at = at; word = name word.now })) }
+        ensures err { IfErr result (λ fault. fault ≡ ParseFault.Memory) }
+    {
+        let number = number(&mut self.names, word)?;
+        self.tokens.push(Token::Name(number.unwrap_or(PAST)))?;
+        self.offsets.push(at as u64)?;
+        if number.is_none() && self.past.is_none() {
+            self.past = Some(at as u64);
+        }
+        Ok(())
+    }
+
+    // What stands at an offset; answers the offset after it.
+    fn step(&mut self, bytes: &[u8], at: usize) -> Result<usize, ParseFault>
+        requires { at < length bytes.now }
+        ensures ok { IfOk result (GoesOn bytes.now self.old at self.new) }
+        ensures err { IfErr result (IsBadByte bytes.now at) }
+    {
+        match lexeme_of(&bytes[at..]) {
+            Lexeme::Blank => Ok(at + 1),
+            Lexeme::Wrong => Err(ParseFault::BadByte { at: at as u64 }),
+            Lexeme::Name(len) => {
+                self.put_name(&bytes[at..at + len], at)?;
+                Ok(at + len)
+            }
+            Lexeme::Sign(token, len) => {
+                self.put(token, at)?;
+                Ok(at + len)
+            }
+        }
+    }
+}
+
+// The number of a name, None where 64 others are held.
+fn number(names: &mut Names, word: &[u8]) -> Result<Option<u8>, ParseFault>
+    requires { IsName word.now }
+    ensures number { IfOk result (λ number. number ≡ place_of (noted names.old word.now) word.now) }
+    ensures names { OnOk result (names.new ≡ noted names.old word.now) }
+    ensures err { IfErr result (λ fault. fault ≡ ParseFault.Memory) }
+{
+    let Ok(text) = str::from_utf8(word) else {
+        unreachable!()
+    };
+    match names.number(text) {
+        Ok(number) => Ok(Some(number)),
+        Err(NameFault::TooMany) => Ok(None),
+        Err(NameFault::Memory) => Err(ParseFault::Memory),
+    }
+}
+
+/// The tokens of a text. Refuses the first byte at which no token begins.
+pub(crate) fn scan_text(alloc: Global, text: &str) -> Result<Scan, ParseFault>
+    ensures ok { IfOk result (IsScan text.now) }
+    ensures err { IfErr result (IsBadByte text.now 0) }
+{
+    let bytes = text.as_bytes();
+    let mut scan = Scan::new(alloc);
+    let mut at = 0;
+    while at < bytes.len() {
+        at = scan.step(bytes, at)?;
+    }
+    Ok(scan)
+}

@@ -1,0 +1,154 @@
+use crate::{ParseFault, parse};
+use std::alloc::{AllocError, Global};
+use std::test::Fail;
+use tre_syntax::Expr;
+
+// A text of so many times a piece.
+fn times(alloc: Global, piece: &str, count: usize) -> Result<String, AllocError> {
+    let mut text = String::new(alloc);
+    for _ in 0..count {
+        text.push_str(piece)?;
+    }
+    Ok(text)
+}
+
+// Why a text is refused, if it is.
+fn fault(alloc: Global, text: &str) -> Option<ParseFault> {
+    match parse(alloc, text) {
+        Ok(_) => None,
+        Err(fault) => Some(fault),
+    }
+}
+
+#[test]
+fn refused(rt: HostRuntime) -> Result<(), Fail> {
+    let table = [
+        ("p % [3,2]", ParseFault::EmptyInterval { at: 4 }),
+        ("p;", ParseFault::Syntax),
+        ("p % [0,1099511627777]", ParseFault::Number { at: 7 }),
+        ("p@", ParseFault::BadByte { at: 1 }),
+        ("(p", ParseFault::Syntax),
+        ("p)", ParseFault::Syntax),
+        ("event", ParseFault::Syntax),
+    ];
+    for (text, expected) in &table {
+        assert_eq!(rt; fault(rt.alloc(), *text), Some(*expected), "{text}");
+    }
+    Ok(())
+}
+
+#[test]
+fn limits(rt: HostRuntime) -> Result<(), Fail> {
+    let alloc = rt.alloc();
+    let deep = times(alloc, "(", 201)?;
+    assert_eq!(rt;
+        fault(alloc, deep.as_str()),
+        Some(ParseFault::TooDeep { at: 200 })
+    );
+    let mut long = times(alloc, "p;", 333)?;
+    long.push_str("p")?;
+    assert_eq!(rt;
+        fault(alloc, long.as_str()),
+        Some(ParseFault::TooLarge { nodes: 1001 })
+    );
+    let spaces = times(alloc, " ", 16_385)?;
+    assert_eq!(rt; fault(alloc, spaces.as_str()), Some(ParseFault::TooLong));
+    let mut bangs = times(alloc, "!", 16_383)?;
+    bangs.push_str("p")?;
+    assert_eq!(rt;
+        fault(alloc, bangs.as_str()),
+        Some(ParseFault::TooLarge { nodes: 16_385 })
+    );
+    Ok(())
+}
+
+#[test]
+fn names(rt: HostRuntime) -> Result<(), Fail> {
+    let alloc = rt.alloc();
+    let mut text = String::new(alloc);
+    for i in 0..64 {
+        text.push_str(format!(in alloc; "p{i}|")?.as_str())?;
+    }
+    text.push_str("p64")?;
+    assert_eq!(rt;
+        fault(alloc, text.as_str()),
+        Some(ParseFault::TooManyNames { at: 246 })
+    );
+    Ok(())
+}
+
+#[test]
+fn plus(rt: HostRuntime) -> Result<(), Fail> {
+    let alloc = rt.alloc();
+    let table = [
+        (8, ParseFault::TooLarge { nodes: 1022 }),
+        (
+            30,
+            ParseFault::TooLarge {
+                nodes: 1_000_000_000,
+            },
+        ),
+    ];
+    let mut seven = String::from_str(alloc, "p")?;
+    seven.push_str(times(alloc, "+", 7)?.as_str())?;
+    let pattern = parse(alloc, seven.as_str())?;
+    assert_eq!(rt; pattern.nodes(), 510);
+    for (count, expected) in &table {
+        let mut text = String::from_str(alloc, "p")?;
+        text.push_str(times(alloc, "+", *count)?.as_str())?;
+        assert_eq!(rt; fault(alloc, text.as_str()), Some(*expected));
+    }
+    Ok(())
+}
+
+// The operator at the root of an expression.
+fn root(alloc: Global, text: &str) -> Result<&'static str, ParseFault> {
+    let pattern = parse(alloc, text)?;
+    Ok(match pattern.expr() {
+        Expr::Eps => "eps",
+        Expr::Lit(_) => "literal",
+        Expr::Rise(_) => "rise",
+        Expr::Fall(_) => "fall",
+        Expr::Seq(_, _) => ";",
+        Expr::Alt(_, _) => "|",
+        Expr::Meet(_, _) => "&",
+        Expr::Star(_) => "*",
+        Expr::Within(_, _) => "%",
+    })
+}
+
+#[test]
+fn roots(rt: HostRuntime) -> Result<(), Fail> {
+    let table = [
+        ("p & q ; p", "&"),
+        ("p ; q & p", "&"),
+        ("p | q & p", "|"),
+        ("p & q | p", "|"),
+        ("p | q ; p", "|"),
+        ("p ; q | p", "|"),
+        ("p ; q*", ";"),
+        ("p* ; q", ";"),
+        ("p & q*", "&"),
+        ("p* & q", "&"),
+        ("p | q*", "|"),
+        ("p* | q", "|"),
+        ("p ; q % [1,2]", ";"),
+        ("p % [1,2] ; q", ";"),
+        ("(p ; q) % [1,2]", "%"),
+        ("p* % (1,inf)", "%"),
+        ("p % [1,2]*", "*"),
+        ("p+", ";"),
+        ("p?", "|"),
+        ("<:p:>", ";"),
+        ("<:p", ";"),
+        ("p:>", ";"),
+        ("rise(p && !(q || true))", "rise"),
+        ("fall(p)", "fall"),
+        ("!!{p || q}", "literal"),
+        ("eps", "eps"),
+    ];
+    for (text, expected) in &table {
+        assert_eq!(rt; root(rt.alloc(), *text)?, *expected, "{text}");
+    }
+    Ok(())
+}

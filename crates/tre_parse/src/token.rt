@@ -1,0 +1,58 @@
+/// A token of an expression's text. A name goes by the number of its proposition.
+#[derive(Clone, Copy, Debug, PartialEq, Eq)]
+pub enum Token {
+    /// A name, by the number of its proposition. 64 stands for every name past the first 64.
+    Name(u8),
+    /// A number. All those above the latest time are the one number after it.
+    Number(u64),
+    /// `(`
+    LeftParen,
+    /// `)`
+    RightParen,
+    /// `[`
+    LeftBracket,
+    /// `]`
+    RightBracket,
+    /// `{`
+    LeftBrace,
+    /// `}`
+    RightBrace,
+    /// `,`
+    Comma,
+    /// `;`
+    Semicolon,
+    /// `|`
+    Bar,
+    /// `||`
+    DoubleBar,
+    /// `&`
+    Ampersand,
+    /// `&&`
+    DoubleAmpersand,
+    /// `!`
+    Bang,
+    /// `*`
+    Star,
+    /// `+`
+    Plus,
+    /// `?`
+    Question,
+    /// `%`
+    Percent,
+    /// `<:`
+    Begins,
+    /// `:>`
+    Ends,
+    /// `eps`
+    Eps,
+    /// `rise`
+    Rise,
+    /// `fall`
+    Fall,
+    /// `inf`
+    Inf,
+    /// `true`
+    True,
+    /// `event`, which stands in no rule.
+    Event,
+}
