@@ -1,11 +1,9 @@
 -- What the parts of a line say of the whole line.
-use Rattle.std.proofs.Common.{◌≡◌, ℕ, ◌<◌, Bool, true, false, List, [], ◌∷◌, None, Some, refl, ap, arith, nat_lt, if◌then◌else◌}
+use Rattle.std.proofs.Common.{◌≡◌, ℕ, ◌<◌, Bool, true, false, List, [], ◌∷◌, None, Some, refl, arith, nat_lt}
 use Rattle.std.proofs.lemmas.Bool.Decides.{nat_tests}
-use mir.Val.{bool_byte}
-use Rattle.std.specs.List.{list_all, list_any}
-use Rattle.std.specs.Str.{bytes_eq}
+use Rattle.std.specs.List.{list_all}
 use Rattle.std.specs.Str.Parse.{digits_value}
-use Rattle.tre_tool.specs.Reading.{is_numeral, spells_word, entry_of}
+use Rattle.tre_tool.specs.Reading.{is_numeral, spells_word, entry_of, valuation_of}
 
 pub positive : (n : ℕ) → 0 < n → nat_lt 0 n ≡ true
 positive n h = grind (arith, nat_tests)
@@ -19,10 +17,6 @@ entry_of-no_time names duration fields h zero = rw (h, zero) refl
 pub entry_of-no_names : (names : List (List ℕ)) (duration : List ℕ) (fields : List (List ℕ)) → is_numeral duration ≡ true → 0 < digits_value 10 duration → list_all spells_word fields ≡ false → entry_of names duration fields ≡ None
 entry_of-no_names names duration fields h some other = rw (h, positive _ some, other) refl
 
-pub entry_of-segment : (name duration : List ℕ) (fields : List (List ℕ)) → is_numeral duration ≡ true → 0 < digits_value 10 duration → list_all spells_word fields ≡ true
-    → entry_of (name ∷ []) duration fields ≡ Some (record { len = digits_value 10 duration; val = if list_any (bytes_eq name) fields then 1 else 0 })
-entry_of-segment name duration fields h some words = rw (h, positive _ some, words) (ap (λ value. Some (record { len = digits_value 10 duration; val = value })) (omega arith))
-
-pub bool_value : (b : Bool) → bool_byte b ≡ (if b then 1 else 0)
-bool_value true = refl
-bool_value false = refl
+pub entry_of-segment : (names : List (List ℕ)) (duration : List ℕ) (fields : List (List ℕ)) → is_numeral duration ≡ true → 0 < digits_value 10 duration → list_all spells_word fields ≡ true
+    → entry_of names duration fields ≡ Some (record { len = digits_value 10 duration; val = valuation_of names fields })
+entry_of-segment names duration fields h some words = rw (h, positive _ some, words) refl

@@ -3,8 +3,7 @@ pub mod Digits
 pub mod Entries
 pub mod Inputs
 pub mod Lines
-pub mod Literals
+pub mod Orders
 pub mod Outcomes
 pub mod Promise
-pub mod SpanLists
 pub mod Words

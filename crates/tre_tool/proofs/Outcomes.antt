@@ -4,7 +4,7 @@ use Rattle.std.proofs.lemmas.Bool.{cases_lt}
 use Rattle.std.proofs.lemmas.List.{take-append-le}
 use Rattle.tre_trace.specs.declared.segment.Segment.{Segment}
 use Rattle.tre_trace.specs.declared.fault.TraceFault.{TraceFault}
-use Rattle.tre_trace.specs.declared.fault.TraceKind.TheVariants.{Memory as KindMemory}
+use Rattle.tre_trace.specs.declared.fault.TraceKind.TheVariants.{Memory as KindMemory, Spent as KindSpent}
 use Rattle.std.specs.Io.KnownBytes.{Consumes, IsAtEnd}
 use Rattle.tre_tool.specs.Reading.{text_reading, ReadingOf, Reads}
 use Rattle.tre_tool.proofs.Cuts.{take-over}
@@ -28,10 +28,10 @@ unfolding outcome_of
 outcome_of-refuses names limit bytes fault read = refused _ _ fault read
 
 -- a stop at the first fault, unless memory was wanting
-pub StopsFor-fault : (outcome : Outcome) (fault : TraceFault) (stop : Stop) → (fault.kind ≢ KindMemory → outcome ≡ refuses fault) → IsStopAt fault stop → StopsFor outcome stop
-StopsFor-fault outcome fault (Trace told) read at = rw at.0 (read at.1)
-StopsFor-fault outcome fault TooLong read at = absurd at
-StopsFor-fault outcome fault Memory read at = tt
+pub StopsFor-fault : (outcome : Outcome) (fault : TraceFault) (stop : Stop) → (fault.kind ≢ KindMemory → outcome ≡ refuses fault) → fault.kind ≢ KindSpent → IsStopAt fault stop → StopsFor outcome stop
+StopsFor-fault outcome fault (Trace told) read alive at = rw at.0 (record { never_memory = at.1; never_spent = alive }, read at.1)
+StopsFor-fault outcome fault TooLong read alive at = absurd at
+StopsFor-fault outcome fault Memory read alive at = tt
 
 -- What was read of an input of which at most one byte past the limit was taken: it comes to what all its bytes do.
 pub outcome_of-read : (names : List (List ℕ)) (limit : ℕ) (bytes left : List ℕ) → length bytes ≤ limit + 1 → (length bytes ≤ limit → left ≡ []) → outcome_of names limit (bytes ++ left) ≡ outcome_of names limit bytes

@@ -1,34 +1,19 @@
 -- What the end of a run says of each part of its promise.
-use Rattle.std.proofs.Common.{◌≡◌, ℕ, Bool, true, false, List, [], ◌∷◌, Option, None, Some, IfSome, refl, sym, ◌∙◌, subst, inl, inr, ⊎_elim}
+use Rattle.std.proofs.Common.{◌≡◌, ℕ, Bool, true, false, List, [], ◌∷◌, Option, None, Some, IfSome, refl, sym, ◌∙◌, subst, inl, inr, ⊎_elim, ap, ◌⊎◌}
 use Rattle.std.specs.Prelude.{if◌then◌else◌}
 use Rattle.tre_io.specs.Faults.{Rises}
-use Rattle.tre_state.specs.Name.{IsName}
 use Rattle.tre_tool.specs.Ends.{Outside, EndsAs, EndsOver, EndsWords, RefusesWords}
+use Rattle.tre_parse.specs.Outcome.{IsOutcome, spelt, refused}
+use Rattle.tre_parse.specs.declared.fault.ParseFault.{ParseFault}
+use Rattle.tre_parse.proofs.Outcomes.{outcome_once}
 use Rattle.tre_tool.specs.Job.{job_of}
-use Rattle.tre_tool.specs.Literal.{NamedState, Spells}
+use Rattle.tre_syntax.specs.PatternTree.{PatternTree}
 use Rattle.tre_tool.specs.Outcome.{Outcome, completes, refuses, exceeds, IsAnswer}
-use Rattle.tre_tool.specs.Run.{AsksFor, outcome_for, IsStatusFor}
+use Rattle.tre_tool.specs.Run.{AsksFor, outcome_for, IsStatusFor, AsksInVain}
 use Rattle.tre_tool.specs.declared.job.Job.{Job}
 use Rattle.tre_tool.specs.declared.status.Status.{Status}
 use Rattle.tre_tool.specs.declared.status.Status.TheVariants.{Done, Usage, Expression, Trace, InputTooLong, ReadFault, WriteFault, Memory}
 use Rattle.tre_tool.proofs.Outcomes.{outcome_of-completes}
-
--- A text spells at most one pattern: `!` begins no name.
-marked_no_name : (name : List ℕ) → ¬ IsName (33 ∷ name)
-marked_no_name name is = let wrong : false ≡ true = is.0.0 in cc
-
-Spells-unique : (text name name' : List ℕ) (negated negated' : Bool) → IsName name → IsName name'
-    → text ≡ (if negated then 33 ∷ name else name) → text ≡ (if negated' then 33 ∷ name' else name')
-    → (negated ≡ negated') × (name ≡ name')
-Spells-unique text name name' true true is is' e e' = (refl, cc)
-Spells-unique text name name' false false is is' e e' = (refl, sym e ∙ e')
-Spells-unique text name name' true false is is' e e' = absurd (marked_no_name name (subst IsName (sym e' ∙ e) is'))
-Spells-unique text name name' false true is is' e e' = absurd (marked_no_name name' (subst IsName (sym e ∙ e') is))
-
-pub named_unique : (text : List ℕ) (named named' : NamedState) → Spells text named → Spells text named' → named ≡ named'
-named_unique text named named' spells spells' =
-    let parts = Spells-unique text named.name named'.name named.negated named'.negated spells.is_name spells'.is_name spells.spelt spells'.spelt in
-    λ i. record { name = parts.1 i; negated = parts.0 i }
 
 pub job_unique : (words : List (List ℕ)) (job job' : Job) → job_of words ≡ Some job → job_of words ≡ Some job' → job ≡ job'
 job_unique words job job' e e' = let same : Some job ≡ Some job' = sym e ∙ e' in cc
@@ -46,49 +31,98 @@ memory_is_free (completes trace) = inr refl
 memory_is_free (refuses fault) = inr refl
 memory_is_free exceeds = inr refl
 
-pub done_completes : (job : Job) (named : NamedState) (bytes text : List ℕ) → IsAnswer named job.max_bytes bytes text → IsStatusFor (outcome_for job named bytes) Done
-done_completes job named bytes text answer =
-    rw (outcome_of-completes (named.name ∷ []) job.max_bytes bytes answer.trace answer.within answer.reads) (inl refl)
+pub done_completes : (job : Job) (tree : PatternTree) (names : List (List ℕ)) (bytes text : List ℕ) → IsAnswer tree names job.max_bytes bytes text → IsStatusFor (outcome_for job names bytes) Done
+done_completes job tree names bytes text answer =
+    rw (outcome_of-completes names job.max_bytes bytes answer.trace answer.within answer.reads) (inl refl)
 
 -- a run over a pattern in which no fault was counted
-complete_over : (job : Job) (named : NamedState) (outside : Outside) (status : Status) → EndsAs job named outside status
+complete_over : (job : Job) (tree : PatternTree) (names : List (List ℕ)) (outside : Outside) (status : Status) → EndsAs job tree names outside status
     → ¬ Rises outside.reads_before outside.reads_now → ¬ Rises outside.writes_before outside.writes_now
-    → IfSome outside.file (λ bytes. IsStatusFor (outcome_for job named bytes) status)
-complete_over job named outside Done ends reads writes = weaker outside.file _ _ (λ bytes done. done_completes job named bytes done.text done.answer) ends.2
-complete_over job named outside Usage ends reads writes = absurd ends
-complete_over job named outside (Expression fault) ends reads writes = absurd ends
-complete_over job named outside (Trace fault) ends reads writes = weaker outside.file _ _ (λ bytes e. rw e (inl refl)) ends.2
-complete_over job named outside InputTooLong ends reads writes = weaker outside.file _ _ (λ bytes e. rw e (inl refl)) ends.2
-complete_over job named outside ReadFault ends reads writes = absurd (reads ends.0)
-complete_over job named outside WriteFault ends reads writes = absurd (writes ends.1)
-complete_over job named outside Memory ends reads writes = free outside.file _ (λ bytes. memory_is_free (outcome_for job named bytes))
+    → IfSome outside.file (λ bytes. IsStatusFor (outcome_for job names bytes) status)
+complete_over job tree names outside Done ends reads writes = weaker outside.file _ _ (λ bytes done. done_completes job tree names bytes done.text done.answer) ends.2
+complete_over job tree names outside Usage ends reads writes = absurd ends
+complete_over job tree names outside (Expression fault) ends reads writes = absurd ends
+complete_over job tree names outside (Trace fault) ends reads writes = weaker outside.file _ _ (λ bytes e. rw e (inl refl)) ends.3
+complete_over job tree names outside InputTooLong ends reads writes = weaker outside.file _ _ (λ bytes e. rw e (inl refl)) ends.2
+complete_over job tree names outside ReadFault ends reads writes = absurd (reads ends.0)
+complete_over job tree names outside WriteFault ends reads writes = absurd (writes ends.1)
+complete_over job tree names outside Memory ends reads writes = free outside.file _ (λ bytes. memory_is_free (outcome_for job names bytes))
 
 -- words that ask for a pattern aren't refused but for want of memory
-only_memory : (words : List (List ℕ)) (job : Job) (named : NamedState) (outside : Outside) (status : Status) → AsksFor words job named → RefusesWords words status
-    → IfSome outside.file (λ bytes. IsStatusFor (outcome_for job named bytes) status)
-only_memory words job named outside Done asks told = absurd told
-only_memory words job named outside Usage asks told = let wrong : Some job ≡ None = sym asks.job_is ∙ told in cc
-only_memory words job named outside (Expression fault) asks told =
-    let same = job_unique words job told.1.job asks.job_is told.1.job_is in
-    absurd (told.1.spells_none named (subst (λ (j : Job). Spells j.expr named) same asks.spells))
-only_memory words job named outside (Trace fault) asks told = absurd told
-only_memory words job named outside InputTooLong asks told = absurd told
-only_memory words job named outside ReadFault asks told = absurd told
-only_memory words job named outside WriteFault asks told = absurd told
-only_memory words job named outside Memory asks told = free outside.file _ (λ bytes. memory_is_free (outcome_for job named bytes))
+only_memory : (words : List (List ℕ)) (job : Job) (tree : PatternTree) (names : List (List ℕ)) (outside : Outside) (status : Status) → AsksFor words job tree names → RefusesWords words status
+    → IfSome outside.file (λ bytes. IsStatusFor (outcome_for job names bytes) status)
+only_memory words job tree names outside Done asks told = absurd told
+only_memory words job tree names outside Usage asks told = let wrong : Some job ≡ None = sym asks.job_is ∙ told in cc
+only_memory words job tree names outside (Expression fault) asks told =
+    let same = job_unique words told.job job told.job_is asks.job_is in
+    let one = outcome_once job.expr (refused fault) (spelt tree names) (subst (λ (j : Job). IsOutcome j.expr (refused fault)) same told.refuses) asks.spells in
+    cc
+only_memory words job tree names outside (Trace fault) asks told = absurd told
+only_memory words job tree names outside InputTooLong asks told = absurd told
+only_memory words job tree names outside ReadFault asks told = absurd told
+only_memory words job tree names outside WriteFault asks told = absurd told
+only_memory words job tree names outside Memory asks told = free outside.file _ (λ bytes. memory_is_free (outcome_for job names bytes))
 
 -- the run over the pattern that the words ask for
-pub over_asked : (words : List (List ℕ)) (job : Job) (named : NamedState) (outside : Outside) (status : Status) → AsksFor words job named → EndsOver words outside status → EndsAs job named outside status
-over_asked words job named outside status asks over =
+pub over_asked : (words : List (List ℕ)) (job : Job) (tree : PatternTree) (names : List (List ℕ)) (outside : Outside) (status : Status) → AsksFor words job tree names → EndsOver words outside status → EndsAs job tree names outside status
+over_asked words job tree names outside status asks over =
     let same_job = job_unique words over.job job over.asks.job_is asks.job_is in
-    let spells = subst (λ (j : Job). Spells j.expr over.named) same_job over.asks.spells in
-    let same_named = named_unique job.expr over.named named spells asks.spells in
-    subst (λ n. EndsAs job n outside status) same_named (subst (λ j. EndsAs j over.named outside status) same_job over.ends)
+    let spells = subst (λ (j : Job). IsOutcome j.expr (spelt over.tree over.names)) same_job over.asks.spells in
+    let one = outcome_once job.expr (spelt over.tree over.names) (spelt tree names) spells asks.spells in
+    let same_tree : over.tree ≡ tree = cc in
+    let same_names : over.names ≡ names = cc in
+    subst (λ n. EndsAs job tree n outside status) same_names
+    (subst (λ t. EndsAs job t over.names outside status) same_tree (subst (λ j. EndsAs j over.tree over.names outside status) same_job over.ends))
 
-pub completes-words : (words : List (List ℕ)) (job : Job) (named : NamedState) (outside : Outside) (untouched : Type 0) (status : Status) → AsksFor words job named → EndsWords words outside untouched status
-    → ¬ Rises outside.reads_before outside.reads_now → ¬ Rises outside.writes_before outside.writes_now
-    → IfSome outside.file (λ bytes. IsStatusFor (outcome_for job named bytes) status)
-completes-words words job named outside untouched status asks ends reads writes = ⊎_elim
-    (λ refused. only_memory words job named outside status asks refused.1)
-    (λ over. complete_over job named outside status (over_asked words job named outside status asks over) reads writes)
+-- A status that words aren't refused with comes of a run over the pattern that they ask for.
+pub ends_asked : (words : List (List ℕ)) (job : Job) (tree : PatternTree) (names : List (List ℕ)) (outside : Outside) (untouched : Type 0) (status this : Status) → AsksFor words job tree names → EndsWords words outside untouched status
+    → status ≡ this → (RefusesWords words this → ⊥) → EndsAs job tree names outside this
+ends_asked words job tree names outside untouched status this asks ends is never = ⊎_elim
+    (λ told. absurd (never (subst (RefusesWords words) is told.1)))
+    (λ over. subst (EndsAs job tree names outside) is (over_asked words job tree names outside status asks over))
     ends
+
+pub completes-words : (words : List (List ℕ)) (job : Job) (tree : PatternTree) (names : List (List ℕ)) (outside : Outside) (untouched : Type 0) (status : Status) → AsksFor words job tree names → EndsWords words outside untouched status
+    → ¬ Rises outside.reads_before outside.reads_now → ¬ Rises outside.writes_before outside.writes_now
+    → IfSome outside.file (λ bytes. IsStatusFor (outcome_for job names bytes) status)
+completes-words words job tree names outside untouched status asks ends reads writes = ⊎_elim
+    (λ refused. only_memory words job tree names outside status asks refused.1)
+    (λ over. complete_over job tree names outside status (over_asked words job tree names outside status asks over) reads writes)
+    ends
+
+-- a run over a pattern is none over words without one
+none_over : (words : List (List ℕ)) (outside : Outside) (status : Status) → job_of words ≡ None → EndsOver words outside status → ⊥
+none_over words outside status none over = let wrong : Some over.job ≡ None = sym over.asks.job_is ∙ none in cc
+
+vain_over : (words : List (List ℕ)) (outside : Outside) (status : Status) (fault : ParseFault) → AsksInVain words fault → EndsOver words outside status → ⊥
+vain_over words outside status fault asks over =
+    let same = job_unique words over.job asks.job over.asks.job_is asks.job_is in
+    let one = outcome_once asks.job.expr (spelt over.tree over.names) (refused fault) (subst (λ (j : Job). IsOutcome j.expr (spelt over.tree over.names)) same over.asks.spells) asks.refuses in
+    cc
+
+-- words that ask for no pattern leave all as it was
+pub untouched-words : (words : List (List ℕ)) (outside : Outside) (untouched : Type 0) (status : Status) → EndsWords words outside untouched status
+    → (job_of words ≡ None) ⊎ ((fault : ParseFault) × AsksInVain words fault) → untouched
+untouched-words words outside untouched status ends nothing = ⊎_elim
+    (λ told. told.0)
+    (λ over. absurd (⊎_elim (λ none. none_over words outside status none over) (λ vain. vain_over words outside status vain.0 vain.1 over) nothing))
+    ends
+
+refused_so : (words : List (List ℕ)) (status : Status) (fault : ParseFault) → AsksInVain words fault → RefusesWords words status → (status ≡ Expression fault) ⊎ (status ≡ Memory)
+refused_so words Usage fault asks told = let wrong : Some asks.job ≡ None = sym asks.job_is ∙ told in cc
+refused_so words (Expression other) fault asks told =
+    let same = job_unique words told.job asks.job told.job_is asks.job_is in
+    let one = outcome_once asks.job.expr (refused other) (refused fault) (subst (λ (j : Job). IsOutcome j.expr (refused other)) same told.refuses) asks.refuses in
+    let alike : other ≡ fault = cc in
+    inl (ap Expression alike)
+refused_so words Memory fault asks told = inr refl
+refused_so words Done fault asks told = absurd told
+refused_so words (Trace at) fault asks told = absurd told
+refused_so words InputTooLong fault asks told = absurd told
+refused_so words ReadFault fault asks told = absurd told
+refused_so words WriteFault fault asks told = absurd told
+
+pub no_pattern-words : (words : List (List ℕ)) (outside : Outside) (untouched : Type 0) (status : Status) (fault : ParseFault) → EndsWords words outside untouched status
+    → AsksInVain words fault → (status ≡ Expression fault) ⊎ (status ≡ Memory)
+no_pattern-words words outside untouched status fault ends asks =
+    ⊎_elim (λ told. refused_so words status fault asks told.1) (λ over. absurd (vain_over words outside status fault asks over)) ends

@@ -1,6 +1,9 @@
 -- Words, as a test and as a fact.
-use Rattle.std.proofs.Common.{◌≡◌, ℕ, Bool, true, false, ◌&&◌, ◌||◌, ◌↔◌, List, [], ◌∷◌, refl, sym, IsTrue}
-use Rattle.std.proofs.Math.Bool.{or_assoc}
+use Rattle.std.proofs.Common.{◌≡◌, ℕ, zero, suc, ◌<◌, Bool, true, false, ◌&&◌, ◌↔◌, List, [], ◌∷◌, refl, arith, IsTrue}
+use Rattle.std.specs.Str.{IsAscii, IsUtf8}
+use Rattle.std.proofs.lemmas.Str.{IsUtf8-from_ascii}
+use Rattle.std.proofs.lemmas.Bool.Decides.{nat_tests}
+use Rattle.tre_tool.proofs.Cuts.{is_false}
 use Rattle.std.specs.List.{list_all}
 use Rattle.std.proofs.lemmas.List.Sums.{AllPass-from_list_all, list_all-from_AllPass}
 use Rattle.tre_state.specs.Name.{starts_name, continues_name, IsWord}
@@ -18,12 +21,25 @@ spells_word-is (first ∷ rest) = (
   λ word. rw (word.0, list_all-from_AllPass continues_name rest word.1) refl,
 )
 
--- two tests that are true of the same are the same
-pub same_test : (P : Type 0) (one other : Bool) → IsTrue one ↔ P → IsTrue other ↔ P → one ≡ other
-same_test P true true h k = refl
-same_test P false false h k = refl
-same_test P true false h k = let t = k.1 (h.0 refl) in cc
-same_test P false true h k = let t = h.1 (k.0 refl) in cc
+is_ascii : (b : ℕ) → continues_name b ≡ true → b < 128
+is_ascii b h = grind (arith, nat_tests)
 
-pub found_step : (found here later test : Bool) → here ≡ test → (found || (test || later)) ≡ ((found || here) || later)
-found_step found here later test e = rw e (sym (or_assoc found test later))
+starts_ascii : (b : ℕ) → starts_name b ≡ true → b < 128
+starts_ascii b h = grind (arith, nat_tests)
+
+all_ascii : (bytes : List ℕ) → list_all continues_name bytes ≡ true → IsAscii bytes
+all_ascii [] h i = omega arith
+all_ascii (b ∷ bytes) h zero = is_ascii b (both (continues_name b) (list_all continues_name bytes) h).0
+all_ascii (b ∷ bytes) h (suc i) = all_ascii bytes (both (continues_name b) (list_all continues_name bytes) h).1 i
+
+word_ascii : (bytes : List ℕ) → spells_word bytes ≡ true → IsAscii bytes
+word_ascii [] h i = omega arith
+word_ascii (first ∷ rest) h zero = starts_ascii first (both (starts_name first) (list_all continues_name rest) h).0
+word_ascii (first ∷ rest) h (suc i) = all_ascii rest (both (starts_name first) (list_all continues_name rest) h).1 i
+
+-- what isn't text is no word
+pub spells_word-not_text : (bytes : List ℕ) → ¬ IsUtf8 bytes → spells_word bytes ≡ false
+spells_word-not_text bytes other = is_false (spells_word bytes) (λ word. other (IsUtf8-from_ascii bytes (word_ascii bytes word)))
+
+pub spells_word-not_word : (bytes : List ℕ) → ¬ IsWord bytes → spells_word bytes ≡ false
+spells_word-not_word bytes other = is_false (spells_word bytes) (λ word. other ((spells_word-is bytes).0 word))

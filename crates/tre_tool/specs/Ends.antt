@@ -1,12 +1,12 @@
 -- How a run over a pattern ends, case by case.
 use Rattle.std.specs.Prelude.{◌≡◌, ◌⊎◌, ℕ, List, Option, None, IfSome}
 use Rattle.tre_io.specs.Faults.{Rises}
-use Rattle.tre_tool.specs.Literal.{NamedState}
+use Rattle.tre_syntax.specs.PatternTree.{PatternTree}
 use Rattle.tre_tool.specs.Outcome.{refuses, exceeds}
+use Rattle.tre_tool.specs.Reading.{IsInputKind}
 use Rattle.tre_tool.specs.Job.{job_of}
-use Rattle.tre_tool.specs.Run.{AsksFor, AsksNothing, outcome_for, IsDone, IsCutOff}
+use Rattle.tre_tool.specs.Run.{AsksFor, AsksInVain, outcome_for, IsDone, IsCutOff}
 use Rattle.tre_tool.specs.declared.job.Job.{Job}
-use Rattle.tre_tool.specs.declared.literal.ParseFault.TheVariants.{Syntax}
 use Rattle.tre_tool.specs.declared.status.Status.{Status}
 use Rattle.tre_tool.specs.declared.status.Status.TheVariants.{Done, Usage, Expression, Trace, InputTooLong, ReadFault, WriteFault, Memory}
 
@@ -34,33 +34,34 @@ abbrev pub NothingWritten : Outside → Type 0
 NothingWritten outside = (outside.written_now ≡ outside.written_before) × (outside.writes_now ≡ outside.writes_before)
 
 -- The end of a run over this pattern.
-abbrev pub EndsAs : Job → NamedState → Outside → Status → Type 0
-EndsAs job named outside Done =
+abbrev pub EndsAs : Job → PatternTree → List (List ℕ) → Outside → Status → Type 0
+EndsAs job tree names outside Done =
     AllReadsGood outside × AllWritesGood outside
-    × IfSome outside.file (λ bytes. IsDone job named bytes outside.left outside.written_before outside.written_now)
-EndsAs job named outside Usage = ⊥
-EndsAs job named outside (Expression fault) = ⊥
-EndsAs job named outside (Trace fault) =
-    AllReadsGood outside × NothingWritten outside × IfSome outside.file (λ bytes. outcome_for job named bytes ≡ refuses fault)
-EndsAs job named outside InputTooLong =
-    AllReadsGood outside × NothingWritten outside × IfSome outside.file (λ bytes. outcome_for job named bytes ≡ exceeds)
-EndsAs job named outside ReadFault = Rises outside.reads_before outside.reads_now × NothingWritten outside
-EndsAs job named outside WriteFault =
+    × IfSome outside.file (λ bytes. IsDone job tree names bytes outside.left outside.written_before outside.written_now)
+EndsAs job tree names outside Usage = ⊥
+EndsAs job tree names outside (Expression fault) = ⊥
+EndsAs job tree names outside (Trace fault) =
+    AllReadsGood outside × NothingWritten outside × IsInputKind fault.kind × IfSome outside.file (λ bytes. outcome_for job names bytes ≡ refuses fault)
+EndsAs job tree names outside InputTooLong =
+    AllReadsGood outside × NothingWritten outside × IfSome outside.file (λ bytes. outcome_for job names bytes ≡ exceeds)
+EndsAs job tree names outside ReadFault = Rises outside.reads_before outside.reads_now × NothingWritten outside
+EndsAs job tree names outside WriteFault =
     AllReadsGood outside × Rises outside.writes_before outside.writes_now
-    × IfSome outside.file (λ bytes. IsCutOff job named bytes outside.written_before outside.written_now)
-EndsAs job named outside Memory = AllReadsGood outside × NothingWritten outside
+    × IfSome outside.file (λ bytes. IsCutOff job tree names bytes outside.written_before outside.written_now)
+EndsAs job tree names outside Memory = AllReadsGood outside × NothingWritten outside
 
 -- The words ask for a job and a pattern, and the run over them ended so.
 pub record EndsOver (words : List (List ℕ)) (outside : Outside) (status : Status) : Type 0 where
   pub job : Job
-  pub named : NamedState
-  pub asks : AsksFor words job named
-  pub ends : EndsAs job named outside status
+  pub tree : PatternTree
+  pub names : List (List ℕ)
+  pub asks : AsksFor words job tree names
+  pub ends : EndsAs job tree names outside status
 
 -- Words without a pattern: what a run answers to them.
 abbrev pub RefusesWords : List (List ℕ) → Status → Type 0
 RefusesWords words Usage = job_of words ≡ None
-RefusesWords words (Expression fault) = (fault ≡ Syntax) × AsksNothing words
+RefusesWords words (Expression fault) = AsksInVain words fault
 RefusesWords words Memory = Unit {0}
 RefusesWords words status = ⊥
 

@@ -1,13 +1,10 @@
 pub mod Job
-pub mod Literal
 pub mod Reading
 pub mod Status
 pub mod Matches
 pub mod Output
-pub mod Spans
 pub mod Outcome
 pub mod Stops
-pub mod Named
 pub mod Input
 pub mod Run
 pub mod Ends

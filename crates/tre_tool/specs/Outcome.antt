@@ -1,10 +1,10 @@
 -- What the bytes of an input come to, and the answer to a trace.
-use Rattle.std.specs.Prelude.{◌≡◌, ℕ, ◌≤◌, nat_le, Bool, true, false, List, [], ◌∷◌, length, take, Option, None, Some}
+use Rattle.std.specs.Prelude.{◌≡◌, ℕ, ◌≤◌, nat_le, Bool, true, false, List, length, take, Option, None, Some}
 use Rattle.tre_trace.specs.Trace.{end_of, IsTrace}
 use Rattle.tre_trace.specs.declared.segment.Segment.{Segment}
 use Rattle.tre_trace.specs.declared.fault.TraceFault.{TraceFault}
 use Rattle.tre_zone.specs.declared.zone_bounds.ZoneBounds.{ZoneBounds}
-use Rattle.tre_tool.specs.Literal.{NamedState, state_of}
+use Rattle.tre_syntax.specs.PatternTree.{PatternTree}
 use Rattle.tre_tool.specs.Matches.{IsMatchSet}
 use Rattle.tre_tool.specs.Output.{IsRising, offline_text}
 use Rattle.tre_tool.specs.Reading.{text_reading, Reads, ReadingOf}
@@ -32,12 +32,12 @@ outcome_of names limit bytes =
 
 -- The text is right for a run to the end over these bytes: they are within the limit and say a trace, and the text is
 -- that of the matches of the pattern over it.
-pub record IsAnswer (named : NamedState) (limit : ℕ) (bytes text : List ℕ) : Type 0 where
+pub record IsAnswer (tree : PatternTree) (names : List (List ℕ)) (limit : ℕ) (bytes text : List ℕ) : Type 0 where
   pub within : length bytes ≤ limit
   pub trace : List Segment
-  pub reads : Reads (named.name ∷ []) bytes trace
+  pub reads : Reads names bytes trace
   pub is_trace : IsTrace trace
   pub zones : List ZoneBounds
-  pub matches : IsMatchSet zones (state_of named) trace
+  pub matches : IsMatchSet zones tree trace
   pub rising : IsRising zones
   pub printed : text ≡ offline_text zones (end_of 0 trace)

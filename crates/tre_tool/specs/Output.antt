@@ -1,5 +1,8 @@
 -- The printed text of the zones of a trace.
-use Rattle.std.specs.Prelude.{◌≡◌, ℕ, ◌==◌, ◌⊎◌, List, [], ◌∷◌, ◌++◌, flat_map, ℤ, nat_abs, neg_ℤ, ◌<ℤ◌, codes, decimal, if◌then◌else◌}
+use Rattle.std.specs.Prelude.{◌≡◌, ℕ, ◌==◌, List, [], ◌∷◌, ◌++◌, flat_map, ℤ, nat_abs, neg_ℤ, codes, decimal, if◌then◌else◌}
+use Rattle.std.specs.Cmp.Lexicographic.{slice_cmp}
+use Rattle.std.specs.List.Sorted.{IsSortedByKey}
+use Rattle.std.specs.Ordering.{int_cmp}
 use Rattle.tre_zone.specs.Bound.{value_of, weakness_of}
 use Rattle.tre_zone.specs.declared.zone_bounds.ZoneBounds.{ZoneBounds}
 
@@ -30,17 +33,6 @@ abbrev pub sort_key : ZoneBounds → List ℤ
 sort_key zone =
     neg_ℤ zone.begin_low ∷ zone.begin_high ∷ neg_ℤ zone.end_low ∷ zone.end_high ∷ neg_ℤ zone.dur_low ∷ zone.dur_high ∷ []
 
--- the first difference decides
-abbrev pub IsBefore : List ℤ → List ℤ → Type 0
-IsBefore (x ∷ xs) (y ∷ ys) = (x <ℤ y) ⊎ ((x ≡ y) × IsBefore xs ys)
-IsBefore xs ys = ⊥
-
--- the zone comes before each of the others
-unfoldable pub ComesBeforeAll : ZoneBounds → List ZoneBounds → Type 0
-ComesBeforeAll zone [] = Unit {0}
-ComesBeforeAll zone (other ∷ others) = IsBefore (sort_key zone) (sort_key other) × ComesBeforeAll zone others
-
--- The zones are in the order in which they are printed.
+-- The zones are in the order in which they are printed: the first number that differs decides.
 unfoldable pub IsRising : List ZoneBounds → Type 0
-IsRising [] = Unit {0}
-IsRising (zone ∷ zones) = ComesBeforeAll zone zones × IsRising zones
+IsRising zones = IsSortedByKey sort_key (slice_cmp int_cmp) zones

@@ -1,16 +1,18 @@
 -- What the bytes of a text trace say.
-use Rattle.std.specs.Prelude.{◌≡◌, ℕ, ◌+◌, ◌*◌, ◌^◌, ◌-◌, min, nat_le, nat_lt, Bool, true, false, ◌&&◌, ◌==◌, List, [], ◌∷◌, ◌++◌, length, Option, None, Some, Result, Ok, Err, if◌then◌else◌}
+use Rattle.std.specs.Prelude.{◌≡◌, ◌≢◌, ℕ, ◌+◌, ◌*◌, ◌^◌, ◌-◌, min, nat_le, nat_lt, Bool, true, false, ◌&&◌, ◌==◌, List, [], ◌∷◌, ◌++◌, length, Option, None, Some, Result, Ok, Err, if◌then◌else◌}
 use Rattle.std.specs.List.{slice_split, list_all, list_any}
 use Rattle.std.specs.Str.{bytes_eq}
 use Rattle.std.specs.Str.Parse.{digits_value}
 use Rattle.std.specs.Char.{is_ascii_digit}
 use Rattle.tre_pairs.specs.declared.TheConstants.{TIME_MAX}
+use Rattle.std.specs.Int.Bits.{bit_or}
 use Rattle.tre_state.specs.Name.{starts_name, continues_name}
+use Rattle.tre_state.specs.Names.{place_of}
 use Rattle.tre_trace.specs.Trace.{end_of}
 use Rattle.tre_trace.specs.declared.segment.Segment.{Segment}
 use Rattle.tre_trace.specs.declared.fault.TraceFault.{TraceFault}
 use Rattle.tre_trace.specs.declared.fault.TraceKind.{TraceKind}
-use Rattle.tre_trace.specs.declared.fault.TraceKind.TheVariants.{BadNumber, TooLate}
+use Rattle.tre_trace.specs.declared.fault.TraceKind.TheVariants.{BadNumber, TooLate, Spent, Memory}
 
 -- a line end is the byte 10
 abbrev pub is_line_end : ℕ → Bool
@@ -44,10 +46,23 @@ abbrev pub spells_word : List ℕ → Bool
 spells_word [] = false
 spells_word (first ∷ rest) = starts_name first && list_all continues_name rest
 
--- The valuation on which the names in the fields are true, and the other names false: bit i is that of the i-th name.
+-- the valuation, with this bit set besides, where there is one
+abbrev pub with_bit : ℕ → Option ℕ → ℕ
+with_bit valuation None = valuation
+with_bit valuation (Some place) = bit_or valuation (2 ^ place)
+
+-- the valuation, with the proposition of this name true besides, where there is one
+abbrev pub with_name : List (List ℕ) → ℕ → List ℕ → ℕ
+with_name names valuation field = with_bit valuation (place_of names field)
+
+-- the valuation, with the propositions of the fields true besides
+abbrev pub valuation_after : List (List ℕ) → ℕ → List (List ℕ) → ℕ
+valuation_after names valuation [] = valuation
+valuation_after names valuation (field ∷ fields) = valuation_after names (with_name names valuation field) fields
+
+-- The valuation on which the propositions of the fields are true, and the others false. Bit i is the i-th name's.
 abbrev pub valuation_of : List (List ℕ) → List (List ℕ) → ℕ
-valuation_of [] fields = 0
-valuation_of (name ∷ names) fields = (if list_any (bytes_eq name) fields then 1 else 0) + 2 * valuation_of names fields
+valuation_of names fields = valuation_after names 0 fields
 
 -- the segment that a duration and names say, of whatever length
 abbrev pub entry_of : List (List ℕ) → List ℕ → List (List ℕ) → Option Segment
@@ -113,3 +128,8 @@ pub record Adds (said : Result Segment TraceKind) (old new : List Segment) : Typ
   pub said_so : said ≡ Ok segment
   pub added : new ≡ old ++ segment ∷ []
   pub ends : end_of 0 new ≡ end_of 0 old + segment.len
+
+-- A kind that a line can have: no want of memory, and no reader that was done before.
+pub record IsInputKind (kind : TraceKind) : Type 0 where
+  pub never_memory : kind ≢ Memory
+  pub never_spent : kind ≢ Spent

@@ -3,39 +3,43 @@ use Rattle.std.specs.Prelude.{◌≡◌, ◌≢◌, ◌⊎◌, ℕ, List, [], �
 use Rattle.std.specs.Io.KnownBytes.{Appends, IsAtEnd}
 use Rattle.tre_io.specs.Faults.{Rises}
 use Rattle.tre_io.specs.Written.{AppendsPart}
+use Rattle.tre_parse.specs.declared.fault.ParseFault.{ParseFault}
+use Rattle.tre_parse.specs.declared.fault.ParseFault.TheVariants.{Memory as ParseMemory}
 use Rattle.tre_tool.specs.Job.{job_of}
-use Rattle.tre_tool.specs.Literal.{NamedState, Spells}
+use Rattle.tre_syntax.specs.PatternTree.{PatternTree}
+use Rattle.tre_parse.specs.Outcome.{IsOutcome, spelt, refused}
 use Rattle.tre_tool.specs.Outcome.{Outcome, completes, refuses, exceeds, outcome_of, IsAnswer}
 use Rattle.tre_tool.specs.declared.job.Job.{Job}
 use Rattle.tre_tool.specs.declared.status.Status.{Status}
 use Rattle.tre_tool.specs.declared.status.Status.TheVariants.{Done, Trace, InputTooLong, Memory}
 
--- The words ask for this job, and its text spells this pattern.
-pub record AsksFor (words : List (List ℕ)) (job : Job) (named : NamedState) : Type 0 where
+-- The words ask for this job, and its text spells this pattern within the limits.
+pub record AsksFor (words : List (List ℕ)) (job : Job) (tree : PatternTree) (names : List (List ℕ)) : Type 0 where
   pub job_is : job_of words ≡ Some job
-  pub spells : Spells job.expr named
+  pub spells : IsOutcome job.expr (spelt tree names)
 
--- The words give a job, whose text spells no pattern.
-pub record AsksNothing (words : List (List ℕ)) : Type 0 where
+-- The words give a job, whose text is refused with this fault.
+pub record AsksInVain (words : List (List ℕ)) (fault : ParseFault) : Type 0 where
   pub job : Job
   pub job_is : job_of words ≡ Some job
-  pub spells_none : (named : NamedState) → ¬ Spells job.expr named
+  pub refuses : IsOutcome job.expr (refused fault)
+  pub never_memory : fault ≢ ParseMemory
 
--- What the bytes of an input come to for a job and its pattern.
-abbrev pub outcome_for : Job → NamedState → List ℕ → Outcome
-outcome_for job named bytes = outcome_of (named.name ∷ []) job.max_bytes bytes
+-- What the bytes of an input come to for a job and the names of its pattern.
+abbrev pub outcome_for : Job → List (List ℕ) → List ℕ → Outcome
+outcome_for job names bytes = outcome_of names job.max_bytes bytes
 
 -- `Done`: nothing is left of the input, and what was written is the text of the matches over the trace that it is.
-pub record IsDone (job : Job) (named : NamedState) (bytes : List ℕ) (left written_before written_now : Option (List ℕ)) : Type 0 where
+pub record IsDone (job : Job) (tree : PatternTree) (names : List (List ℕ)) (bytes : List ℕ) (left written_before written_now : Option (List ℕ)) : Type 0 where
   pub all_read : IsAtEnd left
   pub text : List ℕ
-  pub answer : IsAnswer named job.max_bytes bytes text
+  pub answer : IsAnswer tree names job.max_bytes bytes text
   pub written : Appends written_before written_now text
 
 -- A failed write leaves a first part of a text that is right for `Done`.
-pub record IsCutOff (job : Job) (named : NamedState) (bytes : List ℕ) (written_before written_now : Option (List ℕ)) : Type 0 where
+pub record IsCutOff (job : Job) (tree : PatternTree) (names : List (List ℕ)) (bytes : List ℕ) (written_before written_now : Option (List ℕ)) : Type 0 where
   pub text : List ℕ
-  pub answer : IsAnswer named job.max_bytes bytes text
+  pub answer : IsAnswer tree names job.max_bytes bytes text
   pub written : AppendsPart written_before written_now text
 
 -- The status that must come for what the input comes to; want of memory is free.

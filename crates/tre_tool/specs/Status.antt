@@ -1,9 +1,9 @@
 -- What a run answers, as a number and as a line on standard error.
-use Rattle.std.specs.Prelude.{ℕ, List, [], ◌++◌, codes, decimal}
+use Rattle.std.specs.Prelude.{ℕ, Option, None, Some, List, [], ◌++◌, codes, decimal}
 use Rattle.tre_trace.specs.declared.fault.TraceKind.{TraceKind}
 use Rattle.tre_trace.specs.declared.fault.TraceKind.TheVariants.{LineTooLong, BadNumber, Zero, TooLate, BadName, BadToken, UnknownName, TimeBack, CutShort, Spent, Memory as KindMemory}
-use Rattle.tre_tool.specs.declared.literal.ParseFault.{ParseFault}
-use Rattle.tre_tool.specs.declared.literal.ParseFault.TheVariants.{Syntax, Memory as ParseMemory}
+use Rattle.tre_parse.specs.declared.fault.ParseFault.{ParseFault}
+use Rattle.tre_parse.specs.declared.fault.ParseFault.TheVariants.{TooLong, BadByte, Number, TooDeep, Syntax, EmptyInterval, TooManyNames, TooLarge, Memory as ParseMemory}
 use Rattle.tre_tool.specs.declared.status.Status.{Status}
 use Rattle.tre_tool.specs.declared.status.Status.TheVariants.{Done, Usage, Expression, Trace, InputTooLong, ReadFault, WriteFault, Memory}
 
@@ -31,15 +31,40 @@ kind_name CutShort = codes "CutShort"
 kind_name Spent = codes "Spent"
 kind_name KindMemory = codes "Memory"
 
-abbrev pub parse_fault_name : ParseFault → List ℕ
-parse_fault_name Syntax = codes "Syntax"
-parse_fault_name ParseMemory = codes "Memory"
+-- the words on a refused pattern, before its number
+abbrev pub fault_words : ParseFault → List ℕ
+fault_words TooLong = codes "TooLong"
+fault_words (BadByte at) = codes "BadByte at "
+fault_words (Number at) = codes "Number at "
+fault_words (TooDeep at) = codes "TooDeep at "
+fault_words Syntax = codes "Syntax"
+fault_words (EmptyInterval at) = codes "EmptyInterval at "
+fault_words (TooManyNames at) = codes "TooManyNames at "
+fault_words (TooLarge nodes) = codes "TooLarge "
+fault_words ParseMemory = codes "Memory"
+
+-- where a pattern is refused, or how many nodes it has
+abbrev pub fault_number : ParseFault → Option ℕ
+fault_number TooLong = None
+fault_number (BadByte at) = Some at
+fault_number (Number at) = Some at
+fault_number (TooDeep at) = Some at
+fault_number Syntax = None
+fault_number (EmptyInterval at) = Some at
+fault_number (TooManyNames at) = Some at
+fault_number (TooLarge nodes) = Some nodes
+fault_number ParseMemory = None
+
+-- the number in digits, where there is one
+abbrev pub digits_of : Option ℕ → List ℕ
+digits_of None = []
+digits_of (Some n) = decimal n
 
 -- what standard error is told
 abbrev pub error_line : Status → List ℕ
 error_line Done = []
 error_line Usage = codes "montre: wrong arguments\n"
-error_line (Expression fault) = codes "montre: expression: " ++ parse_fault_name fault ++ codes "\n"
+error_line (Expression fault) = codes "montre: expression: " ++ (fault_words fault ++ (digits_of (fault_number fault) ++ codes "\n"))
 error_line (Trace fault) = codes "montre: trace: " ++ kind_name fault.kind ++ codes " at " ++ decimal fault.place ++ codes "\n"
 error_line InputTooLong = codes "montre: input too long\n"
 error_line ReadFault = codes "montre: read fault\n"

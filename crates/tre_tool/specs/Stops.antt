@@ -5,13 +5,13 @@ use Rattle.tre_trace.specs.declared.fault.TraceFault.{TraceFault}
 use Rattle.tre_trace.specs.declared.fault.TraceKind.TheVariants.{Memory as KindMemory}
 use Rattle.tre_trace.specs.declared.segment.Segment.{Segment}
 use Rattle.tre_tool.specs.Outcome.{Outcome, refuses, exceeds}
-use Rattle.tre_tool.specs.Reading.{Reads}
+use Rattle.tre_tool.specs.Reading.{Reads, IsInputKind}
 use Rattle.tre_tool.specs.declared.answer.Stop.{Stop}
 use Rattle.tre_tool.specs.declared.answer.Stop.TheVariants.{Trace, TooLong, Memory}
 
 -- the stop tells what the input comes to, or want of memory
 abbrev pub StopsFor : Outcome → Stop → Type 0
-StopsFor outcome (Trace fault) = outcome ≡ refuses fault
+StopsFor outcome (Trace fault) = IsInputKind fault.kind × (outcome ≡ refuses fault)
 StopsFor outcome TooLong = outcome ≡ exceeds
 StopsFor outcome Memory = Unit {0}
 

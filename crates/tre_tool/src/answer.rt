@@ -1,17 +1,16 @@
 // From the bytes of an input to the text of the matches.
 ghost use Rattle.std.specs.Prelude.{◌≡◌, take, ◌∷◌, [], IfOk, IfErr, string_bytes};
-ghost use Rattle.tre_state.specs.State.{tree_of};
-ghost use Rattle.tre_tool.specs.Literal.{state_of};
-ghost use Rattle.tre_tool.specs.Named.{named_of};
+ghost use Rattle.tre_syntax.specs.Pattern.{pattern_tree, names_of};
 ghost use Rattle.tre_tool.specs.Outcome.{IsAnswer, outcome_of};
 ghost use Rattle.tre_tool.specs.Stops.{StopsFor, IsStopAt, IsWhole};
 
-use crate::literal::Literal;
+use crate::order::printed_order;
 use crate::output::offline_text;
-use crate::runs::runs;
 use crate::text::read_text;
 use std::alloc::{AllocError, Global};
-use tre_state::State;
+use tre_offline::matches;
+use tre_state::Names;
+use tre_syntax::Pattern;
 use tre_trace::{Trace, TraceFault, TraceKind};
 
 /// Why an input has no answer.
@@ -33,15 +32,6 @@ impl From<AllocError> for Stop {
     fn from(_: AllocError) -> Self {
         Stop::Memory
     }
-}
-
-fn state_of(alloc: Global, literal: &Literal) -> Result<State, AllocError>
-    ensures { IfOk result (λ state. tree_of state ≡ state_of (named_of literal.now)) }
-{
-    if !literal.negated {
-        return Ok(State::Prop(0));
-    }
-    Ok(State::Not(Box::new(alloc, State::Prop(0))?))
 }
 
 // The bytes up to the limit.
@@ -66,12 +56,12 @@ fn stop_at(fault: TraceFault) -> Stop
 }
 
 // The trace that an input is, where all its bytes are within the limit.
-fn read_trace(alloc: Global, name: &str, limit: usize, bytes: &[u8]) -> Result<Trace, Stop>
-    ensures trace { IfOk result (IsWhole (name.now ∷ []) limit bytes.now) }
-    ensures stop { IfErr result (StopsFor (outcome_of (name.now ∷ []) limit bytes.now)) }
+fn read_trace(alloc: Global, names: &Names, limit: usize, bytes: &[u8]) -> Result<Trace, Stop>
+    ensures trace { IfOk result (IsWhole names.now limit bytes.now) }
+    ensures stop { IfErr result (StopsFor (outcome_of names.now limit bytes.now)) }
 {
     let closed = bytes.len() <= limit;
-    match read_text(alloc, name, closed, within(bytes, limit)) {
+    match read_text(alloc, names, closed, within(bytes, limit)) {
         Ok(trace) => {
             if !closed {
                 return Err(Stop::TooLong);
@@ -82,14 +72,14 @@ fn read_trace(alloc: Global, name: &str, limit: usize, bytes: &[u8]) -> Result<T
     }
 }
 
-/// The text of all matches of the literal over the trace that the bytes are.
-pub fn answer(alloc: Global, literal: &Literal, limit: usize, bytes: &[u8]) -> Result<String, Stop>
-    ensures text { IfOk result (λ text. IsAnswer (named_of literal.now) limit bytes.now (string_bytes text)) }
-    ensures stop { IfErr result (StopsFor (outcome_of ((named_of literal.now).name ∷ []) limit bytes.now)) }
+/// The text of all matches of the pattern over the trace that the bytes are.
+pub fn answer(alloc: Global, pattern: &Pattern, limit: usize, bytes: &[u8]) -> Result<String, Stop>
+    ensures text { IfOk result (λ text. IsAnswer (pattern_tree pattern.now) (names_of pattern.now) limit bytes.now (string_bytes text)) }
+    ensures stop { IfErr result (StopsFor (outcome_of (names_of pattern.now) limit bytes.now)) }
 {
-    let trace = read_trace(alloc, literal.name.as_str(), limit, bytes)?;
-    let state = state_of(alloc, literal)?;
-    let zones = runs(alloc, &state, &trace)?;
+    let trace = read_trace(alloc, pattern.names(), limit, bytes)?;
+    let set = matches(alloc, pattern, &trace)?;
+    let zones = printed_order(alloc, &set)?;
     let text = offline_text(alloc, &zones, trace.end())?;
     Ok(text)
 }

@@ -15,16 +15,14 @@ mod answer;
 mod input;
 mod job;
 mod line;
-mod literal;
 mod matching;
+mod order;
 mod output;
 mod report;
-mod runs;
 mod status;
 mod text;
 
 pub use job::{Job, MAX_BYTES, Word, WordsFault, read_words};
-pub use literal::{Literal, ParseFault, read_literal};
 pub use matching::run;
 pub use report::tell_status;
 pub use status::Status;

@@ -4,10 +4,10 @@ ghost use Rattle.std.specs.List.{slice_split, list_all, list_any};
 ghost use Rattle.std.specs.Str.{bytes_eq};
 ghost use Rattle.std.specs.Option.{option_copied};
 ghost use Rattle.std.specs.Str.Parse.{digits_value};
-ghost use Rattle.tre_tool.specs.Reading.{is_space, is_numeral, spells_word, entry_of_fields, fields_of, fields_after, capped};
+ghost use Rattle.tre_tool.specs.Reading.{is_space, is_numeral, spells_word, entry_of_fields, fields_of, fields_after, with_name, valuation_of, capped};
 
 use memchr::memchr;
-use tre_state::is_word;
+use tre_state::{Names, is_word};
 use tre_trace::Segment;
 
 /// The bytes before the first `byte`, and those behind it.
@@ -52,44 +52,58 @@ fn read_number(field: &[u8]) -> Option<u64>
     Some(number)
 }
 
-fn is_named(field: &[u8]) -> bool
-    ensures { result ≡ spells_word field.now }
+// The field as text, where it is spelt as a name is.
+fn as_word(field: &[u8]) -> Option<&str>
+    ensures word { IfSome result (λ word. (word.now ≡ field.now) × (spells_word field.now ≡ true)) }
+    ensures none { IfNone result (spells_word field.now ≡ false) }
 {
-    is_word(field)
+    let Ok(text) = str::from_utf8(field) else {
+        return None;
+    };
+    if !is_word(field) {
+        return None;
+    }
+    Some(text)
 }
 
-// Whether the fields behind the duration are names, and the wanted name is one of them.
-fn read_names(name: &str, fields: Option<&[u8]>) -> Option<bool>
+// The valuation, with the proposition of this name true besides.
+fn with_name(names: &Names, valuation: u64, word: &str) -> u64
+    ensures { result ≡ with_name names.now valuation word.now }
+{
+    let _ = names.len();
+    match names.find(word) {
+        Some(place) => valuation | (1 << place),
+        None => valuation,
+    }
+}
+
+// The valuation on which the propositions of the fields are true, where the fields are names.
+fn read_names(names: &Names, fields: Option<&[u8]>) -> Option<u64>
     ensures names { IfSome result (λ _. list_all spells_word (fields_after (option_copied fields.entry)) ≡ true) }
-    ensures found { IfSome result (λ found. found ≡ list_any (bytes_eq name.now) (fields_after (option_copied fields.entry))) }
+    ensures value { IfSome result (λ valuation. valuation ≡ valuation_of names.now (fields_after (option_copied fields.entry))) }
     ensures other { IfNone result (list_all spells_word (fields_after (option_copied fields.entry)) ≡ false) }
 {
     let mut rest = fields;
-    let mut found = false;
+    let mut valuation = 0;
     while let Some(line) = rest {
         let (field, after) = first_field(line);
-        if !is_named(field) {
-            return None;
-        }
-        found |= name.as_bytes() == field;
+        let word = as_word(field)?;
+        valuation = with_name(names, valuation, word);
         rest = after;
     }
-    Some(found)
+    Some(valuation)
 }
 
-/// The segment that a line says for the proposition of this name, where it is a duration of at least
-/// 1 and names, each behind one space. A duration past 2^64 - 1 stays there.
-pub fn read_line(name: &str, line: &[u8]) -> Option<Segment>
-    ensures { result ≡ option_map capped (entry_of_fields (name.now ∷ []) (fields_of line.now)) }
+/// The segment that a line says for the propositions of these names, where it is a duration of at
+/// least 1 and names, each behind one space. A duration past 2^64 - 1 stays there.
+pub fn read_line(names: &Names, line: &[u8]) -> Option<Segment>
+    ensures { result ≡ option_map capped (entry_of_fields names.now (fields_of line.now)) }
 {
     let (duration, rest) = first_field(line);
     let len = read_number(duration)?;
     if len == 0 {
         return None;
     }
-    let found = read_names(name, rest)?;
-    Some(Segment {
-        len,
-        val: u64::from(found),
-    })
+    let val = read_names(names, rest)?;
+    Some(Segment { len, val })
 }

@@ -1,11 +1,12 @@
 ghost use Rattle.std.specs.Prelude.{◌≡◌, List, flat_map, OnOk};
 ghost use Rattle.std.specs.Io.KnownBytes.{Appends};
 ghost use Rattle.tre_io.specs.Faults.{HasCause};
-ghost use Rattle.tre_tool.specs.Status.{kind_name, parse_fault_name, error_line};
+ghost use Rattle.tre_tool.specs.Status.{kind_name, fault_words, fault_number, error_line};
 
-use crate::{ParseFault, Status};
+use crate::Status;
 use itoa::Buffer;
 use tre_io::{Failed, Sink, put_all};
+use tre_parse::ParseFault;
 use tre_trace::TraceKind;
 
 fn kind_name(kind: TraceKind) -> &'static str
@@ -26,12 +27,33 @@ fn kind_name(kind: TraceKind) -> &'static str
     }
 }
 
-fn parse_fault_name(fault: ParseFault) -> &'static str
-    ensures { result.now ≡ parse_fault_name fault }
+fn fault_words(fault: &ParseFault) -> &'static str
+    ensures { result.now ≡ fault_words fault.now }
 {
     match fault {
+        ParseFault::TooLong => "TooLong",
+        ParseFault::BadByte { .. } => "BadByte at ",
+        ParseFault::Number { .. } => "Number at ",
+        ParseFault::TooDeep { .. } => "TooDeep at ",
         ParseFault::Syntax => "Syntax",
+        ParseFault::EmptyInterval { .. } => "EmptyInterval at ",
+        ParseFault::TooManyNames { .. } => "TooManyNames at ",
+        ParseFault::TooLarge { .. } => "TooLarge ",
         ParseFault::Memory => "Memory",
+    }
+}
+
+fn fault_number(fault: &ParseFault) -> Option<u64>
+    ensures { result ≡ fault_number fault.now }
+{
+    match fault {
+        ParseFault::BadByte { at }
+        | ParseFault::Number { at }
+        | ParseFault::TooDeep { at }
+        | ParseFault::EmptyInterval { at }
+        | ParseFault::TooManyNames { at } => Some(*at),
+        ParseFault::TooLarge { nodes } => Some(*nodes),
+        ParseFault::TooLong | ParseFault::Syntax | ParseFault::Memory => None,
     }
 }
 
@@ -45,6 +67,21 @@ fn put_pieces<E: Sink>(err: &mut E, pieces: &[&str]) -> Result<(), Failed>
     Ok(())
 }
 
+fn tell_fault<E: Sink>(fault: &ParseFault, err: &mut E) -> Result<(), Failed>
+    ensures line { OnOk result (Appends (E.written err.old) (E.written err.new) (error_line (Status.Expression fault.now))) }
+    ensures cause { HasCause (E.faults err.old) (E.faults err.new) result }
+{
+    let words = fault_words(fault);
+    match fault_number(fault) {
+        None => put_pieces(err, &["montre: expression: ", words, "\n"]),
+        Some(number) => {
+            let mut buffer = Buffer::new();
+            let digits = buffer.format(number);
+            put_pieces(err, &["montre: expression: ", words, digits, "\n"])
+        }
+    }
+}
+
 /// Tells standard error how the run ended. It takes no memory: the line goes out piece by piece.
 pub fn tell_status<E: Sink>(status: &Status, err: &mut E) -> Result<(), Failed>
     ensures line { OnOk result (Appends (E.written err.old) (E.written err.new) (error_line status.now)) }
@@ -53,10 +90,7 @@ pub fn tell_status<E: Sink>(status: &Status, err: &mut E) -> Result<(), Failed>
     match status {
         Status::Done => Ok(()),
         Status::Usage => put_pieces(err, &["montre: wrong arguments\n"]),
-        Status::Expression(fault) => {
-            let name = parse_fault_name(*fault);
-            put_pieces(err, &["montre: expression: ", name, "\n"])
-        }
+        Status::Expression(fault) => tell_fault(fault, err),
         Status::Trace(fault) => {
             let mut buffer = Buffer::new();
             let place = buffer.format(fault.place);

@@ -1,6 +1,6 @@
 ghost use Rattle.std.specs.Prelude.{◌≡◌};
 
-use crate::ParseFault;
+use tre_parse::ParseFault;
 use tre_trace::{TraceFault, TraceKind};
 
 /// How a run ended.

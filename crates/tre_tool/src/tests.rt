@@ -1,11 +1,11 @@
 ghost use Rattle.std.specs.Prelude.{◌≡◌, ◌<◌, IfOk, false};
 
 use crate::job::{Job, Word};
-use crate::literal::read_literal;
-use crate::matching::{run, run_literal};
+use crate::matching::{run, run_pattern};
 use std::alloc::{AllocError, Global};
 use std::test::Fail;
 use tre_io::{MemSink, MemSource};
+use tre_parse::parse;
 
 /// How a run over memory ended, and what it wrote.
 #[derive(Debug, PartialEq, Eq, Drop)]
@@ -115,19 +115,92 @@ fn traces_and_their_zones(rt: HostRuntime) -> Result<(), Fail> {
 }
 
 #[test]
+fn patterns_and_their_zones(rt: HostRuntime) -> Result<(), Fail> {
+    let bus = "3 p\n2 q\n4 p q\n";
+    let rows = [
+        ("eps", "", "[0,0] [0,0] [0,0]\nend 0\n"),
+        ("p;p", "1 p\n", "[0,1) (0,1] (0,1]\nend 1\n"),
+        ("p;q", bus, "[0,3) (3,9] (0,9]\n[5,9) (5,9] (0,4]\nend 9\n"),
+        ("p % (1,2)", "3 p\n", "[0,2) (1,3] (1,2)\nend 3\n"),
+        ("<:p:>", "2 q\n3 p\n1 q\n", "[2,2] [5,5] [3,3]\nend 6\n"),
+        ("<:p:>", "3 p\n", "end 3\n"),
+        (
+            "(p % [1,1])*",
+            "3 p\n",
+            "[0,0] [3,3] [3,3]\n[0,1] [2,3] [2,2]\n[0,2] [1,3] [1,1]\n[0,3] [0,3] [0,0]\nend 3\n",
+        ),
+        ("eps*", "1 p\n", "[0,1] [0,1] [0,0]\nend 1\n"),
+        (
+            "(p*)*",
+            "1 p\n",
+            "[0,1) (0,1] (0,1]\n[0,1] [0,1] [0,0]\nend 1\n",
+        ),
+        ("{p || q}", "1 p\n1 q\n", "[0,2) (0,2] (0,2]\nend 2\n"),
+        (
+            "p|q",
+            "1 p\n1 q\n",
+            "[0,1) (0,1] (0,1]\n[1,2) (1,2] (0,1]\nend 2\n",
+        ),
+        ("{p} & {q}", bus, "[5,9) (5,9] (0,4]\nend 9\n"),
+        (
+            "<:req:> ; (!ack % [1,4]) ; rise(ack)",
+            "10\n2 req\n3\n1 ack\n4\n",
+            "[10,10] [15,15] [5,5]\nend 20\n",
+        ),
+        ("true", "3 p\n2\n", "[0,5) (0,5] (0,5]\nend 5\n"),
+    ];
+    for (word, text, out) in rows {
+        assert!(rt;
+            is_answer(rt.alloc(), &[word], text, 0, out, "")?,
+            "{word} on {text:?}"
+        );
+    }
+    Ok(())
+}
+
+#[test]
 fn words_and_patterns_refused(rt: HostRuntime) -> Result<(), Fail> {
     let usage = "montre: wrong arguments\n";
     assert!(rt; is_answer(rt.alloc(), &[], "3 p\n", 2, "", usage)?);
     assert!(rt; is_answer(rt.alloc(), &["p", "q"], "3 p\n", 2, "", usage)?);
-    for word in [
-        "p q", "!", "! p", "!!p", "!eps", "eps", "true", "", "9p", "p@",
-    ] {
-        let told = "montre: expression: Syntax\n";
+    let rows = [
+        ("p % [3,2]", "EmptyInterval at 4"),
+        ("p;", "Syntax"),
+        ("p % [0,1099511627777]", "Number at 7"),
+        ("p@", "BadByte at 1"),
+        ("p q", "Syntax"),
+        ("! ", "Syntax"),
+        ("", "Syntax"),
+    ];
+    for (word, fault) in rows {
+        let told = format!(in rt.alloc(); "montre: expression: {fault}\n")?;
         assert!(rt;
-            is_answer(rt.alloc(), &[word], "3 p\n", 3, "", told)?,
+            is_answer(rt.alloc(), &[word], "3 p\n", 3, "", told.as_str())?,
             "{word}"
         );
     }
+    Ok(())
+}
+
+/// `count` times the text, joined by `;`.
+fn joined(alloc: Global, text: &str, count: usize) -> Result<String, AllocError> {
+    let mut all = String::from_str(alloc, text)?;
+    for _ in 1..count {
+        all.push_str(";")?;
+        all.push_str(text)?;
+    }
+    Ok(all)
+}
+
+#[test]
+fn long_patterns_refused(rt: HostRuntime) -> Result<(), Fail> {
+    let alloc = rt.alloc();
+    let many = joined(alloc, "p", 334)?;
+    let told = "montre: expression: TooLarge 1001\n";
+    assert!(rt; is_answer(alloc, &[many.as_str()], "", 3, "", told)?);
+    let spaces = joined(alloc, " ", 8193)?;
+    let told = "montre: expression: TooLong\n";
+    assert!(rt; is_answer(alloc, &[spaces.as_str()], "", 3, "", told)?);
     Ok(())
 }
 
@@ -187,23 +260,18 @@ fn each_read_fails_in_turn(rt: HostRuntime) -> Result<(), Fail> {
 #[test]
 fn each_write_fails_in_turn(rt: HostRuntime) -> Result<(), Fail> {
     let left = [
-        "",
-        "[0,3)",
-        "[0,3) (0,3",
-        "[0,3) (0,3] (0,",
-        "[0,3) (0,3] (0,3]\nen",
+        (1, ""),
+        (2, "[0,3)"),
+        (3, "[0,3) (0,3"),
+        (4, "[0,3) (0,3] (0,"),
+        (5, "[0,3) (0,3] (0,3]\nen"),
     ];
-    let mut call = 1;
-    for text in left {
-        let write = Device {
-            most: 5,
-            fails: call,
-        };
+    for (fails, text) in left {
+        let write = Device { most: 5, fails };
         let ran = ran_with(rt.alloc(), &["p"], "3 p\n", [SOUND, write, SOUND])?;
         assert_eq!(rt; ran.code, 7);
         assert_eq!(rt; ran.out.as_slice(), text.as_bytes());
         assert_eq!(rt; ran.err.as_slice(), b"montre: write fault\n".as_slice());
-        call += 1;
     }
     Ok(())
 }
@@ -229,12 +297,12 @@ fn limited(alloc: Global, limit: u64, text: &str) -> Result<u8, Fail>
         max_bytes: limit,
         expr: Word::new(alloc, "p")?,
     };
-    let Ok(literal) = read_literal(alloc, "p") else {
+    let Ok(pattern) = parse(alloc, "p") else {
         return Ok(255);
     };
     let mut input = source_of(alloc, text, SOUND)?;
     let mut out = sink_of(alloc, SOUND)?;
-    Ok(run_literal(alloc, &literal, &job, &mut input, &mut out).code())
+    Ok(run_pattern(alloc, &pattern, &job, &mut input, &mut out).code())
 }
 
 #[test]

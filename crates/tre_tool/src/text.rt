@@ -1,12 +1,13 @@
 // A whole text trace, line by line.
 ghost use Rattle.std.specs.Prelude.{◌≡◌, ◌≢◌, ◌+◌, ◌<◌, ◌≤◌, List, [], ◌∷◌, ◌++◌, length, IfOk, IfErr, OnOk, OnErr, IfNone, IfSome, None, Some};
 ghost use Rattle.tre_trace.specs.Trace.{end_of, IsTrace};
-ghost use Rattle.tre_trace.specs.declared.fault.TraceKind.TheVariants.{Memory};
+ghost use Rattle.tre_trace.specs.declared.fault.TraceKind.TheVariants.{Memory, Spent};
 ghost use Rattle.std.specs.List.{slice_split};
 ghost use Rattle.tre_tool.specs.Reading.{is_line_end, lines_of, line_says, text_reading, Adds};
 
 use crate::line::{cut_at, read_line};
 use std::alloc::Global;
+use tre_state::Names;
 use tre_trace::{PushFault, Trace, TraceFault, TraceKind};
 
 // The first line of the bytes, and what stands behind it. Bytes without a line end are a line where
@@ -39,13 +40,14 @@ fn last_line(closed: bool, bytes: &[u8]) -> Option<(&[u8], &[u8])>
 }
 
 // Puts what a line says behind the trace.
-fn add_line(name: &str, line: &[u8], trace: &mut Trace) -> Result<(), TraceKind>
-    ensures added { OnOk result (Adds (line_says (name.now ∷ []) (end_of 0 trace.old) line.now) trace.old trace.new) }
-    ensures fault { IfErr result (λ kind. kind ≢ Memory → line_says (name.now ∷ []) (end_of 0 trace.old) line.now ≡ Err kind) }
+fn add_line(names: &Names, line: &[u8], trace: &mut Trace) -> Result<(), TraceKind>
+    ensures added { OnOk result (Adds (line_says names.now (end_of 0 trace.old) line.now) trace.old trace.new) }
+    ensures fault { IfErr result (λ kind. kind ≢ Memory → line_says names.now (end_of 0 trace.old) line.now ≡ Err kind) }
+    ensures kinds { IfErr result (λ kind. kind ≢ Spent) }
     ensures trace { IsTrace trace.new }
 {
     let _ = trace.end();
-    let Some(segment) = read_line(name, line) else {
+    let Some(segment) = read_line(names, line) else {
         return Err(TraceKind::BadNumber);
     };
     match trace.push(segment) {
@@ -56,18 +58,24 @@ fn add_line(name: &str, line: &[u8], trace: &mut Trace) -> Result<(), TraceKind>
     }
 }
 
-/// The trace that the bytes of a text say for the proposition of this name, or the first fault.
+/// The trace that the bytes of a text say for the propositions of these names, or the first fault.
 /// While the input is not closed, bytes behind the last line end say nothing.
-pub fn read_text(alloc: Global, name: &str, closed: bool, bytes: &[u8]) -> Result<Trace, TraceFault>
-    ensures read { IfOk result (λ trace. text_reading (name.now ∷ []) closed bytes.now ≡ record { segments = trace; fault = None }) }
+pub fn read_text(
+    alloc: Global,
+    names: &Names,
+    closed: bool,
+    bytes: &[u8],
+) -> Result<Trace, TraceFault>
+    ensures read { IfOk result (λ trace. text_reading names.now closed bytes.now ≡ record { segments = trace; fault = None }) }
     ensures trace { IfOk result IsTrace }
-    ensures fault { IfErr result (λ fault. fault.kind ≢ Memory → (text_reading (name.now ∷ []) closed bytes.now).fault ≡ Some fault) }
+    ensures kinds { IfErr result (λ fault. fault.kind ≢ Spent) }
+    ensures fault { IfErr result (λ fault. fault.kind ≢ Memory → (text_reading names.now closed bytes.now).fault ≡ Some fault) }
 {
     let mut trace = Trace::new(alloc);
     let mut rest = bytes;
     let mut number = 1u64;
     while let Some((line, after)) = first_line(closed, rest) {
-        if let Err(kind) = add_line(name, line, &mut trace) {
+        if let Err(kind) = add_line(names, line, &mut trace) {
             return Err(TraceFault {
                 place: number,
                 kind,

@@ -1,7 +1,7 @@
 use Rattle.std.proofs.Common.{◌≡◌, ◌-◌, ◌^◌, ◌<◌, min, Some, refl, ap, arith}
 use Rattle.std.specs.Str.Parse.{digits_value}
 use Rattle.tre_tool.specs.Reading.{fields_of}
-use Rattle.tre_tool.proofs.Entries.{entry_of-no_numeral, entry_of-no_time, entry_of-no_names, entry_of-segment, bool_value}
+use Rattle.tre_tool.proofs.Entries.{entry_of-no_numeral, entry_of-no_time, entry_of-no_names, entry_of-segment}
 use Rattle.tre_tool.proofs.line.read_line.Goals as goal
 
 pub returns-in_err-len : goal.returns-in_err-len
@@ -15,14 +15,14 @@ returns-then-len-eq0 c =
     let zero : digits_value 10 c.first_field.result.0.now ≡ 0 = omega (arith, c.in_ok-len.ensures.value) in
     rw (c.first_field.ensures.fields, entry_of-no_time _ _ _ c.in_ok-len.ensures.digits zero) refl
 
-pub returns-in_err-found : goal.returns-in_err-found
+pub returns-in_err-val : goal.returns-in_err-val
 unfolding fields_of
-returns-in_err-found c =
+returns-in_err-val c =
     let some : 0 < digits_value 10 c.first_field.result.0.now = omega (arith, c.in_ok-len.ensures.value) in
-    rw (c.from_residual-in_err-found.ensures, c.first_field.ensures.fields, entry_of-no_names _ _ _ c.in_ok-len.ensures.digits some c.in_err-found.ensures.other) refl
+    rw (c.from_residual-in_err-val.ensures, c.first_field.ensures.fields, entry_of-no_names _ _ _ c.in_ok-len.ensures.digits some c.in_err-val.ensures.other) refl
 
 pub returns : goal.returns
 unfolding fields_of
 returns c =
     let some : 0 < digits_value 10 c.first_field.result.0.now = omega (arith, c.in_ok-len.ensures.value) in
-    rw (c.first_field.ensures.fields, entry_of-segment _ _ _ c.in_ok-len.ensures.digits some c.in_ok-found.ensures.names, c.in_ok-len.ensures.value, c.from.ensures, ← c.in_ok-found.ensures.found) (ap (λ value. Some (record { len = min (digits_value 10 c.first_field.result.0.now) (2 ^ 64 - 1); val = value })) (bool_value c.in_ok-found.found))
+    rw (c.first_field.ensures.fields, entry_of-segment _ _ _ c.in_ok-len.ensures.digits some c.in_ok-val.ensures.names, c.in_ok-len.ensures.value, c.in_ok-val.ensures.value) refl

@@ -1,10 +1,6 @@
 use Rattle.std.proofs.Common.{append_assoc}
 use Rattle.tre_tool.proofs.report.tell_status.Goals as goal
 
-pub returns-in-Expression-clause-line : goal.returns-in-Expression-clause-line
-returns-in-Expression-clause-line g c =
-    rw c.in-Expression.is (simp append_assoc (rw c.parse_fault_name-name.ensures at c.put_pieces-in-Expression.ensures.all))
-
 pub returns-in-Trace-clause-line : goal.returns-in-Trace-clause-line
 returns-in-Trace-clause-line g c =
     rw c.in-Trace.is (simp append_assoc (rw (c.kind_name-name.ensures, c.format-place.ensures.text) at c.put_pieces-in-Trace.ensures.all))
