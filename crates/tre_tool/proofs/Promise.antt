@@ -1,5 +1,5 @@
 -- What the end of a run says of each part of its promise.
-use Rattle.std.proofs.Common.{◌≡◌, ℕ, Bool, true, false, List, [], ◌∷◌, Option, None, Some, IfSome, refl, sym, ◌∙◌, subst, inl, inr, ⊎_elim, ap, ◌⊎◌}
+use Rattle.std.proofs.Common.{◌≡◌, ◌≢◌, ℕ, Bool, true, false, List, [], ◌∷◌, Option, None, Some, IfSome, refl, sym, ◌∙◌, subst, inl, inr, ⊎_elim, ap, ◌⊎◌}
 use Rattle.std.specs.Prelude.{if◌then◌else◌}
 use Rattle.tre_io.specs.Faults.{Rises}
 use Rattle.tre_tool.specs.Ends.{Outside, EndsAs, EndsOver, EndsWords, RefusesWords}
@@ -9,7 +9,7 @@ use Rattle.tre_parse.proofs.Outcomes.{outcome_once}
 use Rattle.tre_tool.specs.Job.{job_of}
 use Rattle.tre_syntax.specs.PatternTree.{PatternTree}
 use Rattle.tre_tool.specs.Outcome.{Outcome, completes, refuses, exceeds, IsAnswer}
-use Rattle.tre_tool.specs.Run.{AsksFor, outcome_for, IsStatusFor, AsksInVain}
+use Rattle.tre_tool.specs.Run.{AsksFor, HasPattern, outcome_for, IsStatusFor, AsksInVain}
 use Rattle.tre_tool.specs.declared.job.Job.{Job}
 use Rattle.tre_tool.specs.declared.status.Status.{Status}
 use Rattle.tre_tool.specs.declared.status.Status.TheVariants.{Done, Usage, Expression, Trace, InputTooLong, ReadFault, WriteFault, Memory}
@@ -88,6 +88,24 @@ pub completes-words : (words : List (List ℕ)) (job : Job) (tree : PatternTree)
 completes-words words job tree names outside untouched status asks ends reads writes = ⊎_elim
     (λ refused. only_memory words job tree names outside status asks refused.1)
     (λ over. complete_over job tree names outside status (over_asked words job tree names outside status asks over) reads writes)
+    ends
+
+-- a run that wasn't refused by its words ran over a pattern
+not_refused : (words : List (List ℕ)) (status : Status) → status ≢ Usage → ((fault : ParseFault) → status ≢ Expression fault) → status ≢ Memory → RefusesWords words status → ⊥
+not_refused words Usage usage expression memory told = usage refl
+not_refused words (Expression fault) usage expression memory told = expression fault refl
+not_refused words Memory usage expression memory told = memory refl
+not_refused words Done usage expression memory told = told
+not_refused words (Trace fault) usage expression memory told = told
+not_refused words InputTooLong usage expression memory told = told
+not_refused words ReadFault usage expression memory told = told
+not_refused words WriteFault usage expression memory told = told
+
+pub asked-words : (words : List (List ℕ)) (outside : Outside) (untouched : Type 0) (status : Status) → EndsWords words outside untouched status
+    → status ≢ Usage → ((fault : ParseFault) → status ≢ Expression fault) → status ≢ Memory → HasPattern words
+asked-words words outside untouched status ends usage expression memory = ⊎_elim
+    (λ told. absurd (not_refused words status usage expression memory told.1))
+    (λ over. record { job = over.job; tree = over.tree; names = over.names; asks = over.asks })
     ends
 
 -- a run over a pattern is none over words without one

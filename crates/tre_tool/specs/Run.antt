@@ -18,6 +18,13 @@ pub record AsksFor (words : List (List ℕ)) (job : Job) (tree : PatternTree) (n
   pub job_is : job_of words ≡ Some job
   pub spells : IsOutcome job.expr (spelt tree names)
 
+-- The words ask for a pattern.
+pub record HasPattern (words : List (List ℕ)) : Type 0 where
+  pub job : Job
+  pub tree : PatternTree
+  pub names : List (List ℕ)
+  pub asks : AsksFor words job tree names
+
 -- The words give a job, whose text is refused with this fault.
 pub record AsksInVain (words : List (List ℕ)) (fault : ParseFault) : Type 0 where
   pub job : Job

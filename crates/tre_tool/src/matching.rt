@@ -8,7 +8,7 @@ ghost use Rattle.tre_tool.specs.Job.{job_of};
 ghost use Rattle.tre_syntax.specs.Pattern.{pattern_tree, names_of};
 ghost use Rattle.tre_syntax.specs.PatternTree.{PatternTree};
 ghost use Rattle.tre_tool.specs.Outcome.{refuses, exceeds};
-ghost use Rattle.tre_tool.specs.Run.{AsksFor, AsksInVain, outcome_for, IsDone, IsCutOff, IsStatusFor, IsCountedFault};
+ghost use Rattle.tre_tool.specs.Run.{AsksFor, HasPattern, AsksInVain, outcome_for, IsDone, IsCutOff, IsStatusFor, IsCountedFault};
 ghost use Rattle.tre_tool.specs.Status.{error_line};
 ghost use Rattle.tre_tool.specs.declared.job.Job.{Job};
 ghost use Rattle.tre_parse.specs.declared.fault.ParseFault.{ParseFault};
@@ -150,6 +150,7 @@ pub fn run<S: Source, O: Sink, E: Sink>(
     ensures error_line { ¬ Rises (E.faults err.old) (E.faults err.new) → Appends (E.written err.old) (E.written err.new) (error_line result) }
 
     // Why it ended so.
+    ensures asked { result ≢ Status.Usage → ((fault : ParseFault) → result ≢ Status.Expression fault) → result ≢ Status.Memory → HasPattern (map string_bytes words.now) }
     ensures usage_cause { result ≡ Status.Usage → job_of (map string_bytes words.now) ≡ None }
     ensures no_job { job_of (map string_bytes words.now) ≡ None → (result ≡ Status.Usage) ⊎ (result ≡ Status.Memory) }
     ensures expression_cause { (fault : ParseFault) → result ≡ Status.Expression fault → AsksInVain (map string_bytes words.now) fault }

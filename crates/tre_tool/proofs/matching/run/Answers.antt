@@ -1,4 +1,4 @@
-use Rattle.tre_tool.proofs.Promise.{ends_asked, completes-words, untouched-words, no_pattern-words}
+use Rattle.tre_tool.proofs.Promise.{ends_asked, asked-words, completes-words, untouched-words, no_pattern-words}
 use Rattle.tre_tool.specs.declared.status.Status.TheVariants.{Done, WriteFault}
 use Rattle.tre_tool.proofs.matching.run.Goals as goal
 
@@ -7,6 +7,9 @@ returns-clause-done_offline g c = λ job tree names asks is. (ends_asked _ job t
 
 pub returns-clause-before_a_failed_write : goal.returns-clause-before_a_failed_write
 returns-clause-before_a_failed_write g c = λ job tree names asks is. (ends_asked _ job tree names _ _ _ WriteFault asks c.run_words-status.ensures.ends is (λ told. told)).2
+
+pub returns-clause-asked : goal.returns-clause-asked
+returns-clause-asked g c = λ usage expression memory. asked-words _ _ _ _ c.run_words-status.ensures.ends usage expression memory
 
 pub returns-clause-complete : goal.returns-clause-complete
 returns-clause-complete g c = λ job tree names asks reads writes. completes-words _ job tree names _ _ _ asks c.run_words-status.ensures.ends reads writes
