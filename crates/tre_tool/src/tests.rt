@@ -158,6 +158,28 @@ fn patterns_and_their_zones(rt: HostRuntime) -> Result<(), Fail> {
     Ok(())
 }
 
+/// `p0` to `p63`, each behind the sign.
+fn all_names(alloc: Global, sign: &str) -> Result<String, AllocError> {
+    let mut all = String::new(alloc);
+    for number in 0u64..64 {
+        let name = format!(in alloc; "{sign}p{number}")?;
+        all.push_str(name.as_str())?;
+    }
+    Ok(all)
+}
+
+#[test]
+fn the_most_names(rt: HostRuntime) -> Result<(), Fail> {
+    let alloc = rt.alloc();
+    let every = all_names(alloc, " && ")?;
+    let pattern = format!(in alloc; "{{true{every}}}")?;
+    let names = all_names(alloc, " ")?;
+    let trace = format!(in alloc; "2{names}\n3 p0 p63\n")?;
+    let out = "[0,2) (0,2] (0,2]\nend 5\n";
+    assert!(rt; is_answer(alloc, &[pattern.as_str()], trace.as_str(), 0, out, "")?);
+    Ok(())
+}
+
 #[test]
 fn words_and_patterns_refused(rt: HostRuntime) -> Result<(), Fail> {
     let usage = "montre: wrong arguments\n";
