@@ -10,9 +10,9 @@ counted n = min (n + 1) (2 ^ 64 - 1)
 abbrev pub Rises : ℕ → ℕ → Type 0
 Rises before now = counted before ≤ now
 
--- Ok leaves the count of faults as it was, and a call failed only where it rose.
+-- Ok leaves the count of faults as it was, and a call that failed counted one fault more.
 pub record HasCause {T : Type 0} (before now : ℕ) (result : Result T Failed) : Type 0 where
   pub later : before ≤ now
   pub fits : before < 2 ^ 64 → now < 2 ^ 64
   pub ok : OnOk result (now ≡ before)
-  pub failed : OnErr result (Rises before now)
+  pub failed : OnErr result (now ≡ counted before)

@@ -3,9 +3,10 @@ use Rattle.std.specs.Prelude.{ℕ, List, Bool, true, false, Option, None}
 use Rattle.tre_io.specs.declared.file_source.Opened.{Opened}
 use Rattle.tre_io.specs.declared.file_source.Opened.TheVariants.{Nothing, File, Standard}
 
--- Whether it is open, the bytes left where its reader tells them, and how often a call failed.
+-- Whether it is open, whether it is standard input, the bytes left where its reader tells them, and how often a call failed.
 pub record SystemInput : Type 0 where
   pub opened : Bool
+  pub standard : Bool
   pub left : Option (List ℕ)
   pub faults : ℕ
 
@@ -13,6 +14,11 @@ pub record SystemInput : Type 0 where
 abbrev pub is_open : {F I : Type 0} → Opened F I → Bool
 is_open Nothing = false
 is_open _ = true
+
+-- it was opened, and is standard input
+abbrev pub is_standard : {F I : Type 0} → Opened F I → Bool
+is_standard (Standard input) = true
+is_standard _ = false
 
 -- what the reader of a file, or that of standard input, has left
 abbrev pub left_in : {F I : Type 0} → (F → Option (List ℕ)) → (I → Option (List ℕ)) → Opened F I → Option (List ℕ)

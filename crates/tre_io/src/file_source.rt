@@ -1,8 +1,10 @@
 // A file or standard input as a source.
-ghost use Rattle.std.specs.Prelude.{◌≡◌, IsTrue, IfOk, None, true, false, refl};
+ghost use Rattle.std.specs.Prelude.{◌≡◌, IsTrue, IfOk, OnOk, OnErr, None, true, false, refl, codes};
 ghost use Rattle.std.specs.Io.{ReadsAtMost};
 ghost use Rattle.std.specs.Io.KnownBytes.{ReadConsumes};
-ghost use Rattle.tre_io.specs.SystemInput.{is_open, left_in};
+ghost use Rattle.std.specs.Str.{bytes_eq};
+ghost use Rattle.tre_io.specs.Faults.{HasCause};
+ghost use Rattle.tre_io.specs.SystemInput.{is_open, is_standard, left_in};
 
 use crate::faults::{Failed, count_fault};
 use crate::source::Source;
@@ -30,12 +32,13 @@ enum Opened<F, I> {
 }
 
 impl<'a, R: Files + Input> Model for FileSource<'a, R> {
-    ghost use Rattle.tre_io.specs.SystemInput.{SystemInput, is_open, left_in};
+    ghost use Rattle.tre_io.specs.SystemInput.{SystemInput, is_open, is_standard, left_in};
 
     ghost Value = { SystemInput };
 
     ghost view = { λ a. record {
       opened = is_open a.input;
+      standard = is_standard a.input;
       left = left_in R.File.remaining R.Reader.remaining a.input;
       faults = a.faults;
     } };
@@ -46,6 +49,7 @@ impl<F: Read, I: Read> Opened<F, I> {
         requires { IsTrue (is_open self.old) }
         ensures within { ReadsAtMost result buf.new }
         ensures same { is_open self.new ≡ is_open self.old }
+        ensures same_standard { is_standard self.new ≡ is_standard self.old }
         ensures bytes { ReadConsumes (left_in F.remaining I.remaining self.old) (left_in F.remaining I.remaining self.new) result buf.new }
     {
         match self {
@@ -58,7 +62,8 @@ impl<F: Read, I: Read> Opened<F, I> {
 
 // What a name stands for.
 fn opened_by_name<R: Files + Input>(rt: &R, name: &str) -> io::Result<Opened<R::File, R::Reader>>
-    ensures { IfOk result (λ input. IsTrue (is_open input)) }
+    ensures opened { IfOk result (λ input. IsTrue (is_open input)) }
+    ensures by_name { IfOk result (λ input. is_standard input ≡ bytes_eq name.now (codes "-")) }
 {
     if name == "-" {
         return Ok(Opened::Standard(rt.reader()));
@@ -69,7 +74,7 @@ fn opened_by_name<R: Files + Input>(rt: &R, name: &str) -> io::Result<Opened<R::
 impl<'a, R: Files + Input> FileSource<'a, R> {
     /// Nothing is opened.
     pub fn new(rt: &'a R) -> FileSource<'a, R>
-        ensures { result ≡ record { opened = false; left = None; faults = 0 } }
+        ensures { result ≡ record { opened = false; standard = false; left = None; faults = 0 } }
     {
         FileSource {
             rt,
@@ -96,7 +101,14 @@ impl<'a, R: Files + Input> Source for FileSource<'a, R> {
 
     ghost sound_tells = { λ _ sound. sound };
 
-    fn open(&mut self, name: &str) -> Result<(), Failed> {
+    /// Opens standard input by the name `-`, and a file of the system by any other. After a failure it
+    /// stands where it stood.
+    fn open(&mut self, name: &str) -> Result<(), Failed>
+        ensures opens { OnOk result (IsTrue self.new.opened) }
+        ensures by_name { OnOk result (self.new.standard ≡ bytes_eq name.now (codes "-")) }
+        ensures unchanged { OnErr result (self.new ≡ record self.old { faults = self.new.faults }) }
+        ensures cause { HasCause self.old.faults self.new.faults result }
+    {
         match opened_by_name(self.rt, name) {
             Ok(input) => {
                 self.input = input;
