@@ -1,11 +1,20 @@
 -- Lists of segments, and one more behind them.
 use Rattle.std.proofs.Common.{◌≡◌, ℕ, ◌+◌, ◌≤◌, List, [], ◌∷◌, ◌++◌, refl}
+use Rattle.std.specs.Prelude.{fold, sum_by}
 use Rattle.tre_trace.specs.declared.segment.Segment.{Segment}
 use Rattle.tre_trace.specs.Trace.{end_of, AreLong, IsTrace, Fits}
 
 pub end_of-append : (start : ℕ) (xs ys : List Segment) → end_of start (xs ++ ys) ≡ end_of (end_of start xs) ys
 end_of-append start [] ys = refl
 end_of-append start (x ∷ xs) ys = end_of-append (start + x.len) xs ys
+
+-- the last segment ends when all their lengths have passed
+end_of-fold : (start : ℕ) (segments : List Segment) → end_of start segments ≡ fold (λ time segment. time + segment.len) start segments
+end_of-fold start [] = refl
+end_of-fold start (segment ∷ rest) = end_of-fold (start + segment.len) rest
+
+pub end_of-sum : (segments : List Segment) → end_of 0 segments ≡ sum_by (λ segment. segment.len) segments
+end_of-sum segments = end_of-fold 0 segments
 
 pub AreLong-push : (xs : List Segment) (y : Segment) → AreLong xs → 1 ≤ y.len → AreLong (xs ++ y ∷ [])
 AreLong-push [] y long last = (last, tt)

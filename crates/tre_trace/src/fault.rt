@@ -1,8 +1,3 @@
-ghost use Rattle.std.specs.Prelude.{◌≡◌};
-ghost use Rattle.tre_trace.specs.declared.fault.PushFault.TheVariants.{Memory};
-
-use std::alloc::{AllocError, AllocFailed};
-
 /// Why a trace refused a segment.
 #[derive(Clone, Copy, Debug, PartialEq, Eq)]
 pub enum PushFault {

@@ -1,4 +1,4 @@
-ghost use Rattle.std.specs.Prelude.{◌≡◌, ◌+◌, List, [], ◌∷◌, ◌++◌, IfErr, OnOk, OnErr};
+ghost use Rattle.std.specs.Prelude.{◌≡◌, ◌+◌, List, [], ◌∷◌, ◌++◌, IfErr, OnOk, OnErr, sum_by};
 
 use crate::{PushFault, Segment};
 use std::alloc::Global;
@@ -68,6 +68,7 @@ impl Trace {
     /// When the last segment ends, in ticks; 0 where there is none.
     pub fn end(&self) -> u64
         ensures end { result ≡ end_of 0 self.now }
+        ensures lengths { result ≡ sum_by (λ segment. segment.len) self.now }
         ensures trace { IsTrace self.now }
     {
         self.end
