@@ -22,10 +22,6 @@ sum_left x x' y h = sum_of-le x x' y y h (le_refl y)
 sum_right : (x y y' : ℤ) → y ≤ℤ y' → sum_of x y ≤ℤ sum_of x y'
 sum_right x y y' h = sum_of-le x x y y' (le_refl x) h
 
--- What lies below each of two keys lies below the tighter.
-below_min : (z x y : ℤ) → z ≤ℤ x → z ≤ℤ y → z ≤ℤ int_min x y
-below_min z x y h k = omega (arith, ints, clamps)
-
 -- ---- one side of the moment: the bounds u and U on a time, v and V on the moment, and e and f on the way between them,
 -- from the moment to the time and back
 

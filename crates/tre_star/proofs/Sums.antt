@@ -56,10 +56,6 @@ module _ (width : ℕ) (f g : Row → ℕ) (le : (row : Row) → f row ≤ g row
   le_five : (a : ℕ) → last_five width f a ≤ last_five width g a
   le_five a = sum_below-le width (λ b. last_four width f a b) (λ b. last_four width g a b) (λ b. le_four a b)
 
-  pub sum_of_rows-le : sum_of_rows width f ≤ sum_of_rows width g
-  unfolding sum_of_rows
-  sum_of_rows-le = sum_below-le width (λ a. last_five width f a) (λ a. last_five width g a) (λ a. le_five a)
-
   pub sum_of_rows-less : (a b c d e k : ℕ) → a < width → b < width → c < width → d < width → e < width → k < width
       → f (row_at a b c d e k) < g (row_at a b c d e k) → sum_of_rows width f < sum_of_rows width g
   unfolding sum_of_rows

@@ -1,8 +1,8 @@
 -- The ends of an interval as bounds on a duration.
-use Rattle.std.proofs.Common.{◌≡◌, ℕ, ◌+◌, ◌-◌, ◌*◌, ◌<◌, ◌≤◌, ◌↔◌, arith, ℤ, pos, neg_ℤ, ◌-ℤ◌}
+use Rattle.std.proofs.Common.{◌≡◌, ℕ, ◌-◌, ◌*◌, ◌<◌, ◌≤◌, ◌↔◌, arith, ℤ, pos, neg_ℤ, ◌-ℤ◌}
 use Rattle.std.specs.Int.{int_min}
 use Rattle.tre_zone.specs.Bound.{Meets}
-use Rattle.tre_zone.proofs.Bounds.{Meets-at_most, Meets-at_least, Meets-less, Meets-more}
+use Rattle.tre_zone.proofs.Bounds.{Meets-at_least, Meets-more}
 use Rattle.tre_zone.proofs.Paths.{Meets-min}
 
 pub weak_low : (key : ℤ) (low : ℕ) → key ≡ pos 1 -ℤ pos (2 * low) → (p q n : ℕ) → p ≤ q → Meets key p q n ↔ (low * n ≤ q - p)
@@ -13,16 +13,6 @@ weak_low key low e p q n le =
 pub strict_low : (key : ℤ) (low : ℕ) → key ≡ neg_ℤ (pos (2 * low)) → (p q n : ℕ) → p ≤ q → Meets key p q n ↔ (low * n < q - p)
 strict_low key low e p q n le =
     let both = Meets-more key low e p q n in
-    ((λ m. let h = both.0 m in omega arith), (λ h. both.1 (omega arith)))
-
-pub weak_high : (key : ℤ) (high : ℕ) → key ≡ pos (2 * high + 1) → (p q n : ℕ) → q ≤ p → Meets key p q n ↔ (p - q ≤ high * n)
-weak_high key high e p q n le =
-    let both = Meets-at_most key high e p q n in
-    ((λ m. let h = both.0 m in omega arith), (λ h. both.1 (omega arith)))
-
-pub strict_high : (key : ℤ) (high : ℕ) → key ≡ pos (2 * high) → (p q n : ℕ) → q ≤ p → Meets key p q n ↔ (p - q < high * n)
-strict_high key high e p q n le =
-    let both = Meets-less key high e p q n in
     ((λ m. let h = both.0 m in omega arith), (λ h. both.1 (omega arith)))
 
 -- A bound tightened by one that means P.

@@ -3,7 +3,6 @@ pub mod Durations
 pub mod Spans
 pub mod ZoneKeys
 pub mod ZoneListLemmas
-pub mod SpanLists
 pub mod Paths
 pub mod Sums
 pub mod Closing
@@ -12,3 +11,4 @@ pub mod Ends
 pub mod Given
 pub mod Instants
 pub mod Scaling
+pub mod TightBounds

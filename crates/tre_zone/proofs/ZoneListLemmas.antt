@@ -1,17 +1,13 @@
 -- Lists of zones: one more zone at the end.
 use Rattle.std.proofs.Common.{ℕ, ◌<◌, ◌≤◌, ◌⊎◌, ◌↔◌, List, [], ◌∷◌, ◌++◌, inl, inr, ⊎_elim}
 use Rattle.tre_pairs.specs.Pairs.{Pairs}
-use Rattle.tre_zone.specs.Zone.{ZoneHolds, Includes}
+use Rattle.tre_zone.specs.Zone.{ZoneHolds}
 use Rattle.tre_zone.specs.ZoneList.{SetHolds, AreApart, IsApartFrom, IsApart, HoldExactly}
 use Rattle.tre_zone.specs.declared.zone_bounds.ZoneBounds.{ZoneBounds}
 
 pub SetHolds-empty : (a b n : ℕ) → SetHolds [] a b n → ⊥
 unfolding SetHolds
 SetHolds-empty a b n h = h
-
-pub SetHolds-cons : (zone : ZoneBounds) (zones : List ZoneBounds) (a b n : ℕ) → SetHolds (zone ∷ zones) a b n ↔ (ZoneHolds zone a b n ⊎ SetHolds zones a b n)
-unfolding SetHolds
-SetHolds-cons zone zones a b n = ((λ h. h), (λ h. h))
 
 -- A list holds what its two parts hold.
 pub SetHolds-append : (left right : List ZoneBounds) (a b n : ℕ) → SetHolds (left ++ right) a b n ↔ (SetHolds left a b n ⊎ SetHolds right a b n)
@@ -32,18 +28,8 @@ SetHolds-push zones zone a b n =
       (λ h. ⊎_elim (λ x. parts.1 (inl x)) (λ x. parts.1 (inr (inl x))) h),
     )
 
-pub Includes-refl : (zone : ZoneBounds) → Includes zone zone
-Includes-refl zone = record { every = λ a b n some le held. held }
-
-pub Includes-trans : (outer middle inner : ZoneBounds) → Includes outer middle → Includes middle inner → Includes outer inner
-Includes-trans outer middle inner h k = record { every = λ a b n some le held. h.every a b n some le (k.every a b n some le held) }
-
 pub AreApart-swap : (one other : ZoneBounds) → AreApart one other → AreApart other one
 AreApart-swap one other apart = record { left = apart.right; right = apart.left }
-
-pub IsApartFrom-empty : (zone : ZoneBounds) → IsApartFrom zone []
-unfolding IsApartFrom
-IsApartFrom-empty zone = tt
 
 pub IsApartFrom-push : (zone : ZoneBounds) (zones : List ZoneBounds) (last : ZoneBounds) → IsApartFrom zone zones → AreApart zone last
     → IsApartFrom zone (zones ++ last ∷ [])

@@ -23,6 +23,7 @@ pub use zone_bounds::ZoneBounds;
 mod bound;
 mod canonical;
 mod interval;
+pub mod laws;
 #[cfg(test)]
 mod tests;
 mod zone;

@@ -42,15 +42,6 @@ HoldExactly-more now next P Q R held more same = record {
       );
 }
 
--- The same pairs under another name.
-pub HoldExactly-same : (zones : List ZoneBounds) (P R : Pairs) → HoldExactly zones P → ((a b n : ℕ) → 0 < n → a ≤ b → R a b n ↔ P a b n) → HoldExactly zones R
-HoldExactly-same zones P R held same = record {
-  exact = λ a b n some le.
-      let old = held.exact a b n some le in
-      let both = same a b n some le in
-      ((λ h. both.1 (old.0 h)), (λ h. old.1 (both.0 h)));
-}
-
 pub HoldExactly-push : (zones : List ZoneBounds) (zone : ZoneBounds) → HoldExactly (zones ++ zone ∷ []) (Either (SetHolds zones) (ZoneHolds zone))
 HoldExactly-push zones zone = record { exact = λ a b n some le. SetHolds-push zones zone a b n }
 

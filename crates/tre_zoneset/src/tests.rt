@@ -1,101 +1,82 @@
-ghost use Rattle.std.specs.Prelude.{◌^◌};
-ghost use Rattle.tre_zone.specs.Bound.{IsValueWithin};
-
 use crate::ZoneSet;
 use std::alloc::{AllocError, Global};
 use std::test::Fail;
-use tre_zone::{Bound, Interval, Zone, ZoneBounds};
+use tre_zone::{Interval, Zone};
 
-/// The keys of a zone, in the order of its bounds.
-type Keys = [i8; 6];
+/// The row of a zone: the keys of its bounds, and two zeros.
+type Row = [i64; 8];
 
 /// `[0,1) (0,1] (0,1]`
-const UNIT: Keys = [1, 2, 0, 3, 0, 3];
+const UNIT: Row = [1, 2, 0, 3, 0, 3, 0, 0];
 /// `[0,0] [1,1] [1,1]`
-const TICK: Keys = [1, 1, -1, 3, -1, 3];
+const TICK: Row = [1, 1, -1, 3, -1, 3, 0, 0];
 /// `[0,2) (0,2] (0,2]`
-const EARLY: Keys = [1, 4, 0, 5, 0, 5];
+const EARLY: Row = [1, 4, 0, 5, 0, 5, 0, 0];
 /// `[1,3) (1,3] (0,2]`
-const LATE: Keys = [-1, 6, -2, 7, 0, 5];
-/// `[0,3) (0,3] (0,3]`
-const LONG: Keys = [1, 6, 0, 7, 0, 7];
+const LATE: Row = [-1, 6, -2, 7, 0, 5, 0, 0];
 
-fn bound(key: i8) -> Bound
-    ensures { IsValueWithin (2 ^ 42) result }
-{
-    let c = i64::from(key) >> 1;
-    if key & 1 == 1 {
-        Bound::weak(c)
-    } else {
-        Bound::strict(c)
-    }
+/// The stretch of one tick from 0 on.
+fn tick() -> Option<Zone> {
+    Zone::span(0, 1).within(&Interval::new(1, true, Some(1), true)?)
 }
 
-fn zone(keys: &Keys) -> Option<Zone> {
-    Zone::new(&ZoneBounds {
-        begin_low: bound(keys[0]),
-        begin_high: bound(keys[1]),
-        end_low: bound(keys[2]),
-        end_high: bound(keys[3]),
-        dur_low: bound(keys[4]),
-        dur_high: bound(keys[5]),
-    })
-}
-
-fn set(alloc: Global, rows: &[Keys]) -> Result<ZoneSet, AllocError> {
+fn set(alloc: Global, zones: &[Zone]) -> Result<ZoneSet, AllocError> {
     let mut set = ZoneSet::new(alloc);
-    for keys in rows {
-        set.add_found(zone(keys))?;
+    for zone in zones {
+        set.add(*zone)?;
     }
     Ok(set)
 }
 
-/// Whether the set has these zones in this order.
-fn is(set: &ZoneSet, rows: &[Keys]) -> bool {
+/// Whether the set has the zones of these rows, in this order.
+fn is(set: &ZoneSet, rows: &[Row]) -> bool {
     let zones = set.zones();
     zones.len() == rows.len()
         && zones
             .iter()
             .zip(rows)
-            .all(|(member, keys)| zone(keys) == Some(*member))
+            .all(|(member, row)| member.row() == *row)
 }
 
 #[test]
 fn added(rt: HostRuntime) -> Result<(), Fail> {
-    let rows = [
-        (UNIT, TICK, false, [UNIT].as_slice()),
-        (TICK, UNIT, true, [UNIT].as_slice()),
-        (EARLY, LATE, true, [EARLY, LATE].as_slice()),
+    let (unit, tick) = (Zone::span(0, 1), tick().ok_or("no zone")?);
+    let (early, late) = (Zone::span(0, 2), Zone::span(1, 3));
+    let table = [
+        (unit, tick, false, [UNIT].as_slice()),
+        (tick, unit, true, [UNIT].as_slice()),
+        (early, late, true, [EARLY, LATE].as_slice()),
     ];
-    for (first, second, answer, list) in rows {
+    for (first, second, answer, rows) in table {
         let mut set = set(rt.alloc(), &[first])?;
-        if let Some(zone) = zone(&second) {
-            assert_eq!(rt; set.add(zone)?, answer);
-        }
-        assert!(rt; is(&set, list));
+        assert_eq!(rt; set.add(second)?, answer);
+        assert!(rt; is(&set, rows));
     }
     Ok(())
 }
 
 #[test]
 fn cut(rt: HostRuntime) -> Result<(), Fail> {
-    let early = set(rt.alloc(), &[EARLY])?;
-    let late = set(rt.alloc(), &[LATE])?;
-    assert!(rt; is(&early.meet(&late)?, &[[-1, 4, -2, 5, 0, 3]]));
-    let long = set(rt.alloc(), &[LONG])?;
-    assert!(rt; is(&long.ending_at(2)?, &[[1, 4, -3, 5, 0, 5]]));
+    let early = set(rt.alloc(), &[Zone::span(0, 2)])?;
+    let late = set(rt.alloc(), &[Zone::span(1, 3)])?;
+    // [1,2) (1,2] (0,1]
+    assert!(rt; is(&early.meet(&late)?, &[[-1, 4, -2, 5, 0, 3, 0, 0]]));
+    let long = set(rt.alloc(), &[Zone::span(0, 3)])?;
+    // [0,2) [2,2] (0,2]
+    assert!(rt; is(&long.ending_at(2)?, &[[1, 4, -3, 5, 0, 5, 0, 0]]));
     assert!(rt; long.ending_at(4)?.is_empty());
-    if let Some(two) = Interval::new(2, true, Some(2), true) {
-        assert!(rt; is(&long.within(&two)?, &[[1, 3, -3, 7, -3, 5]]));
-    }
+    let two = Interval::new(2, true, Some(2), true).ok_or("no interval")?;
+    // [0,1] [2,3] [2,2]
+    assert!(rt; is(&long.within(&two)?, &[[1, 3, -3, 7, -3, 5, 0, 0]]));
     Ok(())
 }
 
 #[test]
 fn joined(rt: HostRuntime) -> Result<(), Fail> {
-    let both = set(rt.alloc(), &[EARLY, LATE])?;
+    let both = set(rt.alloc(), &[Zone::span(0, 2), Zone::span(1, 3)])?;
     assert!(rt; is(&both.try_clone()?, &[EARLY, LATE]));
-    let mut joined = set(rt.alloc(), &[TICK])?;
+    let mut joined = set(rt.alloc(), &[tick().ok_or("no zone")?])?;
+    assert!(rt; is(&joined, &[TICK]));
     assert!(rt; joined.holds(0, 1, 1));
     joined.join(&both)?;
     assert!(rt; is(&joined, &[EARLY, LATE]));

@@ -73,6 +73,7 @@ impl ZoneSet {
         ensures held { OnOk result (HoldExactly self.new (Either (SetHolds self.old) (ZoneHolds zone))) }
         ensures set { IsZoneSet self.new }
     {
+        // For the proof: the call says that the zone is canonical.
         let _bounds = zone.bounds();
         if some_includes(&self.zones, &zone) {
             return Ok(false);
@@ -101,6 +102,7 @@ impl ZoneSet {
         ensures held { OnOk result (HoldExactly self.new (Either (SetHolds self.old) (ZoneHolds zone))) }
         ensures err { OnErr result (self.new ≡ self.old) }
     {
+        // For the proof: the call says that the zone is canonical.
         let _bounds = zone.bounds();
         self.zones.push(zone)?;
         Ok(())
@@ -113,6 +115,7 @@ impl ZoneSet {
         ensures held { OnOk result (HoldExactly self.new (Either (SetHolds self.old) (ZoneHolds zone))) }
         ensures err { OnErr result (self.new ≡ self.old) }
     {
+        // For the proof: what the set and the zone are before the call.
         let _zones = &self.zones;
         let _bounds = zone.bounds();
         self.push_apart(zone)

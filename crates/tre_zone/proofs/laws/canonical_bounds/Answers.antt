@@ -1,0 +1,7 @@
+use Rattle.tre_zone.proofs.Scaling.{canonical-frame}
+use Rattle.tre_zone.proofs.TightBounds.{canonical_from_tight}
+use Rattle.tre_zone.proofs.Tightness.{canonical-some, canonical-tight}
+use Rattle.tre_zone.proofs.laws.canonical_bounds.Goals as goal
+
+pub returns : goal.returns
+returns c = record { some = canonical-some; tight = canonical-tight; framed = canonical-frame; enough = canonical_from_tight }
