@@ -7,6 +7,7 @@ use Rattle.tre_trace.specs.Trace.{end_of}
 use Rattle.tre_trace.specs.Literal.{HoldsBetween, LiteralMatches}
 use Rattle.tre_zone.specs.Zone.{IsInSpan}
 use Rattle.tre_syntax.proofs.Atoms.{end_of-le}
+use Rattle.tre_syntax.proofs.Growth.{between_after}
 
 -- A stretch of the literal that begins at `begin` or later, where it has held from there until `start` and the rest
 -- begins.
@@ -15,13 +16,6 @@ pub record HoldsFrom (P : ℕ → Type 0) (begin start : ℕ) (rest : List Segme
   pub lasts : a < b
   pub ends : b ≤ end_of start rest * n
   pub throughout : HoldsBetween P start rest a b n
-
--- later segments have no moment before b
-vacuous : (P : ℕ → Type 0) (start : ℕ) (rest : List Segment) (a b n : ℕ) → b ≤ start * n → HoldsBetween P start rest a b n
-vacuous P start [] a b n over = tt
-vacuous P start (segment ∷ rest) a b n over =
-    let later : start * n ≤ (start + segment.len) * n = mul-le-mul_right n (omega arith) in
-    (λ before _. absurd (omega (arith, over, before)), vacuous P (start + segment.len) rest a b n (omega (arith, over, later)))
 
 pub HoldsFrom-literal : (P : ℕ → Type 0) (segments : List Segment) (a b n : ℕ) → LiteralMatches P 0 segments a b n ↔ HoldsFrom P 0 0 segments a b n
 HoldsFrom-literal P segments a b n = (
@@ -57,7 +51,7 @@ HoldsFrom-false P begin start segment rest a b n order fails =
             starts = span.starts;
             lasts = span.lasts;
             ends = omega (arith, span.ends, mul-le-mul_right n (end_of-le start (segment ∷ rest)));
-            throughout = vacuous P start (segment ∷ rest) a b n span.ends;
+            throughout = between_after P a b n start (segment ∷ rest) span.ends;
           })
           (λ more. record {
             starts = omega (arith, first, mono, more.starts);

@@ -24,6 +24,7 @@ pub fn matches(alloc: Global, p: &Pattern, w: &Trace) -> Result<ZoneSet, AllocEr
     ensures set { IfOk result (λ zones. IsZoneSet zones) }
 {
     let zones = matches_of(alloc, p.expr(), w)?;
+    // For the proof: the call says that no zone includes another.
     let _zones = zones.zones();
     Ok(zones)
 }
@@ -79,6 +80,7 @@ fn followed(alloc: Global, first: &ZoneSet, second: &ZoneSet) -> Result<ZoneSet,
         → HoldExactly first.now (Matches e segments) → HoldExactly second.now (Matches f segments)
         → HoldExactly zones (Matches (sequence e f) segments)) }
 {
+    // For the proof: the calls say that both are sets of zones.
     let _first = first.zones();
     let _second = second.zones();
     compose_sets(alloc, first, second)
@@ -108,6 +110,7 @@ fn repeated(alloc: Global, step: &ZoneSet, w: &Trace) -> Result<ZoneSet, AllocEr
     ensures { IfOk result (λ zones. (e : PatternTree) → HoldExactly step.now (Matches e w.now)
         → HoldExactly zones (Matches (repetition e) w.now)) }
 {
+    // For the proof: the call says that it is a set of zones.
     let _step = step.zones();
     closure(alloc, step, 0, w.end())
 }

@@ -1,29 +1,26 @@
-ghost use Rattle.std.specs.Prelude.{◌^◌};
-ghost use Rattle.tre_zone.specs.Bound.{IsValueWithin};
-
 use crate::matches;
 use std::alloc::{AllocError, Global};
 use std::test::Fail;
 use tre_state::{Names, State, is_name};
 use tre_syntax::{Expr, Pattern};
 use tre_trace::{Segment, Trace};
-use tre_zone::{Bound, Interval, Zone, ZoneBounds};
+use tre_zone::{Interval, Zone};
 use tre_zoneset::ZoneSet;
 
-/// The keys of a zone, in the order of its bounds.
-type Keys = [i8; 6];
+/// The row of a zone: the keys of its bounds, and two zeros.
+type Row = [i64; 8];
 
 /// The lengths and valuations of segments. On a valuation of 1 p is true, of 2 q, of 3 both.
 type Lengths<'a> = &'a [(u64, u64)];
 
 /// `[0,1) (0,1] (0,1]`
-const UNIT: Keys = [1, 2, 0, 3, 0, 3];
+const UNIT: Row = [1, 2, 0, 3, 0, 3, 0, 0];
 /// `[5,9) (5,9] (0,4]`
-const LAST_OF_BOTH: Keys = [-9, 18, -10, 19, 0, 9];
+const LAST_OF_BOTH: Row = [-9, 18, -10, 19, 0, 9, 0, 0];
 /// `[0,3) (3,9] (0,9]`
-const FOLLOWS: Keys = [1, 6, -6, 19, 0, 19];
+const FOLLOWS: Row = [1, 6, -6, 19, 0, 19, 0, 0];
 /// `[0,1] [0,1] [0,0]`
-const MOMENTS: Keys = [1, 3, 1, 3, 1, 1];
+const MOMENTS: Row = [1, 3, 1, 3, 1, 1, 0, 0];
 /// `3 p / 2 q / 4 p q`
 const BOTH: [(u64, u64); 3] = [(3, 1), (2, 2), (4, 3)];
 
@@ -32,43 +29,21 @@ const TURNS: [(u64, u64); 2] = [(1, 1), (1, 2)];
 /// `10 / 2 p / 3 / 1 q / 4`
 const BUS: [(u64, u64); 5] = [(10, 0), (2, 1), (3, 0), (1, 2), (4, 0)];
 /// `[0,0] [3,3] [3,3]`, `[0,1] [2,3] [2,2]`, `[0,2] [1,3] [1,1]`, `[0,3] [0,3] [0,0]`
-const TICKS: [Keys; 4] = [
-    [1, 1, -5, 7, -5, 7],
-    [1, 3, -3, 7, -3, 5],
-    [1, 5, -1, 7, -1, 3],
-    [1, 7, 1, 7, 1, 1],
+const TICKS: [Row; 4] = [
+    [1, 1, -5, 7, -5, 7, 0, 0],
+    [1, 3, -3, 7, -3, 5, 0, 0],
+    [1, 5, -1, 7, -1, 3, 0, 0],
+    [1, 7, 1, 7, 1, 1, 0, 0],
 ];
 
-fn bound(key: i8) -> Bound
-    ensures { IsValueWithin (2 ^ 42) result }
-{
-    let c = i64::from(key) >> 1;
-    if key & 1 == 1 {
-        Bound::weak(c)
-    } else {
-        Bound::strict(c)
-    }
-}
-
-fn zone(keys: &Keys) -> Option<Zone> {
-    Zone::new(&ZoneBounds {
-        begin_low: bound(keys[0]),
-        begin_high: bound(keys[1]),
-        end_low: bound(keys[2]),
-        end_high: bound(keys[3]),
-        dur_low: bound(keys[4]),
-        dur_high: bound(keys[5]),
-    })
-}
-
 /// Whether the set has exactly the zones of the rows, no two of which are the same, in any order.
-fn is(set: &ZoneSet, rows: &[Keys]) -> bool {
+fn is(set: &ZoneSet, rows: &[Row]) -> bool {
     let zones = set.zones();
-    zones.len() == rows.len() && rows.iter().all(|keys| has(zones, keys))
+    zones.len() == rows.len() && rows.iter().all(|row| has(zones, row))
 }
 
-fn has(zones: &[Zone], keys: &Keys) -> bool {
-    zones.iter().any(|member| zone(keys) == Some(*member))
+fn has(zones: &[Zone], row: &Row) -> bool {
+    zones.iter().any(|member| member.row() == *row)
 }
 
 /// The matches of the expression, which names as many of p and q.
@@ -210,7 +185,12 @@ fn falling(alloc: Global) -> Result<Expr, AllocError> {
 #[test]
 fn matches_are_the_zones(rt: HostRuntime) -> Result<(), Fail> {
     let table = [
-        (Case::Eps, 0, [].as_slice(), [[1, 1, 1, 1, 1, 1]].as_slice()),
+        (
+            Case::Eps,
+            0,
+            [].as_slice(),
+            [[1, 1, 1, 1, 1, 1, 0, 0]].as_slice(),
+        ),
         (Case::Twice, 1, [(1, 1)].as_slice(), [UNIT].as_slice()),
         (
             Case::Follows,
@@ -222,13 +202,13 @@ fn matches_are_the_zones(rt: HostRuntime) -> Result<(), Fail> {
             Case::Short,
             1,
             [(3, 1)].as_slice(),
-            [[1, 4, -2, 7, -2, 4]].as_slice(),
+            [[1, 4, -2, 7, -2, 4, 0, 0]].as_slice(),
         ),
         (
             Case::Pulse,
             1,
             [(2, 0), (3, 1), (1, 0)].as_slice(),
-            [[-3, 5, -9, 11, -5, 7]].as_slice(),
+            [[-3, 5, -9, 11, -5, 7, 0, 0]].as_slice(),
         ),
         (Case::Pulse, 1, [(3, 1)].as_slice(), [].as_slice()),
         (Case::Ticks, 1, [(3, 1)].as_slice(), TICKS.as_slice()),
@@ -243,20 +223,20 @@ fn matches_are_the_zones(rt: HostRuntime) -> Result<(), Fail> {
             Case::EitherState,
             2,
             TURNS.as_slice(),
-            [[1, 4, 0, 5, 0, 5]].as_slice(),
+            [[1, 4, 0, 5, 0, 5, 0, 0]].as_slice(),
         ),
         (
             Case::Either,
             2,
             TURNS.as_slice(),
-            [UNIT, [-1, 4, -2, 5, 0, 3]].as_slice(),
+            [UNIT, [-1, 4, -2, 5, 0, 3, 0, 0]].as_slice(),
         ),
         (Case::Both, 2, BOTH.as_slice(), [LAST_OF_BOTH].as_slice()),
         (
             Case::Answered,
             2,
             BUS.as_slice(),
-            [[-19, 21, -29, 31, -9, 11]].as_slice(),
+            [[-19, 21, -29, 31, -9, 11, 0, 0]].as_slice(),
         ),
     ];
     for (case, count, lengths, zones) in table {

@@ -10,28 +10,28 @@ use Rattle.tre_syntax.specs.PatternTree.{Atom, empty, literal, rise, fall}
 use Rattle.tre_syntax.specs.Rest.{Rest, HasEdge, EdgeMatches, EmptyMatches, AtomMatches}
 
 -- comparisons of a time in ticks with a fraction, under a finer name and back
-le_up : (k t a n : ℕ) → t * n ≤ a → t * (k * n) ≤ k * a
+pub le_up : (k t a n : ℕ) → t * n ≤ a → t * (k * n) ≤ k * a
 le_up k t a n h = let finer : k * (t * n) ≤ k * a = mul-le-mul_left k h in omega (arith, mul_left_comm k t n)
 
-le_down : (k t a n : ℕ) → 0 < k → t * (k * n) ≤ k * a → t * n ≤ a
+pub le_down : (k t a n : ℕ) → 0 < k → t * (k * n) ≤ k * a → t * n ≤ a
 le_down k t a n pos h = let finer : k * (t * n) ≤ k * a = omega (arith, mul_left_comm k t n) in le_of_mul-le-mul_left finer pos
 
-ge_up : (k t b n : ℕ) → b ≤ t * n → k * b ≤ t * (k * n)
+pub ge_up : (k t b n : ℕ) → b ≤ t * n → k * b ≤ t * (k * n)
 ge_up k t b n h = let finer : k * b ≤ k * (t * n) = mul-le-mul_left k h in omega (arith, mul_left_comm k t n)
 
-ge_down : (k t b n : ℕ) → 0 < k → k * b ≤ t * (k * n) → b ≤ t * n
+pub ge_down : (k t b n : ℕ) → 0 < k → k * b ≤ t * (k * n) → b ≤ t * n
 ge_down k t b n pos h = let finer : k * b ≤ k * (t * n) = omega (arith, mul_left_comm k t n) in le_of_mul-le-mul_left finer pos
 
-lt_up : (k t b n : ℕ) → 0 < k → t * n < b → t * (k * n) < k * b
+pub lt_up : (k t b n : ℕ) → 0 < k → t * n < b → t * (k * n) < k * b
 lt_up k t b n pos h = let finer : k * (t * n) < k * b = mul-lt-mul_of_pos_left h pos in omega (arith, mul_left_comm k t n)
 
-lt_down : (k t b n : ℕ) → t * (k * n) < k * b → t * n < b
+pub lt_down : (k t b n : ℕ) → t * (k * n) < k * b → t * n < b
 lt_down k t b n h = let finer : k * (t * n) < k * b = omega (arith, mul_left_comm k t n) in lt_of_mul-lt-mul_left k finer
 
-gt_up : (k t a n : ℕ) → 0 < k → a < t * n → k * a < t * (k * n)
+pub gt_up : (k t a n : ℕ) → 0 < k → a < t * n → k * a < t * (k * n)
 gt_up k t a n pos h = let finer : k * a < k * (t * n) = mul-lt-mul_of_pos_left h pos in omega (arith, mul_left_comm k t n)
 
-gt_down : (k t a n : ℕ) → k * a < t * (k * n) → a < t * n
+pub gt_down : (k t a n : ℕ) → k * a < t * (k * n) → a < t * n
 gt_down k t a n h = let finer : k * a < k * (t * n) = omega (arith, mul_left_comm k t n) in lt_of_mul-lt-mul_left k finer
 
 eq_up : (k t a n : ℕ) → a ≡ t * n → k * a ≡ t * (k * n)

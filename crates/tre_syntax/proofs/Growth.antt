@@ -17,7 +17,7 @@ end_of-grows start u v = omega (arith, end_of-append start u v, end_of-le (end_o
 
 module _ (P : ℕ → Type 0) (a b n : ℕ) where
   -- what begins after b/n says nothing of what is before
-  between_after : (start : ℕ) (v : List Segment) → b ≤ start * n → HoldsBetween P start v a b n
+  pub between_after : (start : ℕ) (v : List Segment) → b ≤ start * n → HoldsBetween P start v a b n
   between_after start [] h = tt
   between_after start (s ∷ rest) h =
       let le : start ≤ start + s.len = omega arith in

@@ -1,7 +1,6 @@
 -- A law that every atom keeps, every expression keeps.
-use Rattle.std.proofs.Common.{ℕ, ◌*◌, ◌<◌, ◌≤◌, Bool, true, false, Option, Some, None, arith}
+use Rattle.std.proofs.Common.{ℕ, ◌*◌, ◌<◌, ◌≤◌, Bool, true, false, Option, Some, None}
 use Rattle.std.specs.Prelude.{MatchBool, MatchOption}
-use Rattle.std.proofs.Math.Nat.{mul_left_comm, mul-le-mul_left, le_of_mul-le-mul_left, mul-lt-mul_of_pos_left, lt_of_mul-lt-mul_left}
 use Rattle.tre_pairs.specs.Pairs.{Pairs}
 use Rattle.tre_pairs.specs.Laws.{Scales, DurationScales, IsOrdered, IsInstant, IsBounded, Implies, ImpliesBefore}
 use Rattle.tre_pairs.proofs.Scaling.{Scales-Composed, Scales-Either, Scales-Both, Scales-Lasting, Scales-Chain}
@@ -10,23 +9,24 @@ use Rattle.tre_pairs.proofs.Implication.{Implies-Composed, Implies-Either, Impli
 use Rattle.tre_zone.specs.Interval.{IntervalEnds, LastsWithin}
 use Rattle.tre_syntax.specs.PatternTree.{Atom, PatternTree, empty, atom, sequence, alternation, intersection, repetition, restriction}
 use Rattle.tre_syntax.specs.Meaning.{Meaning}
+use Rattle.tre_syntax.proofs.Atoms.{le_up, le_down, ge_up, ge_down, lt_up, lt_down, gt_up, gt_down}
 
 -- an end of an interval, compared with a duration under a finer name
 low_up : (weak : Bool) (low k d n : ℕ) → 0 < k → MatchBool weak (low * n ≤ d) (low * n < d) → MatchBool weak (low * (k * n) ≤ k * d) (low * (k * n) < k * d)
-low_up true low k d n pos h = let finer : k * (low * n) ≤ k * d = mul-le-mul_left k h in omega (arith, mul_left_comm k low n)
-low_up false low k d n pos h = let finer : k * (low * n) < k * d = mul-lt-mul_of_pos_left h pos in omega (arith, mul_left_comm k low n)
+low_up true low k d n pos h = le_up k low d n h
+low_up false low k d n pos h = lt_up k low d n pos h
 
 low_down : (weak : Bool) (low k d n : ℕ) → 0 < k → MatchBool weak (low * (k * n) ≤ k * d) (low * (k * n) < k * d) → MatchBool weak (low * n ≤ d) (low * n < d)
-low_down true low k d n pos h = let finer : k * (low * n) ≤ k * d = omega (arith, mul_left_comm k low n) in le_of_mul-le-mul_left finer pos
-low_down false low k d n pos h = let finer : k * (low * n) < k * d = omega (arith, mul_left_comm k low n) in lt_of_mul-lt-mul_left k finer
+low_down true low k d n pos h = le_down k low d n pos h
+low_down false low k d n pos h = lt_down k low d n h
 
 high_up : (weak : Bool) (high k d n : ℕ) → 0 < k → MatchBool weak (d ≤ high * n) (d < high * n) → MatchBool weak (k * d ≤ high * (k * n)) (k * d < high * (k * n))
-high_up true high k d n pos h = let finer : k * d ≤ k * (high * n) = mul-le-mul_left k h in omega (arith, mul_left_comm k high n)
-high_up false high k d n pos h = let finer : k * d < k * (high * n) = mul-lt-mul_of_pos_left h pos in omega (arith, mul_left_comm k high n)
+high_up true high k d n pos h = ge_up k high d n h
+high_up false high k d n pos h = gt_up k high d n pos h
 
 high_down : (weak : Bool) (high k d n : ℕ) → 0 < k → MatchBool weak (k * d ≤ high * (k * n)) (k * d < high * (k * n)) → MatchBool weak (d ≤ high * n) (d < high * n)
-high_down true high k d n pos h = let finer : k * d ≤ k * (high * n) = omega (arith, mul_left_comm k high n) in le_of_mul-le-mul_left finer pos
-high_down false high k d n pos h = let finer : k * d < k * (high * n) = omega (arith, mul_left_comm k high n) in lt_of_mul-lt-mul_left k finer
+high_down true high k d n pos h = ge_down k high d n pos h
+high_down false high k d n pos h = gt_down k high d n h
 
 top_up : (high : Option ℕ) (weak : Bool) (k d n : ℕ) → 0 < k → MatchOption high (Unit {0}) (λ h. MatchBool weak (d ≤ h * n) (d < h * n)) → MatchOption high (Unit {0}) (λ h. MatchBool weak (k * d ≤ h * (k * n)) (k * d < h * (k * n)))
 top_up None weak k d n pos h = tt

@@ -2,11 +2,38 @@
 //! expression, trace and pair of times.
 
 ghost use Rattle.std.specs.Prelude.{◌≡◌, ◌+◌, ◌*◌, ◌<◌, ◌≤◌, ◌↔◌, ◌∷◌, ◌++◌, ℕ, Option, List};
+ghost use Rattle.tre_state.specs.StateTree.{StateTree, HoldsOn};
+ghost use Rattle.tre_syntax.specs.FirstUse.{AreInOrderOfUse};
 ghost use Rattle.tre_syntax.specs.Meaning.{Matches, MatchesRest};
-ghost use Rattle.tre_syntax.specs.PatternTree.{PatternTree};
+ghost use Rattle.tre_syntax.specs.Neighbours.{IsBetweenNeighbours, IsThroughout};
+ghost use Rattle.tre_syntax.specs.PatternTree.{PatternTree, atom, empty, literal, rise, fall, sequence, alternation, repetition, numbers_of, IsNumbered};
 ghost use Rattle.tre_syntax.specs.Rest.{Rest, rest_of, segment_of};
-ghost use Rattle.tre_trace.specs.Trace.{end_of};
+ghost use Rattle.tre_trace.specs.Trace.{end_of, IsTrace};
 ghost use Rattle.tre_trace.specs.declared.segment.Segment.{Segment};
+
+/// A literal matches where some time passes, within the trace, and its state is true on each segment
+/// that has a moment strictly between the two times.
+pub fn literals()
+    ensures { (s : StateTree) (segments : List Segment) (a b n : ℕ) →
+        Matches (atom (literal s)) segments a b n ↔ IsThroughout (HoldsOn s) segments a b n }
+{}
+
+/// An edge stands where two neighbouring segments meet and the state changes. So a trace has none at
+/// its start, and none at its end.
+pub fn edges()
+    ensures rise { (s : StateTree) (segments : List Segment) (a b n : ℕ) →
+        Matches (atom (rise s)) segments a b n ↔
+        IsBetweenNeighbours (λ val. ¬ HoldsOn s val) (HoldsOn s) segments a b n }
+    ensures fall { (s : StateTree) (segments : List Segment) (a b n : ℕ) →
+        Matches (atom (fall s)) segments a b n ↔
+        IsBetweenNeighbours (HoldsOn s) (λ val. ¬ HoldsOn s val) segments a b n }
+    ensures rise_inside { (s : StateTree) (segments : List Segment) (a b n : ℕ) →
+        0 < n → IsTrace segments → Matches (atom (rise s)) segments a b n →
+        (0 < a) × (b < end_of 0 segments * n) }
+    ensures fall_inside { (s : StateTree) (segments : List Segment) (a b n : ℕ) →
+        0 < n → IsTrace segments → Matches (atom (fall s)) segments a b n →
+        (0 < a) × (b < end_of 0 segments * n) }
+{}
 
 /// The meaning speaks of times, and not of the numbers that name them: `(a,b,n)` and `(ka,kb,kn)` are
 /// one pair of times.
@@ -25,6 +52,22 @@ pub fn bounds()
         MatchesRest tree rest a b n → a ≤ b }
     ensures end { (tree : PatternTree) (rest : Rest) (a b n : ℕ) → MatchesRest tree rest a b n →
         b ≤ end_of rest.start rest.segments * n }
+{}
+
+/// It makes no difference how three, one after the other, are grouped.
+pub fn grouping()
+    ensures { (e f g : PatternTree) (rest : Rest) (a b n : ℕ) →
+        MatchesRest (sequence (sequence e f) g) rest a b n ↔
+        MatchesRest (sequence e (sequence f g)) rest a b n }
+{}
+
+/// A repetition is a moment, or a match and then a repetition. To repeat it once more adds nothing.
+pub fn repeating()
+    ensures steps { (e : PatternTree) (rest : Rest) (a b n : ℕ) →
+        MatchesRest (repetition e) rest a b n ↔
+        MatchesRest (alternation (atom empty) (sequence e (repetition e))) rest a b n }
+    ensures nested { (e : PatternTree) (rest : Rest) (a b n : ℕ) →
+        MatchesRest (repetition (repetition e)) rest a b n ↔ MatchesRest (repetition e) rest a b n }
 {}
 
 /// Where a segment is cut in two with the same valuation, the meaning is unchanged.
@@ -59,4 +102,11 @@ pub fn cutting_off()
         MatchesRest tree (rest_of start before u) a b n }
     ensures whole { (tree : PatternTree) (u v : List Segment) (a b n : ℕ) → b < end_of 0 u * n →
         Matches tree (u ++ v) a b n → Matches tree u a b n }
+{}
+
+/// The numbers of an expression are in the order of their first use where they are those below the
+/// count, and each stands only behind all smaller ones.
+pub fn numbering()
+    ensures { (tree : PatternTree) (count : ℕ) →
+        IsNumbered tree count ↔ AreInOrderOfUse count (numbers_of tree) }
 {}

@@ -10,7 +10,8 @@ use crate::{Expr, Pattern};
 use tre_state::State;
 use tre_trace::Segment;
 
-/// Whether the pattern matches the stretch from `a/n` to `b/n`, if a match needs at most `cuts` cuts.
+/// Whether the pattern matches the stretch from `a/n` to `b/n`, which lies within the trace, if a match
+/// needs at most `cuts` cuts.
 ///
 /// The cuts are looked for among the multiples of `1/((cuts + 1) * n)`. That is enough: each condition
 /// of the meaning compares the difference of two times with a whole number, so it depends on the whole

@@ -1,0 +1,11 @@
+use Rattle.tre_state.specs.StateTree.{HoldsOn}
+use Rattle.tre_syntax.proofs.Neighbouring.{edge_iff, edge_inside}
+use Rattle.tre_syntax.proofs.laws.edges.Goals as goal
+
+pub returns : goal.returns
+returns c = record {
+  rise = λ s segments a b n. edge_iff (λ w. ¬ HoldsOn s w) (HoldsOn s) segments a b n;
+  fall = λ s segments a b n. edge_iff (HoldsOn s) (λ w. ¬ HoldsOn s w) segments a b n;
+  rise_inside = λ s segments a b n some trace h. edge_inside (λ w. ¬ HoldsOn s w) (HoldsOn s) segments a b n some trace.long h;
+  fall_inside = λ s segments a b n some trace h. edge_inside (HoldsOn s) (λ w. ¬ HoldsOn s w) segments a b n some trace.long h;
+}
