@@ -7,16 +7,16 @@ use Rattle.tre_syntax.specs.declared.pattern.Pattern.{Pattern}
 use Rattle.tre_syntax.specs.Pattern.{pattern_tree, names_of}
 use Rattle.tre_syntax.specs.PatternTree.{PatternTree, node_count}
 use Rattle.tre_parse.specs.declared.fault.ParseFault.{ParseFault}
-use Rattle.tre_parse.specs.declared.fault.ParseFault.TheVariants.{TooLong, BadByte, Number, Syntax, EmptyInterval, TooManyNames, TooLarge, Memory}
+use Rattle.tre_parse.specs.declared.fault.ParseFault.TheVariants.{TooLong, BadByte, Number, Syntax, TooManyNames, TooLarge, Memory}
 use Rattle.tre_parse.specs.declared.operand.Operand.{Operand}
 use Rattle.tre_parse.specs.declared.scan.Scan.{Scan}
 use Rattle.tre_parse.specs.Grammar.{expr}
 use Rattle.tre_parse.specs.Machine.{read_from, start}
 use Rattle.tre_parse.specs.Places.{EndGives}
 use Rattle.tre_parse.specs.Tokens.{earlier, bad_byte}
-use Rattle.tre_parse.specs.Scan.{IsScan, IsBadByte}
+use Rattle.tre_parse.specs.Scan.{IsScan}
 use Rattle.tre_parse.specs.Numbering.{IsNumberedByUse}
-use Rattle.tre_parse.specs.Outcome.{Outcome, spelt, refused, Words, words_of, offset_of, byte_fault, limit_fault, IsFirstEmpty, NoneEmpty, past_or, verdict, IsRead, IsOutcomeOfWords, IsOutcome}
+use Rattle.tre_parse.specs.Outcome.{Outcome, spelt, refused, Words, words_of, offset_of, byte_fault, limit_fault, NoneEmpty, past_or, verdict, IsRead, IsOutcomeOfWords, IsOutcome}
 use Rattle.tre_parse.specs.Answers.{Answers, IsAnswered, words_in, IsWhole, IsBuildable}
 use Rattle.tre_parse.proofs.Completeness.{read_spelt}
 use Rattle.tre_parse.proofs.Soundness.{spelt_read}
@@ -28,17 +28,11 @@ use Rattle.tre_parse.proofs.Outcomes.{outcome_once}
 along_none : (made : Option ParseFault) (P : Type 0) (Q : ParseFault → Type 0) → made ≡ None → P → MatchOption made P Q
 along_none made P Q e h = let R = λ (m : Option ParseFault). MatchOption m P Q in subst R (sym e) h
 
-along_some : (made : Option ParseFault) (fault : ParseFault) (P : Type 0) (Q : ParseFault → Type 0) → made ≡ Some fault → Q fault → MatchOption made P Q
-along_some made fault P Q e h = let R = λ (m : Option ParseFault). MatchOption m P Q in subst R (sym e) h
-
 pub read_outcome : (words : Words) (outcome : Outcome) → limit_fault words ≡ None → IsRead words outcome → IsOutcomeOfWords words outcome
 read_outcome words outcome e h = along_none (limit_fault words) _ _ e h
 
-pub limit_outcome : (words : Words) (fault : ParseFault) → limit_fault words ≡ Some fault → IsOutcomeOfWords words (refused fault)
-limit_outcome words fault e = along_some (limit_fault words) fault _ _ e refl
-
 -- Tokens that are not read to an end spell no expression.
-unread : (words : Words) → read_from words.tokens start ≡ None → IsRead words (refused Syntax)
+pub unread : (words : Words) → read_from words.tokens start ≡ None → IsRead words (refused Syntax)
 unread words e = inl ((λ tree h. let q = read_spelt words.tokens tree h in (cc)), refl)
 
 pub read_fails : (words : Words) (fault : ParseFault) → limit_fault words ≡ None → EndGives (Err fault) (read_from words.tokens start) → (fault ≡ Memory) ⊎ IsOutcomeOfWords words (refused fault)
@@ -55,9 +49,6 @@ pub is_whole : (words : Words) (operand : Operand) → EndGives (Ok operand) (re
 is_whole words operand h = whole_from words operand (read_from words.tokens start) refl h
 
 -- The limits of an expression that is spelt.
-pub empty_outcome : (words : Words) (operand : Operand) (place : ℕ) → limit_fault words ≡ None → IsWhole words operand → IsFirstEmpty words.tokens place →
-    IsOutcomeOfWords words (refused (EmptyInterval (offset_of words place)))
-empty_outcome words operand place e w h = read_outcome words _ e (inr (w.tree, w.spells, inl (place, h, refl)))
 
 judged : (words : Words) (operand : Operand) (outcome : Outcome) → limit_fault words ≡ None → (w : IsWhole words operand) → NoneEmpty words.tokens → outcome ≡ verdict words w.tree → IsOutcomeOfWords words outcome
 judged words operand outcome e w h q = read_outcome words outcome e (inr (w.tree, w.spells, inr (h, q)))
@@ -115,26 +106,9 @@ spelt_outcome words operand tree names e w h q le same kept =
 pub words_outcome : (text : List ℕ) (outcome : Outcome) → byte_fault text ≡ None → IsOutcomeOfWords (words_of text) outcome → IsOutcome text outcome
 words_outcome text outcome e h = along_none (byte_fault text) _ _ e h
 
-pub byte_outcome : (text : List ℕ) (fault : ParseFault) → byte_fault text ≡ Some fault → IsOutcome text (refused fault)
-byte_outcome text fault e = along_some (byte_fault text) fault _ _ e refl
-
-long_by : (is : Bool) (n : ℕ) (later : Option ParseFault) → nat_lt 16384 n ≡ is → 16384 < n → (if is then Some TooLong else later) ≡ Some TooLong
-long_by true n later t lt = refl
-long_by false n later t lt = absurd (grind (arith, nat_tests))
-
 short_by : (is : Bool) (n : ℕ) (first later : Option ParseFault) → nat_lt 16384 n ≡ is → n ≤ 16384 → (if is then first else later) ≡ later
 short_by true n first later t le = absurd (grind (arith, nat_tests))
 short_by false n first later t le = refl
-
-pub long_outcome : (text : List ℕ) → 16384 < length text → IsOutcome text (refused TooLong)
-long_outcome text lt = byte_outcome text TooLong (long_by (nat_lt 16384 (length text)) (length text) _ refl lt)
-
-pub bad_outcome : (text : List ℕ) (fault : ParseFault) → length text ≤ 16384 → IsBadByte text 0 fault → (fault ≡ Memory) ⊎ IsOutcome text (refused fault)
-bad_outcome text fault le (inl h) = inl h
-bad_outcome text fault le (inr h) =
-    let P = λ (f : ParseFault). IsOutcome text (refused f) in
-    inr (subst P (sym h.1) (byte_outcome text (BadByte h.0)
-    (short_by (nat_lt 16384 (length text)) (length text) (Some TooLong) _ refl le ∙ ap (option_map (λ at. BadByte at)) h.2)))
 
 pub good_bytes : (text : List ℕ) → length text ≤ 16384 → bad_byte text ≡ None → byte_fault text ≡ None
 good_bytes text le e = short_by (nat_lt 16384 (length text)) (length text) (Some TooLong) _ refl le ∙ ap (option_map (λ at. BadByte at)) e

@@ -13,3 +13,9 @@ pub mod Numbers
 pub mod Fine
 pub mod NumberedWords
 pub mod Judging
+pub mod Spelling
+pub mod Strength
+pub mod StateStrength
+pub mod Existence
+pub mod Fronts
+pub mod Blanks

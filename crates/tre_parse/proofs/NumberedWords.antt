@@ -1,15 +1,15 @@
 -- The words of a text number its names by first use from the left.
-use Rattle.std.proofs.Common.{◌≡◌, ℕ, ◌+◌, ◌-◌, ◌<◌, zero, suc, Bool, true, false, ◌&&◌, Option, Some, None, List, [], ◌∷◌, ◌++◌, length, refl, sym, ◌∙◌, ap, arith, length-append}
+use Rattle.std.proofs.Common.{◌≡◌, ℕ, ◌+◌, ◌-◌, zero, suc, Bool, true, false, ◌&&◌, Option, Some, None, List, [], ◌∷◌, ◌++◌, length, refl, sym, ◌∙◌, ap, length-append}
 use Rattle.std.specs.Prelude.{nat_lt, ◌==◌, if◌then◌else◌, is_none, unwrap_or, IfSome, codes}
 use Rattle.std.specs.List.{take_while}
 use Rattle.std.specs.Str.{bytes_eq}
 use Rattle.std.specs.Char.{is_ascii_digit}
-use Rattle.std.proofs.lemmas.Bool.Decides.{nat_tests}
 use Rattle.std.proofs.lemmas.List.Quantifiers.{position-Some}
 use Rattle.tre_state.specs.Names.{place_of}
 use Rattle.tre_state.specs.Name.{starts_name, continues_name}
 use Rattle.tre_state.proofs.Places.{place_of-push}
 use Rattle.tre_syntax.specs.PatternTree.{seen_after}
+use Rattle.tre_syntax.proofs.FirstUses.{seen_old, seen_new}
 use Rattle.tre_parse.specs.declared.token.Token.{Token}
 use Rattle.tre_parse.specs.declared.token.Token.TheVariants.{Name as Numbered, LeftParen, RightParen, LeftBracket, RightBracket, LeftBrace, RightBrace, Comma, Semicolon, Bar, DoubleBar, Ampersand, DoubleAmpersand, Bang, Star, Plus, Question, Percent, Begins, Ends, Eps, Rise, Fall, Inf, True, Event}
 use Rattle.tre_parse.specs.declared.lexeme.Lexeme.{Lexeme}
@@ -130,22 +130,6 @@ no_name_numbers : (token : Token) (rest : List Token) → IsNoName token → num
 no_name_numbers (Numbered i) rest h = absurd h
 no_name_numbers _ rest h = refl
 
--- A name that is known, or is the next to be known, is seen as such.
-seen_known : (n i : ℕ) (rest : List ℕ) (m : ℕ) → i < n → seen_after n rest ≡ Some m → seen_after n (i ∷ rest) ≡ Some m
-seen_known n i rest m lt e = by (nat_lt i n) (i == n) refl
-  where
-    by : (below same : Bool) → nat_lt i n ≡ below → (if below then seen_after n rest else (if same then seen_after (n + 1) rest else None)) ≡ Some m
-    by true same t = e
-    by false same t = absurd (grind (arith, nat_tests))
-
-seen_next : (n : ℕ) (rest : List ℕ) (m : ℕ) → seen_after (n + 1) rest ≡ Some m → seen_after n (n ∷ rest) ≡ Some m
-seen_next n rest m e = by (nat_lt n n) (n == n) refl refl
-  where
-    by : (below same : Bool) → nat_lt n n ≡ below → (n == n) ≡ same → (if below then seen_after n rest else (if same then seen_after (n + 1) rest else None)) ≡ Some m
-    by true same t u = absurd (grind (arith, nat_tests))
-    by false true t u = e
-    by false false t u = absurd (grind (arith, nat_tests))
-
 -- What the number of a name is, where it is not past the first 64.
 name_seen : (known : List (List ℕ)) (bytes : List ℕ) (found : Option ℕ) (room : Bool) (rest : List ℕ) (m : ℕ) → place_of known bytes ≡ found →
     is_none (place_of (if is_none found && room then known ++ bytes ∷ [] else known) bytes) ≡ false →
@@ -153,12 +137,12 @@ name_seen : (known : List (List ℕ)) (bytes : List ℕ) (found : Option ℕ) (r
     seen_after (length known) (unwrap_or (place_of (if is_none found && room then known ++ bytes ∷ [] else known) bytes) 64 ∷ rest) ≡ Some m
 name_seen known bytes (Some i) room rest m f p e =
     let bound = position-Some (bytes_eq bytes) known i [] f in
-    ap (λ (o : Option ℕ). seen_after (length known) (unwrap_or o 64 ∷ rest)) f ∙ seen_known (length known) i rest m bound.0 e
+    ap (λ (o : Option ℕ). seen_after (length known) (unwrap_or o 64 ∷ rest)) f ∙ seen_old (length known) i rest m bound.0 e
 name_seen known bytes None true rest m f p e =
     let pushed = place_of-push known bytes f in
     let size : length (known ++ bytes ∷ []) ≡ length known + 1 = length-append known (bytes ∷ []) in
     ap (λ (o : Option ℕ). seen_after (length known) (unwrap_or o 64 ∷ rest)) pushed
-    ∙ seen_next (length known) rest m (ap (λ n. seen_after n rest) (sym size) ∙ e)
+    ∙ seen_new (length known) (length known) rest m refl (ap (λ n. seen_after n rest) (sym size) ∙ e)
 name_seen known bytes None false rest m f p e =
     let none = ap is_none f in absurd (cc)
 

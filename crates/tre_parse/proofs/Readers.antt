@@ -14,7 +14,7 @@ use Rattle.tre_parse.specs.declared.place.Place.TheVariants.{Before, After, InLi
 use Rattle.tre_parse.specs.declared.reader.Reader.{Reader}
 use Rattle.tre_parse.specs.Machine as machine
 use Rattle.tre_parse.specs.Machine.{Config, before_step, literal_step, after_step, after_literal_step, plain_literal, place_end, end_of}
-use Rattle.tre_parse.specs.Places.{LevelStands, StateLevelStands, AroundStands, StateAroundStands, PlaceStands, ReaderStands, Gives, EndGives, bangs_of}
+use Rattle.tre_parse.specs.Places.{LevelStands, AroundStands, StateAroundStands, PlaceStands, ReaderStands, Gives, EndGives, bangs_of}
 use Rattle.tre_parse.specs.declared.operand.Operand.{Operand}
 use Rattle.tre_parse.specs.Operands.{Stands}
 
@@ -72,21 +72,6 @@ takes_off around rest inner (level ∷ others) h e =
     let same = snoc_injective h.0 rest h.1 inner (sym h.2 ∙ e) in
     let P = λ (l : Level). LevelStands l level in
     let Q = λ (ls : List Level). AroundStands ls others in
-    record { level = level; others = others; split = refl; inner_stands = subst P same.1 h.3; rest_stands = subst Q same.0 h.4 }
-
-pub record StateTakesOff (rest : List StateLevel) (inner : StateLevel) (below : List machine.StateLevel) : Type 0 where
-  pub level : machine.StateLevel
-  pub others : List machine.StateLevel
-  pub split : below ≡ level ∷ others
-  pub inner_stands : StateLevelStands inner level
-  pub rest_stands : StateAroundStands rest others
-
-pub state_takes_off : (around rest : List StateLevel) (inner : StateLevel) (below : List machine.StateLevel) → StateAroundStands around below → around ≡ rest ++ inner ∷ [] → StateTakesOff rest inner below
-state_takes_off around rest inner [] h e = absurd (snoc_not_empty rest inner (sym e ∙ h))
-state_takes_off around rest inner (level ∷ others) h e =
-    let same = snoc_injective h.0 rest h.1 inner (sym h.2 ∙ e) in
-    let P = λ (l : StateLevel). StateLevelStands l level in
-    let Q = λ (ls : List StateLevel). StateAroundStands ls others in
     record { level = level; others = others; split = refl; inner_stands = subst P same.1 h.3; rest_stands = subst Q same.0 h.4 }
 
 pub none_around : (around : List Level) (below : List machine.Level) → AroundStands around below → length around ≡ 0 → below ≡ []

@@ -1,14 +1,13 @@
 -- Steps of a scan: what is read from an offset on, once the word there is read.
 use Rattle.std.proofs.Common.{◌≡◌, ℕ, ◌+◌, ◌-◌, ◌<◌, ◌≤◌, zero, suc, Bool, true, false, Option, Some, None, List, [], ◌∷◌, ◌++◌, length, drop, take, get_or, refl, sym, ◌∙◌, ap, subst, arith, append_assoc, add-one, drop-cons}
 use Rattle.std.specs.Prelude.{if◌then◌else◌}
-use Rattle.std.proofs.lemmas.List.{drop-drop, length-drop, append-nil}
-use Rattle.std.proofs.Math.Seq.{drop-length}
+use Rattle.std.proofs.lemmas.List.{drop-drop, length-drop}
 use Rattle.tre_parse.specs.declared.token.Token.{Token}
-use Rattle.tre_parse.specs.declared.lexeme.Lexeme.TheVariants.{Blank, Wrong, Name, Sign}
+use Rattle.tre_parse.specs.declared.lexeme.Lexeme.TheVariants.{Blank, Name, Sign}
 use Rattle.tre_parse.specs.declared.scan.Scan.{Scan}
 use Rattle.tre_parse.specs.Lexeme.{lexeme_of}
 use Rattle.tre_parse.specs.Tokens.{Word, name, sign, Lexed, lexed, scanned, with_word, token_of, known_after, tokens_from, names_from, past_from, is_past, offsets_of, earlier}
-use Rattle.tre_parse.specs.Scan.{rest_from, TakesSpot, LeadsTo, IsScan}
+use Rattle.tre_parse.specs.Scan.{rest_from, TakesSpot, LeadsTo}
 
 -- The bytes of a word are passed over.
 lexed_skips : (k at : ℕ) (bytes : List ℕ) → k ≤ length bytes → lexed k at bytes ≡ lexed 0 (at + k) (drop k bytes)
@@ -40,9 +39,6 @@ rest_after bytes at len p h =
 
 pub rest_blank : (bytes : List ℕ) (at : ℕ) → at < length bytes → lexeme_of (drop at bytes) ≡ Blank → rest_from bytes at ≡ rest_from bytes (at + 1)
 rest_blank bytes at h e = rest_first bytes at h ∙ ap (λ x. scanned x at (drop at bytes) (λ skip. lexed skip (at + 1) (drop (at + 1) bytes))) e
-
-pub rest_wrong : (bytes : List ℕ) (at : ℕ) → at < length bytes → lexeme_of (drop at bytes) ≡ Wrong → (rest_from bytes at).bad ≡ Some at
-rest_wrong bytes at h e = ap (λ (l : Lexed). l.bad) (rest_first bytes at h ∙ ap (λ x. scanned x at (drop at bytes) (λ skip. lexed skip (at + 1) (drop (at + 1) bytes))) e)
 
 pub rest_name : (bytes : List ℕ) (at len : ℕ) → at < length bytes → 0 < len → len ≤ length (drop at bytes) → lexeme_of (drop at bytes) ≡ Name len →
     rest_from bytes at ≡ with_word at (name (take len (drop at bytes))) (rest_from bytes (at + len))
@@ -88,29 +84,4 @@ leads_same bytes scan at next e =
       names = ap (λ (l : Lexed). names_from scan.names l.spots) e;
       past = ap (λ (l : Lexed). earlier scan.past (past_from scan.names l.spots)) e;
       bad = ap (λ (l : Lexed). l.bad) e;
-    }
-
-pub leads_further : (bytes : List ℕ) (a b c : Scan) (i j k : ℕ) → LeadsTo bytes a i b j → LeadsTo bytes b j c k → LeadsTo bytes a i c k
-leads_further bytes a b c i j k f g =
-    record { tokens = f.tokens ∙ g.tokens; offsets = f.offsets ∙ g.offsets; names = f.names ∙ g.names; past = f.past ∙ g.past; bad = f.bad ∙ g.bad }
-
-earlier_none : (o : Option ℕ) → earlier o None ≡ o
-earlier_none (Some n) = refl
-earlier_none None = refl
-
--- A scan that begins with nothing and comes to the end of the text is the text's.
-pub scan_ends : (bytes : List ℕ) (old new : Scan) (end : ℕ) → LeadsTo bytes old 0 new end → end ≡ length bytes →
-    old.tokens.items ≡ [] → old.offsets.items ≡ [] → old.names ≡ [] → old.past ≡ None → IsScan bytes new
-scan_ends bytes old new end f e tokens offsets names past =
-    let nothing = ap (λ n. drop n bytes) e ∙ drop-length bytes in
-    let rest = ap (λ l. lexed 0 end l) nothing in
-    record {
-      tokens = sym (append-nil new.tokens.items) ∙ ap (λ (l : Lexed). new.tokens.items ++ tokens_from new.names l.spots) (sym rest) ∙ sym f.tokens
-          ∙ ap (λ l. l ++ tokens_from old.names (rest_from bytes 0).spots) tokens ∙ ap (λ k. tokens_from k (rest_from bytes 0).spots) names;
-      offsets = sym (append-nil new.offsets.items) ∙ ap (λ (l : Lexed). new.offsets.items ++ offsets_of l.spots) (sym rest) ∙ sym f.offsets
-          ∙ ap (λ l. l ++ offsets_of (rest_from bytes 0).spots) offsets;
-      names = ap (λ (l : Lexed). names_from new.names l.spots) (sym rest) ∙ sym f.names ∙ ap (λ k. names_from k (rest_from bytes 0).spots) names;
-      past = sym (earlier_none new.past) ∙ ap (λ (l : Lexed). earlier new.past (past_from new.names l.spots)) (sym rest) ∙ sym f.past
-          ∙ ap (λ p. earlier p (past_from old.names (rest_from bytes 0).spots)) past ∙ ap (λ k. past_from k (rest_from bytes 0).spots) names;
-      good = f.bad ∙ ap (λ (l : Lexed). l.bad) rest;
     }

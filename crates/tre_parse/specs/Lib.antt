@@ -1,7 +1,9 @@
 pub mod Grammar
+pub mod Strength
 pub mod Machine
 pub mod Lexeme
 pub mod Tokens
+pub mod Blanks
 pub mod Scan
 pub mod Joins
 pub mod Parts

@@ -88,12 +88,6 @@ tokens_of text = tokens_from [] (spots_of text)
 abbrev pub names_of : List ℕ → List (List ℕ)
 names_of text = names_from [] (spots_of text)
 
--- The offset of the token at a place of the list.
-abbrev pub offset_in : List Spot → ℕ → ℕ
-offset_in [] place = 0
-offset_in (spot ∷ rest) zero = spot.at
-offset_in (spot ∷ rest) (suc place) = offset_in rest place
-
 -- The first, if there is one, or else the second.
 abbrev pub earlier : {A : Type 0} → Option A → Option A → Option A
 earlier (Some x) later = Some x

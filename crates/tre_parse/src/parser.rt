@@ -1,9 +1,9 @@
-ghost use Rattle.std.specs.Prelude.{◌≡◌, Some, None, MatchResult};
+ghost use Rattle.std.specs.Prelude.{◌≡◌, Some, None, IfOk, MatchResult};
 ghost use Rattle.tre_syntax.specs.PatternTree.{PatternTree};
 ghost use Rattle.tre_syntax.specs.Pattern.{pattern_tree, names_of};
 ghost use Rattle.tre_parse.specs.Numbering.{IsNumberedByUse};
 ghost use Rattle.tre_parse.specs.Operands.{Stands};
-ghost use Rattle.tre_parse.specs.Outcome.{Outcome, limit_fault, IsOutcomeOfWords, IsOutcome};
+ghost use Rattle.tre_parse.specs.Outcome.{IsSpelling, Outcome, limit_fault, IsOutcomeOfWords, IsOutcome};
 ghost use Rattle.tre_parse.specs.Answers.{words_in, IsWhole, IsBuildable, Answers, IsAnswered};
 
 use crate::fault::ParseFault;
@@ -23,6 +23,7 @@ pub const TEXT_MAX: usize = 16_384;
 /// The refusals come in the order of the variants of `ParseFault`, each over the whole text before the
 /// next. Want of memory may come at any point.
 pub fn parse(alloc: Global, text: &str) -> Result<Pattern, ParseFault>
+    ensures spelling { IfOk result (λ pattern. IsSpelling text.now (pattern_tree pattern) (names_of pattern)) }
     ensures outcome { Answers (IsOutcome text.now) result }
     ensures only { (outcome : Outcome) → IsOutcome text.now outcome → IsAnswered outcome result }
 {
