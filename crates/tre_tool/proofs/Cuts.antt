@@ -15,8 +15,8 @@ pub slice_split-uncut : (p : ℕ → Bool) (xs : List ℕ) → ((k : ℕ) → 0 
 slice_split-uncut p xs none =
     slice_split_none p xs (All-from_get_or (λ x. p x ≡ false) xs 0 (λ i below. is_false _ (none i (omega arith) below)))
 
-pub split_around : (xs : List ℕ) (k : ℕ) → k < length xs → xs ≡ take k xs ++ get_or xs k 0 ∷ drop (suc k) xs
-split_around xs k below = sym (take-append-drop k xs) ∙ ap (λ rest. take k xs ++ rest) (drop-cons xs k 0 below)
+pub split_around : {X : Type 0} (xs : List X) (k : ℕ) (d : X) → k < length xs → xs ≡ take k xs ++ get_or xs k d ∷ drop (suc k) xs
+split_around xs k d below = sym (take-append-drop k xs) ∙ ap (λ rest. take k xs ++ rest) (drop-cons xs k d below)
 
 front_fails : (p : ℕ → Bool) (xs : List ℕ) (k : ℕ) → k < length xs → ((i : ℕ) → 0 ≤ i → i < k → ¬ (p (get_or xs i 0) ≡ true)) → All (λ x. p x ≡ false) (take k xs)
 front_fails p xs k below none =
@@ -28,7 +28,7 @@ pub slice_split-cut : (p : ℕ → Bool) (xs : List ℕ) (k : ℕ) → k < lengt
     → slice_split p xs ≡ take k xs ∷ slice_split p (drop (k + 1) xs)
 slice_split-cut p xs k below none here =
     let e : k + 1 ≡ suc k = omega arith in
-    rw e (ap (slice_split p) (split_around xs k below) ∙ slice_split_at p (take k xs) (get_or xs k 0) (drop (suc k) xs) (front_fails p xs k below none) here)
+    rw e (ap (slice_split p) (split_around xs k 0 below) ∙ slice_split_at p (take k xs) (get_or xs k 0) (drop (suc k) xs) (front_fails p xs k below none) here)
 
 pub take-rest : (i : ℕ) (xs : List ℕ) → take (length xs - i) (drop i xs) ≡ drop i xs
 take-rest i xs = rw (← length-drop i xs) (take-length (drop i xs))

@@ -5,5 +5,10 @@ pub mod Inputs
 pub mod Lines
 pub mod Orders
 pub mod Outcomes
+pub mod Pieces
+pub mod Printing
 pub mod Promise
+pub mod Ranges
+pub mod TraceLines
+pub mod Valuations
 pub mod Words

@@ -6,13 +6,12 @@ use Rattle.std.specs.Option.{option_map}
 use Rattle.std.proofs.lemmas.List.Splits.{length-slice_split}
 use Rattle.tre_pairs.specs.declared.TheConstants.{TIME_MAX}
 use Rattle.tre_trace.specs.declared.segment.Segment.{Segment}
-use Rattle.tre_trace.specs.declared.fault.TraceKind.{TraceKind}
 use Rattle.tre_trace.specs.declared.fault.TraceKind.TheVariants.{BadNumber, TooLate}
 use Rattle.tre_trace.specs.Trace.{end_of}
 use Rattle.tre_tool.specs.Reading.{is_line_end, lines_of, lines_of_parts, says, capped, behind, ReadingOf, lines_reading, line_says, Adds}
 use Rattle.tre_tool.proofs.Entries.{positive}
 
-more_parts : (closed : Bool) (line : List ℕ) (parts : List (List ℕ)) → 0 < length parts → lines_of_parts closed (line ∷ parts) ≡ line ∷ lines_of_parts closed parts
+pub more_parts : (closed : Bool) (line : List ℕ) (parts : List (List ℕ)) → 0 < length parts → lines_of_parts closed (line ∷ parts) ≡ line ∷ lines_of_parts closed parts
 more_parts closed line [] h = absurd (omega (arith, h))
 more_parts closed line (part ∷ parts) h = refl
 
@@ -78,8 +77,3 @@ pub behind-added : (names : List (List ℕ)) (number : ℕ) (old new : List Segm
     → behind old (lines_reading names number (end_of 0 old) (line ∷ lines)) ≡ behind new (lines_reading names (number + 1) (end_of 0 new) lines)
 behind-added names number old new line lines adds =
     rw (adds.said_so, adds.ends) (behind-behind old new adds.segment (lines_reading names (number + 1) (end_of 0 old + adds.segment.len) lines) adds.added)
-
--- a line that says a fault ends the reading
-pub fault_behind : (names : List (List ℕ)) (number : ℕ) (old : List Segment) (line : List ℕ) (lines : List (List ℕ)) (kind : TraceKind) → line_says names (end_of 0 old) line ≡ Err kind
-    → (behind old (lines_reading names number (end_of 0 old) (line ∷ lines))).fault ≡ Some (record { place = number; kind = kind })
-fault_behind names number old line lines kind said = rw said refl

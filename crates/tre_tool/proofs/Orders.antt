@@ -1,5 +1,5 @@
--- A list of zones in another order holds the same pairs, and is apart as before.
-use Rattle.std.proofs.Common.{◌≡◌, ◌≢◌, ℕ, zero, suc, ◌+◌, ◌<◌, ◌≤◌, ◌↔◌, ◌⊎◌, List, [], ◌∷◌, length, get_or, refl, sym, ap, ◌∙◌, subst, arith, inl, inr, ⊎_elim}
+-- A list of zones in another order holds the same pairs, and is a set of zones as before.
+use Rattle.std.proofs.Common.{◌≡◌, ◌≢◌, ℕ, zero, suc, ◌<◌, ◌↔◌, ◌⊎◌, List, [], ◌∷◌, length, get_or, refl, sym, ap, ◌∙◌, subst, arith, inl, inr, ⊎_elim}
 use Rattle.std.specs.List.{Contains, swap}
 use Rattle.std.specs.List.Sorted.{IsPermutation}
 use Rattle.std.proofs.Math.ListN.{set}
@@ -7,10 +7,11 @@ use Rattle.std.proofs.lemmas.List.{get_or-set_same, get_or-set_other, length-set
 use Rattle.std.proofs.lemmas.Bool.{cases_eq}
 use Rattle.std.proofs.lemmas.List.Sorted.{IsPermutation-keeps, IsPermutation-sym, Contains-permutation}
 use Rattle.std.proofs.lemmas.List.Edits.{swap_is, length-swap}
-use Rattle.tre_zone.specs.Zone.{ZoneHolds}
+use Rattle.tre_zone.specs.Zone.{ZoneHolds, IsCanonical}
 use Rattle.tre_zone.specs.ZoneList.{SetHolds, IsApart, IsApartFrom, AreApart}
 use Rattle.tre_zone.specs.declared.zone_bounds.ZoneBounds.{ZoneBounds}
 use Rattle.tre_zone.proofs.ZoneListLemmas.{AreApart-swap}
+use Rattle.tre_zoneset.specs.ZoneSet.{IsZoneSet, AreCanonical}
 
 -- some member holds the pair
 record HeldBy (zones : List ZoneBounds) (a b n : ℕ) : Type 0 where
@@ -127,6 +128,28 @@ swap_apart l i j below other any = record {
       rw (was.same, was'.same) (any.two was.place was'.place d (was.inside (omega (arith, here, length-swap l i j))) (was'.inside (omega (arith, there, length-swap l i j))) (differed i j p q _ _ two was.from was'.from));
 }
 
-pub IsApart-permutation : (zones others : List ZoneBounds) → IsPermutation zones others → IsApart zones → IsApart others
+IsApart-permutation : (zones others : List ZoneBounds) → IsPermutation zones others → IsApart zones → IsApart others
 IsApart-permutation zones others order apart =
     apart_again others (IsPermutation-keeps zones AnyTwoApart (record { two = λ p q d below other two. apart_at zones p q d apart below other two }) swap_apart others order)
+
+-- what is canonical of each, by membership
+canonical_of : (zones : List ZoneBounds) (zone : ZoneBounds) → AreCanonical zones → Contains zones zone → IsCanonical zone
+unfolding AreCanonical
+canonical_of [] zone all (k, below, same) = absurd (omega (arith, below))
+canonical_of (first ∷ rest) zone all (zero, below, same) = subst IsCanonical same all.0
+canonical_of (first ∷ rest) zone all (suc k, below, same) = canonical_of rest zone all.1 (k, omega (arith, below), same)
+
+canonical_again : (zones : List ZoneBounds) → ((zone : ZoneBounds) → Contains zones zone → IsCanonical zone) → AreCanonical zones
+unfolding AreCanonical
+canonical_again [] each = tt
+canonical_again (first ∷ rest) each = (
+  each first (0, omega arith, refl),
+  canonical_again rest (λ zone member. each zone (suc member.0, omega (arith, member.1), member.2)),
+)
+
+pub IsZoneSet-permutation : (zones others : List ZoneBounds) → IsPermutation zones others → IsZoneSet zones → IsZoneSet others
+IsZoneSet-permutation zones others order set = record {
+  apart = IsApart-permutation zones others order set.apart;
+  canonical = canonical_again others
+      (λ zone member. canonical_of zones zone set.canonical (Contains-permutation others zones zone (IsPermutation-sym zones others order) member));
+}

@@ -1,5 +1,5 @@
 -- What the bytes of an input come to, from what was read of them.
-use Rattle.std.proofs.Common.{◌≡◌, ◌≢◌, ℕ, ◌+◌, ◌<◌, ◌≤◌, nat_le, Bool, List, [], ◌++◌, length, take, Option, None, Some, refl, sym, ap, ◌∙◌, subst, arith, IfSome, ⊎_elim, length-append, append-nil}
+use Rattle.std.proofs.Common.{◌≡◌, ◌≢◌, ℕ, ◌+◌, ◌<◌, ◌≤◌, nat_le, Bool, List, [], ◌++◌, length, take, Option, None, Some, refl, ◌∙◌, arith, IfSome, ⊎_elim, length-append, append-nil}
 use Rattle.std.proofs.lemmas.Bool.{cases_lt}
 use Rattle.std.proofs.lemmas.List.{take-append-le}
 use Rattle.tre_trace.specs.declared.segment.Segment.{Segment}
@@ -62,9 +62,3 @@ outcome_of-taken names limit None left bytes outcome taken e = tt
 outcome_of-taken names limit (Some whole) None bytes outcome taken e = absurd taken.front
 outcome_of-taken names limit (Some whole) (Some left) bytes outcome taken e =
     rw taken.front (outcome_of-read names limit bytes left taken.few taken.all ∙ e)
-
--- what was taken is the whole input, where it is within the limit
-pub whole-taken : (limit : ℕ) (file left : Option (List ℕ)) (bytes : List ℕ) (P : List ℕ → Type 0) → Taken limit file left bytes → length bytes ≤ limit → P bytes → IfSome file P
-whole-taken limit None left bytes P taken inside p = tt
-whole-taken limit (Some whole) None bytes P taken inside p = absurd taken.front
-whole-taken limit (Some whole) (Some left) bytes P taken inside p = subst P (sym (taken.front ∙ ap (λ rest. bytes ++ rest) (taken.all inside) ∙ append-nil bytes)) p

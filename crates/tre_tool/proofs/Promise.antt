@@ -1,7 +1,6 @@
 -- What the end of a run says of each part of its promise.
-use Rattle.std.proofs.Common.{◌≡◌, ◌≢◌, ℕ, Bool, true, false, List, [], ◌∷◌, Option, None, Some, IfSome, refl, sym, ◌∙◌, subst, inl, inr, ⊎_elim, ap, ◌⊎◌}
-use Rattle.std.specs.Prelude.{if◌then◌else◌}
-use Rattle.tre_io.specs.Faults.{Rises}
+use Rattle.std.proofs.Common.{◌≡◌, ◌≢◌, ℕ, List, Option, None, Some, IfSome, Result, Ok, Err, OnOk, OnErr, refl, sym, ◌∙◌, subst, inl, inr, ⊎_elim, ap, ◌⊎◌, arith}
+use Rattle.tre_io.specs.Faults.{counted, Rises}
 use Rattle.tre_tool.specs.Ends.{Outside, EndsAs, EndsOver, EndsWords, RefusesWords}
 use Rattle.tre_parse.specs.Outcome.{IsOutcome, spelt, refused}
 use Rattle.tre_parse.specs.declared.fault.ParseFault.{ParseFault}
@@ -35,6 +34,10 @@ pub done_completes : (job : Job) (tree : PatternTree) (names : List (List ℕ)) 
 done_completes job tree names bytes text answer =
     rw (outcome_of-completes names job.max_bytes bytes answer.trace answer.within answer.reads) (inl refl)
 
+-- a count to which one fault was added rose
+one_more : (before now : ℕ) → now ≡ counted before → Rises before now
+one_more before now e = rw e (omega arith)
+
 -- a run over a pattern in which no fault was counted
 complete_over : (job : Job) (tree : PatternTree) (names : List (List ℕ)) (outside : Outside) (status : Status) → EndsAs job tree names outside status
     → ¬ Rises outside.reads_before outside.reads_now → ¬ Rises outside.writes_before outside.writes_now
@@ -44,24 +47,28 @@ complete_over job tree names outside Usage ends reads writes = absurd ends
 complete_over job tree names outside (Expression fault) ends reads writes = absurd ends
 complete_over job tree names outside (Trace fault) ends reads writes = weaker outside.file _ _ (λ bytes e. rw e (inl refl)) ends.3
 complete_over job tree names outside InputTooLong ends reads writes = weaker outside.file _ _ (λ bytes e. rw e (inl refl)) ends.2
-complete_over job tree names outside ReadFault ends reads writes = absurd (reads ends.0)
-complete_over job tree names outside WriteFault ends reads writes = absurd (writes ends.1)
+complete_over job tree names outside ReadFault ends reads writes = absurd (reads (one_more _ _ ends.0))
+complete_over job tree names outside WriteFault ends reads writes = absurd (writes (one_more _ _ ends.1))
 complete_over job tree names outside Memory ends reads writes = free outside.file _ (λ bytes. memory_is_free (outcome_for job names bytes))
 
 -- words that ask for a pattern aren't refused but for want of memory
-only_memory : (words : List (List ℕ)) (job : Job) (tree : PatternTree) (names : List (List ℕ)) (outside : Outside) (status : Status) → AsksFor words job tree names → RefusesWords words status
-    → IfSome outside.file (λ bytes. IsStatusFor (outcome_for job names bytes) status)
-only_memory words job tree names outside Done asks told = absurd told
-only_memory words job tree names outside Usage asks told = let wrong : Some job ≡ None = sym asks.job_is ∙ told in cc
-only_memory words job tree names outside (Expression fault) asks told =
+pub refused_memory : (words : List (List ℕ)) (job : Job) (tree : PatternTree) (names : List (List ℕ)) (status : Status) → AsksFor words job tree names → RefusesWords words status → status ≡ Memory
+refused_memory words job tree names Done asks told = absurd told
+refused_memory words job tree names Usage asks told = let wrong : Some job ≡ None = sym asks.job_is ∙ told in cc
+refused_memory words job tree names (Expression fault) asks told =
     let same = job_unique words told.job job told.job_is asks.job_is in
     let one = outcome_once job.expr (refused fault) (spelt tree names) (subst (λ (j : Job). IsOutcome j.expr (refused fault)) same told.refuses) asks.spells in
     cc
-only_memory words job tree names outside (Trace fault) asks told = absurd told
-only_memory words job tree names outside InputTooLong asks told = absurd told
-only_memory words job tree names outside ReadFault asks told = absurd told
-only_memory words job tree names outside WriteFault asks told = absurd told
-only_memory words job tree names outside Memory asks told = free outside.file _ (λ bytes. memory_is_free (outcome_for job names bytes))
+refused_memory words job tree names (Trace fault) asks told = absurd told
+refused_memory words job tree names InputTooLong asks told = absurd told
+refused_memory words job tree names ReadFault asks told = absurd told
+refused_memory words job tree names WriteFault asks told = absurd told
+refused_memory words job tree names Memory asks told = refl
+
+only_memory : (words : List (List ℕ)) (job : Job) (tree : PatternTree) (names : List (List ℕ)) (outside : Outside) (status : Status) → AsksFor words job tree names → RefusesWords words status
+    → IfSome outside.file (λ bytes. IsStatusFor (outcome_for job names bytes) status)
+only_memory words job tree names outside status asks told =
+    rw (refused_memory words job tree names status asks told) (free outside.file _ (λ bytes. memory_is_free (outcome_for job names bytes)))
 
 -- the run over the pattern that the words ask for
 pub over_asked : (words : List (List ℕ)) (job : Job) (tree : PatternTree) (names : List (List ℕ)) (outside : Outside) (status : Status) → AsksFor words job tree names → EndsOver words outside status → EndsAs job tree names outside status
@@ -144,3 +151,8 @@ pub no_pattern-words : (words : List (List ℕ)) (outside : Outside) (untouched 
     → AsksInVain words fault → (status ≡ Expression fault) ⊎ (status ≡ Memory)
 no_pattern-words words outside untouched status fault ends asks =
     ⊎_elim (λ told. refused_so words status fault asks told.1) (λ over. absurd (vain_over words outside status fault asks over)) ends
+
+-- a call did all its work or failed
+pub all_or_part : {T E : Type 0} (result : Result T E) (All Part : Type 0) → OnOk result All → OnErr result Part → All ⊎ Part
+all_or_part (Ok value) All Part all part = inl all
+all_or_part (Err fault) All Part all part = inr part

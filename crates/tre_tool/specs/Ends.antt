@@ -1,6 +1,6 @@
 -- How a run over a pattern ends, case by case.
 use Rattle.std.specs.Prelude.{◌≡◌, ◌⊎◌, ℕ, List, Option, None, IfSome}
-use Rattle.tre_io.specs.Faults.{Rises}
+use Rattle.tre_io.specs.Faults.{counted}
 use Rattle.tre_syntax.specs.PatternTree.{PatternTree}
 use Rattle.tre_tool.specs.Outcome.{refuses, exceeds}
 use Rattle.tre_tool.specs.Reading.{IsInputKind}
@@ -44,9 +44,9 @@ EndsAs job tree names outside (Trace fault) =
     AllReadsGood outside × NothingWritten outside × IsInputKind fault.kind × IfSome outside.file (λ bytes. outcome_for job names bytes ≡ refuses fault)
 EndsAs job tree names outside InputTooLong =
     AllReadsGood outside × NothingWritten outside × IfSome outside.file (λ bytes. outcome_for job names bytes ≡ exceeds)
-EndsAs job tree names outside ReadFault = Rises outside.reads_before outside.reads_now × NothingWritten outside
+EndsAs job tree names outside ReadFault = (outside.reads_now ≡ counted outside.reads_before) × NothingWritten outside
 EndsAs job tree names outside WriteFault =
-    AllReadsGood outside × Rises outside.writes_before outside.writes_now
+    AllReadsGood outside × (outside.writes_now ≡ counted outside.writes_before)
     × IfSome outside.file (λ bytes. IsCutOff job tree names bytes outside.written_before outside.written_now)
 EndsAs job tree names outside Memory = AllReadsGood outside × NothingWritten outside
 

@@ -1,7 +1,7 @@
 -- What a run takes from its source.
 use Rattle.std.specs.Prelude.{◌≡◌, ℕ, ◌≤◌, List, ◌++◌, Bool, length, Option, Result, Ok, Err}
 use Rattle.std.specs.Io.KnownBytes.{Consumes, IsAtEnd}
-use Rattle.tre_io.specs.Faults.{Rises}
+use Rattle.tre_io.specs.Faults.{counted}
 use Rattle.tre_tool.specs.declared.input.InputFault.{InputFault}
 use Rattle.tre_tool.specs.declared.input.InputFault.TheVariants.{Read, Memory}
 
@@ -14,7 +14,7 @@ pub record TakesAtMost (most : ℕ) (file left : Option (List ℕ)) : Type 0 whe
 -- A failed read is one that was counted, and nothing else raises the count.
 abbrev pub HasReadCause : {T : Type 0} → ℕ → ℕ → Result T InputFault → Type 0
 HasReadCause before now (Ok value) = now ≡ before
-HasReadCause before now (Err Read) = Rises before now
+HasReadCause before now (Err Read) = now ≡ counted before
 HasReadCause before now (Err Memory) = now ≡ before
 
 -- A read of `count` bytes took them from what is left and put them behind the others; none came only at the end.

@@ -1,5 +1,6 @@
 pub mod Job
 pub mod Reading
+pub mod TraceLines
 pub mod Status
 pub mod Matches
 pub mod Output

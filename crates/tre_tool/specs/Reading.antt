@@ -1,7 +1,6 @@
 -- What the bytes of a text trace say.
-use Rattle.std.specs.Prelude.{◌≡◌, ◌≢◌, ℕ, ◌+◌, ◌*◌, ◌^◌, ◌-◌, min, nat_le, nat_lt, Bool, true, false, ◌&&◌, ◌==◌, List, [], ◌∷◌, ◌++◌, length, Option, None, Some, Result, Ok, Err, if◌then◌else◌}
-use Rattle.std.specs.List.{slice_split, list_all, list_any}
-use Rattle.std.specs.Str.{bytes_eq}
+use Rattle.std.specs.Prelude.{◌≡◌, ◌≢◌, ℕ, ◌+◌, ◌^◌, ◌-◌, min, nat_le, nat_lt, Bool, true, false, ◌&&◌, ◌==◌, List, [], ◌∷◌, ◌++◌, length, Option, None, Some, Result, Ok, Err, if◌then◌else◌}
+use Rattle.std.specs.List.{slice_split, list_all, Contains}
 use Rattle.std.specs.Str.Parse.{digits_value}
 use Rattle.std.specs.Char.{is_ascii_digit}
 use Rattle.tre_pairs.specs.declared.TheConstants.{TIME_MAX}
@@ -63,6 +62,12 @@ valuation_after names valuation (field ∷ fields) = valuation_after names (with
 -- The valuation on which the propositions of the fields are true, and the others false. Bit i is the i-th name's.
 abbrev pub valuation_of : List (List ℕ) → List (List ℕ) → ℕ
 valuation_of names fields = valuation_after names 0 fields
+
+-- One of the fields is the name of proposition i.
+pub record IsNamed (names fields : List (List ℕ)) (i : ℕ) : Type 0 where
+  pub field : List ℕ
+  pub stands : Contains fields field
+  pub place : place_of names field ≡ Some i
 
 -- the segment that a duration and names say, of whatever length
 abbrev pub entry_of : List (List ℕ) → List ℕ → List (List ℕ) → Option Segment

@@ -1,7 +1,7 @@
 -- The promise of a run: what was written, and why it ended as it did.
-use Rattle.std.specs.Prelude.{◌≡◌, ◌≢◌, ◌⊎◌, ℕ, List, [], ◌∷◌, Option, Some}
+use Rattle.std.specs.Prelude.{◌≡◌, ◌≢◌, ◌⊎◌, ℕ, List, Option, Some}
 use Rattle.std.specs.Io.KnownBytes.{Appends, IsAtEnd}
-use Rattle.tre_io.specs.Faults.{Rises}
+use Rattle.tre_io.specs.Faults.{counted}
 use Rattle.tre_io.specs.Written.{AppendsPart}
 use Rattle.tre_parse.specs.declared.fault.ParseFault.{ParseFault}
 use Rattle.tre_parse.specs.declared.fault.ParseFault.TheVariants.{Memory as ParseMemory}
@@ -55,7 +55,7 @@ IsStatusFor (completes trace) status = (status ≡ Done) ⊎ (status ≡ Memory)
 IsStatusFor (refuses fault) status = (status ≡ Trace fault) ⊎ (status ≡ Memory)
 IsStatusFor exceeds status = (status ≡ InputTooLong) ⊎ (status ≡ Memory)
 
--- This status comes only where the count rose in the run, and every other one leaves the count as it was.
+-- This status comes only where the run counted one fault, and every other one leaves the count as it was.
 pub record IsCountedFault (fault : Status) (before now : ℕ) (status : Status) : Type 0 where
-  pub rose : status ≡ fault → Rises before now
+  pub rose : status ≡ fault → now ≡ counted before
   pub others : status ≢ fault → now ≡ before

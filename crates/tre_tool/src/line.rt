@@ -70,6 +70,7 @@ fn as_word(field: &[u8]) -> Option<&str>
 fn with_name(names: &Names, valuation: u64, word: &str) -> u64
     ensures { result ≡ with_name names.now valuation word.now }
 {
+    // For the proof: the call says that there are at most 64 names.
     let _ = names.len();
     match names.find(word) {
         Some(place) => valuation | (1 << place),

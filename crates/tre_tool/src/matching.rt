@@ -1,6 +1,7 @@
 ghost use Rattle.std.specs.Prelude.{◌≡◌, ◌≢◌, ◌⊎◌, ◌+◌, ◌<◌, ◌^◌, ℕ, List, Bool, IsTrue, IfOk, IfErr, IfSome, Some, None, false, map, string_bytes, codes};
 ghost use Rattle.std.specs.Io.KnownBytes.{Appends};
 ghost use Rattle.tre_io.specs.Faults.{Rises};
+ghost use Rattle.tre_io.specs.Written.{AppendsPart};
 ghost use Rattle.tre_trace.specs.declared.fault.TraceFault.{TraceFault};
 ghost use Rattle.tre_tool.specs.Ends.{EndsAs, RefusesWords, EndsWords};
 ghost use Rattle.tre_tool.specs.Input.{TakesAtMost};
@@ -46,6 +47,7 @@ pub(crate) fn run_pattern<S: Source, O: Sink>(
     }) result }
     ensures bounded { IsTrue (S.opened input.new) → TakesAtMost (job.now.max_bytes + 1) (S.file input.old) (S.left input.new) }
     ensures sound { IsTrue (S.sound input.old) → S.file_name input.old ≡ Some job.now.input → result ≢ Status.ReadFault }
+    ensures named { result ≢ Status.ReadFault → result ≢ Status.Memory → IfSome (S.file_name input.old) (λ told. told ≡ job.now.input) }
 {
     let bytes = match read_input(alloc, job.input.text(), job.max_bytes as usize, input) {
         Ok(bytes) => bytes,
@@ -118,6 +120,8 @@ fn run_words<S: Source, O: Sink>(
     }) ((input.new ≡ input.old) × (out.new ≡ out.old)) result }
     ensures bounded { IsTrue (S.opened input.new) → IfSome (job_of (map string_bytes words.now)) (λ job. TakesAtMost (job.max_bytes + 1) (S.file input.old) (S.left input.new)) }
     ensures sound { IsTrue (S.sound input.old) → IfSome (job_of (map string_bytes words.now)) (λ job. S.file_name input.old ≡ Some job.input → result ≢ Status.ReadFault) }
+    ensures named { (job : Job) (tree : PatternTree) (names : List (List ℕ)) → AsksFor (map string_bytes words.now) job tree names → result ≢ Status.ReadFault → result ≢ Status.Memory →
+        IfSome (S.file_name input.old) (λ told. told ≡ job.input) }
 {
     match read_task(alloc, words) {
         Ok(task) => run_pattern(alloc, &task.pattern, &task.job, input, out),
@@ -148,6 +152,7 @@ pub fn run<S: Source, O: Sink, E: Sink>(
     ensures output_untouched { result ≢ Status.Done → result ≢ Status.WriteFault → O.written out.new ≡ O.written out.old }
     ensures source_untouched { job_of (map string_bytes words.now) ≡ None ⊎ ((fault : ParseFault) × AsksInVain (map string_bytes words.now) fault) → (input.new ≡ input.old) × (out.new ≡ out.old) }
     ensures error_line { ¬ Rises (E.faults err.old) (E.faults err.new) → Appends (E.written err.old) (E.written err.new) (error_line result) }
+    ensures error_part { Appends (E.written err.old) (E.written err.new) (error_line result) ⊎ AppendsPart (E.written err.old) (E.written err.new) (error_line result) }
 
     // Why it ended so.
     ensures asked { result ≢ Status.Usage → ((fault : ParseFault) → result ≢ Status.Expression fault) → result ≢ Status.Memory → HasPattern (map string_bytes words.now) }
@@ -163,6 +168,10 @@ pub fn run<S: Source, O: Sink, E: Sink>(
     ensures read_cause { IsCountedFault Status.ReadFault (S.faults input.old) (S.faults input.new) result }
     ensures write_cause { IsCountedFault Status.WriteFault (O.faults out.old) (O.faults out.new) result }
     ensures sound_source { IsTrue (S.sound input.old) → IfSome (job_of (map string_bytes words.now)) (λ job. S.file_name input.old ≡ Some job.input → result ≢ Status.ReadFault) }
+
+    // What was read is the input that the words name.
+    ensures by_name { (job : Job) (tree : PatternTree) (names : List (List ℕ)) → AsksFor (map string_bytes words.now) job tree names → result ≢ Status.ReadFault → result ≢ Status.Memory →
+        IfSome (S.file_name input.old) (λ told. told ≡ job.input) }
 
     // Where no fault was counted, the status is the one for what the input comes to, or `Memory`.
     ensures complete { (job : Job) (tree : PatternTree) (names : List (List ℕ)) → AsksFor (map string_bytes words.now) job tree names →

@@ -1,7 +1,7 @@
 // The zones of a set, in the order in which they are printed.
 ghost use Rattle.std.specs.Prelude.{◌≡◌, ℕ, neg_ℤ, ◌^◌, ◌↔◌, IfOk};
 ghost use Rattle.tre_zone.specs.Bound.{IsKeyWithin};
-ghost use Rattle.tre_zone.specs.ZoneList.{SetHolds, IsApart};
+ghost use Rattle.tre_zone.specs.ZoneList.{SetHolds};
 ghost use Rattle.tre_zoneset.specs.ZoneSet.{IsZoneSet};
 ghost use Rattle.tre_tool.specs.Output.{sort_key, IsRising};
 
@@ -40,7 +40,7 @@ fn copy_of(alloc: Global, zones: &[Zone]) -> Result<Vec<Zone>, AllocError>
 /// The zones of the set in rising order of their lines.
 pub fn printed_order(alloc: Global, set: &ZoneSet) -> Result<Vec<Zone>, AllocError>
     ensures held { IfOk result (λ zones. (a b n : ℕ) → SetHolds zones.items a b n ↔ SetHolds set.now a b n) }
-    ensures apart { IfOk result (λ zones. IsApart zones.items) }
+    ensures set { IfOk result (λ zones. IsZoneSet zones.items) }
     ensures rising { IfOk result (λ zones. IsRising zones.items) }
 {
     let mut zones = copy_of(alloc, set.zones())?;

@@ -1,6 +1,7 @@
-ghost use Rattle.std.specs.Prelude.{◌≡◌, List, flat_map, OnOk};
+ghost use Rattle.std.specs.Prelude.{◌≡◌, List, flat_map, OnOk, OnErr};
 ghost use Rattle.std.specs.Io.KnownBytes.{Appends};
 ghost use Rattle.tre_io.specs.Faults.{HasCause};
+ghost use Rattle.tre_io.specs.Written.{AppendsPart};
 ghost use Rattle.tre_tool.specs.Status.{kind_name, fault_words, fault_number, error_line};
 
 use crate::Status;
@@ -59,6 +60,7 @@ fn fault_number(fault: &ParseFault) -> Option<u64>
 
 fn put_pieces<E: Sink>(err: &mut E, pieces: &[&str]) -> Result<(), Failed>
     ensures all { OnOk result (Appends (E.written err.old) (E.written err.new) (flat_map (λ piece. piece.now) pieces.now)) }
+    ensures part { OnErr result (AppendsPart (E.written err.old) (E.written err.new) (flat_map (λ piece. piece.now) pieces.now)) }
     ensures cause { HasCause (E.faults err.old) (E.faults err.new) result }
 {
     for piece in pieces {
@@ -69,6 +71,7 @@ fn put_pieces<E: Sink>(err: &mut E, pieces: &[&str]) -> Result<(), Failed>
 
 fn tell_fault<E: Sink>(fault: &ParseFault, err: &mut E) -> Result<(), Failed>
     ensures line { OnOk result (Appends (E.written err.old) (E.written err.new) (error_line (Status.Expression fault.now))) }
+    ensures part { OnErr result (AppendsPart (E.written err.old) (E.written err.new) (error_line (Status.Expression fault.now))) }
     ensures cause { HasCause (E.faults err.old) (E.faults err.new) result }
 {
     let words = fault_words(fault);
@@ -83,8 +86,11 @@ fn tell_fault<E: Sink>(fault: &ParseFault, err: &mut E) -> Result<(), Failed>
 }
 
 /// Tells standard error how the run ended. It takes no memory: the line goes out piece by piece.
+///
+/// At `Failed` a first part of the line was taken, which may be empty and isn't the whole.
 pub fn tell_status<E: Sink>(status: &Status, err: &mut E) -> Result<(), Failed>
     ensures line { OnOk result (Appends (E.written err.old) (E.written err.new) (error_line status.now)) }
+    ensures part { OnErr result (AppendsPart (E.written err.old) (E.written err.new) (error_line status.now)) }
     ensures cause { HasCause (E.faults err.old) (E.faults err.new) result }
 {
     match status {

@@ -1,10 +1,12 @@
-ghost use Rattle.std.specs.Prelude.{◌≡◌, ◌<◌, IfOk, false};
+ghost use Rattle.std.specs.Prelude.{◌≡◌, ◌<◌, ◌-◌, ◌^◌, IfOk, false};
 
 use crate::job::{Job, Word};
 use crate::matching::{run, run_pattern};
+use crate::status::Status;
 use std::alloc::{AllocError, Global};
+use std::io::Cursor;
 use std::test::Fail;
-use tre_io::{MemSink, MemSource};
+use tre_io::{Failed, MemSink, MemSource, Sink, Source, StdSink};
 use tre_parse::parse;
 
 /// How a run over memory ended, and what it wrote.
@@ -15,7 +17,7 @@ struct Ran {
     err: Vec<u8>,
 }
 
-/// Bytes a call and the calls that fail, of a source or a sink.
+/// How many bytes a call of a source or a sink takes at most, and the call that fails, or 0.
 #[derive(Clone, Copy)]
 struct Device {
     most: usize,
@@ -36,16 +38,36 @@ fn words_of(alloc: Global, words: &[&str]) -> Result<Vec<String>, AllocError> {
     Ok(all)
 }
 
+/// The number of the call that fails, if one does. A source without such a call is sound.
+fn failing(alloc: Global, device: Device) -> Result<Vec<u64>, AllocError> {
+    if device.fails == 0 {
+        return Ok(Vec::new(alloc));
+    }
+    [device.fails].to_vec(alloc)
+}
+
+fn named_source(
+    alloc: Global,
+    name: &str,
+    text: &str,
+    device: Device,
+) -> Result<MemSource, AllocError>
+    ensures { IfOk result (λ source. source.opened ≡ false) }
+{
+    let name = String::from_str(alloc, name)?;
+    let bytes = text.as_bytes().to_vec(alloc)?;
+    Ok(MemSource::new(name, bytes, device.most, failing(alloc, device)?))
+}
+
 fn source_of(alloc: Global, text: &str, device: Device) -> Result<MemSource, AllocError>
     ensures { IfOk result (λ source. source.opened ≡ false) }
 {
-    let name = String::from_str(alloc, "-")?;
-    let fails = [device.fails].to_vec(alloc)?;
-    Ok(MemSource::new(name, text.as_bytes().to_vec(alloc)?, device.most, fails))
+    let source = named_source(alloc, "-", text, device)?;
+    Ok(source)
 }
 
 fn sink_of(alloc: Global, device: Device) -> Result<MemSink, AllocError> {
-    Ok(MemSink::new(alloc, device.most, [device.fails].to_vec(alloc)?))
+    Ok(MemSink::new(alloc, device.most, failing(alloc, device)?))
 }
 
 /// Runs over memory, with what each device does.
@@ -263,55 +285,203 @@ fn one_byte_a_call(rt: HostRuntime) -> Result<(), Fail> {
     Ok(())
 }
 
-/// The source gives two bytes a read, so the calls 2 to 4 read and call 5 sees the end.
+/// How many calls take `len` bytes, at most `most` of them a call.
+fn calls_for(len: u64, most: usize) -> u64
+    requires { 0 < most }
+{
+    len.div_ceil(most as u64)
+}
+
+/// Of the calls, one opens, the others read, and the last of them sees the end.
 #[test]
 fn each_read_fails_in_turn(rt: HostRuntime) -> Result<(), Fail> {
-    for call in 1..6 {
-        let read = Device {
-            most: 2,
-            fails: call,
-        };
-        let ran = ran_with(rt.alloc(), &["p"], "3 p q\n", [read, SOUND, SOUND])?;
-        assert_eq!(rt; ran.code, 6);
-        assert!(rt; ran.out.is_empty());
-        assert_eq!(rt; ran.err.as_slice(), b"montre: read fault\n".as_slice());
+    for most in 1usize..8 {
+        let calls = calls_for(6, most).saturating_add(2);
+        for fails in 1u64..10 {
+            let read = Device { most, fails };
+            let ran = ran_with(rt.alloc(), &["p"], "3 p q\n", [read, SOUND, SOUND])?;
+            if fails <= calls {
+                assert_eq!(rt; ran.code, 6);
+                assert!(rt; ran.out.is_empty());
+                assert_eq!(rt; ran.err.as_slice(), b"montre: read fault\n".as_slice());
+            } else {
+                assert_eq!(rt; ran.code, 0);
+                let out = b"[0,3) (0,3] (0,3]\nend 3\n";
+                assert_eq!(rt; ran.out.as_slice(), out.as_slice());
+            }
+        }
     }
     Ok(())
 }
 
+/// The calls before the one that fails have written what they took, and nothing else is there.
 #[test]
 fn each_write_fails_in_turn(rt: HostRuntime) -> Result<(), Fail> {
-    let left = [
-        (1, ""),
-        (2, "[0,3)"),
-        (3, "[0,3) (0,3"),
-        (4, "[0,3) (0,3] (0,"),
-        (5, "[0,3) (0,3] (0,3]\nen"),
-    ];
-    for (fails, text) in left {
-        let write = Device { most: 5, fails };
-        let ran = ran_with(rt.alloc(), &["p"], "3 p\n", [SOUND, write, SOUND])?;
-        assert_eq!(rt; ran.code, 7);
-        assert_eq!(rt; ran.out.as_slice(), text.as_bytes());
-        assert_eq!(rt; ran.err.as_slice(), b"montre: write fault\n".as_slice());
+    let out = b"[0,3) (0,3] (0,3]\nend 3\n";
+    for most in 1usize..6 {
+        let calls = calls_for(24, most);
+        for fails in 1u64..26 {
+            let write = Device { most, fails };
+            let ran = ran_with(rt.alloc(), &["p"], "3 p\n", [SOUND, write, SOUND])?;
+            assert!(rt; out.starts_with(ran.out.as_slice()));
+            if fails <= calls {
+                assert_eq!(rt; ran.code, 7);
+                assert_eq!(rt;
+                    ran.out.len() as u64,
+                    (most as u64).saturating_mul(fails - 1)
+                );
+                assert_eq!(rt; ran.err.as_slice(), b"montre: write fault\n".as_slice());
+            } else {
+                assert_eq!(rt; ran.code, 0);
+                assert_eq!(rt; ran.out.len(), 24);
+                assert!(rt; ran.err.is_empty());
+            }
+        }
     }
     Ok(())
 }
 
+/// A first part of the line is there, and the status is that of a sound standard error.
 #[test]
 fn standard_error_fails(rt: HostRuntime) -> Result<(), Fail> {
-    let tell = Device {
+    let line = b"montre: trace: BadNumber at 1\n";
+    for (fails, told) in [(1, 0), (2, 15), (3, 24), (4, 28), (5, 29), (6, 30)] {
+        let tell = Device { most: 4096, fails };
+        let ran = ran_with(rt.alloc(), &["p"], "x\n", [SOUND, SOUND, tell])?;
+        assert_eq!(rt; ran.code, 4);
+        assert_eq!(rt; ran.err.len(), told);
+        assert!(rt; line.starts_with(ran.err.as_slice()));
+    }
+    Ok(())
+}
+
+/// Both outputs take some bytes and then none.
+#[test]
+fn outputs_that_take_no_more(rt: HostRuntime) -> Result<(), Fail> {
+    let alloc = rt.alloc();
+    let words = words_of(alloc, &["p"])?;
+    let mut input = source_of(alloc, "3 p\n", SOUND)?;
+    let mut out = StdSink::over(Cursor::new([0u8; 8]));
+    let mut err = StdSink::over(Cursor::new([0u8; 4]));
+    assert_eq!(rt;
+        run(alloc, &words, &mut input, &mut out, &mut err),
+        Status::WriteFault
+    );
+    Ok(())
+}
+
+#[test]
+fn another_file_is_not_read(rt: HostRuntime) -> Result<(), Fail> {
+    let alloc = rt.alloc();
+    let words = words_of(alloc, &["p"])?;
+    let mut input = named_source(alloc, "other", "3 p\n", SOUND)?;
+    let mut out = sink_of(alloc, SOUND)?;
+    let mut err = sink_of(alloc, SOUND)?;
+    assert_eq!(rt;
+        run(alloc, &words, &mut input, &mut out, &mut err),
+        Status::ReadFault
+    );
+    assert!(rt; out.bytes().is_empty());
+    Ok(())
+}
+
+/// Runs over these words, and says how it ended, if no device was called. The second call of each
+/// fails, so one of the run's would show.
+fn ended_untouched(alloc: Global, words: &[&str]) -> Result<u8, Fail> {
+    let second = Device {
+        most: 4096,
+        fails: 2,
+    };
+    let words = words_of(alloc, words)?;
+    let mut input = source_of(alloc, "3 p\n", second)?;
+    let mut out = sink_of(alloc, second)?;
+    let mut err = sink_of(alloc, SOUND)?;
+    let status = run(alloc, &words, &mut input, &mut out, &mut err);
+    input.open("-")?;
+    out.write(b"x")?;
+    Ok(status.code())
+}
+
+#[test]
+fn refused_words_touch_nothing(rt: HostRuntime) -> Result<(), Fail> {
+    assert_eq!(rt; ended_untouched(rt.alloc(), &[])?, 2);
+    assert_eq!(rt; ended_untouched(rt.alloc(), &["p", "q"])?, 2);
+    assert_eq!(rt; ended_untouched(rt.alloc(), &["p q"])?, 3);
+    Ok(())
+}
+
+/// A source or a sink whose count of faults stands at its last value.
+#[derive(Drop)]
+struct Worn<T> {
+    inner: T,
+}
+
+impl<S: Source> Source for Worn<S> {
+    ghost file_name = { λ worn. S.file_name worn.inner };
+
+    ghost file = { λ worn. S.file worn.inner };
+
+    ghost left = { λ worn. S.left worn.inner };
+
+    ghost opened = { λ worn. S.opened worn.inner };
+
+    ghost sound = { λ worn. S.sound worn.inner };
+
+    ghost faults = { λ _. 2 ^ 64 - 1 };
+
+    ghost told_together = { λ worn. S.told_together worn.inner };
+
+    ghost sound_tells = { λ worn. S.sound_tells worn.inner };
+
+    fn open(&mut self, name: &str) -> Result<(), Failed> {
+        self.inner.open(name)
+    }
+
+    fn read(&mut self, buf: &mut [u8]) -> Result<usize, Failed> {
+        self.inner.read(buf)
+    }
+}
+
+impl<K: Sink> Sink for Worn<K> {
+    ghost written = { λ worn. K.written worn.inner };
+
+    ghost faults = { λ _. 2 ^ 64 - 1 };
+
+    fn write(&mut self, bytes: &[u8]) -> Result<usize, Failed> {
+        self.inner.write(bytes)
+    }
+}
+
+/// Runs `p` over worn devices.
+fn ended_worn(alloc: Global, read: Device, write: Device) -> Result<Status, AllocError> {
+    let words = words_of(alloc, &["p"])?;
+    let mut input = Worn {
+        inner: source_of(alloc, "3 p\n", read)?,
+    };
+    let mut out = Worn {
+        inner: sink_of(alloc, write)?,
+    };
+    let mut err = Worn {
+        inner: sink_of(alloc, SOUND)?,
+    };
+    Ok(run(alloc, &words, &mut input, &mut out, &mut err))
+}
+
+#[test]
+fn counts_that_stand(rt: HostRuntime) -> Result<(), Fail> {
+    let alloc = rt.alloc();
+    let first = Device {
         most: 4096,
         fails: 1,
     };
-    let ran = ran_with(rt.alloc(), &[], "3 p\n", [SOUND, SOUND, tell])?;
-    assert_eq!(rt; ran.code, 2);
-    assert!(rt; ran.err.is_empty());
+    assert_eq!(rt; ended_worn(alloc, SOUND, SOUND)?, Status::Done);
+    assert_eq!(rt; ended_worn(alloc, first, SOUND)?, Status::ReadFault);
+    assert_eq!(rt; ended_worn(alloc, SOUND, first)?, Status::WriteFault);
     Ok(())
 }
 
-/// Runs `p` over an input that may have `limit` bytes, and gives the code and the place of a fault.
-fn limited(alloc: Global, limit: u64, text: &str) -> Result<u8, Fail>
+/// Runs `p` over an input that may have `limit` bytes, and gives the code.
+fn limited(alloc: Global, limit: u64, text: &str, read: Device) -> Result<u8, Fail>
     requires { limit < 1024 }
 {
     let job = Job {
@@ -322,7 +492,7 @@ fn limited(alloc: Global, limit: u64, text: &str) -> Result<u8, Fail>
     let Ok(pattern) = parse(alloc, "p") else {
         return Ok(255);
     };
-    let mut input = source_of(alloc, text, SOUND)?;
+    let mut input = source_of(alloc, text, read)?;
     let mut out = sink_of(alloc, SOUND)?;
     Ok(run_pattern(alloc, &pattern, &job, &mut input, &mut out).code())
 }
@@ -331,11 +501,21 @@ fn limited(alloc: Global, limit: u64, text: &str) -> Result<u8, Fail>
 fn limits(rt: HostRuntime) -> Result<(), Fail> {
     let alloc = rt.alloc();
     // Five bytes where four are allowed.
-    assert_eq!(rt; limited(alloc, 4, "1 p\n\n")?, 5);
+    assert_eq!(rt; limited(alloc, 4, "1 p\n\n", SOUND)?, 5);
     // The cut last line `1 ` is no line.
-    assert_eq!(rt; limited(alloc, 2, "1 p")?, 5);
+    assert_eq!(rt; limited(alloc, 2, "1 p", SOUND)?, 5);
     // A fault within the limit comes first.
-    assert_eq!(rt; limited(alloc, 4, "x\n1 p\n")?, 4);
-    assert_eq!(rt; limited(alloc, 4, "1 p\n")?, 0);
+    assert_eq!(rt; limited(alloc, 4, "x\n1 p\n", SOUND)?, 4);
+    assert_eq!(rt; limited(alloc, 4, "1 p\n", SOUND)?, 0);
+    Ok(())
+}
+
+/// One call opens and three read a byte each. There is no fifth call to fail.
+#[test]
+fn one_byte_past_the_limit_is_read(rt: HostRuntime) -> Result<(), Fail> {
+    let fourth = Device { most: 1, fails: 4 };
+    assert_eq!(rt; limited(rt.alloc(), 2, "1 p\n", fourth)?, 6);
+    let fifth = Device { most: 1, fails: 5 };
+    assert_eq!(rt; limited(rt.alloc(), 2, "1 p\n", fifth)?, 5);
     Ok(())
 }

@@ -46,6 +46,7 @@ fn add_line(names: &Names, line: &[u8], trace: &mut Trace) -> Result<(), TraceKi
     ensures kinds { IfErr result (λ kind. kind ≢ Spent) }
     ensures trace { IsTrace trace.new }
 {
+    // For the proof: the call says that the trace ends within the limit.
     let _ = trace.end();
     let Some(segment) = read_line(names, line) else {
         return Err(TraceKind::BadNumber);

@@ -1,4 +1,4 @@
-use Rattle.std.proofs.Common.{◌≡◌, ◌-◌, ◌^◌, ◌<◌, min, Some, refl, ap, arith}
+use Rattle.std.proofs.Common.{◌≡◌, ◌<◌, refl, arith}
 use Rattle.std.specs.Str.Parse.{digits_value}
 use Rattle.tre_tool.specs.Reading.{fields_of}
 use Rattle.tre_tool.proofs.Entries.{entry_of-no_numeral, entry_of-no_time, entry_of-no_names, entry_of-segment}

@@ -1,4 +1,4 @@
-use Rattle.std.proofs.Common.{refl, ◌∙◌}
+use Rattle.std.proofs.Common.{refl}
 use Rattle.tre_tool.proofs.line.read_names.Goals as goal
 
 pub returns-in_err-word-clause-other : goal.returns-in_err-word-clause-other

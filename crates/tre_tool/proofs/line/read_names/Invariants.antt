@@ -1,4 +1,4 @@
-use Rattle.std.proofs.Common.{◌≡◌, ℕ, ◌+◌, List, length, Option, unwrap_or}
+use Rattle.std.proofs.Common.{◌≡◌, ◌+◌, length, unwrap_or}
 use Rattle.std.specs.Option.{option_copied, option_map}
 use Rattle.std.specs.List.{list_all}
 use Rattle.tre_tool.specs.Reading.{spells_word, fields_after, valuation_of, valuation_after}

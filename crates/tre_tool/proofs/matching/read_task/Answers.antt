@@ -1,5 +1,5 @@
-use Rattle.std.proofs.Common.{◌≡◌, ◌≢◌, ◌⊎◌, ⊎_elim, ℕ, List, subst, sym}
-use Rattle.tre_parse.specs.Outcome.{Outcome, IsOutcome, spelt, refused}
+use Rattle.std.proofs.Common.{◌≡◌, ◌≢◌, ◌⊎◌, ⊎_elim, ℕ, List, subst}
+use Rattle.tre_parse.specs.Outcome.{Outcome, IsOutcome, refused}
 use Rattle.tre_parse.specs.declared.fault.ParseFault.{ParseFault}
 use Rattle.tre_parse.specs.declared.fault.ParseFault.TheVariants.{Memory}
 use Rattle.tre_tool.proofs.matching.read_task.Goals as goal

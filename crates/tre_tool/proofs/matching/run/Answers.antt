@@ -1,4 +1,4 @@
-use Rattle.tre_tool.proofs.Promise.{ends_asked, asked-words, completes-words, untouched-words, no_pattern-words}
+use Rattle.tre_tool.proofs.Promise.{ends_asked, asked-words, completes-words, untouched-words, no_pattern-words, all_or_part}
 use Rattle.tre_tool.specs.declared.status.Status.TheVariants.{Done, WriteFault}
 use Rattle.tre_tool.proofs.matching.run.Goals as goal
 
@@ -19,3 +19,6 @@ returns-clause-source_untouched g c = λ nothing. untouched-words _ _ _ _ c.run_
 
 pub returns-clause-no_pattern : goal.returns-clause-no_pattern
 returns-clause-no_pattern g c = λ fault asks. no_pattern-words _ _ _ _ fault c.run_words-status.ensures.ends asks
+
+pub returns-clause-error_part : goal.returns-clause-error_part
+returns-clause-error_part g c = all_or_part c.tell_status.result _ _ c.tell_status.ensures.line c.tell_status.ensures.part
