@@ -1,5 +1,6 @@
 #!/bin/sh
-# Runs each example of docs/patterns.md, docs/cookbook.md and README.md here with the program in $MONTRE, and compares.
+# Runs each example of docs/patterns.md, docs/cookbook.md and README.md here with the program in $MONTRE, and compares. Then a
+# run for each status that a small input can bring about.
 # MONTRE=/path/to/montre sh examples/run.sh
 : "${MONTRE:?the path of the program}"
 dir=$(mktemp -d) || exit 1
@@ -7,37 +8,47 @@ trap 'rm -rf "$dir"' EXIT
 cp "$(dirname "$0")"/*.trace "$dir"/ || exit 1
 good=0
 bad=0
+out=$dir/out
 
-# same PATTERN TRACE LINE...: the run prints exactly these lines, and ends with status 0
+# expect CODE INPUT WORD...: the run ends with this status, and writes what want.out and want.err have
+expect() {
+    want=$1
+    in=$2
+    shift 2
+    "$MONTRE" "$@" < "$in" > "$out" 2> "$dir/err"
+    code=$?
+    if [ "$code" -eq "$want" ] && cmp -s "$dir/want.err" "$dir/err" && { [ ! -f "$out" ] || cmp -s "$dir/want.out" "$out"; }; then
+        good=$((good + 1))
+    else
+        bad=$((bad + 1))
+        printf 'FAILED: montre %.60s < %s (status %s, not %s)\n' "$*" "$in" "$code" "$want"
+        diff "$dir/want.err" "$dir/err"
+        [ ! -f "$out" ] || diff "$dir/want.out" "$out"
+    fi
+}
+
+# same PATTERN TRACE LINE...: the run prints exactly these lines
 same() {
     pattern=$1
     trace=$2
     shift 2
-    "$MONTRE" "$pattern" < "$dir/$trace" > "$dir/out" 2> "$dir/err"
-    code=$?
-    printf '%s\n' "$@" > "$dir/want"
-    if [ "$code" -eq 0 ] && cmp -s "$dir/want" "$dir/out" && [ ! -s "$dir/err" ]; then
-        good=$((good + 1))
-    else
-        bad=$((bad + 1))
-        echo "FAILED: montre '$pattern' < $trace (status $code)"
-        diff "$dir/want" "$dir/out"
-        cat "$dir/err"
-    fi
+    printf '%s\n' "$@" > "$dir/want.out"
+    : > "$dir/want.err"
+    expect 0 "$dir/$trace" "$pattern"
 }
 
-# refused PATTERN LINE: the run ends with status 3, prints nothing and tells this line
+# ended CODE LINE INPUT WORD...: the run prints nothing, and tells this line
+ended() {
+    ends=$1
+    : > "$dir/want.out"
+    printf '%s\n' "$2" > "$dir/want.err"
+    shift 2
+    expect "$ends" "$@"
+}
+
+# refused PATTERN LINE: before any input is read
 refused() {
-    "$MONTRE" "$1" < /dev/null > "$dir/out" 2> "$dir/err"
-    code=$?
-    printf '%s\n' "$2" > "$dir/want"
-    if [ "$code" -eq 3 ] && cmp -s "$dir/want" "$dir/err" && [ ! -s "$dir/out" ]; then
-        good=$((good + 1))
-    else
-        bad=$((bad + 1))
-        printf 'FAILED: refused %.60s (status %s)\n' "$1" "$code"
-        diff "$dir/want" "$dir/err"
-    fi
+    ended 3 "$2" /dev/null "$1"
 }
 
 # patterns.md
@@ -132,6 +143,19 @@ same '<:req:> ; (!ack % [1,4]) ; rise(ack)' answer.trace '[10,10] [15,15] [5,5]'
 same '<:req:> ; (!ack % [1,2]) ; rise(ack)' answer.trace 'end 20'
 same '(rise(req) ; !ack ; rise(ack)) % [4,9]' bus.trace '[10,10] [15,15] [5,5]' 'end 20'
 same '{req && busy}' bus.trace '[12,15) (12,15] (0,3]' 'end 20'
+
+# output.md, the table of statuses: a directory can't be read, and a full device takes nothing
+printf '%s\n' '3 p' 'x' > "$dir/wrong.trace"
+printf '%s\n' '1099511627776' '1 p' > "$dir/late.trace"
+ended 2 'montre: wrong arguments' "$dir/small.trace"
+ended 2 'montre: wrong arguments' "$dir/small.trace" p q
+ended 4 'montre: trace: BadNumber at 2' "$dir/wrong.trace" p
+ended 4 'montre: trace: TooLate at 2' "$dir/late.trace" p
+ended 6 'montre: read fault' "$dir" p
+if [ -c /dev/full ]; then
+    out=/dev/full
+    ended 7 'montre: write fault' "$dir/small.trace" p
+fi
 
 echo "$good good, $bad failed"
 [ "$bad" -eq 0 ]
