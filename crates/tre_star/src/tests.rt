@@ -40,12 +40,16 @@ fn has(set: &ZoneSet, rows: &[Row]) -> bool {
 
 #[test]
 fn composed(rt: HostRuntime) -> Result<(), Fail> {
-    // [0,0] [1,1] [1,1], then [1,3) (1,3] (0,2]
     let first = ticks(rt.alloc(), 0, 1)?;
-    let second = set(rt.alloc(), Zone::span(1, 3))?;
+    let short = Interval::new(0, false, Some(2), false).ok_or("no interval")?;
+    let shorter = set(rt.alloc(), Zone::span(1, 3))?.within(&short)?;
+    let moment = set(rt.alloc(), Zone::instants(1, 1))?;
+    // [0,0] [1,1] [1,1], then [1,1] (1,3) (0,2)
+    let second = compose_sets(rt.alloc(), &moment, &shorter)?;
+    assert!(rt; has(&second, &[[-1, 3, -2, 6, 0, 4, 0, 0]]));
     let both = compose_sets(rt.alloc(), &first, &second)?;
-    // [0,0] (1,3] (1,3]
-    assert!(rt; has(&both, &[[1, 1, -2, 7, -2, 7, 0, 0]]));
+    // [0,0] (1,3) (1,3)
+    assert!(rt; has(&both, &[[1, 1, -2, 6, -2, 6, 0, 0]]));
     assert!(rt; compose_sets(rt.alloc(), &second, &first)?.is_empty());
     Ok(())
 }

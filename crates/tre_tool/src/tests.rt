@@ -180,11 +180,11 @@ fn patterns_and_their_zones(rt: HostRuntime) -> Result<(), Fail> {
     Ok(())
 }
 
-/// `p0` to `p63`, each behind the sign.
-fn all_names(alloc: Global, sign: &str) -> Result<String, AllocError> {
+/// `p0` to `p63`, each between the two signs.
+fn all_names(alloc: Global, before: &str, after: &str) -> Result<String, AllocError> {
     let mut all = String::new(alloc);
     for number in 0u64..64 {
-        let name = format!(in alloc; "{sign}p{number}")?;
+        let name = format!(in alloc; "{before}p{number}{after}")?;
         all.push_str(name.as_str())?;
     }
     Ok(all)
@@ -193,9 +193,9 @@ fn all_names(alloc: Global, sign: &str) -> Result<String, AllocError> {
 #[test]
 fn the_most_names(rt: HostRuntime) -> Result<(), Fail> {
     let alloc = rt.alloc();
-    let every = all_names(alloc, " && ")?;
+    let every = all_names(alloc, " && ", "")?;
     let pattern = format!(in alloc; "{{true{every}}}")?;
-    let names = all_names(alloc, " ")?;
+    let names = all_names(alloc, " ", "")?;
     let trace = format!(in alloc; "2{names}\n3 p0 p63\n")?;
     let out = "[0,2) (0,2] (0,2]\nend 5\n";
     assert!(rt; is_answer(alloc, &[pattern.as_str()], trace.as_str(), 0, out, "")?);
@@ -226,25 +226,34 @@ fn words_and_patterns_refused(rt: HostRuntime) -> Result<(), Fail> {
     Ok(())
 }
 
-/// `count` times the text, joined by `;`.
-fn joined(alloc: Global, text: &str, count: usize) -> Result<String, AllocError> {
-    let mut all = String::from_str(alloc, text)?;
-    for _ in 1..count {
-        all.push_str(";")?;
+/// `count` times the text.
+fn times(alloc: Global, text: &str, count: usize) -> Result<String, AllocError> {
+    let mut all = String::new(alloc);
+    for _ in 0..count {
         all.push_str(text)?;
     }
     Ok(all)
 }
 
+/// Whether a run over the pattern tells this fault of it, and nothing else.
+fn is_refused(alloc: Global, pattern: &String, fault: &str) -> Result<bool, AllocError> {
+    let told = format!(in alloc; "montre: expression: {fault}\n")?;
+    is_answer(alloc, &[pattern.as_str()], "", 3, "", told.as_str())
+}
+
 #[test]
 fn long_patterns_refused(rt: HostRuntime) -> Result<(), Fail> {
     let alloc = rt.alloc();
-    let many = joined(alloc, "p", 334)?;
-    let told = "montre: expression: TooLarge 1001\n";
-    assert!(rt; is_answer(alloc, &[many.as_str()], "", 3, "", told)?);
-    let spaces = joined(alloc, " ", 8193)?;
-    let told = "montre: expression: TooLong\n";
-    assert!(rt; is_answer(alloc, &[spaces.as_str()], "", 3, "", told)?);
+    let mut sequence = times(alloc, "p;", 333)?;
+    sequence.push_str("p")?;
+    assert!(rt; is_refused(alloc, &sequence, "TooLarge 1001")?);
+    let spaces = times(alloc, " ", 16_385)?;
+    assert!(rt; is_refused(alloc, &spaces, "TooLong")?);
+    let brackets = times(alloc, "(", 201)?;
+    assert!(rt; is_refused(alloc, &brackets, "TooDeep at 200")?);
+    let mut names = all_names(alloc, "", "|")?;
+    names.push_str("p64")?;
+    assert!(rt; is_refused(alloc, &names, "TooManyNames at 246")?);
     Ok(())
 }
 
