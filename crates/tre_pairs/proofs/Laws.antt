@@ -1,8 +1,9 @@
 -- Laws that a relation over pairs of times may have.
-use Rattle.std.specs.Prelude.{◌≡◌, ℕ, ◌*◌, ◌<◌, ◌≤◌}
+use Rattle.std.specs.Prelude.{◌≡◌, ℕ, ◌*◌, ◌<◌, ◌≤◌, ◌↔◌}
 use Rattle.tre_pairs.specs.Pairs.{Pairs}
 
--- The relation speaks of times, and not of the numbers that name them: it holds of a, b and n exactly where it holds of k * a,
+-- The relation speaks of times, and not of the numbers that name them: it holds of a, b and n
+-- exactly where it holds of k * a,
 -- k * b and k * n.
 pub record Scales (R : Pairs) : Type 0 where
   pub up : (k a b n : ℕ) → 0 < k → R a b n → R (k * a) (k * b) (k * n)
@@ -33,3 +34,7 @@ pub record Implies (R S : Pairs) : Type 0 where
 -- What R relates with its second time before T, S relates too.
 pub record ImpliesBefore (T : ℕ) (R S : Pairs) : Type 0 where
   pub at : (a b n : ℕ) → b < T * n → R a b n → S a b n
+
+-- R and S relate the same pairs, at every denominator.
+pub record Agree (R S : Pairs) : Type 0 where
+  pub at : (a b n : ℕ) → 0 < n → R a b n ↔ S a b n
