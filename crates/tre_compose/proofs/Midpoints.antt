@@ -1,14 +1,14 @@
 -- The composed bounds hold exactly the pairs that have a moment in the middle.
-use Rattle.std.proofs.Common.{◌≡◌, ℕ, ◌*◌, ◌<◌, ◌^◌, refl, arith, ℤ, pos, ◌+ℤ◌, ◌-ℤ◌, ◌*ℤ◌, ◌≤ℤ◌}
+use Rattle.std.proofs.Common.{◌≡◌, ℕ, ◌*◌, ◌<◌, refl, arith, ℤ, pos, ◌+ℤ◌, ◌-ℤ◌, ◌*ℤ◌, ◌≤ℤ◌}
 use Rattle.std.proofs.lemmas.Int.{ints, clamps}
 use Rattle.std.proofs.Math.Nat.{mul-pos}
 use Rattle.std.specs.Int.{int_max}
 use borrow.Author.Differences.{up}
 use Rattle.tre_pairs.specs.Pairs.{Composed}
 use Rattle.tre_zone.specs.Bound.{value_of, weakness_of, sum_of, Meets}
-use Rattle.tre_zone.specs.Zone.{ZoneHolds, IsCanonical, IsZoneOf, HasNoPair, AreKeysWithin, AreValuesWithin}
+use Rattle.tre_zone.specs.Zone.{ZoneHolds, IsCanonical, IsZoneOf, HasNoPair}
 use Rattle.tre_zone.specs.declared.zone_bounds.ZoneBounds.{ZoneBounds}
-use Rattle.tre_zone.proofs.Bounds.{split, IsValueWithin-key, Meets-at_most, value_of-sum_of, weakness_of-sum_of}
+use Rattle.tre_zone.proofs.Bounds.{split, Meets-at_most, value_of-sum_of, weakness_of-sum_of}
 use Rattle.tre_zone.proofs.Paths.{Meets-looser, Meets-sum, Meets-min, Meets-loop, int_min-left, int_min-right, pos-up, add_times, le_times}
 use Rattle.tre_zone.proofs.Sums.{sum_of-swap}
 use Rattle.tre_zone.proofs.Scaling.{ZoneHolds-scale, Meets-scale}
@@ -18,7 +18,8 @@ use Rattle.tre_compose.specs.Composition.{HasHalfway, Touch, joined_of, composed
 
 -- The greatest difference, in units of 1/(2n), that meets a bound.
 unfoldable reach_of : ℤ → ℕ → ℤ
-reach_of key n = (((value_of key *ℤ pos n) +ℤ (value_of key *ℤ pos n)) +ℤ pos (weakness_of key)) -ℤ pos 1
+reach_of key n = (((value_of key *ℤ pos n) +ℤ (value_of key *ℤ pos n)) +ℤ pos
+    (weakness_of key)) -ℤ pos 1
 
 twice : (value : ℤ) (n : ℕ) → value *ℤ pos (2 * n) ≡ (value *ℤ pos n) +ℤ (value *ℤ pos n)
 twice value n = omega (arith, ints)
@@ -27,12 +28,18 @@ Meets-reach : (key : ℤ) (p q n : ℕ) → (pos p -ℤ pos q) ≤ℤ reach_of k
 unfolding reach_of
 Meets-reach key p q n le = record { met = rw (twice (value_of key) n) (omega (arith, ints)) }
 
--- Where the sum of two bounds is met by p and q, the bound on p leaves a moment that is no later than the bound on q asks.
+-- Where the sum of two bounds is met by p and q, the bound on p leaves a moment that is no later
+-- than the bound on q asks.
 gap : (left right : ℤ) (p q n : ℕ) → Meets (sum_of left right) p q n
     → (pos (2 * p) -ℤ reach_of left n) ≤ℤ (pos (2 * q) +ℤ reach_of right n)
 unfolding reach_of
 gap left right p q n m =
-    let met = rw (value_of-sum_of left right, weakness_of-sum_of left right, add_times (value_of left) (value_of right) n) at m.met in
+    let met = rw (
+      value_of-sum_of left right,
+      weakness_of-sum_of left right,
+      add_times
+          (value_of left) (value_of right) n,
+    ) at m.met in
     let a = (split left).small in
     let b = (split right).small in
     omega (arith, ints)
@@ -41,7 +48,8 @@ own : (p n : ℕ) → Meets (pos 1) p p n
 own p n = (Meets-at_most (pos 1) 0 refl p p n).1 (omega arith)
 
 -- The same at one time, where the two bounds leave room.
-room : (left right : ℤ) (p n : ℕ) → 0 < n → pos 1 ≤ℤ sum_of left right → (pos (2 * p) -ℤ reach_of left n) ≤ℤ (pos (2 * p) +ℤ reach_of right n)
+room : (left right : ℤ) (p n : ℕ) → 0 < n → pos 1 ≤ℤ sum_of left right
+    → (pos (2 * p) -ℤ reach_of left n) ≤ℤ (pos (2 * p) +ℤ reach_of right n)
 room left right p n some loop =
     gap left right p p n (Meets-looser (pos 1) (sum_of left right) p p n some loop (own p n))
 
@@ -105,7 +113,8 @@ through x y = record {
   dur_high_by = int_min-left _ _;
 }
 
-halfway_in : (x y z : ZoneBounds) → IsCanonical x → IsCanonical y → Touch x y → Through x y z → (a b n : ℕ) → 0 < n → ZoneHolds z a b n
+halfway_in : (x y z : ZoneBounds) → IsCanonical x → IsCanonical y → Touch x y → Through x y z
+    → (a b n : ℕ) → 0 < n → ZoneHolds z a b n
     → HasHalfway x y a b n
 halfway_in x y z c d t way a b n some h =
     let x_begin_low = Meets-looser _ _ 0 a n some way.begin_low h.begin_low in
@@ -115,25 +124,29 @@ halfway_in x y z c d t way a b n some h =
     let g = greatest (pos (2 * 0) -ℤ reach_of x.end_low n) (pos (2 * 0) -ℤ reach_of y.begin_low n)
     (pos (2 * a) -ℤ reach_of x.dur_low n) (pos (2 * b) -ℤ reach_of y.dur_high n) in
     let by_x_end : g.top ≤ℤ (pos (2 * 0) +ℤ reach_of x.end_high n) =
-    g.least _ (room x.end_low x.end_high 0 n some c.end_loop) (room y.begin_low x.end_high 0 n some t.not_early)
-    (gap x.dur_low x.end_high a 0 n (Meets-looser _ _ a 0 n some c.begin_high x_begin_high))
+    g.least _ (room x.end_low x.end_high 0 n some c.room.end_loop)
+    (room y.begin_low x.end_high 0 n some t.not_early)
+    (gap x.dur_low x.end_high a 0 n (Meets-looser _ _ a 0 n some c.closed.begin_high x_begin_high))
     (gap y.dur_high x.end_high b 0 n (Meets-looser _ _ b 0 n some way.end_high_by h.end_high)) in
     let by_y_begin : g.top ≤ℤ (pos (2 * 0) +ℤ reach_of y.begin_high n) =
-    g.least _ (room x.end_low y.begin_high 0 n some t.not_late) (room y.begin_low y.begin_high 0 n some d.begin_loop)
+    g.least _ (room x.end_low y.begin_high 0 n some t.not_late)
+    (room y.begin_low y.begin_high 0 n some d.room.begin_loop)
     (gap x.dur_low y.begin_high a 0 n (Meets-looser _ _ a 0 n some way.begin_high_by h.begin_high))
-    (gap y.dur_high y.begin_high b 0 n (Meets-looser _ _ b 0 n some d.end_high y_end_high)) in
+    (gap y.dur_high y.begin_high b 0 n (Meets-looser _ _ b 0 n some d.closed.end_high y_end_high))
+    in
     let by_x_dur : g.top ≤ℤ (pos (2 * a) +ℤ reach_of x.dur_high n) =
-    g.least _ (gap x.end_low x.dur_high 0 a n (Meets-looser _ _ 0 a n some c.begin_low x_begin_low))
+    g.least _ (gap x.end_low x.dur_high 0 a n
+    (Meets-looser _ _ 0 a n some c.closed.begin_low x_begin_low))
     (gap y.begin_low x.dur_high 0 a n (Meets-looser _ _ 0 a n some way.begin_low_by h.begin_low))
-    (room x.dur_low x.dur_high a n some c.dur_loop)
+    (room x.dur_low x.dur_high a n some c.room.dur_loop)
     (gap y.dur_high x.dur_high b a n (Meets-looser _ _ b a n some way.dur_high_by h.dur_high)) in
     let by_y_dur : g.top ≤ℤ (pos (2 * b) +ℤ reach_of y.dur_low n) =
     g.least _ (gap x.end_low y.dur_low 0 b n (Meets-looser _ _ 0 b n some way.end_low_by h.end_low))
-    (gap y.begin_low y.dur_low 0 b n (Meets-looser _ _ 0 b n some d.end_low y_end_low))
+    (gap y.begin_low y.dur_low 0 b n (Meets-looser _ _ 0 b n some d.closed.end_low y_end_low))
     (gap x.dur_low y.dur_low a b n (Meets-looser _ _ a b n some way.dur_low_by h.dur_low))
-    (room y.dur_high y.dur_low b n some (sum_of-swap _ _ d.dur_loop)) in
+    (room y.dur_high y.dur_low b n some (sum_of-swap _ _ d.room.dur_loop)) in
     let at_least = g.second in
-    let start = below_zero y.begin_low n d.starts in
+    let start = below_zero y.begin_low n d.framed.starts in
     let e = pos-up g.top (omega (arith, ints)) in
     record {
       midpoint = up g.top;
@@ -155,64 +168,80 @@ halfway_in x y z c d t way a b n some h =
       };
     }
 
-pub halfway : (x y : ZoneBounds) → IsCanonical x → IsCanonical y → Touch x y → (a b n : ℕ) → 0 < n → ZoneHolds (composed_of x y) a b n
+pub halfway : (x y : ZoneBounds) → IsCanonical x → IsCanonical y → Touch x y → (a b n : ℕ) → 0 < n
+    → ZoneHolds (composed_of x y) a b n
     → HasHalfway x y a b n
 halfway x y c d t a b n some h = halfway_in x y (composed_of x y) c d t (through x y) a b n some h
 
 -- ---- and back
 
-joins : (x y : ZoneBounds) (a c b n : ℕ) → 0 < n → ZoneHolds x a c n → ZoneHolds y c b n → ZoneHolds (composed_of x y) a b n
+joins : (x y : ZoneBounds) (a c b n : ℕ) → 0 < n → ZoneHolds x a c n → ZoneHolds y c b n
+    → ZoneHolds (composed_of x y) a b n
 unfolding composed_of joined_of
 joins x y a c b n some left right =
-    let begin_low = (Meets-min x.begin_low (sum_of y.begin_low x.dur_high) 0 a n some).1 (left.begin_low, Meets-sum _ _ 0 c a n right.begin_low left.dur_high) in
-    let begin_high = (Meets-min x.begin_high (sum_of x.dur_low y.begin_high) a 0 n some).1 (left.begin_high, Meets-sum _ _ a c 0 n left.dur_low right.begin_high) in
-    let end_low = (Meets-min y.end_low (sum_of x.end_low y.dur_low) 0 b n some).1 (right.end_low, Meets-sum _ _ 0 c b n left.end_low right.dur_low) in
-    let end_high = (Meets-min y.end_high (sum_of y.dur_high x.end_high) b 0 n some).1 (right.end_high, Meets-sum _ _ b c 0 n right.dur_high left.end_high) in
+    let begin_low = (Meets-min x.begin_low (sum_of y.begin_low x.dur_high) 0 a n some).1
+    (left.begin_low, Meets-sum _ _ 0 c a n right.begin_low left.dur_high) in
+    let begin_high = (Meets-min x.begin_high (sum_of x.dur_low y.begin_high) a 0 n some).1
+    (left.begin_high, Meets-sum _ _ a c 0 n left.dur_low right.begin_high) in
+    let end_low = (Meets-min y.end_low (sum_of x.end_low y.dur_low) 0 b n some).1
+    (right.end_low, Meets-sum _ _ 0 c b n left.end_low right.dur_low) in
+    let end_high = (Meets-min y.end_high (sum_of y.dur_high x.end_high) b 0 n some).1
+    (right.end_high, Meets-sum _ _ b c 0 n right.dur_high left.end_high) in
     record {
       begin_low = begin_low;
       begin_high = begin_high;
       end_low = end_low;
       end_high = end_high;
-      dur_low = (Meets-min _ _ a b n some).1 (Meets-sum _ _ a c b n left.dur_low right.dur_low, Meets-sum _ _ a 0 b n begin_high end_low);
-      dur_high = (Meets-min _ _ b a n some).1 (Meets-sum _ _ b c a n right.dur_high left.dur_high, Meets-sum _ _ b 0 a n end_high begin_low);
+      dur_low = (Meets-min _ _ a b n some).1 (
+        Meets-sum _ _ a c b n left.dur_low right.dur_low,
+        Meets-sum _ _ a 0 b n begin_high end_low,
+      );
+      dur_high = (Meets-min _ _ b a n some).1 (
+        Meets-sum _ _ b c a n right.dur_high left.dur_high,
+        Meets-sum _ _ b 0 a n end_high begin_low,
+      );
     }
 
-pub Composed-holds : (x y : ZoneBounds) (a b n : ℕ) → 0 < n → Composed (ZoneHolds x) (ZoneHolds y) a b n → ZoneHolds (composed_of x y) a b n
+pub Composed-holds : (x y : ZoneBounds) (a b n : ℕ) → 0 < n
+    → Composed (ZoneHolds x) (ZoneHolds y) a b n → ZoneHolds (composed_of x y) a b n
 Composed-holds x y a b n some h =
     (ZoneHolds-scale (composed_of x y) h.factor a b n h.positive).1
-    (joins x y (h.factor * a) h.midpoint (h.factor * b) (h.factor * n) (mul-pos h.positive some) h.left h.right)
+    (joins x y (h.factor * a) h.midpoint (h.factor * b) (h.factor * n)
+    (mul-pos h.positive some) h.left h.right)
 
-pub Composed-touch : (x y : ZoneBounds) (a b n : ℕ) → 0 < n → Composed (ZoneHolds x) (ZoneHolds y) a b n → Touch x y
+pub Composed-touch : (x y : ZoneBounds) (a b n : ℕ) → 0 < n
+    → Composed (ZoneHolds x) (ZoneHolds y) a b n → Touch x y
 Composed-touch x y a b n some h =
     let positive = mul-pos h.positive some in
     record {
-      not_late = Meets-loop _ 0 (h.factor * n) positive (Meets-sum _ _ 0 h.midpoint 0 (h.factor * n) h.left.end_low h.right.begin_high);
-      not_early = Meets-loop _ 0 (h.factor * n) positive (Meets-sum _ _ 0 h.midpoint 0 (h.factor * n) h.right.begin_low h.left.end_high);
+      not_late = Meets-loop _ 0 (h.factor * n) positive
+          (Meets-sum _ _ 0 h.midpoint 0 (h.factor * n) h.left.end_low h.right.begin_high);
+      not_early = Meets-loop _ 0 (h.factor * n) positive
+          (Meets-sum _ _ 0 h.midpoint 0 (h.factor * n) h.right.begin_low h.left.end_high);
     }
 
 -- ---- the answers
 
-pub touch-exact : (x y : ZoneBounds) → IsCanonical x → IsCanonical y → Touch x y → IsZoneOf (composed_of x y) (Composed (ZoneHolds x) (ZoneHolds y))
+pub touch-exact : (x y : ZoneBounds) → IsCanonical x → IsCanonical y → Touch x y
+    → IsZoneOf (composed_of x y) (Composed (ZoneHolds x) (ZoneHolds y))
 touch-exact x y c d t = record {
   exact = λ a b n some le. (
     (λ h.
         let half = halfway x y c d t a b n some h in
-        record { factor = 2; positive = omega arith; midpoint = half.midpoint; left = half.left; right = half.right }),
+        record {
+          factor = 2;
+          positive = omega arith;
+          midpoint = half.midpoint;
+          left = half.left;
+          right = half.right;
+        }),
     (λ h. Composed-holds x y a b n some h),
   );
 }
 
-pub apart-never : (x y : ZoneBounds) → (Touch x y → ⊥) → HasNoPair (Composed (ZoneHolds x) (ZoneHolds y))
-apart-never x y not_touch = record { never = λ a b n some le h. not_touch (Composed-touch x y a b n some h) }
-
--- ---- keys within limits have values within them
-
-pub values-within : (z : ZoneBounds) → AreKeysWithin (2 ^ 42) z → AreValuesWithin (2 ^ 42) z
-values-within z h = record {
-  begin_low = IsValueWithin-key (2 ^ 42) (2 ^ 42) (omega arith) z.begin_low h.begin_low;
-  begin_high = IsValueWithin-key (2 ^ 42) (2 ^ 42) (omega arith) z.begin_high h.begin_high;
-  end_low = IsValueWithin-key (2 ^ 42) (2 ^ 42) (omega arith) z.end_low h.end_low;
-  end_high = IsValueWithin-key (2 ^ 42) (2 ^ 42) (omega arith) z.end_high h.end_high;
-  dur_low = IsValueWithin-key (2 ^ 42) (2 ^ 42) (omega arith) z.dur_low h.dur_low;
-  dur_high = IsValueWithin-key (2 ^ 42) (2 ^ 42) (omega arith) z.dur_high h.dur_high;
+pub apart-never : (x y : ZoneBounds) → (Touch x y → ⊥)
+    → HasNoPair (Composed (ZoneHolds x) (ZoneHolds y))
+apart-never x y not_touch = record {
+  never = λ a b n some le h.
+      not_touch (Composed-touch x y a b n some h);
 }

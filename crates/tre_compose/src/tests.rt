@@ -15,7 +15,7 @@ fn bound(key: i8) -> Bound
     }
 }
 
-/// The zone with these keys, in the order of its bounds.
+// The zone with these keys, in the order of its bounds.
 fn zone(keys: &[i8; 6]) -> Option<Zone> {
     Zone::new(&ZoneBounds {
         begin_low: bound(keys[0]),
@@ -65,7 +65,7 @@ fn worked(rt: HostRuntime) {
     assert!(rt; composed(&long, &tick) == zone(&[1, 2, -4, 7, -4, 6]));
 }
 
-/// Whether some moment over `2n` lies between the two, counted out.
+// Whether some moment over `2n` lies between the two, counted out.
 fn has_midpoint(x: &Option<Zone>, y: &Option<Zone>, a: u8, b: u8, n: u8) -> bool
     requires some { 0 < n }
     requires small { n < 64 }

@@ -8,7 +8,12 @@ use Rattle.tre_edges.specs.Ends.{EndBefore}
 pub EndBefore-empty : (t : ℕ) → EndBefore t []
 EndBefore-empty t = record { every = λ a b n some le held. absurd (SetHolds-empty a b n held) }
 
-pub EndBefore-later : (t later : ℕ) → t ≤ later → (zones : List ZoneBounds) → EndBefore t zones → EndBefore later zones
+pub EndBefore-later : (t later : ℕ) → t ≤ later → (zones : List ZoneBounds) → EndBefore t zones
+    → EndBefore later zones
 EndBefore-later t later le zones ended = record {
-  every = λ a b n some rising held. omega (arith, ended.every a b n some rising held, mul-le-mul_right n le);
+  every = λ a b n some rising held. omega (
+    arith,
+    ended.every a b n some rising held,
+    mul-le-mul_right n le,
+  );
 }

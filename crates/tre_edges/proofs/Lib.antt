@@ -5,3 +5,5 @@ pub mod Literals
 pub mod EdgesOfRests
 pub mod Segments
 pub mod Turns
+pub mod MomentsOfTraces
+pub mod AtomsOfSegments

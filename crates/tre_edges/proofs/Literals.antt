@@ -9,31 +9,44 @@ use Rattle.tre_zone.specs.Zone.{IsInSpan}
 use Rattle.tre_syntax.proofs.Atoms.{end_of-le}
 use Rattle.tre_syntax.proofs.Growth.{between_after}
 
--- A stretch of the literal that begins at `begin` or later, where it has held from there until `start` and the rest
--- begins.
-pub record HoldsFrom (P : ℕ → Type 0) (begin start : ℕ) (rest : List Segment) (a b n : ℕ) : Type 0 where
+-- A stretch of the literal that begins at `begin` or later, where it has held from there until
+-- `start` and the rest begins.
+pub record HoldsFrom (P : ℕ → Type 0) (begin start : ℕ) (rest : List Segment)
+    (a b n : ℕ) : Type 0 where
   pub starts : begin * n ≤ a
   pub lasts : a < b
   pub ends : b ≤ end_of start rest * n
   pub throughout : HoldsBetween P start rest a b n
 
-pub HoldsFrom-literal : (P : ℕ → Type 0) (segments : List Segment) (a b n : ℕ) → LiteralMatches P 0 segments a b n ↔ HoldsFrom P 0 0 segments a b n
+pub HoldsFrom-literal : (P : ℕ → Type 0) (segments : List Segment) (a b n : ℕ)
+    → LiteralMatches P 0 segments a b n ↔ HoldsFrom P 0 0 segments a b n
 HoldsFrom-literal P segments a b n = (
   λ h. record { starts = h.begin; lasts = h.some_time; ends = h.end; throughout = h.throughout },
   λ h. record { begin = h.starts; some_time = h.lasts; end = h.ends; throughout = h.throughout },
 )
 
 -- a segment on which it holds makes the stretch longer
-pub HoldsFrom-true : (P : ℕ → Type 0) (begin start : ℕ) (segment : Segment) (rest : List Segment) (a b n : ℕ) → P segment.val
-    → HoldsFrom P begin start (segment ∷ rest) a b n ↔ HoldsFrom P begin (start + segment.len) rest a b n
+pub HoldsFrom-true : (P : ℕ → Type 0) (begin start : ℕ) (segment : Segment) (rest : List Segment)
+    (a b n : ℕ) → P segment.val
+    → HoldsFrom P begin start (segment ∷ rest) a b n
+    ↔ HoldsFrom P begin (start + segment.len) rest a b n
 HoldsFrom-true P begin start segment rest a b n holds = (
   λ h. record { starts = h.starts; lasts = h.lasts; ends = h.ends; throughout = h.throughout.1 },
-  λ h. record { starts = h.starts; lasts = h.lasts; ends = h.ends; throughout = (λ _ _. holds, h.throughout) },
+  λ h. record {
+    starts = h.starts;
+    lasts = h.lasts;
+    ends = h.ends;
+    throughout =
+        (λ _ _. holds, h.throughout);
+  },
 )
 
 -- one on which it doesn't ends the stretch, and another may begin behind it
-pub HoldsFrom-false : (P : ℕ → Type 0) (begin start : ℕ) (segment : Segment) (rest : List Segment) (a b n : ℕ) → begin ≤ start → ¬ P segment.val
-    → HoldsFrom P begin start (segment ∷ rest) a b n ↔ (IsInSpan begin start a b n ⊎ HoldsFrom P (start + segment.len) (start + segment.len) rest a b n)
+pub HoldsFrom-false : (P : ℕ → Type 0) (begin start : ℕ) (segment : Segment) (rest : List Segment)
+    (a b n : ℕ) → begin ≤ start → ¬ P segment.val
+    → HoldsFrom P begin start (segment ∷ rest) a b n
+    ↔ (IsInSpan begin start a b n ⊎ HoldsFrom P (start + segment.len)
+    (start + segment.len) rest a b n)
 HoldsFrom-false P begin start segment rest a b n order fails =
     let here = start * n in
     let next = (start + segment.len) * n in
@@ -42,7 +55,14 @@ HoldsFrom-false P begin start segment rest a b n order fails =
       λ h. ⊎_elim
           (λ late. ⊎_elim
           (λ inside. absurd (fails (h.throughout.0 late inside)))
-          (λ behind. inr (record { starts = behind; lasts = h.lasts; ends = h.ends; throughout = h.throughout.1 }))
+          (λ behind.
+          inr (record {
+            starts = behind;
+            lasts = h.lasts;
+            ends = h.ends;
+            throughout =
+                h.throughout.1;
+          }))
           (cases_lt a next))
           (λ early. inl (record { starts = h.starts; lasts = h.lasts; ends = early }))
           (cases_lt here b),
@@ -63,7 +83,8 @@ HoldsFrom-false P begin start segment rest a b n order fails =
     )
 
 -- at the end there is no more
-pub HoldsFrom-end : (P : ℕ → Type 0) (begin start : ℕ) (a b n : ℕ) → HoldsFrom P begin start [] a b n ↔ IsInSpan begin start a b n
+pub HoldsFrom-end : (P : ℕ → Type 0) (begin start : ℕ) (a b n : ℕ)
+    → HoldsFrom P begin start [] a b n ↔ IsInSpan begin start a b n
 HoldsFrom-end P begin start a b n = (
   λ h. record { starts = h.starts; lasts = h.lasts; ends = h.ends },
   λ h. record { starts = h.starts; lasts = h.lasts; ends = h.ends; throughout = tt },

@@ -2,16 +2,20 @@
 use Rattle.std.proofs.Common.{◌↔◌, ◌⊎◌, inl, inr, ⊎_elim}
 
 -- The rest goes on with the next segment.
-pub exact_longer : {Whole Held Rest Next : Type 0} → Whole ↔ (Held ⊎ Rest) → Rest ↔ Next → Whole ↔ (Held ⊎ Next)
+pub exact_longer : {Whole Held Rest Next : Type 0} → Whole ↔ (Held ⊎ Rest) → Rest ↔ Next → Whole
+    ↔ (Held ⊎ Next)
 exact_longer exact same = (
   λ whole. ⊎_elim (λ held. inl held) (λ rest. inr (same.0 rest)) (exact.0 whole),
   λ either. exact.1 (⊎_elim (λ held. inl held) (λ next. inr (same.1 next)) either),
 )
 
 -- A part of the rest comes to the zones.
-pub exact_closed : {Whole Held Rest Span Next More : Type 0} → Whole ↔ (Held ⊎ Rest) → Rest ↔ (Span ⊎ Next) → More ↔ (Held ⊎ Span) → Whole ↔ (More ⊎ Next)
+pub exact_closed : {Whole Held Rest Span Next More : Type 0} → Whole ↔ (Held ⊎ Rest) → Rest
+    ↔ (Span ⊎ Next) → More ↔ (Held ⊎ Span) → Whole ↔ (More ⊎ Next)
 exact_closed exact parts more = (
-  λ whole. ⊎_elim (λ held. inl (more.1 (inl held))) (λ rest. ⊎_elim (λ span. inl (more.1 (inr span))) (λ next. inr next) (parts.0 rest)) (exact.0 whole),
+  λ whole. ⊎_elim (λ held. inl (more.1 (inl held)))
+      (λ rest. ⊎_elim (λ span. inl (more.1 (inr span))) (λ next. inr next) (parts.0 rest))
+      (exact.0 whole),
   λ either. exact.1 (⊎_elim
       (λ all. ⊎_elim (λ held. inl held) (λ span. inr (parts.1 (inl span))) (more.0 all))
       (λ next. inr (parts.1 (inr next)))
@@ -19,7 +23,8 @@ exact_closed exact parts more = (
 )
 
 -- At the end what is held is all.
-pub exact_whole : {Whole Held Rest Span More : Type 0} → Whole ↔ (Held ⊎ Rest) → Rest ↔ Span → More ↔ (Held ⊎ Span) → More ↔ Whole
+pub exact_whole : {Whole Held Rest Span More : Type 0} → Whole ↔ (Held ⊎ Rest) → Rest ↔ Span → More
+    ↔ (Held ⊎ Span) → More ↔ Whole
 exact_whole exact same more = (
   λ all. exact.1 (⊎_elim (λ held. inl held) (λ span. inr (same.1 span)) (more.0 all)),
   λ whole. more.1 (⊎_elim (λ held. inl held) (λ rest. inr (same.0 rest)) (exact.0 whole)),

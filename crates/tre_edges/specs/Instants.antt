@@ -8,7 +8,9 @@ pub record IsInstantAt (earliest : ℕ) (zone : ZoneBounds) (t : ℕ) : Type 0 w
   pub late : earliest ≤ t
   pub instant : zone ≡ instants_of t t
 
--- The zones are those of single instants in the order of time, no two the same. The first is at `earliest` or later.
+-- The zones are those of single instants in the order of time, no two the same. The first is at
+-- `earliest` or later.
 unfoldable pub AreInstants : ℕ → List ZoneBounds → Type 0
 AreInstants earliest [] = Unit {0}
-AreInstants earliest (zone ∷ zones) = (t : ℕ) × IsInstantAt earliest zone t × AreInstants (t + 1) zones
+AreInstants earliest (zone ∷ zones) = (t : ℕ) × IsInstantAt earliest zone t
+    × AreInstants (t + 1) zones

@@ -12,68 +12,72 @@ ghost use Rattle.tre_edges.specs.Instants.{AreInstants};
 ghost use Rattle.tre_edges.specs.Truth.{HasTruth, ComesTo, IsFoundAt};
 
 use std::alloc::{AllocError, Global};
-use tre_state::State;
+use tre_state::{NAMES_MAX, State};
 use tre_trace::Trace;
 use tre_zone::Zone;
 use tre_zoneset::ZoneSet;
 
 /// The instants at which the state becomes true, one zone each, in the order of time.
-pub fn rises(alloc: Global, s: &State, w: &Trace) -> Result<ZoneSet, AllocError>
-    requires { NumbersBelow 64 (tree_of s.now) }
-    ensures matches { IfOk result (λ zones. HoldExactly zones (AtomMatches (whole w.now) (rise (tree_of s.now)))) }
+pub fn rises(alloc: Global, state: &State, trace: &Trace) -> Result<ZoneSet, AllocError>
+    requires { NumbersBelow NAMES_MAX (tree_of state.now) }
+    ensures matches { IfOk result (λ zones.
+        HoldExactly zones (AtomMatches (whole trace.now) (rise (tree_of state.now)))) }
     ensures instants { IfOk result (λ zones. AreInstants 0 zones) }
 {
-    changes(alloc, s, w, true)
+    changes(alloc, state, trace, true)
 }
 
 /// The instants at which the state becomes false, one zone each, in the order of time.
-pub fn falls(alloc: Global, s: &State, w: &Trace) -> Result<ZoneSet, AllocError>
-    requires { NumbersBelow 64 (tree_of s.now) }
-    ensures matches { IfOk result (λ zones. HoldExactly zones (AtomMatches (whole w.now) (fall (tree_of s.now)))) }
+pub fn falls(alloc: Global, state: &State, trace: &Trace) -> Result<ZoneSet, AllocError>
+    requires { NumbersBelow NAMES_MAX (tree_of state.now) }
+    ensures matches { IfOk result (λ zones.
+        HoldExactly zones (AtomMatches (whole trace.now) (fall (tree_of state.now)))) }
     ensures instants { IfOk result (λ zones. AreInstants 0 zones) }
 {
-    changes(alloc, s, w, false)
+    changes(alloc, state, trace, false)
 }
 
-/// The instants at which the state comes to this truth.
-fn changes(alloc: Global, s: &State, w: &Trace, truth: bool) -> Result<ZoneSet, AllocError>
-    requires { NumbersBelow 64 (tree_of s.now) }
-    ensures matches { IfOk result (λ zones. HoldExactly zones (ComesTo truth (tree_of s.now) w.now)) }
+// The instants at which the state comes to this truth.
+fn changes(alloc: Global, state: &State, trace: &Trace, truth: bool) -> Result<ZoneSet, AllocError>
+    requires { NumbersBelow NAMES_MAX (tree_of state.now) }
+    ensures matches { IfOk result (λ zones.
+        HoldExactly zones (ComesTo truth (tree_of state.now) (whole trace.now))) }
     ensures instants { IfOk result (λ zones. AreInstants 0 zones) }
 {
     let mut zones = ZoneSet::new(alloc);
     // Whether the state has had the other truth until `now`: nothing was before the trace.
     let mut other_before = false;
     let mut now = 0;
-    for segment in w.segments() {
-        let is = has_truth(s, segment.val, truth);
-        tell(&mut zones, now, other_before && is)?;
+    for segment in trace.segments() {
+        let is = has_truth(state, segment.val, truth);
+        add_edge(&mut zones, now, other_before && is)?;
         other_before = !is;
         now += segment.len;
     }
     Ok(zones)
 }
 
-/// Whether the state has this truth on the valuation.
-fn has_truth(s: &State, val: u64, truth: bool) -> bool
-    requires { NumbersBelow 64 (tree_of s.now) }
-    ensures is { IsTrue result ↔ HasTruth truth (tree_of s.now) val }
-    ensures other { IsTrue (not result) ↔ HasTruth (not truth) (tree_of s.now) val }
+// Whether the state has this truth on the valuation.
+pub(crate) fn has_truth(state: &State, valuation: u64, truth: bool) -> bool
+    requires { NumbersBelow NAMES_MAX (tree_of state.now) }
+    ensures is { IsTrue result ↔ HasTruth truth (tree_of state.now) valuation }
+    ensures other { IsTrue (not result) ↔ HasTruth (not truth) (tree_of state.now) valuation }
 {
-    s.eval(val) == truth
+    state.eval(valuation) == truth
 }
 
-/// Adds the instant `t`, where an edge was found there.
-fn tell(zones: &mut ZoneSet, t: u64, found: bool) -> Result<(), AllocError>
+// Adds the instant, where an edge was found there.
+fn add_edge(zones: &mut ZoneSet, instant: u64, found: bool) -> Result<(), AllocError>
     requires instants { AreInstants 0 zones.old }
-    requires ended { EndBefore t zones.old }
-    requires limit { t ≤ TIME_MAX }
-    ensures held { OnOk result (HoldExactly zones.new (Either (SetHolds zones.old) (IsFoundAt found t))) }
+    requires ended { EndBefore instant zones.old }
+    requires limit { instant ≤ TIME_MAX }
+    ensures held { OnOk result
+        (HoldExactly zones.new (Either (SetHolds zones.old) (IsFoundAt found instant))) }
     ensures instants { OnOk result (AreInstants 0 zones.new) }
-    ensures ended { OnOk result (EndBefore (t + 1) zones.new) }
+    ensures ended { OnOk result (EndBefore (instant + 1) zones.new) }
 {
     if found {
-        zones.push_disjoint(Zone::instants(t, t))?;
+        zones.push_disjoint(Zone::instants(instant, instant))?;
     }
     Ok(())
 }

@@ -1,9 +1,14 @@
-//! Literals and edges over a trace, each as a set of zones.
+//! The atoms of a pattern over a trace, each as a set of zones.
 //!
-//! [`literal`] holds exactly the stretches on which a state is true throughout, one zone for each
-//! longest run; [`rises`] and [`falls`] hold exactly the instants at which it changes, one zone each.
-//! Their zones stand in the order of time, and each call takes one evaluation of the state a segment.
-//! There is no edge at time 0, and none at the end of the trace.
+//! [`literal::literal`] holds exactly the stretches on which a state is true throughout, one zone
+//! for each longest run; [`rises`] and [`falls`] hold exactly the instants at which it changes, one
+//! zone each; [`moments::moments`] holds every moment. Their zones stand in the order of time, and
+//! each call takes one evaluation of the state a segment. There is no edge at time 0, and none at
+//! the end of the trace.
+//!
+//! [`literal_in`], [`rise_in`], [`fall_in`] and [`moments_in`] are the same over one [`Piece`] of a
+//! trace: a segment with its begin and the valuation before it. Each gives one zone at most, and
+//! takes no memory.
 //!
 //! ```
 //! // p over the trace `3 p / 2 q / 4 p q`
@@ -15,9 +20,13 @@
 #![tactic(auto)]
 
 mod edges;
-mod runs;
+mod in_piece;
+pub mod literal;
+pub mod moments;
+mod piece;
 #[cfg(test)]
 mod tests;
 
 pub use edges::{falls, rises};
-pub use runs::literal;
+pub use in_piece::{fall_in, literal_in, moments_in, rise_in};
+pub use piece::Piece;

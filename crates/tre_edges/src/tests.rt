@@ -1,8 +1,11 @@
-use crate::{falls, literal, rises};
+use crate::literal::literal;
+use crate::moments::moments;
+use crate::{Piece, fall_in, falls, literal_in, moments_in, rise_in, rises};
 use std::alloc::Global;
 use std::test::Fail;
 use tre_state::State;
 use tre_trace::{PushFault, Segment, Trace};
+use tre_zone::Zone;
 use tre_zoneset::ZoneSet;
 
 /// The keys of a zone, in the order of its bounds.
@@ -50,6 +53,8 @@ fn longest_runs(rt: HostRuntime) -> Result<(), Fail> {
     let of_q = [[-5, 18, -6, 19, 0, 13]];
     assert!(rt; is(&literal(rt.alloc(), &State::Prop(0), &trace)?, &of_p));
     assert!(rt; is(&literal(rt.alloc(), &State::Prop(1), &trace)?, &of_q));
+    // [0,9] [0,9] [0,0]
+    assert!(rt; is(&moments(rt.alloc(), &trace)?, &[[1, 19, 1, 19, 1, 1]]));
     Ok(())
 }
 
@@ -84,8 +89,46 @@ fn equal_segments(rt: HostRuntime) -> Result<(), Fail> {
 fn empty_trace(rt: HostRuntime) -> Result<(), Fail> {
     let p = State::Prop(0);
     let trace = Trace::new(rt.alloc());
+    // [0,0] [0,0] [0,0]
+    assert!(rt; is(&moments(rt.alloc(), &trace)?, &[[1, 1, 1, 1, 1, 1]]));
     assert!(rt; literal(rt.alloc(), &p, &trace)?.is_empty());
     assert!(rt; rises(rt.alloc(), &p, &trace)?.is_empty());
     assert!(rt; falls(rt.alloc(), &p, &trace)?.is_empty());
+    Ok(())
+}
+
+// Whether the zone that was found is this one.
+fn gives(found: Option<Zone>, keys: Keys) -> bool {
+    match found {
+        Some(zone) => zone.row()[..6] == keys[..],
+        None => false,
+    }
+}
+
+#[test]
+fn atoms_of_a_piece(rt: HostRuntime) -> Result<(), Fail> {
+    let p = State::Prop(0);
+    let segment = Segment { len: 3, val: P };
+    let piece = Piece {
+        begin: 2,
+        segment,
+        before: Some(0),
+    };
+    // [2,5) (2,5] (0,3]
+    assert!(rt; gives(literal_in(&p, &piece), [-3, 10, -4, 11, 0, 7]));
+    // [2,2] [2,2] [0,0]
+    assert!(rt; gives(rise_in(&p, &piece), [-3, 5, -3, 5, 1, 1]));
+    assert!(rt; fall_in(&p, &piece).is_none());
+    // [2,5] [2,5] [0,0]
+    assert!(rt; gives(Some(moments_in(&piece)), [-3, 11, -3, 11, 1, 1]));
+    let first = Piece {
+        begin: 0,
+        segment,
+        before: None,
+    };
+    // [0,3) (0,3] (0,3]
+    assert!(rt; gives(literal_in(&p, &first), [1, 6, 0, 7, 0, 7]));
+    assert!(rt; rise_in(&p, &first).is_none());
+    assert!(rt; fall_in(&p, &first).is_none());
     Ok(())
 }

@@ -5,7 +5,9 @@ use Rattle.std.proofs.KnownBytes.{Appends-trans}
 use Rattle.std.proofs.Math.Seq.{take-add}
 
 -- the first bytes, and then the first of those that follow
-pub Appends-more : (a b c : Option (List ℕ)) (bytes rest : List ℕ) (done count : ℕ) → rest ≡ drop done bytes
-    → Appends a b (take done bytes) → Appends b c (take count rest) → Appends a c (take (done + count) bytes)
+pub Appends-more : (a b c : Option (List ℕ)) (bytes rest : List ℕ) (done count : ℕ)
+    → rest ≡ drop done bytes
+    → Appends a b (take done bytes) → Appends b c (take count rest)
+    → Appends a c (take (done + count) bytes)
 Appends-more a b c bytes rest done count e first second =
     rw (take-add done count bytes) (Appends-trans a b c _ _ first (rw e at second))

@@ -1,7 +1,10 @@
-pub mod Calls
+-- What a reader must believe.
 pub mod Faults
+pub mod Written
+pub mod Calls
 pub mod MemoryInput
 pub mod MemoryOutput
 pub mod SystemInput
 pub mod SystemOutput
-pub mod Written
+-- What the functions inside promise each other.
+pub mod Opened

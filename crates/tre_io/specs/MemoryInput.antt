@@ -2,7 +2,8 @@
 use Rattle.std.specs.Prelude.{◌≡◌, ℕ, List, Bool, true, false, length, drop, ◌==◌}
 use Rattle.tre_io.specs.Calls.{CallCounts, new_calls, is_next_failing, after_call, after_fault}
 
--- Its name and all its bytes, those not yet read, whether it is open, and how much a read gives at most.
+-- Its name and all its bytes, those not yet read, whether it is open, and how much a read gives at
+-- most.
 pub record MemoryInput : Type 0 where
   pub name : List ℕ
   pub bytes : List ℕ
@@ -13,7 +14,14 @@ pub record MemoryInput : Type 0 where
 
 -- not opened, with no call made
 abbrev pub new_input : List ℕ → List ℕ → ℕ → List ℕ → MemoryInput
-new_input name bytes most fails = record { name = name; bytes = bytes; left = bytes; opened = false; most = most; calls = new_calls fails }
+new_input name bytes most fails = record {
+  name = name;
+  bytes = bytes;
+  left = bytes;
+  opened = false;
+  most = most;
+  calls = new_calls fails;
+}
 
 -- no call is to fail
 abbrev pub is_sound : MemoryInput → Bool
@@ -25,11 +33,13 @@ CanOpen input name = (is_next_failing input.calls ≡ false) × (name ≡ input.
 
 -- opened, with all bytes left
 abbrev pub after_open : MemoryInput → MemoryInput
-after_open input = record input { left = input.bytes; opened = true; calls = after_call input.calls }
+after_open input =
+    record input { left = input.bytes; opened = true; calls = after_call input.calls }
 
 -- this many bytes were read
 abbrev pub after_read : MemoryInput → ℕ → MemoryInput
-after_read input count = record input { left = drop count input.left; calls = after_call input.calls }
+after_read input count =
+    record input { left = drop count input.left; calls = after_call input.calls }
 
 -- a call failed
 abbrev pub after_failed_input : MemoryInput → MemoryInput

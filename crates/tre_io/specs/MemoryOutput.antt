@@ -14,7 +14,8 @@ new_output most fails = record { written = []; most = most; calls = new_calls fa
 
 -- these bytes were taken
 abbrev pub after_write : MemoryOutput → List ℕ → MemoryOutput
-after_write output bytes = record output { written = output.written ++ bytes; calls = after_call output.calls }
+after_write output bytes =
+    record output { written = output.written ++ bytes; calls = after_call output.calls }
 
 -- a call failed
 abbrev pub after_failed_output : MemoryOutput → MemoryOutput

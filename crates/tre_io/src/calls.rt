@@ -18,7 +18,11 @@ impl Model for Calls {
 
     ghost Value = { CallCounts };
 
-    ghost view = { λ calls. record { fails = calls.fails.items; made = calls.made; faults = calls.faults } };
+    ghost view = { λ calls. record {
+      fails = calls.fails.items;
+      made = calls.made;
+      faults = calls.faults;
+    } };
 }
 
 impl Calls {

@@ -4,7 +4,7 @@ ghost use Rattle.std.specs.Io.{ReadsAtMost};
 ghost use Rattle.std.specs.Io.KnownBytes.{ReadConsumes};
 ghost use Rattle.std.specs.Str.{bytes_eq};
 ghost use Rattle.tre_io.specs.Faults.{HasCause};
-ghost use Rattle.tre_io.specs.SystemInput.{is_open, is_standard, left_in};
+ghost use Rattle.tre_io.specs.Opened.{is_open, is_standard, left_in};
 
 use crate::faults::{Failed, count_fault};
 use crate::source::Source;
@@ -15,8 +15,8 @@ use std::{fs, io};
 
 /// Opens a file of the system, or standard input by the name `-`.
 ///
-/// It doesn't tell its file and is never sound. The real system tells no bytes; over a runtime whose
-/// readers tell what they have left, it tells the same.
+/// It doesn't tell its file and is never sound. The real system tells no bytes; over a runtime
+/// whose readers tell what they have left, it tells the same.
 #[derive(Drop)]
 pub struct FileSource<'a, R: Files + Input> {
     rt: &'a R,
@@ -32,30 +32,32 @@ enum Opened<F, I> {
 }
 
 impl<'a, R: Files + Input> Model for FileSource<'a, R> {
-    ghost use Rattle.tre_io.specs.SystemInput.{SystemInput, is_open, is_standard, left_in};
+    ghost use Rattle.tre_io.specs.Opened.{is_open, is_standard, left_in};
+    ghost use Rattle.tre_io.specs.SystemInput.{SystemInput};
 
     ghost Value = { SystemInput };
 
-    ghost view = { λ a. record {
-      opened = is_open a.input;
-      standard = is_standard a.input;
-      left = left_in R.File.remaining R.Reader.remaining a.input;
-      faults = a.faults;
+    ghost view = { λ source. record {
+      opened = is_open source.input;
+      standard = is_standard source.input;
+      left = left_in R.File.remaining R.Reader.remaining source.input;
+      faults = source.faults;
     } };
 }
 
 impl<F: Read, I: Read> Opened<F, I> {
-    fn read(&mut self, buf: &mut [u8]) -> io::Result<usize>
+    fn read(&mut self, buffer: &mut [u8]) -> io::Result<usize>
         requires { IsTrue (is_open self.old) }
-        ensures within { ReadsAtMost result buf.new }
+        ensures within { ReadsAtMost result buffer.new }
         ensures same { is_open self.new ≡ is_open self.old }
         ensures same_standard { is_standard self.new ≡ is_standard self.old }
-        ensures bytes { ReadConsumes (left_in F.remaining I.remaining self.old) (left_in F.remaining I.remaining self.new) result buf.new }
+        ensures bytes { let left = left_in F.remaining I.remaining in
+            ReadConsumes (left self.old) (left self.new) result buffer.new }
     {
         match self {
             Opened::Nothing => unreachable!(),
-            Opened::File(file) => file.read(buf),
-            Opened::Standard(input) => input.read(buf),
+            Opened::File(file) => file.read(buffer),
+            Opened::Standard(input) => input.read(buffer),
         }
     }
 }
@@ -101,9 +103,10 @@ impl<'a, R: Files + Input> Source for FileSource<'a, R> {
 
     ghost sound_tells = { λ _ sound. sound };
 
-    /// Opens standard input by the name `-`, and a file of the system by any other. After a failure it
-    /// stands where it stood.
+    /// Opens standard input by the name `-`, and a file of the system by any other. After a failure
+    /// it stands where it stood.
     fn open(&mut self, name: &str) -> Result<(), Failed>
+        requires closed { self.old.opened ≡ false }
         ensures opens { OnOk result (IsTrue self.new.opened) }
         ensures by_name { OnOk result (self.new.standard ≡ bytes_eq name.now (codes "-")) }
         ensures unchanged { OnErr result (self.new ≡ record self.old { faults = self.new.faults }) }
@@ -118,8 +121,8 @@ impl<'a, R: Files + Input> Source for FileSource<'a, R> {
         }
     }
 
-    fn read(&mut self, buf: &mut [u8]) -> Result<usize, Failed> {
-        match self.input.read(buf) {
+    fn read(&mut self, buffer: &mut [u8]) -> Result<usize, Failed> {
+        match self.input.read(buffer) {
             Ok(count) => Ok(count),
             Err(_) => Err(count_fault(&mut self.faults)),
         }

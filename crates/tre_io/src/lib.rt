@@ -1,9 +1,9 @@
 //! Sources and sinks of bytes, and whether a failure came from outside.
 //!
 //! A program that reads and writes takes a [`Source`] and a [`Sink`]. Each says what a call does to
-//! the bytes where the object tells them, and keeps a count of faults: a call answers [`Failed`] only
-//! where that count rose. [`put_all`] writes a whole slice, however few bytes a sink takes at a time.
-//! [`MemSource`] and [`MemSink`] tell everything, and fail at the calls that a test chose;
+//! the bytes where the object tells them, and keeps a count of faults: a call answers [`Failed`]
+//! only where that count rose. [`put_all`] writes a whole slice, however few bytes a sink takes at
+//! a time. [`MemSource`] and [`MemSink`] tell everything, and fail at the calls that a test chose;
 //! [`FileSource`] and [`StdSink`] are those of the system.
 //!
 //! ```

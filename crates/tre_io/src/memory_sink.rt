@@ -26,9 +26,13 @@ impl Model for MemSink {
 
     ghost Value = { MemoryOutput };
 
-    ghost view = { λ a. record { written = a.bytes.items; most = a.most; calls = a.calls } };
+    ghost view = { λ sink. record {
+      written = sink.bytes.items;
+      most = sink.most;
+      calls = sink.calls;
+    } };
 
-    ghost invariant = { λ a. 0 < a.most };
+    ghost invariant = { λ sink. 0 < sink.most };
 }
 
 impl MemSink {
@@ -58,8 +62,8 @@ impl Sink for MemSink {
 
     ghost faults = { λ sink. sink.calls.faults };
 
-    /// Fails where this call is to fail, and where it finds no memory. Else it takes as many bytes as
-    /// `most` allows.
+    /// Fails where this call is to fail, and where it finds no memory. Else it takes as many bytes
+    /// as `most` allows.
     fn write(&mut self, bytes: &[u8]) -> Result<usize, Failed>
         requires { 0 < length bytes.now }
         ensures some { 0 < self.old.most }

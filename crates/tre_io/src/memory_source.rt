@@ -29,16 +29,17 @@ impl Model for MemSource {
 
     ghost Value = { MemoryInput };
 
-    ghost view = { λ a. record {
-      name = string_bytes a.name;
-      bytes = a.bytes.items;
-      left = drop a.place a.bytes.items;
-      opened = a.opened;
-      most = a.most;
-      calls = a.calls;
+    ghost view = { λ source. record {
+      name = string_bytes source.name;
+      bytes = source.bytes.items;
+      left = drop source.place source.bytes.items;
+      opened = source.opened;
+      most = source.most;
+      calls = source.calls;
     } };
 
-    ghost invariant = { λ a. (a.place ≤ length a.bytes.items) × (0 < a.most) };
+    ghost invariant = { λ source.
+        (source.place ≤ length source.bytes.items) × (0 < source.most) };
 }
 
 impl MemSource {
@@ -78,6 +79,7 @@ impl Source for MemSource {
 
     /// Fails where this call is to fail, and under any name but the file's.
     fn open(&mut self, name: &str) -> Result<(), Failed>
+        requires closed { self.old.opened ≡ false }
         ensures answer { IsOk result ↔ CanOpen self.old name.now }
         ensures ok { OnOk result (self.new ≡ after_open self.old) }
         ensures err { OnErr result (self.new ≡ after_failed_input self.old) }
@@ -94,21 +96,23 @@ impl Source for MemSource {
 
     /// Fails where this call is to fail. Else it gives as many bytes as `most`, the buffer and what
     /// is left allow, and leaves the rest of the buffer alone.
-    fn read(&mut self, buf: &mut [u8]) -> Result<usize, Failed>
+    fn read(&mut self, buffer: &mut [u8]) -> Result<usize, Failed>
         requires opened { IsTrue self.old.opened }
-        requires room { 0 < length buf.old }
+        requires room { 0 < length buffer.old }
         ensures some { 0 < self.old.most }
         ensures answer { IsOk result ↔ (is_next_failing self.old.calls ≡ false) }
-        ensures count { IfOk result (λ count. count ≡ min self.old.most (min (length buf.old) (length self.old.left))) }
-        ensures bytes { IfOk result (λ count. buf.new ≡ take count self.old.left ++ drop count buf.old) }
+        ensures count { IfOk result (λ count.
+            count ≡ min self.old.most (min (length buffer.old) (length self.old.left))) }
+        ensures bytes { IfOk result (λ count.
+            buffer.new ≡ take count self.old.left ++ drop count buffer.old) }
         ensures ok { IfOk result (λ count. self.new ≡ after_read self.old count) }
         ensures err { OnErr result (self.new ≡ after_failed_input self.old) }
         ensures cause { HasCause self.old.calls.faults self.new.calls.faults result }
     {
         self.calls.begin()?;
         let left = &self.bytes[self.place..];
-        let count = self.most.min(buf.len().min(left.len()));
-        buf[..count].copy_from_slice(&left[..count]);
+        let count = self.most.min(buffer.len().min(left.len()));
+        buffer[..count].copy_from_slice(&left[..count]);
         self.place += count;
         Ok(count)
     }

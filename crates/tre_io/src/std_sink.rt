@@ -21,7 +21,7 @@ impl<W: Write> Model for StdSink<W> {
 
     ghost Value = { SystemOutput };
 
-    ghost view = { λ a. record { written = W.contents a.writer; faults = a.faults } };
+    ghost view = { λ sink. record { written = W.contents sink.writer; faults = sink.faults } };
 }
 
 impl StdSink<Stdout> {

@@ -1,5 +1,5 @@
 // Tests over memory, and over the real system.
-ghost use Rattle.std.specs.Prelude.{IsTrue};
+ghost use Rattle.std.specs.Prelude.{◌≡◌, false, IsTrue, IfOk};
 
 use crate::{Failed, FileSource, MemSink, MemSource, Sink, Source, StdSink, put_all};
 use std::alloc::Global;
@@ -7,7 +7,9 @@ use std::io;
 use std::test::Fail;
 
 // A source of the file "trace" with these bytes.
-fn trace(alloc: Global, bytes: &[u8], most: usize, fails: &[u64]) -> Result<MemSource, Fail> {
+fn trace(alloc: Global, bytes: &[u8], most: usize, fails: &[u64]) -> Result<MemSource, Fail>
+    ensures closed { IfOk result (λ source. source.opened ≡ false) }
+{
     let name = String::from_str(alloc, "trace")?;
     let most = most.max(1);
     Ok(MemSource::new(name, bytes.to_vec(alloc)?, most, fails.to_vec(alloc)?))
@@ -19,9 +21,9 @@ fn rest<S: Source>(alloc: Global, source: &mut S) -> Result<Vec<u8>, Fail>
 {
     let mut all = Vec::new(alloc);
     for _ in 0..8 {
-        let mut buf = [0u8; 4];
-        let count = source.read(&mut buf)?;
-        all.extend_from_slice(&buf[..count])?;
+        let mut buffer = [0u8; 4];
+        let count = source.read(&mut buffer)?;
+        all.extend_from_slice(&buffer[..count])?;
     }
     Ok(all)
 }
@@ -48,12 +50,12 @@ fn chosen_calls_fail(rt: HostRuntime) -> Result<(), Fail> {
     assert_eq!(rt; source.open("trace"), Err(Failed));
     assert_eq!(rt; source.open("other"), Err(Failed));
     source.open("trace")?;
-    let mut buf = [0u8; 3];
-    assert_eq!(rt; source.read(&mut buf), Err(Failed));
-    assert_eq!(rt; source.read(&mut buf), Ok(3));
-    assert_eq!(rt; buf.as_slice(), b"3 p".as_slice());
-    assert_eq!(rt; source.read(&mut buf), Ok(1));
-    assert_eq!(rt; source.read(&mut buf), Ok(0));
+    let mut buffer = [0u8; 3];
+    assert_eq!(rt; source.read(&mut buffer), Err(Failed));
+    assert_eq!(rt; source.read(&mut buffer), Ok(3));
+    assert_eq!(rt; buffer.as_slice(), b"3 p".as_slice());
+    assert_eq!(rt; source.read(&mut buffer), Ok(1));
+    assert_eq!(rt; source.read(&mut buffer), Ok(0));
     Ok(())
 }
 
@@ -70,16 +72,19 @@ fn third_write_fails(rt: HostRuntime) -> Result<(), Fail> {
 
 #[test]
 fn files_of_the_system(rt: HostRuntime) -> Result<(), Fail> {
-    let mut source = FileSource::new(&rt);
-    assert_eq!(rt; source.open("no/such/file"), Err(Failed));
-    let mut buf = [0u8; 4];
-    source.open("/dev/zero")?;
-    assert_eq!(rt; source.read(&mut buf), Ok(4));
-    source.open("/dev/null")?;
-    assert_eq!(rt; source.read(&mut buf), Ok(0));
+    assert_eq!(rt; FileSource::new(&rt).open("no/such/file"), Err(Failed));
+    let mut buffer = [0u8; 4];
     // A folder is opened as a file is, and can't be read.
-    source.open("/")?;
-    assert_eq!(rt; source.read(&mut buf), Err(Failed));
+    let table = [
+        ("/dev/zero", Ok(4)),
+        ("/dev/null", Ok(0)),
+        ("/", Err(Failed)),
+    ];
+    for (name, want) in table {
+        let mut source = FileSource::new(&rt);
+        source.open(name)?;
+        assert_eq!(rt; source.read(&mut buffer), want, "{name}");
+    }
     Ok(())
 }
 

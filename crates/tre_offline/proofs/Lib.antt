@@ -1,2 +1,3 @@
 pub mod Unions
-pub mod Operators
+pub mod Operations
+pub mod FoundZones

@@ -2,8 +2,9 @@
 //!
 //! [`matches`] holds a pair of times exactly where the stretch between them is in the pattern's
 //! expression, at every denominator, and none of its zones is included in another. It goes up the
-//! expression once, and each operator is one exact call of the layers below: `;` composes, `|` joins,
-//! `&` meets, `*` closes, `%` restricts. The layers above may rely on every pair, and on nothing of
+//! expression once, and each operator is one exact call of the layers below: `;` composes, `|`
+//! joins, `&` meets, `*` closes, `%` restricts. [`local`] is the same over one piece of a trace:
+//! the two differ in their atoms alone. The layers above may rely on every pair, and on nothing of
 //! the order of the zones.
 //!
 //! ```
@@ -12,8 +13,10 @@
 //! ```
 #![tactic(auto)]
 
-pub use matching::matches;
+pub use matching::{local, matches};
 
+mod atoms;
 mod matching;
+mod operators;
 #[cfg(test)]
 mod tests;

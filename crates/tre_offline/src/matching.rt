@@ -1,125 +1,102 @@
-ghost use Rattle.std.specs.Prelude.{IfOk, List};
+// The matches of an expression, from those of its parts.
+ghost use Rattle.std.specs.Prelude.{IfOk};
+ghost use Rattle.tre_pairs.specs.Pairs.{Lasting};
 ghost use Rattle.tre_syntax.specs.Expr.{tree_of};
-ghost use Rattle.tre_syntax.specs.Meaning.{Matches};
+ghost use Rattle.tre_syntax.specs.Meaning.{MatchesRest};
 ghost use Rattle.tre_syntax.specs.Pattern.{pattern_tree};
-ghost use Rattle.tre_syntax.specs.PatternTree.{PatternTree, NumbersBelow, empty, atom, sequence, alternation, intersection, repetition, restriction};
-ghost use Rattle.tre_trace.specs.declared.segment.Segment.{Segment};
+ghost use Rattle.tre_syntax.specs.PatternTree.{NumbersBelow};
+ghost use Rattle.tre_zone.specs.Longest.{LastsUpTo, IsLongest};
 ghost use Rattle.tre_zone.specs.ZoneList.{HoldExactly};
-ghost use Rattle.tre_zoneset.specs.ZoneSet.{IsZoneSet};
+ghost use Rattle.tre_edges.specs.Piece.{rest_of_piece};
+ghost use Rattle.tre_offline.specs.MatchSet.{IsMatchSet};
 
+use crate::atoms::Atoms;
+use crate::operators::{followed, joined, met, repeated, restricted, shortened};
 use std::alloc::{AllocError, Global};
-use tre_edges::{falls, literal, rises};
-use tre_star::{closure, compose_sets};
+use tre_edges::Piece;
+use tre_state::NAMES_MAX;
 use tre_syntax::{Expr, Pattern};
 use tre_trace::Trace;
-use tre_zone::{Interval, Zone};
 use tre_zoneset::ZoneSet;
 
 /// The matches of the pattern's expression over the whole trace.
 ///
 /// It goes as deep as the expression does, which is at most as deep as a pattern has nodes.
-pub fn matches(alloc: Global, p: &Pattern, w: &Trace) -> Result<ZoneSet, AllocError>
-    ensures exact { IfOk result (λ zones. HoldExactly zones (Matches (pattern_tree p.now) w.now)) }
-    // None of the zones is included in another.
-    ensures set { IfOk result (λ zones. IsZoneSet zones) }
+pub fn matches(alloc: Global, pattern: &Pattern, trace: &Trace) -> Result<ZoneSet, AllocError>
+    ensures { IfOk result (λ zones. IsMatchSet zones (pattern_tree pattern.now) trace.now) }
 {
-    let zones = matches_of(alloc, p.expr(), w)?;
-    // For the proof: the call says that no zone includes another.
+    let zones = matches_of(alloc, pattern.expr(), trace, None)?;
+    // For the proof: the call says that no zone includes another, and that their bounds are tight.
     let _zones = zones.zones();
     Ok(zones)
 }
 
-/// The matches of the expression. Each operator makes its set of those of its parts.
-fn matches_of(alloc: Global, e: &Expr, w: &Trace) -> Result<ZoneSet, AllocError>
-    requires { NumbersBelow 64 (tree_of e.now) }
-    ensures { IfOk result (λ zones. HoldExactly zones (Matches (tree_of e.now) w.now)) }
+/// The matches of the expression inside one piece of a trace: those that begin and end within it,
+/// with the edge at its begin known, and none at its end.
+///
+/// It goes as deep as the expression does.
+pub fn local(alloc: Global, expr: &Expr, piece: &Piece) -> Result<ZoneSet, AllocError>
+    requires { NumbersBelow NAMES_MAX (tree_of expr.now) }
+    ensures { IfOk result (λ zones.
+        HoldExactly zones (MatchesRest (tree_of expr.now) (rest_of_piece piece.now))) }
 {
-    match e {
-        Expr::Eps => instants(alloc, w),
-        Expr::Lit(s) => literal(alloc, s, w),
-        Expr::Rise(s) => rises(alloc, s, w),
-        Expr::Fall(s) => falls(alloc, s, w),
-        Expr::Seq(e, f) => {
-            let first = matches_of(alloc, e, w)?;
-            let second = matches_of(alloc, f, w)?;
-            followed(alloc, &first, &second)
-        }
-        Expr::Alt(e, f) => {
-            let one = matches_of(alloc, e, w)?;
-            let other = matches_of(alloc, f, w)?;
-            joined(one, &other)
-        }
-        Expr::Meet(e, f) => {
-            let one = matches_of(alloc, e, w)?;
-            let other = matches_of(alloc, f, w)?;
-            met(&one, &other)
-        }
-        Expr::Star(e) => {
-            let step = matches_of(alloc, e, w)?;
-            repeated(alloc, &step, w)
-        }
-        Expr::Within(e, interval) => {
-            let all = matches_of(alloc, e, w)?;
-            restricted(&all, interval)
-        }
-    }
-}
-
-/// The matches of `eps`: every moment of the trace, its end among them.
-fn instants(alloc: Global, w: &Trace) -> Result<ZoneSet, AllocError>
-    ensures { IfOk result (λ zones. HoldExactly zones (Matches (atom empty) w.now)) }
-{
-    let mut zones = ZoneSet::new(alloc);
-    zones.add(Zone::instants(0, w.end()))?;
+    let zones = matches_of(alloc, expr, piece, None)?;
     Ok(zones)
 }
 
-/// The matches of `e;f`, of those of `e` and of `f`.
-fn followed(alloc: Global, first: &ZoneSet, second: &ZoneSet) -> Result<ZoneSet, AllocError>
-    ensures { IfOk result (λ zones. (e f : PatternTree) (segments : List Segment)
-        → HoldExactly first.now (Matches e segments) → HoldExactly second.now (Matches f segments)
-        → HoldExactly zones (Matches (sequence e f) segments)) }
+// The matches of the expression that last at most `longest`: all, where there is none. Each
+// operator makes its set of those of its parts.
+fn matches_of<A: Atoms>(
+    alloc: Global,
+    expr: &Expr,
+    atoms: &A,
+    longest: Option<u64>,
+) -> Result<ZoneSet, AllocError>
+    requires names { NumbersBelow NAMES_MAX (tree_of expr.now) }
+    requires longest { IsLongest longest }
+    ensures { IfOk result (λ zones. HoldExactly zones
+        (Lasting (LastsUpTo longest) (MatchesRest (tree_of expr.now) (A.rest atoms.now)))) }
 {
-    // For the proof: the calls say that both are sets of zones.
-    let _first = first.zones();
-    let _second = second.zones();
-    compose_sets(alloc, first, second)
-}
-
-/// The matches of `e|f`, of those of `e` and of `f`.
-fn joined(mut one: ZoneSet, other: &ZoneSet) -> Result<ZoneSet, AllocError>
-    ensures { IfOk result (λ zones. (e f : PatternTree) (segments : List Segment)
-        → HoldExactly one (Matches e segments) → HoldExactly other.now (Matches f segments)
-        → HoldExactly zones (Matches (alternation e f) segments)) }
-{
-    one.join(other)?;
-    Ok(one)
-}
-
-/// The matches of `e&f`, of those of `e` and of `f`.
-fn met(one: &ZoneSet, other: &ZoneSet) -> Result<ZoneSet, AllocError>
-    ensures { IfOk result (λ zones. (e f : PatternTree) (segments : List Segment)
-        → HoldExactly one.now (Matches e segments) → HoldExactly other.now (Matches f segments)
-        → HoldExactly zones (Matches (intersection e f) segments)) }
-{
-    one.meet(other)
-}
-
-/// The matches of `e*`, of those of `e` over the trace.
-fn repeated(alloc: Global, step: &ZoneSet, w: &Trace) -> Result<ZoneSet, AllocError>
-    ensures { IfOk result (λ zones. (e : PatternTree) → HoldExactly step.now (Matches e w.now)
-        → HoldExactly zones (Matches (repetition e) w.now)) }
-{
-    // For the proof: the call says that it is a set of zones.
-    let _step = step.zones();
-    closure(alloc, step, 0, w.end())
-}
-
-/// The matches of `e % interval`, of those of `e`.
-fn restricted(all: &ZoneSet, interval: &Interval) -> Result<ZoneSet, AllocError>
-    ensures { IfOk result (λ zones. (e : PatternTree) (segments : List Segment)
-        → HoldExactly all.now (Matches e segments)
-        → HoldExactly zones (Matches (restriction e interval.now) segments)) }
-{
-    all.within(interval)
+    match expr {
+        Expr::Eps => {
+            let all = atoms.moments(alloc)?;
+            shortened(all, longest)
+        }
+        Expr::Lit(state) => {
+            let all = atoms.literal(alloc, state)?;
+            shortened(all, longest)
+        }
+        Expr::Rise(state) => {
+            let all = atoms.rises(alloc, state)?;
+            shortened(all, longest)
+        }
+        Expr::Fall(state) => {
+            let all = atoms.falls(alloc, state)?;
+            shortened(all, longest)
+        }
+        Expr::Seq(left, right) => {
+            let first = matches_of(alloc, left, atoms, longest)?;
+            let second = matches_of(alloc, right, atoms, longest)?;
+            followed(alloc, &first, &second, longest)
+        }
+        Expr::Alt(left, right) => {
+            let one = matches_of(alloc, left, atoms, longest)?;
+            let other = matches_of(alloc, right, atoms, longest)?;
+            joined(one, &other)
+        }
+        Expr::Meet(left, right) => {
+            let one = matches_of(alloc, left, atoms, longest)?;
+            let other = matches_of(alloc, right, atoms, longest)?;
+            met(&one, &other)
+        }
+        Expr::Star(step) => {
+            let step = matches_of(alloc, step, atoms, longest)?;
+            repeated(alloc, &step, atoms.begin(), atoms.end(), longest)
+        }
+        Expr::Within(all, interval) => {
+            let inner = interval.up_to(longest);
+            let all = matches_of(alloc, all, atoms, inner)?;
+            restricted(&all, interval)
+        }
+    }
 }

@@ -1,16 +1,17 @@
-use crate::matches;
+use crate::{local, matches};
 use std::alloc::{AllocError, Global};
 use std::test::Fail;
+use tre_edges::Piece;
 use tre_state::{Names, State, is_name};
 use tre_syntax::{Expr, Pattern};
 use tre_trace::{Segment, Trace};
 use tre_zone::{Interval, Zone};
 use tre_zoneset::ZoneSet;
 
-/// The row of a zone: the keys of its bounds, and two zeros.
+// The row of a zone: the keys of its bounds, and two zeros.
 type Row = [i64; 8];
 
-/// The lengths and valuations of segments. On a valuation of 1 p is true, of 2 q, of 3 both.
+// The lengths and valuations of segments. On a valuation of 1 p is true, of 2 q, of 3 both.
 type Lengths<'a> = &'a [(u64, u64)];
 
 /// `[0,1) (0,1] (0,1]`
@@ -36,7 +37,7 @@ const TICKS: [Row; 4] = [
     [1, 7, 1, 7, 1, 1, 0, 0],
 ];
 
-/// Whether the set has exactly the zones of the rows, no two of which are the same, in any order.
+// Whether the set has exactly the zones of the rows, no two of which are the same, in any order.
 fn is(set: &ZoneSet, rows: &[Row]) -> bool {
     let zones = set.zones();
     zones.len() == rows.len() && rows.iter().all(|row| has(zones, row))
@@ -46,8 +47,8 @@ fn has(zones: &[Zone], row: &Row) -> bool {
     zones.iter().any(|member| member.row() == *row)
 }
 
-/// The matches of the expression, which names as many of p and q.
-fn found(alloc: Global, case: Case, count: usize, lengths: Lengths) -> Result<ZoneSet, Fail> {
+// The pattern of the expression, which names as many of p and q.
+fn pattern(alloc: Global, case: Case, count: usize) -> Result<Pattern, Fail> {
     let mut names = Names::new(alloc);
     for name in ["p", "q"].into_iter().take(count) {
         if is_name(name) {
@@ -55,6 +56,12 @@ fn found(alloc: Global, case: Case, count: usize, lengths: Lengths) -> Result<Zo
         }
     }
     let pattern = Pattern::new(expr(alloc, case)?, names).ok_or("no pattern")?;
+    Ok(pattern)
+}
+
+// The matches of the expression over a trace of these segments.
+fn found(alloc: Global, case: Case, count: usize, lengths: Lengths) -> Result<ZoneSet, Fail> {
+    let pattern = pattern(alloc, case, count)?;
     let mut trace = Trace::new(alloc);
     for (len, val) in lengths {
         trace.push(Segment {
@@ -180,6 +187,24 @@ fn answered(alloc: Global) -> Result<Expr, Fail> {
 fn falling(alloc: Global) -> Result<Expr, AllocError> {
     let ends = sequence(alloc, p(), Expr::Fall(State::Prop(0)))?;
     both(alloc, ends, p())
+}
+
+#[test]
+fn matches_inside_a_piece(rt: HostRuntime) -> Result<(), Fail> {
+    let alloc = rt.alloc();
+    let piece = Piece {
+        begin: 2,
+        segment: Segment { len: 3, val: 1 },
+        before: Some(0),
+    };
+    let twice = pattern(alloc, Case::Twice, 1)?;
+    // [2,5) (2,5] (0,3]
+    let inside = [[-3, 10, -4, 11, 0, 7, 0, 0]];
+    assert!(rt; is(&local(alloc, twice.expr(), &piece)?, &inside));
+    // the edge at the begin is known, and none is at the end
+    let pulse = pattern(alloc, Case::Pulse, 1)?;
+    assert!(rt; local(alloc, pulse.expr(), &piece)?.is_empty());
+    Ok(())
 }
 
 #[test]

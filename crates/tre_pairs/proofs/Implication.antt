@@ -2,7 +2,7 @@
 use Rattle.std.proofs.Common.{ℕ, ◌*◌, ◌<◌, List, [], ◌∷◌, inl, inr, ⊎_elim, arith}
 use Rattle.std.proofs.Math.Nat.{mul_left_comm, mul-lt-mul_of_pos_left}
 use Rattle.tre_pairs.specs.Pairs.{Pairs, Composed, Either, Both, Lasting, LeadTo, Chain}
-use Rattle.tre_pairs.specs.Laws.{IsOrdered, IsInstant, Implies, ImpliesBefore}
+use Rattle.tre_pairs.proofs.Laws.{IsOrdered, IsInstant, Implies, ImpliesBefore}
 use Rattle.tre_pairs.proofs.Order.{LeadTo-le}
 
 module _ (R R' S S' : Pairs) where
@@ -18,18 +18,30 @@ module _ (R R' S S' : Pairs) where
   }
 
   pub Implies-Either : Implies R R' → Implies S S' → Implies (Either R S) (Either R' S')
-  Implies-Either r s = record { at = λ a b n h. ⊎_elim (λ x. inl (r.at a b n x)) (λ x. inr (s.at a b n x)) h }
+  Implies-Either r s = record {
+    at = λ a b n h.
+        ⊎_elim (λ x. inl (r.at a b n x)) (λ x. inr (s.at a b n x)) h;
+  }
 
   pub Implies-Both : Implies R R' → Implies S S' → Implies (Both R S) (Both R' S')
-  Implies-Both r s = record { at = λ a b n h. record { left = r.at a b n h.left; right = s.at a b n h.right } }
+  Implies-Both r s = record {
+    at = λ a b n h.
+        record { left = r.at a b n h.left; right = s.at a b n h.right };
+  }
 
-pub Implies-Lasting : (D : ℕ → ℕ → Type 0) (R R' : Pairs) → Implies R R' → Implies (Lasting D R) (Lasting D R')
-Implies-Lasting D R R' r = record { at = λ a b n h. record { related = r.at a b n h.related; admitted = h.admitted } }
+pub Implies-Lasting : (D : ℕ → ℕ → Type 0) (R R' : Pairs) → Implies R R'
+    → Implies (Lasting D R) (Lasting D R')
+Implies-Lasting D R R' r = record {
+  at = λ a b n h.
+      record { related = r.at a b n h.related; admitted = h.admitted };
+}
 
 module _ (R R' E E' : Pairs) where
-  LeadTo-implies : Implies R R' → Implies E E' → (n from : ℕ) (cuts : List ℕ) (to : ℕ) → LeadTo R E n from cuts to → LeadTo R' E' n from cuts to
+  LeadTo-implies : Implies R R' → Implies E E' → (n from : ℕ) (cuts : List ℕ) (to : ℕ)
+      → LeadTo R E n from cuts to → LeadTo R' E' n from cuts to
   LeadTo-implies r e n from [] to h = e.at from to n h
-  LeadTo-implies r e n from (cut ∷ cuts) to h = (r.at from cut n h.0, LeadTo-implies r e n cut cuts to h.1)
+  LeadTo-implies r e n from (cut ∷ cuts) to h =
+      (r.at from cut n h.0, LeadTo-implies r e n cut cuts to h.1)
 
   pub Implies-Chain : Implies R R' → Implies E E' → Implies (Chain R E) (Chain R' E')
   Implies-Chain r e = record {
@@ -48,7 +60,8 @@ finer_before k T b n pos h =
     omega (arith, mul_left_comm k T n)
 
 module _ (T : ℕ) (R R' S S' : Pairs) where
-  pub ImpliesBefore-Composed : IsOrdered S → ImpliesBefore T R R' → ImpliesBefore T S S' → ImpliesBefore T (Composed R S) (Composed R' S')
+  pub ImpliesBefore-Composed : IsOrdered S → ImpliesBefore T R R' → ImpliesBefore T S S'
+      → ImpliesBefore T (Composed R S) (Composed R' S')
   ImpliesBefore-Composed ordered r s = record {
     at = λ a b n before h.
         let end = finer_before h.factor T b n h.positive before in
@@ -62,28 +75,47 @@ module _ (T : ℕ) (R R' S S' : Pairs) where
         };
   }
 
-  pub ImpliesBefore-Either : ImpliesBefore T R R' → ImpliesBefore T S S' → ImpliesBefore T (Either R S) (Either R' S')
-  ImpliesBefore-Either r s = record { at = λ a b n before h. ⊎_elim (λ x. inl (r.at a b n before x)) (λ x. inr (s.at a b n before x)) h }
+  pub ImpliesBefore-Either : ImpliesBefore T R R' → ImpliesBefore T S S'
+      → ImpliesBefore T (Either R S) (Either R' S')
+  ImpliesBefore-Either r s = record {
+    at = λ a b n before h.
+        ⊎_elim (λ x. inl (r.at a b n before x)) (λ x. inr (s.at a b n before x)) h;
+  }
 
-  pub ImpliesBefore-Both : ImpliesBefore T R R' → ImpliesBefore T S S' → ImpliesBefore T (Both R S) (Both R' S')
-  ImpliesBefore-Both r s = record { at = λ a b n before h. record { left = r.at a b n before h.left; right = s.at a b n before h.right } }
+  pub ImpliesBefore-Both : ImpliesBefore T R R' → ImpliesBefore T S S'
+      → ImpliesBefore T (Both R S) (Both R' S')
+  ImpliesBefore-Both r s = record {
+    at = λ a b n before h.
+        record { left = r.at a b n before h.left; right = s.at a b n before h.right };
+  }
 
-pub ImpliesBefore-Lasting : (T : ℕ) (D : ℕ → ℕ → Type 0) (R R' : Pairs) → ImpliesBefore T R R' → ImpliesBefore T (Lasting D R) (Lasting D R')
-ImpliesBefore-Lasting T D R R' r = record { at = λ a b n before h. record { related = r.at a b n before h.related; admitted = h.admitted } }
+pub ImpliesBefore-Lasting : (T : ℕ) (D : ℕ → ℕ → Type 0) (R R' : Pairs) → ImpliesBefore T R R'
+    → ImpliesBefore T (Lasting D R) (Lasting D R')
+ImpliesBefore-Lasting T D R R' r = record {
+  at = λ a b n before h. record {
+    related = r.at a b n before h.related;
+    admitted =
+        h.admitted;
+  };
+}
 
 module _ (T : ℕ) (R R' E E' : Pairs) (ordered : IsOrdered R) (same : IsInstant E) where
-  LeadTo-before : ImpliesBefore T R R' → ImpliesBefore T E E' → (n from : ℕ) (cuts : List ℕ) (to : ℕ) → to < T * n → LeadTo R E n from cuts to → LeadTo R' E' n from cuts to
+  LeadTo-before : ImpliesBefore T R R' → ImpliesBefore T E E'
+      → (n from : ℕ) (cuts : List ℕ) (to : ℕ) → to < T * n → LeadTo R E n from cuts to
+      → LeadTo R' E' n from cuts to
   LeadTo-before r e n from [] to before h = e.at from to n before h
   LeadTo-before r e n from (cut ∷ cuts) to before h =
       let le = LeadTo-le R E ordered same n cut cuts to h.1 in
       (r.at from cut n (omega (arith, before, le)) h.0, LeadTo-before r e n cut cuts to before h.1)
 
-  pub ImpliesBefore-Chain : ImpliesBefore T R R' → ImpliesBefore T E E' → ImpliesBefore T (Chain R E) (Chain R' E')
+  pub ImpliesBefore-Chain : ImpliesBefore T R R' → ImpliesBefore T E E'
+      → ImpliesBefore T (Chain R E) (Chain R' E')
   ImpliesBefore-Chain r e = record {
     at = λ a b n before h. record {
       factor = h.factor;
       positive = h.positive;
       cuts = h.cuts;
-      steps = LeadTo-before r e (h.factor * n) (h.factor * a) h.cuts (h.factor * b) (finer_before h.factor T b n h.positive before) h.steps;
+      steps = LeadTo-before r e (h.factor * n) (h.factor * a) h.cuts (h.factor * b)
+          (finer_before h.factor T b n h.positive before) h.steps;
     };
   }

@@ -1,4 +1,14 @@
+-- the laws that a relation over pairs may have
+pub mod Laws
+-- that the operators keep them
 pub mod Scaling
 pub mod Order
 pub mod Chains
+pub mod Steps
 pub mod Implication
+pub mod Agreement
+pub mod Shortening
+-- times in ticks beside fractions
+pub mod Ticks
+-- and how the pairs around a cut come from those of the parts
+pub mod CutLaws

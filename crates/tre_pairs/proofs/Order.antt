@@ -2,7 +2,7 @@
 use Rattle.std.proofs.Common.{ℕ, ◌*◌, ◌<◌, ◌≤◌, List, [], ◌∷◌, ⊎_elim, arith}
 use Rattle.std.proofs.Math.Nat.{mul_left_comm, le_of_mul-le-mul_left}
 use Rattle.tre_pairs.specs.Pairs.{Pairs, Composed, Either, Both, Lasting, LeadTo, Chain}
-use Rattle.tre_pairs.specs.Laws.{IsOrdered, IsInstant, IsBounded}
+use Rattle.tre_pairs.proofs.Laws.{IsOrdered, IsInstant, IsBounded}
 
 -- the bounds of the finer names are bounds of the times
 begin_of : (k low a n : ℕ) → 0 < k → low * (k * n) ≤ k * a → low * n ≤ a
@@ -31,50 +31,69 @@ module _ (R S : Pairs) where
   pub IsOrdered-Both : IsOrdered R → IsOrdered (Both R S)
   IsOrdered-Both r = record { le = λ a b n h. r.le a b n h.left }
 
-  pub IsBounded-Composed : (low high : ℕ) → IsBounded low high R → IsBounded low high S → IsBounded low high (Composed R S)
+  pub IsBounded-Composed : (low high : ℕ) → IsBounded low high R → IsBounded low high S
+      → IsBounded low high (Composed R S)
   IsBounded-Composed low high r s = record {
-    begin = λ a b n h. begin_of h.factor low a n h.positive (r.begin (h.factor * a) h.midpoint (h.factor * n) h.left);
-    end = λ a b n h. end_of h.factor high b n h.positive (s.end h.midpoint (h.factor * b) (h.factor * n) h.right);
+    begin = λ a b n h. begin_of h.factor low a n h.positive
+        (r.begin (h.factor * a) h.midpoint (h.factor * n) h.left);
+    end = λ a b n h. end_of h.factor high b n h.positive
+        (s.end h.midpoint (h.factor * b) (h.factor * n) h.right);
   }
 
-  pub IsBounded-Either : (low high : ℕ) → IsBounded low high R → IsBounded low high S → IsBounded low high (Either R S)
+  pub IsBounded-Either : (low high : ℕ) → IsBounded low high R → IsBounded low high S
+      → IsBounded low high (Either R S)
   IsBounded-Either low high r s = record {
     begin = λ a b n h. ⊎_elim (r.begin a b n) (s.begin a b n) h;
     end = λ a b n h. ⊎_elim (r.end a b n) (s.end a b n) h;
   }
 
   pub IsBounded-Both : (low high : ℕ) → IsBounded low high R → IsBounded low high (Both R S)
-  IsBounded-Both low high r = record { begin = λ a b n h. r.begin a b n h.left; end = λ a b n h. r.end a b n h.left }
+  IsBounded-Both low high r = record {
+    begin = λ a b n h. r.begin a b n h.left;
+    end = λ a b n h.
+        r.end a b n h.left;
+  }
 
 module _ (D : ℕ → ℕ → Type 0) (R : Pairs) where
   pub IsOrdered-Lasting : IsOrdered R → IsOrdered (Lasting D R)
   IsOrdered-Lasting r = record { le = λ a b n h. r.le a b n h.related }
 
   pub IsBounded-Lasting : (low high : ℕ) → IsBounded low high R → IsBounded low high (Lasting D R)
-  IsBounded-Lasting low high r = record { begin = λ a b n h. r.begin a b n h.related; end = λ a b n h. r.end a b n h.related }
+  IsBounded-Lasting low high r = record {
+    begin = λ a b n h. r.begin a b n h.related;
+    end =
+        λ a b n h. r.end a b n h.related;
+  }
 
 module _ (R E : Pairs) where
   -- the cuts never fall
-  pub LeadTo-le : IsOrdered R → IsInstant E → (n from : ℕ) (cuts : List ℕ) (to : ℕ) → LeadTo R E n from cuts to → from ≤ to
+  pub LeadTo-le : IsOrdered R → IsInstant E → (n from : ℕ) (cuts : List ℕ) (to : ℕ)
+      → LeadTo R E n from cuts to → from ≤ to
   LeadTo-le r e n from [] to h = let same = e.same from to n h in omega arith
   LeadTo-le r e n from (cut ∷ cuts) to h =
       let first = r.le from cut n h.0 in let rest = LeadTo-le r e n cut cuts to h.1 in omega arith
 
   pub IsOrdered-Chain : IsOrdered R → IsInstant E → IsOrdered (Chain R E)
   IsOrdered-Chain r e = record {
-    le = λ a b n h. le_of_mul-le-mul_left (LeadTo-le r e (h.factor * n) (h.factor * a) h.cuts (h.factor * b) h.steps) h.positive;
+    le = λ a b n h. le_of_mul-le-mul_left
+        (LeadTo-le r e (h.factor * n) (h.factor * a) h.cuts (h.factor * b) h.steps) h.positive;
   }
 
-  LeadTo-begin : (low high : ℕ) → IsBounded low high R → IsBounded low high E → (n from : ℕ) (cuts : List ℕ) (to : ℕ) → LeadTo R E n from cuts to → low * n ≤ from
+  LeadTo-begin : (low high : ℕ) → IsBounded low high R → IsBounded low high E
+      → (n from : ℕ) (cuts : List ℕ) (to : ℕ) → LeadTo R E n from cuts to → low * n ≤ from
   LeadTo-begin low high r e n from [] to h = e.begin from to n h
   LeadTo-begin low high r e n from (cut ∷ cuts) to h = r.begin from cut n h.0
 
-  LeadTo-end : (low high : ℕ) → IsBounded low high E → (n from : ℕ) (cuts : List ℕ) (to : ℕ) → LeadTo R E n from cuts to → to ≤ high * n
+  LeadTo-end : (low high : ℕ) → IsBounded low high E → (n from : ℕ) (cuts : List ℕ) (to : ℕ)
+      → LeadTo R E n from cuts to → to ≤ high * n
   LeadTo-end low high e n from [] to h = e.end from to n h
   LeadTo-end low high e n from (cut ∷ cuts) to h = LeadTo-end low high e n cut cuts to h.1
 
-  pub IsBounded-Chain : (low high : ℕ) → IsBounded low high R → IsBounded low high E → IsBounded low high (Chain R E)
+  pub IsBounded-Chain : (low high : ℕ) → IsBounded low high R → IsBounded low high E
+      → IsBounded low high (Chain R E)
   IsBounded-Chain low high r e = record {
-    begin = λ a b n h. begin_of h.factor low a n h.positive (LeadTo-begin low high r e (h.factor * n) (h.factor * a) h.cuts (h.factor * b) h.steps);
-    end = λ a b n h. end_of h.factor high b n h.positive (LeadTo-end low high e (h.factor * n) (h.factor * a) h.cuts (h.factor * b) h.steps);
+    begin = λ a b n h. begin_of h.factor low a n h.positive
+        (LeadTo-begin low high r e (h.factor * n) (h.factor * a) h.cuts (h.factor * b) h.steps);
+    end = λ a b n h. end_of h.factor high b n h.positive
+        (LeadTo-end low high e (h.factor * n) (h.factor * a) h.cuts (h.factor * b) h.steps);
   }

@@ -6,15 +6,10 @@ use Rattle.tre_zone.specs.Interval.{IntervalEnds}
 use Rattle.tre_syntax.specs.PatternTree.{PatternTree, rise, fall, atom, sequence, alternation, intersection, restriction}
 use Rattle.tre_parse.specs.declared.token.Token.{Token}
 use Rattle.tre_parse.specs.declared.token.Token.TheVariants.{RightParen, RightBrace, Semicolon, Bar, DoubleBar, Ampersand, DoubleAmpersand, Star, Plus, Question, Percent, Ends}
-use Rattle.tre_parse.specs.declared.part.Part.TheVariants.{Opening}
-use Rattle.tre_parse.specs.declared.part.Frame.{Frame}
-use Rattle.tre_parse.specs.declared.part.Frame.TheVariants.{Braces, Edge}
+use Rattle.tre_parse.specs.Machine.{Opening, Frame, Braces, Edge}
 use Rattle.tre_parse.specs.Grammar.{StateRule, lit, state, conj, neg, SpellsState, lit_name, lit_true, lit_braces, lit_bang, state_conj, state_bars, conj_neg, conj_ampersands, neg_name, neg_true, neg_parens, neg_bang, SpellsInterval, with_high, without_high, Rule, expr, meet, seq, post, primary, Spells, expr_meet, expr_bar, meet_seq, meet_ampersand, seq_post, seq_semicolon, post_primary, post_star, post_plus, post_question, post_percent, primary_eps, primary_parens, primary_rise, primary_fall, primary_lit, primary_begins, primary_ends, primary_begins_ends}
-use Rattle.tre_parse.specs.Machine.{Level, StateLevel, Place, before, after, in_literal, after_literal, before_state, after_state, in_interval, Config, joined, fresh_level, fresh_state_level, as_expression, negated, plain_literal, read_from, start}
-
--- What is kept at a place.
-abbrev pub kept : Level → List Level → Place → Config
-kept level below place = record { level = level; below = below; place = place }
+use Rattle.tre_parse.specs.Machine.{Level, StateLevel, before, after, in_literal, after_literal, before_state, after_state, in_interval, Config, joined, fresh_level, fresh_state_level, as_expression, negated, plain_literal, kept, start}
+use Rattle.tre_parse.proofs.ReadFrom.{read_from}
 
 -- Tokens in brackets, and what follows them, grouped the other way.
 regrouped : (xs : List Token) (closing : Token) (rest : List Token) (config : Config) → read_from ((xs ++ closing ∷ []) ++ rest) config ≡ read_from (xs ++ closing ∷ rest) config
@@ -25,14 +20,14 @@ negated_inside zero s = refl
 negated_inside (suc n) s = let inside = rw add-one at (negated_inside n s) in rw add-one (ap negation inside)
 
 -- A state's operands after its last waiting ones: what they are together, and how they were reached.
-record EndsConjunction (level : Level) (below : List Level) (frame : Frame) (around : List StateLevel) (bangs : ℕ) (bars : Option StateTree) (tokens rest : List Token) (s : StateTree) : Type 0 where
+record IsPastConjunction (level : Level) (below : List Level) (frame : Frame) (around : List StateLevel) (bangs : ℕ) (bars : Option StateTree) (tokens rest : List Token) (s : StateTree) : Type 0 where
   waiting : Option StateTree
   operand : StateTree
   joins : joined conjunction waiting operand ≡ s
   reads : read_from tokens (kept level below (before_state frame (record { bangs = bangs; before_bars = bars; before_ampersands = None }) around 0))
       ≡ read_from rest (kept level below (after_state frame (record { bangs = bangs; before_bars = bars; before_ampersands = waiting }) around operand))
 
-record EndsState (level : Level) (below : List Level) (frame : Frame) (around : List StateLevel) (bangs : ℕ) (tokens rest : List Token) (s : StateTree) : Type 0 where
+record IsPastState (level : Level) (below : List Level) (frame : Frame) (around : List StateLevel) (bangs : ℕ) (tokens rest : List Token) (s : StateTree) : Type 0 where
   bars : Option StateTree
   waiting : Option StateTree
   operand : StateTree
@@ -47,9 +42,9 @@ StateReaches lit xs s = (level : Level) (below : List Level) (begins : Bool) (n 
 StateReaches neg xs s = (level : Level) (below : List Level) (frame : Frame) (inner : StateLevel) (around : List StateLevel) (n : ℕ) (rest : List Token) →
     read_from (xs ++ rest) (kept level below (before_state frame inner around n)) ≡ read_from rest (kept level below (after_state frame inner around (negated n s)))
 StateReaches conj xs s = (level : Level) (below : List Level) (frame : Frame) (around : List StateLevel) (bangs : ℕ) (bars : Option StateTree) (rest : List Token) →
-    EndsConjunction level below frame around bangs bars (xs ++ rest) rest s
+    IsPastConjunction level below frame around bangs bars (xs ++ rest) rest s
 StateReaches state xs s = (level : Level) (below : List Level) (frame : Frame) (around : List StateLevel) (bangs : ℕ) (rest : List Token) →
-    EndsState level below frame around bangs (xs ++ rest) rest s
+    IsPastState level below frame around bangs (xs ++ rest) rest s
 
 state_reaches : (r : StateRule) (xs : List Token) (s : StateTree) → SpellsState r xs s → StateReaches r xs s
 state_reaches _ _ _ (lit_name i) = λ level below begins n rest. refl
@@ -126,14 +121,14 @@ interval_reads _ _ (without_high low true) level below x rest = refl
 interval_reads _ _ (without_high low false) level below x rest = refl
 
 -- An expression's operands after its last waiting ones.
-record EndsSequence (bar ampersand : Option PatternTree) (below : List Level) (tokens rest : List Token) (e : PatternTree) : Type 0 where
+record IsPastSequence (bar ampersand : Option PatternTree) (below : List Level) (tokens rest : List Token) (e : PatternTree) : Type 0 where
   waiting : Option PatternTree
   operand : PatternTree
   joins : joined sequence waiting operand ≡ e
   reads : read_from tokens (kept (record { before_bar = bar; before_ampersand = ampersand; before_semicolon = None }) below before)
       ≡ read_from rest (kept (record { before_bar = bar; before_ampersand = ampersand; before_semicolon = waiting }) below (after operand))
 
-record EndsIntersection (bar : Option PatternTree) (below : List Level) (tokens rest : List Token) (e : PatternTree) : Type 0 where
+record IsPastIntersection (bar : Option PatternTree) (below : List Level) (tokens rest : List Token) (e : PatternTree) : Type 0 where
   ampersand : Option PatternTree
   waiting : Option PatternTree
   operand : PatternTree
@@ -141,7 +136,7 @@ record EndsIntersection (bar : Option PatternTree) (below : List Level) (tokens 
   reads : read_from tokens (kept (record { before_bar = bar; before_ampersand = None; before_semicolon = None }) below before)
       ≡ read_from rest (kept (record { before_bar = bar; before_ampersand = ampersand; before_semicolon = waiting }) below (after operand))
 
-record EndsExpression (below : List Level) (tokens rest : List Token) (e : PatternTree) : Type 0 where
+record IsPastExpression (below : List Level) (tokens rest : List Token) (e : PatternTree) : Type 0 where
   level : Level
   operand : PatternTree
   joins : as_expression level operand ≡ e
@@ -149,9 +144,9 @@ record EndsExpression (below : List Level) (tokens rest : List Token) (e : Patte
 
 -- What reading tokens that spell an expression by a rule comes to, whatever follows them but `:>`.
 abbrev Reaches : Rule → List Token → PatternTree → Type 0
-Reaches expr xs e = (below : List Level) (rest : List Token) → BeginsWithoutEnds rest → EndsExpression below (xs ++ rest) rest e
-Reaches meet xs e = (bar : Option PatternTree) (below : List Level) (rest : List Token) → BeginsWithoutEnds rest → EndsIntersection bar below (xs ++ rest) rest e
-Reaches seq xs e = (bar ampersand : Option PatternTree) (below : List Level) (rest : List Token) → BeginsWithoutEnds rest → EndsSequence bar ampersand below (xs ++ rest) rest e
+Reaches expr xs e = (below : List Level) (rest : List Token) → BeginsWithoutEnds rest → IsPastExpression below (xs ++ rest) rest e
+Reaches meet xs e = (bar : Option PatternTree) (below : List Level) (rest : List Token) → BeginsWithoutEnds rest → IsPastIntersection bar below (xs ++ rest) rest e
+Reaches seq xs e = (bar ampersand : Option PatternTree) (below : List Level) (rest : List Token) → BeginsWithoutEnds rest → IsPastSequence bar ampersand below (xs ++ rest) rest e
 Reaches _ xs e = (level : Level) (below : List Level) (rest : List Token) → BeginsWithoutEnds rest →
     read_from (xs ++ rest) (kept level below before) ≡ read_from rest (kept level below (after e))
 

@@ -1,18 +1,42 @@
 -- Where intervals stand among tokens.
-use Rattle.std.proofs.Common.{◌≡◌, ℕ, ◌+◌, ◌<◌, ◌≤◌, Bool, true, false, Option, Some, None, List, [], ◌∷◌, ◌++◌, length, take, drop, get_or, refl, sym, ◌∙◌, ap, subst, arith, append_assoc, add-one, drop-cons, length-append}
-use Rattle.std.specs.Prelude.{IsTrue, IsSomeAnd, ◌↔◌}
+use Rattle.std.proofs.Common.{◌≡◌, ℕ, ◌+◌, ◌<◌, ◌≤◌, Bool, true, false, not, Option, Some, None, List, [], ◌∷◌, ◌++◌, length, take, drop, get_or, refl, sym, ◌∙◌, ap, subst, arith, append_assoc, add-one, drop-cons, length-append}
+use Rattle.std.specs.Prelude.{IsTrue, is_some, position, ◌^◌, ◌↔◌}
 use Rattle.std.proofs.Math.Seq.{drop-append_seam}
 use Rattle.std.proofs.lemmas.List.{take-append-drop, length-take-le}
-use Rattle.tre_zone.specs.Interval.{IntervalEnds}
+use Rattle.tre_zone.specs.Interval.{IntervalEnds, IsIntervalWithin}
 use Rattle.tre_parse.specs.declared.token.Token.{Token}
 use Rattle.tre_parse.specs.declared.token.Token.TheVariants.{Percent}
-use Rattle.tre_parse.specs.declared.part.Part.{Part}
-use Rattle.tre_parse.specs.declared.part.Part.TheVariants.{Opening}
+use Rattle.tre_parse.specs.Machine.{Part, Opening}
 use Rattle.tre_parse.specs.Grammar.{SpellsInterval, with_high, without_high}
-use Rattle.tre_parse.specs.Machine.{PartStep, wrong, going, whole, part_step, after_part_step, interval_from}
-use Rattle.tre_parse.specs.Parts.{IsEmptyInterval}
-use Rattle.tre_parse.specs.Outcome.{StandsAt, HasEmptyAt, NoneEmptyBefore, NoneEmpty}
+use Rattle.tre_parse.specs.Machine.{PartStep, wrong, going, whole, part_step, PartReading, stuck, ends_with, after_part_step, read_part}
+use Rattle.tre_parse.specs.Parts.{IsEmptyInterval, IsFineInterval, ReadsInterval, BeginsUnkept}
+use Rattle.tre_parse.specs.Outcome.{is_big, IsIntervalAt, HasEmptyAt, NoneEmptyBefore, NoneEmpty}
+use Rattle.tre_parse.proofs.Fine.{none_big, ends_within}
 use Rattle.tre_parse.proofs.Soundness.{PartReads, at_opening, PartStepReads, part_reads}
+
+-- The interval that the tokens begin with, once a part of it is read.
+abbrev pub after_from : PartStep → (Part → Option IntervalEnds) → Option IntervalEnds
+after_from wrong next = None
+after_from (going part) next = next part
+after_from (whole ends) next = Some ends
+
+abbrev pub interval_from : List Token → Part → Option IntervalEnds
+interval_from [] part = None
+interval_from (token ∷ rest) part = after_from (part_step part token) (λ next. interval_from rest next)
+
+abbrev pub ends_read : PartReading → Option IntervalEnds
+ends_read (stuck left) = None
+ends_read (ends_with ends rest) = Some ends
+
+after_from_step : (rest : List Token) (left : ℕ) → ((next : Part) → interval_from rest next ≡ ends_read (read_part rest next)) → (made : PartStep) →
+    after_from made (λ next. interval_from rest next) ≡ ends_read (after_part_step made left rest (λ next. read_part rest next))
+after_from_step rest left go wrong = refl
+after_from_step rest left go (going part) = go part
+after_from_step rest left go (whole ends) = refl
+
+pub interval_read_part : (tokens : List Token) (part : Part) → interval_from tokens part ≡ ends_read (read_part tokens part)
+interval_read_part [] part = refl
+interval_read_part (token ∷ rest) part = after_from_step rest (length (token ∷ rest)) (λ next. interval_read_part rest next) (part_step part token)
 
 -- An interval at the front is read, whatever follows it.
 pub interval_read : (body : List Token) (ends : IntervalEnds) → SpellsInterval body ends → (rest : List Token) → interval_from (body ++ rest) Opening ≡ Some ends
@@ -32,7 +56,7 @@ record Fronts (read tokens : List Token) (ends : IntervalEnds) : Type 0 where
 
 fronts_step : (read : List Token) (token : Token) (tokens : List Token) (ends : IntervalEnds) (made : PartStep) → PartStepReads made (read ++ token ∷ []) →
     ((part : Part) → PartReads part (read ++ token ∷ []) → interval_from tokens part ≡ Some ends → Fronts (read ++ token ∷ []) tokens ends) →
-    after_part_step made (λ next. interval_from tokens next) ≡ Some ends → Fronts read (token ∷ tokens) ends
+    after_from made (λ next. interval_from tokens next) ≡ Some ends → Fronts read (token ∷ tokens) ends
 fronts_step read token tokens ends wrong h go e = absurd (cc)
 fronts_step read token tokens ends (going part) h go e =
     let f = go part h e in
@@ -49,7 +73,7 @@ fronts (token ∷ tokens) part read ends h e =
     fronts_step read token tokens ends (part_step part token) (part_reads part read h token) (λ next k q. fronts tokens next (read ++ token ∷ []) ends k q) e
 
 -- An interval stands right after a `%` exactly where it is read there.
-pub stands_read : (tokens : List Token) (place : ℕ) (ends : IntervalEnds) (d : Token) → place < length tokens → StandsAt tokens (place + 1) ends →
+pub stands_read : (tokens : List Token) (place : ℕ) (ends : IntervalEnds) (d : Token) → place < length tokens → IsIntervalAt tokens (place + 1) ends →
     (get_or tokens place d ≡ Percent) × (interval_from (drop (place + 1) tokens) Opening ≡ Some ends)
 stands_read tokens place ends d h s =
     let at : length s.front ≡ place = omega (arith, s.here) in
@@ -60,7 +84,7 @@ stands_read tokens place ends d h s =
     (cc, ap (λ ts. interval_from ts Opening) tail ∙ interval_read s.body ends s.spelt s.rest)
 
 pub read_stands : (tokens : List Token) (place : ℕ) (ends : IntervalEnds) (d : Token) → place < length tokens → get_or tokens place d ≡ Percent →
-    interval_from (drop (place + 1) tokens) Opening ≡ Some ends → StandsAt tokens (place + 1) ends
+    interval_from (drop (place + 1) tokens) Opening ≡ Some ends → IsIntervalAt tokens (place + 1) ends
 read_stands tokens place ends d h e q =
     let f = fronts (drop (place + 1) tokens) Opening [] ends at_opening q in
     let other = rw (← add-one) at (drop-cons tokens place d h) in
@@ -68,7 +92,7 @@ read_stands tokens place ends d h e q =
     record { front = take place tokens; body = f.body; rest = f.rest; split = sym (take-append-drop place tokens) ∙ ap (λ ts. take place tokens ++ ts) cut; spelt = f.spelt; here = ap (λ n. n + 1) (sym (length-take-le place tokens (omega arith))) }
 
 -- A place where an interval stands is among the tokens, after the first.
-pub place_within : (tokens : List Token) (place : ℕ) (ends : IntervalEnds) → StandsAt tokens place ends → (0 < place) × (place ≤ length tokens)
+pub place_within : (tokens : List Token) (place : ℕ) (ends : IntervalEnds) → IsIntervalAt tokens place ends → (0 < place) × (place ≤ length tokens)
 place_within tokens place ends s =
     (omega (arith, s.here), omega (arith, s.here, ap length s.split, length-append s.front (Percent ∷ (s.body ++ s.rest))))
 
@@ -77,7 +101,7 @@ none_before_one tokens = λ k ends lt s h. omega (arith, (place_within tokens k 
 
 pub none_before_more : (tokens : List Token) (place : ℕ) → NoneEmptyBefore tokens (place + 1) → (HasEmptyAt tokens (place + 1) → ⊥) → NoneEmptyBefore tokens (place + 1 + 1)
 none_before_more tokens place none here = λ k ends lt s h.
-    let P = λ (n : ℕ). StandsAt tokens n ends in
+    let P = λ (n : ℕ). IsIntervalAt tokens n ends in
     let same : (k < place + 1 → ⊥) → k ≡ place + 1 = λ no. omega (arith, no) in
     let no : k < place + 1 → ⊥ = λ below. none k ends below s h in
     here (record { ends = ends; stands = subst P (same no) s; empty = h })
@@ -85,20 +109,59 @@ none_before_more tokens place none here = λ k ends lt s h.
 pub none_empty : (tokens : List Token) (place : ℕ) → length tokens ≤ place → NoneEmptyBefore tokens (place + 1) → NoneEmpty tokens
 none_empty tokens place le none = λ k ends s h. none k ends (omega (arith, (place_within tokens k ends s).1)) s h
 
-some_and : (o : Option IntervalEnds) (P : IntervalEnds → Type 0) → IsSomeAnd o P → (x : IntervalEnds) × (o ≡ Some x) × P x
-some_and None P h = absurd h
-some_and (Some x) P h = (x, refl, h)
+-- What is read of an interval at the front of the tokens.
+record EndsRead (reading : PartReading) (ends : IntervalEnds) : Type 0 where
+  rest : List Token
+  same : reading ≡ ends_with ends rest
+
+ends_are : (reading : PartReading) (ends : IntervalEnds) → ends_read reading ≡ Some ends → EndsRead reading ends
+ends_are (stuck left) ends e = absurd (cc)
+ends_are (ends_with found rest) ends e = let same : found ≡ ends = cc in record { rest = rest; same = ap (λ i. ends_with i rest) same }
+
+-- An interval that can't be kept is empty, where no number is too big.
+unkept_empty : (ends : IntervalEnds) → IsIntervalWithin (2 ^ 40) ends → (IsFineInterval ends → ⊥) → IsEmptyInterval ends
+unkept_empty ends w h = λ d n some within. h (record { lasts = λ empty. empty d n some within; within = w })
 
 -- The tests say whether an empty interval stands after a place.
 pub decides_here : (tokens rest : List Token) (place : ℕ) (d : Token) (r : Bool) → place < length tokens → get_or tokens place d ≡ Percent → rest ≡ drop (place + 1) tokens →
-    IsTrue r ↔ IsSomeAnd (interval_from rest Opening) IsEmptyInterval → IsTrue r ↔ HasEmptyAt tokens (place + 1)
-decides_here tokens rest place d r h e q t = (
-  (λ k. let s = some_and (interval_from rest Opening) IsEmptyInterval (t.0 k) in
-      record { ends = s.0; stands = read_stands tokens place s.0 d h e (ap (λ ts. interval_from ts Opening) (sym q) ∙ s.1); empty = s.2 }),
+    position is_big tokens ≡ None → IsTrue r ↔ BeginsUnkept rest → IsTrue r ↔ HasEmptyAt tokens (place + 1)
+decides_here tokens rest place d r h e q big t = (
+  (λ k. let u = t.0 k in
+      let read = ap (λ ts. interval_from ts Opening) (sym q) ∙ interval_read_part rest Opening ∙ ap ends_read u.reads in
+      let stands = read_stands tokens place u.ends d h e read in
+      record { ends = u.ends; stands = stands; empty = unkept_empty u.ends (ends_within tokens stands.front stands.body stands.rest u.ends (none_big tokens big) stands.split stands.spelt) u.unkept }),
   (λ k. let s = stands_read tokens place k.ends d h k.stands in
-      let P = λ (o : Option IntervalEnds). IsSomeAnd o IsEmptyInterval in
-      t.1 (subst P (sym (ap (λ ts. interval_from ts Opening) q ∙ s.1)) k.empty)),
+      let found = ends_are (read_part rest Opening) k.ends (sym (interval_read_part rest Opening) ∙ ap (λ ts. interval_from ts Opening) q ∙ s.1) in
+      t.1 (record { ends = k.ends; rest = found.rest; reads = found.same; unkept = λ fine. fine.lasts k.empty })),
 )
 
 pub decides_not_here : (tokens : List Token) (place : ℕ) (d : Token) → place < length tokens → (get_or tokens place d ≡ Percent → ⊥) → IsTrue false ↔ HasEmptyAt tokens (place + 1)
 decides_not_here tokens place d h never = ((λ k. absurd (cc)), (λ k. absurd (never (stands_read tokens place k.ends d h k.stands).0)))
+
+-- What the function for intervals answers says whether the interval can be kept.
+same_ends : (a b : IntervalEnds) (xs ys : List Token) → ends_with a xs ≡ ends_with b ys → a ≡ b
+same_ends a b xs ys e = cc
+
+none_kept : (r : Bool) → false ≡ not r → IsTrue r
+none_kept true e = refl
+none_kept false e = absurd (cc)
+
+one_kept : (r : Bool) → true ≡ not r → IsTrue r → ⊥
+one_kept true e h = cc
+one_kept false e h = cc
+
+pub kept_decides : (interval : Option IntervalEnds) (r : Bool) (tokens new : List Token) → is_some interval ≡ not r → ReadsInterval interval tokens new → IsTrue r ↔ BeginsUnkept tokens
+kept_decides None r tokens new e h =
+    ((λ k. record { ends = h.ends; rest = new; reads = h.reads; unkept = λ fine. let some = h.made.made fine in (cc) }), (λ k. none_kept r e))
+kept_decides (Some kept) r tokens new e h = (
+  (λ k. absurd (one_kept r e k)),
+  (λ k.
+      let P = λ (i : IntervalEnds). IsFineInterval i in
+      absurd (k.unkept (subst P (same_ends h.ends k.ends new k.rest (sym h.reads ∙ k.reads)) (h.made.fine refl)))),
+)
+
+pub stuck_decides : (tokens : List Token) (left : ℕ) → read_part tokens Opening ≡ stuck left → IsTrue false ↔ BeginsUnkept tokens
+stuck_decides tokens left e = ((λ k. absurd (cc)), (λ k. absurd (no_ends (sym e ∙ k.reads))))
+  where
+    no_ends : {ends : IntervalEnds} {rest : List Token} → stuck left ≡ ends_with ends rest → ⊥
+    no_ends q = cc

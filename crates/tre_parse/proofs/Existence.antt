@@ -1,20 +1,21 @@
 -- Every text has an outcome.
-use Rattle.std.proofs.Common.{◌≡◌, ℕ, ◌+◌, ◌<◌, ◌≤◌, zero, suc, Bool, true, false, Option, Some, None, List, length, drop, get_or, ◌⊎◌, inl, inr, refl, subst, arith}
-use Rattle.std.specs.Prelude.{MatchOption}
+use Rattle.std.proofs.Common.{◌≡◌, ℕ, ◌+◌, ◌<◌, ◌≤◌, zero, suc, Bool, true, false, Option, Some, None, Ok, Err, List, length, ◌-◌, drop, get_or, ◌⊎◌, inl, inr, refl, subst, arith}
+use Rattle.std.specs.Prelude.{MatchOption, Result}
 use Rattle.std.proofs.lemmas.Bool.{cases_lt}
 use Rattle.tre_zone.specs.Interval.{IntervalEnds, HasRoom}
 use Rattle.tre_zone.proofs.Durations.{Lasts, no_end, room, no_room}
 use Rattle.tre_syntax.specs.PatternTree.{PatternTree}
 use Rattle.tre_parse.specs.declared.token.Token.{Token}
 use Rattle.tre_parse.specs.declared.token.Token.TheVariants.{Percent}
-use Rattle.tre_parse.specs.declared.part.Part.TheVariants.{Opening}
+use Rattle.tre_parse.specs.Machine.{Opening}
 use Rattle.tre_parse.specs.declared.fault.ParseFault.{ParseFault}
 use Rattle.tre_parse.specs.declared.fault.ParseFault.TheVariants.{Syntax, EmptyInterval}
-use Rattle.tre_parse.specs.Machine.{read_from, start, interval_from}
+use Rattle.tre_parse.specs.Machine.{start, read}
+use Rattle.tre_parse.proofs.ReadFrom.{read_ok}
 use Rattle.tre_parse.specs.Parts.{IsEmptyInterval}
-use Rattle.tre_parse.specs.Outcome.{Outcome, refused, Words, words_of, offset_of, byte_fault, limit_fault, HasEmptyAt, NoneEmptyBefore, IsFirstEmpty, verdict, IsJudged, IsRead, IsOutcomeOfWords, IsOutcome}
-use Rattle.tre_parse.proofs.Empties.{stands_read, read_stands, none_before_one, none_before_more, none_empty}
-use Rattle.tre_parse.proofs.Judging.{unread}
+use Rattle.tre_parse.specs.Outcome.{Outcome, refused, TextTokens, text_tokens_of, offset_of, byte_fault, limit_fault, HasEmptyAt, NoneEmptyBefore, IsFirstEmpty, limited_outcome, IsOutcomeOfTree, IsOutcomeOfTokens, IsOutcomeWithin, IsOutcome}
+use Rattle.tre_parse.proofs.Empties.{interval_from, stands_read, read_stands, none_before_one, none_before_more, none_empty}
+use Rattle.tre_parse.proofs.SyntaxFaults.{fault_at}
 use Rattle.tre_parse.proofs.Soundness.{spelt_read}
 
 -- A fact, or that it is none.
@@ -93,15 +94,16 @@ first_or tokens (suc n) le =
     let lt : n < length tokens = omega arith in
     further tokens n lt (first_or tokens n (omega arith)) (here_or tokens n lt)
 
-judged_as : (words : Words) (tree : PatternTree) → FirstOr words.tokens (length words.tokens) → (outcome : Outcome) × IsJudged words tree outcome
+judged_as : (words : TextTokens) (tree : PatternTree) → FirstOr words.tokens (length words.tokens) → (outcome : Outcome) × IsOutcomeOfTree words tree outcome
 judged_as words tree (inl k) = (refused (EmptyInterval (offset_of words k.0)), inl (k.0, k.1, refl))
-judged_as words tree (inr none) = (verdict words tree, inr (none_empty words.tokens (length words.tokens) (omega arith) none, refl))
+judged_as words tree (inr none) = (limited_outcome words tree, inr (none_empty words.tokens (length words.tokens) (omega arith) none, refl))
 
-read_as : (words : Words) (made : Option PatternTree) → read_from words.tokens start ≡ made → (outcome : Outcome) × IsRead words outcome
-read_as words None e = (refused Syntax, unread words e)
-read_as words (Some tree) e =
+read_as : (words : TextTokens) (made : Result PatternTree ℕ) → read words.tokens start ≡ made → (outcome : Outcome) × IsOutcomeOfTokens words outcome
+read_as words (Err left) e =
+    (refused (Syntax (offset_of words (length words.tokens - left))), inl (length words.tokens - left, fault_at words.tokens left e, refl))
+read_as words (Ok tree) e =
     let judged = judged_as words tree (first_or words.tokens (length words.tokens) (omega arith)) in
-    (judged.0, inr (tree, spelt_read words.tokens tree e, judged.1))
+    (judged.0, inr (tree, spelt_read words.tokens tree (read_ok words.tokens start tree e), judged.1))
 
 fault_or : (made : Option ParseFault) (Rest : Outcome → Type 0) → (outcome : Outcome) × Rest outcome → (outcome : Outcome) × MatchOption made (Rest outcome) (λ fault. outcome ≡ refused fault)
 fault_or None Rest rest = rest
@@ -109,5 +111,5 @@ fault_or (Some fault) Rest rest = (refused fault, refl)
 
 pub outcome_is : (text : List ℕ) → (outcome : Outcome) × IsOutcome text outcome
 outcome_is text =
-    let read = read_as (words_of text) (read_from (words_of text).tokens start) refl in
-    fault_or (byte_fault text) (IsOutcomeOfWords (words_of text)) (fault_or (limit_fault (words_of text)) (IsRead (words_of text)) read)
+    let read = read_as (text_tokens_of text) (read (text_tokens_of text).tokens start) refl in
+    fault_or (byte_fault text) (IsOutcomeWithin (text_tokens_of text)) (fault_or (limit_fault (text_tokens_of text)) (IsOutcomeOfTokens (text_tokens_of text)) read)

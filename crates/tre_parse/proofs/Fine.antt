@@ -83,7 +83,7 @@ none_big tokens e =
     small_at [] rest n h = small_here n false (h 0 (Number n) (omega arith)) refl
     small_at (t ∷ front) rest n h = small_at front rest n (λ k d lt. h (suc k) d (omega arith))
 
-ends_within : (tokens front body rest : List Token) (ends : IntervalEnds) → NoneBig tokens → tokens ≡ front ++ Percent ∷ (body ++ rest) → SpellsInterval body ends → IsIntervalWithin (2 ^ 40) ends
+pub ends_within : (tokens front body rest : List Token) (ends : IntervalEnds) → NoneBig tokens → tokens ≡ front ++ Percent ∷ (body ++ rest) → SpellsInterval body ends → IsIntervalWithin (2 ^ 40) ends
 ends_within tokens front _ rest _ b e (with_high low high low_weak high_weak) =
     let open_low = b.small (front ++ Percent ∷ opening low_weak ∷ []) (Comma ∷ Number high ∷ closing high_weak ∷ rest) low (e ∙ sym (append_assoc front (Percent ∷ opening low_weak ∷ []) _)) in
     let open_high = b.small (front ++ Percent ∷ opening low_weak ∷ Number low ∷ Comma ∷ []) (closing high_weak ∷ rest) high (e ∙ sym (append_assoc front (Percent ∷ opening low_weak ∷ Number low ∷ Comma ∷ []) _)) in

@@ -1,6 +1,6 @@
 -- Which outcome each step of parsing comes to.
-use Rattle.std.proofs.Common.{◌≡◌, ℕ, ◌<◌, ◌≤◌, Bool, true, false, Option, Some, None, Ok, Err, List, length, ◌⊎◌, inl, inr, refl, sym, ◌∙◌, ap, subst, arith}
-use Rattle.std.specs.Prelude.{Result, MatchOption, nat_lt, min, if◌then◌else◌}
+use Rattle.std.proofs.Common.{◌≡◌, ℕ, ◌<◌, ◌≤◌, ◌-◌, Bool, true, false, Option, Some, None, Ok, Err, List, length, ◌⊎◌, inl, inr, refl, sym, ◌∙◌, ap, subst, arith}
+use Rattle.std.specs.Prelude.{Result, MatchOption, position, nat_lt, min, if◌then◌else◌}
 use Rattle.std.specs.Option.{option_map}
 use Rattle.std.proofs.lemmas.Bool.Decides.{nat_tests}
 use Rattle.tre_syntax.specs.declared.pattern.Pattern.{Pattern}
@@ -11,14 +11,17 @@ use Rattle.tre_parse.specs.declared.fault.ParseFault.TheVariants.{TooLong, BadBy
 use Rattle.tre_parse.specs.declared.operand.Operand.{Operand}
 use Rattle.tre_parse.specs.declared.scan.Scan.{Scan}
 use Rattle.tre_parse.specs.Grammar.{expr}
-use Rattle.tre_parse.specs.Machine.{read_from, start}
-use Rattle.tre_parse.specs.Places.{EndGives}
+use Rattle.tre_parse.specs.Machine.{read, start}
+use Rattle.tre_parse.specs.Reading.{Parses, ReadsWhole}
+use Rattle.tre_parse.specs.declared.cursor.Stop.{Stop}
+use Rattle.tre_parse.specs.declared.cursor.Stop.TheVariants.{Syntax as Stuck, Memory as Lacking}
+use Rattle.tre_parse.proofs.ReadFrom.{read_ok}
 use Rattle.tre_parse.specs.Tokens.{earlier, bad_byte}
 use Rattle.tre_parse.specs.Scan.{IsScan}
 use Rattle.tre_parse.specs.Numbering.{IsNumberedByUse}
-use Rattle.tre_parse.specs.Outcome.{Outcome, spelt, refused, Words, words_of, offset_of, byte_fault, limit_fault, NoneEmpty, past_or, verdict, IsRead, IsOutcomeOfWords, IsOutcome}
-use Rattle.tre_parse.specs.Answers.{Answers, IsAnswered, words_in, IsWhole, IsBuildable}
-use Rattle.tre_parse.proofs.Completeness.{read_spelt}
+use Rattle.tre_parse.specs.Outcome.{Outcome, spelt, refused, TextTokens, text_tokens_of, offset_of, is_big, byte_fault, limit_fault, NoneEmpty, past_or, limited_outcome, IsOutcomeOfTokens, IsOutcomeWithin, IsOutcome}
+use Rattle.tre_parse.specs.Answers.{Answers, IsAnswered, text_tokens_in, IsFaultOf, IsRepresented, IsBuildable}
+use Rattle.tre_parse.proofs.SyntaxFaults.{fault_at}
 use Rattle.tre_parse.proofs.Soundness.{spelt_read}
 use Rattle.tre_parse.proofs.Numbers.{counts_alike}
 use Rattle.tre_parse.proofs.NumberedWords.{text_numbered}
@@ -28,33 +31,40 @@ use Rattle.tre_parse.proofs.Outcomes.{outcome_once}
 along_none : (made : Option ParseFault) (P : Type 0) (Q : ParseFault → Type 0) → made ≡ None → P → MatchOption made P Q
 along_none made P Q e h = let R = λ (m : Option ParseFault). MatchOption m P Q in subst R (sym e) h
 
-pub read_outcome : (words : Words) (outcome : Outcome) → limit_fault words ≡ None → IsRead words outcome → IsOutcomeOfWords words outcome
+pub read_outcome : (words : TextTokens) (outcome : Outcome) → limit_fault words ≡ None → IsOutcomeOfTokens words outcome → IsOutcomeWithin words outcome
 read_outcome words outcome e h = along_none (limit_fault words) _ _ e h
 
 -- Tokens that are not read to an end spell no expression.
-pub unread : (words : Words) → read_from words.tokens start ≡ None → IsRead words (refused Syntax)
-unread words e = inl ((λ tree h. let q = read_spelt words.tokens tree h in (cc)), refl)
+pub stopped_outcome : (words : TextTokens) (left at : ℕ) → limit_fault words ≡ None → read words.tokens start ≡ Err left → at ≡ offset_of words (length words.tokens - left) →
+    IsOutcomeWithin words (refused (Syntax at))
+stopped_outcome words left at e h q =
+    read_outcome words (refused (Syntax at)) e (inl (length words.tokens - left, fault_at words.tokens left h, ap (λ n. refused (Syntax n)) q))
 
-pub read_fails : (words : Words) (fault : ParseFault) → limit_fault words ≡ None → EndGives (Err fault) (read_from words.tokens start) → (fault ≡ Memory) ⊎ IsOutcomeOfWords words (refused fault)
-read_fails words fault e (inl h) = inl h
-read_fails words fault e (inr h) =
-    let P = λ (f : ParseFault). IsOutcomeOfWords words (refused f) in
-    inr (subst P (sym h.0) (read_outcome words (refused Syntax) e (unread words h.1)))
+pub stop_outcome : (words : TextTokens) (stop : Stop) (fault : ParseFault) → limit_fault words ≡ None →
+    Parses {A = Operand} (Err stop) (λ x. ReadsWhole x (read words.tokens start)) (read words.tokens start) → IsFaultOf words stop fault →
+    (fault ≡ Memory) ⊎ IsOutcomeWithin words (refused fault)
+stop_outcome words Lacking fault e h f = inl f
+stop_outcome words (Stuck left) fault e h f =
+    let P = λ (g : ParseFault). IsOutcomeWithin words (refused g) in
+    inr (subst P (sym f) (stopped_outcome words left _ e h refl))
 
-whole_from : (words : Words) (operand : Operand) (made : Option PatternTree) → read_from words.tokens start ≡ made → EndGives (Ok operand) made → IsWhole words operand
-whole_from words operand None e h = absurd h
-whole_from words operand (Some tree) e h = record { tree = tree; spells = spelt_read words.tokens tree e; stands = h }
+pub is_whole : (words : TextTokens) (operand : Operand) → ReadsWhole operand (read words.tokens start) → IsRepresented words operand
+is_whole words operand h = record { tree = h.tree; spells = spelt_read words.tokens h.tree (read_ok words.tokens start h.tree h.same); represents = h.represents }
 
-pub is_whole : (words : Words) (operand : Operand) → EndGives (Ok operand) (read_from words.tokens start) → IsWhole words operand
-is_whole words operand h = whole_from words operand (read_from words.tokens start) refl h
+first_none : (words : TextTokens) (place : Option ℕ) (later : Option ParseFault) → earlier (option_map (λ at. Number (offset_of words at)) place) later ≡ None → place ≡ None
+first_none words None later e = refl
+first_none words (Some at) later e = absurd (cc)
+
+pub no_big : (words : TextTokens) → limit_fault words ≡ None → position is_big words.tokens ≡ None
+no_big words e = first_none words (position is_big words.tokens) _ e
 
 -- The limits of an expression that is spelt.
 
-judged : (words : Words) (operand : Operand) (outcome : Outcome) → limit_fault words ≡ None → (w : IsWhole words operand) → NoneEmpty words.tokens → outcome ≡ verdict words w.tree → IsOutcomeOfWords words outcome
+judged : (words : TextTokens) (operand : Operand) (outcome : Outcome) → limit_fault words ≡ None → (w : IsRepresented words operand) → NoneEmpty words.tokens → outcome ≡ limited_outcome words w.tree → IsOutcomeWithin words outcome
 judged words operand outcome e w h q = read_outcome words outcome e (inr (w.tree, w.spells, inr (h, q)))
 
-pub past_outcome : (words : Words) (operand : Operand) (at : ℕ) → limit_fault words ≡ None → IsWhole words operand → NoneEmpty words.tokens → words.past ≡ Some at →
-    IsOutcomeOfWords words (refused (TooManyNames at))
+pub past_outcome : (words : TextTokens) (operand : Operand) (at : ℕ) → limit_fault words ≡ None → IsRepresented words operand → NoneEmpty words.tokens → words.past ≡ Some at →
+    IsOutcomeWithin words (refused (TooManyNames at))
 past_outcome words operand at e w h q =
     judged words operand (refused (TooManyNames at)) e w h
     (sym (ap (λ past. past_or past (if nat_lt 1000 (node_count w.tree) then refused (TooLarge (min (node_count w.tree) 1000000000)) else spelt w.tree words.names)) q))
@@ -67,43 +77,39 @@ size_small : (is : Bool) (n : ℕ) (large whole : Outcome) → nat_lt 1000 n ≡
 size_small true n large whole t le = absurd (grind (arith, nat_tests))
 size_small false n large whole t le = refl
 
-pub large_outcome : (words : Words) (operand : Operand) (nodes : ℕ) → limit_fault words ≡ None → (w : IsWhole words operand) → NoneEmpty words.tokens → words.past ≡ None → nodes ≡ operand.nodes → 1000 < nodes →
-    IsOutcomeOfWords words (refused (TooLarge nodes))
+pub large_outcome : (words : TextTokens) (operand : Operand) (nodes : ℕ) → limit_fault words ≡ None → (w : IsRepresented words operand) → NoneEmpty words.tokens → words.past ≡ None → nodes ≡ operand.nodes → 1000 < nodes →
+    IsOutcomeWithin words (refused (TooLarge nodes))
 large_outcome words operand nodes e w h q same lt =
-    let count = w.stands.nodes in
+    let count = w.represents.nodes in
     judged words operand (refused (TooLarge nodes)) e w h
     (ap (λ n. refused (TooLarge n)) (same ∙ count)
     ∙ sym (size_large (nat_lt 1000 (node_count w.tree)) (node_count w.tree) (spelt w.tree words.names) refl (omega (arith, count)))
     ∙ sym (ap (λ past. past_or past (if nat_lt 1000 (node_count w.tree) then refused (TooLarge (min (node_count w.tree) 1000000000)) else spelt w.tree words.names)) q))
 
 -- What is within all limits can be built, and is the pattern.
-pub is_buildable : (words : Words) (operand : Operand) → limit_fault words ≡ None → (w : IsWhole words operand) → NoneEmpty words.tokens → words.past ≡ None → operand.nodes ≤ 1000 → IsNumberedByUse words →
+pub is_buildable : (words : TextTokens) (operand : Operand) → limit_fault words ≡ None → (w : IsRepresented words operand) → NoneEmpty words.tokens → words.past ≡ None → operand.nodes ≤ 1000 → IsNumberedByUse words →
     IsBuildable words.names operand
 is_buildable words operand e w h q le n =
-    let count = w.stands.nodes in
+    let count = w.represents.nodes in
     record {
       tree = w.tree;
-      stands = w.stands;
+      represents = w.represents;
       small = omega (arith, count);
-      fine = fine_intervals expr words.tokens w.tree w.spells (stand_fine words.tokens (none_big words.tokens (first_none _ _ e)) h);
+      fine = fine_intervals expr words.tokens w.tree w.spells (stand_fine words.tokens (none_big words.tokens (no_big words e)) h);
       numbered = (counts_alike expr words.tokens w.tree w.spells).alike 0 (length words.names) (n q);
     }
-  where
-    first_none : (place : Option ℕ) (later : Option ParseFault) → earlier (option_map (λ at. Number (offset_of words at)) place) later ≡ None → place ≡ None
-    first_none None later e = refl
-    first_none (Some at) later e = absurd (cc)
 
-pub spelt_outcome : (words : Words) (operand : Operand) (tree : PatternTree) (names : List (List ℕ)) → limit_fault words ≡ None → (w : IsWhole words operand) → NoneEmpty words.tokens → words.past ≡ None → operand.nodes ≤ 1000 →
-    tree ≡ w.tree → names ≡ words.names → IsOutcomeOfWords words (spelt tree names)
+pub spelt_outcome : (words : TextTokens) (operand : Operand) (tree : PatternTree) (names : List (List ℕ)) → limit_fault words ≡ None → (w : IsRepresented words operand) → NoneEmpty words.tokens → words.past ≡ None → operand.nodes ≤ 1000 →
+    tree ≡ w.tree → names ≡ words.names → IsOutcomeWithin words (spelt tree names)
 spelt_outcome words operand tree names e w h q le same kept =
-    let count = w.stands.nodes in
+    let count = w.represents.nodes in
     judged words operand (spelt tree names) e w h
     (ap (λ t. spelt t names) same ∙ ap (λ n. spelt w.tree n) kept
     ∙ sym (size_small (nat_lt 1000 (node_count w.tree)) (node_count w.tree) (refused (TooLarge (min (node_count w.tree) 1000000000))) (spelt w.tree words.names) refl (omega (arith, count)))
     ∙ sym (ap (λ past. past_or past (if nat_lt 1000 (node_count w.tree) then refused (TooLarge (min (node_count w.tree) 1000000000)) else spelt w.tree words.names)) q))
 
 -- The text as a whole.
-pub words_outcome : (text : List ℕ) (outcome : Outcome) → byte_fault text ≡ None → IsOutcomeOfWords (words_of text) outcome → IsOutcome text outcome
+pub words_outcome : (text : List ℕ) (outcome : Outcome) → byte_fault text ≡ None → IsOutcomeWithin (text_tokens_of text) outcome → IsOutcome text outcome
 words_outcome text outcome e h = along_none (byte_fault text) _ _ e h
 
 short_by : (is : Bool) (n : ℕ) (first later : Option ParseFault) → nat_lt 16384 n ≡ is → n ≤ 16384 → (if is then first else later) ≡ later
@@ -114,19 +120,19 @@ pub good_bytes : (text : List ℕ) → length text ≤ 16384 → bad_byte text �
 good_bytes text le e = short_by (nat_lt 16384 (length text)) (length text) (Some TooLong) _ refl le ∙ ap (option_map (λ at. BadByte at)) e
 
 -- A scan of a text holds its words.
-pub same_words : (text : List ℕ) (scan : Scan) → IsScan text scan → words_in scan ≡ words_of text
-same_words text scan s = let a = s.tokens in let b = s.offsets in let c = s.names in let d = s.past in (cc)
+pub same_words : (text : List ℕ) (scan : Scan) → IsScan text scan → text_tokens_in scan ≡ text_tokens_of text
+same_words text scan s = let z = s.size in let a = s.tokens in let b = s.offsets in let c = s.names in let d = s.past in (cc)
 
-pub scan_numbered : (text : List ℕ) (scan : Scan) → IsScan text scan → IsNumberedByUse (words_in scan)
-scan_numbered text scan s = let P = λ (w : Words). IsNumberedByUse w in subst P (sym (same_words text scan s)) (text_numbered text)
+pub scan_numbered : (text : List ℕ) (scan : Scan) → IsScan text scan → IsNumberedByUse (text_tokens_in scan)
+scan_numbered text scan s = let P = λ (w : TextTokens). IsNumberedByUse w in subst P (sym (same_words text scan s)) (text_numbered text)
 
-pub answers_text : (text : List ℕ) (scan : Scan) (result : Result Pattern ParseFault) → length text ≤ 16384 → IsScan text scan → Answers (IsOutcomeOfWords (words_in scan)) result → Answers (IsOutcome text) result
+pub answers_text : (text : List ℕ) (scan : Scan) (result : Result Pattern ParseFault) → length text ≤ 16384 → IsScan text scan → Answers (IsOutcomeWithin (text_tokens_in scan)) result → Answers (IsOutcome text) result
 answers_text text scan (Ok pattern) le s h =
-    let P = λ (w : Words). IsOutcomeOfWords w (spelt (pattern_tree pattern) (names_of pattern)) in
+    let P = λ (w : TextTokens). IsOutcomeWithin w (spelt (pattern_tree pattern) (names_of pattern)) in
     words_outcome text _ (good_bytes text le s.good) (subst P (same_words text scan s) h)
 answers_text text scan (Err fault) le s (inl h) = inl h
 answers_text text scan (Err fault) le s (inr h) =
-    let P = λ (w : Words). IsOutcomeOfWords w (refused fault) in
+    let P = λ (w : TextTokens). IsOutcomeWithin w (refused fault) in
     inr (words_outcome text _ (good_bytes text le s.good) (subst P (same_words text scan s) h))
 
 -- The outcome is what is answered.

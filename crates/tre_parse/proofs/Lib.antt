@@ -1,12 +1,10 @@
+pub mod ReadFrom
 pub mod Completeness
 pub mod LevelSpelling
 pub mod Soundness
 pub mod Words
 pub mod Scans
 pub mod Counts
-pub mod Intervals
-pub mod Readers
-pub mod Readings
 pub mod Empties
 pub mod Outcomes
 pub mod Numbers
@@ -19,3 +17,11 @@ pub mod StateStrength
 pub mod Existence
 pub mod Fronts
 pub mod Blanks
+pub mod StateSteps
+pub mod IntervalSteps
+pub mod ExpressionSteps
+pub mod Prefixes
+pub mod SyntaxFaults
+pub mod Depth
+pub mod LongestSign
+pub mod NameNumbers

@@ -15,9 +15,9 @@ use Rattle.tre_parse.specs.declared.token.Token.TheVariants.{Name as Numbered, L
 use Rattle.tre_parse.specs.declared.lexeme.Lexeme.{Lexeme}
 use Rattle.tre_parse.specs.declared.lexeme.Lexeme.TheVariants.{Blank, Wrong, Name, Sign}
 use Rattle.tre_parse.specs.Lexeme.{is_blank, reserved, named, word_lexeme, number_lexeme, signed, sign_lexeme, lexeme_of, double_sign, bracket, single_sign}
-use Rattle.tre_parse.specs.Tokens.{Word, name, sign, Spot, Lexed, lexed, scanned, token_of, known_after, tokens_from, names_from, past_from, is_past, spots_of}
+use Rattle.tre_parse.specs.Tokens.{RawToken, name, sign, RawTokenAt, RawTokens, raw_tokens_from, scanned, token_of, known_after, tokens_from, names_from, past_from, is_past, raw_tokens_of}
 use Rattle.tre_parse.specs.Numbering.{numbers_in, IsNumberedByUse}
-use Rattle.tre_parse.specs.Outcome.{words_of}
+use Rattle.tre_parse.specs.Outcome.{text_tokens_of}
 
 -- A token that is no name.
 abbrev IsNoName : Token → Type 0
@@ -35,7 +35,7 @@ reserved_by false false false false false false = tt
 
 reserved_no_name : (word : List ℕ) → IfSome (reserved word) IsNoName
 reserved_no_name word =
-    reserved_by (bytes_eq word (codes "eps")) (bytes_eq word (codes "rise")) (bytes_eq word (codes "fall")) (bytes_eq word (codes "inf")) (bytes_eq word (codes "true")) (bytes_eq word (codes "event"))
+    reserved_by (bytes_eq (codes "eps") word) (bytes_eq (codes "rise") word) (bytes_eq (codes "fall") word) (bytes_eq (codes "inf") word) (bytes_eq (codes "true") word) (bytes_eq (codes "event") word)
 
 double_by : (a b c d : Bool) → IfSome (if a then Some DoubleBar else (if b then Some DoubleAmpersand else (if c then Some Begins else (if d then Some Ends else None)))) IsNoName
 double_by true _ _ _ = tt
@@ -107,24 +107,24 @@ lexeme_no_name (b ∷ bs) =
     (named_no_name _ _ (reserved_no_name (take_while continues_name (b ∷ bs)))) tt (sign_no_name (b ∷ bs))
 
 -- Names stand among the words by their bytes alone.
-abbrev IsPlain : Word → Type 0
+abbrev IsPlain : RawToken → Type 0
 IsPlain (name bytes) = Unit {0}
 IsPlain (sign token) = IsNoName token
 
-abbrev ArePlain : List Spot → Type 0
+abbrev ArePlain : List RawTokenAt → Type 0
 ArePlain [] = Unit {0}
-ArePlain (spot ∷ rest) = IsPlain spot.word × ArePlain rest
+ArePlain (raw ∷ rest) = IsPlain raw.word × ArePlain rest
 
-scanned_plain : (lexeme : Lexeme) (at : ℕ) (bytes : List ℕ) (next : ℕ → Lexed) → SaysNoName lexeme → ((k : ℕ) → ArePlain (next k).spots) → ArePlain (scanned lexeme at bytes next).spots
+scanned_plain : (lexeme : Lexeme) (at : ℕ) (bytes : List ℕ) (next : ℕ → RawTokens) → SaysNoName lexeme → ((k : ℕ) → ArePlain (next k).raw_tokens) → ArePlain (scanned lexeme at bytes next).raw_tokens
 scanned_plain Blank at bytes next h go = go 0
 scanned_plain Wrong at bytes next h go = tt
 scanned_plain (Name len) at bytes next h go = (tt, go (len - 1))
 scanned_plain (Sign token len) at bytes next h go = (h, go (len - 1))
 
-lexed_plain : (skip at : ℕ) (bytes : List ℕ) → ArePlain (lexed skip at bytes).spots
-lexed_plain skip at [] = tt
-lexed_plain (suc skip) at (b ∷ bs) = lexed_plain skip (at + 1) bs
-lexed_plain zero at (b ∷ bs) = scanned_plain (lexeme_of (b ∷ bs)) at (b ∷ bs) (λ skip. lexed skip (at + 1) bs) (lexeme_no_name (b ∷ bs)) (λ skip. lexed_plain skip (at + 1) bs)
+raw_tokens_plain : (skip at : ℕ) (bytes : List ℕ) → ArePlain (raw_tokens_from skip at bytes).raw_tokens
+raw_tokens_plain skip at [] = tt
+raw_tokens_plain (suc skip) at (b ∷ bs) = raw_tokens_plain skip (at + 1) bs
+raw_tokens_plain zero at (b ∷ bs) = scanned_plain (lexeme_of (b ∷ bs)) at (b ∷ bs) (λ skip. raw_tokens_from skip (at + 1) bs) (lexeme_no_name (b ∷ bs)) (λ skip. raw_tokens_plain skip (at + 1) bs)
 
 no_name_numbers : (token : Token) (rest : List Token) → IsNoName token → numbers_in (token ∷ rest) ≡ numbers_in rest
 no_name_numbers (Numbered i) rest h = absurd h
@@ -150,7 +150,7 @@ past_none : (is : Bool) (at : ℕ) (later : Option ℕ) → (if is then Some at 
 past_none true at later e = absurd (cc)
 past_none false at later e = (refl, e)
 
-spot_numbered : (word : Word) (at : ℕ) (known : List (List ℕ)) (rest : List Token) (later : Option ℕ) (m : ℕ) → IsPlain word →
+spot_numbered : (word : RawToken) (at : ℕ) (known : List (List ℕ)) (rest : List Token) (later : Option ℕ) (m : ℕ) → IsPlain word →
     (if is_past known word then Some at else later) ≡ None → (later ≡ None → seen_after (length (known_after known word)) (numbers_in rest) ≡ Some m) →
     seen_after (length known) (numbers_in (token_of known word ∷ rest)) ≡ Some m
 spot_numbered (name bytes) at known rest later m h e go =
@@ -159,13 +159,13 @@ spot_numbered (name bytes) at known rest later m h e go =
 spot_numbered (sign token) at known rest later m h e go =
     ap (seen_after (length known)) (no_name_numbers token rest h) ∙ go e
 
-numbered_from : (spots : List Spot) (known : List (List ℕ)) → ArePlain spots → past_from known spots ≡ None →
-    seen_after (length known) (numbers_in (tokens_from known spots)) ≡ Some (length (names_from known spots))
+numbered_from : (raw_tokens : List RawTokenAt) (known : List (List ℕ)) → ArePlain raw_tokens → past_from known raw_tokens ≡ None →
+    seen_after (length known) (numbers_in (tokens_from known raw_tokens)) ≡ Some (length (names_from known raw_tokens))
 numbered_from [] known h e = refl
-numbered_from (spot ∷ rest) known h e =
-    spot_numbered spot.word spot.at known (tokens_from (known_after known spot.word) rest) (past_from (known_after known spot.word) rest)
-    (length (names_from (known_after known spot.word) rest)) h.0 e (λ later. numbered_from rest (known_after known spot.word) h.1 later)
+numbered_from (raw ∷ rest) known h e =
+    spot_numbered raw.word raw.at known (tokens_from (known_after known raw.word) rest) (past_from (known_after known raw.word) rest)
+    (length (names_from (known_after known raw.word) rest)) h.0 e (λ later. numbered_from rest (known_after known raw.word) h.1 later)
 
 -- The words of a text are numbered by use.
-pub text_numbered : (text : List ℕ) → IsNumberedByUse (words_of text)
-text_numbered text = λ e. numbered_from (spots_of text) [] (lexed_plain 0 0 text) e
+pub text_numbered : (text : List ℕ) → IsNumberedByUse (text_tokens_of text)
+text_numbered text = λ e. numbered_from (raw_tokens_of text) [] (raw_tokens_plain 0 0 text) e

@@ -4,9 +4,10 @@ use Rattle.std.specs.Prelude.{MatchOption}
 use Rattle.tre_syntax.specs.PatternTree.{PatternTree}
 use Rattle.tre_parse.specs.declared.token.Token.{Token}
 use Rattle.tre_parse.specs.declared.fault.ParseFault.{ParseFault}
-use Rattle.tre_parse.specs.declared.fault.ParseFault.TheVariants.{EmptyInterval}
-use Rattle.tre_parse.specs.Outcome.{Outcome, refused, Words, words_of, offset_of, byte_fault, limit_fault, IsFirstEmpty, IsJudged, IsRead, IsOutcomeOfWords, IsOutcome}
+use Rattle.tre_parse.specs.declared.fault.ParseFault.TheVariants.{Syntax, EmptyInterval}
+use Rattle.tre_parse.specs.Outcome.{Outcome, refused, TextTokens, text_tokens_of, offset_of, byte_fault, limit_fault, IsFirstEmpty, IsOutcomeOfTree, IsOutcomeOfTokens, IsOutcomeWithin, IsOutcome}
 use Rattle.tre_parse.proofs.Completeness.{spelt_once}
+use Rattle.tre_parse.proofs.SyntaxFaults.{fault_once}
 
 -- There is one first empty interval.
 first_once : (tokens : List Token) (i j : ℕ) → IsFirstEmpty tokens i → IsFirstEmpty tokens j → i ≡ j
@@ -15,28 +16,28 @@ first_once tokens i j f g =
     let right : j < i → ⊥ = λ lt. f.first j g.here.ends lt g.here.stands g.here.empty in
     omega (arith, left, right)
 
-judged_once : (words : Words) (tree : PatternTree) (o q : Outcome) → IsJudged words tree o → IsJudged words tree q → o ≡ q
+judged_once : (words : TextTokens) (tree : PatternTree) (o q : Outcome) → IsOutcomeOfTree words tree o → IsOutcomeOfTree words tree q → o ≡ q
 judged_once words tree o q (inl a) (inl b) = a.2 ∙ ap (λ n. refused (EmptyInterval (offset_of words n))) (first_once words.tokens a.0 b.0 a.1 b.1) ∙ sym b.2
 judged_once words tree o q (inl a) (inr b) = absurd (b.0 a.0 a.1.here.ends a.1.here.stands a.1.here.empty)
 judged_once words tree o q (inr a) (inl b) = absurd (a.0 b.0 b.1.here.ends b.1.here.stands b.1.here.empty)
 judged_once words tree o q (inr a) (inr b) = a.1 ∙ sym b.1
 
-read_once : (words : Words) (o q : Outcome) → IsRead words o → IsRead words q → o ≡ q
-read_once words o q (inl a) (inl b) = a.1 ∙ sym b.1
-read_once words o q (inl a) (inr b) = absurd (a.0 b.0 b.1)
-read_once words o q (inr a) (inl b) = absurd (b.0 a.0 a.1)
+read_once : (words : TextTokens) (o q : Outcome) → IsOutcomeOfTokens words o → IsOutcomeOfTokens words q → o ≡ q
+read_once words o q (inl a) (inl b) = a.2 ∙ ap (λ n. refused (Syntax (offset_of words n))) (fault_once words.tokens a.0 b.0 a.1 b.1) ∙ sym b.2
+read_once words o q (inl a) (inr b) = absurd (a.1.none b.0 b.1)
+read_once words o q (inr a) (inl b) = absurd (b.1.none a.0 a.1)
 read_once words o q (inr a) (inr b) =
     let same = spelt_once words.tokens b.0 a.0 b.1 a.1 in
-    let P = λ (t : PatternTree). IsJudged words t q in
+    let P = λ (t : PatternTree). IsOutcomeOfTree words t q in
     judged_once words a.0 o q a.2 (subst P same b.2)
 
-fault_once : (made : Option ParseFault) (Rest : Outcome → Type 0) → ((o q : Outcome) → Rest o → Rest q → o ≡ q) → (o q : Outcome) →
+first_fault_once : (made : Option ParseFault) (Rest : Outcome → Type 0) → ((o q : Outcome) → Rest o → Rest q → o ≡ q) → (o q : Outcome) →
     MatchOption made (Rest o) (λ fault. o ≡ refused fault) → MatchOption made (Rest q) (λ fault. q ≡ refused fault) → o ≡ q
-fault_once None Rest once o q h k = once o q h k
-fault_once (Some fault) Rest once o q h k = h ∙ sym k
+first_fault_once None Rest once o q h k = once o q h k
+first_fault_once (Some fault) Rest once o q h k = h ∙ sym k
 
-words_once : (words : Words) (o q : Outcome) → IsOutcomeOfWords words o → IsOutcomeOfWords words q → o ≡ q
-words_once words = fault_once (limit_fault words) (IsRead words) (read_once words)
+words_once : (words : TextTokens) (o q : Outcome) → IsOutcomeWithin words o → IsOutcomeWithin words q → o ≡ q
+words_once words = first_fault_once (limit_fault words) (IsOutcomeOfTokens words) (read_once words)
 
 pub outcome_once : (text : List ℕ) (o q : Outcome) → IsOutcome text o → IsOutcome text q → o ≡ q
-outcome_once text = fault_once (byte_fault text) (IsOutcomeOfWords (words_of text)) (words_once (words_of text))
+outcome_once text = first_fault_once (byte_fault text) (IsOutcomeWithin (text_tokens_of text)) (words_once (text_tokens_of text))

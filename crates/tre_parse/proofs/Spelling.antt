@@ -9,7 +9,7 @@ use Rattle.tre_parse.specs.declared.fault.ParseFault.{ParseFault}
 use Rattle.tre_parse.specs.declared.fault.ParseFault.TheVariants.{TooLong, BadByte}
 use Rattle.tre_parse.specs.Grammar.{expr, Spells}
 use Rattle.tre_parse.specs.Tokens.{bad_byte, tokens_of}
-use Rattle.tre_parse.specs.Outcome.{IsSpelling, spelt, refused, words_of, byte_fault, limit_fault, past_or, IsJudged, IsRead, IsOutcomeOfWords, IsOutcome}
+use Rattle.tre_parse.specs.Outcome.{IsSpelling, spelt, refused, text_tokens_of, byte_fault, limit_fault, past_or, IsOutcomeOfTree, IsOutcomeOfTokens, IsOutcomeWithin, IsOutcome}
 use Rattle.tre_parse.specs.Answers.{Answers}
 
 -- A pattern is no refusal.
@@ -28,21 +28,21 @@ verdict_spells (Some at) large fault t tree kept names e = absurd (cc)
 verdict_spells None true fault t tree kept names e = absurd (cc)
 verdict_spells None false fault t tree kept names e = (cc, cc)
 
-judged_spells : (text : List ℕ) (t tree : PatternTree) (names : List (List ℕ)) → bad_byte text ≡ None → Spells expr (tokens_of text) t → IsJudged (words_of text) t (spelt tree names) → IsSpelling text tree names
+judged_spells : (text : List ℕ) (t tree : PatternTree) (names : List (List ℕ)) → bad_byte text ≡ None → Spells expr (tokens_of text) t → IsOutcomeOfTree (text_tokens_of text) t (spelt tree names) → IsSpelling text tree names
 judged_spells text t tree names good h (inl k) = let no = k.2 in absurd (cc)
 judged_spells text t tree names good h (inr k) =
     let same = verdict_spells _ _ _ t tree _ names k.1 in
     let P = λ (u : PatternTree). Spells expr (tokens_of text) u in
     record { tokens_alone = good; spells = subst P (sym same.0) h; numbered = same.1 }
 
-read_spells : (text : List ℕ) (tree : PatternTree) (names : List (List ℕ)) → bad_byte text ≡ None → IsRead (words_of text) (spelt tree names) → IsSpelling text tree names
+read_spells : (text : List ℕ) (tree : PatternTree) (names : List (List ℕ)) → bad_byte text ≡ None → IsOutcomeOfTokens (text_tokens_of text) (spelt tree names) → IsSpelling text tree names
 read_spells text tree names good (inl h) = let no = h.1 in absurd (cc)
 read_spells text tree names good (inr h) = judged_spells text h.0 tree names good h.1 h.2
 
 pub outcome_spells : (text : List ℕ) (tree : PatternTree) (names : List (List ℕ)) → IsOutcome text (spelt tree names) → IsSpelling text tree names
 outcome_spells text tree names h =
-    let bytes = unrefused (byte_fault text) (IsOutcomeOfWords (words_of text) (spelt tree names)) tree names h in
-    let words = unrefused (limit_fault (words_of text)) (IsRead (words_of text) (spelt tree names)) tree names bytes.1 in
+    let bytes = unrefused (byte_fault text) (IsOutcomeWithin (text_tokens_of text) (spelt tree names)) tree names h in
+    let words = unrefused (limit_fault (text_tokens_of text)) (IsOutcomeOfTokens (text_tokens_of text) (spelt tree names)) tree names bytes.1 in
     read_spells text tree names (none_bad _ (bad_byte text) bytes.0) words.1
 
 pub answer_spells : (text : List ℕ) (result : Result Pattern ParseFault) → Answers (IsOutcome text) result → IfOk result (λ pattern. IsSpelling text (pattern_tree pattern) (names_of pattern))

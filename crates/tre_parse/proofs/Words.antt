@@ -1,4 +1,4 @@
--- Words of a text: which bytes they have, and that a word which is no token of its own is a name.
+-- TextTokens of a text: which bytes they have, and that a word which is no token of its own is a name.
 use Rattle.std.proofs.Common.{◌≡◌, ℕ, ◌+◌, ◌<◌, zero, suc, Bool, true, false, cond, ◌||◌, Option, Some, None, List, [], ◌∷◌, take, get_or, refl, sym, ◌∙◌, ap, subst, arith}
 use Rattle.std.specs.Prelude.{IsTrue, if◌then◌else◌, codes}
 use Rattle.std.specs.List.{prefix_len, take_while, AllPass}
@@ -41,7 +41,7 @@ word_ascii (b ∷ bs) h = λ i. elim i as (λ i. get_or (b ∷ bs) i 0 < 128) [
     rest_below (b ∷ bs) h (suc k) = rest_below bs (λ j d lt. h (suc j) d (omega arith)) k
 
 not_reserved : (a b c d e f : Bool) → (if a then Some Eps else (if b then Some Rise else (if c then Some Fall else (if d then Some Inf else (if e then Some True else (if f then Some Event else None)))))) ≡ None →
-    a || b || c || d || e || f ≡ true → ⊥
+    a || (b || (c || (d || (e || (f || false))))) ≡ true → ⊥
 not_reserved true b c d e f p q = cc
 not_reserved false true c d e f p q = cc
 not_reserved false false true d e f p q = cc
@@ -88,5 +88,5 @@ name_bytes (b ∷ bs) len e =
     let word = take_while continues_name (b ∷ bs) in
     let P = λ (n : ℕ). IsTrue (is_reserved (take n (b ∷ bs))) → ⊥ in (
       word_from b bs len found.0 known.1,
-      subst P known.1 (not_reserved (bytes_eq word (codes "eps")) (bytes_eq word (codes "rise")) (bytes_eq word (codes "fall")) (bytes_eq word (codes "inf")) (bytes_eq word (codes "true")) (bytes_eq word (codes "event")) known.0),
+      subst P known.1 (not_reserved (bytes_eq (codes "eps") word) (bytes_eq (codes "rise") word) (bytes_eq (codes "fall") word) (bytes_eq (codes "inf") word) (bytes_eq (codes "true") word) (bytes_eq (codes "event") word) known.0),
     )

@@ -1,15 +1,17 @@
 -- What `parse` answers, against the outcome of the text.
-use Rattle.std.specs.Prelude.{◌≡◌, ℕ, ◌≤◌, ◌⊎◌, Result, Ok, Err, List, length}
+use Rattle.std.specs.Prelude.{◌≡◌, ℕ, ◌≤◌, ◌-◌, ◌⊎◌, Result, Ok, Err, List, length}
 use Rattle.tre_syntax.specs.declared.pattern.Pattern.{Pattern}
 use Rattle.tre_syntax.specs.Pattern.{pattern_tree, names_of}
 use Rattle.tre_syntax.specs.PatternTree.{PatternTree, node_count, IsNumbered}
 use Rattle.tre_parse.specs.declared.fault.ParseFault.{ParseFault}
-use Rattle.tre_parse.specs.declared.fault.ParseFault.TheVariants.{Memory}
+use Rattle.tre_parse.specs.declared.fault.ParseFault.TheVariants.{Syntax, Memory}
+use Rattle.tre_parse.specs.declared.cursor.Stop.{Stop}
+use Rattle.tre_parse.specs.declared.cursor.Stop.TheVariants.{Syntax as Stuck, Memory as Lacking}
 use Rattle.tre_parse.specs.declared.operand.Operand.{Operand}
 use Rattle.tre_parse.specs.declared.scan.Scan.{Scan}
 use Rattle.tre_parse.specs.Grammar.{expr, Spells}
-use Rattle.tre_parse.specs.Operands.{Stands, HasFineIntervals}
-use Rattle.tre_parse.specs.Outcome.{Outcome, spelt, refused, Words}
+use Rattle.tre_parse.specs.Operands.{Represents, HasFineIntervals}
+use Rattle.tre_parse.specs.Outcome.{Outcome, spelt, refused, TextTokens, offset_of}
 
 -- The answer is an outcome of which this is so, or want of memory.
 abbrev pub Answers : (Outcome → Type 0) → Result Pattern ParseFault → Type 0
@@ -22,19 +24,31 @@ IsAnswered outcome (Ok pattern) = outcome ≡ spelt (pattern_tree pattern) (name
 IsAnswered outcome (Err fault) = (fault ≡ Memory) ⊎ (outcome ≡ refused fault)
 
 -- The words that a scan holds.
-abbrev pub words_in : Scan → Words
-words_in scan = record { tokens = scan.tokens.items; offsets = scan.offsets.items; names = scan.names; past = scan.past }
+abbrev pub text_tokens_in : Scan → TextTokens
+text_tokens_in scan =
+    record {
+      size = scan.size;
+      tokens = scan.tokens.items;
+      offsets = scan.offsets.items;
+      names = scan.names;
+      past = scan.past;
+    }
+
+-- The fault where reading stops.
+abbrev pub IsFaultOf : TextTokens → Stop → ParseFault → Type 0
+IsFaultOf words Lacking fault = fault ≡ Memory
+IsFaultOf words (Stuck left) fault = fault ≡ Syntax (offset_of words (length words.tokens - left))
 
 -- What was read stands for the expression that the tokens spell.
-pub record IsWhole (words : Words) (operand : Operand) : Type 0 where
+pub record IsRepresented (words : TextTokens) (operand : Operand) : Type 0 where
   pub tree : PatternTree
   pub spells : Spells expr words.tokens tree
-  pub stands : Stands operand tree
+  pub represents : Represents operand tree
 
 -- What was read is a pattern with these names.
 pub record IsBuildable (names : List (List ℕ)) (operand : Operand) : Type 0 where
   pub tree : PatternTree
-  pub stands : Stands operand tree
+  pub represents : Represents operand tree
   pub small : node_count tree ≤ 1000
   pub fine : HasFineIntervals tree
   pub numbered : IsNumbered tree (length names)

@@ -1,12 +1,13 @@
 -- What a blank does in a text.
 use Rattle.std.specs.Prelude.{◌≡◌, ℕ, ◌+◌, is_none, List, map}
-use Rattle.tre_parse.specs.Tokens.{Spot, tokens_of, names_of, bad_byte}
+use Rattle.tre_parse.specs.Tokens.{RawTokenAt, tokens_of, names_of, bad_byte}
 
 -- The words with their offsets counted on.
-abbrev pub counted_on : ℕ → List Spot → List Spot
-counted_on n spots = map (λ spot. record { at = spot.at + n; word = spot.word }) spots
+abbrev pub counted_on : ℕ → List RawTokenAt → List RawTokenAt
+counted_on n raw_tokens = map (λ raw. record { at = raw.at + n; word = raw.word }) raw_tokens
 
--- The text has the tokens and the names of the other, and a byte at which no token begins only where the other has one.
+-- The text has the tokens and the names of the other, and a byte at which no token begins only
+-- where the other has one.
 pub record SaysAs (text other : List ℕ) : Type 0 where
   pub tokens : tokens_of text ≡ tokens_of other
   pub names : names_of text ≡ names_of other

@@ -16,7 +16,8 @@ joined_by Sequence e f = sequence e f
 joined_by Intersection e f = intersection e f
 joined_by Alternation e f = alternation e f
 
--- What was built is kept where it has no more than so many nodes as a pattern may have, and let go elsewhere.
+-- What was built is kept where it has no more than so many nodes as a pattern may have, and let go
+-- elsewhere.
 pub record Keeps {A : Type 0} (nodes : ℕ) (whole kept : Option A) : Type 0 where
   pub small : nodes ≤ 1000 → kept ≡ whole
   pub large : 1000 < nodes → kept ≡ None

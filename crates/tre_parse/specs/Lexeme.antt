@@ -1,4 +1,5 @@
--- What stands at a place of a text: the longest token there, a blank, or a byte at which no token begins.
+-- What stands at a place of a text: the longest token there, a blank, or a byte at which no token
+-- begins.
 use Rattle.std.specs.Prelude.{ℕ, ◌+◌, ◌-◌, ◌*◌, ◌≤◌, ◌<◌, Bool, ◌&&◌, ◌||◌, ◌==◌, if◌then◌else◌, Option, Some, None, List, [], ◌∷◌, codes, fold, min}
 use Rattle.std.specs.Char.{is_ascii_digit}
 use Rattle.std.specs.List.{prefix_len, take_while}
@@ -16,12 +17,12 @@ is_blank byte = byte == 32 || byte == 9 || byte == 13 || byte == 10
 -- The words that are tokens of their own.
 abbrev pub reserved : List ℕ → Option Token
 reserved word =
-    if bytes_eq word (codes "eps") then Some Eps
-    else (if bytes_eq word (codes "rise") then Some Rise
-    else (if bytes_eq word (codes "fall") then Some Fall
-    else (if bytes_eq word (codes "inf") then Some Inf
-    else (if bytes_eq word (codes "true") then Some True
-    else (if bytes_eq word (codes "event") then Some Event
+    if bytes_eq (codes "eps") word then Some Eps
+    else (if bytes_eq (codes "rise") word then Some Rise
+    else (if bytes_eq (codes "fall") word then Some Fall
+    else (if bytes_eq (codes "inf") word then Some Inf
+    else (if bytes_eq (codes "true") word then Some True
+    else (if bytes_eq (codes "event") word then Some Event
     else None)))))
 
 abbrev pub named : ℕ → Option Token → Lexeme
@@ -30,7 +31,8 @@ named len (Some token) = Sign token len
 
 -- A word: as many bytes as can stand in a name.
 abbrev pub word_lexeme : List ℕ → Lexeme
-word_lexeme rest = named (prefix_len continues_name rest) (reserved (take_while continues_name rest))
+word_lexeme rest =
+    named (prefix_len continues_name rest) (reserved (take_while continues_name rest))
 
 -- The whole number that decimal digits spell.
 abbrev pub decimal : List ℕ → ℕ
@@ -38,7 +40,9 @@ decimal digits = fold (λ n digit. 10 * n + (digit - 48)) 0 digits
 
 -- A number: as many digits as there are. All those above 2^40 are the one number 2^40 + 1.
 abbrev pub number_lexeme : List ℕ → Lexeme
-number_lexeme rest = Sign (Number (min (decimal (take_while is_ascii_digit rest)) 1099511627777)) (prefix_len is_ascii_digit rest)
+number_lexeme rest =
+    Sign (Number (min (decimal (take_while is_ascii_digit rest)) 1099511627777))
+    (prefix_len is_ascii_digit rest)
 
 -- The signs of two bytes: `||`, `&&`, `<:` and `:>`.
 abbrev pub double_sign : ℕ → ℕ → Option Token

@@ -1,14 +1,21 @@
+-- What a reader must believe: the grammar, which tokens begin a rule, the tokens of a text, and
+-- what becomes of it.
 pub mod Grammar
-pub mod Strength
-pub mod Machine
+pub mod Begins
 pub mod Lexeme
 pub mod Tokens
+pub mod Outcome
+-- What the laws say in other words.
+pub mod Signs
+pub mod Numbering
+pub mod Strength
 pub mod Blanks
+-- What the functions inside promise each other.
+pub mod Front
 pub mod Scan
 pub mod Joins
 pub mod Parts
 pub mod Operands
-pub mod Places
-pub mod Outcome
-pub mod Numbering
+pub mod Machine
+pub mod Reading
 pub mod Answers

@@ -1,17 +1,30 @@
--- Reading tokens one by one from the left. What is read so far is kept as a place, and what stands around it as levels, one for
--- each open parenthesis. The machine is how the parser works; that it agrees with the grammar is proved apart.
-use Rattle.std.specs.Prelude.{ℕ, ◌+◌, zero, suc, Bool, true, false, Option, Some, None, List, [], ◌∷◌, option_and_then}
+-- Reading tokens one by one from the left. What is read so far is kept as a place, and what stands
+-- around it as levels, one for each open parenthesis. The machine is how the parser works; that it
+-- agrees with the grammar is proved apart.
+use Rattle.std.specs.Prelude.{ℕ, ◌+◌, zero, suc, Bool, true, false, Option, Some, None, Result, Ok, Err, List, [], ◌∷◌, length}
 use Rattle.tre_state.specs.StateTree.{StateTree, always, proposition, negation, conjunction, disjunction}
 use Rattle.tre_zone.specs.Interval.{IntervalEnds}
 use Rattle.tre_syntax.specs.PatternTree.{PatternTree, empty, literal, rise, fall, atom, sequence, alternation, intersection, repetition, restriction}
 use Rattle.tre_parse.specs.declared.token.Token.{Token}
 use Rattle.tre_parse.specs.declared.token.Token.TheVariants.{Name, Number, LeftParen, RightParen, LeftBracket, RightBracket, LeftBrace, RightBrace, Comma, Semicolon, Bar, DoubleBar, Ampersand, DoubleAmpersand, Bang, Star, Plus, Question, Percent, Begins, Ends, Eps, Rise, Fall, Inf, True}
-use Rattle.tre_parse.specs.declared.part.Part.{Part}
-use Rattle.tre_parse.specs.declared.part.Part.TheVariants.{Opening, Low, Comma as AfterLow, High, Closing}
-use Rattle.tre_parse.specs.declared.part.Frame.{Frame}
-use Rattle.tre_parse.specs.declared.part.Frame.TheVariants.{Braces, Edge}
 
--- What stands before the operand that is read, at one level of parentheses: the operands of the last `|`, `&` and `;` that wait.
+-- How far an interval was read: nothing of it, its bracket, its low end, the comma, its high end or
+-- `inf`.
+pub data Part : Type 0 where
+  Opening : Part
+  Low : Bool → Part
+  AfterLow : Bool → ℕ → Part
+  High : Bool → ℕ → Part
+  Closing : Bool → ℕ → Option ℕ → Part
+
+-- Where a state with operators stands: in the braces of a literal, after `<:` or not and so many
+-- `!`, or after an edge.
+pub data Frame : Type 0 where
+  Braces : Bool → ℕ → Frame
+  Edge : Bool → Frame
+
+-- What stands before the operand that is read, at one level of parentheses: the operands of the
+-- last `|`, `&` and `;` that wait.
 pub record Level : Type 0 where
   pub before_bar : Option PatternTree
   pub before_ampersand : Option PatternTree
@@ -34,7 +47,8 @@ pub data Place : Type 0 where
   after_state : Frame → StateLevel → List StateLevel → StateTree → Place
   in_interval : PatternTree → Part → Place
 
--- All that is kept of the tokens so far: the innermost level, those around it from the inside, and the place.
+-- All that is kept of the tokens so far: the innermost level, those around it from the inside, and
+-- the place.
 pub record Config : Type 0 where
   pub level : Level
   pub below : List Level
@@ -59,13 +73,28 @@ abbrev pub fresh_level : Level
 fresh_level = record { before_bar = None; before_ampersand = None; before_semicolon = None }
 
 abbrev pub after_semicolon : Level → PatternTree → Level
-after_semicolon level x = record { before_bar = level.before_bar; before_ampersand = level.before_ampersand; before_semicolon = Some (as_sequence level x) }
+after_semicolon level x =
+    record {
+      before_bar = level.before_bar;
+      before_ampersand = level.before_ampersand;
+      before_semicolon = Some (as_sequence level x);
+    }
 
 abbrev pub after_ampersand : Level → PatternTree → Level
-after_ampersand level x = record { before_bar = level.before_bar; before_ampersand = Some (as_intersection level x); before_semicolon = None }
+after_ampersand level x =
+    record {
+      before_bar = level.before_bar;
+      before_ampersand = Some (as_intersection level x);
+      before_semicolon = None;
+    }
 
 abbrev pub after_bar : Level → PatternTree → Level
-after_bar level x = record { before_bar = Some (as_expression level x); before_ampersand = None; before_semicolon = None }
+after_bar level x =
+    record {
+      before_bar = Some (as_expression level x);
+      before_ampersand = None;
+      before_semicolon = None;
+    }
 
 abbrev pub as_conjunction : StateLevel → StateTree → StateTree
 as_conjunction level s = joined conjunction level.before_ampersands s
@@ -77,10 +106,16 @@ abbrev pub fresh_state_level : ℕ → StateLevel
 fresh_state_level bangs = record { bangs = bangs; before_bars = None; before_ampersands = None }
 
 abbrev pub after_ampersands : StateLevel → StateTree → StateLevel
-after_ampersands level s = record { bangs = level.bangs; before_bars = level.before_bars; before_ampersands = Some (as_conjunction level s) }
+after_ampersands level s =
+    record {
+      bangs = level.bangs;
+      before_bars = level.before_bars;
+      before_ampersands = Some (as_conjunction level s);
+    }
 
 abbrev pub after_bars : StateLevel → StateTree → StateLevel
-after_bars level s = record { bangs = level.bangs; before_bars = Some (as_state level s); before_ampersands = None }
+after_bars level s =
+    record { bangs = level.bangs; before_bars = Some (as_state level s); before_ampersands = None }
 
 -- So many negations of the state.
 abbrev pub negated : ℕ → StateTree → StateTree
@@ -125,8 +160,10 @@ high_part weak low Inf = going (Closing weak low None)
 high_part weak low _ = wrong
 
 abbrev pub closing_part : Bool → ℕ → Option ℕ → Token → PartStep
-closing_part weak low (Some high) RightBracket = whole (record { low = low; low_weak = weak; high = Some high; high_weak = true })
-closing_part weak low high RightParen = whole (record { low = low; low_weak = weak; high = high; high_weak = false })
+closing_part weak low (Some high) RightBracket =
+    whole (record { low = low; low_weak = weak; high = Some high; high_weak = true })
+closing_part weak low high RightParen =
+    whole (record { low = low; low_weak = weak; high = high; high_weak = false })
 closing_part weak low high _ = wrong
 
 abbrev pub part_step : Part → Token → PartStep
@@ -142,9 +179,12 @@ moved level below place = Some (record { level = level; below = below; place = p
 
 abbrev pub literal_step : Level → List Level → Bool → ℕ → Token → Option Config
 literal_step level below begins bangs Bang = moved level below (in_literal begins (bangs + 1))
-literal_step level below begins bangs (Name i) = moved level below (after_literal begins (negated bangs (proposition i)))
-literal_step level below begins bangs True = moved level below (after_literal begins (negated bangs always))
-literal_step level below begins bangs LeftBrace = moved level below (before_state (Braces begins bangs) (fresh_state_level 0) [] 0)
+literal_step level below begins bangs (Name i) =
+    moved level below (after_literal begins (negated bangs (proposition i)))
+literal_step level below begins bangs True =
+    moved level below (after_literal begins (negated bangs always))
+literal_step level below begins bangs LeftBrace =
+    moved level below (before_state (Braces begins bangs) (fresh_state_level 0) [] 0)
 literal_step level below begins bangs _ = None
 
 abbrev pub before_step : Level → List Level → Token → Option Config
@@ -173,35 +213,52 @@ after_step level below x _ = None
 
 abbrev pub after_literal_step : Level → List Level → Bool → StateTree → Token → Option Config
 after_literal_step level below begins s Ends = moved level below (after (ended_literal begins s))
-after_literal_step level below begins s token = after_step level below (plain_literal begins s) token
+after_literal_step level below begins s token =
+    after_step level below (plain_literal begins s) token
 
 abbrev pub edge_step : Level → List Level → Bool → Token → Option Config
-edge_step level below rises LeftParen = moved level below (before_state (Edge rises) (fresh_state_level 0) [] 0)
+edge_step level below rises LeftParen =
+    moved level below (before_state (Edge rises) (fresh_state_level 0) [] 0)
 edge_step level below rises _ = None
 
-abbrev pub before_state_step : Level → List Level → Frame → StateLevel → List StateLevel → ℕ → Token → Option Config
-before_state_step level below frame inner around bangs Bang = moved level below (before_state frame inner around (bangs + 1))
-before_state_step level below frame inner around bangs (Name i) = moved level below (after_state frame inner around (negated bangs (proposition i)))
-before_state_step level below frame inner around bangs True = moved level below (after_state frame inner around (negated bangs always))
-before_state_step level below frame inner around bangs LeftParen = moved level below (before_state frame (fresh_state_level bangs) (inner ∷ around) 0)
+abbrev pub before_state_step : Level → List Level → Frame → StateLevel → List StateLevel → ℕ →
+    Token → Option Config
+before_state_step level below frame inner around bangs Bang =
+    moved level below (before_state frame inner around (bangs + 1))
+before_state_step level below frame inner around bangs (Name i) =
+    moved level below (after_state frame inner around (negated bangs (proposition i)))
+before_state_step level below frame inner around bangs True =
+    moved level below (after_state frame inner around (negated bangs always))
+before_state_step level below frame inner around bangs LeftParen =
+    moved level below (before_state frame (fresh_state_level bangs) (inner ∷ around) 0)
 before_state_step level below frame inner around bangs _ = None
 
 -- A parenthesis closes in a state: it is one inside the state, or the one after `rise` or `fall`.
-abbrev pub leave_parens : Level → List Level → Frame → StateLevel → List StateLevel → StateTree → Option Config
-leave_parens level below frame inner (outer ∷ around) s = moved level below (after_state frame outer around (negated inner.bangs (as_state inner s)))
-leave_parens level below (Edge rises) inner [] s = moved level below (after (edge_of rises (as_state inner s)))
+abbrev pub leave_parens : Level → List Level → Frame → StateLevel → List StateLevel → StateTree →
+    Option Config
+leave_parens level below frame inner (outer ∷ around) s =
+    moved level below (after_state frame outer around (negated inner.bangs (as_state inner s)))
+leave_parens level below (Edge rises) inner [] s =
+    moved level below (after (edge_of rises (as_state inner s)))
 leave_parens level below (Braces begins bangs) inner [] s = None
 
 -- A brace closes: it ends the state of a literal.
-abbrev pub leave_braces : Level → List Level → Frame → StateLevel → List StateLevel → StateTree → Option Config
-leave_braces level below (Braces begins bangs) inner [] s = moved level below (after_literal begins (negated bangs (as_state inner s)))
+abbrev pub leave_braces : Level → List Level → Frame → StateLevel → List StateLevel → StateTree →
+    Option Config
+leave_braces level below (Braces begins bangs) inner [] s =
+    moved level below (after_literal begins (negated bangs (as_state inner s)))
 leave_braces level below frame inner around s = None
 
-abbrev pub after_state_step : Level → List Level → Frame → StateLevel → List StateLevel → StateTree → Token → Option Config
-after_state_step level below frame inner around s DoubleBar = moved level below (before_state frame (after_bars inner s) around 0)
-after_state_step level below frame inner around s DoubleAmpersand = moved level below (before_state frame (after_ampersands inner s) around 0)
-after_state_step level below frame inner around s RightParen = leave_parens level below frame inner around s
-after_state_step level below frame inner around s RightBrace = leave_braces level below frame inner around s
+abbrev pub after_state_step : Level → List Level → Frame → StateLevel → List StateLevel →
+    StateTree → Token → Option Config
+after_state_step level below frame inner around s DoubleBar =
+    moved level below (before_state frame (after_bars inner s) around 0)
+after_state_step level below frame inner around s DoubleAmpersand =
+    moved level below (before_state frame (after_ampersands inner s) around 0)
+after_state_step level below frame inner around s RightParen =
+    leave_parens level below frame inner around s
+after_state_step level below frame inner around s RightBrace =
+    leave_braces level below frame inner around s
 after_state_step level below frame inner around s _ = None
 
 abbrev pub after_part : Level → List Level → PatternTree → PartStep → Option Config
@@ -213,10 +270,13 @@ abbrev pub place_step : Level → List Level → Place → Token → Option Conf
 place_step level below before token = before_step level below token
 place_step level below (after x) token = after_step level below x token
 place_step level below (in_literal begins bangs) token = literal_step level below begins bangs token
-place_step level below (after_literal begins s) token = after_literal_step level below begins s token
+place_step level below (after_literal begins s) token =
+    after_literal_step level below begins s token
 place_step level below (after_edge rises) token = edge_step level below rises token
-place_step level below (before_state frame inner around bangs) token = before_state_step level below frame inner around bangs token
-place_step level below (after_state frame inner around s) token = after_state_step level below frame inner around s token
+place_step level below (before_state frame inner around bangs) token =
+    before_state_step level below frame inner around bangs token
+place_step level below (after_state frame inner around s) token =
+    after_state_step level below frame inner around s token
 place_step level below (in_interval x part) token = after_part level below x (part_step part token)
 
 -- What one token makes of all that is kept, None where it can't stand there.
@@ -233,20 +293,40 @@ abbrev pub end_of : Level → List Level → Place → Option PatternTree
 end_of level [] place = place_end level place
 end_of level (outer ∷ below) place = None
 
--- The expression that the tokens complete, if they do.
-abbrev pub read_from : List Token → Config → Option PatternTree
-read_from [] config = end_of config.level config.below config.place
-read_from (token ∷ rest) config = option_and_then (λ next. read_from rest next) (step config token)
-
 abbrev pub start : Config
 start = record { level = fresh_level; below = []; place = before }
 
--- The interval that the tokens begin with, once a part of it is read.
-abbrev pub after_part_step : PartStep → (Part → Option IntervalEnds) → Option IntervalEnds
-after_part_step wrong next = None
-after_part_step (going part) next = next part
-after_part_step (whole ends) next = Some ends
+-- What is kept at a place.
+abbrev pub kept : Level → List Level → Place → Config
+kept level below place = record { level = level; below = below; place = place }
 
-abbrev pub interval_from : List Token → Part → Option IntervalEnds
-interval_from [] part = None
-interval_from (token ∷ rest) part = after_part_step (part_step part token) (λ next. interval_from rest next)
+-- The same, but where the tokens can't go on: how many of them are left then.
+abbrev pub ended : Option PatternTree → Result PatternTree ℕ
+ended None = Err 0
+ended (Some tree) = Ok tree
+
+abbrev pub continued : Option Config → ℕ → (Config → Result PatternTree ℕ) → Result PatternTree ℕ
+continued None left next = Err left
+continued (Some config) left next = next config
+
+abbrev pub read : List Token → Config → Result PatternTree ℕ
+read [] config = ended (end_of config.level config.below config.place)
+read (token ∷ rest) config =
+    continued (step config token) (length (token ∷ rest)) (λ next. read rest next)
+
+-- The interval that the tokens begin with and the tokens after it, or how many are left where they
+-- can't go on.
+pub data PartReading : Type 0 where
+  stuck : ℕ → PartReading
+  ends_with : IntervalEnds → List Token → PartReading
+
+abbrev pub after_part_step : PartStep → ℕ → List Token → (Part → PartReading) → PartReading
+after_part_step wrong left rest next = stuck left
+after_part_step (going part) left rest next = next part
+after_part_step (whole ends) left rest next = ends_with ends rest
+
+abbrev pub read_part : List Token → Part → PartReading
+read_part [] part = stuck 0
+read_part (token ∷ rest) part =
+    after_part_step (part_step part token) (length (token
+    ∷ rest)) rest (λ next. read_part rest next)

@@ -1,4 +1,5 @@
--- What the parser builds, against the trees: the count of nodes is always kept, the expression itself only while it is small.
+-- What the parser builds, against the trees: the count of nodes is always kept, the expression
+-- itself only while it is small.
 use Rattle.std.specs.Prelude.{◌≡◌, ◌≤◌, min, IsSome, IfSome}
 use Rattle.tre_state.specs.StateTree as state
 use Rattle.tre_state.specs.StateTree.{StateTree}
@@ -18,14 +19,15 @@ HasFineIntervals (intersection e f) = HasFineIntervals e × HasFineIntervals f
 HasFineIntervals (repetition e) = HasFineIntervals e
 HasFineIntervals (restriction e ends) = HasFineIntervals e × IsFineInterval ends
 
--- The formula stands for the state: its nodes are counted up to 1,000,000,000, and it is built where there are at most 1,000.
-pub record FormulaStands (formula : Formula) (s : StateTree) : Type 0 where
+-- The formula stands for the state: its nodes are counted up to 1,000,000,000, and it is built
+-- where there are at most 1,000.
+pub record RepresentsState (formula : Formula) (s : StateTree) : Type 0 where
   pub nodes : formula.nodes ≡ min (state.node_count s) 1000000000
   pub same : IfSome formula.state (λ x. built_state.tree_of x ≡ s)
   pub built : state.node_count s ≤ 1000 → IsSome formula.state
 
 -- The same for an expression, which is built only where its intervals are fine.
-pub record Stands (operand : Operand) (e : PatternTree) : Type 0 where
+pub record Represents (operand : Operand) (e : PatternTree) : Type 0 where
   pub nodes : operand.nodes ≡ min (node_count e) 1000000000
   pub same : IfSome operand.expr (λ x. tree_of x ≡ e)
   pub built : node_count e ≤ 1000 → HasFineIntervals e → IsSome operand.expr

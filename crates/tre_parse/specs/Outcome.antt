@@ -1,5 +1,5 @@
 -- What becomes of a text: the pattern that it spells, or the refusal that comes first.
-use Rattle.std.specs.Prelude.{◌≡◌, ℕ, ◌+◌, ◌-◌, ◌<◌, Bool, false, ◌⊎◌, nat_lt, if◌then◌else◌, min, Option, Some, None, MatchOption, List, [], ◌∷◌, ◌++◌, length, slice_index, position}
+use Rattle.std.specs.Prelude.{◌≡◌, ℕ, ◌+◌, ◌-◌, ◌<◌, ◌≤◌, Bool, false, ◌⊎◌, nat_lt, if◌then◌else◌, min, Option, Some, None, MatchOption, List, [], ◌∷◌, ◌++◌, length, take, slice_index_or, position}
 use Rattle.std.specs.Option.{option_map}
 use Rattle.tre_zone.specs.Interval.{IntervalEnds}
 use Rattle.tre_syntax.specs.PatternTree.{PatternTree, node_count}
@@ -8,8 +8,9 @@ use Rattle.tre_parse.specs.declared.token.Token.TheVariants.{Number, LeftParen, 
 use Rattle.tre_parse.specs.declared.fault.ParseFault.{ParseFault}
 use Rattle.tre_parse.specs.declared.fault.ParseFault.TheVariants.{TooLong, BadByte, Number as TooBig, TooDeep, Syntax, EmptyInterval, TooManyNames, TooLarge}
 use Rattle.tre_parse.specs.Grammar.{expr, Spells, SpellsInterval}
+use Rattle.tre_parse.specs.Begins.{Begins}
 use Rattle.tre_parse.specs.Parts.{IsEmptyInterval}
-use Rattle.tre_parse.specs.Tokens.{earlier, spots_of, bad_byte, tokens_of, names_of, past_from, offsets_of}
+use Rattle.tre_parse.specs.Tokens.{earlier, raw_tokens_of, bad_byte, tokens_of, names_of, past_from, offsets_of}
 
 -- The text spells the expression, and its names are these.
 pub record IsSpelling (text : List ℕ) (tree : PatternTree) (names : List (List ℕ)) : Type 0 where
@@ -22,26 +23,36 @@ pub data Outcome : Type 0 where
   spelt : PatternTree → List (List ℕ) → Outcome
   refused : ParseFault → Outcome
 
--- What a text is made of: its tokens, the offset of each, its names by first use, and the offset of the first name past 64.
-pub record Words : Type 0 where
+-- What a text is made of: its bytes, how many, its tokens, the offset of each, its names by first
+-- use, and the offset of the first name past 64.
+pub record TextTokens : Type 0 where
+  pub size : ℕ
   pub tokens : List Token
   pub offsets : List ℕ
   pub names : List (List ℕ)
   pub past : Option ℕ
 
-abbrev pub words_of : List ℕ → Words
-words_of text = record { tokens = tokens_of text; offsets = offsets_of (spots_of text); names = names_of text; past = past_from [] (spots_of text) }
+abbrev pub text_tokens_of : List ℕ → TextTokens
+text_tokens_of text =
+    record {
+      size = length text;
+      tokens = tokens_of text;
+      offsets = offsets_of (raw_tokens_of text);
+      names = names_of text;
+      past = past_from [] (raw_tokens_of text);
+    }
 
--- The offset of the token at a place.
-abbrev pub offset_of : Words → ℕ → ℕ
-offset_of words place = slice_index words.offsets place
+-- The offset of the token at a place, and the length of the text past the last.
+abbrev pub offset_of : TextTokens → ℕ → ℕ
+offset_of words place = slice_index_or words.offsets place words.size
 
 -- A number above the latest time.
 abbrev pub is_big : Token → Bool
 is_big (Number n) = nat_lt 1099511627776 n
 is_big _ = false
 
--- How many brackets are open after one more token. Those that close take one away, but never below zero.
+-- How many brackets are open after one more token. Those that close take one away, but never below
+-- zero.
 abbrev pub open_after : ℕ → Token → ℕ
 open_after depth LeftParen = depth + 1
 open_after depth LeftBracket = depth + 1
@@ -54,20 +65,43 @@ open_after depth _ = depth
 -- The first place, counted on from `place`, at which more than 200 brackets are open.
 abbrev pub deep_place : ℕ → ℕ → List Token → Option ℕ
 deep_place depth place [] = None
-deep_place depth place (token ∷ rest) = if nat_lt 200 (open_after depth token) then Some place else deep_place (open_after depth token) (place + 1) rest
+deep_place depth place (token ∷ rest) =
+    if nat_lt 200 (open_after depth token) then Some place else deep_place (open_after depth token)
+    (place + 1) rest
+
+-- How many brackets are open after the tokens.
+abbrev pub open_from : ℕ → List Token → ℕ
+open_from depth [] = depth
+open_from depth (token ∷ rest) = open_from (open_after depth token) rest
+
+-- At this token more than 200 brackets are open, and before it never.
+pub record IsDeepAt (tokens : List Token) (place : ℕ) : Type 0 where
+  pub within : place < length tokens
+  pub deep : 200 < open_from 0 (take (place + 1) tokens)
+  pub first : (n : ℕ) → n ≤ place → open_from 0 (take n tokens) ≤ 200
 
 -- A text that is too long, or has a byte at which no token begins.
 abbrev pub byte_fault : List ℕ → Option ParseFault
-byte_fault text = if nat_lt 16384 (length text) then Some TooLong else option_map (λ at. BadByte at) (bad_byte text)
+byte_fault text =
+    if nat_lt 16384 (length text) then Some TooLong else option_map (λ at. BadByte at)
+    (bad_byte text)
 
 -- A number above the latest time, or else too many open brackets.
-abbrev pub limit_fault : Words → Option ParseFault
+abbrev pub limit_fault : TextTokens → Option ParseFault
 limit_fault words =
     earlier (option_map (λ place. TooBig (offset_of words place)) (position is_big words.tokens))
     (option_map (λ place. TooDeep (offset_of words place)) (deep_place 0 0 words.tokens))
 
+-- The tokens are no expression, and this is the place where that is seen: those before it begin an
+-- expression, and with the one there they don't, or there is none there.
+pub record IsSyntaxFaultAt (tokens : List Token) (place : ℕ) : Type 0 where
+  pub none : (tree : PatternTree) → Spells expr tokens tree → ⊥
+  pub begins : (n : ℕ) → n ≤ place → Begins expr (take n tokens)
+  pub wrong : ((place < length tokens) × (Begins expr (take (place + 1) tokens) →
+      ⊥)) ⊎ (place ≡ length tokens)
+
 -- An interval with these ends stands at a place of the tokens, right after a `%`.
-pub record StandsAt (tokens : List Token) (place : ℕ) (ends : IntervalEnds) : Type 0 where
+pub record IsIntervalAt (tokens : List Token) (place : ℕ) (ends : IntervalEnds) : Type 0 where
   pub front : List Token
   pub body : List Token
   pub rest : List Token
@@ -78,12 +112,14 @@ pub record StandsAt (tokens : List Token) (place : ℕ) (ends : IntervalEnds) : 
 -- An interval that no duration is in stands at the place.
 pub record HasEmptyAt (tokens : List Token) (place : ℕ) : Type 0 where
   pub ends : IntervalEnds
-  pub stands : StandsAt tokens place ends
+  pub stands : IsIntervalAt tokens place ends
   pub empty : IsEmptyInterval ends
 
 -- No interval that stands before the place is empty.
 abbrev pub NoneEmptyBefore : List Token → ℕ → Type 0
-NoneEmptyBefore tokens place = (earlier : ℕ) (ends : IntervalEnds) → earlier < place → StandsAt tokens earlier ends → IsEmptyInterval ends → ⊥
+NoneEmptyBefore tokens place =
+    (earlier : ℕ) (ends : IntervalEnds) → earlier < place → IsIntervalAt tokens earlier ends →
+    IsEmptyInterval ends → ⊥
 
 -- The first interval that no duration is in stands at the place.
 pub record IsFirstEmpty (tokens : List Token) (place : ℕ) : Type 0 where
@@ -91,33 +127,43 @@ pub record IsFirstEmpty (tokens : List Token) (place : ℕ) : Type 0 where
   pub first : NoneEmptyBefore tokens place
 
 abbrev pub NoneEmpty : List Token → Type 0
-NoneEmpty tokens = (place : ℕ) (ends : IntervalEnds) → StandsAt tokens place ends → IsEmptyInterval ends → ⊥
+NoneEmpty tokens =
+    (place : ℕ) (ends : IntervalEnds) → IsIntervalAt tokens place ends → IsEmptyInterval ends → ⊥
 
 abbrev pub past_or : Option ℕ → Outcome → Outcome
 past_or (Some at) _ = refused (TooManyNames at)
 past_or None outcome = outcome
 
--- What becomes of words without an empty interval that spell the expression: 64 names and 1,000 nodes are the limits.
-abbrev pub verdict : Words → PatternTree → Outcome
-verdict words tree =
+-- What becomes of words without an empty interval that spell the expression: 64 names and 1,000
+-- nodes are the limits.
+abbrev pub limited_outcome : TextTokens → PatternTree → Outcome
+limited_outcome words tree =
     past_or words.past
-    (if nat_lt 1000 (node_count tree) then refused (TooLarge (min (node_count tree) 1000000000)) else spelt tree words.names)
+    (if nat_lt 1000 (node_count tree) then refused (TooLarge (min
+    (node_count tree) 1000000000)) else spelt tree words.names)
 
 -- What becomes of words that spell the expression.
-abbrev pub IsJudged : Words → PatternTree → Outcome → Type 0
-IsJudged words tree outcome =
-    ((place : ℕ) × IsFirstEmpty words.tokens place × (outcome ≡ refused (EmptyInterval (offset_of words place))))
-    ⊎ (NoneEmpty words.tokens × (outcome ≡ verdict words tree))
+abbrev pub IsOutcomeOfTree : TextTokens → PatternTree → Outcome → Type 0
+IsOutcomeOfTree words tree outcome =
+    ((place : ℕ) × IsFirstEmpty words.tokens place
+    × (outcome ≡ refused (EmptyInterval (offset_of words place))))
+    ⊎ (NoneEmpty words.tokens × (outcome ≡ limited_outcome words tree))
 
 -- What becomes of words within the limits on numbers and brackets.
-abbrev pub IsRead : Words → Outcome → Type 0
-IsRead words outcome =
-    (((tree : PatternTree) → Spells expr words.tokens tree → ⊥) × (outcome ≡ refused Syntax))
-    ⊎ ((tree : PatternTree) × Spells expr words.tokens tree × IsJudged words tree outcome)
+abbrev pub IsOutcomeOfTokens : TextTokens → Outcome → Type 0
+IsOutcomeOfTokens words outcome =
+    ((place : ℕ) × IsSyntaxFaultAt words.tokens place
+    × (outcome ≡ refused (Syntax (offset_of words place))))
+    ⊎ ((tree : PatternTree) × Spells expr words.tokens tree × IsOutcomeOfTree words tree outcome)
 
-abbrev pub IsOutcomeOfWords : Words → Outcome → Type 0
-IsOutcomeOfWords words outcome = MatchOption (limit_fault words) (IsRead words outcome) (λ fault. outcome ≡ refused fault)
+abbrev pub IsOutcomeWithin : TextTokens → Outcome → Type 0
+IsOutcomeWithin words outcome =
+    MatchOption (limit_fault words) (IsOutcomeOfTokens words outcome)
+    (λ fault. outcome ≡ refused fault)
 
--- The text has this outcome. It has exactly one, and want of memory aside it is what `parse` answers.
+-- The text has this outcome. It has exactly one, and want of memory aside it is what `parse`
+-- answers.
 abbrev pub IsOutcome : List ℕ → Outcome → Type 0
-IsOutcome text outcome = MatchOption (byte_fault text) (IsOutcomeOfWords (words_of text) outcome) (λ fault. outcome ≡ refused fault)
+IsOutcome text outcome =
+    MatchOption (byte_fault text) (IsOutcomeWithin (text_tokens_of text) outcome)
+    (λ fault. outcome ≡ refused fault)

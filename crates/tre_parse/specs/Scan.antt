@@ -3,26 +3,36 @@ use Rattle.std.specs.Prelude.{◌≡◌, ℕ, ◌≤◌, ◌<◌, ◌⊎◌, if�
 use Rattle.tre_parse.specs.declared.fault.ParseFault.{ParseFault}
 use Rattle.tre_parse.specs.declared.fault.ParseFault.TheVariants.{BadByte, Memory}
 use Rattle.tre_parse.specs.declared.scan.Scan.{Scan}
-use Rattle.tre_parse.specs.Tokens.{Spot, Lexed, lexed, token_of, known_after, tokens_from, names_from, past_from, is_past, offsets_of, tokens_of, names_of, spots_of, bad_byte, earlier}
+use Rattle.tre_parse.specs.Tokens.{RawTokenAt, RawTokens, raw_tokens_from, token_of, known_after, tokens_from, names_from, past_from, is_past, offsets_of, tokens_of, names_of, raw_tokens_of, bad_byte, earlier}
 
 -- The words from an offset on.
-abbrev pub rest_from : List ℕ → ℕ → Lexed
-rest_from bytes at = lexed 0 at (drop at bytes)
+abbrev pub rest_from : List ℕ → ℕ → RawTokens
+rest_from bytes at = raw_tokens_from 0 at (drop at bytes)
 
 -- The scan after one more word.
-pub record TakesSpot (old new : Scan) (spot : Spot) : Type 0 where
-  pub tokens : new.tokens.items ≡ old.tokens.items ++ token_of old.names spot.word ∷ []
-  pub offsets : new.offsets.items ≡ old.offsets.items ++ spot.at ∷ []
-  pub names : new.names ≡ known_after old.names spot.word
-  pub past : new.past ≡ earlier old.past (if is_past old.names spot.word then Some spot.at else None)
+pub record TakesToken (old new : Scan) (raw : RawTokenAt) : Type 0 where
+  pub tokens : new.tokens.items ≡ old.tokens.items ++ token_of old.names raw.word ∷ []
+  pub offsets : new.offsets.items ≡ old.offsets.items ++ raw.at ∷ []
+  pub names : new.names ≡ known_after old.names raw.word
+  pub past : new.past ≡ earlier old.past
+      (if is_past old.names raw.word then Some raw.at else None)
+  pub size : new.size ≡ old.size
 
 -- From one offset the scan comes to the same in the end as from a later one.
 pub record LeadsTo (bytes : List ℕ) (old : Scan) (at : ℕ) (new : Scan) (next : ℕ) : Type 0 where
-  pub tokens : old.tokens.items ++ tokens_from old.names (rest_from bytes at).spots ≡ new.tokens.items ++ tokens_from new.names (rest_from bytes next).spots
-  pub offsets : old.offsets.items ++ offsets_of (rest_from bytes at).spots ≡ new.offsets.items ++ offsets_of (rest_from bytes next).spots
-  pub names : names_from old.names (rest_from bytes at).spots ≡ names_from new.names (rest_from bytes next).spots
-  pub past : earlier old.past (past_from old.names (rest_from bytes at).spots) ≡ earlier new.past (past_from new.names (rest_from bytes next).spots)
+  pub tokens : old.tokens.items ++ tokens_from old.names
+      (rest_from bytes at).raw_tokens ≡ new.tokens.items ++ tokens_from new.names
+      (rest_from bytes next).raw_tokens
+  pub offsets : old.offsets.items ++ offsets_of
+      (rest_from bytes at).raw_tokens ≡ new.offsets.items ++ offsets_of
+      (rest_from bytes next).raw_tokens
+  pub names : names_from old.names (rest_from bytes at).raw_tokens ≡ names_from new.names
+      (rest_from bytes next).raw_tokens
+  pub past : earlier old.past (past_from old.names
+      (rest_from bytes at).raw_tokens) ≡ earlier new.past (past_from new.names
+      (rest_from bytes next).raw_tokens)
   pub bad : (rest_from bytes at).bad ≡ (rest_from bytes next).bad
+  pub size : new.size ≡ old.size
 
 -- One step of the scan: it goes on, or says at which byte no token begins.
 pub record GoesOn (bytes : List ℕ) (old : Scan) (at : ℕ) (new : Scan) (next : ℕ) : Type 0 where
@@ -31,12 +41,14 @@ pub record GoesOn (bytes : List ℕ) (old : Scan) (at : ℕ) (new : Scan) (next 
   pub within : next ≤ length bytes
 
 abbrev pub IsBadByte : List ℕ → ℕ → ParseFault → Type 0
-IsBadByte bytes at fault = (fault ≡ Memory) ⊎ ((at' : ℕ) × (fault ≡ BadByte at') × ((rest_from bytes at).bad ≡ Some at'))
+IsBadByte bytes at fault =
+    (fault ≡ Memory) ⊎ ((at' : ℕ) × (fault ≡ BadByte at') × ((rest_from bytes at).bad ≡ Some at'))
 
 -- The scan of a whole text.
 pub record IsScan (text : List ℕ) (scan : Scan) : Type 0 where
   pub tokens : scan.tokens.items ≡ tokens_of text
-  pub offsets : scan.offsets.items ≡ offsets_of (spots_of text)
+  pub offsets : scan.offsets.items ≡ offsets_of (raw_tokens_of text)
   pub names : scan.names ≡ names_of text
-  pub past : scan.past ≡ past_from [] (spots_of text)
+  pub past : scan.past ≡ past_from [] (raw_tokens_of text)
   pub good : bad_byte text ≡ None
+  pub size : scan.size ≡ length text

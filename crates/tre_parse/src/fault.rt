@@ -1,36 +1,27 @@
 use std::alloc::{AllocError, AllocFailed};
-use thiserror::Error;
 
-/// Why a text gives no pattern. The offsets are counted in bytes from 0. The refusals are tried in this
-/// order, each over the whole text before the next.
-#[derive(Clone, Copy, Debug, Error, PartialEq, Eq)]
+/// Why a text gives no pattern. The offsets are counted in bytes from 0. The refusals are tried in
+/// this order, each over the whole text before the next.
+#[derive(Clone, Copy, Debug, PartialEq, Eq)]
 pub enum ParseFault {
     /// The text has more than 16,384 bytes.
-    #[error("TooLong")]
     TooLong,
     /// The first byte at which no token begins.
-    #[error("BadByte at {at}")]
     BadByte { at: u64 },
     /// The first number above the latest time.
-    #[error("Number at {at}")]
     Number { at: u64 },
     /// The first bracket at which 201 are open.
-    #[error("TooDeep at {at}")]
     TooDeep { at: u64 },
-    /// The tokens are no expression.
-    #[error("Syntax")]
-    Syntax,
+    /// The tokens are no expression: those before this one begin one, and with it they don't. At
+    /// the end of the text where all of them begin one.
+    Syntax { at: u64 },
     /// The opening bracket of the first interval that no duration is in.
-    #[error("EmptyInterval at {at}")]
     EmptyInterval { at: u64 },
     /// The first use of the 65th name.
-    #[error("TooManyNames at {at}")]
     TooManyNames { at: u64 },
     /// The pattern has more than 1,000 nodes. A number above 1,000,000,000 is given as that.
-    #[error("TooLarge {nodes}")]
     TooLarge { nodes: u64 },
     /// There was not enough memory. This may come at any point.
-    #[error("Memory")]
     Memory,
 }
 

@@ -18,7 +18,7 @@ pub(crate) struct Formula {
 
 impl Formula {
     ghost use Rattle.tre_state.specs.StateTree.{StateTree, always, proposition};
-    ghost use Rattle.tre_parse.specs.Operands.{FormulaStands};
+    ghost use Rattle.tre_parse.specs.Operands.{RepresentsState};
 
     pub(crate) fn nodes(&self) -> u64
         ensures { result ≡ self.now.nodes }
@@ -27,7 +27,7 @@ impl Formula {
     }
 
     pub(crate) fn always() -> Formula
-        ensures { FormulaStands result always }
+        ensures { RepresentsState result always }
     {
         Formula {
             nodes: 1,
@@ -36,7 +36,7 @@ impl Formula {
     }
 
     pub(crate) fn proposition(number: u8) -> Formula
-        ensures { FormulaStands result (proposition number) }
+        ensures { RepresentsState result (proposition number) }
     {
         Formula {
             nodes: 1,
@@ -44,7 +44,8 @@ impl Formula {
         }
     }
 
-    /// The state itself, if it is built and what it goes into has no more nodes than a pattern may have.
+    /// The state itself, if it is built and what it goes into has no more nodes than a pattern may
+    /// have.
     pub(crate) fn into_state(self, nodes: u64) -> Option<State>
         ensures { Keeps nodes self.state result }
     {
@@ -55,7 +56,8 @@ impl Formula {
     /// So many negations of the state.
     #[tactic(auto, using(crate::proofs::Counts::negated_count))]
     pub(crate) fn negated(self, alloc: Global, bangs: u64) -> Result<Formula, AllocError>
-        ensures { IfOk result (λ r. (s : StateTree) → FormulaStands self s → FormulaStands r (negated bangs s)) }
+        ensures { IfOk result (λ r. (s : StateTree) → RepresentsState self s →
+            RepresentsState r (negated bangs s)) }
     {
         let nodes = self.nodes.saturating_add(bangs).min(COUNT_MAX);
         match self.into_state(nodes) {
@@ -75,7 +77,8 @@ impl Formula {
         how: Connective,
         other: Formula,
     ) -> Result<Formula, AllocError>
-        ensures { IfOk result (λ r. (s t : StateTree) → FormulaStands self s → FormulaStands other t → FormulaStands r (connected how s t)) }
+        ensures { IfOk result (λ r. (s t : StateTree) → RepresentsState self s →
+            RepresentsState other t → RepresentsState r (connected how s t)) }
     {
         let nodes = (self.nodes + other.nodes + 1).min(COUNT_MAX);
         let right = other.into_state(nodes);
@@ -90,7 +93,8 @@ impl Formula {
 
     /// The same once more.
     pub(crate) fn copy(&self, alloc: Global) -> Result<Formula, AllocError>
-        ensures { IfOk result (λ r. (s : StateTree) → FormulaStands self.now s → FormulaStands r s) }
+        ensures { IfOk result (λ r. (s : StateTree) → RepresentsState self.now s →
+            RepresentsState r s) }
     {
         let nodes = self.nodes;
         match &self.state {

@@ -1,19 +1,31 @@
 //! Laws of the grammar, each as a function whose contract it is.
-ghost use Rattle.std.specs.Prelude.{◌≡◌, ℕ, ◌+◌, true, Option, Some, None, List, [], ◌∷◌, ◌++◌, length};
+ghost use Rattle.std.specs.Prelude.{◌≡◌, ℕ, ◌+◌, ◌≤◌, MatchOption, take, unwrap_or, true, Option, Some, None, List, [], ◌∷◌, ◌++◌, length};
 ghost use Rattle.std.specs.Option.{option_map};
 ghost use Rattle.tre_state.specs.StateTree.{conjunction, disjunction};
 ghost use Rattle.tre_syntax.specs.PatternTree.{PatternTree, sequence, alternation, intersection};
-ghost use Rattle.tre_parse.specs.declared.token.Token.TheVariants.{Semicolon, Bar, DoubleBar, Ampersand, DoubleAmpersand};
+ghost use Rattle.tre_parse.specs.declared.token.Token.TheVariants.{Name, Semicolon, Bar, DoubleBar, Ampersand, DoubleAmpersand};
 ghost use Rattle.tre_parse.specs.Strength.{Groups, StateGroups};
 ghost use Rattle.tre_parse.specs.Lexeme.{is_blank};
-ghost use Rattle.tre_parse.specs.Tokens.{spots_of, bad_byte};
+ghost use Rattle.tre_parse.specs.Signs.{IsSign, TakesSign};
+ghost use Rattle.tre_state.specs.Names.{place_of};
+ghost use Rattle.tre_parse.specs.Numbering.{HasTokenAt, IsNumberedByUse};
+ghost use Rattle.tre_parse.specs.Tokens.{RawTokenAt, name, raw_tokens_of, bad_byte, tokens_of, names_of};
 ghost use Rattle.tre_parse.specs.Blanks.{counted_on, SaysAs};
-ghost use Rattle.tre_parse.specs.Outcome.{IsSpelling, Outcome, spelt, IsOutcome};
+ghost use Rattle.tre_parse.specs.declared.token.Token.{Token};
+ghost use Rattle.tre_parse.specs.Outcome.{text_tokens_of, open_from, deep_place, IsDeepAt, IsSpelling, Outcome, spelt, IsOutcome};
 
 /// A text spells at most one pattern.
 pub fn one_spelling()
-    ensures tree { (text : List ℕ) (tree other : PatternTree) (names others : List (List ℕ)) → IsSpelling text tree names → IsSpelling text other others → tree ≡ other }
-    ensures names { (text : List ℕ) (tree other : PatternTree) (names others : List (List ℕ)) → IsSpelling text tree names → IsSpelling text other others → names ≡ others }
+    ensures tree { (text : List ℕ) (tree other : PatternTree) (names others : List (List ℕ)) →
+        IsSpelling text tree names → IsSpelling text other others → tree ≡ other }
+    ensures names { (text : List ℕ) (tree other : PatternTree) (names others : List (List ℕ)) →
+        IsSpelling text tree names → IsSpelling text other others → names ≡ others }
+{}
+
+/// Where a sign of the table stands, a sign of the table is taken that is at least as long.
+pub fn longest_sign()
+    ensures { (spelling rest : List ℕ) (token : Token) → IsSign spelling token →
+        TakesSign (spelling ++ rest) (length spelling) }
 {}
 
 /// Every text has an outcome.
@@ -23,12 +35,14 @@ pub fn some_outcome()
 
 /// A text has at most one outcome.
 pub fn one_outcome()
-    ensures { (text : List ℕ) (outcome other : Outcome) → IsOutcome text outcome → IsOutcome text other → outcome ≡ other }
+    ensures { (text : List ℕ) (outcome other : Outcome) → IsOutcome text outcome →
+        IsOutcome text other → outcome ≡ other }
 {}
 
 /// An outcome that is a pattern is the one that the text spells.
 pub fn outcome_is_spelt()
-    ensures { (text : List ℕ) (tree : PatternTree) (names : List (List ℕ)) → IsOutcome text (spelt tree names) → IsSpelling text tree names }
+    ensures { (text : List ℕ) (tree : PatternTree) (names : List (List ℕ)) →
+        IsOutcome text (spelt tree names) → IsSpelling text tree names }
 {}
 
 /// `;` binds more than `&`, and `&` more than `|`. Each of them groups to the left.
@@ -40,39 +54,72 @@ pub fn strength()
     ensures ampersand_bar { Groups Ampersand Bar (λ e f g. alternation (intersection e f) g) }
     ensures bar_semicolon { Groups Bar Semicolon (λ e f g. alternation e (sequence f g)) }
     ensures semicolon_bar { Groups Semicolon Bar (λ e f g. alternation (sequence e f) g) }
-    ensures ampersand_semicolon { Groups Ampersand Semicolon (λ e f g. intersection e (sequence f g)) }
-    ensures semicolon_ampersand { Groups Semicolon Ampersand (λ e f g. intersection (sequence e f) g) }
+    ensures ampersand_semicolon { Groups Ampersand Semicolon (λ e f g. intersection e
+        (sequence f g)) }
+    ensures semicolon_ampersand { Groups Semicolon Ampersand (λ e f g. intersection
+        (sequence e f) g) }
 {}
 
 /// Inside a state `&&` binds more than `||`. Each of them groups to the left.
 pub fn state_strength()
     ensures bars { StateGroups DoubleBar DoubleBar (λ s t u. disjunction (disjunction s t) u) }
-    ensures ampersands { StateGroups DoubleAmpersand DoubleAmpersand (λ s t u. conjunction (conjunction s t) u) }
-    ensures bar_ampersand { StateGroups DoubleBar DoubleAmpersand (λ s t u. disjunction s (conjunction t u)) }
-    ensures ampersand_bar { StateGroups DoubleAmpersand DoubleBar (λ s t u. disjunction (conjunction s t) u) }
+    ensures ampersands { StateGroups DoubleAmpersand DoubleAmpersand (λ s t u. conjunction
+        (conjunction s t) u) }
+    ensures bar_ampersand { StateGroups DoubleBar DoubleAmpersand (λ s t u. disjunction s
+        (conjunction t u)) }
+    ensures ampersand_bar { StateGroups DoubleAmpersand DoubleBar (λ s t u. disjunction
+        (conjunction s t) u) }
 {}
 
-/// A blank parts a text: the words before it and those after it are read each by themselves, up to the
-/// first byte at which no token begins.
+/// A blank parts a text: the words before it and those after it are read each by themselves, up to
+/// the first byte at which no token begins.
 pub fn blank_parts()
-    ensures words { (front rest : List ℕ) (blank : ℕ) → is_blank blank ≡ true → bad_byte front ≡ None →
-        spots_of (front ++ blank ∷ rest) ≡ spots_of front ++ counted_on (length front + 1) (spots_of rest) }
-    ensures bad_after { (front rest : List ℕ) (blank : ℕ) → is_blank blank ≡ true → bad_byte front ≡ None →
-        bad_byte (front ++ blank ∷ rest) ≡ option_map (λ at. at + (length front + 1)) (bad_byte rest) }
-    ensures bad_before { (front rest : List ℕ) (blank at : ℕ) → is_blank blank ≡ true → bad_byte front ≡ Some at →
+    ensures words { (front rest : List ℕ) (blank : ℕ) → is_blank blank ≡ true →
+        bad_byte front ≡ None →
+        raw_tokens_of (front ++ blank
+        ∷ rest) ≡ raw_tokens_of front ++ counted_on (length front + 1) (raw_tokens_of rest) }
+    ensures bad_after { (front rest : List ℕ) (blank : ℕ) → is_blank blank ≡ true →
+        bad_byte front ≡ None →
+        bad_byte (front ++ blank
+        ∷ rest) ≡ option_map (λ at. at + (length front + 1)) (bad_byte rest) }
+    ensures bad_before { (front rest : List ℕ) (blank at : ℕ) → is_blank blank ≡ true →
+        bad_byte front ≡ Some at →
         bad_byte (front ++ blank ∷ rest) ≡ Some at }
 {}
 
-/// A blank says nothing: one more beside it, another one in its place, or one in front or at the end,
-/// and the text spells what it spelt.
+/// A blank says nothing: one more beside it, another one in its place, or one in front or at the
+/// end, and the text spells what it spelt.
 pub fn blank_says_nothing()
-    ensures more { (front rest : List ℕ) (blank other : ℕ) → is_blank blank ≡ true → is_blank other ≡ true →
+    ensures more { (front rest : List ℕ) (blank other : ℕ) → is_blank blank ≡ true →
+        is_blank other ≡ true →
         SaysAs (front ++ blank ∷ other ∷ rest) (front ++ blank ∷ rest) }
-    ensures another { (front rest : List ℕ) (blank other : ℕ) → is_blank blank ≡ true → is_blank other ≡ true →
+    ensures another { (front rest : List ℕ) (blank other : ℕ) → is_blank blank ≡ true →
+        is_blank other ≡ true →
         SaysAs (front ++ other ∷ rest) (front ++ blank ∷ rest) }
-    ensures in_front { (text : List ℕ) (blank : ℕ) → is_blank blank ≡ true → SaysAs (blank ∷ text) text }
-    ensures at_end { (text : List ℕ) (blank : ℕ) → is_blank blank ≡ true → SaysAs (text ++ blank ∷ []) text }
-    ensures spelling { (text other : List ℕ) (tree : PatternTree) (names : List (List ℕ)) → SaysAs text other →
+    ensures in_front { (text : List ℕ) (blank : ℕ) → is_blank blank ≡ true →
+        SaysAs (blank ∷ text) text }
+    ensures at_end { (text : List ℕ) (blank : ℕ) → is_blank blank ≡ true →
+        SaysAs (text ++ blank ∷ []) text }
+    ensures spelling { (text other : List ℕ) (tree : PatternTree) (names : List (List ℕ)) →
+        SaysAs text other →
         (IsSpelling text tree names → IsSpelling other tree names)
         × (IsSpelling other tree names → IsSpelling text tree names) }
+{}
+
+/// The place of the first bracket too many, said of the fronts of the tokens: with the token there
+/// more than 200 brackets are open, and with fewer tokens never.
+pub fn depth()
+    ensures { (tokens : List Token) → MatchOption (deep_place 0 0 tokens)
+        ((n : ℕ) → open_from 0 (take n tokens) ≤ 200) (IsDeepAt tokens) }
+{}
+
+/// At each name of a text the token is the number at which the list of names has it, 64 for a name
+/// that isn't among them; and where none is past the first 64, the list has them by first use from
+/// the left.
+pub fn numbers_of_names()
+    ensures number { (text bytes : List ℕ) (front back : List RawTokenAt) (at : ℕ) →
+        raw_tokens_of text ≡ front ++ (record { at = at; word = name bytes }) ∷ back →
+        HasTokenAt (tokens_of text) (length front)
+        (Name (unwrap_or (place_of (names_of text) bytes) 64)) }
+    ensures first_use { (text : List ℕ) → IsNumberedByUse (text_tokens_of text) }
 {}

@@ -1,8 +1,8 @@
 //! The language of patterns: from a text to the one pattern that it spells.
 //!
-//! The central call is `parse`. The grammar stands in specs/Grammar.antt as a relation between tokens
-//! and what they spell, apart from the way in which the parser reads them: once, from the left, with
-//! one step for each token and no recursion. The layers above may rely on `IsOutcome`, which says for
+//! The central call is `parse`. The grammar stands in specs/Grammar.antt as a relation between
+//! tokens and what they spell, apart from the way in which the parser reads them: once, from the
+//! left, by one function for each rule. The layers above may rely on `IsOutcome`, which says for
 //! every text what becomes of it: a text has one outcome, and `parse` answers it or `Memory`.
 //!
 //! ```text
@@ -16,18 +16,18 @@ pub use parser::{TEXT_MAX, parse};
 pub use token::Token;
 
 mod connective;
+mod cursor;
+mod expression;
 mod fault;
 mod formula;
+mod interval;
 pub mod laws;
-mod levels;
 mod lexeme;
 mod limits;
 mod operand;
 mod parser;
-mod part;
-mod place;
-mod reader;
 mod scan;
+mod states;
 #[cfg(test)]
 mod tests;
 mod token;

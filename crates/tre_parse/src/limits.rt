@@ -1,10 +1,9 @@
-ghost use Rattle.std.specs.Prelude.{◌≡◌, ◌≤◌, ◌↔◌, IsTrue, ◌<◌, ◌+◌, length, IsSomeAnd, MatchOption, position};
-ghost use Rattle.std.specs.Option.{option_map};
-ghost use Rattle.tre_parse.specs.Machine.{interval_from};
+ghost use Rattle.std.specs.Prelude.{◌≡◌, ◌≤◌, ◌↔◌, IsTrue, ◌<◌, ◌+◌, length, None, MatchOption, position};
 ghost use Rattle.tre_parse.specs.Outcome.{is_big, open_after, deep_place, HasEmptyAt, IsFirstEmpty, NoneEmpty};
-ghost use Rattle.tre_parse.specs.Parts.{ends_of, IsEmptyInterval};
+ghost use Rattle.tre_parse.specs.Parts.{BeginsUnkept};
 
-use crate::part::{Ends, Part, PartStep};
+use crate::cursor::Cursor;
+use crate::interval::interval;
 use crate::token::Token;
 use tre_pairs::TIME_MAX;
 
@@ -55,6 +54,7 @@ fn open_after(depth: usize, token: Token) -> usize
 
 /// The place of the first interval that no duration is in.
 pub(crate) fn first_empty(tokens: &[Token]) -> Option<usize>
+    requires { position is_big tokens.now ≡ None }
     ensures { MatchOption result (NoneEmpty tokens.now) (IsFirstEmpty tokens.now) }
 {
     for place in 0..tokens.len() {
@@ -67,7 +67,8 @@ pub(crate) fn first_empty(tokens: &[Token]) -> Option<usize>
 
 // Whether a `%` stands at the place, and after it an interval that no duration is in.
 fn is_empty_after(tokens: &[Token], place: usize) -> bool
-    requires { place < length tokens.now }
+    requires here { place < length tokens.now }
+    requires small { position is_big tokens.now ≡ None }
     ensures { IsTrue result ↔ HasEmptyAt tokens.now (place + 1) }
 {
     if is_percent(tokens[place]) {
@@ -85,27 +86,13 @@ fn is_percent(token: Token) -> bool
     }
 }
 
-// Whether the tokens begin with an interval that no duration is in.
+// Whether the tokens begin with an interval that can't be kept.
 fn begins_empty(tokens: &[Token]) -> bool
-    ensures { IsTrue result ↔ IsSomeAnd (interval_from tokens.now Part.Opening) IsEmptyInterval }
+    ensures { IsTrue result ↔ BeginsUnkept tokens.now }
 {
-    match interval_of(tokens) {
-        Some(ends) => ends.is_empty(),
-        None => false,
+    let mut rest = Cursor::new(tokens);
+    match interval(&mut rest) {
+        Ok(kept) => kept.is_none(),
+        Err(_) => false,
     }
-}
-
-// The interval that the tokens begin with.
-fn interval_of(tokens: &[Token]) -> Option<Ends>
-    ensures { option_map ends_of result ≡ interval_from tokens.now Part.Opening }
-{
-    let mut part = Part::Opening;
-    for token in tokens {
-        match part.step(*token) {
-            PartStep::Wrong => return None,
-            PartStep::Going(next) => part = next,
-            PartStep::Whole(ends) => return Some(ends),
-        }
-    }
-    None
 }

@@ -11,7 +11,8 @@ use tre_state::State;
 use tre_syntax::{Expr, NODES_MAX};
 use tre_zone::Interval;
 
-/// An expression as it is read: its number of nodes, and the expression itself while the nodes are few.
+/// An expression as it is read: its number of nodes, and the expression itself while the nodes are
+/// few.
 #[derive(Drop)]
 pub(crate) struct Operand {
     nodes: u64,
@@ -23,7 +24,7 @@ impl Operand {
     ghost use Rattle.tre_state.specs.StateTree.{StateTree};
     ghost use Rattle.tre_zone.specs.Interval.{IntervalEnds};
     ghost use Rattle.tre_syntax.specs.PatternTree.{PatternTree, atom, empty, literal, sequence, alternation, repetition, restriction};
-    ghost use Rattle.tre_parse.specs.Operands.{FormulaStands, Stands};
+    ghost use Rattle.tre_parse.specs.Operands.{RepresentsState, Represents};
     ghost use Rattle.tre_parse.specs.Parts.{IsMadeOf};
 
     pub(crate) fn nodes(&self) -> u64
@@ -32,7 +33,8 @@ impl Operand {
         self.nodes
     }
 
-    /// The expression itself, if it is built and what it goes into has no more nodes than a pattern may have.
+    /// The expression itself, if it is built and what it goes into has no more nodes than a pattern
+    /// may have.
     pub(crate) fn into_expr(self, nodes: u64) -> Option<Expr>
         ensures { Keeps nodes self.expr result }
     {
@@ -42,7 +44,7 @@ impl Operand {
 
     /// The stretch of no length.
     pub(crate) fn empty() -> Operand
-        ensures { Stands result (atom empty) }
+        ensures { Represents result (atom empty) }
     {
         Operand {
             nodes: 1,
@@ -52,7 +54,8 @@ impl Operand {
 
     /// A stretch on which the state holds.
     pub(crate) fn literal(formula: Formula) -> Operand
-        ensures { (s : StateTree) → FormulaStands formula s → Stands result (atom (literal s)) }
+        ensures { (s : StateTree) → RepresentsState formula s →
+            Represents result (atom (literal s)) }
     {
         let nodes = (formula.nodes() + 1).min(COUNT_MAX);
         match formula.into_state(nodes) {
@@ -67,7 +70,8 @@ impl Operand {
     /// A moment at which the state rises or falls.
     #[tactic(auto, using(crate::proofs::Counts::edge_count))]
     pub(crate) fn edge(rises: bool, formula: Formula) -> Operand
-        ensures { (s : StateTree) → FormulaStands formula s → Stands result (edge_of rises s) }
+        ensures { (s : StateTree) → RepresentsState formula s →
+            Represents result (edge_of rises s) }
     {
         let nodes = (formula.nodes() + 1).min(COUNT_MAX);
         match formula.into_state(nodes) {
@@ -87,7 +91,8 @@ impl Operand {
         how: Join,
         other: Operand,
     ) -> Result<Operand, AllocError>
-        ensures { IfOk result (λ r. (e f : PatternTree) → Stands self e → Stands other f → Stands r (joined_by how e f)) }
+        ensures { IfOk result (λ r. (e f : PatternTree) → Represents self e → Represents other f →
+            Represents r (joined_by how e f)) }
     {
         let nodes = (self.nodes + other.nodes + 1).min(COUNT_MAX);
         let right = other.into_expr(nodes);
@@ -102,7 +107,8 @@ impl Operand {
 
     /// Any number of times.
     pub(crate) fn repeated(self, alloc: Global) -> Result<Operand, AllocError>
-        ensures { IfOk result (λ r. (e : PatternTree) → Stands self e → Stands r (repetition e)) }
+        ensures { IfOk result (λ r. (e : PatternTree) → Represents self e →
+            Represents r (repetition e)) }
     {
         let nodes = (self.nodes + 1).min(COUNT_MAX);
         match self.into_expr(nodes) {
@@ -116,7 +122,8 @@ impl Operand {
 
     /// Once, and then any number of times. The nodes are counted before anything is written out.
     pub(crate) fn at_least_once(self, alloc: Global) -> Result<Operand, AllocError>
-        ensures { IfOk result (λ r. (e : PatternTree) → Stands self e → Stands r (sequence e (repetition e))) }
+        ensures { IfOk result (λ r. (e : PatternTree) → Represents self e →
+            Represents r (sequence e (repetition e))) }
     {
         let nodes = (2 * self.nodes + 2).min(COUNT_MAX);
         match self.into_expr(nodes) {
@@ -131,19 +138,22 @@ impl Operand {
 
     /// Once, or not at all.
     pub(crate) fn optional(self, alloc: Global) -> Result<Operand, AllocError>
-        ensures { IfOk result (λ r. (e : PatternTree) → Stands self e → Stands r (alternation e (atom empty))) }
+        ensures { IfOk result (λ r. (e : PatternTree) → Represents self e →
+            Represents r (alternation e (atom empty))) }
     {
         let either = self.join(alloc, Join::Alternation, Operand::empty())?;
         Ok(either)
     }
 
-    /// With its duration in the interval, which is None where no duration is in the one that is spelt.
+    /// With its duration in the interval, which is None where no duration is in the one that is
+    /// spelt.
     pub(crate) fn within(
         self,
         alloc: Global,
         interval: Option<Interval>,
     ) -> Result<Operand, AllocError>
-        ensures { IfOk result (λ r. (e : PatternTree) (ends : IntervalEnds) → IsMadeOf interval ends → Stands self e → Stands r (restriction e ends)) }
+        ensures { IfOk result (λ r. (e : PatternTree) (ends : IntervalEnds) →
+            IsMadeOf interval ends → Represents self e → Represents r (restriction e ends)) }
     {
         let nodes = (self.nodes + 1).min(COUNT_MAX);
         match self.into_expr(nodes).zip(interval) {

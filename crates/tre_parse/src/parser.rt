@@ -1,16 +1,20 @@
 ghost use Rattle.std.specs.Prelude.{◌≡◌, Some, None, IfOk, MatchResult};
 ghost use Rattle.tre_syntax.specs.PatternTree.{PatternTree};
 ghost use Rattle.tre_syntax.specs.Pattern.{pattern_tree, names_of};
+ghost use Rattle.tre_parse.specs.Machine.{read, start};
+ghost use Rattle.tre_parse.specs.Reading.{Parses, ReadsWhole};
 ghost use Rattle.tre_parse.specs.Numbering.{IsNumberedByUse};
-ghost use Rattle.tre_parse.specs.Operands.{Stands};
-ghost use Rattle.tre_parse.specs.Outcome.{IsSpelling, Outcome, limit_fault, IsOutcomeOfWords, IsOutcome};
-ghost use Rattle.tre_parse.specs.Answers.{words_in, IsWhole, IsBuildable, Answers, IsAnswered};
+ghost use Rattle.tre_parse.specs.Operands.{Represents};
+ghost use Rattle.tre_parse.specs.Outcome.{IsSpelling, Outcome, limit_fault, IsOutcomeWithin, IsOutcome};
+ghost use Rattle.tre_parse.specs.Answers.{text_tokens_in, IsFaultOf, IsRepresented, IsBuildable, Answers, IsAnswered};
 
+use crate::cursor::{Cursor, Stop};
+use crate::expression::expression;
 use crate::fault::ParseFault;
 use crate::limits::{first_big, first_deep, first_empty};
 use crate::operand::Operand;
-use crate::reader::read_tokens;
 use crate::scan::{Scan, scan_text};
+use crate::token::Token;
 use std::alloc::Global;
 use tre_state::Names;
 use tre_syntax::{NODES_MAX, Pattern};
@@ -20,10 +24,11 @@ pub const TEXT_MAX: usize = 16_384;
 
 /// The pattern that the text spells.
 ///
-/// The refusals come in the order of the variants of `ParseFault`, each over the whole text before the
-/// next. Want of memory may come at any point.
+/// The refusals come in the order of the variants of `ParseFault`, each over the whole text before
+/// the next. Want of memory may come at any point.
 pub fn parse(alloc: Global, text: &str) -> Result<Pattern, ParseFault>
-    ensures spelling { IfOk result (λ pattern. IsSpelling text.now (pattern_tree pattern) (names_of pattern)) }
+    ensures spelling { IfOk result (λ pattern. IsSpelling text.now (pattern_tree pattern)
+        (names_of pattern)) }
     ensures outcome { Answers (IsOutcome text.now) result }
     ensures only { (outcome : Outcome) → IsOutcome text.now outcome → IsAnswered outcome result }
 {
@@ -43,18 +48,44 @@ fn parse_text(alloc: Global, text: &str) -> Result<Pattern, ParseFault>
 
 // The pattern that the words of a text spell.
 fn parse_words(alloc: Global, scan: Scan) -> Result<Pattern, ParseFault>
-    requires { IsNumberedByUse (words_in scan) }
-    ensures { Answers (IsOutcomeOfWords (words_in scan)) result }
+    requires { IsNumberedByUse (text_tokens_in scan) }
+    ensures { Answers (IsOutcomeWithin (text_tokens_in scan)) result }
 {
     check_limits(&scan)?;
-    let whole = read_tokens(alloc, &scan.tokens)?;
-    let pattern = judge(scan, whole)?;
-    Ok(pattern)
+    match whole_expression(alloc, &scan.tokens) {
+        Ok(whole) => judge(scan, whole),
+        Err(stop) => Err(fault_of(&scan, stop)),
+    }
+}
+
+// The fault of a text whose tokens can't be read on.
+fn fault_of(scan: &Scan, stop: Stop) -> ParseFault
+    ensures { IsFaultOf (text_tokens_in scan.now) stop result }
+{
+    match stop {
+        Stop::Memory => ParseFault::Memory,
+        Stop::Syntax { left } => ParseFault::Syntax {
+            at: scan.offset(scan.tokens.len().saturating_sub(left)),
+        },
+    }
+}
+
+// The expression that all the tokens spell.
+fn whole_expression(alloc: Global, tokens: &[Token]) -> Result<Operand, Stop>
+    ensures { Parses result (λ x. ReadsWhole x (read tokens.now start)) (read tokens.now start) }
+{
+    let mut rest = Cursor::new(tokens);
+    let whole = expression(alloc, &mut rest)?;
+    if rest.left() > 0 {
+        return Err(rest.refused());
+    }
+    Ok(whole)
 }
 
 // The limits on numbers and on open brackets.
 fn check_limits(scan: &Scan) -> Result<(), ParseFault>
-    ensures { MatchResult result (λ _. limit_fault (words_in scan.now) ≡ None) (λ fault. limit_fault (words_in scan.now) ≡ Some fault) }
+    ensures { MatchResult result (λ _. limit_fault (text_tokens_in scan.now) ≡ None)
+        (λ fault. limit_fault (text_tokens_in scan.now) ≡ Some fault) }
 {
     if let Some(place) = first_big(&scan.tokens) {
         return Err(ParseFault::Number {
@@ -71,10 +102,10 @@ fn check_limits(scan: &Scan) -> Result<(), ParseFault>
 
 // What becomes of an expression that is spelt: the limits on its intervals, its names and its size.
 fn judge(scan: Scan, whole: Operand) -> Result<Pattern, ParseFault>
-    requires numbered { IsNumberedByUse (words_in scan) }
-    requires small { limit_fault (words_in scan) ≡ None }
-    requires whole { IsWhole (words_in scan) whole }
-    ensures { Answers (IsOutcomeOfWords (words_in scan)) result }
+    requires numbered { IsNumberedByUse (text_tokens_in scan) }
+    requires small { limit_fault (text_tokens_in scan) ≡ None }
+    requires whole { IsRepresented (text_tokens_in scan) whole }
+    ensures { Answers (IsOutcomeWithin (text_tokens_in scan)) result }
 {
     if let Some(place) = first_empty(&scan.tokens) {
         return Err(ParseFault::EmptyInterval {
@@ -95,7 +126,7 @@ fn judge(scan: Scan, whole: Operand) -> Result<Pattern, ParseFault>
 // The pattern of an expression that is within all limits.
 fn build(names: Names, whole: Operand) -> Pattern
     requires { IsBuildable names whole }
-    ensures tree { (tree : PatternTree) → Stands whole tree → pattern_tree result ≡ tree }
+    ensures tree { (tree : PatternTree) → Represents whole tree → pattern_tree result ≡ tree }
     ensures names { names_of result ≡ names }
 {
     let nodes = whole.nodes();

@@ -1,8 +1,8 @@
-ghost use Rattle.std.specs.Prelude.{◌≡◌, ◌<◌, ◌≤◌, ℕ, ◌+◌, ◌++◌, [], ◌∷◌, Some, None, length, slice_index, OnOk, IfOk, IfErr};
+ghost use Rattle.std.specs.Prelude.{◌≡◌, ◌<◌, ◌≤◌, ℕ, ◌+◌, ◌++◌, [], ◌∷◌, Some, None, length, slice_index_or, OnOk, IfOk, IfErr};
 ghost use Rattle.tre_state.specs.Name.{IsName};
 ghost use Rattle.tre_state.specs.Names.{place_of};
-ghost use Rattle.tre_parse.specs.Tokens.{name, sign, noted};
-ghost use Rattle.tre_parse.specs.Scan.{TakesSpot, GoesOn, IsBadByte, IsScan};
+ghost use Rattle.tre_parse.specs.Tokens.{name, sign, names_with};
+ghost use Rattle.tre_parse.specs.Scan.{TakesToken, GoesOn, IsBadByte, IsScan};
 
 use crate::fault::ParseFault;
 use crate::lexeme::{Lexeme, lexeme_of};
@@ -21,28 +21,32 @@ pub(crate) struct Scan {
     pub(crate) names: Names,
     /// Where the first name past the first 64 stands, if there is one.
     pub(crate) past: Option<u64>,
+    /// How many bytes the text has.
+    pub(crate) size: u64,
 }
 
 impl Scan {
-    fn new(alloc: Global) -> Scan
+    fn new(alloc: Global, size: u64) -> Scan
         ensures tokens { result.tokens.items ≡ [] }
         ensures offsets { result.offsets.items ≡ [] }
         ensures names { result.names ≡ [] }
         ensures past { result.past ≡ None }
+        ensures size { result.size ≡ size }
     {
         Scan {
             tokens: Vec::new(alloc),
             offsets: Vec::new(alloc),
             names: Names::new(alloc),
             past: None,
+            size,
         }
     }
 
-    /// The offset of the token at a place, 0 where there is none.
+    /// The offset of the token at a place, the length of the text where there is none.
     pub(crate) fn offset(&self, place: usize) -> u64
-        ensures { result ≡ slice_index self.now.offsets.items place }
+        ensures { result ≡ slice_index_or self.now.offsets.items place self.now.size }
     {
-        self.offsets.get(place).copied().unwrap_or(0)
+        self.offsets.get(place).copied().unwrap_or(self.size)
     }
 
     /// The names alone.
@@ -55,7 +59,10 @@ impl Scan {
 
     // A token that is no name.
     fn put(&mut self, token: Token, at: usize) -> Result<(), AllocError>
-        ensures { OnOk result (TakesSpot self.old self.new (record { at = at; word = sign token })) }
+        ensures { OnOk result (TakesToken self.old self.new (record {
+          at = at;
+          word = sign token;
+        })) }
     {
         self.tokens.push(token)?;
         self.offsets.push(at as u64)?;
@@ -65,7 +72,10 @@ impl Scan {
     // A name, which is numbered.
     fn put_name(&mut self, word: &[u8], at: usize) -> Result<(), ParseFault>
         requires { IsName word.now }
-        ensures ok { OnOk result (TakesSpot self.old self.new (record { at = at; word = name word.now })) }
+        ensures ok { OnOk result (TakesToken self.old self.new (record {
+          at = at;
+          word = name word.now;
+        })) }
         ensures err { IfErr result (λ fault. fault ≡ ParseFault.Memory) }
     {
         let number = number(&mut self.names, word)?;
@@ -101,8 +111,9 @@ impl Scan {
 // The number of a name, None where 64 others are held.
 fn number(names: &mut Names, word: &[u8]) -> Result<Option<u8>, ParseFault>
     requires { IsName word.now }
-    ensures number { IfOk result (λ number. number ≡ place_of (noted names.old word.now) word.now) }
-    ensures names { OnOk result (names.new ≡ noted names.old word.now) }
+    ensures number { IfOk result (λ number. number ≡ place_of
+        (names_with names.old word.now) word.now) }
+    ensures names { OnOk result (names.new ≡ names_with names.old word.now) }
     ensures err { IfErr result (λ fault. fault ≡ ParseFault.Memory) }
 {
     let Ok(text) = str::from_utf8(word) else {
@@ -121,7 +132,7 @@ pub(crate) fn scan_text(alloc: Global, text: &str) -> Result<Scan, ParseFault>
     ensures err { IfErr result (IsBadByte text.now 0) }
 {
     let bytes = text.as_bytes();
-    let mut scan = Scan::new(alloc);
+    let mut scan = Scan::new(alloc, bytes.len() as u64);
     let mut at = 0;
     while at < bytes.len() {
         at = scan.step(bytes, at)?;

@@ -24,12 +24,20 @@ fn fault(alloc: Global, text: &str) -> Option<ParseFault> {
 fn refused(rt: HostRuntime) -> Result<(), Fail> {
     let table = [
         ("p % [3,2]", ParseFault::EmptyInterval { at: 4 }),
-        ("p;", ParseFault::Syntax),
+        ("p;", ParseFault::Syntax { at: 2 }),
+        ("", ParseFault::Syntax { at: 0 }),
+        ("p q", ParseFault::Syntax { at: 2 }),
+        ("p ; ) q", ParseFault::Syntax { at: 4 }),
+        ("eps)", ParseFault::Syntax { at: 3 }),
+        ("rise(p*", ParseFault::Syntax { at: 6 }),
+        ("!eps", ParseFault::Syntax { at: 1 }),
+        ("p % [1,inf]", ParseFault::Syntax { at: 10 }),
+        ("p % [3;", ParseFault::Syntax { at: 6 }),
         ("p % [0,1099511627777]", ParseFault::Number { at: 7 }),
         ("p@", ParseFault::BadByte { at: 1 }),
-        ("(p", ParseFault::Syntax),
-        ("p)", ParseFault::Syntax),
-        ("event", ParseFault::Syntax),
+        ("(p", ParseFault::Syntax { at: 2 }),
+        ("p)", ParseFault::Syntax { at: 1 }),
+        ("event", ParseFault::Syntax { at: 0 }),
     ];
     for (text, expected) in &table {
         assert_eq!(rt; fault(rt.alloc(), *text), Some(*expected), "{text}");
@@ -40,11 +48,6 @@ fn refused(rt: HostRuntime) -> Result<(), Fail> {
 #[test]
 fn limits(rt: HostRuntime) -> Result<(), Fail> {
     let alloc = rt.alloc();
-    let deep = times(alloc, "(", 201)?;
-    assert_eq!(rt;
-        fault(alloc, deep.as_str()),
-        Some(ParseFault::TooDeep { at: 200 })
-    );
     let mut long = times(alloc, "p;", 333)?;
     long.push_str("p")?;
     assert_eq!(rt;
@@ -59,6 +62,73 @@ fn limits(rt: HostRuntime) -> Result<(), Fail> {
         fault(alloc, bangs.as_str()),
         Some(ParseFault::TooLarge { nodes: 16_385 })
     );
+    Ok(())
+}
+
+// A text with so many brackets of a kind open: `before`, the brackets, `inside`, those that close,
+// `after`.
+fn nested(alloc: Global, parts: &[&str; 5], count: usize) -> Result<String, AllocError> {
+    let mut text = String::from_str(alloc, parts[0])?;
+    text.push_str(times(alloc, parts[1], count)?.as_str())?;
+    text.push_str(parts[2])?;
+    text.push_str(times(alloc, parts[3], count)?.as_str())?;
+    text.push_str(parts[4])?;
+    Ok(text)
+}
+
+#[test]
+fn depth(rt: HostRuntime) -> Result<(), Fail> {
+    let alloc = rt.alloc();
+    let table = [
+        (["", "(", "p", ")", ""], 200, 200),
+        (["{", "(", "p", ")", "}"], 199, 200),
+        (["rise(", "(", "p", ")", ")"], 199, 204),
+        (["", "(", "p%[1,2]", ")", ""], 199, 202),
+    ];
+    for (parts, count, at) in &table {
+        let most = nested(alloc, parts, *count)?;
+        assert_eq!(rt; fault(alloc, most.as_str()), None);
+        let deeper = nested(alloc, parts, *count + 1)?;
+        let deep = ParseFault::TooDeep { at: *at };
+        assert_eq!(rt; fault(alloc, deeper.as_str()), Some(deep));
+    }
+    Ok(())
+}
+
+// What becomes of the first `len` bytes: `.` a pattern, `$` a fault at their end, `^` one at the
+// last token, which is one byte, `b` no token there.
+fn marked(mark: u8, len: u64) -> Option<ParseFault> {
+    match mark {
+        b'$' => Some(ParseFault::Syntax { at: len }),
+        b'^' => Some(ParseFault::Syntax {
+            at: len.saturating_sub(1),
+        }),
+        b'b' => Some(ParseFault::BadByte {
+            at: len.saturating_sub(1),
+        }),
+        _ => None,
+    }
+}
+
+#[test]
+fn prefixes(rt: HostRuntime) -> Result<(), Fail> {
+    let table = [
+        ("p;q&r|s*", "$.$.$.$.."),
+        ("(p;q)%[1,20)", "$$$$$.$$$$$$."),
+        ("<:{!p&&q}:>", "$b$$$$^$$.b."),
+        ("rise(p||q)?", "$...$$$^$$.."),
+        ("!true|fall(!(p))+", "$$....$...$$$$$$.."),
+    ];
+    for (text, marks) in &table {
+        assert_eq!(rt; marks.len(), text.len() + 1);
+        for (len, mark) in marks.as_bytes().iter().enumerate() {
+            let Some(prefix) = text.get(..len) else {
+                return Ok(());
+            };
+            let expected = marked(*mark, len as u64);
+            assert_eq!(rt; fault(rt.alloc(), prefix), expected, "{prefix}");
+        }
+    }
     Ok(())
 }
 

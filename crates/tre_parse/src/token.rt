@@ -55,4 +55,6 @@ pub enum Token {
     True,
     /// `event`, which stands in no rule.
     Event,
+    /// No token: the text is at its end.
+    EndOfText,
 }

@@ -7,8 +7,22 @@ pub Composed-additive_left : (S : Pairs) → IsAdditive (λ R. Composed R S)
 Composed-additive_left S P Q T same a b n = (
   (λ h.
       ⊎_elim
-      (λ x. inl (record { factor = h.factor; positive = h.positive; midpoint = h.midpoint; left = x; right = h.right }))
-      (λ x. inr (record { factor = h.factor; positive = h.positive; midpoint = h.midpoint; left = x; right = h.right }))
+      (λ x. inl (record {
+        factor = h.factor;
+        positive = h.positive;
+        midpoint = h.midpoint;
+        left =
+            x;
+        right = h.right;
+      }))
+      (λ x. inr (record {
+        factor = h.factor;
+        positive = h.positive;
+        midpoint = h.midpoint;
+        left =
+            x;
+        right = h.right;
+      }))
       ((same (h.factor * a) h.midpoint (h.factor * n)).0 h.left)),
   (λ h.
       ⊎_elim
@@ -33,8 +47,22 @@ pub Composed-additive_right : (R : Pairs) → IsAdditive (Composed R)
 Composed-additive_right R P Q T same a b n = (
   (λ h.
       ⊎_elim
-      (λ x. inl (record { factor = h.factor; positive = h.positive; midpoint = h.midpoint; left = h.left; right = x }))
-      (λ x. inr (record { factor = h.factor; positive = h.positive; midpoint = h.midpoint; left = h.left; right = x }))
+      (λ x. inl (record {
+        factor = h.factor;
+        positive = h.positive;
+        midpoint = h.midpoint;
+        left =
+            h.left;
+        right = x;
+      }))
+      (λ x. inr (record {
+        factor = h.factor;
+        positive = h.positive;
+        midpoint = h.midpoint;
+        left =
+            h.left;
+        right = x;
+      }))
       ((same h.midpoint (h.factor * b) (h.factor * n)).0 h.right)),
   (λ h.
       ⊎_elim

@@ -1,4 +1,6 @@
 pub mod Composing
+pub mod Short
 pub mod Sums
 pub mod Reaching
 pub mod Chaining
+pub mod Powers

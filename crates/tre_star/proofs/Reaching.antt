@@ -1,14 +1,15 @@
--- A zone that is added reaches its own row, which no zone reached before, and each row that was reached.
-use Rattle.std.proofs.Common.{◌≡◌, ℕ, ◌+◌, ◌*◌, ◌^◌, ◌<◌, ◌≤◌, ◌⊎◌, Bool, true, false, cond, leb, List, [], ◌∷◌, ◌++◌, Any, refl, sym, subst, inl, inr, ⊎_elim, Decides, arith, ℤ, pos, negsuc, ◌≤ℤ◌}
+-- A zone that is added reaches its own row, which no zone reached before, and each row that was
+-- reached.
+use Rattle.std.proofs.Common.{◌≡◌, ℕ, ◌+◌, ◌*◌, ◌^◌, ◌<◌, ◌≤◌, ◌⊎◌, Bool, true, false, cond, leb, List, [], ◌∷◌, ◌++◌, Any, refl, sym, inl, inr, ⊎_elim, Decides, arith, ℤ, pos, negsuc, ◌≤ℤ◌}
 use Rattle.std.proofs.lemmas.Int.{ints}
 use Rattle.std.proofs.lemmas.Bool.{leb-true, le-leb, false≢true}
 use Rattle.std.proofs.lemmas.Bool.Decides.{Decides-and, Decides-or}
 use Rattle.tre_zone.specs.Bound.{IsKeyWithin}
 use Rattle.tre_zone.specs.Zone.{IsCanonical, Includes, Covers, AreKeysWithin}
+use Rattle.tre_zone.specs.ZoneList.{AreCanonical}
 use Rattle.tre_zone.specs.declared.zone_bounds.ZoneBounds.{ZoneBounds}
-use Rattle.tre_zone.proofs.Tightness.{Covers-Includes, Includes-Covers, canonical-keys}
-use Rattle.tre_zoneset.specs.ZoneSet.{AreCanonical, IsZoneSet, Without, Adds}
-use Rattle.tre_zoneset.proofs.Members.{Any-head, Any-tail, AreCanonical-push}
+use Rattle.tre_zone.proofs.Tightness.{Covers-Includes, canonical-keys}
+use Rattle.tre_zoneset.proofs.Members.{Any-head, Any-tail}
 use Rattle.tre_star.specs.Rows.{Row, place_of, is_reached_by, is_reached, missed}
 use Rattle.tre_star.proofs.Sums.{sum_of_rows-less}
 
@@ -21,12 +22,14 @@ place-le side (pos a) (negsuc b) le = omega (arith, ints)
 place-le side (negsuc a) (pos b) le = omega (arith, ints)
 place-le side (negsuc a) (negsuc b) le = omega (arith, ints)
 
-place-back : (side : ℕ) (inner outer : ℤ) → IsKeyWithin side inner → IsKeyWithin side outer → place_of side inner ≤ place_of side outer → inner ≤ℤ outer
+place-back : (side : ℕ) (inner outer : ℤ) → IsKeyWithin side inner → IsKeyWithin side outer
+    → place_of side inner ≤ place_of side outer → inner ≤ℤ outer
 unfolding place_of
 place-back side (pos a) (pos b) i o le = omega (arith, ints)
 place-back side (pos a) (negsuc b) i o le = let low = o.low in omega (arith, ints)
 place-back side (negsuc a) (pos b) i o le = omega (arith, ints)
-place-back side (negsuc a) (negsuc b) i o le = let low = o.low in let other = i.low in omega (arith, ints)
+place-back side (negsuc a) (negsuc b) i o le = let low = o.low in let other = i.low in
+    omega (arith, ints)
 
 place-within : (side : ℕ) (key : ℤ) → IsKeyWithin side key → place_of side key < 2 * side + 1
 unfolding place_of
@@ -50,27 +53,42 @@ Reached side (zone ∷ zones) row = Reaches side zone row ⊎ Reached side zones
 leb-decides : (a b : ℕ) → Decides (leb a b) (a ≤ b)
 leb-decides a b = (leb-true a b, le-leb a b)
 
-reaches-decides : (side : ℕ) (zone : ZoneBounds) (row : Row) → Decides (is_reached_by side zone row) (Reaches side zone row)
+reaches-decides : (side : ℕ) (zone : ZoneBounds) (row : Row)
+    → Decides (is_reached_by side zone row) (Reaches side zone row)
 unfolding is_reached_by
 reaches-decides side zone row =
-    let two = Decides-and _ _ (leb-decides row.begin_low (place_of side zone.begin_low)) (leb-decides row.begin_high (place_of side zone.begin_high)) in
+    let two = Decides-and _ _ (leb-decides row.begin_low (place_of side zone.begin_low))
+    (leb-decides row.begin_high (place_of side zone.begin_high)) in
     let three = Decides-and _ _ two (leb-decides row.end_low (place_of side zone.end_low)) in
     let four = Decides-and _ _ three (leb-decides row.end_high (place_of side zone.end_high)) in
     let five = Decides-and _ _ four (leb-decides row.dur_low (place_of side zone.dur_low)) in
     let six = Decides-and _ _ five (leb-decides row.dur_high (place_of side zone.dur_high)) in (
       (λ t.
           let p = six.0 t in
-          record { begin_low = p.0.0.0.0.0; begin_high = p.0.0.0.0.1; end_low = p.0.0.0.1; end_high = p.0.0.1; dur_low = p.0.1; dur_high = p.1 }),
-      (λ r. six.1 (((((r.begin_low, r.begin_high), r.end_low), r.end_high), r.dur_low), r.dur_high)),
+          record {
+            begin_low = p.0.0.0.0.0;
+            begin_high = p.0.0.0.0.1;
+            end_low = p.0.0.0.1;
+            end_high = p.0.0.1;
+            dur_low = p.0.1;
+            dur_high = p.1;
+          }),
+      (λ r. six.1 (
+        ((((r.begin_low, r.begin_high), r.end_low), r.end_high), r.dur_low),
+        r.dur_high,
+      )),
     )
 
-reached-decides : (side : ℕ) (zones : List ZoneBounds) (row : Row) → Decides (is_reached side zones row) (Reached side zones row)
+reached-decides : (side : ℕ) (zones : List ZoneBounds) (row : Row)
+    → Decides (is_reached side zones row) (Reached side zones row)
 unfolding is_reached Reached
 reached-decides side [] row = ((λ t. absurd (false≢true t)), (λ r. absurd r))
 reached-decides side (zone ∷ zones) row =
-    Decides-or (is_reached_by side zone row) (is_reached side zones row) (reaches-decides side zone row) (reached-decides side zones row)
+    Decides-or (is_reached_by side zone row) (is_reached side zones row)
+    (reaches-decides side zone row) (reached-decides side zones row)
 
-Reached-push : (side : ℕ) (zones : List ZoneBounds) (zone : ZoneBounds) (row : Row) → Reached side zones row ⊎ Reaches side zone row
+Reached-push : (side : ℕ) (zones : List ZoneBounds) (zone : ZoneBounds) (row : Row)
+    → Reached side zones row ⊎ Reaches side zone row
     → Reached side (zones ++ zone ∷ []) row
 unfolding Reached
 Reached-push side [] zone row r = ⊎_elim (λ x. absurd x) (λ x. inl x) r
@@ -78,33 +96,6 @@ Reached-push side (other ∷ zones) zone row r =
     ⊎_elim
     (λ x. ⊎_elim (λ y. inl y) (λ y. inr (Reached-push side zones zone row (inl y))) x)
     (λ x. inr (Reached-push side zones zone row (inr x)))
-    r
-
-Reaches-covered : (side : ℕ) (outer inner : ZoneBounds) (row : Row) → Covers outer inner → Reaches side inner row → Reaches side outer row
-Reaches-covered side outer inner row c r = record {
-  begin_low = omega (arith, r.begin_low, place-le side inner.begin_low outer.begin_low c.begin_low);
-  begin_high = omega (arith, r.begin_high, place-le side inner.begin_high outer.begin_high c.begin_high);
-  end_low = omega (arith, r.end_low, place-le side inner.end_low outer.end_low c.end_low);
-  end_high = omega (arith, r.end_high, place-le side inner.end_high outer.end_high c.end_high);
-  dur_low = omega (arith, r.dur_low, place-le side inner.dur_low outer.dur_low c.dur_low);
-  dur_high = omega (arith, r.dur_high, place-le side inner.dur_high outer.dur_high c.dur_high);
-}
-
--- What is dropped reached no row that the added zone doesn't.
-Reached-dropped : (side : ℕ) (zone : ZoneBounds) (old kept : List ZoneBounds) (row : Row) → Without (Includes zone) old kept → AreCanonical old
-    → Reached side old row → Reached side kept row ⊎ Reaches side zone row
-unfolding Reached Without AreCanonical
-Reached-dropped side zone [] kept row is all r = absurd r
-Reached-dropped side zone (other ∷ old) kept row (inl gone) all r =
-    ⊎_elim
-    (λ x. inr (Reaches-covered side zone other row (Includes-Covers zone other all.0 gone.0) x))
-    (λ x. Reached-dropped side zone old kept row gone.1 all.1 x)
-    r
-Reached-dropped side zone (other ∷ old) kept row (inr (stays, (rest, is, without))) all r =
-    ⊎_elim
-    (λ x. inl (subst (λ zones. Reached side zones row) (sym is) (inl x)))
-    (λ x.
-    ⊎_elim (λ y. inl (subst (λ zones. Reached side zones row) (sym is) (inr y))) (λ y. inr y) (Reached-dropped side zone old rest row without all.1 x))
     r
 
 -- The row of a zone itself.
@@ -128,11 +119,13 @@ Reaches-own side zone = record {
   dur_high = omega arith;
 }
 
-Covers-own : (side : ℕ) (member zone : ZoneBounds) → AreKeysWithin side member → AreKeysWithin side zone → Reaches side member (own_row side zone)
+Covers-own : (side : ℕ) (member zone : ZoneBounds) → AreKeysWithin side member
+    → AreKeysWithin side zone → Reaches side member (own_row side zone)
     → Covers member zone
 Covers-own side member zone m z r = record {
   begin_low = place-back side zone.begin_low member.begin_low z.begin_low m.begin_low r.begin_low;
-  begin_high = place-back side zone.begin_high member.begin_high z.begin_high m.begin_high r.begin_high;
+  begin_high = place-back side zone.begin_high member.begin_high z.begin_high m.begin_high
+      r.begin_high;
   end_low = place-back side zone.end_low member.end_low z.end_low m.end_low r.end_low;
   end_high = place-back side zone.end_high member.end_high z.end_high m.end_high r.end_high;
   dur_low = place-back side zone.dur_low member.dur_low z.dur_low m.dur_low r.dur_low;
@@ -144,7 +137,8 @@ abbrev KeepKeysWithin : ℕ → Type 0
 KeepKeysWithin side = (zone : ZoneBounds) → IsCanonical zone → AreKeysWithin side zone
 
 -- Where a member reaches a zone's own row, it includes the zone.
-includes_from_own : (side : ℕ) → KeepKeysWithin side → (zone : ZoneBounds) → IsCanonical zone → (zones : List ZoneBounds) → AreCanonical zones
+includes_from_own : (side : ℕ) → KeepKeysWithin side → (zone : ZoneBounds) → IsCanonical zone
+    → (zones : List ZoneBounds) → AreCanonical zones
     → Reached side zones (own_row side zone) → Any (λ member. Includes member zone) zones
 unfolding Reached AreCanonical
 includes_from_own side keys zone canonical [] all r = absurd r
@@ -152,8 +146,10 @@ includes_from_own side keys zone canonical (other ∷ zones) all r =
     ⊎_elim
     (λ x.
     Any-head (λ member. Includes member zone) other zones
-    (Covers-Includes other zone (Covers-own side other zone (keys other all.0) (keys zone canonical) x)))
-    (λ x. Any-tail (λ member. Includes member zone) other zones (includes_from_own side keys zone canonical zones all.1 x))
+    (Covers-Includes other zone (Covers-own side other zone (keys other all.0)
+    (keys zone canonical) x)))
+    (λ x. Any-tail (λ member. Includes member zone) other zones
+    (includes_from_own side keys zone canonical zones all.1 x))
     r
 
 -- ---- the rows that are missed
@@ -173,22 +169,23 @@ not_reached : (b : Bool) → (b ≡ true → ⊥) → b ≡ false
 not_reached true h = absurd (h refl)
 not_reached false h = refl
 
-falls : (side : ℕ) → KeepKeysWithin side → (old : List ZoneBounds) (zone : ZoneBounds) (new : List ZoneBounds) → IsZoneSet old → IsCanonical zone
-    → (Any (λ member. Includes member zone) old → ⊥) → Adds old zone new → missed side new < missed side old
+falls : (side : ℕ) → KeepKeysWithin side → (old : List ZoneBounds) (zone : ZoneBounds)
+    → AreCanonical old → IsCanonical zone → (Any (λ member. Includes member zone) old → ⊥)
+    → missed side (old ++ zone ∷ []) < missed side old
 unfolding missed
-falls side keys old zone new set canonical none adds =
-    let stays = λ (row : Row) (r : Reached side old row).
-    subst (λ (zones : List ZoneBounds). Reached side zones row) (sym adds.last)
-    (Reached-push side adds.kept zone row (Reached-dropped side zone old adds.kept row adds.without set.canonical r)) in
-    let own = subst (λ (zones : List ZoneBounds). Reached side zones (own_row side zone)) (sym adds.last)
-    (Reached-push side adds.kept zone (own_row side zone) (inr (Reaches-own side zone))) in
+falls side keys old zone all canonical none =
+    let new = old ++ zone ∷ [] in
+    let own = Reached-push side old zone (own_row side zone) (inr (Reaches-own side zone)) in
     let within = keys zone canonical in
-    sum_of_rows-less (2 * side + 1) (λ row. cond (is_reached side new row) 0 1) (λ row. cond (is_reached side old row) 0 1)
+    sum_of_rows-less (2 * side + 1) (λ row. cond (is_reached side new row) 0 1)
+    (λ row. cond (is_reached side old row) 0 1)
     (λ row.
     no_more (is_reached side old row) (is_reached side new row)
-    (λ t. (reached-decides side new row).1 (stays row ((reached-decides side old row).0 t))))
-    (place_of side zone.begin_low) (place_of side zone.begin_high) (place_of side zone.end_low) (place_of side zone.end_high) (place_of side zone.dur_low)
-    (place_of side zone.dur_high)
+    (λ t.
+    (reached-decides side new row).1
+    (Reached-push side old zone row (inl ((reached-decides side old row).0 t)))))
+    (place_of side zone.begin_low) (place_of side zone.begin_high) (place_of side zone.end_low)
+    (place_of side zone.end_high) (place_of side zone.dur_low) (place_of side zone.dur_high)
     (place-within side zone.begin_low within.begin_low)
     (place-within side zone.begin_high within.begin_high)
     (place-within side zone.end_low within.end_low)
@@ -196,27 +193,15 @@ falls side keys old zone new set canonical none adds =
     (place-within side zone.dur_low within.dur_low)
     (place-within side zone.dur_high within.dur_high)
     (one_less (is_reached side old (own_row side zone)) (is_reached side new (own_row side zone))
-    (not_reached _ (λ t. none (includes_from_own side keys zone canonical old set.canonical ((reached-decides side old (own_row side zone)).0 t))))
+    (not_reached _
+    (λ t.
+    none
+    (includes_from_own side keys zone canonical old all
+    ((reached-decides side old (own_row side zone)).0 t))))
     ((reached-decides side new (own_row side zone)).1 own))
 
-pub AreCanonical-empty : AreCanonical []
-unfolding AreCanonical
-AreCanonical-empty = tt
-
-AreCanonical-last : (zones : List ZoneBounds) (zone : ZoneBounds) → AreCanonical (zones ++ zone ∷ []) → IsCanonical zone
-unfolding AreCanonical
-AreCanonical-last [] zone all = all.0
-AreCanonical-last (other ∷ zones) zone all = AreCanonical-last zones zone all.1
-
 -- A zone that is added makes the missed rows fewer.
-pub missed-added : (old : List ZoneBounds) (zone : ZoneBounds) (new : List ZoneBounds) → IsZoneSet old → IsZoneSet new
-    → (Any (λ member. Includes member zone) old → ⊥) → Adds old zone new → missed (2 ^ 42) new < missed (2 ^ 42) old
-missed-added old zone new before after none adds =
-    falls (2 ^ 42) canonical-keys old zone new before
-    (AreCanonical-last adds.kept zone (subst AreCanonical adds.last after.canonical)) none adds
-
--- A zone that was added is canonical, and so is a list with it at its end.
-pub AreCanonical-added : (old : List ZoneBounds) (zone : ZoneBounds) (new list : List ZoneBounds) → IsZoneSet new → Adds old zone new → AreCanonical list
-    → AreCanonical (list ++ zone ∷ [])
-AreCanonical-added old zone new list after adds all =
-    AreCanonical-push list zone all (AreCanonical-last adds.kept zone (subst AreCanonical adds.last after.canonical))
+pub missed-added : (old : List ZoneBounds) (zone : ZoneBounds) → AreCanonical old
+    → IsCanonical zone → (Any (λ member. Includes member zone) old → ⊥)
+    → missed (2 ^ 42) (old ++ zone ∷ []) < missed (2 ^ 42) old
+missed-added old zone all canonical none = falls (2 ^ 42) canonical-keys old zone all canonical none

@@ -1,4 +1,5 @@
--- How many rows of six keys a list of zones does not reach: the number that falls with each zone that the closure adds.
+-- How many rows of six keys a list of zones does not reach: the number that falls with each zone
+-- that the closure adds.
 use Rattle.std.specs.Prelude.{ℕ, zero, suc, ◌+◌, ◌-◌, ◌*◌, ℤ, pos, negsuc, Bool, false, ◌&&◌, ◌||◌, nat_le, if◌then◌else◌, List, [], ◌∷◌}
 use Rattle.tre_zone.specs.declared.zone_bounds.ZoneBounds.{ZoneBounds}
 
@@ -45,7 +46,15 @@ sum_of_rows width f =
     sum_below width (λ d.
     sum_below width (λ e.
     sum_below width (λ g.
-    f (record { begin_low = a; begin_high = b; end_low = c; end_high = d; dur_low = e; dur_high = g })))))))
+    f (record {
+      begin_low = a;
+      begin_high = b;
+      end_low = c;
+      end_high = d;
+      dur_low = e;
+      dur_high =
+          g;
+    })))))))
 
 -- The number of rows, with keys from -side to side, that no zone of the list reaches.
 unfoldable pub missed : ℕ → List ZoneBounds → ℕ

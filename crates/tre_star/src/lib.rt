@@ -1,9 +1,11 @@
 //! Composition and closure of sets of zones.
 //!
-//! [`compose_sets`] gives the pairs of one set followed by one of another, as exact unions over the
-//! zones, and [`closure`] those of any number of pairs of one set, one after another, by rounds that
-//! compose only what the round before has added. The layer above may rely on both being exact at every
-//! denominator, and on the rounds ending.
+//! [`compose_sets::compose_sets`] gives the pairs of one set followed by one of another, as exact
+//! unions over the zones, and [`closure::closure`] those of any number of pairs of one set, one
+//! after another, by rounds that compose only what the round before has added; a step whose
+//! durations lie between two different ends has a power limit, a zone of chains that spares it most
+//! rounds. Each has a form that keeps to pairs up to a longest duration, and looks at no other. The
+//! layer above may rely on all being exact at every denominator, and on the rounds ending.
 //!
 //! ```
 //! let twice = compose_sets(alloc, &set, &set)?;
@@ -11,10 +13,9 @@
 //! ```
 #![tactic(auto)]
 
-pub use composition::compose_sets;
-pub use rounds::closure;
-
-mod composition;
-mod rounds;
+pub mod closure;
+pub mod compose_sets;
+mod gather_up_to;
+mod power_limit;
 #[cfg(test)]
 mod tests;

@@ -7,5 +7,6 @@ use Rattle.std.proofs.lemmas.Nat.{bit_set_by_shift}
 pub bit_test : (n k : ℕ) → IsTrue (nat_eq (bit_and (n / 2 ^ k) 1) 1) ↔ IsBitSet n k
 bit_test n k =
     let shift = bit_set_by_shift n k in
-    let test : IsTrue (nat_eq (bit_and (n / 2 ^ k) 1) 1) ↔ (bit_and (n / 2 ^ k) 1 ≡ 1) = grind (arith, nat_tests) in
+    let test : IsTrue (nat_eq (bit_and (n / 2 ^ k) 1) 1) ↔ (bit_and (n / 2 ^ k) 1 ≡ 1) =
+    grind (arith, nat_tests) in
     (λ t. shift.0 (test.0 t), λ s. test.1 (shift.1 s))

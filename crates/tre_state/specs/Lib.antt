@@ -1,3 +1,4 @@
+-- What a reader must believe.
 pub mod StateTree
 pub mod State
 pub mod Name

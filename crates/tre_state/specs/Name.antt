@@ -1,8 +1,9 @@
 -- What a name is.
-use Rattle.std.specs.Prelude.{ℕ, Bool, ◌==◌, ◌||◌, List, [], ◌∷◌, IsTrue, codes}
+use Rattle.std.specs.Prelude.{ℕ, Bool, ◌==◌, ◌||◌, List, [], ◌∷◌, IsTrue}
 use Rattle.std.specs.Char.{is_ascii_alphabetic, is_ascii_alphanumeric}
-use Rattle.std.specs.List.{AllPass}
+use Rattle.std.specs.List.{AllPass, list_any}
 use Rattle.std.specs.Str.{bytes_eq}
+use Rattle.tre_state.specs.declared.name.TheConstants.{RESERVED}
 
 -- A letter A to Z or a to z, or the underscore (95).
 abbrev pub starts_name : ℕ → Bool
@@ -19,9 +20,7 @@ IsWord (first ∷ rest) = IsTrue (starts_name first) × AllPass continues_name r
 
 -- One of the words that expressions keep for themselves.
 abbrev pub is_reserved : List ℕ → Bool
-is_reserved bytes =
-    bytes_eq bytes (codes "eps") || bytes_eq bytes (codes "rise") || bytes_eq bytes (codes "fall")
-    || bytes_eq bytes (codes "inf") || bytes_eq bytes (codes "true") || bytes_eq bytes (codes "event")
+is_reserved bytes = list_any (λ word. bytes_eq word.now bytes) RESERVED
 
 -- The bytes are a name: spelt as one, and no reserved word.
 abbrev pub IsName : List ℕ → Type 0

@@ -6,7 +6,7 @@ use Rattle.tre_state.specs.StateTree.{StateTree, always, proposition, negation, 
 -- The state as a tree, without its boxes.
 abbrev pub tree_of : State → StateTree
 tree_of Yes = always
-tree_of (Prop i) = proposition i
-tree_of (Not' p s) = negation (tree_of s)
-tree_of (And' p s q t) = conjunction (tree_of s) (tree_of t)
-tree_of (Or' p s q t) = disjunction (tree_of s) (tree_of t)
+tree_of (Prop number) = proposition number
+tree_of (Not' box state) = negation (tree_of state)
+tree_of (And' box left other right) = conjunction (tree_of left) (tree_of right)
+tree_of (Or' box left other right) = disjunction (tree_of left) (tree_of right)

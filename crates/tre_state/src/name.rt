@@ -1,6 +1,9 @@
 ghost use Rattle.std.specs.Prelude.{◌≡◌, ◌↔◌, IsTrue};
 ghost use Rattle.tre_state.specs.Name.{starts_name, continues_name, is_reserved, IsWord, IsName};
 
+/// The words that expressions keep for themselves.
+pub const RESERVED: [&str; 6] = ["eps", "rise", "fall", "inf", "true", "event"];
+
 /// Whether a name may begin with this byte: a letter A to Z or a to z, or `_`.
 pub fn starts_name(byte: u8) -> bool
     ensures { result ≡ starts_name byte }
@@ -36,10 +39,5 @@ pub fn is_name(text: &str) -> bool
 fn is_reserved(text: &str) -> bool
     ensures { result ≡ is_reserved text.now }
 {
-    text == "eps"
-        || text == "rise"
-        || text == "fall"
-        || text == "inf"
-        || text == "true"
-        || text == "event"
+    RESERVED.contains(&text)
 }

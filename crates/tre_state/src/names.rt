@@ -46,9 +46,9 @@ impl Model for Names {
 
     ghost Value = { List (List ℕ) };
 
-    ghost view = { λ n. map string_bytes n.names.keys };
+    ghost view = { λ held. map string_bytes held.names.keys };
 
-    ghost invariant = { λ n. IsNameList (map string_bytes n.names.keys) };
+    ghost invariant = { λ held. IsNameList (map string_bytes held.names.keys) };
 }
 
 impl Names {
@@ -96,15 +96,16 @@ impl Names {
         }
     }
 
-    /// The number of a name. One that is not held yet goes to the end of the list; that alone can fail.
+    /// The number of a name. One that is not held yet goes to the end of the list; that alone can
+    /// fail.
     pub fn number(&mut self, name: &str) -> Result<u8, NameFault>
         requires is_name { IsName name.now }
-        ensures number { IfOk result (λ i. place_of self.new name.now ≡ Some i) }
+        ensures number { IfOk result (λ number. place_of self.new name.now ≡ Some number) }
         ensures held { IsSome (place_of self.old name.now) → IsOk result × (self.new ≡ self.old) }
         ensures added { place_of self.old name.now ≡ None →
             OnOk result (self.new ≡ self.old ++ name.now ∷ []) }
         ensures too_many { (result ≡ Err NameFault.TooMany) ↔
-            ((length self.old ≡ 64) × (place_of self.old name.now ≡ None)) }
+            ((length self.old ≡ NAMES_MAX) × (place_of self.old name.now ≡ None)) }
         ensures err { OnErr result (self.new ≡ self.old) }
         ensures list { IsNameList self.new }
     {
@@ -130,7 +131,7 @@ impl Names {
 
 // Puts a text that is not in the set at its end, and gives its place.
 fn insert_last(names: &mut IndexSet<String>, text: &str) -> Result<u8, AllocError>
-    requires room { length names.old.keys < 64 }
+    requires room { length names.old.keys < NAMES_MAX }
     requires absent { place_of (map string_bytes names.old.keys) text.now ≡ None }
     ensures place { IfOk result (λ place. place ≡ length (map string_bytes names.old.keys)) }
     ensures ok { OnOk result (

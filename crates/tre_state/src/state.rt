@@ -2,6 +2,7 @@ ghost use Rattle.std.specs.Prelude.{◌≡◌, ◌↔◌, IsTrue, IfOk};
 ghost use Rattle.tre_state.specs.StateTree.{HoldsOn, NumbersBelow};
 ghost use Rattle.tre_state.specs.State.{tree_of};
 
+use crate::names::NAMES_MAX;
 use std::alloc::{AllocError, Global};
 
 /// A Boolean combination of propositions, which go by their numbers from 0.
@@ -18,16 +19,16 @@ pub enum State {
 
 impl State {
     /// The truth of the state on a valuation, whose bit i is the value of proposition i.
-    pub fn eval(&self, val: u64) -> bool
-        requires below_64 { NumbersBelow 64 (tree_of self.now) }
-        ensures holds { IsTrue result ↔ HoldsOn (tree_of self.now) val }
+    pub fn eval(&self, valuation: u64) -> bool
+        requires numbers { NumbersBelow NAMES_MAX (tree_of self.now) }
+        ensures holds { IsTrue result ↔ HoldsOn (tree_of self.now) valuation }
     {
         match self {
             State::Yes => true,
-            State::Prop(i) => (val >> *i) & 1 == 1,
-            State::Not(s) => !s.eval(val),
-            State::And(s, t) => s.eval(val) && t.eval(val),
-            State::Or(s, t) => s.eval(val) || t.eval(val),
+            State::Prop(number) => (valuation >> *number) & 1 == 1,
+            State::Not(state) => !state.eval(valuation),
+            State::And(left, right) => left.eval(valuation) && right.eval(valuation),
+            State::Or(left, right) => left.eval(valuation) || right.eval(valuation),
         }
     }
 
@@ -37,16 +38,16 @@ impl State {
     {
         match self {
             State::Yes => Ok(State::Yes),
-            State::Prop(i) => Ok(State::Prop(*i)),
-            State::Not(s) => Ok(State::Not(Box::new(alloc, s.try_clone(alloc)?)?)),
-            State::And(s, t) => {
-                let left = Box::new(alloc, s.try_clone(alloc)?)?;
-                let right = Box::new(alloc, t.try_clone(alloc)?)?;
+            State::Prop(number) => Ok(State::Prop(*number)),
+            State::Not(state) => Ok(State::Not(Box::new(alloc, state.try_clone(alloc)?)?)),
+            State::And(left, right) => {
+                let left = Box::new(alloc, left.try_clone(alloc)?)?;
+                let right = Box::new(alloc, right.try_clone(alloc)?)?;
                 Ok(State::And(left, right))
             }
-            State::Or(s, t) => {
-                let left = Box::new(alloc, s.try_clone(alloc)?)?;
-                let right = Box::new(alloc, t.try_clone(alloc)?)?;
+            State::Or(left, right) => {
+                let left = Box::new(alloc, left.try_clone(alloc)?)?;
+                let right = Box::new(alloc, right.try_clone(alloc)?)?;
                 Ok(State::Or(left, right))
             }
         }

@@ -77,8 +77,8 @@ fn a_copy_of_a_state_is_the_state(rt: HostRuntime) -> Result<(), Fail> {
     let state = State::Not(both);
     let copy = state.try_clone(alloc)?;
     assert_eq!(rt; copy, state);
-    for (val, want) in [(0b00, true), (0b01, true), (0b10, true), (0b11, false)] {
-        assert_eq!(rt; copy.eval(val), want);
+    for (valuation, want) in [(0b00, true), (0b01, true), (0b10, true), (0b11, false)] {
+        assert_eq!(rt; copy.eval(valuation), want);
     }
     Ok(())
 }

@@ -1,7 +1,9 @@
--- The laws of the atoms over a rest: they scale, are ordered and bounded, and don't see where a segment is cut in two.
-use Rattle.std.proofs.Common.{◌≡◌, ℕ, ◌+◌, ◌*◌, ◌<◌, ◌≤◌, List, [], ◌∷◌, Option, Some, sym, ap, ◌∙◌, ⊎_elim, arith}
-use Rattle.std.proofs.Math.Nat.{mul_left_comm, mul-le-mul_left, mul-le-mul_right, le_of_mul-le-mul_left, mul-lt-mul_of_pos_left, lt_of_mul-lt-mul_left, eq_of_mul-eq-mul_left}
-use Rattle.tre_pairs.specs.Laws.{Scales, IsOrdered, IsInstant, IsBounded}
+-- The laws of the atoms over a rest: they scale, are ordered and bounded, and don't see where a
+-- segment is cut in two.
+use Rattle.std.proofs.Common.{ℕ, ◌+◌, ◌*◌, ◌<◌, ◌≤◌, List, [], ◌∷◌, Option, Some, sym, ap, ◌∙◌, ⊎_elim, arith}
+use Rattle.std.proofs.Math.Nat.{mul-le-mul_right, mul-lt-mul_of_pos_left, lt_of_mul-lt-mul_left, eq_of_mul-eq-mul_left}
+use Rattle.tre_pairs.proofs.Laws.{Scales, IsOrdered, IsInstant, IsBounded}
+use Rattle.tre_pairs.proofs.Ticks.{le_up, le_down, ge_up, ge_down, lt_up, lt_down, gt_up, gt_down, eq_up, eq_down}
 use Rattle.tre_state.specs.StateTree.{HoldsOn}
 use Rattle.tre_trace.specs.declared.segment.Segment.{Segment}
 use Rattle.tre_trace.specs.Literal.{HoldsBetween, LiteralMatches}
@@ -9,52 +11,27 @@ use Rattle.tre_trace.specs.Trace.{end_of}
 use Rattle.tre_syntax.specs.PatternTree.{Atom, empty, literal, rise, fall}
 use Rattle.tre_syntax.specs.Rest.{Rest, HasEdge, EdgeMatches, EmptyMatches, AtomMatches}
 
--- comparisons of a time in ticks with a fraction, under a finer name and back
-pub le_up : (k t a n : ℕ) → t * n ≤ a → t * (k * n) ≤ k * a
-le_up k t a n h = let finer : k * (t * n) ≤ k * a = mul-le-mul_left k h in omega (arith, mul_left_comm k t n)
-
-pub le_down : (k t a n : ℕ) → 0 < k → t * (k * n) ≤ k * a → t * n ≤ a
-le_down k t a n pos h = let finer : k * (t * n) ≤ k * a = omega (arith, mul_left_comm k t n) in le_of_mul-le-mul_left finer pos
-
-pub ge_up : (k t b n : ℕ) → b ≤ t * n → k * b ≤ t * (k * n)
-ge_up k t b n h = let finer : k * b ≤ k * (t * n) = mul-le-mul_left k h in omega (arith, mul_left_comm k t n)
-
-pub ge_down : (k t b n : ℕ) → 0 < k → k * b ≤ t * (k * n) → b ≤ t * n
-ge_down k t b n pos h = let finer : k * b ≤ k * (t * n) = omega (arith, mul_left_comm k t n) in le_of_mul-le-mul_left finer pos
-
-pub lt_up : (k t b n : ℕ) → 0 < k → t * n < b → t * (k * n) < k * b
-lt_up k t b n pos h = let finer : k * (t * n) < k * b = mul-lt-mul_of_pos_left h pos in omega (arith, mul_left_comm k t n)
-
-pub lt_down : (k t b n : ℕ) → t * (k * n) < k * b → t * n < b
-lt_down k t b n h = let finer : k * (t * n) < k * b = omega (arith, mul_left_comm k t n) in lt_of_mul-lt-mul_left k finer
-
-pub gt_up : (k t a n : ℕ) → 0 < k → a < t * n → k * a < t * (k * n)
-gt_up k t a n pos h = let finer : k * a < k * (t * n) = mul-lt-mul_of_pos_left h pos in omega (arith, mul_left_comm k t n)
-
-pub gt_down : (k t a n : ℕ) → k * a < t * (k * n) → a < t * n
-gt_down k t a n h = let finer : k * a < k * (t * n) = omega (arith, mul_left_comm k t n) in lt_of_mul-lt-mul_left k finer
-
-eq_up : (k t a n : ℕ) → a ≡ t * n → k * a ≡ t * (k * n)
-eq_up k t a n h = ap (λ x. k * x) h ∙ mul_left_comm k t n
-
-eq_down : (k t a n : ℕ) → 0 < k → k * a ≡ t * (k * n) → a ≡ t * n
-eq_down k t a n pos h = eq_of_mul-eq-mul_left k pos a (t * n) (h ∙ sym (mul_left_comm k t n))
-
 -- segments end no earlier than they begin
 pub end_of-le : (start : ℕ) (segments : List Segment) → start ≤ end_of start segments
 end_of-le start [] = omega arith
 end_of-le start (s ∷ rest) = let later = end_of-le (start + s.len) rest in omega arith
 
 module _ (P : ℕ → Type 0) where
-  between_up : (k a b n : ℕ) → 0 < k → (start : ℕ) (segments : List Segment) → HoldsBetween P start segments a b n → HoldsBetween P start segments (k * a) (k * b) (k * n)
+  between_up : (k a b n : ℕ) → 0 < k → (start : ℕ) (segments : List Segment)
+      → HoldsBetween P start segments a b n → HoldsBetween P start segments (k * a) (k * b) (k * n)
   between_up k a b n pos start [] h = tt
-  between_up k a b n pos start (s ∷ rest) h =
-      (λ begins ends. h.0 (lt_down k start b n begins) (gt_down k (start + s.len) a n ends), between_up k a b n pos (start + s.len) rest h.1)
+  between_up k a b n pos start (s ∷ rest) h = (
+    λ begins ends. h.0 (lt_down k start b n begins) (gt_down k (start + s.len) a n ends),
+    between_up k a b n pos (start + s.len) rest h.1,
+  )
 
-  between_down : (k a b n : ℕ) → 0 < k → (start : ℕ) (segments : List Segment) → HoldsBetween P start segments (k * a) (k * b) (k * n) → HoldsBetween P start segments a b n
+  between_down : (k a b n : ℕ) → 0 < k → (start : ℕ) (segments : List Segment)
+      → HoldsBetween P start segments (k * a) (k * b) (k * n) → HoldsBetween P start segments a b n
   between_down k a b n pos start [] h = tt
-  between_down k a b n pos start (s ∷ rest) h =
-      (λ begins ends. h.0 (lt_up k start b n pos begins) (gt_up k (start + s.len) a n pos ends), between_down k a b n pos (start + s.len) rest h.1)
+  between_down k a b n pos start (s ∷ rest) h = (
+    λ begins ends. h.0 (lt_up k start b n pos begins) (gt_up k (start + s.len) a n pos ends),
+    between_down k a b n pos (start + s.len) rest h.1,
+  )
 
   module _ (start : ℕ) (segments : List Segment) where
     pub Scales-Literal : Scales (LiteralMatches P start segments)
@@ -76,35 +53,56 @@ module _ (P : ℕ → Type 0) where
     pub IsOrdered-Literal : IsOrdered (LiteralMatches P start segments)
     IsOrdered-Literal = record { le = λ a b n h. let lt = h.some_time in omega arith }
 
-    pub IsBounded-Literal : IsBounded start (end_of start segments) (LiteralMatches P start segments)
+    pub IsBounded-Literal : IsBounded start (end_of start segments)
+        (LiteralMatches P start segments)
     IsBounded-Literal = record { begin = λ a b n h. h.begin; end = λ a b n h. h.end }
 
 module _ (P Q : ℕ → Type 0) where
   -- an edge lies within the segments
-  pub HasEdge-begin : (start : ℕ) (before : Option ℕ) (segments : List Segment) (t : ℕ) → HasEdge P Q start before segments t → start ≤ t
+  pub HasEdge-begin : (start : ℕ) (before : Option ℕ) (segments : List Segment) (t : ℕ)
+      → HasEdge P Q start before segments t → start ≤ t
   HasEdge-begin start before [] t h = absurd h
   HasEdge-begin start before (s ∷ rest) t h =
-      ⊎_elim (λ here. let at = here.0 in omega arith) (λ later. let le = HasEdge-begin (start + s.len) (Some s.val) rest t later in omega arith) h
+      ⊎_elim (λ here. let at = here.0 in omega arith) (λ later. let le =
+      HasEdge-begin (start + s.len) (Some s.val) rest t later in omega arith) h
 
-  pub HasEdge-end : (start : ℕ) (before : Option ℕ) (segments : List Segment) (t : ℕ) → HasEdge P Q start before segments t → t ≤ end_of start segments
+  pub HasEdge-end : (start : ℕ) (before : Option ℕ) (segments : List Segment) (t : ℕ)
+      → HasEdge P Q start before segments t → t ≤ end_of start segments
   HasEdge-end start before [] t h = absurd h
   HasEdge-end start before (s ∷ rest) t h =
-      ⊎_elim (λ here. let at = here.0 in omega (arith, end_of-le (start + s.len) rest)) (λ later. HasEdge-end (start + s.len) (Some s.val) rest t later) h
+      ⊎_elim (λ here. let at = here.0 in omega (arith, end_of-le (start + s.len) rest))
+      (λ later. HasEdge-end (start + s.len) (Some s.val) rest t later) h
 
   module _ (rest : Rest) where
     pub Scales-Edge : Scales (EdgeMatches P Q rest)
     Scales-Edge = record {
-      up = λ k a b n pos h. record { time = h.time; begin = eq_up k h.time a n h.begin; end = eq_up k h.time b n h.end; edge = h.edge };
-      down = λ k a b n pos h. record { time = h.time; begin = eq_down k h.time a n pos h.begin; end = eq_down k h.time b n pos h.end; edge = h.edge };
+      up = λ k a b n pos h. record {
+        time = h.time;
+        begin = eq_up k h.time a n h.begin;
+        end =
+            eq_up k h.time b n h.end;
+        edge = h.edge;
+      };
+      down = λ k a b n pos h. record {
+        time = h.time;
+        begin = eq_down k h.time a n pos h.begin;
+        end = eq_down k h.time b n pos h.end;
+        edge = h.edge;
+      };
     }
 
     pub IsOrdered-Edge : IsOrdered (EdgeMatches P Q rest)
     IsOrdered-Edge = record { le = λ a b n h. let e = h.begin ∙ sym h.end in omega arith }
 
-    pub IsBounded-Edge : IsBounded rest.start (end_of rest.start rest.segments) (EdgeMatches P Q rest)
+    pub IsBounded-Edge : IsBounded rest.start (end_of rest.start rest.segments)
+        (EdgeMatches P Q rest)
     IsBounded-Edge = record {
-      begin = λ a b n h. let le = mul-le-mul_right n (HasEdge-begin rest.start rest.before rest.segments h.time h.edge) in omega (arith, le, h.begin);
-      end = λ a b n h. let le = mul-le-mul_right n (HasEdge-end rest.start rest.before rest.segments h.time h.edge) in omega (arith, le, h.end);
+      begin = λ a b n h. let le =
+          mul-le-mul_right n (HasEdge-begin rest.start rest.before rest.segments h.time h.edge) in
+          omega (arith, le, h.begin);
+      end = λ a b n h. let le =
+          mul-le-mul_right n (HasEdge-end rest.start rest.before rest.segments h.time h.edge) in
+          omega (arith, le, h.end);
     }
 
 module _ (rest : Rest) where
@@ -137,7 +135,8 @@ module _ (rest : Rest) where
   IsOrdered-Atom (rise s) = IsOrdered-Edge (λ v. ¬ HoldsOn s v) (HoldsOn s) rest
   IsOrdered-Atom (fall s) = IsOrdered-Edge (HoldsOn s) (λ v. ¬ HoldsOn s v) rest
 
-  pub IsBounded-Atom : (x : Atom) → IsBounded rest.start (end_of rest.start rest.segments) (AtomMatches rest x)
+  pub IsBounded-Atom : (x : Atom)
+      → IsBounded rest.start (end_of rest.start rest.segments) (AtomMatches rest x)
   IsBounded-Atom empty = record {
     begin = λ a b n h. h.begin;
     end = λ a b n h. h.end;

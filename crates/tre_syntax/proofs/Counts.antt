@@ -3,6 +3,7 @@ use Rattle.std.proofs.Common.{◌≡◌, ℕ, ◌+◌, ◌<◌, ◌≤◌, Bool,
 use Rattle.std.specs.Prelude.{nat_lt, ◌==◌, if◌then◌else◌}
 use Rattle.std.proofs.lemmas.Bool.Decides.{nat_tests}
 use Rattle.tre_state.specs.StateTree as state
+use Rattle.tre_state.specs.declared.names.TheConstants.{NAMES_MAX}
 use Rattle.tre_state.specs.StateTree.{StateTree, always, proposition, negation, conjunction, disjunction}
 use Rattle.tre_syntax.specs.PatternTree.{PatternTree, Atom, empty, literal, rise, fall, atom, sequence, alternation, intersection, repetition, restriction, node_count, atom_node_count, numbers_of, numbers_of_atom, NumbersBelow, AtomNumbersBelow, seen_after, IsNumbered}
 
@@ -29,29 +30,39 @@ node_count-positive (repetition e) = omega arith
 node_count-positive (restriction e ends) = omega arith
 
 -- where one choice among two and none comes out as r, so does another choice by the same tests
-chosen : (b d : Bool) (p q p' q' r r' : Option ℕ) → (p ≡ r → p' ≡ r') → (q ≡ r → q' ≡ r') → (None ≡ r → None ≡ r')
-    → (if b then p else (if d then q else None)) ≡ r → (if b then p' else (if d then q' else None)) ≡ r'
+chosen : (b d : Bool) (p q p' q' r r' : Option ℕ) → (p ≡ r → p' ≡ r') → (q ≡ r → q' ≡ r')
+    → (None ≡ r → None ≡ r')
+    → (if b then p else (if d then q else None)) ≡ r
+    → (if b then p' else (if d then q' else None)) ≡ r'
 chosen true d p q p' q' r r' f g h e = f e
 chosen false true p q p' q' r r' f g h e = g e
 chosen false false p q p' q' r r' f g h e = h e
 
 -- what is read after one list and then another
-pub seen_after_both : (seen : ℕ) (xs ys : List ℕ) (m : ℕ) → seen_after seen xs ≡ Some m → seen_after seen (xs ++ ys) ≡ seen_after m ys
+pub seen_after_both : (seen : ℕ) (xs ys : List ℕ) (m : ℕ) → seen_after seen xs ≡ Some m
+    → seen_after seen (xs ++ ys) ≡ seen_after m ys
 seen_after_both seen [] ys m e = let same : seen ≡ m = cc in ap (λ k. seen_after k ys) same
 seen_after_both seen (i ∷ xs) ys m e =
-    chosen (nat_lt i seen) (i == seen) _ _ _ _ (Some m) (seen_after m ys) (seen_after_both seen xs ys m) (seen_after_both (seen + 1) xs ys m) (λ none. cc) e
+    chosen (nat_lt i seen) (i == seen) _ _ _ _ (Some m) (seen_after m ys)
+    (seen_after_both seen xs ys m) (seen_after_both (seen + 1) xs ys m) (λ none. cc) e
 
-pub seen_after_none : (seen : ℕ) (xs ys : List ℕ) → seen_after seen xs ≡ None → seen_after seen (xs ++ ys) ≡ None
+pub seen_after_none : (seen : ℕ) (xs ys : List ℕ) → seen_after seen xs ≡ None
+    → seen_after seen (xs ++ ys) ≡ None
 seen_after_none seen [] ys e = cc
 seen_after_none seen (i ∷ xs) ys e =
-    chosen (nat_lt i seen) (i == seen) _ _ _ _ None None (seen_after_none seen xs ys) (seen_after_none (seen + 1) xs ys) (λ none. none) e
+    chosen (nat_lt i seen) (i == seen) _ _ _ _ None None (seen_after_none seen xs ys)
+    (seen_after_none (seen + 1) xs ys) (λ none. none) e
 
 -- a list that is read through is read through in its front and then in its back
-parted : (seen : ℕ) (xs ys : List ℕ) (m : ℕ) (r : Option ℕ) → seen_after seen xs ≡ r → seen_after seen (xs ++ ys) ≡ Some m → (k : ℕ) × (seen_after seen xs ≡ Some k) × (seen_after k ys ≡ Some m)
-parted seen xs ys m None e all = let none = seen_after_none seen xs ys e in let no : None ≡ Some m = cc in absurd (cc)
+parted : (seen : ℕ) (xs ys : List ℕ) (m : ℕ) (r : Option ℕ) → seen_after seen xs ≡ r
+    → seen_after seen (xs ++ ys) ≡ Some m
+    → (k : ℕ) × (seen_after seen xs ≡ Some k) × (seen_after k ys ≡ Some m)
+parted seen xs ys m None e all = let none = seen_after_none seen xs ys e in let no : None ≡ Some m =
+    cc in absurd (cc)
 parted seen xs ys m (Some k) e all = (k, e, sym (seen_after_both seen xs ys k e) ∙ all)
 
-pub seen_after_parts : (seen : ℕ) (xs ys : List ℕ) (m : ℕ) → seen_after seen (xs ++ ys) ≡ Some m → (k : ℕ) × (seen_after seen xs ≡ Some k) × (seen_after k ys ≡ Some m)
+pub seen_after_parts : (seen : ℕ) (xs ys : List ℕ) (m : ℕ) → seen_after seen (xs ++ ys) ≡ Some m
+    → (k : ℕ) × (seen_after seen xs ≡ Some k) × (seen_after k ys ≡ Some m)
 seen_after_parts seen xs ys m all = parted seen xs ys m (seen_after seen xs) refl all
 
 -- a higher bound serves too
@@ -70,9 +81,12 @@ atom_mono (fall s) k m le h = state_mono s k m le h
 
 pub NumbersBelow-mono : (e : PatternTree) (k m : ℕ) → k ≤ m → NumbersBelow k e → NumbersBelow m e
 NumbersBelow-mono (atom x) k m le h = atom_mono x k m le h
-NumbersBelow-mono (sequence e f) k m le h = (NumbersBelow-mono e k m le h.0, NumbersBelow-mono f k m le h.1)
-NumbersBelow-mono (alternation e f) k m le h = (NumbersBelow-mono e k m le h.0, NumbersBelow-mono f k m le h.1)
-NumbersBelow-mono (intersection e f) k m le h = (NumbersBelow-mono e k m le h.0, NumbersBelow-mono f k m le h.1)
+NumbersBelow-mono (sequence e f) k m le h =
+    (NumbersBelow-mono e k m le h.0, NumbersBelow-mono f k m le h.1)
+NumbersBelow-mono (alternation e f) k m le h =
+    (NumbersBelow-mono e k m le h.0, NumbersBelow-mono f k m le h.1)
+NumbersBelow-mono (intersection e f) k m le h =
+    (NumbersBelow-mono e k m le h.0, NumbersBelow-mono f k m le h.1)
 NumbersBelow-mono (repetition e) k m le h = NumbersBelow-mono e k m le h
 NumbersBelow-mono (restriction e ends) k m le h = NumbersBelow-mono e k m le h
 
@@ -80,7 +94,8 @@ NumbersBelow-mono (restriction e ends) k m le h = NumbersBelow-mono e k m le h
 one_below : (i seen m : ℕ) → seen_after seen (i ∷ []) ≡ Some m → (i < m) × (seen ≤ m)
 one_below i seen m e = grind (arith, nat_tests)
 
-state_below : (s : StateTree) (seen m : ℕ) → seen_after seen (state.numbers_of s) ≡ Some m → state.NumbersBelow m s × (seen ≤ m)
+state_below : (s : StateTree) (seen m : ℕ) → seen_after seen (state.numbers_of s) ≡ Some m
+    → state.NumbersBelow m s × (seen ≤ m)
 state_below always seen m e = let same : seen ≡ m = cc in (tt, omega arith)
 state_below (proposition i) seen m e = one_below i seen m e
 state_below (negation s) seen m e = state_below s seen m e
@@ -93,13 +108,15 @@ state_below (disjunction s t) seen m e =
     let a = state_below s seen p.0 p.1 in let b = state_below t p.0 m p.2 in
     ((state_mono s p.0 m b.1 a.0, b.0), omega (arith, a.1, b.1))
 
-atom_below : (x : Atom) (seen m : ℕ) → seen_after seen (numbers_of_atom x) ≡ Some m → AtomNumbersBelow m x × (seen ≤ m)
+atom_below : (x : Atom) (seen m : ℕ) → seen_after seen (numbers_of_atom x) ≡ Some m
+    → AtomNumbersBelow m x × (seen ≤ m)
 atom_below empty seen m e = let same : seen ≡ m = cc in (tt, omega arith)
 atom_below (literal s) seen m e = state_below s seen m e
 atom_below (rise s) seen m e = state_below s seen m e
 atom_below (fall s) seen m e = state_below s seen m e
 
-tree_below : (e : PatternTree) (seen m : ℕ) → seen_after seen (numbers_of e) ≡ Some m → NumbersBelow m e × (seen ≤ m)
+tree_below : (e : PatternTree) (seen m : ℕ) → seen_after seen (numbers_of e) ≡ Some m
+    → NumbersBelow m e × (seen ≤ m)
 tree_below (atom x) seen m h = atom_below x seen m h
 tree_below (sequence e f) seen m h =
     let p = seen_after_parts seen (numbers_of e) (numbers_of f) m h in
@@ -116,5 +133,7 @@ tree_below (intersection e f) seen m h =
 tree_below (repetition e) seen m h = tree_below e seen m h
 tree_below (restriction e ends) seen m h = tree_below e seen m h
 
-pub numbered_below : (e : PatternTree) (count : ℕ) → IsNumbered e count → count ≤ 64 → NumbersBelow 64 e
-numbered_below e count numbered few = NumbersBelow-mono e count 64 few (tree_below e 0 count numbered).0
+pub numbered_below : (e : PatternTree) (count : ℕ) → IsNumbered e count → count ≤ NAMES_MAX
+    → NumbersBelow NAMES_MAX e
+numbered_below e count numbered few =
+    NumbersBelow-mono e count NAMES_MAX few (tree_below e 0 count numbered).0

@@ -1,7 +1,7 @@
 -- What more segments behind a rest change for its atoms: nothing before the end.
 use Rattle.std.proofs.Common.{ℕ, ◌+◌, ◌*◌, ◌<◌, ◌≤◌, List, [], ◌∷◌, ◌++◌, Option, Some, inl, inr, ⊎_elim, arith}
 use Rattle.std.proofs.Math.Nat.{mul-le-mul_right, lt_of_mul-lt-mul_right}
-use Rattle.tre_pairs.specs.Laws.{Implies, ImpliesBefore}
+use Rattle.tre_pairs.proofs.Laws.{Implies, ImpliesBefore}
 use Rattle.tre_state.specs.StateTree.{HoldsOn}
 use Rattle.tre_trace.specs.declared.segment.Segment.{Segment}
 use Rattle.tre_trace.specs.Literal.{HoldsBetween}
@@ -24,35 +24,58 @@ module _ (P : ℕ → Type 0) (a b n : ℕ) where
       let later : b ≤ (start + s.len) * n = omega (arith, h, mul-le-mul_right n le) in
       (λ begins ends. absurd (omega (arith, begins, h)), between_after (start + s.len) rest later)
 
-  between_grows : (start : ℕ) (u v : List Segment) → b ≤ end_of start u * n → HoldsBetween P start u a b n → HoldsBetween P start (u ++ v) a b n
+  between_grows : (start : ℕ) (u v : List Segment) → b ≤ end_of start u * n
+      → HoldsBetween P start u a b n → HoldsBetween P start (u ++ v) a b n
   between_grows start [] v le h = between_after start v le
   between_grows start (s ∷ u) v le h = (h.0, between_grows (start + s.len) u v le h.1)
 
-  between_cut : (start : ℕ) (u v : List Segment) → HoldsBetween P start (u ++ v) a b n → HoldsBetween P start u a b n
+  between_cut : (start : ℕ) (u v : List Segment) → HoldsBetween P start (u ++ v) a b n
+      → HoldsBetween P start u a b n
   between_cut start [] v h = tt
   between_cut start (s ∷ u) v h = (h.0, between_cut (start + s.len) u v h.1)
 
 module _ (P Q : ℕ → Type 0) where
-  edge_grows : (start : ℕ) (before : Option ℕ) (u v : List Segment) (t : ℕ) → HasEdge P Q start before u t → HasEdge P Q start before (u ++ v) t
+  edge_grows : (start : ℕ) (before : Option ℕ) (u v : List Segment) (t : ℕ)
+      → HasEdge P Q start before u t → HasEdge P Q start before (u ++ v) t
   edge_grows start before [] v t h = absurd h
-  edge_grows start before (s ∷ u) v t h = ⊎_elim (λ here. inl here) (λ later. inr (edge_grows (start + s.len) (Some s.val) u v t later)) h
+  edge_grows start before (s ∷ u) v t h =
+      ⊎_elim (λ here. inl here) (λ later. inr (edge_grows (start + s.len) (Some s.val) u v t later))
+      h
 
-  edge_cut : (start : ℕ) (before : Option ℕ) (u v : List Segment) (t : ℕ) → t < end_of start u → HasEdge P Q start before (u ++ v) t → HasEdge P Q start before u t
-  edge_cut start before [] v t lt h = absurd (omega (arith, lt, HasEdge-begin P Q start before v t h))
-  edge_cut start before (s ∷ u) v t lt h = ⊎_elim (λ here. inl here) (λ later. inr (edge_cut (start + s.len) (Some s.val) u v t lt later)) h
+  edge_cut : (start : ℕ) (before : Option ℕ) (u v : List Segment) (t : ℕ) → t < end_of start u
+      → HasEdge P Q start before (u ++ v) t → HasEdge P Q start before u t
+  edge_cut start before [] v t lt h =
+      absurd (omega (arith, lt, HasEdge-begin P Q start before v t h))
+  edge_cut start before (s ∷ u) v t lt h =
+      ⊎_elim (λ here. inl here)
+      (λ later. inr (edge_cut (start + s.len) (Some s.val) u v t lt later)) h
 
 module _ (start : ℕ) (before : Option ℕ) (u v : List Segment) where
-  edge_implies : (P Q : ℕ → Type 0) → Implies (EdgeMatches P Q (rest_of start before u)) (EdgeMatches P Q (rest_of start before (u ++ v)))
+  edge_implies : (P Q : ℕ → Type 0)
+      → Implies (EdgeMatches P Q (rest_of start before u))
+      (EdgeMatches P Q (rest_of start before (u ++ v)))
   edge_implies P Q = record {
-    at = λ a b n h. record { time = h.time; begin = h.begin; end = h.end; edge = edge_grows P Q start before u v h.time h.edge };
+    at = λ a b n h. record {
+      time = h.time;
+      begin = h.begin;
+      end = h.end;
+      edge =
+          edge_grows P Q start before u v h.time h.edge;
+    };
   }
 
   grown_end : (b n : ℕ) → b ≤ end_of start u * n → b ≤ end_of start (u ++ v) * n
   grown_end b n le = omega (arith, le, mul-le-mul_right n (end_of-grows start u v))
 
   -- a match of an atom stays one
-  pub Implies-grown : (x : Atom) → Implies (AtomMatches (rest_of start before u) x) (AtomMatches (rest_of start before (u ++ v)) x)
-  Implies-grown empty = record { at = λ a b n h. record { begin = h.begin; same = h.same; end = grown_end b n h.end } }
+  pub Implies-grown : (x : Atom)
+      → Implies (AtomMatches (rest_of start before u) x)
+      (AtomMatches (rest_of start before (u ++ v)) x)
+  Implies-grown empty =
+      record {
+        at =
+            λ a b n h. record { begin = h.begin; same = h.same; end = grown_end b n h.end };
+      }
   Implies-grown (literal s) = record {
     at = λ a b n h. record {
       begin = h.begin;
@@ -64,19 +87,37 @@ module _ (start : ℕ) (before : Option ℕ) (u v : List Segment) where
   Implies-grown (rise s) = edge_implies (λ w. ¬ HoldsOn s w) (HoldsOn s)
   Implies-grown (fall s) = edge_implies (HoldsOn s) (λ w. ¬ HoldsOn s w)
 
-  edge_implies_before : (P Q : ℕ → Type 0) → ImpliesBefore (end_of start u) (EdgeMatches P Q (rest_of start before (u ++ v))) (EdgeMatches P Q (rest_of start before u))
+  edge_implies_before : (P Q : ℕ → Type 0)
+      → ImpliesBefore (end_of start u) (EdgeMatches P Q (rest_of start before (u ++ v)))
+      (EdgeMatches P Q (rest_of start before u))
   edge_implies_before P Q = record {
     at = λ a b n early h.
         let ticks : h.time * n < end_of start u * n = omega (arith, early, h.end) in
-        record { time = h.time; begin = h.begin; end = h.end; edge = edge_cut P Q start before u v h.time (lt_of_mul-lt-mul_right n ticks) h.edge };
+        record {
+          time = h.time;
+          begin = h.begin;
+          end = h.end;
+          edge =
+              edge_cut P Q start before u v h.time (lt_of_mul-lt-mul_right n ticks) h.edge;
+        };
   }
 
   cut_end : (b n : ℕ) → b < end_of start u * n → b ≤ end_of start u * n
   cut_end b n lt = omega arith
 
   -- and one that ends before the end was one before
-  pub ImpliesBefore-cut : (x : Atom) → ImpliesBefore (end_of start u) (AtomMatches (rest_of start before (u ++ v)) x) (AtomMatches (rest_of start before u) x)
-  ImpliesBefore-cut empty = record { at = λ a b n early h. record { begin = h.begin; same = h.same; end = cut_end b n early } }
+  pub ImpliesBefore-cut : (x : Atom)
+      → ImpliesBefore (end_of start u) (AtomMatches (rest_of start before (u ++ v)) x)
+      (AtomMatches (rest_of start before u) x)
+  ImpliesBefore-cut empty =
+      record {
+        at = λ a b n early h. record {
+          begin = h.begin;
+          same = h.same;
+          end =
+              cut_end b n early;
+        };
+      }
   ImpliesBefore-cut (literal s) = record {
     at = λ a b n early h. record {
       begin = h.begin;

@@ -11,11 +11,23 @@ use Rattle.tre_syntax.proofs.Atoms.{end_of-le}
 
 module _ (P Q : ℕ → Type 0) where
   -- an edge behind a segment is one between two neighbours
-  meet_behind : (start : ℕ) (previous : Segment) (rest : List Segment) (t : ℕ) → HasEdge P Q (start + previous.len) (Some previous.val) rest t → MeetAt P Q start (previous ∷ rest) t
+  meet_behind : (start : ℕ) (previous : Segment) (rest : List Segment) (t : ℕ)
+      → HasEdge P Q (start + previous.len) (Some previous.val) rest t
+      → MeetAt P Q start (previous ∷ rest) t
   meet_behind start previous [] t h = absurd h
   meet_behind start previous (next ∷ rest) t h =
       ⊎_elim
-      (λ here. record { front = []; one = previous; other = next; back = rest; parts = refl; time = here.0; ends = here.1; begins = here.2 })
+      (λ here. record {
+        front = [];
+        one = previous;
+        other = next;
+        back = rest;
+        parts = refl;
+        time =
+            here.0;
+        ends = here.1;
+        begins = here.2;
+      })
       (λ later.
       let more = meet_behind (start + previous.len) next rest t later in
       record {
@@ -30,34 +42,55 @@ module _ (P Q : ℕ → Type 0) where
       })
       h
 
-  meet_in : (segments : List Segment) (t : ℕ) → HasEdge P Q 0 None segments t → MeetAt P Q 0 segments t
+  meet_in : (segments : List Segment) (t : ℕ) → HasEdge P Q 0 None segments t
+      → MeetAt P Q 0 segments t
   meet_in [] t h = absurd h
-  meet_in (first ∷ rest) t h = ⊎_elim (λ here. absurd here.1) (λ later. meet_behind 0 first rest t later) h
+  meet_in (first ∷ rest) t h =
+      ⊎_elim (λ here. absurd here.1) (λ later. meet_behind 0 first rest t later) h
 
   -- and where two neighbours meet so there is an edge
-  edge_where : (start : ℕ) (before : Option ℕ) (front : List Segment) (one other : Segment) (back : List Segment) → P one.val → Q other.val
+  edge_where : (start : ℕ) (before : Option ℕ) (front : List Segment) (one other : Segment)
+      (back : List Segment) → P one.val → Q other.val
       → HasEdge P Q start before (front ++ one ∷ other ∷ back) (end_of start front + one.len)
   edge_where start before [] one other back ends begins = inr (inl (refl, ends, begins))
-  edge_where start before (s ∷ front) one other back ends begins = inr (edge_where (start + s.len) (Some s.val) front one other back ends begins)
+  edge_where start before (s ∷ front) one other back ends begins =
+      inr (edge_where (start + s.len) (Some s.val) front one other back ends begins)
 
-  edge_of : (segments : List Segment) (t : ℕ) → MeetAt P Q 0 segments t → HasEdge P Q 0 None segments t
+  edge_of : (segments : List Segment) (t : ℕ) → MeetAt P Q 0 segments t
+      → HasEdge P Q 0 None segments t
   edge_of segments t m =
       let there = edge_where 0 None m.front m.one m.other m.back m.ends m.begins in
-      let timed = subst (λ (x : ℕ). HasEdge P Q 0 None (m.front ++ m.one ∷ m.other ∷ m.back) x) (sym m.time) there in
+      let timed = subst (λ (x : ℕ). HasEdge P Q 0 None (m.front ++ m.one ∷ m.other ∷ m.back) x)
+      (sym m.time) there in
       subst (λ (xs : List Segment). HasEdge P Q 0 None xs t) (sym m.parts) timed
 
-  pub edge_iff : (segments : List Segment) (a b n : ℕ) → EdgeMatches P Q (whole segments) a b n ↔ IsBetweenNeighbours P Q segments a b n
+  pub edge_iff : (segments : List Segment) (a b n : ℕ) → EdgeMatches P Q (whole segments) a b n
+      ↔ IsBetweenNeighbours P Q segments a b n
   edge_iff segments a b n = (
-    λ h. record { time = h.time; begin = h.begin; end = h.end; meet = meet_in segments h.time h.edge },
-    λ h. record { time = h.time; begin = h.begin; end = h.end; edge = edge_of segments h.time h.meet },
+    λ h. record {
+      time = h.time;
+      begin = h.begin;
+      end = h.end;
+      meet =
+          meet_in segments h.time h.edge;
+    },
+    λ h. record {
+      time = h.time;
+      begin = h.begin;
+      end = h.end;
+      edge =
+          edge_of segments h.time h.meet;
+    },
   )
 
   -- where each segment is some ticks long, neighbours meet neither at the start nor at the end
-  long_pair : (front : List Segment) (one other : Segment) (back : List Segment) → AreLong (front ++ one ∷ other ∷ back) → (1 ≤ one.len) × (1 ≤ other.len)
+  long_pair : (front : List Segment) (one other : Segment) (back : List Segment)
+      → AreLong (front ++ one ∷ other ∷ back) → (1 ≤ one.len) × (1 ≤ other.len)
   long_pair [] one other back long = (long.0, long.1.0)
   long_pair (s ∷ front) one other back long = long_pair front one other back long.1
 
-  meet_inside : (segments : List Segment) (t : ℕ) → AreLong segments → MeetAt P Q 0 segments t → (0 < t) × (t < end_of 0 segments)
+  meet_inside : (segments : List Segment) (t : ℕ) → AreLong segments → MeetAt P Q 0 segments t
+      → (0 < t) × (t < end_of 0 segments)
   meet_inside segments t long m =
       let pair = long_pair m.front m.one m.other m.back (subst AreLong m.parts long) in
       let whole_end = ap (end_of 0) m.parts in
@@ -65,7 +98,8 @@ module _ (P Q : ℕ → Type 0) where
       let later = end_of-le (end_of 0 m.front + m.one.len + m.other.len) m.back in
       (omega (arith, m.time, pair.0), omega (arith, m.time, pair.1, whole_end, behind, later))
 
-  pub edge_inside : (segments : List Segment) (a b n : ℕ) → 0 < n → AreLong segments → EdgeMatches P Q (whole segments) a b n
+  pub edge_inside : (segments : List Segment) (a b n : ℕ) → 0 < n → AreLong segments
+      → EdgeMatches P Q (whole segments) a b n
       → (0 < a) × (b < end_of 0 segments * n)
   edge_inside segments a b n some long h =
       let inside = meet_inside segments h.time long (meet_in segments h.time h.edge) in
@@ -74,28 +108,42 @@ module _ (P Q : ℕ → Type 0) where
       (omega (arith, late, h.begin), omega (arith, early, h.end))
 
 module _ (P : ℕ → Type 0) (a b n : ℕ) where
-  holds_at : (start : ℕ) (front : List Segment) (segment : Segment) (back : List Segment) → HoldsBetween P start (front ++ segment ∷ back) a b n
+  holds_at : (start : ℕ) (front : List Segment) (segment : Segment) (back : List Segment)
+      → HoldsBetween P start (front ++ segment ∷ back) a b n
       → end_of start front * n < b → a < (end_of start front + segment.len) * n → P segment.val
   holds_at start [] segment back h begins ends = h.0 begins ends
-  holds_at start (s ∷ front) segment back h begins ends = holds_at (start + s.len) front segment back h.1 begins ends
+  holds_at start (s ∷ front) segment back h begins ends =
+      holds_at (start + s.len) front segment back h.1 begins ends
 
   holds_each : (start : ℕ) (segments : List Segment)
-      → ((front : List Segment) (segment : Segment) (back : List Segment) → segments ≡ front ++ segment ∷ back → end_of start front * n < b
+      → ((front : List Segment) (segment : Segment) (back : List Segment)
+      → segments ≡ front ++ segment ∷ back → end_of start front * n < b
       → a < (end_of start front + segment.len) * n → P segment.val)
       → HoldsBetween P start segments a b n
   holds_each start [] each = tt
   holds_each start (s ∷ rest) each = (
     λ begins ends. each [] s rest refl begins ends,
-    holds_each (start + s.len) rest (λ front segment back parts begins ends. each (s ∷ front) segment back (ap (λ (xs : List Segment). s ∷ xs) parts) begins ends),
+    holds_each (start + s.len) rest
+        (λ front segment back parts begins ends. each (s ∷ front) segment back
+        (ap (λ (xs : List Segment). s ∷ xs) parts) begins ends),
   )
 
-  pub literal_iff : (segments : List Segment) → LiteralMatches P 0 segments a b n ↔ IsThroughout P segments a b n
+  pub literal_iff : (segments : List Segment) → LiteralMatches P 0 segments a b n
+      ↔ IsThroughout P segments a b n
   literal_iff segments = (
     λ h. record {
       some_time = h.some_time;
       end = h.end;
       each = λ front segment back parts begins ends.
-          holds_at 0 front segment back (subst (λ (xs : List Segment). HoldsBetween P 0 xs a b n) parts h.throughout) begins ends;
+          holds_at 0 front segment back
+          (subst (λ (xs : List Segment). HoldsBetween P 0 xs a b n) parts h.throughout) begins
+          ends;
     },
-    λ h. record { begin = omega arith; some_time = h.some_time; end = h.end; throughout = holds_each 0 segments h.each },
+    λ h. record {
+      begin = omega arith;
+      some_time = h.some_time;
+      end = h.end;
+      throughout =
+          holds_each 0 segments h.each;
+    },
   )

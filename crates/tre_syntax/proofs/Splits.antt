@@ -2,7 +2,7 @@
 use Rattle.std.proofs.Common.{◌≡◌, ℕ, ◌+◌, ◌*◌, ◌<◌, ◌≤◌, List, [], ◌∷◌, ◌++◌, Option, Some, sym, ap, subst, inl, inr, ⊎_elim, arith, add_assoc}
 use Rattle.std.proofs.lemmas.Bool.{cases_lt}
 use Rattle.std.proofs.Math.Nat.{mul-le-mul_right}
-use Rattle.tre_pairs.specs.Laws.{Implies}
+use Rattle.tre_pairs.proofs.Laws.{Implies}
 use Rattle.tre_state.specs.StateTree.{HoldsOn}
 use Rattle.tre_trace.specs.declared.segment.Segment.{Segment}
 use Rattle.tre_trace.specs.Literal.{HoldsBetween}
@@ -18,64 +18,107 @@ module _ (first second val : ℕ) (back : List Segment) where
   abbrev pub two : List Segment
   two = segment_of first val ∷ segment_of second val ∷ back
 
-  end_of-split : (start : ℕ) (front : List Segment) → end_of start (front ++ one) ≡ end_of start (front ++ two)
+  end_of-split : (start : ℕ) (front : List Segment)
+      → end_of start (front ++ one) ≡ end_of start (front ++ two)
   end_of-split start [] = ap (λ t. end_of t back) (sym (add_assoc start first second))
   end_of-split start (s ∷ front) = end_of-split (start + s.len) front
 
   module _ (P : ℕ → Type 0) (a b n : ℕ) where
-    between_split : (start : ℕ) (front : List Segment) → HoldsBetween P start (front ++ one) a b n → HoldsBetween P start (front ++ two) a b n
+    between_split : (start : ℕ) (front : List Segment) → HoldsBetween P start (front ++ one) a b n
+        → HoldsBetween P start (front ++ two) a b n
     between_split start [] h =
         let early : start + first ≤ start + (first + second) = omega arith in
         let late : start ≤ start + first = omega arith in (
           λ begins ends. h.0 begins (omega (arith, ends, mul-le-mul_right n early)),
           (
-            λ begins ends. h.0 (omega (arith, begins, mul-le-mul_right n late)) (subst (λ t. a < t * n) (add_assoc start first second) ends),
+            λ begins ends. h.0 (omega (arith, begins, mul-le-mul_right n late))
+                (subst (λ t. a < t * n) (add_assoc start first second) ends),
             subst (λ t. HoldsBetween P t back a b n) (sym (add_assoc start first second)) h.1,
           ),
         )
     between_split start (s ∷ front) h = (h.0, between_split (start + s.len) front h.1)
 
-    between_joined : (start : ℕ) (front : List Segment) → a < b → HoldsBetween P start (front ++ two) a b n → HoldsBetween P start (front ++ one) a b n
+    between_joined : (start : ℕ) (front : List Segment) → a < b
+        → HoldsBetween P start (front ++ two) a b n → HoldsBetween P start (front ++ one) a b n
     between_joined start [] lt h = (
       λ begins ends. ⊎_elim (λ early. h.0 begins early)
-          (λ late. h.1.0 (omega (arith, lt, late)) (subst (λ t. a < t * n) (sym (add_assoc start first second)) ends))
+          (λ late. h.1.0 (omega (arith, lt, late))
+          (subst (λ t. a < t * n) (sym (add_assoc start first second)) ends))
           (cases_lt a ((start + first) * n)),
       subst (λ t. HoldsBetween P t back a b n) (add_assoc start first second) h.1.1,
     )
     between_joined start (s ∷ front) lt h = (h.0, between_joined (start + s.len) front lt h.1)
 
   module _ (P Q : ℕ → Type 0) where
-    edge_split : (start : ℕ) (before : Option ℕ) (front : List Segment) (t : ℕ) → HasEdge P Q start before (front ++ one) t → HasEdge P Q start before (front ++ two) t
+    edge_split : (start : ℕ) (before : Option ℕ) (front : List Segment) (t : ℕ)
+        → HasEdge P Q start before (front ++ one) t → HasEdge P Q start before (front ++ two) t
     edge_split start before [] t h =
-        ⊎_elim (λ here. inl here) (λ later. inr (inr (subst (λ x. HasEdge P Q x (Some val) back t) (sym (add_assoc start first second)) later))) h
-    edge_split start before (s ∷ front) t h = ⊎_elim (λ here. inl here) (λ later. inr (edge_split (start + s.len) (Some s.val) front t later)) h
+        ⊎_elim (λ here. inl here)
+        (λ later.
+        inr
+        (inr
+        (subst (λ x. HasEdge P Q x (Some val) back t)
+        (sym (add_assoc start first second)) later))) h
+    edge_split start before (s ∷ front) t h =
+        ⊎_elim (λ here. inl here)
+        (λ later. inr (edge_split (start + s.len) (Some s.val) front t later)) h
 
-    edge_joined : ((w : ℕ) → P w → Q w → ⊥) → (start : ℕ) (before : Option ℕ) (front : List Segment) (t : ℕ) → HasEdge P Q start before (front ++ two) t → HasEdge P Q start before (front ++ one) t
+    edge_joined : ((w : ℕ) → P w → Q w → ⊥)
+        → (start : ℕ) (before : Option ℕ) (front : List Segment) (t : ℕ)
+        → HasEdge P Q start before (front ++ two) t → HasEdge P Q start before (front ++ one) t
     edge_joined apart start before [] t h =
         ⊎_elim (λ here. inl here)
         (λ later. ⊎_elim (λ between. absurd (apart val between.1 between.2))
-        (λ last. inr (subst (λ x. HasEdge P Q x (Some val) back t) (add_assoc start first second) last)) later) h
-    edge_joined apart start before (s ∷ front) t h = ⊎_elim (λ here. inl here) (λ later. inr (edge_joined apart (start + s.len) (Some s.val) front t later)) h
+        (λ last.
+        inr (subst (λ x. HasEdge P Q x (Some val) back t) (add_assoc start first second) last))
+        later) h
+    edge_joined apart start before (s ∷ front) t h =
+        ⊎_elim (λ here. inl here)
+        (λ later. inr (edge_joined apart (start + s.len) (Some s.val) front t later)) h
 
   module _ (start : ℕ) (before : Option ℕ) (front : List Segment) where
-    split_end : (b n : ℕ) → b ≤ end_of start (front ++ one) * n → b ≤ end_of start (front ++ two) * n
+    split_end : (b n : ℕ) → b ≤ end_of start (front ++ one) * n
+        → b ≤ end_of start (front ++ two) * n
     split_end b n le = subst (λ t. b ≤ t * n) (end_of-split start front) le
 
-    joined_end : (b n : ℕ) → b ≤ end_of start (front ++ two) * n → b ≤ end_of start (front ++ one) * n
+    joined_end : (b n : ℕ) → b ≤ end_of start (front ++ two) * n
+        → b ≤ end_of start (front ++ one) * n
     joined_end b n le = subst (λ t. b ≤ t * n) (sym (end_of-split start front)) le
 
-    edge_implies_split : (P Q : ℕ → Type 0) → Implies (EdgeMatches P Q (rest_of start before (front ++ one))) (EdgeMatches P Q (rest_of start before (front ++ two)))
+    edge_implies_split : (P Q : ℕ → Type 0)
+        → Implies (EdgeMatches P Q (rest_of start before (front ++ one)))
+        (EdgeMatches P Q (rest_of start before (front ++ two)))
     edge_implies_split P Q = record {
-      at = λ a b n h. record { time = h.time; begin = h.begin; end = h.end; edge = edge_split P Q start before front h.time h.edge };
+      at = λ a b n h. record {
+        time = h.time;
+        begin = h.begin;
+        end = h.end;
+        edge =
+            edge_split P Q start before front h.time h.edge;
+      };
     }
 
-    edge_implies_joined : (P Q : ℕ → Type 0) → ((w : ℕ) → P w → Q w → ⊥) → Implies (EdgeMatches P Q (rest_of start before (front ++ two))) (EdgeMatches P Q (rest_of start before (front ++ one)))
+    edge_implies_joined : (P Q : ℕ → Type 0) → ((w : ℕ) → P w → Q w → ⊥)
+        → Implies (EdgeMatches P Q (rest_of start before (front ++ two)))
+        (EdgeMatches P Q (rest_of start before (front ++ one)))
     edge_implies_joined P Q apart = record {
-      at = λ a b n h. record { time = h.time; begin = h.begin; end = h.end; edge = edge_joined P Q apart start before front h.time h.edge };
+      at = λ a b n h. record {
+        time = h.time;
+        begin = h.begin;
+        end = h.end;
+        edge =
+            edge_joined P Q apart start before front h.time h.edge;
+      };
     }
 
-    pub Implies-split : (x : Atom) → Implies (AtomMatches (rest_of start before (front ++ one)) x) (AtomMatches (rest_of start before (front ++ two)) x)
-    Implies-split empty = record { at = λ a b n h. record { begin = h.begin; same = h.same; end = split_end b n h.end } }
+    pub Implies-split : (x : Atom)
+        → Implies (AtomMatches (rest_of start before (front ++ one)) x)
+        (AtomMatches (rest_of start before (front ++ two)) x)
+    Implies-split empty =
+        record {
+          at =
+              λ a b n h. record { begin = h.begin; same = h.same; end = split_end b n h.end };
+        }
     Implies-split (literal s) = record {
       at = λ a b n h. record {
         begin = h.begin;
@@ -87,8 +130,14 @@ module _ (first second val : ℕ) (back : List Segment) where
     Implies-split (rise s) = edge_implies_split (λ w. ¬ HoldsOn s w) (HoldsOn s)
     Implies-split (fall s) = edge_implies_split (HoldsOn s) (λ w. ¬ HoldsOn s w)
 
-    pub Implies-joined : (x : Atom) → Implies (AtomMatches (rest_of start before (front ++ two)) x) (AtomMatches (rest_of start before (front ++ one)) x)
-    Implies-joined empty = record { at = λ a b n h. record { begin = h.begin; same = h.same; end = joined_end b n h.end } }
+    pub Implies-joined : (x : Atom)
+        → Implies (AtomMatches (rest_of start before (front ++ two)) x)
+        (AtomMatches (rest_of start before (front ++ one)) x)
+    Implies-joined empty =
+        record {
+          at =
+              λ a b n h. record { begin = h.begin; same = h.same; end = joined_end b n h.end };
+        }
     Implies-joined (literal s) = record {
       at = λ a b n h. record {
         begin = h.begin;
@@ -97,5 +146,7 @@ module _ (first second val : ℕ) (back : List Segment) where
         throughout = between_joined (HoldsOn s) a b n start front h.some_time h.throughout;
       };
     }
-    Implies-joined (rise s) = edge_implies_joined (λ w. ¬ HoldsOn s w) (HoldsOn s) (λ w no yes. no yes)
-    Implies-joined (fall s) = edge_implies_joined (HoldsOn s) (λ w. ¬ HoldsOn s w) (λ w yes no. no yes)
+    Implies-joined (rise s) =
+        edge_implies_joined (λ w. ¬ HoldsOn s w) (HoldsOn s) (λ w no yes. no yes)
+    Implies-joined (fall s) =
+        edge_implies_joined (HoldsOn s) (λ w. ¬ HoldsOn s w) (λ w yes no. no yes)

@@ -1,5 +1,5 @@
 -- The tree that an expression of the program is.
-use Rattle.tre_state.specs.State as state
+use Rattle.tre_state.specs.State as states
 use Rattle.tre_syntax.specs.declared.expr.Expr.{Expr}
 use Rattle.tre_syntax.specs.declared.expr.Expr.TheVariants.{Eps, Lit, Rise, Fall, Seq', Alt', Meet', Star', Within'}
 use Rattle.tre_syntax.specs.PatternTree.{PatternTree, empty, literal, rise, fall, atom, sequence, alternation, intersection, repetition, restriction}
@@ -7,11 +7,11 @@ use Rattle.tre_syntax.specs.PatternTree.{PatternTree, empty, literal, rise, fall
 -- The expression as a tree, without its boxes.
 abbrev pub tree_of : Expr → PatternTree
 tree_of Eps = atom empty
-tree_of (Lit s) = atom (literal (state.tree_of s))
-tree_of (Rise s) = atom (rise (state.tree_of s))
-tree_of (Fall s) = atom (fall (state.tree_of s))
-tree_of (Seq' p e q f) = sequence (tree_of e) (tree_of f)
-tree_of (Alt' p e q f) = alternation (tree_of e) (tree_of f)
-tree_of (Meet' p e q f) = intersection (tree_of e) (tree_of f)
-tree_of (Star' p e) = repetition (tree_of e)
-tree_of (Within' p e interval) = restriction (tree_of e) interval
+tree_of (Lit state) = atom (literal (states.tree_of state))
+tree_of (Rise state) = atom (rise (states.tree_of state))
+tree_of (Fall state) = atom (fall (states.tree_of state))
+tree_of (Seq' box left other right) = sequence (tree_of left) (tree_of right)
+tree_of (Alt' box left other right) = alternation (tree_of left) (tree_of right)
+tree_of (Meet' box left other right) = intersection (tree_of left) (tree_of right)
+tree_of (Star' box expr) = repetition (tree_of expr)
+tree_of (Within' box expr interval) = restriction (tree_of expr) interval

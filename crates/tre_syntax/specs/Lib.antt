@@ -1,7 +1,10 @@
+-- What a reader must believe.
 pub mod PatternTree
 pub mod Expr
-pub mod FirstUse
 pub mod Pattern
 pub mod Rest
-pub mod Neighbours
 pub mod Meaning
+-- What the laws say in other words than the meaning.
+pub mod Neighbours
+pub mod FirstUse
+pub mod Cut

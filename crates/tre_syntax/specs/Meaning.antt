@@ -9,11 +9,11 @@ use Rattle.tre_syntax.specs.Rest.{Rest, whole, AtomMatches}
 -- Which pairs of times an expression matches, where it is known which of them each atom does.
 abbrev pub Meaning : (Atom → Pairs) → PatternTree → Pairs
 Meaning reading (atom x) = reading x
-Meaning reading (sequence e f) = Composed (Meaning reading e) (Meaning reading f)
-Meaning reading (alternation e f) = Either (Meaning reading e) (Meaning reading f)
-Meaning reading (intersection e f) = Both (Meaning reading e) (Meaning reading f)
-Meaning reading (repetition e) = Chain (Meaning reading e) (reading empty)
-Meaning reading (restriction e ends) = Lasting (LastsWithin ends) (Meaning reading e)
+Meaning reading (sequence left right) = Composed (Meaning reading left) (Meaning reading right)
+Meaning reading (alternation left right) = Either (Meaning reading left) (Meaning reading right)
+Meaning reading (intersection left right) = Both (Meaning reading left) (Meaning reading right)
+Meaning reading (repetition tree) = Chain (Meaning reading tree) (reading empty)
+Meaning reading (restriction tree ends) = Lasting (LastsWithin ends) (Meaning reading tree)
 
 -- The expression matches the stretch from a/n to b/n over a rest of a trace.
 abbrev pub MatchesRest : PatternTree → Rest → Pairs

@@ -1,5 +1,6 @@
 -- Patterns: what one is seen as, and what is always so of one.
 use Rattle.std.specs.Prelude.{ℕ, ◌≤◌, List, length}
+use Rattle.tre_state.specs.declared.names.TheConstants.{NAMES_MAX}
 use Rattle.tre_syntax.specs.declared.pattern.Pattern.{Pattern}
 use Rattle.tre_syntax.specs.declared.pattern.TheConstants.{NODES_MAX}
 use Rattle.tre_syntax.specs.Expr.{tree_of}
@@ -17,5 +18,5 @@ names_of pattern = pattern.names
 pub record IsPattern (tree : PatternTree) (names : List (List ℕ)) : Type 0 where
   pub small : node_count tree ≤ NODES_MAX
   pub numbered : IsNumbered tree (length names)
-  pub below_64 : NumbersBelow 64 tree
-  pub few : length names ≤ 64
+  pub numbers : NumbersBelow NAMES_MAX tree
+  pub few : length names ≤ NAMES_MAX

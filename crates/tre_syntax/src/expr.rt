@@ -35,27 +35,27 @@ impl Expr {
     {
         match self {
             Expr::Eps => Ok(Expr::Eps),
-            Expr::Lit(s) => Ok(Expr::Lit(s.try_clone(alloc)?)),
-            Expr::Rise(s) => Ok(Expr::Rise(s.try_clone(alloc)?)),
-            Expr::Fall(s) => Ok(Expr::Fall(s.try_clone(alloc)?)),
-            Expr::Seq(e, f) => {
-                let left = Box::new(alloc, e.try_clone(alloc)?)?;
-                let right = Box::new(alloc, f.try_clone(alloc)?)?;
+            Expr::Lit(state) => Ok(Expr::Lit(state.try_clone(alloc)?)),
+            Expr::Rise(state) => Ok(Expr::Rise(state.try_clone(alloc)?)),
+            Expr::Fall(state) => Ok(Expr::Fall(state.try_clone(alloc)?)),
+            Expr::Seq(left, right) => {
+                let left = Box::new(alloc, left.try_clone(alloc)?)?;
+                let right = Box::new(alloc, right.try_clone(alloc)?)?;
                 Ok(Expr::Seq(left, right))
             }
-            Expr::Alt(e, f) => {
-                let left = Box::new(alloc, e.try_clone(alloc)?)?;
-                let right = Box::new(alloc, f.try_clone(alloc)?)?;
+            Expr::Alt(left, right) => {
+                let left = Box::new(alloc, left.try_clone(alloc)?)?;
+                let right = Box::new(alloc, right.try_clone(alloc)?)?;
                 Ok(Expr::Alt(left, right))
             }
-            Expr::Meet(e, f) => {
-                let left = Box::new(alloc, e.try_clone(alloc)?)?;
-                let right = Box::new(alloc, f.try_clone(alloc)?)?;
+            Expr::Meet(left, right) => {
+                let left = Box::new(alloc, left.try_clone(alloc)?)?;
+                let right = Box::new(alloc, right.try_clone(alloc)?)?;
                 Ok(Expr::Meet(left, right))
             }
-            Expr::Star(e) => Ok(Expr::Star(Box::new(alloc, e.try_clone(alloc)?)?)),
-            Expr::Within(e, interval) => Ok(Expr::Within(
-                Box::new(alloc, e.try_clone(alloc)?)?,
+            Expr::Star(expr) => Ok(Expr::Star(Box::new(alloc, expr.try_clone(alloc)?)?)),
+            Expr::Within(expr, interval) => Ok(Expr::Within(
+                Box::new(alloc, expr.try_clone(alloc)?)?,
                 *interval,
             )),
         }

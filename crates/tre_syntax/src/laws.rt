@@ -11,32 +11,33 @@ ghost use Rattle.tre_syntax.specs.Rest.{Rest, rest_of, segment_of};
 ghost use Rattle.tre_trace.specs.Trace.{end_of, IsTrace};
 ghost use Rattle.tre_trace.specs.declared.segment.Segment.{Segment};
 
-/// A literal matches where some time passes, within the trace, and its state is true on each segment
-/// that has a moment strictly between the two times.
+/// A literal matches where some time passes, within the trace, and its state is true on each
+/// segment that has a moment strictly between the two times.
 pub fn literals()
-    ensures { (s : StateTree) (segments : List Segment) (a b n : ℕ) →
-        Matches (atom (literal s)) segments a b n ↔ IsThroughout (HoldsOn s) segments a b n }
+    ensures { (state : StateTree) (segments : List Segment) (a b n : ℕ) →
+        Matches (atom (literal state)) segments a b n ↔
+        IsThroughout (HoldsOn state) segments a b n }
 {}
 
-/// An edge stands where two neighbouring segments meet and the state changes. So a trace has none at
-/// its start, and none at its end.
+/// An edge stands where two neighbouring segments meet and the state changes. So a trace has none
+/// at its start, and none at its end.
 pub fn edges()
-    ensures rise { (s : StateTree) (segments : List Segment) (a b n : ℕ) →
-        Matches (atom (rise s)) segments a b n ↔
-        IsBetweenNeighbours (λ val. ¬ HoldsOn s val) (HoldsOn s) segments a b n }
-    ensures fall { (s : StateTree) (segments : List Segment) (a b n : ℕ) →
-        Matches (atom (fall s)) segments a b n ↔
-        IsBetweenNeighbours (HoldsOn s) (λ val. ¬ HoldsOn s val) segments a b n }
-    ensures rise_inside { (s : StateTree) (segments : List Segment) (a b n : ℕ) →
-        0 < n → IsTrace segments → Matches (atom (rise s)) segments a b n →
+    ensures rise { (state : StateTree) (segments : List Segment) (a b n : ℕ) →
+        Matches (atom (rise state)) segments a b n ↔
+        IsBetweenNeighbours (λ val. ¬ HoldsOn state val) (HoldsOn state) segments a b n }
+    ensures fall { (state : StateTree) (segments : List Segment) (a b n : ℕ) →
+        Matches (atom (fall state)) segments a b n ↔
+        IsBetweenNeighbours (HoldsOn state) (λ val. ¬ HoldsOn state val) segments a b n }
+    ensures rise_inside { (state : StateTree) (segments : List Segment) (a b n : ℕ) →
+        0 < n → IsTrace segments → Matches (atom (rise state)) segments a b n →
         (0 < a) × (b < end_of 0 segments * n) }
-    ensures fall_inside { (s : StateTree) (segments : List Segment) (a b n : ℕ) →
-        0 < n → IsTrace segments → Matches (atom (fall s)) segments a b n →
+    ensures fall_inside { (state : StateTree) (segments : List Segment) (a b n : ℕ) →
+        0 < n → IsTrace segments → Matches (atom (fall state)) segments a b n →
         (0 < a) × (b < end_of 0 segments * n) }
 {}
 
-/// The meaning speaks of times, and not of the numbers that name them: `(a,b,n)` and `(ka,kb,kn)` are
-/// one pair of times.
+/// The meaning speaks of times, and not of the numbers that name them: `(a,b,n)` and `(ka,kb,kn)`
+/// are one pair of times.
 pub fn scaling()
     ensures rest { (tree : PatternTree) (rest : Rest) (k a b n : ℕ) → 0 < k →
         MatchesRest tree rest a b n ↔ MatchesRest tree rest (k * a) (k * b) (k * n) }
@@ -56,30 +57,34 @@ pub fn bounds()
 
 /// It makes no difference how three, one after the other, are grouped.
 pub fn grouping()
-    ensures { (e f g : PatternTree) (rest : Rest) (a b n : ℕ) →
-        MatchesRest (sequence (sequence e f) g) rest a b n ↔
-        MatchesRest (sequence e (sequence f g)) rest a b n }
+    ensures { (first second third : PatternTree) (rest : Rest) (a b n : ℕ) →
+        MatchesRest (sequence (sequence first second) third) rest a b n ↔
+        MatchesRest (sequence first (sequence second third)) rest a b n }
 {}
 
 /// A repetition is a moment, or a match and then a repetition. To repeat it once more adds nothing.
 pub fn repeating()
-    ensures steps { (e : PatternTree) (rest : Rest) (a b n : ℕ) →
-        MatchesRest (repetition e) rest a b n ↔
-        MatchesRest (alternation (atom empty) (sequence e (repetition e))) rest a b n }
-    ensures nested { (e : PatternTree) (rest : Rest) (a b n : ℕ) →
-        MatchesRest (repetition (repetition e)) rest a b n ↔ MatchesRest (repetition e) rest a b n }
+    ensures steps { (tree : PatternTree) (rest : Rest) (a b n : ℕ) →
+        MatchesRest (repetition tree) rest a b n ↔
+        MatchesRest (alternation (atom empty) (sequence tree (repetition tree))) rest a b n }
+    ensures nested { (tree : PatternTree) (rest : Rest) (a b n : ℕ) →
+        MatchesRest (repetition (repetition tree)) rest a b n ↔
+        MatchesRest (repetition tree) rest a b n }
 {}
 
 /// Where a segment is cut in two with the same valuation, the meaning is unchanged.
 pub fn splitting()
-    ensures rest { (tree : PatternTree) (start : ℕ) (before : Option ℕ) (front back : List Segment)
-        (first second val a b n : ℕ) →
-        MatchesRest tree (rest_of start before (front ++ segment_of (first + second) val ∷ back)) a b n ↔
-        MatchesRest tree (rest_of start before
-        (front ++ segment_of first val ∷ segment_of second val ∷ back)) a b n }
-    ensures whole { (tree : PatternTree) (front back : List Segment) (first second val a b n : ℕ) →
-        Matches tree (front ++ segment_of (first + second) val ∷ back) a b n ↔
-        Matches tree (front ++ segment_of first val ∷ segment_of second val ∷ back) a b n }
+    ensures rest { (tree : PatternTree) (start : ℕ) (before : Option ℕ)
+        (front back : List Segment) (first second valuation a b n : ℕ) →
+        let one = front ++ segment_of (first + second) valuation ∷ back in
+        let two = front ++ segment_of first valuation ∷ segment_of second valuation ∷ back in
+        MatchesRest tree (rest_of start before one) a b n ↔
+        MatchesRest tree (rest_of start before two) a b n }
+    ensures whole { (tree : PatternTree) (front back : List Segment)
+        (first second valuation a b n : ℕ) →
+        let one = front ++ segment_of (first + second) valuation ∷ back in
+        let two = front ++ segment_of first valuation ∷ segment_of second valuation ∷ back in
+        Matches tree one a b n ↔ Matches tree two a b n }
 {}
 
 /// A match stays a match when more segments follow.
@@ -92,8 +97,8 @@ pub fn growing()
         Matches tree u a b n → Matches tree (u ++ v) a b n }
 {}
 
-/// A match that ends before some of the segments begin is a match without them. One that ends just as
-/// they begin needn't be: an edge there is known only once they are.
+/// A match that ends before some of the segments begin is a match without them. One that ends just
+/// as they begin needn't be: an edge there is known only once they are.
 pub fn cutting_off()
     ensures rest { (tree : PatternTree) (start : ℕ) (before : Option ℕ)
         (u v : List Segment) (a b n : ℕ) →

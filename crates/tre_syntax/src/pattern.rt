@@ -2,6 +2,7 @@ ghost use Rattle.std.specs.Prelude.{◌≡◌, ◌≤◌, ◌↔◌, length, IsS
 ghost use Rattle.tre_syntax.specs.PatternTree.{node_count, IsNumbered};
 ghost use Rattle.tre_syntax.specs.Expr.{tree_of};
 ghost use Rattle.tre_syntax.specs.declared.pattern.TheConstants.{NODES_MAX};
+ghost use Rattle.tre_state.specs.declared.names.TheConstants.{NAMES_MAX};
 
 use crate::count::{left_after, seen_after};
 use crate::expr::Expr;
@@ -13,14 +14,15 @@ pub const NODES_MAX: u64 = 1000;
 
 /// An expression with the names of its propositions, each at the place that is its number.
 ///
-/// A pattern has at most `NODES_MAX` nodes, so whatever goes down its expression goes at most so deep.
+/// A pattern has at most `NODES_MAX` nodes, so whatever goes down its expression goes at most so
+/// deep.
 #[derive(Debug, Drop)]
 pub struct Pattern {
     expr: Expr,
     names: Names,
     ghost small: { node_count (tree_of expr) ≤ NODES_MAX },
     ghost numbered: { IsNumbered (tree_of expr) (length names) },
-    ghost few: { length names ≤ 64 },
+    ghost few: { length names ≤ NAMES_MAX },
 }
 
 impl Pattern {
@@ -28,9 +30,10 @@ impl Pattern {
 
     /// The pattern of an expression and the names of its propositions.
     ///
-    /// None where the expression has more than `NODES_MAX` nodes, or where its numbers, by their first
-    /// use from the left, aren't 0, 1 and so on up to the count of names. No more than `NODES_MAX` nodes
-    /// are looked at. A refused expression is dropped, which goes as deep as the expression does.
+    /// None where the expression has more than `NODES_MAX` nodes, or where its numbers, by their
+    /// first use from the left, aren't 0, 1 and so on up to the count of names. No more than
+    /// `NODES_MAX` nodes are looked at. A refused expression is dropped, which goes as deep as the
+    /// expression does.
     pub fn new(expr: Expr, names: Names) -> Option<Pattern>
         ensures some { IsSome result ↔
             ((node_count (tree_of expr) ≤ NODES_MAX) × IsNumbered (tree_of expr) (length names)) }

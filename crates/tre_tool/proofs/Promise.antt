@@ -1,23 +1,59 @@
 -- What the end of a run says of each part of its promise.
 use Rattle.std.proofs.Common.{◌≡◌, ◌≢◌, ℕ, List, Option, None, Some, IfSome, Result, Ok, Err, OnOk, OnErr, refl, sym, ◌∙◌, subst, inl, inr, ⊎_elim, ap, ◌⊎◌, arith}
+use Rattle.std.specs.Io.KnownBytes.{Appends}
 use Rattle.tre_io.specs.Faults.{counted, Rises}
-use Rattle.tre_tool.specs.Ends.{Outside, EndsAs, EndsOver, EndsWords, RefusesWords}
+use Rattle.tre_io.specs.Written.{AppendsPart}
 use Rattle.tre_parse.specs.Outcome.{IsOutcome, spelt, refused}
 use Rattle.tre_parse.specs.declared.fault.ParseFault.{ParseFault}
+use Rattle.tre_parse.specs.declared.fault.ParseFault.TheVariants.{TooLong, BadByte, Number, TooDeep, Syntax, EmptyInterval, TooManyNames, TooLarge, Memory as ParseMemory}
 use Rattle.tre_parse.proofs.Outcomes.{outcome_once}
-use Rattle.tre_tool.specs.Job.{job_of}
 use Rattle.tre_syntax.specs.PatternTree.{PatternTree}
-use Rattle.tre_tool.specs.Outcome.{Outcome, completes, refuses, exceeds, IsAnswer}
-use Rattle.tre_tool.specs.Run.{AsksFor, HasPattern, outcome_for, IsStatusFor, AsksInVain}
+use Rattle.tre_tool.specs.Job.{GivesJob, GivesNoJob, AreTaken}
+use Rattle.tre_tool.specs.Outcome.{Outcome, completes, refuses, exceeds}
+use Rattle.tre_tool.specs.Answer.{EndsOver, StopsAs, IsFoundFor}
+use Rattle.tre_tool.specs.Run.{Request, request_for, AsksFor, Asks, IsRefused, AsksForNothing, InputTold, OutputTold, EndsAs, EndsDone, EndsTrace, EndsTooLong, EndsReadFault, EndsWriteFault, StandsBeforeFault, StandsBeforeFailedWrite, IsAnswerIn, IsAnswerTo, NothingWritten, AllReadsGood, AllWritesGood, outcome_for, IsStatusFor, IsStatusIn, ReadsInput, IsUnlessMemory, IsComplete}
+use Rattle.tre_tool.specs.Status.{words_status, parse_status}
+use Rattle.tre_tool.specs.declared.job.WordsFault.{WordsFault}
+use Rattle.tre_tool.specs.declared.job.WordsFault.TheVariants.{Usage as WordsUsage, Memory as WordsMemory}
 use Rattle.tre_tool.specs.declared.job.Job.{Job}
+use Rattle.tre_tool.specs.declared.job.Format.{Format}
+use Rattle.tre_tool.specs.declared.job.Mode.{Mode}
+use Rattle.tre_tool.specs.declared.job.Mode.TheVariants.{Offline, Online, Show}
 use Rattle.tre_tool.specs.declared.status.Status.{Status}
 use Rattle.tre_tool.specs.declared.status.Status.TheVariants.{Done, Usage, Expression, Trace, InputTooLong, ReadFault, WriteFault, Memory}
 use Rattle.tre_tool.proofs.Outcomes.{outcome_of-completes}
 
-pub job_unique : (words : List (List ℕ)) (job job' : Job) → job_of words ≡ Some job → job_of words ≡ Some job' → job ≡ job'
-job_unique words job job' e e' = let same : Some job ≡ Some job' = sym e ∙ e' in cc
+one_value : {X : Type 0} {x y : X} → Some x ≡ Some y → x ≡ y
+one_value e = cc
 
-weaker : {X : Type 0} (o : Option X) (P Q : X → Type 0) → ((x : X) → P x → Q x) → IfSome o P → IfSome o Q
+job_of : Mode → Format → List ℕ → ℕ → List ℕ → Job
+job_of mode format input max_bytes expr = record {
+  mode = mode;
+  format = format;
+  input = input;
+  max_bytes = max_bytes;
+  expr = expr;
+}
+
+-- words give one job
+pub job_unique : (words : List (List ℕ)) (job other : Job) → GivesJob words job
+    → GivesJob words other → job ≡ other
+unfolding job_of
+job_unique words job other gives gives' =
+    let mode : job.mode ≡ other.mode = sym gives.mode ∙ gives'.mode in
+    let format : job.format ≡ other.format = one_value (sym gives.format ∙ gives'.format) in
+    let input : job.input ≡ other.input = one_value (sym gives.input ∙ gives'.input) in
+    let max_bytes : job.max_bytes ≡ other.max_bytes = one_value (sym gives.max_bytes
+    ∙ gives'.max_bytes) in
+    let expr : job.expr ≡ other.expr = one_value (sym gives.expr ∙ gives'.expr) in
+    ap (λ m. job_of m job.format job.input job.max_bytes job.expr) mode
+    ∙ (ap (λ f. job_of other.mode f job.input job.max_bytes job.expr) format
+    ∙ (ap (λ i. job_of other.mode other.format i job.max_bytes job.expr) input
+    ∙ (ap (λ n. job_of other.mode other.format other.input n job.expr) max_bytes
+    ∙ ap (λ e. job_of other.mode other.format other.input other.max_bytes e) expr)))
+
+weaker : {X : Type 0} (o : Option X) (P Q : X → Type 0) → ((x : X) → P x → Q x) → IfSome o P
+    → IfSome o Q
 weaker None P Q f h = tt
 weaker (Some x) P Q f h = f x h
 
@@ -30,129 +66,340 @@ memory_is_free (completes trace) = inr refl
 memory_is_free (refuses fault) = inr refl
 memory_is_free exceeds = inr refl
 
-pub done_completes : (job : Job) (tree : PatternTree) (names : List (List ℕ)) (bytes text : List ℕ) → IsAnswer tree names job.max_bytes bytes text → IsStatusFor (outcome_for job names bytes) Done
-done_completes job tree names bytes text answer =
-    rw (outcome_of-completes names job.max_bytes bytes answer.trace answer.within answer.reads) (inl refl)
+-- the words ask for one thing
+pub request_unique : (words : List (List ℕ)) (one other : Request) → AsksFor words one
+    → AsksFor words other → one ≡ other
+request_unique words one other asks asks' =
+    let same_job = job_unique words one.job other.job asks.gives asks'.gives in
+    let spells = subst (λ (j : Job). IsOutcome j.expr
+    (spelt one.tree one.names)) same_job asks.spells in
+    let same = outcome_once other.job.expr (spelt one.tree one.names)
+    (spelt other.tree other.names) spells asks'.spells in
+    let same_tree : one.tree ≡ other.tree = cc in
+    let same_names : one.names ≡ other.names = cc in
+    ap (λ j. request_for j one.tree one.names) same_job
+    ∙ (ap (λ t. request_for other.job t one.names) same_tree
+    ∙ ap (λ n. request_for other.job other.tree n) same_names)
+
+-- what is so of what the words ask for
+the_request : (words : List (List ℕ)) (request : Request) (IsSo : Request → Type 0)
+    → AsksFor words request → Asks words IsSo → IsSo request
+the_request words request IsSo asks some = subst IsSo
+    (request_unique words some.request request some.asks asks) some.is_so
+
+-- a request's text isn't refused
+spelt_or_refused : (words : List (List ℕ)) (request : Request) (fault : ParseFault)
+    → AsksFor words request → IsRefused words fault → ⊥
+spelt_or_refused words request fault asks told =
+    let same = job_unique words told.job request.job told.gives asks.gives in
+    let wrong = outcome_once request.job.expr (refused fault) (spelt request.tree request.names)
+    (subst (λ (j : Job). IsOutcome j.expr (refused fault)) same told.refuses) asks.spells in
+    cc
+
+pub refused_once : (words : List (List ℕ)) (fault other : ParseFault) → IsRefused words fault
+    → IsRefused words other → other ≡ fault
+refused_once words fault other told told' =
+    let same = job_unique words told'.job told.job told'.gives told.gives in
+    let one = outcome_once told.job.expr (refused other) (refused fault) (subst (λ
+    (j : Job). IsOutcome j.expr (refused other)) same told'.refuses) told.refuses in
+    cc
+
+-- a run over what words ask for is none over words that ask for nothing
+pub nothing_asked : (words : List (List ℕ)) (request : Request) → AsksFor words request
+    → AsksForNothing words → ⊥
+nothing_asked words request asks nothing =
+    ⊎_elim (λ none. none request.job asks.gives)
+    (λ some. spelt_or_refused words request some.0 asks some.1) nothing
+
+done_completes : (request : Request) (bytes text : List ℕ) → IsAnswerTo request bytes text
+    → IsStatusFor (outcome_for request bytes) Done
+done_completes request bytes text answer =
+    rw (outcome_of-completes request.job.format request.names request.job.max_bytes bytes
+    answer.trace answer.within answer.reads) (inl refl)
 
 -- a count to which one fault was added rose
 one_more : (before now : ℕ) → now ≡ counted before → Rises before now
 one_more before now e = rw e (omega arith)
 
--- a run over a pattern in which no fault was counted
-complete_over : (job : Job) (tree : PatternTree) (names : List (List ℕ)) (outside : Outside) (status : Status) → EndsAs job tree names outside status
-    → ¬ Rises outside.reads_before outside.reads_now → ¬ Rises outside.writes_before outside.writes_now
-    → IfSome outside.file (λ bytes. IsStatusFor (outcome_for job names bytes) status)
-complete_over job tree names outside Done ends reads writes = weaker outside.file _ _ (λ bytes done. done_completes job tree names bytes done.text done.answer) ends.2
-complete_over job tree names outside Usage ends reads writes = absurd ends
-complete_over job tree names outside (Expression fault) ends reads writes = absurd ends
-complete_over job tree names outside (Trace fault) ends reads writes = weaker outside.file _ _ (λ bytes e. rw e (inl refl)) ends.3
-complete_over job tree names outside InputTooLong ends reads writes = weaker outside.file _ _ (λ bytes e. rw e (inl refl)) ends.2
-complete_over job tree names outside ReadFault ends reads writes = absurd (reads (one_more _ _ ends.0))
-complete_over job tree names outside WriteFault ends reads writes = absurd (writes (one_more _ _ ends.1))
-complete_over job tree names outside Memory ends reads writes = free outside.file _ (λ bytes. memory_is_free (outcome_for job names bytes))
+-- a run that is done, in each mode
+done_in : (mode : Mode) (request : Request) (input : InputTold) (output : OutputTold)
+    (done : EndsDone request input output)
+    → request.job.mode ≡ mode → IsStatusIn mode request input Done
+done_in Offline request input output done same = λ reads.
+    let right = rw same at done.right in
+    weaker input.file _ _ (λ bytes answer. done_completes request bytes done.text answer) right
+done_in Online request input output done same = absurd (rw same at done.right)
+done_in Show request input output done same = inl refl
 
--- words that ask for a pattern aren't refused but for want of memory
-pub refused_memory : (words : List (List ℕ)) (job : Job) (tree : PatternTree) (names : List (List ℕ)) (status : Status) → AsksFor words job tree names → RefusesWords words status → status ≡ Memory
-refused_memory words job tree names Done asks told = absurd told
-refused_memory words job tree names Usage asks told = let wrong : Some job ≡ None = sym asks.job_is ∙ told in cc
-refused_memory words job tree names (Expression fault) asks told =
-    let same = job_unique words told.job job told.job_is asks.job_is in
-    let one = outcome_once job.expr (refused fault) (spelt tree names) (subst (λ (j : Job). IsOutcome j.expr (refused fault)) same told.refuses) asks.spells in
-    cc
-refused_memory words job tree names (Trace fault) asks told = absurd told
-refused_memory words job tree names InputTooLong asks told = absurd told
-refused_memory words job tree names ReadFault asks told = absurd told
-refused_memory words job tree names WriteFault asks told = absurd told
-refused_memory words job tree names Memory asks told = refl
+memory_in : (mode : Mode) (request : Request) (input : InputTold)
+    → IsStatusIn mode request input Memory
+memory_in Offline request input = λ reads. free input.file _ (λ bytes. memory_is_free
+    (outcome_for request bytes))
+memory_in Online request input = λ reads. free input.file _ (λ bytes. memory_is_free
+    (outcome_for request bytes))
+memory_in Show request input = inr refl
 
-only_memory : (words : List (List ℕ)) (job : Job) (tree : PatternTree) (names : List (List ℕ)) (outside : Outside) (status : Status) → AsksFor words job tree names → RefusesWords words status
-    → IfSome outside.file (λ bytes. IsStatusFor (outcome_for job names bytes) status)
-only_memory words job tree names outside status asks told =
-    rw (refused_memory words job tree names status asks told) (free outside.file _ (λ bytes. memory_is_free (outcome_for job names bytes)))
+-- a fault of the input, in each mode
+fault_in : (mode : Mode) (request : Request) (input : InputTold) (output : OutputTold)
+    (status : Status) → StandsBeforeFault mode request input output
+    → (¬ Rises input.faults_before input.faults_now
+    → IfSome input.file (λ bytes. IsStatusFor (outcome_for request bytes) status))
+    → IsStatusIn mode request input status
+fault_in Offline request input output status stands told = told
+fault_in Online request input output status stands told = told
+fault_in Show request input output status stands told = absurd stands
 
--- the run over the pattern that the words ask for
-pub over_asked : (words : List (List ℕ)) (job : Job) (tree : PatternTree) (names : List (List ℕ)) (outside : Outside) (status : Status) → AsksFor words job tree names → EndsOver words outside status → EndsAs job tree names outside status
-over_asked words job tree names outside status asks over =
-    let same_job = job_unique words over.job job over.asks.job_is asks.job_is in
-    let spells = subst (λ (j : Job). IsOutcome j.expr (spelt over.tree over.names)) same_job over.asks.spells in
-    let one = outcome_once job.expr (spelt over.tree over.names) (spelt tree names) spells asks.spells in
-    let same_tree : over.tree ≡ tree = cc in
-    let same_names : over.names ≡ names = cc in
-    subst (λ n. EndsAs job tree n outside status) same_names
-    (subst (λ t. EndsAs job t over.names outside status) same_tree (subst (λ j. EndsAs j over.tree over.names outside status) same_job over.ends))
+-- what must come of a request
+asked_as : (words : List (List ℕ)) (request : Request) (input : InputTold) (output : OutputTold)
+    (status : Status) → AreTaken words → AsksFor words request → EndsAs words input output status
+    → ¬ Rises output.faults_before output.faults_now
+    → IsStatusIn request.job.mode request input status
+asked_as words request input output Done taken asks ends writes =
+    done_in request.job.mode request input output (the_request words request
+    (λ r. EndsDone r input output) asks ends) refl
+asked_as words request input output Usage taken asks ends writes = absurd
+    (ends.no_job taken request.job asks.gives)
+asked_as words request input output (Expression fault) taken asks ends writes = absurd
+    (spelt_or_refused words request fault asks ends.refused)
+asked_as words request input output (Trace fault) taken asks ends writes =
+    let found = the_request words request (λ r. EndsTrace r input output fault) asks ends in
+    fault_in request.job.mode request input output (Trace fault) found.stands
+    (λ reads. weaker input.file _ _ (λ bytes e. rw e (inl refl)) found.cause)
+asked_as words request input output InputTooLong taken asks ends writes =
+    let found = the_request words request (λ r. EndsTooLong r input output) asks ends in
+    fault_in request.job.mode request input output InputTooLong found.stands
+    (λ reads. weaker input.file _ _ (λ bytes e. rw e (inl refl)) found.cause)
+asked_as words request input output ReadFault taken asks ends writes =
+    let found = the_request words request (λ r. EndsReadFault r input output) asks ends in
+    fault_in request.job.mode request input output ReadFault found.stands
+    (λ reads. absurd (reads (one_more _ _ found.cause)))
+asked_as words request input output WriteFault taken asks ends writes =
+    let found = the_request words request (λ r. EndsWriteFault r input output) asks ends in
+    absurd (writes (one_more _ _ found.cause))
+asked_as words request input output Memory taken asks ends writes = memory_in request.job.mode
+    request input
 
--- A status that words aren't refused with comes of a run over the pattern that they ask for.
-pub ends_asked : (words : List (List ℕ)) (job : Job) (tree : PatternTree) (names : List (List ℕ)) (outside : Outside) (untouched : Type 0) (status this : Status) → AsksFor words job tree names → EndsWords words outside untouched status
-    → status ≡ this → (RefusesWords words this → ⊥) → EndsAs job tree names outside this
-ends_asked words job tree names outside untouched status this asks ends is never = ⊎_elim
-    (λ told. absurd (never (subst (RefusesWords words) is told.1)))
-    (λ over. subst (EndsAs job tree names outside) is (over_asked words job tree names outside status asks over))
-    ends
+-- what must come of a text that is refused
+refused_as : (words : List (List ℕ)) (input : InputTold) (output : OutputTold) (status : Status)
+    (fault : ParseFault) → AreTaken words → EndsAs words input output status
+    → IsRefused words fault → IsUnlessMemory (Expression fault) status
+refused_as words input output Usage fault taken ends told = absurd
+    (ends.no_job taken told.job told.gives)
+refused_as words input output (Expression other) fault taken ends told = inl (ap Expression
+    (refused_once words fault other told ends.refused))
+refused_as words input output Memory fault taken ends told = inr refl
+refused_as words input output Done fault taken ends told = absurd
+    (spelt_or_refused words ends.request fault ends.asks told)
+refused_as words input output (Trace at) fault taken ends told = absurd
+    (spelt_or_refused words ends.request fault ends.asks told)
+refused_as words input output InputTooLong fault taken ends told = absurd
+    (spelt_or_refused words ends.request fault ends.asks told)
+refused_as words input output ReadFault fault taken ends told = absurd
+    (spelt_or_refused words ends.request fault ends.asks told)
+refused_as words input output WriteFault fault taken ends told = absurd
+    (spelt_or_refused words ends.request fault ends.asks told)
 
-pub completes-words : (words : List (List ℕ)) (job : Job) (tree : PatternTree) (names : List (List ℕ)) (outside : Outside) (untouched : Type 0) (status : Status) → AsksFor words job tree names → EndsWords words outside untouched status
-    → ¬ Rises outside.reads_before outside.reads_now → ¬ Rises outside.writes_before outside.writes_now
-    → IfSome outside.file (λ bytes. IsStatusFor (outcome_for job names bytes) status)
-completes-words words job tree names outside untouched status asks ends reads writes = ⊎_elim
-    (λ refused. only_memory words job tree names outside status asks refused.1)
-    (λ over. complete_over job tree names outside status (over_asked words job tree names outside status asks over) reads writes)
-    ends
+-- a run that ends so is complete
+pub IsComplete-ends : (words : List (List ℕ)) (input : InputTold) (output : OutputTold)
+    (status : Status) → EndsAs words input output status → IsComplete words input output status
+IsComplete-ends words input output status ends = record {
+  refused = λ fault taken told. refused_as words input output status fault taken ends told;
+  asked = λ request taken asks writes. asked_as words request input output status taken asks ends
+      writes;
+}
 
--- a run that wasn't refused by its words ran over a pattern
-not_refused : (words : List (List ℕ)) (status : Status) → status ≢ Usage → ((fault : ParseFault) → status ≢ Expression fault) → status ≢ Memory → RefusesWords words status → ⊥
-not_refused words Usage usage expression memory told = usage refl
-not_refused words (Expression fault) usage expression memory told = expression fault refl
-not_refused words Memory usage expression memory told = memory refl
-not_refused words Done usage expression memory told = told
-not_refused words (Trace fault) usage expression memory told = told
-not_refused words InputTooLong usage expression memory told = told
-not_refused words ReadFault usage expression memory told = told
-not_refused words WriteFault usage expression memory told = told
+-- the end of a run over the request that the words ask for
+pub EndsAs-over : (words : List (List ℕ)) (request : Request) (input : InputTold)
+    (output : OutputTold) (status : Status) → AsksFor words request
+    → EndsOver request input output status → EndsAs words input output status
+EndsAs-over words request input output Done asks over = record {
+  request = request;
+  asks = asks;
+  is_so = over;
+}
+EndsAs-over words request input output Usage asks over = absurd over
+EndsAs-over words request input output (Expression fault) asks over = absurd over
+EndsAs-over words request input output (Trace fault) asks over = record {
+  request = request;
+  asks =
+      asks;
+  is_so = over;
+}
+EndsAs-over words request input output InputTooLong asks over = record {
+  request = request;
+  asks =
+      asks;
+  is_so = over;
+}
+EndsAs-over words request input output ReadFault asks over = record {
+  request = request;
+  asks =
+      asks;
+  is_so = over;
+}
+EndsAs-over words request input output WriteFault asks over = record {
+  request = request;
+  asks =
+      asks;
+  is_so = over;
+}
+EndsAs-over words request input output Memory asks over = over
 
-pub asked-words : (words : List (List ℕ)) (outside : Outside) (untouched : Type 0) (status : Status) → EndsWords words outside untouched status
-    → status ≢ Usage → ((fault : ParseFault) → status ≢ Expression fault) → status ≢ Memory → HasPattern words
-asked-words words outside untouched status ends usage expression memory = ⊎_elim
-    (λ told. absurd (not_refused words status usage expression memory told.1))
-    (λ over. record { job = over.job; tree = over.tree; names = over.names; asks = over.asks })
-    ends
+-- the end of a run whose words weren't read as a job
+pub EndsAs-words : (words : List (List ℕ)) (input : InputTold) (output : OutputTold)
+    (fault : WordsFault)
+    → (fault ≡ WordsUsage → AreTaken words → GivesNoJob words) → AllReadsGood input
+    → NothingWritten output → EndsAs words input output (words_status fault)
+EndsAs-words words input output WordsUsage none reads unwritten = record {
+  no_job = none refl;
+  reads
+      = reads;
+  unwritten = unwritten;
+}
+EndsAs-words words input output WordsMemory none reads unwritten = record {
+  reads = reads;
+  unwritten
+      = unwritten;
+}
 
--- a run over a pattern is none over words without one
-none_over : (words : List (List ℕ)) (outside : Outside) (status : Status) → job_of words ≡ None → EndsOver words outside status → ⊥
-none_over words outside status none over = let wrong : Some over.job ≡ None = sym over.asks.job_is ∙ none in cc
+-- memory was wanting, or the fault is told
+faults : (fault : ParseFault) → (fault ≡ ParseMemory) ⊎ ((fault ≢ ParseMemory) ×
+    (parse_status fault ≡ Expression fault))
+faults ParseMemory = inl refl
+faults TooLong = inr (λ e. cc, refl)
+faults (BadByte at) = inr (λ e. cc, refl)
+faults (Number at) = inr (λ e. cc, refl)
+faults (TooDeep at) = inr (λ e. cc, refl)
+faults (Syntax at) = inr (λ e. cc, refl)
+faults (EmptyInterval at) = inr (λ e. cc, refl)
+faults (TooManyNames at) = inr (λ e. cc, refl)
+faults (TooLarge nodes) = inr (λ e. cc, refl)
 
-vain_over : (words : List (List ℕ)) (outside : Outside) (status : Status) (fault : ParseFault) → AsksInVain words fault → EndsOver words outside status → ⊥
-vain_over words outside status fault asks over =
-    let same = job_unique words over.job asks.job over.asks.job_is asks.job_is in
-    let one = outcome_once asks.job.expr (spelt over.tree over.names) (refused fault) (subst (λ (j : Job). IsOutcome j.expr (spelt over.tree over.names)) same over.asks.spells) asks.refuses in
-    cc
+-- the end of a run whose text was refused
+pub EndsAs-refused : (words : List (List ℕ)) (input : InputTold) (output : OutputTold)
+    (fault : ParseFault)
+    → (fault ≢ ParseMemory → IsRefused words fault) → AllReadsGood input → NothingWritten output
+    → EndsAs words input output (parse_status fault)
+EndsAs-refused words input output fault told reads unwritten = elim (faults fault) [
+  | inl memory ↦ rw memory (record { reads = reads; unwritten = unwritten })
+  | inr other ↦ rw other.1 (record { refused = told other.0; reads = reads; unwritten = unwritten })
+]
 
--- words that ask for no pattern leave all as it was
-pub untouched-words : (words : List (List ℕ)) (outside : Outside) (untouched : Type 0) (status : Status) → EndsWords words outside untouched status
-    → (job_of words ≡ None) ⊎ ((fault : ParseFault) × AsksInVain words fault) → untouched
-untouched-words words outside untouched status ends nothing = ⊎_elim
-    (λ told. told.0)
-    (λ over. absurd (⊎_elim (λ none. none_over words outside status none over) (λ vain. vain_over words outside status vain.0 vain.1 over) nothing))
-    ends
-
-refused_so : (words : List (List ℕ)) (status : Status) (fault : ParseFault) → AsksInVain words fault → RefusesWords words status → (status ≡ Expression fault) ⊎ (status ≡ Memory)
-refused_so words Usage fault asks told = let wrong : Some asks.job ≡ None = sym asks.job_is ∙ told in cc
-refused_so words (Expression other) fault asks told =
-    let same = job_unique words told.job asks.job told.job_is asks.job_is in
-    let one = outcome_once asks.job.expr (refused other) (refused fault) (subst (λ (j : Job). IsOutcome j.expr (refused other)) same told.refuses) asks.refuses in
-    let alike : other ≡ fault = cc in
-    inl (ap Expression alike)
-refused_so words Memory fault asks told = inr refl
-refused_so words Done fault asks told = absurd told
-refused_so words (Trace at) fault asks told = absurd told
-refused_so words InputTooLong fault asks told = absurd told
-refused_so words ReadFault fault asks told = absurd told
-refused_so words WriteFault fault asks told = absurd told
-
-pub no_pattern-words : (words : List (List ℕ)) (outside : Outside) (untouched : Type 0) (status : Status) (fault : ParseFault) → EndsWords words outside untouched status
-    → AsksInVain words fault → (status ≡ Expression fault) ⊎ (status ≡ Memory)
-no_pattern-words words outside untouched status fault ends asks =
-    ⊎_elim (λ told. refused_so words status fault asks told.1) (λ over. absurd (vain_over words outside status fault asks over)) ends
+-- a refused text, from what the parser answers
+pub IsRefused-parse : (words : List (List ℕ)) (job : Job) (text : List ℕ) (fault : ParseFault)
+    → GivesJob words job → text ≡ job.expr
+    → (fault ≡ ParseMemory) ⊎ IsOutcome text (refused fault) → fault ≢ ParseMemory
+    → IsRefused words fault
+IsRefused-parse words job text fault gives same either never = record {
+  job = job;
+  gives = gives;
+  refuses = subst (λ t. IsOutcome t (refused fault)) same (⊎_elim (λ memory. absurd
+      (never memory)) (λ told. told) either);
+  never_memory = never;
+}
 
 -- a call did all its work or failed
-pub all_or_part : {T E : Type 0} (result : Result T E) (All Part : Type 0) → OnOk result All → OnErr result Part → All ⊎ Part
+pub all_or_part : {T E : Type 0} (result : Result T E) (All Part : Type 0) → OnOk result All
+    → OnErr result Part → All ⊎ Part
 all_or_part (Ok value) All Part all part = inl all
 all_or_part (Err fault) All Part all part = inr part
+
+-- what words ask for, from what the parser answers
+pub AsksFor-parse : (words : List (List ℕ)) (job : Job) (text : List ℕ) (tree : PatternTree)
+    (names : List (List ℕ)) → GivesJob words job → text ≡ job.expr
+    → IsOutcome text (spelt tree names) → AsksFor words
+    (record { job = job; tree = tree; names = names })
+AsksFor-parse words job text tree names gives same spells = record {
+  gives = gives;
+  spells = subst (λ t. IsOutcome t (spelt tree names)) same spells;
+}
+
+-- a text that is one of what the words ask for is refused for want of memory alone
+pub never_refused : (words : List (List ℕ)) (request : Request) (fault : ParseFault)
+    → AsksFor words request → (fault ≢ ParseMemory → IsRefused words fault)
+    → parse_status fault ≡ Memory
+never_refused words request fault asks told = elim (faults fault) [
+  | inl memory ↦ rw memory refl
+  | inr other ↦ absurd (spelt_or_refused words request fault asks (told other.0))
+]
+
+-- a run that stopped before its answer
+pub EndsAs-stopped : (words : List (List ℕ)) (request : Request) (input : InputTold)
+    (output : OutputTold) (status : Status) → AsksFor words request
+    → StopsAs request input status → NothingWritten output → EndsAs words input output status
+EndsAs-stopped words request input output status asks stops unwritten = EndsAs-over words request
+    input output status asks (stops output unwritten)
+
+-- what stands in the output where a write failed
+cut_in : (mode : Mode) (request : Request) (input : InputTold) (output : OutputTold)
+    (text : List ℕ) → request.job.mode ≡ mode
+    → IsAnswerIn mode request input.file text
+    → AppendsPart output.written_before output.written_now text
+    → StandsBeforeFailedWrite mode request input output
+cut_in Offline request input output text is right part = record {
+  text = text;
+  right = rw is right;
+  written = part;
+}
+cut_in Online request input output text is right part = absurd right
+cut_in Show request input output text is right part = record {
+  text = text;
+  right = rw is right;
+  written = part;
+}
+
+-- a run of which a write failed
+pub EndsAs-cut : (words : List (List ℕ)) (request : Request) (input : InputTold)
+    (output : OutputTold) (text : List ℕ) → AsksFor words request
+    → IsFoundFor request input text → output.faults_now ≡ counted output.faults_before
+    → AppendsPart output.written_before output.written_now text
+    → EndsAs words input output WriteFault
+EndsAs-cut words request input output text asks found cause part = record {
+  request = request;
+  asks = asks;
+  is_so = record {
+    cause = cause;
+    reads = found.reads;
+    stands = cut_in request.job.mode request input output text refl found.right part;
+  };
+}
+
+-- a run whose answer was written
+pub EndsAs-done : (words : List (List ℕ)) (request : Request) (input : InputTold)
+    (output : OutputTold) (text : List ℕ) → AsksFor words request
+    → IsFoundFor request input text → AllWritesGood output
+    → Appends output.written_before output.written_now text → EndsAs words input output Done
+EndsAs-done words request input output text asks found writes written = record {
+  request = request;
+  asks = asks;
+  is_so = record {
+    reads = found.reads;
+    all_read = found.all_read;
+    text = text;
+    right = found.right;
+    writes = writes;
+    written = written;
+  };
+}
+
+-- the name is that of the job which the words give
+pub named_as : (words : List (List ℕ)) (job : Job) (request : Request) (name : Option (List ℕ))
+    → GivesJob words job → AsksFor words request
+    → (ReadsInput job.mode → IfSome name (λ told. told ≡ job.input))
+    → ReadsInput request.job.mode → IfSome name (λ told. told ≡ request.job.input)
+named_as words job request name gives asks named =
+    subst (λ (j : Job). ReadsInput j.mode
+    → IfSome name (λ told. told ≡ j.input))
+    (job_unique words job request.job gives asks.gives) named
+
+-- words that ask for something aren't refused but for want of memory, or because they aren't taken
+pub only_untaken : (fault : WordsFault) → words_status fault ≢ Usage
+    → words_status fault ≢ Memory → ⊥
+only_untaken WordsUsage usage memory = usage refl
+only_untaken WordsMemory usage memory = memory refl
+
+-- the mode is that of the job which the words give
+pub shown_as : (words : List (List ℕ)) (job other : Job) (Kept : Type 0) → GivesJob words job
+    → GivesJob words other → (job.mode ≡ Show → Kept) → other.mode ≡ Show → Kept
+shown_as words job other Kept gives gives' shown = subst (λ (j : Job). j.mode ≡ Show
+    → Kept) (job_unique words job other gives gives') shown

@@ -1,10 +1,105 @@
 -- What the words of the command line ask for.
-use Rattle.std.specs.Prelude.{ℕ, ◌^◌, List, [], ◌∷◌, Option, None, Some, codes}
+use Rattle.std.specs.Prelude.{◌≡◌, ℕ, nat_le, nat_lt, Bool, true, false, ◌&&◌, List, [], ◌∷◌, Option, None, Some, codes, option_and_then, if◌then◌else◌, length}
+use Rattle.std.specs.List.{list_all}
+use Rattle.std.specs.Option.{option_map_or}
+use Rattle.std.specs.Str.{bytes_eq}
+use Rattle.std.specs.Str.Parse.{digits_value}
+use Rattle.std.specs.Char.{is_ascii_digit}
+use Rattle.clap.specs.Simple.{on_top}
+use Rattle.clap.specs.Words.{App, Row, Rule, Text, first_of, matches_of, new_app, new_rule, takes, with_rule}
+use Rattle.clap.specs.declared.builder.action.ArgAction.TheVariants.{Set, SetTrue}
+use Rattle.tre_tool.specs.declared.job.TheConstants.{LIMIT_MAX}
+use Rattle.tre_tool.specs.declared.job.Format.{Format}
+use Rattle.tre_tool.specs.declared.job.Format.TheVariants.{Text as TextFormat, Vcd}
 use Rattle.tre_tool.specs.declared.job.Job.{Job}
+use Rattle.tre_tool.specs.declared.job.Mode.{Mode}
+use Rattle.tre_tool.specs.declared.job.Mode.TheVariants.{Offline, Online, Show}
 
--- The job that the words give: they are exactly one, the pattern. The input is then standard input, and it may
--- have 2^30 bytes.
-abbrev pub job_of : List (List ℕ) → Option Job
-job_of [] = None
-job_of (pattern ∷ []) = Some (record { input = codes "-"; max_bytes = 2 ^ 30; expr = pattern })
-job_of (first ∷ second ∷ rest) = None
+-- a flag, as `--show`
+abbrev pub flag_rule : Text → Rule
+flag_rule name = record (new_rule name) { long = Some name; action = Some SetTrue }
+
+-- an option with one value, as `--input NAME`, and the value where it isn't given
+abbrev pub option_rule : Text → Text → Rule
+option_rule name default =
+    record (new_rule name) { long = Some name; action = Some Set; defaults = default ∷ [] }
+
+-- a word that must be there and is no option
+abbrev pub operand_rule : Text → Rule
+operand_rule name = record (new_rule name) { action = Some Set; required = true }
+
+-- the program without its options: no help flag, and the words are those after the program's name
+abbrev pub bare_command : App
+bare_command =
+    on_top (λ s. record s { no_binary_name = true; disable_help_flag = true })
+    (new_app (codes "montre"))
+
+-- The command line as `clap` sees it.
+unfoldable pub command_line : App
+command_line =
+    with_rule (with_rule (with_rule (with_rule (with_rule (with_rule bare_command
+    (flag_rule (codes "online")))
+    (flag_rule (codes "show")))
+    (option_rule (codes "format") (codes "text")))
+    (option_rule (codes "input") (codes "-")))
+    (option_rule (codes "max-bytes") (codes "1073741824")))
+    (operand_rule (codes "EXPR"))
+
+-- the flag stands among the words
+abbrev pub is_given : Text → List Row → Bool
+is_given name rows = option_map_or (λ text. bytes_eq text (codes "true")) (first_of name rows) false
+
+-- `--show` counts where both flags are given
+abbrev pub mode_for : Bool → Bool → Mode
+mode_for true online = Show
+mode_for false true = Online
+mode_for false false = Offline
+
+abbrev pub mode_in : List Row → Mode
+mode_in rows = mode_for (is_given (codes "show") rows) (is_given (codes "online") rows)
+
+abbrev pub format_named : Text → Option Format
+format_named text =
+    if bytes_eq text (codes "text") then Some TextFormat
+    else (if bytes_eq text (codes "vcd") then Some Vcd else None)
+
+-- one decimal digit or more, and nothing else
+abbrev pub is_numeral : Text → Bool
+is_numeral text = nat_lt 0 (length text) && list_all is_ascii_digit text
+
+-- a number of bytes that an input may be limited to
+abbrev pub is_limit : ℕ → Bool
+is_limit number = nat_lt 0 number && nat_le number LIMIT_MAX
+
+-- the limit that a text writes in decimal digits
+abbrev pub limit_written : Text → Option ℕ
+limit_written text =
+    if is_numeral text && is_limit (digits_value 10 text) then Some (digits_value 10 text) else None
+
+-- Whether runs in this mode are there. Online matching isn't yet.
+abbrev pub has_run : Mode → Bool
+has_run Offline = true
+has_run Online = false
+has_run Show = true
+
+-- What the values of the options give is this job.
+pub record GivesFrom (rows : List Row) (job : Job) : Type 0 where
+  pub expr : first_of (codes "EXPR") rows ≡ Some job.expr
+  pub input : first_of (codes "input") rows ≡ Some job.input
+  pub format : option_and_then format_named (first_of (codes "format") rows) ≡ Some job.format
+  pub max_bytes :
+      option_and_then limit_written (first_of (codes "max-bytes") rows) ≡ Some job.max_bytes
+  pub mode : mode_in rows ≡ job.mode
+  pub run : has_run job.mode ≡ true
+
+-- The words give this job: its parts are the matches that `clap` promises of these words.
+abbrev pub GivesJob : List Text → Job → Type 0
+GivesJob words job = GivesFrom (matches_of command_line words) job
+
+-- The words give no job.
+abbrev pub GivesNoJob : List Text → Type 0
+GivesNoJob words = (job : Job) → GivesJob words job → ⊥
+
+-- `clap` takes the words. It answers words that it doesn't take with a fault of its own.
+abbrev pub AreTaken : List Text → Type 0
+AreTaken words = takes command_line words ≡ true

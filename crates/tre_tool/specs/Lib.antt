@@ -1,11 +1,10 @@
+-- What a reader must believe: what words ask for, what an input comes to, what is taken of it, how
+-- a run ends, and how that is told.
 pub mod Job
-pub mod Reading
-pub mod TraceLines
-pub mod Status
-pub mod Matches
-pub mod Output
 pub mod Outcome
-pub mod Stops
 pub mod Input
 pub mod Run
-pub mod Ends
+pub mod Status
+-- What the functions inside promise each other.
+pub mod Feeding
+pub mod Answer

@@ -1,15 +1,37 @@
 -- What the bytes of an input come to, and the answer to a trace.
-use Rattle.std.specs.Prelude.{◌≡◌, ℕ, ◌≤◌, nat_le, Bool, true, false, List, length, take, Option, None, Some}
+use Rattle.std.specs.Prelude.{◌≡◌, ◌≢◌, ℕ, ◌≤◌, nat_le, Bool, true, false, List, length, take, Option, None, Some}
+use Rattle.tre_text.specs.TextReading.{text_reading}
+use Rattle.tre_trace.specs.Reading.{Reading}
 use Rattle.tre_trace.specs.Trace.{end_of, IsTrace}
 use Rattle.tre_trace.specs.declared.segment.Segment.{Segment}
 use Rattle.tre_trace.specs.declared.fault.TraceFault.{TraceFault}
+use Rattle.tre_trace.specs.declared.fault.TraceKind.{TraceKind}
+use Rattle.tre_trace.specs.declared.fault.TraceKind.TheVariants.{Spent, Memory}
+use Rattle.tre_vcd.specs.VcdReading.{vcd_reading}
 use Rattle.tre_zone.specs.declared.zone_bounds.ZoneBounds.{ZoneBounds}
 use Rattle.tre_syntax.specs.PatternTree.{PatternTree}
-use Rattle.tre_tool.specs.Matches.{IsMatchSet}
-use Rattle.tre_tool.specs.Output.{IsRising, offline_text}
-use Rattle.tre_tool.specs.Reading.{text_reading, Reads, ReadingOf}
+use Rattle.tre_show.specs.Line.{offline_text}
+use Rattle.tre_show.specs.Order.{IsRising}
+use Rattle.tre_offline.specs.MatchSet.{IsMatchSet}
+use Rattle.tre_tool.specs.declared.job.Format.{Format}
+use Rattle.tre_tool.specs.declared.job.Format.TheVariants.{Text, Vcd}
 
--- They are a trace, they have a first fault, or they have no fault and are more than the input may have.
+-- What bytes in a format say of a trace, for the propositions of these names.
+abbrev pub reading_in : Format → List (List ℕ) → Bool → List ℕ → Reading
+reading_in Text names closed bytes = text_reading names closed bytes
+reading_in Vcd names closed bytes = vcd_reading names closed bytes
+
+-- The bytes are this trace.
+abbrev pub Reads : Format → List (List ℕ) → List ℕ → List Segment → Type 0
+Reads format names bytes trace =
+    reading_in format names true bytes ≡ record { segments = trace; fault = None }
+
+-- A kind that the bytes of an input can have: no want of memory, and no reader that was done.
+pub record IsInputKind (kind : TraceKind) : Type 0 where
+  pub never_memory : kind ≢ Memory
+  pub never_spent : kind ≢ Spent
+
+-- They are a trace, they have a first fault, or they have no fault and are too many.
 pub data Outcome : Type 0 where
   completes : List Segment → Outcome
   refuses : TraceFault → Outcome
@@ -21,21 +43,23 @@ outcome_from closed segments (Some fault) = refuses fault
 outcome_from true segments None = completes segments
 outcome_from false segments None = exceeds
 
-abbrev pub outcome_of_reading : Bool → ReadingOf → Outcome
+abbrev pub outcome_of_reading : Bool → Reading → Outcome
 outcome_of_reading closed reading = outcome_from closed reading.segments reading.fault
 
--- What the bytes come to for these names, where the input may have `limit` of them. Bytes past the limit are not
--- judged, and bytes behind the last line end within it are a line only where there are none past it.
-unfoldable pub outcome_of : List (List ℕ) → ℕ → List ℕ → Outcome
-outcome_of names limit bytes =
-    outcome_of_reading (nat_le (length bytes) limit) (text_reading names (nat_le (length bytes) limit) (take limit bytes))
+-- What the bytes come to by this reading, where the input may have `limit` of them. Bytes past the
+-- limit are not judged, and the input is closed only where there are none past it.
+unfoldable pub outcome_of : (Bool → List ℕ → Reading) → ℕ → List ℕ → Outcome
+outcome_of reading limit bytes =
+    outcome_of_reading (nat_le (length bytes) limit)
+    (reading (nat_le (length bytes) limit) (take limit bytes))
 
--- The text is right for a run to the end over these bytes: they are within the limit and say a trace, and the text is
--- that of the matches of the pattern over it.
-pub record IsAnswer (tree : PatternTree) (names : List (List ℕ)) (limit : ℕ) (bytes text : List ℕ) : Type 0 where
+-- The text is right for a run to the end over these bytes: they are within the limit and say a
+-- trace, and the text is that of the matches of the pattern over it.
+pub record IsAnswer (format : Format) (tree : PatternTree) (names : List (List ℕ)) (limit : ℕ)
+    (bytes text : List ℕ) : Type 0 where
   pub within : length bytes ≤ limit
   pub trace : List Segment
-  pub reads : Reads names bytes trace
+  pub reads : Reads format names bytes trace
   pub is_trace : IsTrace trace
   pub zones : List ZoneBounds
   pub matches : IsMatchSet zones tree trace

@@ -1,61 +1,247 @@
--- The promise of a run: what was written, and why it ended as it did.
-use Rattle.std.specs.Prelude.{◌≡◌, ◌≢◌, ◌⊎◌, ℕ, List, Option, Some}
+-- The promise of a run: how it ends, what each status means, and what was written.
+use Rattle.std.specs.Prelude.{◌≡◌, ◌≢◌, ◌⊎◌, ℕ, List, Bool, Option, IfSome, IsTrue, Some, ◌++◌, codes}
 use Rattle.std.specs.Io.KnownBytes.{Appends, IsAtEnd}
-use Rattle.tre_io.specs.Faults.{counted}
+use Rattle.tre_io.specs.Faults.{counted, Rises}
 use Rattle.tre_io.specs.Written.{AppendsPart}
 use Rattle.tre_parse.specs.declared.fault.ParseFault.{ParseFault}
 use Rattle.tre_parse.specs.declared.fault.ParseFault.TheVariants.{Memory as ParseMemory}
-use Rattle.tre_tool.specs.Job.{job_of}
+use Rattle.tre_trace.specs.declared.fault.TraceFault.{TraceFault}
 use Rattle.tre_syntax.specs.PatternTree.{PatternTree}
 use Rattle.tre_parse.specs.Outcome.{IsOutcome, spelt, refused}
-use Rattle.tre_tool.specs.Outcome.{Outcome, completes, refuses, exceeds, outcome_of, IsAnswer}
+use Rattle.tre_tool.specs.Job.{GivesJob, GivesNoJob, AreTaken}
+use Rattle.tre_show.specs.PatternText.{expression_text}
+use Rattle.tre_tool.specs.Outcome.{Outcome, completes, refuses, exceeds, reading_in, outcome_of, IsInputKind, IsAnswer}
 use Rattle.tre_tool.specs.declared.job.Job.{Job}
+use Rattle.tre_tool.specs.declared.job.Mode.{Mode}
+use Rattle.tre_tool.specs.declared.job.Mode.TheVariants.{Offline, Online, Show}
 use Rattle.tre_tool.specs.declared.status.Status.{Status}
-use Rattle.tre_tool.specs.declared.status.Status.TheVariants.{Done, Trace, InputTooLong, Memory}
+use Rattle.tre_tool.specs.declared.status.Status.TheVariants.{Done, Usage, Expression, Trace, InputTooLong, ReadFault, WriteFault, Memory}
 
--- The words ask for this job, and its text spells this pattern within the limits.
-pub record AsksFor (words : List (List ℕ)) (job : Job) (tree : PatternTree) (names : List (List ℕ)) : Type 0 where
-  pub job_is : job_of words ≡ Some job
-  pub spells : IsOutcome job.expr (spelt tree names)
-
--- The words ask for a pattern.
-pub record HasPattern (words : List (List ℕ)) : Type 0 where
+-- What words ask for: a job, and the pattern that its text spells.
+pub record Request : Type 0 where
   pub job : Job
   pub tree : PatternTree
   pub names : List (List ℕ)
-  pub asks : AsksFor words job tree names
+
+-- the request for this job, whose text spells this pattern
+abbrev pub request_for : Job → PatternTree → List (List ℕ) → Request
+request_for job tree names = record { job = job; tree = tree; names = names }
+
+-- The words give this job, and its text spells this pattern within the limits.
+pub record AsksFor (words : List (List ℕ)) (request : Request) : Type 0 where
+  pub gives : GivesJob words request.job
+  pub spells : IsOutcome request.job.expr (spelt request.tree request.names)
+
+-- The words ask for something of which this is true.
+pub record Asks (words : List (List ℕ)) (IsSo : Request → Type 0) : Type 0 where
+  pub request : Request
+  pub asks : AsksFor words request
+  pub is_so : IsSo request
 
 -- The words give a job, whose text is refused with this fault.
-pub record AsksInVain (words : List (List ℕ)) (fault : ParseFault) : Type 0 where
+pub record IsRefused (words : List (List ℕ)) (fault : ParseFault) : Type 0 where
   pub job : Job
-  pub job_is : job_of words ≡ Some job
+  pub gives : GivesJob words job
   pub refuses : IsOutcome job.expr (refused fault)
   pub never_memory : fault ≢ ParseMemory
 
--- What the bytes of an input come to for a job and the names of its pattern.
-abbrev pub outcome_for : Job → List (List ℕ) → List ℕ → Outcome
-outcome_for job names bytes = outcome_of names job.max_bytes bytes
+-- The words ask for nothing: they give no job, or its text is refused.
+abbrev pub AsksForNothing : List (List ℕ) → Type 0
+AsksForNothing words = GivesNoJob words ⊎ ((fault : ParseFault) × IsRefused words fault)
 
--- `Done`: nothing is left of the input, and what was written is the text of the matches over the trace that it is.
-pub record IsDone (job : Job) (tree : PatternTree) (names : List (List ℕ)) (bytes : List ℕ) (left written_before written_now : Option (List ℕ)) : Type 0 where
-  pub all_read : IsAtEnd left
+-- What the source of a run tells and counts, before the run and at its end.
+pub record InputTold : Type 0 where
+  pub name : Option (List ℕ)
+  pub file : Option (List ℕ)
+  pub sound : Bool
+  pub left : Option (List ℕ)
+  pub faults_before : ℕ
+  pub faults_now : ℕ
+
+-- What the output of a run tells and counts, before the run and at its end.
+pub record OutputTold : Type 0 where
+  pub written_before : Option (List ℕ)
+  pub written_now : Option (List ℕ)
+  pub faults_before : ℕ
+  pub faults_now : ℕ
+
+-- what these meanings of a source tell of it as it was and as it is
+abbrev pub input_told : {S : Type 0} → (S → Option (List ℕ)) → (S → Option (List ℕ)) →
+    (S → Bool) → (S → Option (List ℕ)) → (S → ℕ) → S → S → InputTold
+input_told name file sound left faults before now = record {
+  name = name before;
+  file = file before;
+  sound = sound before;
+  left = left now;
+  faults_before = faults before;
+  faults_now = faults now;
+}
+
+-- what these meanings of a sink tell of it as it was and as it is
+abbrev pub output_told : {O : Type 0} → (O → Option (List ℕ)) → (O → ℕ) → O → O → OutputTold
+output_told written faults before now = record {
+  written_before = written before;
+  written_now = written now;
+  faults_before = faults before;
+  faults_now = faults now;
+}
+
+-- no read failed
+abbrev pub AllReadsGood : InputTold → Type 0
+AllReadsGood input = input.faults_now ≡ input.faults_before
+
+-- no write failed
+abbrev pub AllWritesGood : OutputTold → Type 0
+AllWritesGood output = output.faults_now ≡ output.faults_before
+
+-- nothing was written, and no write failed
+pub record NothingWritten (output : OutputTold) : Type 0 where
+  pub unwritten : output.written_now ≡ output.written_before
+  pub writes : AllWritesGood output
+
+-- What the bytes of an input come to for a request.
+abbrev pub outcome_for : Request → List ℕ → Outcome
+outcome_for request bytes =
+    outcome_of (reading_in request.job.format request.names) request.job.max_bytes bytes
+
+-- This text is right for a request and the bytes of its input.
+abbrev pub IsAnswerTo : Request → List ℕ → List ℕ → Type 0
+IsAnswerTo request bytes text =
+    IsAnswer request.job.format request.tree request.names request.job.max_bytes bytes text
+
+-- This is all that a run in this mode writes for a request, where the source has these bytes.
+abbrev pub IsAnswerIn : Mode → Request → Option (List ℕ) → List ℕ → Type 0
+IsAnswerIn Offline request file text = IfSome file (λ bytes. IsAnswerTo request bytes text)
+IsAnswerIn Online request file text = ⊥
+IsAnswerIn Show request file text =
+    text ≡ expression_text request.names request.tree ++ codes "\n"
+
+-- Nothing is left of an input that a run in this mode reads.
+abbrev pub IsReadToItsEnd : Mode → InputTold → Type 0
+IsReadToItsEnd Offline input = IsAtEnd input.left
+IsReadToItsEnd Online input = IsAtEnd input.left
+IsReadToItsEnd Show input = Unit {0}
+
+-- A first part of a right answer was written.
+pub record PartIsWritten (request : Request)
+    (input : InputTold) (output : OutputTold) : Type 0 where
   pub text : List ℕ
-  pub answer : IsAnswer tree names job.max_bytes bytes text
-  pub written : Appends written_before written_now text
+  pub right : IsAnswerIn request.job.mode request input.file text
+  pub written : AppendsPart output.written_before output.written_now text
 
--- A failed write leaves a first part of a text that is right for `Done`.
-pub record IsCutOff (job : Job) (tree : PatternTree) (names : List (List ℕ)) (bytes : List ℕ) (written_before written_now : Option (List ℕ)) : Type 0 where
+-- What stands in the output before a write that failed.
+abbrev pub StandsBeforeFailedWrite : Mode → Request → InputTold → OutputTold → Type 0
+StandsBeforeFailedWrite Offline request input output = PartIsWritten request input output
+StandsBeforeFailedWrite Online request input output = ⊥
+StandsBeforeFailedWrite Show request input output = PartIsWritten request input output
+
+-- What stands in the output before a fault of the input, where a run in this mode reads one.
+abbrev pub StandsBeforeFault : Mode → Request → InputTold → OutputTold → Type 0
+StandsBeforeFault Offline request input output = NothingWritten output
+StandsBeforeFault Online request input output = ⊥
+StandsBeforeFault Show request input output = ⊥
+
+-- `Done`: the input was read to its end, and the right answer was written.
+pub record EndsDone (request : Request) (input : InputTold) (output : OutputTold) : Type 0 where
+  pub reads : AllReadsGood input
+  pub all_read : IsReadToItsEnd request.job.mode input
   pub text : List ℕ
-  pub answer : IsAnswer tree names job.max_bytes bytes text
-  pub written : AppendsPart written_before written_now text
+  pub right : IsAnswerIn request.job.mode request input.file text
+  pub writes : AllWritesGood output
+  pub written : Appends output.written_before output.written_now text
 
--- The status that must come for what the input comes to; want of memory is free.
+-- `Usage`: the words give no job, or `clap` doesn't take them.
+pub record EndsUsage (words : List (List ℕ))
+    (input : InputTold) (output : OutputTold) : Type 0 where
+  pub no_job : AreTaken words → GivesNoJob words
+  pub reads : AllReadsGood input
+  pub unwritten : NothingWritten output
+
+-- `Expression`: the words give a job, and its text is refused with this fault.
+pub record EndsExpression (words : List (List ℕ)) (input : InputTold) (output : OutputTold)
+    (fault : ParseFault) : Type 0 where
+  pub refused : IsRefused words fault
+  pub reads : AllReadsGood input
+  pub unwritten : NothingWritten output
+
+-- `Trace`: this is the first fault of the bytes within the limit.
+pub record EndsTrace (request : Request) (input : InputTold) (output : OutputTold)
+    (fault : TraceFault) : Type 0 where
+  pub kind : IsInputKind fault.kind
+  pub cause : IfSome input.file (λ bytes. outcome_for request bytes ≡ refuses fault)
+  pub reads : AllReadsGood input
+  pub stands : StandsBeforeFault request.job.mode request input output
+
+-- `InputTooLong`: the input has more bytes than the limit, and those within it no fault.
+pub record EndsTooLong (request : Request) (input : InputTold) (output : OutputTold) : Type 0 where
+  pub cause : IfSome input.file (λ bytes. outcome_for request bytes ≡ exceeds)
+  pub reads : AllReadsGood input
+  pub stands : StandsBeforeFault request.job.mode request input output
+
+-- `ReadFault`: one failure to open or read was counted, and a source that is sound under the name
+-- of the job's input has none.
+pub record EndsReadFault (request : Request)
+    (input : InputTold) (output : OutputTold) : Type 0 where
+  pub cause : input.faults_now ≡ counted input.faults_before
+  pub unsound : IsTrue input.sound → input.name ≢ Some request.job.input
+  pub stands : StandsBeforeFault request.job.mode request input output
+
+-- `WriteFault`: one failure to write was counted.
+pub record EndsWriteFault (request : Request)
+    (input : InputTold) (output : OutputTold) : Type 0 where
+  pub cause : output.faults_now ≡ counted output.faults_before
+  pub reads : AllReadsGood input
+  pub stands : StandsBeforeFailedWrite request.job.mode request input output
+
+-- `Memory`: it may come at any time. No failure was counted, and nothing was written.
+pub record EndsMemory (input : InputTold) (output : OutputTold) : Type 0 where
+  pub reads : AllReadsGood input
+  pub unwritten : NothingWritten output
+
+-- The end of a run, status by status.
+abbrev pub EndsAs : List (List ℕ) → InputTold → OutputTold → Status → Type 0
+EndsAs words input output Done = Asks words (λ request. EndsDone request input output)
+EndsAs words input output Usage = EndsUsage words input output
+EndsAs words input output (Expression fault) = EndsExpression words input output fault
+EndsAs words input output (Trace fault) =
+    Asks words (λ request. EndsTrace request input output fault)
+EndsAs words input output InputTooLong = Asks words (λ request. EndsTooLong request input output)
+EndsAs words input output ReadFault = Asks words (λ request. EndsReadFault request input output)
+EndsAs words input output WriteFault = Asks words (λ request. EndsWriteFault request input output)
+EndsAs words input output Memory = EndsMemory input output
+
+-- The status is this one, or memory was wanting.
+abbrev pub IsUnlessMemory : Status → Status → Type 0
+IsUnlessMemory wanted status = (status ≡ wanted) ⊎ (status ≡ Memory)
+
+-- the status that must come for what the input comes to; want of memory is free
 abbrev pub IsStatusFor : Outcome → Status → Type 0
-IsStatusFor (completes trace) status = (status ≡ Done) ⊎ (status ≡ Memory)
-IsStatusFor (refuses fault) status = (status ≡ Trace fault) ⊎ (status ≡ Memory)
-IsStatusFor exceeds status = (status ≡ InputTooLong) ⊎ (status ≡ Memory)
+IsStatusFor (completes trace) status = IsUnlessMemory Done status
+IsStatusFor (refuses fault) status = IsUnlessMemory (Trace fault) status
+IsStatusFor exceeds status = IsUnlessMemory InputTooLong status
 
--- This status comes only where the run counted one fault, and every other one leaves the count as it was.
-pub record IsCountedFault (fault : Status) (before now : ℕ) (status : Status) : Type 0 where
-  pub rose : status ≡ fault → now ≡ counted before
-  pub others : status ≢ fault → now ≡ before
+-- The status that must come in this mode for a request, where no write failed.
+abbrev pub IsStatusIn : Mode → Request → InputTold → Status → Type 0
+IsStatusIn Offline request input status =
+    ¬ Rises input.faults_before input.faults_now →
+    IfSome input.file (λ bytes. IsStatusFor (outcome_for request bytes) status)
+IsStatusIn Online request input status =
+    ¬ Rises input.faults_before input.faults_now →
+    IfSome input.file (λ bytes. IsStatusFor (outcome_for request bytes) status)
+IsStatusIn Show request input status = IsUnlessMemory Done status
+
+-- What words that are taken ask for decides the status, where no fault was counted: a refused text
+-- is told, and the bytes of the input come to one outcome.
+pub record IsComplete (words : List (List ℕ)) (input : InputTold) (output : OutputTold)
+    (status : Status) : Type 0 where
+  pub refused : (fault : ParseFault) → AreTaken words → IsRefused words fault →
+      IsUnlessMemory (Expression fault) status
+  pub asked : (request : Request) → AreTaken words → AsksFor words request →
+      ¬ Rises output.faults_before output.faults_now →
+      IsStatusIn request.job.mode request input status
+
+-- The jobs of which a run reads the input.
+abbrev pub ReadsInput : Mode → Type 0
+ReadsInput Offline = Unit {0}
+ReadsInput Online = Unit {0}
+ReadsInput Show = ⊥

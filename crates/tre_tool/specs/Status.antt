@@ -4,8 +4,26 @@ use Rattle.tre_trace.specs.declared.fault.TraceKind.{TraceKind}
 use Rattle.tre_trace.specs.declared.fault.TraceKind.TheVariants.{LineTooLong, BadNumber, Zero, TooLate, BadName, BadToken, UnknownName, TimeBack, CutShort, Spent, Memory as KindMemory}
 use Rattle.tre_parse.specs.declared.fault.ParseFault.{ParseFault}
 use Rattle.tre_parse.specs.declared.fault.ParseFault.TheVariants.{TooLong, BadByte, Number, TooDeep, Syntax, EmptyInterval, TooManyNames, TooLarge, Memory as ParseMemory}
+use Rattle.tre_trace.specs.declared.fault.TraceFault.{TraceFault}
+use Rattle.tre_tool.specs.declared.job.WordsFault.{WordsFault}
+use Rattle.tre_tool.specs.declared.job.WordsFault.TheVariants.{Usage as WordsUsage, Memory as WordsMemory}
 use Rattle.tre_tool.specs.declared.status.Status.{Status}
 use Rattle.tre_tool.specs.declared.status.Status.TheVariants.{Done, Usage, Expression, Trace, InputTooLong, ReadFault, WriteFault, Memory}
+
+-- how a run ends over words that give no job, or that memory was wanting to read
+abbrev pub words_status : WordsFault → Status
+words_status WordsUsage = Usage
+words_status WordsMemory = Memory
+
+-- how a run ends over a text that is refused
+abbrev pub parse_status : ParseFault → Status
+parse_status ParseMemory = Memory
+parse_status fault = Expression fault
+
+-- how a run ends over an input with a fault of this kind
+abbrev pub trace_status : TraceKind → TraceFault → Status
+trace_status KindMemory fault = Memory
+trace_status kind fault = Trace fault
 
 -- the program's exit status
 abbrev pub code_of : Status → ℕ
@@ -37,7 +55,7 @@ fault_words TooLong = codes "TooLong"
 fault_words (BadByte at) = codes "BadByte at "
 fault_words (Number at) = codes "Number at "
 fault_words (TooDeep at) = codes "TooDeep at "
-fault_words Syntax = codes "Syntax"
+fault_words (Syntax at) = codes "Syntax at "
 fault_words (EmptyInterval at) = codes "EmptyInterval at "
 fault_words (TooManyNames at) = codes "TooManyNames at "
 fault_words (TooLarge nodes) = codes "TooLarge "
@@ -49,7 +67,7 @@ fault_number TooLong = None
 fault_number (BadByte at) = Some at
 fault_number (Number at) = Some at
 fault_number (TooDeep at) = Some at
-fault_number Syntax = None
+fault_number (Syntax at) = Some at
 fault_number (EmptyInterval at) = Some at
 fault_number (TooManyNames at) = Some at
 fault_number (TooLarge nodes) = Some nodes
@@ -64,8 +82,12 @@ digits_of (Some n) = decimal n
 abbrev pub error_line : Status → List ℕ
 error_line Done = []
 error_line Usage = codes "montre: wrong arguments\n"
-error_line (Expression fault) = codes "montre: expression: " ++ (fault_words fault ++ (digits_of (fault_number fault) ++ codes "\n"))
-error_line (Trace fault) = codes "montre: trace: " ++ kind_name fault.kind ++ codes " at " ++ decimal fault.place ++ codes "\n"
+error_line (Expression fault) =
+    codes "montre: expression: "
+    ++ (fault_words fault ++ (digits_of (fault_number fault) ++ codes "\n"))
+error_line (Trace fault) =
+    codes "montre: trace: " ++ kind_name fault.kind ++ codes " at " ++ decimal fault.place
+    ++ codes "\n"
 error_line InputTooLong = codes "montre: input too long\n"
 error_line ReadFault = codes "montre: read fault\n"
 error_line WriteFault = codes "montre: write fault\n"

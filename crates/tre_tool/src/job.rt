@@ -1,13 +1,31 @@
-ghost use Rattle.std.specs.Prelude.{◌≡◌, ◌≤◌, ◌^◌, map, string_bytes, IfOk};
-ghost use Rattle.tre_tool.specs.Job.{job_of};
-ghost use Rattle.tre_tool.specs.declared.job.WordsFault.TheVariants.{Usage};
+ghost use Rattle.std.specs.Prelude.{◌≡◌, IfOk};
 
 use std::alloc::{AllocError, Global};
 use std::marker::Model;
 use thiserror::Error;
 
-/// The most bytes that an input may have.
-pub const MAX_BYTES: u64 = 1 << 30;
+/// The largest number of bytes that an input may be limited to.
+pub const LIMIT_MAX: u64 = 1 << 40;
+
+/// What a run does with the pattern.
+#[derive(Clone, Copy, Debug, PartialEq, Eq)]
+pub enum Mode {
+    /// It tells the matches over the whole input.
+    Offline,
+    /// It tells the matches as the input comes.
+    Online,
+    /// It writes the pattern's text, and reads no input.
+    Show,
+}
+
+/// How the input tells a trace.
+#[derive(Clone, Copy, Debug, PartialEq, Eq)]
+pub enum Format {
+    /// Lines of a duration and names.
+    Text,
+    /// A value change dump.
+    Vcd,
+}
 
 /// A word of the command line, seen as its bytes.
 #[derive(Debug, Drop)]
@@ -42,6 +60,8 @@ impl Word {
 /// What the words of the command line ask for.
 #[derive(Debug, Drop)]
 pub struct Job {
+    pub mode: Mode,
+    pub format: Format,
     /// The name of the input; `-` is standard input.
     pub input: Word,
     /// The most bytes that the input may have.
@@ -67,50 +87,5 @@ impl From<AllocError> for WordsFault {
 
     fn from(_: AllocError) -> Self {
         WordsFault::Memory
-    }
-}
-
-/// Reads the words after the program's name: exactly one, the pattern.
-pub fn read_words(alloc: Global, words: &[String]) -> Result<Job, WordsFault>
-    ensures ok { IfOk result (λ job. job_of (map string_bytes words.now) ≡ Some job) }
-    ensures small { IfOk result (λ job. job.max_bytes ≤ 2 ^ 40) }
-    ensures usage { result ≡ Err WordsFault.Usage → job_of (map string_bytes words.now) ≡ None }
-{
-    match words {
-        [pattern] => Ok(Job {
-            input: Word::new(alloc, "-")?,
-            max_bytes: MAX_BYTES,
-            expr: Word::new(alloc, pattern.as_str())?,
-        }),
-        _ => Err(WordsFault::Usage),
-    }
-}
-
-#[cfg(test)]
-mod tests {
-    use super::*;
-    use std::test::Fail;
-
-    #[test]
-    fn words_give_a_job(rt: HostRuntime) -> Result<(), Fail> {
-        let alloc = rt.alloc();
-        let words = vec![in alloc; String::from_str(alloc, "p")?]?;
-        let job = read_words(alloc, &words)?;
-        assert_eq!(rt; job.input.text(), "-");
-        assert_eq!(rt; job.max_bytes, 1073741824);
-        assert_eq!(rt; job.expr.text(), "p");
-        Ok(())
-    }
-
-    #[test]
-    fn other_words_give_none(rt: HostRuntime) -> Result<(), Fail> {
-        let alloc = rt.alloc();
-        let none: Vec<String> = Vec::new(alloc);
-        assert!(rt; matches!(read_words(alloc, &none), Err(WordsFault::Usage)));
-        let usage = format!(in alloc; "{}", WordsFault::Usage)?;
-        assert_eq!(rt; usage.as_str(), "Usage");
-        let memory = format!(in alloc; "{}", WordsFault::Memory)?;
-        assert_eq!(rt; memory.as_str(), "Memory");
-        Ok(())
     }
 }

@@ -1,11 +1,12 @@
 //! One run of Montre, from the words of a command line and the bytes of an input to the bytes of an
 //! output.
 //!
-//! The central call is [`run`]: its clauses are the promise of a run, over any source and sinks, and
-//! the program `montre` makes it over the system's own. [`read_words`] reads the words into a [`Job`],
-//! and [`Status`] is how a run ends, with its code and its line on standard error. The text of a trace
-//! and the printed zones have their definitions in specs/, and a law of them stands in `laws`; what a
-//! pattern means stands in `tre_syntax`, and what a word spells in `tre_parse`.
+//! The central call is [`run::run`]: its clauses are the promise of a run, over any source and
+//! sinks, and the program `montre` makes it over the system's own. [`read_words`] reads the words
+//! into a [`Job`], and [`Status`] is how a run ends, with its code and its line on standard error.
+//! The input goes piece by piece to a reader of its format, and no byte of it is kept. What a
+//! pattern means stands in `tre_syntax`, what a word spells in `tre_parse`, what bytes say of a
+//! trace in `tre_text` and `tre_vcd`, and how zones are printed in `tre_show`.
 //!
 //! ```text
 //! let status = run(alloc, &words, &mut input, &mut out, &mut err);
@@ -16,18 +17,15 @@ mod answer;
 mod input;
 mod job;
 pub mod laws;
-mod line;
-mod matching;
-mod order;
-mod output;
 mod report;
+pub mod run;
 mod status;
-mod text;
+mod words;
 
-pub use job::{Job, MAX_BYTES, Word, WordsFault, read_words};
-pub use matching::run;
+pub use job::{Format, Job, LIMIT_MAX, Mode, Word, WordsFault};
 pub use report::tell_status;
 pub use status::Status;
+pub use words::read_words;
 
 #[cfg(test)]
 mod tests;

@@ -36,7 +36,7 @@ fn fault_words(fault: &ParseFault) -> &'static str
         ParseFault::BadByte { .. } => "BadByte at ",
         ParseFault::Number { .. } => "Number at ",
         ParseFault::TooDeep { .. } => "TooDeep at ",
-        ParseFault::Syntax => "Syntax",
+        ParseFault::Syntax { .. } => "Syntax at ",
         ParseFault::EmptyInterval { .. } => "EmptyInterval at ",
         ParseFault::TooManyNames { .. } => "TooManyNames at ",
         ParseFault::TooLarge { .. } => "TooLarge ",
@@ -51,16 +51,19 @@ fn fault_number(fault: &ParseFault) -> Option<u64>
         ParseFault::BadByte { at }
         | ParseFault::Number { at }
         | ParseFault::TooDeep { at }
+        | ParseFault::Syntax { at }
         | ParseFault::EmptyInterval { at }
         | ParseFault::TooManyNames { at } => Some(*at),
         ParseFault::TooLarge { nodes } => Some(*nodes),
-        ParseFault::TooLong | ParseFault::Syntax | ParseFault::Memory => None,
+        ParseFault::TooLong | ParseFault::Memory => None,
     }
 }
 
 fn put_pieces<E: Sink>(err: &mut E, pieces: &[&str]) -> Result<(), Failed>
-    ensures all { OnOk result (Appends (E.written err.old) (E.written err.new) (flat_map (λ piece. piece.now) pieces.now)) }
-    ensures part { OnErr result (AppendsPart (E.written err.old) (E.written err.new) (flat_map (λ piece. piece.now) pieces.now)) }
+    ensures all { OnOk result (Appends (E.written err.old) (E.written err.new)
+        (flat_map (λ piece. piece.now) pieces.now)) }
+    ensures part { OnErr result (AppendsPart (E.written err.old) (E.written err.new)
+        (flat_map (λ piece. piece.now) pieces.now)) }
     ensures cause { HasCause (E.faults err.old) (E.faults err.new) result }
 {
     for piece in pieces {
@@ -70,8 +73,10 @@ fn put_pieces<E: Sink>(err: &mut E, pieces: &[&str]) -> Result<(), Failed>
 }
 
 fn tell_fault<E: Sink>(fault: &ParseFault, err: &mut E) -> Result<(), Failed>
-    ensures line { OnOk result (Appends (E.written err.old) (E.written err.new) (error_line (Status.Expression fault.now))) }
-    ensures part { OnErr result (AppendsPart (E.written err.old) (E.written err.new) (error_line (Status.Expression fault.now))) }
+    ensures line { OnOk result (Appends (E.written err.old) (E.written err.new)
+        (error_line (Status.Expression fault.now))) }
+    ensures part { OnErr result (AppendsPart (E.written err.old) (E.written err.new)
+        (error_line (Status.Expression fault.now))) }
     ensures cause { HasCause (E.faults err.old) (E.faults err.new) result }
 {
     let words = fault_words(fault);
@@ -89,8 +94,10 @@ fn tell_fault<E: Sink>(fault: &ParseFault, err: &mut E) -> Result<(), Failed>
 ///
 /// At `Failed` a first part of the line was taken, which may be empty and isn't the whole.
 pub fn tell_status<E: Sink>(status: &Status, err: &mut E) -> Result<(), Failed>
-    ensures line { OnOk result (Appends (E.written err.old) (E.written err.new) (error_line status.now)) }
-    ensures part { OnErr result (AppendsPart (E.written err.old) (E.written err.new) (error_line status.now)) }
+    ensures line { OnOk result
+        (Appends (E.written err.old) (E.written err.new) (error_line status.now)) }
+    ensures part { OnErr result
+        (AppendsPart (E.written err.old) (E.written err.new) (error_line status.now)) }
     ensures cause { HasCause (E.faults err.old) (E.faults err.new) result }
 {
     match status {

@@ -1,5 +1,8 @@
 ghost use Rattle.std.specs.Prelude.{◌≡◌};
 
+use crate::job::WordsFault;
+use std::alloc::AllocError;
+use tre_io::Failed;
 use tre_parse::ParseFault;
 use tre_trace::{TraceFault, TraceKind};
 
@@ -8,7 +11,7 @@ use tre_trace::{TraceFault, TraceKind};
 pub enum Status {
     /// The zones of all matches were written.
     Done,
-    /// The words are not one pattern.
+    /// The words give no job.
     Usage,
     /// The pattern was refused.
     Expression(ParseFault),
@@ -40,6 +43,71 @@ impl Status {
             Status::ReadFault => 6,
             Status::WriteFault => 7,
             Status::Memory => 8,
+        }
+    }
+}
+
+impl From<AllocError> for Status {
+    ghost use Rattle.std.specs.Prelude.{◌≡◌};
+    ghost use Rattle.tre_tool.specs.declared.status.Status.TheVariants.{Memory};
+
+    ghost from_gives = { λ _ status. status ≡ Memory };
+
+    fn from(_: AllocError) -> Self {
+        Status::Memory
+    }
+}
+
+impl From<WordsFault> for Status {
+    ghost use Rattle.std.specs.Prelude.{◌≡◌};
+    ghost use Rattle.tre_tool.specs.Status.{words_status};
+
+    ghost from_gives = { λ fault status. status ≡ words_status fault };
+
+    fn from(fault: WordsFault) -> Self {
+        match fault {
+            WordsFault::Usage => Status::Usage,
+            WordsFault::Memory => Status::Memory,
+        }
+    }
+}
+
+impl From<ParseFault> for Status {
+    ghost use Rattle.std.specs.Prelude.{◌≡◌};
+    ghost use Rattle.tre_tool.specs.Status.{parse_status};
+
+    ghost from_gives = { λ fault status. status ≡ parse_status fault };
+
+    fn from(fault: ParseFault) -> Self {
+        match fault {
+            ParseFault::Memory => Status::Memory,
+            _ => Status::Expression(fault),
+        }
+    }
+}
+
+/// A source that couldn't be opened or read. A failed write is told by `write_answer`.
+impl From<Failed> for Status {
+    ghost use Rattle.std.specs.Prelude.{◌≡◌};
+    ghost use Rattle.tre_tool.specs.declared.status.Status.TheVariants.{ReadFault};
+
+    ghost from_gives = { λ _ status. status ≡ ReadFault };
+
+    fn from(_: Failed) -> Self {
+        Status::ReadFault
+    }
+}
+
+impl From<TraceFault> for Status {
+    ghost use Rattle.std.specs.Prelude.{◌≡◌};
+    ghost use Rattle.tre_tool.specs.Status.{trace_status};
+
+    ghost from_gives = { λ fault status. status ≡ trace_status fault.kind fault };
+
+    fn from(fault: TraceFault) -> Self {
+        match fault.kind {
+            TraceKind::Memory => Status::Memory,
+            _ => Status::Trace(fault),
         }
     }
 }

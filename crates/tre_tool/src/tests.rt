@@ -1,13 +1,13 @@
 ghost use Rattle.std.specs.Prelude.{◌≡◌, ◌<◌, ◌-◌, ◌^◌, IfOk, false};
 
-use crate::job::{Job, Word};
-use crate::matching::{run, run_pattern};
+use crate::job::{Format, Mode};
+use crate::run::run;
 use crate::status::Status;
+use crate::words::read_words;
 use std::alloc::{AllocError, Global};
 use std::io::Cursor;
 use std::test::Fail;
 use tre_io::{Failed, MemSink, MemSource, Sink, Source, StdSink};
-use tre_parse::parse;
 
 /// How a run over memory ended, and what it wrote.
 #[derive(Debug, PartialEq, Eq, Drop)]
@@ -126,6 +126,7 @@ fn traces_and_their_zones(rt: HostRuntime) -> Result<(), Fail> {
             "[0,1099511627776) (0,1099511627776] (0,1099511627776]\nend 1099511627776\n",
         ),
         ("q", "3 eps inf\n", "end 3\n"),
+        ("p", "# bus\r\n1\t p\r\n\n", "[0,1) (0,1] (0,1]\nend 1\n"),
     ];
     for (word, text, out) in rows {
         assert!(rt;
@@ -166,7 +167,7 @@ fn patterns_and_their_zones(rt: HostRuntime) -> Result<(), Fail> {
         ("{p} & {q}", bus, "[5,9) (5,9] (0,4]\nend 9\n"),
         (
             "<:req:> ; (!ack % [1,4]) ; rise(ack)",
-            "10\n2 req\n3\n1 ack\n4\n",
+            "# bus trace\r\n10\r\n2 req\r\n3\r\n\r\n1 ack\r\n4\r\n",
             "[10,10] [15,15] [5,5]\nend 20\n",
         ),
         ("true", "3 p\n2\n", "[0,5) (0,5] (0,5]\nend 5\n"),
@@ -202,19 +203,87 @@ fn the_most_names(rt: HostRuntime) -> Result<(), Fail> {
     Ok(())
 }
 
+/// What a run over `3 p` answers to these words, in its code alone.
+fn code_of(alloc: Global, words: &[&str]) -> Result<u8, AllocError> {
+    let ran = ran_with(alloc, words, "3 p\n", [SOUND, SOUND, SOUND])?;
+    Ok(ran.code)
+}
+
 #[test]
-fn words_and_patterns_refused(rt: HostRuntime) -> Result<(), Fail> {
+fn words_refused(rt: HostRuntime) -> Result<(), Fail> {
+    let alloc = rt.alloc();
     let usage = "montre: wrong arguments\n";
-    assert!(rt; is_answer(rt.alloc(), &[], "3 p\n", 2, "", usage)?);
-    assert!(rt; is_answer(rt.alloc(), &["p", "q"], "3 p\n", 2, "", usage)?);
+    assert!(rt; is_answer(alloc, &[], "3 p\n", 2, "", usage)?);
+    assert!(rt; is_answer(alloc, &["p", "q"], "3 p\n", 2, "", usage)?);
+    assert_eq!(rt; code_of(alloc, &["-p"])?, 2);
+    assert_eq!(rt; code_of(alloc, &["--help"])?, 2);
+    assert_eq!(rt; code_of(alloc, &["--online", "p"])?, 2);
+    assert_eq!(rt; code_of(alloc, &["--format", "xml", "p"])?, 2);
+    assert_eq!(rt;
+        code_of(alloc, &["--format=text", "--format=text", "p"])?,
+        2
+    );
+    assert_eq!(rt; code_of(alloc, &["--max-bytes", "0", "p"])?, 2);
+    assert_eq!(rt; code_of(alloc, &["--max-bytes", "1099511627777", "p"])?, 2);
+    assert_eq!(rt; code_of(alloc, &["--max-bytes", "+4", "p"])?, 2);
+    Ok(())
+}
+
+#[test]
+fn words_taken(rt: HostRuntime) -> Result<(), Fail> {
+    let alloc = rt.alloc();
+    assert_eq!(rt; code_of(alloc, &["p"])?, 0);
+    assert_eq!(rt; code_of(alloc, &["--format", "text", "--input=-", "p"])?, 0);
+    assert_eq!(rt; code_of(alloc, &["p", "--max-bytes", "1099511627776"])?, 0);
+    assert_eq!(rt; code_of(alloc, &["--input", "b.txt", "p"])?, 6);
+    assert_eq!(rt; code_of(alloc, &["-"])?, 3);
+    assert_eq!(rt; code_of(alloc, &["--", "-p"])?, 3);
+    Ok(())
+}
+
+#[test]
+fn words_give_a_job(rt: HostRuntime) -> Result<(), Fail> {
+    let alloc = rt.alloc();
+    let words = words_of(alloc, &["p"])?;
+    let job = read_words(alloc, &words)?;
+    assert_eq!(rt; job.mode, Mode::Offline);
+    assert_eq!(rt; job.format, Format::Text);
+    assert_eq!(rt; job.input.text(), "-");
+    assert_eq!(rt; job.max_bytes, 1073741824);
+    assert_eq!(rt; job.expr.text(), "p");
+    Ok(())
+}
+
+#[test]
+fn patterns_shown(rt: HostRuntime) -> Result<(), Fail> {
+    let rows = [
+        ("<:p:> % [2,inf)", "(rise(p);p;fall(p)) % [2,inf)\n"),
+        ("p+?", "p;p* | eps\n"),
+        ("p|(q|p)", "p | (q | p)\n"),
+    ];
+    for (word, out) in rows {
+        assert!(rt;
+            is_answer(rt.alloc(), &["--show", word], "x\n", 0, out, "")?,
+            "{word}"
+        );
+        assert!(rt;
+            is_answer(rt.alloc(), &["--online", "--show", word], "x\n", 0, out, "")?,
+            "{word}"
+        );
+    }
+    Ok(())
+}
+
+#[test]
+fn patterns_refused(rt: HostRuntime) -> Result<(), Fail> {
     let rows = [
         ("p % [3,2]", "EmptyInterval at 4"),
-        ("p;", "Syntax"),
+        ("p;", "Syntax at 2"),
         ("p % [0,1099511627777]", "Number at 7"),
         ("p@", "BadByte at 1"),
-        ("p q", "Syntax"),
-        ("! ", "Syntax"),
-        ("", "Syntax"),
+        ("p q", "Syntax at 2"),
+        ("! ", "Syntax at 2"),
+        ("", "Syntax at 0"),
     ];
     for (word, fault) in rows {
         let told = format!(in rt.alloc(); "montre: expression: {fault}\n")?;
@@ -260,18 +329,12 @@ fn long_patterns_refused(rt: HostRuntime) -> Result<(), Fail> {
 #[test]
 fn traces_refused(rt: HostRuntime) -> Result<(), Fail> {
     let rows = [
-        ("0 p\n", "BadNumber at 1"),
+        ("0 p\n", "Zero at 1"),
         ("x p\n", "BadNumber at 1"),
-        ("1 9p\n", "BadNumber at 1"),
-        ("1 p\n1  p\n", "BadNumber at 2"),
-        ("1\tp\n", "BadNumber at 1"),
-        ("1 p\n\n1 p\n", "BadNumber at 2"),
-        ("# bus\n1 p\n", "BadNumber at 1"),
-        ("1 p\r\n", "BadNumber at 1"),
-        ("1 p \n", "BadNumber at 1"),
+        ("1 9p\n", "BadName at 1"),
         ("1099511627776 p\n1 p\n", "TooLate at 2"),
         ("123456789012345678901234567890 p\n", "TooLate at 1"),
-        ("1 p\nx\n0\n", "BadNumber at 2"),
+        ("# bus\n\n1 p\nx\n0\n", "BadNumber at 4"),
     ];
     for (text, fault) in rows {
         let told = format!(in rt.alloc(); "montre: trace: {fault}\n")?;
@@ -291,6 +354,59 @@ fn one_byte_a_call(rt: HostRuntime) -> Result<(), Fail> {
     assert_eq!(rt; ran.code, 0);
     let out = b"[0,3) (0,3] (0,3]\n[5,9) (5,9] (0,4]\nend 9\n";
     assert_eq!(rt; ran.out.as_slice(), out.as_slice());
+    Ok(())
+}
+
+const DUMP: &str = "$date today $end\n$version worked $end\n$timescale 1 ns $end\n\
+    $scope module top $end\n$var wire 1 ! p $end\n$var reg 8 \" n [7:0] $end\n$upscope $end\n\
+    $enddefinitions $end\n#0\n$dumpvars\n0!\nb0 \"\n$end\n#5\n1!\nb101 \"\n#9\n0!\n#10\n";
+
+// The dump, where `p` isn't known at first.
+const UNKNOWN: &str = "$date today $end\n$version worked $end\n$timescale 1 ns $end\n\
+    $scope module top $end\n$var wire 1 ! p $end\n$var reg 8 \" n [7:0] $end\n$upscope $end\n\
+    $enddefinitions $end\n#0\n$dumpvars\nU!\nb0 \"\n$end\n#5\n1!\nb101 \"\n#9\n0!\n#10\n";
+
+#[test]
+fn value_change_dumps(rt: HostRuntime) -> Result<(), Fail> {
+    let out = b"[5,9) (5,9] (0,4]\nend 10\n";
+    for dump in [DUMP, UNKNOWN] {
+        for most in [1usize, 4096] {
+            let read = Device { most, fails: 0 };
+            let words = ["--format", "vcd", "top.p"];
+            let ran = ran_with(rt.alloc(), &words, dump, [read, SOUND, SOUND])?;
+            assert_eq!(rt; ran.code, 0);
+            assert_eq!(rt; ran.out.as_slice(), out.as_slice());
+        }
+    }
+    Ok(())
+}
+
+#[test]
+fn value_change_dumps_refused(rt: HostRuntime) -> Result<(), Fail> {
+    let rows = [
+        ("true", "$enddefinitions $end\n#9\n#7\n", "TimeBack at 24"),
+        (
+            "true",
+            "$enddefinitions $end\n$dumpvars\n",
+            "CutShort at 31",
+        ),
+        (
+            "clk",
+            "$scope module top $end\n$var wire 1 ! clk $end\n$upscope $end\n\
+             $enddefinitions $end\n",
+            "UnknownName at 60",
+        ),
+        ("top.p", "", "CutShort at 0"),
+        ("p", "3 p\n", "BadToken at 0"),
+    ];
+    for (word, text, fault) in rows {
+        let told = format!(in rt.alloc(); "montre: trace: {fault}\n")?;
+        let words = ["--format", "vcd", word];
+        assert!(rt;
+            is_answer(rt.alloc(), &words, text, 4, "", told.as_str())?,
+            "{text:?}"
+        );
+    }
     Ok(())
 }
 
@@ -394,21 +510,14 @@ fn another_file_is_not_read(rt: HostRuntime) -> Result<(), Fail> {
     Ok(())
 }
 
-/// Runs over these words, and says how it ended, if no device was called. The second call of each
-/// fails, so one of the run's would show.
+/// Runs over these words with an input and an output whose first call fails, and says how it ended:
+/// a call of either would show.
 fn ended_untouched(alloc: Global, words: &[&str]) -> Result<u8, Fail> {
-    let second = Device {
+    let first = Device {
         most: 4096,
-        fails: 2,
+        fails: 1,
     };
-    let words = words_of(alloc, words)?;
-    let mut input = source_of(alloc, "3 p\n", second)?;
-    let mut out = sink_of(alloc, second)?;
-    let mut err = sink_of(alloc, SOUND)?;
-    let status = run(alloc, &words, &mut input, &mut out, &mut err);
-    input.open("-")?;
-    out.write(b"x")?;
-    Ok(status.code())
+    Ok(ran_with(alloc, words, "3 p\n", [first, first, SOUND])?.code)
 }
 
 #[test]
@@ -421,38 +530,38 @@ fn refused_words_touch_nothing(rt: HostRuntime) -> Result<(), Fail> {
 
 /// A source or a sink whose count of faults stands at its last value.
 #[derive(Drop)]
-struct Worn<T> {
+struct AtLastCount<T> {
     inner: T,
 }
 
-impl<S: Source> Source for Worn<S> {
-    ghost file_name = { λ worn. S.file_name worn.inner };
+impl<S: Source> Source for AtLastCount<S> {
+    ghost file_name = { λ device. S.file_name device.inner };
 
-    ghost file = { λ worn. S.file worn.inner };
+    ghost file = { λ device. S.file device.inner };
 
-    ghost left = { λ worn. S.left worn.inner };
+    ghost left = { λ device. S.left device.inner };
 
-    ghost opened = { λ worn. S.opened worn.inner };
+    ghost opened = { λ device. S.opened device.inner };
 
-    ghost sound = { λ worn. S.sound worn.inner };
+    ghost sound = { λ device. S.sound device.inner };
 
     ghost faults = { λ _. 2 ^ 64 - 1 };
 
-    ghost told_together = { λ worn. S.told_together worn.inner };
+    ghost told_together = { λ device. S.told_together device.inner };
 
-    ghost sound_tells = { λ worn. S.sound_tells worn.inner };
+    ghost sound_tells = { λ device. S.sound_tells device.inner };
 
     fn open(&mut self, name: &str) -> Result<(), Failed> {
         self.inner.open(name)
     }
 
-    fn read(&mut self, buf: &mut [u8]) -> Result<usize, Failed> {
-        self.inner.read(buf)
+    fn read(&mut self, buffer: &mut [u8]) -> Result<usize, Failed> {
+        self.inner.read(buffer)
     }
 }
 
-impl<K: Sink> Sink for Worn<K> {
-    ghost written = { λ worn. K.written worn.inner };
+impl<K: Sink> Sink for AtLastCount<K> {
+    ghost written = { λ device. K.written device.inner };
 
     ghost faults = { λ _. 2 ^ 64 - 1 };
 
@@ -461,16 +570,16 @@ impl<K: Sink> Sink for Worn<K> {
     }
 }
 
-/// Runs `p` over worn devices.
-fn ended_worn(alloc: Global, read: Device, write: Device) -> Result<Status, AllocError> {
+/// Runs `p` over such devices.
+fn ended_at_last_count(alloc: Global, read: Device, write: Device) -> Result<Status, AllocError> {
     let words = words_of(alloc, &["p"])?;
-    let mut input = Worn {
+    let mut input = AtLastCount {
         inner: source_of(alloc, "3 p\n", read)?,
     };
-    let mut out = Worn {
+    let mut out = AtLastCount {
         inner: sink_of(alloc, write)?,
     };
-    let mut err = Worn {
+    let mut err = AtLastCount {
         inner: sink_of(alloc, SOUND)?,
     };
     Ok(run(alloc, &words, &mut input, &mut out, &mut err))
@@ -483,39 +592,37 @@ fn counts_that_stand(rt: HostRuntime) -> Result<(), Fail> {
         most: 4096,
         fails: 1,
     };
-    assert_eq!(rt; ended_worn(alloc, SOUND, SOUND)?, Status::Done);
-    assert_eq!(rt; ended_worn(alloc, first, SOUND)?, Status::ReadFault);
-    assert_eq!(rt; ended_worn(alloc, SOUND, first)?, Status::WriteFault);
+    assert_eq!(rt; ended_at_last_count(alloc, SOUND, SOUND)?, Status::Done);
+    assert_eq!(rt;
+        ended_at_last_count(alloc, first, SOUND)?,
+        Status::ReadFault
+    );
+    assert_eq!(rt;
+        ended_at_last_count(alloc, SOUND, first)?,
+        Status::WriteFault
+    );
     Ok(())
 }
 
 /// Runs `p` over an input that may have `limit` bytes, and gives the code.
-fn limited(alloc: Global, limit: u64, text: &str, read: Device) -> Result<u8, Fail>
-    requires { limit < 1024 }
-{
-    let job = Job {
-        input: Word::new(alloc, "-")?,
-        max_bytes: limit,
-        expr: Word::new(alloc, "p")?,
-    };
-    let Ok(pattern) = parse(alloc, "p") else {
-        return Ok(255);
-    };
-    let mut input = source_of(alloc, text, read)?;
-    let mut out = sink_of(alloc, SOUND)?;
-    Ok(run_pattern(alloc, &pattern, &job, &mut input, &mut out).code())
+fn limited(alloc: Global, limit: &str, text: &str, read: Device) -> Result<u8, AllocError> {
+    let words = ["--max-bytes", limit, "p"];
+    let ran = ran_with(alloc, &words, text, [read, SOUND, SOUND])?;
+    Ok(ran.code)
 }
 
 #[test]
 fn limits(rt: HostRuntime) -> Result<(), Fail> {
     let alloc = rt.alloc();
     // Five bytes where four are allowed.
-    assert_eq!(rt; limited(alloc, 4, "1 p\n\n", SOUND)?, 5);
+    assert_eq!(rt; limited(alloc, "4", "1 p\n\n", SOUND)?, 5);
     // The cut last line `1 ` is no line.
-    assert_eq!(rt; limited(alloc, 2, "1 p", SOUND)?, 5);
+    assert_eq!(rt; limited(alloc, "2", "1 p", SOUND)?, 5);
     // A fault within the limit comes first.
-    assert_eq!(rt; limited(alloc, 4, "x\n1 p\n", SOUND)?, 4);
-    assert_eq!(rt; limited(alloc, 4, "1 p\n", SOUND)?, 0);
+    assert_eq!(rt; limited(alloc, "4", "x\n1 p\n", SOUND)?, 4);
+    // A fault past the limit isn't told.
+    assert_eq!(rt; limited(alloc, "4", "1 p\nx\n", SOUND)?, 5);
+    assert_eq!(rt; limited(alloc, "4", "1 p\n", SOUND)?, 0);
     Ok(())
 }
 
@@ -523,8 +630,8 @@ fn limits(rt: HostRuntime) -> Result<(), Fail> {
 #[test]
 fn one_byte_past_the_limit_is_read(rt: HostRuntime) -> Result<(), Fail> {
     let fourth = Device { most: 1, fails: 4 };
-    assert_eq!(rt; limited(rt.alloc(), 2, "1 p\n", fourth)?, 6);
+    assert_eq!(rt; limited(rt.alloc(), "2", "1 p\n", fourth)?, 6);
     let fifth = Device { most: 1, fails: 5 };
-    assert_eq!(rt; limited(rt.alloc(), 2, "1 p\n", fifth)?, 5);
+    assert_eq!(rt; limited(rt.alloc(), "2", "1 p\n", fifth)?, 5);
     Ok(())
 }

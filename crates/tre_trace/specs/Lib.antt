@@ -1,2 +1,4 @@
-pub mod Literal
+-- What a reader must believe.
 pub mod Trace
+pub mod Literal
+pub mod Reading

@@ -15,7 +15,8 @@ abbrev pub AreLong : List Segment → Type 0
 AreLong [] = Unit {0}
 AreLong (segment ∷ rest) = (1 ≤ segment.len) × AreLong rest
 
--- the segments are a trace: each is at least one tick long, and the last ends at TIME_MAX or earlier
+-- the segments are a trace: each is at least one tick long, and the last ends at TIME_MAX or
+-- earlier
 pub record IsTrace (segments : List Segment) : Type 0 where
   pub long : AreLong segments
   pub in_time : end_of 0 segments ≤ TIME_MAX
@@ -28,5 +29,6 @@ pub record Fits (segments : List Segment) (segment : Segment) : Type 0 where
 -- why a segment was refused behind these segments; want of memory says that it would have fitted
 abbrev pub IsRefusedFor : List Segment → Segment → PushFault → Type 0
 IsRefusedFor segments segment Zero = segment.len ≡ 0
-IsRefusedFor segments segment (TooLate end) = (1 ≤ segment.len) × (end ≡ end_of 0 segments + segment.len) × (TIME_MAX < end)
+IsRefusedFor segments segment (TooLate end) = (1 ≤ segment.len) × (end ≡ end_of 0 segments +
+    segment.len) × (TIME_MAX < end)
 IsRefusedFor segments segment Memory = Fits segments segment

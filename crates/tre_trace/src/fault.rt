@@ -37,7 +37,8 @@ pub enum TraceKind {
 /// The first fault of the text of a trace.
 #[derive(Clone, Copy, Debug, PartialEq, Eq)]
 pub struct TraceFault {
-    /// The number of the line, from 1, or the offset of the token, from 0; 0 for `Spent` and `Memory`.
+    /// The number of the line, from 1, or the offset of the token, from 0; 0 for `Spent` and
+    /// `Memory`.
     pub place: u64,
     pub kind: TraceKind,
 }

@@ -1,9 +1,10 @@
 //! Traces of Boolean signals: lists of segments on which every proposition keeps its value.
 //!
-//! A [`Trace`] is seen as the list of its segments. Each is at least one tick long and the last ends
-//! at `TIME_MAX` or earlier. The layers above rely on that, on [`Trace::push`], and on the faults
-//! that readers of traces tell. The words on a trace are in specs/: when segments end, and where a
-//! property holds throughout a stretch.
+//! A [`Trace`] is seen as the list of its segments. Each is at least one tick long and the last
+//! ends at `TIME_MAX` or earlier. A [`TraceReader`] reads one from bytes that come in pieces: its
+//! contract says what the bytes say, however they are cut. The layers above rely on these two.
+//! The words on a trace are in specs/: when segments end, where a property holds throughout a
+//! stretch, and how a reading grows.
 //!
 //! ```text
 //! let mut trace = Trace::new(alloc);
@@ -12,9 +13,11 @@
 #![tactic(auto)]
 
 mod fault;
+mod reader;
 mod segment;
 mod trace;
 
 pub use fault::{PushFault, TraceFault, TraceKind};
+pub use reader::{FED_MAX, TraceReader};
 pub use segment::Segment;
 pub use trace::Trace;

@@ -38,7 +38,21 @@ impl Trace {
         }
     }
 
-    /// Puts a segment behind the others. A segment of no time is refused as `Zero`, whatever its end would be.
+    /// The trace of these segments.
+    pub fn of_segments(segments: Vec<Segment>) -> Self
+        requires trace { IsTrace segments.items }
+        ensures same { result ≡ segments.items }
+        ensures trace { IsTrace result }
+    {
+        let mut end = 0;
+        for segment in &segments {
+            end += segment.len;
+        }
+        Trace { segments, end }
+    }
+
+    /// Puts a segment behind the others. A segment of no time is refused as `Zero`, whatever its
+    /// end would be.
     pub fn push(&mut self, segment: Segment) -> Result<(), PushFault>
         ensures pushed { OnOk result (self.new ≡ self.old ++ segment ∷ []) }
         ensures fits { OnOk result (Fits self.old segment) }

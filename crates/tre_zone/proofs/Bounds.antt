@@ -18,25 +18,32 @@ split (pos key) = record { whole = omega (arith, ints); small = omega arith }
 split (negsuc key) = record { whole = omega (arith, ints); small = omega arith }
 
 -- There is one way to split a key.
-pub split-unique : (key value : ℤ) (weakness : ℕ) → Splits key value weakness → (value_of key ≡ value) × (weakness_of key ≡ weakness)
+pub split-unique : (key value : ℤ) (weakness : ℕ) → Splits key value weakness
+    → (value_of key ≡ value) × (weakness_of key ≡ weakness)
 split-unique key value weakness s =
     let own = split key in (omega (arith, ints), omega (arith, ints))
 
-pub split-sum : (left right : ℤ) → Splits (sum_of left right) (value_of left +ℤ value_of right) (min (weakness_of left) (weakness_of right))
+pub split-sum : (left right : ℤ) → Splits (sum_of left right) (value_of left +ℤ value_of right)
+    (min (weakness_of left) (weakness_of right))
 unfolding sum_of
 split-sum left right =
     let one = split left in
     let two = split right in
     record { whole = omega (arith, ints); small = omega arith }
 
-pub value_of-sum_of : (left right : ℤ) → value_of (sum_of left right) ≡ value_of left +ℤ value_of right
-value_of-sum_of left right = (split-unique (sum_of left right) (value_of left +ℤ value_of right) (min (weakness_of left) (weakness_of right)) (split-sum left right)).0
+pub value_of-sum_of : (left right : ℤ) → value_of
+    (sum_of left right) ≡ value_of left +ℤ value_of right
+value_of-sum_of left right = (split-unique (sum_of left right) (value_of left +ℤ value_of right)
+    (min (weakness_of left) (weakness_of right)) (split-sum left right)).0
 
-pub weakness_of-sum_of : (left right : ℤ) → weakness_of (sum_of left right) ≡ min (weakness_of left) (weakness_of right)
-weakness_of-sum_of left right = (split-unique (sum_of left right) (value_of left +ℤ value_of right) (min (weakness_of left) (weakness_of right)) (split-sum left right)).1
+pub weakness_of-sum_of : (left right : ℤ)
+    → weakness_of (sum_of left right) ≡ min (weakness_of left) (weakness_of right)
+weakness_of-sum_of left right = (split-unique (sum_of left right) (value_of left +ℤ value_of right)
+    (min (weakness_of left) (weakness_of right)) (split-sum left right)).1
 
 -- What it means to meet a bound, read by its kind.
-pub Meets-weak : (key c : ℤ) → key ≡ (pos 2 *ℤ c) +ℤ pos 1 → (p q n : ℕ) → Meets key p q n ↔ (pos p ≤ℤ (pos q +ℤ (c *ℤ pos n)))
+pub Meets-weak : (key c : ℤ) → key ≡ (pos 2 *ℤ c) +ℤ pos 1 → (p q n : ℕ)
+    → Meets key p q n ↔ (pos p ≤ℤ (pos q +ℤ (c *ℤ pos n)))
 Meets-weak key c e p q n =
     let apart : Splits key c 1 = record { whole = e; small = omega arith } in
     let one = split-unique key c 1 apart in (
@@ -44,7 +51,8 @@ Meets-weak key c e p q n =
       (λ h. record { met = rw (one.0, one.1) (omega (arith, ints)) }),
     )
 
-pub Meets-strict : (key c : ℤ) → key ≡ pos 2 *ℤ c → (p q n : ℕ) → Meets key p q n ↔ (pos p <ℤ (pos q +ℤ (c *ℤ pos n)))
+pub Meets-strict : (key c : ℤ) → key ≡ pos 2 *ℤ c → (p q n : ℕ)
+    → Meets key p q n ↔ (pos p <ℤ (pos q +ℤ (c *ℤ pos n)))
 Meets-strict key c e p q n =
     let apart : Splits key c 0 = record { whole = omega (arith, ints); small = omega arith } in
     let one = split-unique key c 0 apart in (
@@ -53,7 +61,8 @@ Meets-strict key c e p q n =
     )
 
 -- The low bit of a key, as the machine has it, is its weakness.
-pub low_bit : (key : ℤ) → SFits w64 key → to_z w64 (bit_and (of_z w64 key) 1) ≡ pos (weakness_of key)
+pub low_bit : (key : ℤ) → SFits w64 key → to_z w64 (bit_and (of_z w64 key) 1) ≡ pos
+    (weakness_of key)
 unfolding weakness_of
 low_bit (pos key) fits = rw (and_mask key 1) (omega (arith, ints))
 low_bit (negsuc key) fits =
@@ -71,27 +80,35 @@ down_product : (c n : ℕ) → neg_ℤ (pos c) *ℤ pos n ≡ neg_ℤ (pos (c * 
 down_product zero n = omega (arith, ints)
 down_product (suc c) n = refl
 
-pub Meets-at_most : (key : ℤ) (c : ℕ) → key ≡ pos (2 * c + 1) → (p q n : ℕ) → Meets key p q n ↔ (p ≤ q + c * n)
+pub Meets-at_most : (key : ℤ) (c : ℕ) → key ≡ pos (2 * c + 1) → (p q n : ℕ)
+    → Meets key p q n ↔ (p ≤ q + c * n)
 Meets-at_most key c e p q n =
     let both = Meets-weak key (pos c) (omega (arith, ints)) p q n in
     ((λ m. let le = both.0 m in omega (arith, ints)), (λ h. both.1 (omega (arith, ints))))
 
-pub Meets-less : (key : ℤ) (c : ℕ) → key ≡ pos (2 * c) → (p q n : ℕ) → Meets key p q n ↔ (p < q + c * n)
+pub Meets-less : (key : ℤ) (c : ℕ) → key ≡ pos (2 * c) → (p q n : ℕ)
+    → Meets key p q n ↔ (p < q + c * n)
 Meets-less key c e p q n =
     let both = Meets-strict key (pos c) (omega (arith, ints)) p q n in
     ((λ m. let lt = both.0 m in omega (arith, ints)), (λ h. both.1 (omega (arith, ints))))
 
-pub Meets-at_least : (key : ℤ) (c : ℕ) → key ≡ pos 1 -ℤ pos (2 * c) → (p q n : ℕ) → Meets key p q n ↔ (p + c * n ≤ q)
+pub Meets-at_least : (key : ℤ) (c : ℕ) → key ≡ pos 1 -ℤ pos (2 * c) → (p q n : ℕ)
+    → Meets key p q n ↔ (p + c * n ≤ q)
 Meets-at_least key c e p q n =
     let both = Meets-weak key (neg_ℤ (pos c)) (omega (arith, ints)) p q n in
-    let down = down_product c n in
-    ((λ m. let le = rw down at (both.0 m) in omega (arith, ints)), (λ h. both.1 (rw down (omega (arith, ints)))))
+    let down = down_product c n in (
+      (λ m. let le = rw down at (both.0 m) in omega (arith, ints)),
+      (λ h. both.1 (rw down (omega (arith, ints)))),
+    )
 
-pub Meets-more : (key : ℤ) (c : ℕ) → key ≡ neg_ℤ (pos (2 * c)) → (p q n : ℕ) → Meets key p q n ↔ (p + c * n < q)
+pub Meets-more : (key : ℤ) (c : ℕ) → key ≡ neg_ℤ (pos (2 * c)) → (p q n : ℕ)
+    → Meets key p q n ↔ (p + c * n < q)
 Meets-more key c e p q n =
     let both = Meets-strict key (neg_ℤ (pos c)) (omega (arith, ints)) p q n in
-    let down = down_product c n in
-    ((λ m. let lt = rw down at (both.0 m) in omega (arith, ints)), (λ h. both.1 (rw down (omega (arith, ints)))))
+    let down = down_product c n in (
+      (λ m. let lt = rw down at (both.0 m) in omega (arith, ints)),
+      (λ h. both.1 (rw down (omega (arith, ints)))),
+    )
 
 pub not_weak : (key : ℤ) → (weakness_of key ≡ 1 → ⊥) → weakness_of key ≡ 0
 not_weak key not_one = let s = split key in omega (arith, not_one)
@@ -103,5 +120,7 @@ pub value-strict : (key c : ℤ) → key ≡ pos 2 *ℤ c → value_of key ≡ c
 value-strict key c e = let s = split key in omega (arith, ints)
 
 -- A key of a canonical zone has a value that may be summed.
-pub IsValueWithin-key : (limit wide : ℕ) → limit ≤ wide → (key : ℤ) → IsKeyWithin limit key → IsValueWithin wide key
-IsValueWithin-key limit wide le key h = let s = split key in record { low = omega (arith, ints, h.low); high = omega (arith, ints, h.high) }
+pub IsValueWithin-key : (limit wide : ℕ) → limit ≤ wide → (key : ℤ) → IsKeyWithin limit key
+    → IsValueWithin wide key
+IsValueWithin-key limit wide le key h = let s = split key in
+    record { low = omega (arith, ints, h.low); high = omega (arith, ints, h.high) }

@@ -3,10 +3,11 @@ use Rattle.std.proofs.Common.{◌≡◌, ℕ, ◌+◌, ◌-◌, ◌*◌, ◌^◌
 use Rattle.std.proofs.lemmas.Int.{ints, clamps}
 use Rattle.std.specs.Int.{int_min}
 use Rattle.tre_pairs.specs.Pairs.{Pairs, Both, Lasting}
+use Rattle.tre_pairs.specs.declared.TheConstants.{TIME_MAX}
 use Rattle.tre_zone.specs.Bound.{sum_of, Meets, IsKeyWithin, IsValueWithin}
 use Rattle.tre_zone.specs.Interval.{IntervalEnds, IsAboveLow, IsBelowHigh, LastsWithin}
-use Rattle.tre_zone.specs.Zone.{ZoneHolds, IsCanonical, EndsAt, IsZoneOf, HasNoPair, GivesZone, AreKeysWithin, AreValuesWithin}
-use Rattle.tre_zone.specs.Closing.{IsFramed, LeavesRoom, framed_of, closed_of, tighter_of}
+use Rattle.tre_zone.specs.Zone.{IsFramed, LeavesRoom, ZoneHolds, IsCanonical, EndsAt, IsZoneOf, HasNoPair, GivesZone, AreKeysWithin, AreValuesWithin}
+use Rattle.tre_zone.specs.Closing.{framed_of, closed_of, tighter_of}
 use Rattle.tre_zone.specs.declared.zone_bounds.ZoneBounds.{ZoneBounds}
 use Rattle.tre_zone.proofs.Bounds.{split, Meets-at_most, Meets-at_least}
 use Rattle.tre_zone.proofs.Paths.{Meets-min}
@@ -14,36 +15,51 @@ use Rattle.tre_zone.proofs.Closing.{closed-holds, holds-loops}
 use Rattle.tre_zone.proofs.Tightness.{canonical-keys, key-wider, keys-wider}
 
 -- An answer for one relation is an answer for another that holds of the same pairs.
-pub GivesZone-same : (answer : Option ZoneBounds) (one other : Pairs) → ((a b n : ℕ) → 0 < n → a ≤ b → one a b n ↔ other a b n)
+pub GivesZone-same : (answer : Option ZoneBounds) (one other : Pairs)
+    → ((a b n : ℕ) → 0 < n → a ≤ b → one a b n ↔ other a b n)
     → GivesZone answer one → GivesZone answer other
-GivesZone-same None one other same h = record { never = λ a b n some le held. h.never a b n some le ((same a b n some le).1 held) }
+GivesZone-same None one other same h = record
+    { never = λ a b n some le held. h.never a b n some le ((same a b n some le).1 held) }
 GivesZone-same (Some zone) one other same h = record {
-  exact = λ a b n some le.
-      ((λ held. (same a b n some le).0 ((h.exact a b n some le).0 held)), (λ held. (h.exact a b n some le).1 ((same a b n some le).1 held)));
+  exact = λ a b n some le. (
+    (λ held. (same a b n some le).0 ((h.exact a b n some le).0 held)),
+    (λ held. (h.exact a b n some le).1 ((same a b n some le).1 held)),
+  );
 }
 
 pub closed-exact : (zone : ZoneBounds) → IsZoneOf (closed_of zone) (ZoneHolds zone)
 closed-exact zone = record { exact = λ a b n some le. closed-holds zone a b n some }
 
-pub closed-never : (zone : ZoneBounds) → (LeavesRoom (closed_of zone) → ⊥) → HasNoPair (ZoneHolds zone)
+pub closed-never : (zone : ZoneBounds) → (LeavesRoom (closed_of zone) → ⊥)
+    → HasNoPair (ZoneHolds zone)
 closed-never zone not_loops = record {
-  never = λ a b n some le held. not_loops (holds-loops (closed_of zone) a b n some ((closed-holds zone a b n some).1 held));
+  never = λ a b n some le held. not_loops
+      (holds-loops (closed_of zone) a b n some ((closed-holds zone a b n some).1 held));
 }
 
 -- ---- keys within limits
 
-min_key : (limit : ℕ) (x y : ℤ) → IsKeyWithin limit x → neg_ℤ (pos limit) ≤ℤ y → IsKeyWithin limit (int_min x y)
-min_key limit x y h low = record { low = omega (arith, ints, clamps, h.low); high = omega (arith, ints, clamps, h.high) }
+min_key : (limit : ℕ) (x y : ℤ) → IsKeyWithin limit x → neg_ℤ (pos limit) ≤ℤ y
+    → IsKeyWithin limit (int_min x y)
+min_key limit x y h low = record {
+  low = omega (arith, ints, clamps, h.low);
+  high =
+      omega (arith, ints, clamps, h.high);
+}
 
-sum_key : (x y : ℤ) → IsKeyWithin (2 ^ 45) x → IsKeyWithin (2 ^ 45) y → neg_ℤ (pos (2 ^ 47)) ≤ℤ sum_of x y
+sum_key : (x y : ℤ) → IsKeyWithin (2 ^ 45) x → IsKeyWithin (2 ^ 45) y
+    → neg_ℤ (pos (2 ^ 47)) ≤ℤ sum_of x y
 unfolding sum_of
 sum_key x y h k = omega (arith, ints, h.low, k.low, (split x).small, (split y).small)
 
-closed_key : (key left right : ℤ) → IsKeyWithin (2 ^ 45) key → IsKeyWithin (2 ^ 45) left → IsKeyWithin (2 ^ 45) right
+closed_key : (key left right : ℤ) → IsKeyWithin (2 ^ 45) key → IsKeyWithin (2 ^ 45) left
+    → IsKeyWithin (2 ^ 45) right
     → IsKeyWithin (2 ^ 47) (int_min key (sum_of left right))
-closed_key key left right h k l = min_key (2 ^ 47) key (sum_of left right) (key-wider (2 ^ 45) (2 ^ 47) (omega arith) key h) (sum_key left right k l)
+closed_key key left right h k l = min_key (2 ^ 47) key (sum_of left right)
+    (key-wider (2 ^ 45) (2 ^ 47) (omega arith) key h) (sum_key left right k l)
 
-pub closed-keys : (zone : ZoneBounds) → AreKeysWithin (2 ^ 45) zone → AreKeysWithin (2 ^ 47) (closed_of zone)
+pub closed-keys : (zone : ZoneBounds) → AreKeysWithin (2 ^ 45) zone
+    → AreKeysWithin (2 ^ 47) (closed_of zone)
 unfolding closed_of
 closed-keys z h = record {
   begin_low = closed_key _ _ _ h.begin_low h.end_low h.dur_high;
@@ -55,23 +71,29 @@ closed-keys z h = record {
 }
 
 key-value : (key : ℤ) → IsValueWithin (2 ^ 42) key → IsKeyWithin (2 ^ 45) key
-key-value key h = let s = split key in record { low = omega (arith, ints, h.low); high = omega (arith, ints, h.high) }
+key-value key h = let s = split key in record
+    { low = omega (arith, ints, h.low); high = omega (arith, ints, h.high) }
 
-pub framed-keys : (zone : ZoneBounds) → AreValuesWithin (2 ^ 42) zone → AreKeysWithin (2 ^ 45) (framed_of zone)
+pub framed-keys : (zone : ZoneBounds) → AreValuesWithin (2 ^ 42) zone
+    → AreKeysWithin (2 ^ 45) (framed_of zone)
 unfolding framed_of
 framed-keys z h = record {
-  begin_low = min_key (2 ^ 45) z.begin_low (pos 1) (key-value z.begin_low h.begin_low) (omega (arith, ints));
+  begin_low = min_key (2 ^ 45) z.begin_low (pos 1) (key-value z.begin_low h.begin_low)
+      (omega (arith, ints));
   begin_high = key-value z.begin_high h.begin_high;
   end_low = key-value z.end_low h.end_low;
-  end_high = min_key (2 ^ 45) z.end_high (pos (2 ^ 41 + 1)) (key-value z.end_high h.end_high) (omega (arith, ints));
-  dur_low = min_key (2 ^ 45) z.dur_low (pos 1) (key-value z.dur_low h.dur_low) (omega (arith, ints));
+  end_high = min_key (2 ^ 45) z.end_high (pos (2 * TIME_MAX + 1)) (key-value z.end_high h.end_high)
+      (omega (arith, ints));
+  dur_low = min_key (2 ^ 45) z.dur_low (pos 1) (key-value z.dur_low h.dur_low)
+      (omega (arith, ints));
   dur_high = key-value z.dur_high h.dur_high;
 }
 
 wide_keys : (zone : ZoneBounds) → IsCanonical zone → AreKeysWithin (2 ^ 45) zone
 wide_keys z c = keys-wider (2 ^ 42) (2 ^ 45) (omega arith) z (canonical-keys z c)
 
-pub tighter-keys : (one other : ZoneBounds) → IsCanonical one → IsCanonical other → AreKeysWithin (2 ^ 45) (tighter_of one other)
+pub tighter-keys : (one other : ZoneBounds) → IsCanonical one → IsCanonical other
+    → AreKeysWithin (2 ^ 45) (tighter_of one other)
 unfolding tighter_of
 tighter-keys one other c d =
     let h = wide_keys one c in
@@ -91,15 +113,20 @@ lower x y limit h = omega (arith, ints, clamps)
 pub tighter-framed : (one other : ZoneBounds) → IsCanonical one → IsFramed (tighter_of one other)
 unfolding tighter_of
 tighter-framed one other c = record {
-  starts = lower one.begin_low other.begin_low (pos 1) c.starts;
-  ends = lower one.end_high other.end_high (pos (2 ^ 41 + 1)) c.ends;
-  lasts = lower one.dur_low other.dur_low (pos 1) c.lasts;
+  starts = lower one.begin_low other.begin_low (pos 1) c.framed.starts;
+  ends = lower one.end_high other.end_high (pos (2 * TIME_MAX + 1)) c.framed.ends;
+  lasts = lower one.dur_low other.dur_low (pos 1) c.framed.lasts;
 }
 
 -- ---- the pairs that end at a time, and those of a duration
 
-pub ending-keys : (z : ZoneBounds) → IsCanonical z → (low high : ℤ) → neg_ℤ (pos (2 ^ 45)) ≤ℤ low → neg_ℤ (pos (2 ^ 45)) ≤ℤ high
-    → AreKeysWithin (2 ^ 45) (record z { end_low = int_min z.end_low low; end_high = int_min z.end_high high })
+pub ending-keys : (z : ZoneBounds) → IsCanonical z → (low high : ℤ) → neg_ℤ (pos (2 ^ 45)) ≤ℤ low
+    → neg_ℤ (pos (2 ^ 45)) ≤ℤ high
+    → AreKeysWithin (2 ^ 45) (record z {
+      end_low = int_min z.end_low low;
+      end_high =
+          int_min z.end_high high;
+    })
 ending-keys z c low high h k =
     let wide = wide_keys z c in
     record {
@@ -111,8 +138,10 @@ ending-keys z c low high h k =
       dur_high = wide.dur_high;
     }
 
-pub ending-holds : (z : ZoneBounds) (low high : ℤ) (t : ℕ) → low ≡ pos 1 -ℤ pos (2 * t) → high ≡ pos (2 * t + 1) → (a b n : ℕ) → 0 < n
-    → ZoneHolds (record z { end_low = int_min z.end_low low; end_high = int_min z.end_high high }) a b n ↔ Both (ZoneHolds z) (EndsAt t) a b n
+pub ending-holds : (z : ZoneBounds) (low high : ℤ) (t : ℕ) → low ≡ pos 1 -ℤ pos (2 * t)
+    → high ≡ pos (2 * t + 1) → (a b n : ℕ) → 0 < n
+    → ZoneHolds (record z { end_low = int_min z.end_low low; end_high = int_min z.end_high high })
+    a b n ↔ Both (ZoneHolds z) (EndsAt t) a b n
 ending-holds z low high t e f a b n some =
     let least = Meets-at_least low t e 0 b n in
     let most = Meets-at_most high t f b 0 n in
@@ -144,7 +173,8 @@ ending-holds z low high t e f a b n some =
           }),
     )
 
-pub within-keys : (z : ZoneBounds) → IsCanonical z → (low high : ℤ) → neg_ℤ (pos (2 ^ 45)) ≤ℤ low → high ≤ℤ z.dur_high → neg_ℤ (pos (2 ^ 45)) ≤ℤ high
+pub within-keys : (z : ZoneBounds) → IsCanonical z → (low high : ℤ) → neg_ℤ (pos (2 ^ 45)) ≤ℤ low
+    → high ≤ℤ z.dur_high → neg_ℤ (pos (2 ^ 45)) ≤ℤ high
     → AreKeysWithin (2 ^ 45) (record z { dur_low = int_min z.dur_low low; dur_high = high })
 within-keys z c low high h k l =
     let wide = wide_keys z c in
@@ -159,9 +189,11 @@ within-keys z c low high h k l =
 
 pub within-holds : (z : ZoneBounds) (low high : ℤ) (ends : IntervalEnds)
     → ((p q n : ℕ) → p ≤ q → Meets low p q n ↔ IsAboveLow ends (q - p) n)
-    → ((p q n : ℕ) → 0 < n → q ≤ p → Meets high p q n ↔ (Meets z.dur_high p q n × IsBelowHigh ends (p - q) n))
+    → ((p q n : ℕ) → 0 < n → q ≤ p → Meets high p q n
+    ↔ (Meets z.dur_high p q n × IsBelowHigh ends (p - q) n))
     → (a b n : ℕ) → 0 < n → a ≤ b
-    → ZoneHolds (record z { dur_low = int_min z.dur_low low; dur_high = high }) a b n ↔ Lasting (LastsWithin ends) (ZoneHolds z) a b n
+    → ZoneHolds (record z { dur_low = int_min z.dur_low low; dur_high = high }) a b n ↔ Lasting
+    (LastsWithin ends) (ZoneHolds z) a b n
 within-holds z low high ends above below a b n some le =
     let least = above a b n le in
     let most = below b a n some le in

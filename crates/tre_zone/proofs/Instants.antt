@@ -1,32 +1,41 @@
 -- The bounds of the instants between two times.
-use Rattle.std.proofs.Common.{ℕ, ◌+◌, ◌*◌, ◌^◌, ◌<◌, ◌≤◌, ◌↔◌, refl, arith, pos, ◌-ℤ◌}
+use Rattle.std.proofs.Common.{ℕ, ◌+◌, ◌*◌, ◌<◌, ◌≤◌, ◌↔◌, refl, arith, pos, ◌-ℤ◌}
 use Rattle.std.proofs.lemmas.Int.{ints}
+use Rattle.tre_pairs.specs.declared.TheConstants.{TIME_MAX}
 use Rattle.tre_zone.specs.Bound.{sum_of}
 use Rattle.tre_zone.specs.Zone.{ZoneHolds, IsCanonical, IsInstantBetween, instants_of}
 use Rattle.tre_zone.proofs.Bounds.{split, Meets-at_most, Meets-at_least}
 
-pub instants-canonical : (from to : ℕ) → from ≤ to → to ≤ 2 ^ 40 → IsCanonical (instants_of from to)
+pub instants-canonical : (from to : ℕ) → from ≤ to → to ≤ TIME_MAX
+    → IsCanonical (instants_of from to)
 unfolding instants_of sum_of
 instants-canonical from to rising limit =
     let low = split (pos 1 -ℤ pos (2 * from)) in
     let high = split (pos (2 * to + 1)) in
     let zero = split (pos 1) in
     record {
-      begin_loop = omega (arith, ints);
-      end_loop = omega (arith, ints);
-      dur_loop = omega (arith, ints);
-      begin_low = omega (arith, ints);
-      begin_high = omega (arith, ints);
-      end_low = omega (arith, ints);
-      end_high = omega (arith, ints);
-      dur_low = omega (arith, ints);
-      dur_high = omega (arith, ints);
-      starts = omega (arith, ints);
-      ends = omega (arith, ints);
-      lasts = omega (arith, ints);
+      room = record {
+        begin_loop = omega (arith, ints);
+        end_loop = omega (arith, ints);
+        dur_loop = omega (arith, ints);
+      };
+      closed = record {
+        begin_low = omega (arith, ints);
+        begin_high = omega (arith, ints);
+        end_low = omega (arith, ints);
+        end_high = omega (arith, ints);
+        dur_low = omega (arith, ints);
+        dur_high = omega (arith, ints);
+      };
+      framed = record {
+        starts = omega (arith, ints);
+        ends = omega (arith, ints);
+        lasts = omega (arith, ints);
+      };
     }
 
-pub instants-holds : (from to : ℕ) → (a b n : ℕ) → 0 < n → ZoneHolds (instants_of from to) a b n ↔ IsInstantBetween from to a b n
+pub instants-holds : (from to : ℕ) → (a b n : ℕ) → 0 < n
+    → ZoneHolds (instants_of from to) a b n ↔ IsInstantBetween from to a b n
 unfolding instants_of
 instants-holds from to a b n some =
     let begin_low = Meets-at_least (pos 1 -ℤ pos (2 * from)) from refl 0 a n in

@@ -3,6 +3,7 @@ pub mod Durations
 pub mod Spans
 pub mod ZoneKeys
 pub mod ZoneListLemmas
+pub mod Ranges
 pub mod Paths
 pub mod Sums
 pub mod Closing
@@ -12,3 +13,4 @@ pub mod Given
 pub mod Instants
 pub mod Scaling
 pub mod TightBounds
+pub mod Lasting

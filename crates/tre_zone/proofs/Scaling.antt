@@ -1,9 +1,11 @@
--- What a zone holds does not depend on the denominator that a pair is written over; and where its pairs lie.
+-- What a zone holds does not depend on the denominator that a pair is written over; and where its
+-- pairs lie.
 use Rattle.std.proofs.lemmas.Bool.{cases_lt}
-use Rattle.std.proofs.Common.{◌≡◌, ℕ, zero, suc, ◌+◌, ◌*◌, ◌^◌, ◌<◌, ◌≤◌, ◌↔◌, List, [], ◌∷◌, inl, inr, ⊎_elim, refl, arith, ℤ, pos}
+use Rattle.std.proofs.Common.{◌≡◌, ℕ, zero, suc, ◌+◌, ◌*◌, ◌<◌, ◌≤◌, ◌↔◌, List, [], ◌∷◌, inl, inr, ⊎_elim, refl, arith, ℤ, pos}
 use Rattle.std.proofs.lemmas.Int.{ints}
 use Rattle.std.proofs.Math.Nat.{mul-le-mul_left}
 use borrow.Author.Differences.{up, down}
+use Rattle.tre_pairs.specs.declared.TheConstants.{TIME_MAX}
 use Rattle.tre_zone.specs.Bound.{value_of, weakness_of, Meets}
 use Rattle.tre_zone.specs.Zone.{ZoneHolds, IsCanonical, IsInFrame}
 use Rattle.tre_zone.specs.ZoneList.{SetHolds}
@@ -22,7 +24,8 @@ grows (suc zero) k p q n x y some small lt =
     omega arith
 grows (suc (suc w)) k p q n x y some small lt = absurd (omega arith)
 
-shrinks : (weakness k p q n x y : ℕ) → 0 < k → weakness ≤ 1 → k * p + y * (k * n) < k * q + x * (k * n) + weakness
+shrinks : (weakness k p q n x y : ℕ) → 0 < k → weakness ≤ 1
+    → k * p + y * (k * n) < k * q + x * (k * n) + weakness
     → p + y * n < q + x * n + weakness
 shrinks zero k p q n x y some small lt =
     ⊎_elim (λ h. h)
@@ -38,23 +41,27 @@ shrinks (suc zero) k p q n x y some small lt =
     (cases_lt (p + y * n) (q + x * n + suc zero))
 shrinks (suc (suc w)) k p q n x y some small lt = absurd (omega arith)
 
-pub Meets-scale : (key : ℤ) (k p q n : ℕ) → 0 < k → Meets key p q n ↔ Meets key (k * p) (k * q) (k * n)
+pub Meets-scale : (key : ℤ) (k p q n : ℕ) → 0 < k
+    → Meets key p q n ↔ Meets key (k * p) (k * q) (k * n)
 Meets-scale key k p q n some =
     let s = split key in (
       (λ m.
           let met = m.met in
-          let h = grows (weakness_of key) k p q n (up (value_of key)) (down (value_of key)) some s.small (omega (arith, ints)) in
+          let h = grows (weakness_of key) k p q n (up (value_of key))
+          (down (value_of key)) some s.small (omega (arith, ints)) in
           record { met = omega (arith, ints) }),
       (λ m.
           let met = m.met in
-          let h = shrinks (weakness_of key) k p q n (up (value_of key)) (down (value_of key)) some s.small (omega (arith, ints)) in
+          let h = shrinks (weakness_of key) k p q n (up (value_of key))
+          (down (value_of key)) some s.small (omega (arith, ints)) in
           record { met = omega (arith, ints) }),
     )
 
 zero_times : (k : ℕ) → k * 0 ≡ 0
 zero_times k = omega arith
 
-pub ZoneHolds-scale : (zone : ZoneBounds) (k a b n : ℕ) → 0 < k → ZoneHolds zone a b n ↔ ZoneHolds zone (k * a) (k * b) (k * n)
+pub ZoneHolds-scale : (zone : ZoneBounds) (k a b n : ℕ) → 0 < k
+    → ZoneHolds zone a b n ↔ ZoneHolds zone (k * a) (k * b) (k * n)
 ZoneHolds-scale zone k a b n some =
     let from_zero = λ (key : ℤ) (q : ℕ). rw (zero_times k) at (Meets-scale key k 0 q n some) in
     let to_zero = λ (key : ℤ) (p : ℕ). rw (zero_times k) at (Meets-scale key k p 0 n some) in (
@@ -76,7 +83,8 @@ ZoneHolds-scale zone k a b n some =
       }),
     )
 
-pub SetHolds-scale : (zones : List ZoneBounds) (k a b n : ℕ) → 0 < k → SetHolds zones a b n ↔ SetHolds zones (k * a) (k * b) (k * n)
+pub SetHolds-scale : (zones : List ZoneBounds) (k a b n : ℕ) → 0 < k
+    → SetHolds zones a b n ↔ SetHolds zones (k * a) (k * b) (k * n)
 unfolding SetHolds
 SetHolds-scale [] k a b n some = ((λ h. h), (λ h. h))
 SetHolds-scale (zone ∷ zones) k a b n some =
@@ -87,8 +95,11 @@ SetHolds-scale (zone ∷ zones) k a b n some =
     )
 
 -- Each pair of a canonical zone lies in the frame.
-pub canonical-frame : (zone : ZoneBounds) → IsCanonical zone → (a b n : ℕ) → 0 < n → ZoneHolds zone a b n → IsInFrame (2 ^ 40) a b n
+pub canonical-frame : (zone : ZoneBounds) → IsCanonical zone → (a b n : ℕ) → 0 < n
+    → ZoneHolds zone a b n → IsInFrame (TIME_MAX) a b n
 canonical-frame zone c a b n some h =
-    let lasts = (Meets-at_most (pos 1) 0 refl a b n).0 (Meets-looser zone.dur_low (pos 1) a b n some c.lasts h.dur_low) in
-    let ends = (Meets-at_most (pos (2 ^ 41 + 1)) (2 ^ 40) refl b 0 n).0 (Meets-looser zone.end_high (pos (2 ^ 41 + 1)) b 0 n some c.ends h.end_high) in
+    let lasts = (Meets-at_most (pos 1) 0 refl a b n).0
+    (Meets-looser zone.dur_low (pos 1) a b n some c.framed.lasts h.dur_low) in
+    let ends = (Meets-at_most (pos (2 * TIME_MAX + 1)) (TIME_MAX) refl b 0 n).0
+    (Meets-looser zone.end_high (pos (2 * TIME_MAX + 1)) b 0 n some c.framed.ends h.end_high) in
     record { rising = omega arith; ends = omega arith }

@@ -1,6 +1,7 @@
 -- The bounds of a span.
-use Rattle.std.proofs.Common.{◌≡◌, ℕ, ◌+◌, ◌-◌, ◌*◌, ◌^◌, ◌<◌, ◌≤◌, ◌↔◌, refl, ap, arith, ℤ, pos, ◌+ℤ◌, ◌-ℤ◌, ◌*ℤ◌, neg_ℤ}
+use Rattle.std.proofs.Common.{◌≡◌, ℕ, ◌+◌, ◌-◌, ◌*◌, ◌<◌, ◌≤◌, ◌↔◌, refl, ap, arith, ℤ, pos, ◌+ℤ◌, ◌-ℤ◌, ◌*ℤ◌, neg_ℤ}
 use Rattle.std.proofs.lemmas.Int.{ints}
+use Rattle.tre_pairs.specs.declared.TheConstants.{TIME_MAX}
 use Rattle.tre_zone.specs.Bound.{weakness_of, sum_of}
 use Rattle.tre_zone.specs.Zone.{ZoneHolds, IsCanonical, IsInSpan, span_of}
 use Rattle.tre_zone.proofs.Bounds.{split, Meets-at_most, Meets-at_least, Meets-less, Meets-more}
@@ -12,7 +13,8 @@ weak key c e = let one = split key in omega (arith, ints)
 strict : (key c : ℤ) → key ≡ pos 2 *ℤ c → weakness_of key ≡ 0
 strict key c e = let one = split key in omega (arith, ints)
 
-pub span-canonical : (begin end : ℕ) → begin < end → end ≤ 2 ^ 40 → IsCanonical (span_of begin end)
+pub span-canonical : (begin end : ℕ) → begin < end → end ≤ TIME_MAX
+    → IsCanonical (span_of begin end)
 unfolding span_of sum_of
 span-canonical begin end rising limit =
     let begin_low = weak (pos 1 -ℤ pos (2 * begin)) (neg_ℤ (pos begin)) (omega (arith, ints)) in
@@ -22,24 +24,31 @@ span-canonical begin end rising limit =
     let dur_low = strict (pos 0) (pos 0) (omega (arith, ints)) in
     let dur_high = weak (pos (2 * (end - begin) + 1)) (pos (end - begin)) (omega (arith, ints)) in
     record {
-      begin_loop = omega (arith, ints);
-      end_loop = omega (arith, ints);
-      dur_loop = omega (arith, ints);
-      begin_low = omega (arith, ints);
-      begin_high = omega (arith, ints);
-      end_low = omega (arith, ints);
-      end_high = omega (arith, ints);
-      dur_low = omega (arith, ints);
-      dur_high = omega (arith, ints);
-      starts = omega (arith, ints);
-      ends = omega (arith, ints);
-      lasts = omega (arith, ints);
+      room = record {
+        begin_loop = omega (arith, ints);
+        end_loop = omega (arith, ints);
+        dur_loop = omega (arith, ints);
+      };
+      closed = record {
+        begin_low = omega (arith, ints);
+        begin_high = omega (arith, ints);
+        end_low = omega (arith, ints);
+        end_high = omega (arith, ints);
+        dur_low = omega (arith, ints);
+        dur_high = omega (arith, ints);
+      };
+      framed = record {
+        starts = omega (arith, ints);
+        ends = omega (arith, ints);
+        lasts = omega (arith, ints);
+      };
     }
 
 whole : (end begin : ℕ) → begin < end → (end - begin) + begin ≡ end
 whole end begin rising = omega arith
 
-pub span-holds : (begin end : ℕ) → begin < end → (a b n : ℕ) → 0 < n → ZoneHolds (span_of begin end) a b n ↔ IsInSpan begin end a b n
+pub span-holds : (begin end : ℕ) → begin < end → (a b n : ℕ) → 0 < n
+    → ZoneHolds (span_of begin end) a b n ↔ IsInSpan begin end a b n
 unfolding span_of
 span-holds begin end rising a b n some =
     let begin_low = Meets-at_least (pos 1 -ℤ pos (2 * begin)) begin refl 0 a n in
@@ -48,7 +57,8 @@ span-holds begin end rising a b n some =
     let end_high = Meets-at_most (pos (2 * end + 1)) end refl b 0 n in
     let dur_low = Meets-more (pos 0) 0 refl a b n in
     let dur_high = Meets-at_most (pos (2 * (end - begin) + 1)) (end - begin) refl b a n in
-    let width : (end - begin) * n + begin * n ≡ end * n = omega (arith, ap (λ (t : ℕ). t * n) (whole end begin rising)) in (
+    let width : (end - begin) * n + begin * n ≡ end * n =
+    omega (arith, ap (λ (t : ℕ). t * n) (whole end begin rising)) in (
       (λ z.
           let low = begin_low.0 z.begin_low in
           let lasts = dur_low.0 z.dur_low in

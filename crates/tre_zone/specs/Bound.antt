@@ -1,8 +1,8 @@
 -- Bounds from above on a difference of two times, each seen as its key.
 use Rattle.std.specs.Prelude.{ℕ, ◌-◌, ◌/◌, ◌%◌, max, ℤ, pos, negsuc, ◌+ℤ◌, ◌-ℤ◌, ◌*ℤ◌, ◌<ℤ◌, ◌≤ℤ◌, neg_ℤ}
 
--- The key of the bound "at most c" is 2c + 1, that of "less than c" is 2c. So the key is twice the value, and one more
--- where the bound is weak; and the smaller key is the tighter bound.
+-- The key of the bound "at most c" is 2c + 1, that of "less than c" is 2c. So the key is twice the
+-- value, and one more where the bound is weak; and the smaller key is the tighter bound.
 
 -- The value c of a bound, in ticks: half of its key, rounded down.
 unfoldable pub value_of : ℤ → ℤ
@@ -14,8 +14,8 @@ unfoldable pub weakness_of : ℤ → ℕ
 weakness_of (pos key) = key % 2
 weakness_of (negsuc key) = 1 - key % 2
 
--- The difference of the times p/n and q/n meets the bound: p - q is at most c * n where the bound is weak, and
--- less than c * n where it is strict, as one inequality of whole numbers.
+-- The difference of the times p/n and q/n meets the bound: p - q is at most c * n where the bound
+-- is weak, and less than c * n where it is strict, as one inequality of whole numbers.
 pub record Meets (key : ℤ) (p q n : ℕ) : Type 0 where
   pub met : pos p <ℤ ((pos q +ℤ (value_of key *ℤ pos n)) +ℤ pos (weakness_of key))
 

@@ -1,6 +1,7 @@
 -- The closure of six bounds, one step after another.
-use Rattle.std.specs.Prelude.{◌+◌, ◌^◌, pos, ◌≤ℤ◌}
+use Rattle.std.specs.Prelude.{◌+◌, ◌*◌, pos}
 use Rattle.std.specs.Int.{int_min}
+use Rattle.tre_pairs.specs.declared.TheConstants.{TIME_MAX}
 use Rattle.tre_zone.specs.Bound.{sum_of}
 use Rattle.tre_zone.specs.declared.zone_bounds.ZoneBounds.{ZoneBounds}
 
@@ -10,7 +11,7 @@ framed_of zone = record {
   begin_low = int_min zone.begin_low (pos 1);
   begin_high = zone.begin_high;
   end_low = zone.end_low;
-  end_high = int_min zone.end_high (pos (2 ^ 41 + 1));
+  end_high = int_min zone.end_high (pos (2 * TIME_MAX + 1));
   dur_low = int_min zone.dur_low (pos 1);
   dur_high = zone.dur_high;
 }
@@ -36,15 +37,3 @@ tighter_of one other = record {
   dur_low = int_min one.dur_low other.dur_low;
   dur_high = int_min one.dur_high other.dur_high;
 }
-
--- Each difference has room between its two bounds: together they bound nothing by less than 0.
-pub record LeavesRoom (zone : ZoneBounds) : Type 0 where
-  pub begin_loop : pos 1 ≤ℤ sum_of zone.begin_low zone.begin_high
-  pub end_loop : pos 1 ≤ℤ sum_of zone.end_low zone.end_high
-  pub dur_loop : pos 1 ≤ℤ sum_of zone.dur_low zone.dur_high
-
--- The bounds keep each pair in the frame.
-pub record IsFramed (zone : ZoneBounds) : Type 0 where
-  pub starts : zone.begin_low ≤ℤ pos 1
-  pub ends : zone.end_high ≤ℤ pos (2 ^ 41 + 1)
-  pub lasts : zone.dur_low ≤ℤ pos 1

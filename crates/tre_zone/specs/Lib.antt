@@ -1,5 +1,10 @@
+-- What a reader must believe: bounds, intervals, zones, the ranges that their bounds spell, lists
+-- of zones, and durations up to a longest one.
 pub mod Bound
-pub mod Closing
 pub mod Interval
 pub mod Zone
+pub mod Ranges
 pub mod ZoneList
+pub mod Longest
+-- What the functions inside promise each other: how six bounds are closed.
+pub mod Closing

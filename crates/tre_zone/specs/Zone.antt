@@ -1,10 +1,12 @@
 -- Zones: sets of pairs of times under six bounds.
-use Rattle.std.specs.Prelude.{ℕ, ◌+◌, ◌-◌, ◌*◌, ◌<◌, ◌≤◌, ◌≡◌, ◌↔◌, List, [], ◌∷◌, ℤ, pos, ◌-ℤ◌, ◌≤ℤ◌, neg_ℤ, ◌^◌, Option, MatchOption}
+use Rattle.std.specs.Prelude.{ℕ, ◌+◌, ◌-◌, ◌*◌, ◌<◌, ◌≤◌, ◌≡◌, ◌↔◌, List, [], ◌∷◌, ℤ, pos, ◌-ℤ◌, ◌≤ℤ◌, neg_ℤ, Option, MatchOption}
 use Rattle.tre_pairs.specs.Pairs.{Pairs}
+use Rattle.tre_pairs.specs.declared.TheConstants.{TIME_MAX}
 use Rattle.tre_zone.specs.Bound.{sum_of, Meets, IsKeyWithin, IsValueWithin}
 use Rattle.tre_zone.specs.declared.zone_bounds.ZoneBounds.{ZoneBounds}
 
--- The zone holds the pair of the times a/n and b/n: its six bounds hold of -a, a, -b, b, a - b and b - a, in units of 1/n.
+-- The zone holds the pair of the times a/n and b/n: its six bounds hold of -a, a, -b, b, a - b and
+-- b - a, in units of 1/n.
 pub record ZoneHolds (zone : ZoneBounds) (a b n : ℕ) : Type 0 where
   pub begin_low : Meets zone.begin_low 0 a n
   pub begin_high : Meets zone.begin_high a 0 n
@@ -26,26 +28,36 @@ pub record Covers (outer inner : ZoneBounds) : Type 0 where
   pub dur_low : inner.dur_low ≤ℤ outer.dur_low
   pub dur_high : inner.dur_high ≤ℤ outer.dur_high
 
--- The canonical bounds: those of a zone that is not empty, lies in the frame of the times that can be named, and has for
--- each difference the tightest bound that its other bounds allow.
-pub record IsCanonical (zone : ZoneBounds) : Type 0 where
-  -- it is not empty: no difference is asked to be below itself
+-- Each difference has room between its two bounds: together they bound nothing by less than 0.
+pub record LeavesRoom (zone : ZoneBounds) : Type 0 where
   pub begin_loop : pos 1 ≤ℤ sum_of zone.begin_low zone.begin_high
   pub end_loop : pos 1 ≤ℤ sum_of zone.end_low zone.end_high
   pub dur_loop : pos 1 ≤ℤ sum_of zone.dur_low zone.dur_high
-  -- each bound is no looser than the way round through the third time
+
+-- Each bound is no looser than the way round through the third time.
+pub record IsClosed (zone : ZoneBounds) : Type 0 where
   pub begin_low : zone.begin_low ≤ℤ sum_of zone.end_low zone.dur_high
   pub begin_high : zone.begin_high ≤ℤ sum_of zone.dur_low zone.end_high
   pub end_low : zone.end_low ≤ℤ sum_of zone.begin_low zone.dur_low
   pub end_high : zone.end_high ≤ℤ sum_of zone.dur_high zone.begin_high
   pub dur_low : zone.dur_low ≤ℤ sum_of zone.begin_high zone.end_low
   pub dur_high : zone.dur_high ≤ℤ sum_of zone.end_high zone.begin_low
-  -- 0 ≤ begin ≤ end ≤ 2 ^ 40
+
+-- The bounds keep each pair in the frame: 0 ≤ begin ≤ end ≤ TIME_MAX.
+pub record IsFramed (zone : ZoneBounds) : Type 0 where
   pub starts : zone.begin_low ≤ℤ pos 1
-  pub ends : zone.end_high ≤ℤ pos (2 ^ 41 + 1)
+  pub ends : zone.end_high ≤ℤ pos (2 * TIME_MAX + 1)
   pub lasts : zone.dur_low ≤ℤ pos 1
 
--- The bounds of the pairs with begin ≤ t < t' ≤ end, in the line of a zone `[begin,end) (begin,end] (0,end-begin]`.
+-- The canonical bounds: those of a zone that is not empty, lies in the frame of the times that can
+-- be named, and has for each difference the tightest bound that its other bounds allow.
+pub record IsCanonical (zone : ZoneBounds) : Type 0 where
+  pub room : LeavesRoom zone
+  pub closed : IsClosed zone
+  pub framed : IsFramed zone
+
+-- The bounds of the pairs with begin ≤ t < t' ≤ end, in the line of a zone `[begin,end) (begin,end]
+-- (0,end-begin]`.
 unfoldable pub span_of : ℕ → ℕ → ZoneBounds
 span_of begin end = record {
   begin_low = pos 1 -ℤ pos (2 * begin);
@@ -56,7 +68,8 @@ span_of begin end = record {
   dur_high = pos (2 * (end - begin) + 1);
 }
 
--- The bounds of the instants (t,t) with from ≤ t ≤ to, in the line of a zone `[from,to] [from,to] [0,0]`.
+-- The bounds of the instants (t,t) with from ≤ t ≤ to, in the line of a zone `[from,to] [from,to]
+-- [0,0]`.
 unfoldable pub instants_of : ℕ → ℕ → ZoneBounds
 instants_of from to = record {
   begin_low = pos 1 -ℤ pos (2 * from);
@@ -97,10 +110,12 @@ pub record HoldsSome (zone : ZoneBounds) : Type 0 where
   pub rising : a ≤ b
   pub held : ZoneHolds zone a b n
 
--- The key is the tightest for the difference of the two times that `left` and `right` pick from a pair:
+-- The key is the tightest for the difference of the two times that `left` and `right` pick from a
+-- pair:
 -- each bound that every pair of the zone meets has at least this key.
 pub record IsTightest (zone : ZoneBounds) (key : ℤ) (left right : ℕ → ℕ → ℕ) : Type 0 where
-  pub tightest : (other : ℤ) → ((a b n : ℕ) → 0 < n → a ≤ b → ZoneHolds zone a b n → Meets other (left a b) (right a b) n) → key ≤ℤ other
+  pub tightest : (other : ℤ) → ((a b n : ℕ) → 0 < n → a ≤ b → ZoneHolds zone a b n
+      → Meets other (left a b) (right a b) n) → key ≤ℤ other
 
 -- Each of the six bounds is the tightest that the pairs of the zone allow.
 pub record IsTight (zone : ZoneBounds) : Type 0 where
@@ -143,4 +158,6 @@ pub record AreValuesWithin (limit : ℕ) (zone : ZoneBounds) : Type 0 where
 
 -- The six keys in the order of the fields, and two zeros.
 abbrev pub row_of : ZoneBounds → List ℤ
-row_of zone = zone.begin_low ∷ zone.begin_high ∷ zone.end_low ∷ zone.end_high ∷ zone.dur_low ∷ zone.dur_high ∷ pos 0 ∷ pos 0 ∷ []
+row_of zone =
+    zone.begin_low ∷ zone.begin_high ∷ zone.end_low ∷ zone.end_high
+    ∷ zone.dur_low ∷ zone.dur_high ∷ pos 0 ∷ pos 0 ∷ []

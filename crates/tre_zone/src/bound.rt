@@ -1,13 +1,13 @@
 ghost use Rattle.std.specs.Prelude.{◌≡◌, ℕ, pos, neg_ℤ, ◌+◌, ◌*◌, ◌^◌, ◌+ℤ◌, ◌*ℤ◌, ◌≤ℤ◌, ◌<ℤ◌, ◌↔◌, IsTrue};
-ghost use Rattle.tre_zone.specs.Bound.{value_of, weakness_of, sum_of, Meets, IsKeyWithin, IsValueWithin};
+ghost use Rattle.tre_zone.specs.Bound.{value_of, weakness_of, sum_of, Meets, IsKeyWithin};
 ghost use Rattle.std.specs.Int.{int_min};
 
 use std::marker::Model;
 
 /// An upper bound on a difference of two times in ticks: `x <= c` (weak) or `x < c` (strict).
 ///
-/// It is one number, its key: `2c + 1` for a weak bound and `2c` for a strict one. The smaller key is
-/// the tighter bound, so bounds are compared by their keys. Contracts see a bound as its key.
+/// It is one number, its key: `2c + 1` for a weak bound and `2c` for a strict one. The smaller key
+/// is the tighter bound, so bounds are compared by their keys. Contracts see a bound as its key.
 #[derive(Clone, Copy, Debug, PartialEq, Eq)]
 pub struct Bound {
     key: i64,
@@ -24,26 +24,28 @@ impl Model for Bound {
 }
 
 impl Bound {
-    /// The bound `x <= c`.
-    pub fn weak(c: i64) -> Bound
-        requires low { neg_ℤ (pos (2 ^ 60)) ≤ℤ c }
-        requires high { c ≤ℤ pos (2 ^ 60) }
-        ensures key { result ≡ (pos 2 *ℤ c) +ℤ pos 1 }
-        ensures value { value_of result ≡ c }
-        ensures meaning { (p q n : ℕ) → Meets result p q n ↔ (pos p ≤ℤ (pos q +ℤ (c *ℤ pos n))) }
+    /// The bound `x <= value`.
+    pub fn weak(value: i64) -> Bound
+        requires low { neg_ℤ (pos (2 ^ 60)) ≤ℤ value }
+        requires high { value ≤ℤ pos (2 ^ 60) }
+        ensures key { result ≡ (pos 2 *ℤ value) +ℤ pos 1 }
+        ensures value { value_of result ≡ value }
+        ensures meaning { (p q n : ℕ)
+            → Meets result p q n ↔ (pos p ≤ℤ (pos q +ℤ (value *ℤ pos n))) }
     {
-        Bound { key: 2 * c + 1 }
+        Bound { key: 2 * value + 1 }
     }
 
-    /// The bound `x < c`.
-    pub fn strict(c: i64) -> Bound
-        requires low { neg_ℤ (pos (2 ^ 60)) ≤ℤ c }
-        requires high { c ≤ℤ pos (2 ^ 60) }
-        ensures key { result ≡ pos 2 *ℤ c }
-        ensures value { value_of result ≡ c }
-        ensures meaning { (p q n : ℕ) → Meets result p q n ↔ (pos p <ℤ (pos q +ℤ (c *ℤ pos n))) }
+    /// The bound `x < value`.
+    pub fn strict(value: i64) -> Bound
+        requires low { neg_ℤ (pos (2 ^ 60)) ≤ℤ value }
+        requires high { value ≤ℤ pos (2 ^ 60) }
+        ensures key { result ≡ pos 2 *ℤ value }
+        ensures value { value_of result ≡ value }
+        ensures meaning { (p q n : ℕ)
+            → Meets result p q n ↔ (pos p <ℤ (pos q +ℤ (value *ℤ pos n))) }
     {
-        Bound { key: 2 * c }
+        Bound { key: 2 * value }
     }
 
     /// The number `c` of `x <= c` or `x < c`.
@@ -69,20 +71,12 @@ impl Bound {
 
     /// The bound that this one and `other` put on the sum of what each is on.
     pub fn plus(&self, other: &Bound) -> Bound
-        requires own { IsValueWithin (2 ^ 59) self.now }
-        requires others { IsValueWithin (2 ^ 59) other.now }
-        ensures key { result ≡ sum_of self.now other.now }
-        ensures value { value_of result ≡ value_of self.now +ℤ value_of other.now }
-        ensures weak { (weakness_of result ≡ 1) ↔ (weakness_of self.now ≡ 1) × (weakness_of other.now ≡ 1) }
-    {
-        self.sum(other)
-    }
-
-    /// `plus`, for keys in the middle half of their range.
-    pub(crate) fn sum(&self, other: &Bound) -> Bound
         requires own { IsKeyWithin (2 ^ 61) self.now }
         requires others { IsKeyWithin (2 ^ 61) other.now }
-        ensures { result ≡ sum_of self.now other.now }
+        ensures key { result ≡ sum_of self.now other.now }
+        ensures value { value_of result ≡ value_of self.now +ℤ value_of other.now }
+        ensures weak { (weakness_of result ≡ 1)
+            ↔ (weakness_of self.now ≡ 1) × (weakness_of other.now ≡ 1) }
     {
         Bound {
             key: self.key + other.key - self.weakness().max(other.weakness()),
@@ -98,23 +92,23 @@ impl Bound {
         }
     }
 
-    /// Whether some `x` meets this bound while `-x` meets `other`.
+    // Whether some `x` meets this bound while `-x` meets `other`.
     pub(crate) fn leaves_room(&self, other: &Bound) -> bool
         requires own { IsKeyWithin (2 ^ 61) self.now }
         requires others { IsKeyWithin (2 ^ 61) other.now }
         ensures { IsTrue result ↔ (pos 1 ≤ℤ sum_of self.now other.now) }
     {
-        self.sum(other).key >= 1
+        self.plus(other).key >= 1
     }
 
-    /// Whether every difference that meets `other` meets this bound.
+    // Whether every difference that meets `other` meets this bound.
     pub(crate) fn covers(&self, other: &Bound) -> bool
         ensures { IsTrue result ↔ (other.now ≤ℤ self.now) }
     {
         other.key <= self.key
     }
 
-    /// 1 for a weak bound and 0 for a strict one.
+    // 1 for a weak bound and 0 for a strict one.
     fn weakness(&self) -> i64
         ensures { result ≡ pos (weakness_of self.now) }
     {

@@ -1,6 +1,6 @@
 ghost use Rattle.std.specs.Prelude.{◌≡◌, ℕ, ◌+◌, ◌-◌, ◌*◌, ◌^◌, ◌≤◌, ◌<◌, ◌↔◌, IsTrue, IsNone, IfSome, MatchOption, MatchBool, pos, neg_ℤ, ◌≤ℤ◌};
 ghost use Rattle.tre_zone.specs.Bound.{Meets, IsKeyWithin};
-ghost use Rattle.tre_zone.specs.Interval.{IsAboveLow, IsBelowHigh, LastsWithin, kept_weak, HasRoom, IsIntervalWithin};
+ghost use Rattle.tre_zone.specs.Interval.{IsAboveLow, IsBelowHigh, LastsWithin, kept_weak, HasNoDuration, HasRoom, IsInterval, IsIntervalWithin, ends_of};
 
 use crate::bound::Bound;
 use std::marker::Model;
@@ -8,7 +8,8 @@ use tre_pairs::TIME_MAX;
 
 /// An interval of durations, such as `[2,5)` or `(3,inf)`, with ends in ticks.
 ///
-/// There is always a duration in it, though maybe none of a whole number of ticks: `(3,4)` holds 7/2.
+/// There is always a duration in it, though maybe none of a whole number of ticks: `(3,4)` holds
+/// 7/2.
 #[derive(Clone, Copy, Debug, PartialEq, Eq)]
 pub struct Interval {
     low: u64,
@@ -18,27 +19,31 @@ pub struct Interval {
 }
 
 impl Model for Interval {
-    ghost use Rattle.tre_zone.specs.Interval.{IntervalEnds, IsIntervalWithin};
-    ghost use Rattle.std.specs.Prelude.{◌^◌};
+    ghost use Rattle.tre_zone.specs.Interval.{IntervalEnds, IsInterval, ends_of};
 
     ghost Value = { IntervalEnds };
 
-    ghost view = { λ i. record { low = i.low; low_weak = i.low_weak; high = i.high; high_weak = i.high_weak } };
+    ghost view = { λ i. ends_of i.low i.low_weak i.high i.high_weak };
 
-    ghost invariant = { λ i. IsIntervalWithin (2 ^ 40) (record { low = i.low; low_weak = i.low_weak; high = i.high; high_weak = i.high_weak }) };
+    ghost invariant = { λ i. IsInterval (ends_of i.low i.low_weak i.high i.high_weak) };
 
-    ghost inverse = { λ e. record { low = e.low; low_weak = e.low_weak; high = e.high; high_weak = e.high_weak } };
+    ghost inverse = { λ ends. record {
+      low = ends.low;
+      low_weak = ends.low_weak;
+      high = ends.high;
+      high_weak = ends.high_weak;
+    } };
 }
 
 impl Interval {
-    /// The interval with these ends, each in it where it is `weak`. Without `high` there is no upper
-    /// end. None where no duration is in it: `(3,3]` and `[4,2]` have none.
+    /// The interval with these ends, each in it where it is `weak`. Without `high` there is no
+    /// upper end. None where no duration is in it: `(3,3]` and `[4,2]` have none.
     pub fn new(low: u64, low_weak: bool, high: Option<u64>, high_weak: bool) -> Option<Interval>
         requires low { low ≤ TIME_MAX }
         requires high { MatchOption high (Unit {0}) (λ h. h ≤ TIME_MAX) }
-        ensures ends { IfSome result (λ i. i ≡ record { low = low; low_weak = low_weak; high = high; high_weak = kept_weak high high_weak }) }
-        ensures empty { IsNone result ↔ ((d n : ℕ) → 0 < n →
-            LastsWithin (record { low = low; low_weak = low_weak; high = high; high_weak = high_weak }) d n → ⊥) }
+        ensures ends { IfSome result
+            (λ interval. interval ≡ ends_of low low_weak high (kept_weak high high_weak)) }
+        ensures empty { IsNone result ↔ HasNoDuration (ends_of low low_weak high high_weak) }
     {
         match high {
             None => Some(Interval {
@@ -85,9 +90,10 @@ impl Interval {
         self.high
     }
 
-    /// Whether the upper end is in the interval.
+    /// Whether the upper end is in the interval: never where there is none.
     pub fn high_weak(&self) -> bool
-        ensures { result ≡ self.now.high_weak }
+        ensures weak { result ≡ self.now.high_weak }
+        ensures interval { IsInterval self.now }
     {
         self.high_weak
     }
@@ -100,7 +106,7 @@ impl Interval {
         self.is_above_low(d, n) && self.is_below_high(d, n)
     }
 
-    /// The low end as a bound on a negated duration.
+    // The low end as a bound on a negated duration.
     pub(crate) fn low_bound(&self) -> Bound
         ensures key { IsKeyWithin (2 ^ 42) result }
         ensures meaning { (p q n : ℕ) → p ≤ q → Meets result p q n ↔ IsAboveLow self.now (q - p) n }
@@ -113,11 +119,12 @@ impl Interval {
         }
     }
 
-    /// A bound on a duration, or the high end where that is tighter.
+    // A bound on a duration, or the high end where that is tighter.
     pub(crate) fn bounded(&self, bound: &Bound) -> Bound
         ensures tighter { result ≤ℤ bound.now }
         ensures key { neg_ℤ (pos (2 ^ 42)) ≤ℤ bound.now → neg_ℤ (pos (2 ^ 42)) ≤ℤ result }
-        ensures meaning { (p q n : ℕ) → 0 < n → q ≤ p → Meets result p q n ↔ (Meets bound.now p q n × IsBelowHigh self.now (p - q) n) }
+        ensures meaning { (p q n : ℕ) → 0 < n → q ≤ p
+            → Meets result p q n ↔ (Meets bound.now p q n × IsBelowHigh self.now (p - q) n) }
     {
         match self.high {
             None => *bound,
@@ -143,7 +150,7 @@ impl Interval {
     }
 }
 
-/// Whether some duration lies between the two ends.
+// Whether some duration lies between the two ends.
 fn has_room(low: u64, low_weak: bool, high: u64, high_weak: bool) -> bool
     ensures { IsTrue result ↔ HasRoom low low_weak high high_weak }
 {
@@ -154,11 +161,12 @@ fn has_room(low: u64, low_weak: bool, high: u64, high_weak: bool) -> bool
     }
 }
 
-/// The high end as a bound on a duration.
+// The high end as a bound on a duration.
 fn high_bound(high: u64, weak: bool) -> Bound
     requires { high ≤ TIME_MAX }
     ensures key { pos 0 ≤ℤ result }
-    ensures meaning { (p q n : ℕ) → q ≤ p → Meets result p q n ↔ MatchBool weak (p - q ≤ high * n) (p - q < high * n) }
+    ensures meaning { (p q n : ℕ) → q ≤ p
+        → Meets result p q n ↔ MatchBool weak (p - q ≤ high * n) (p - q < high * n) }
 {
     if weak {
         Bound::weak(high as i64)

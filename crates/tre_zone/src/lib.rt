@@ -21,9 +21,9 @@ pub use zone::Zone;
 pub use zone_bounds::ZoneBounds;
 
 mod bound;
-mod canonical;
 mod interval;
 pub mod laws;
+mod longest;
 #[cfg(test)]
 mod tests;
 mod zone;

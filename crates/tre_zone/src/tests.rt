@@ -3,7 +3,7 @@ ghost use Rattle.tre_zone.specs.Bound.{IsValueWithin};
 
 use crate::{Bound, Interval, Zone, ZoneBounds};
 
-/// Bounds that leave every time up to 63.
+// Bounds that leave every time up to 63.
 const FREE: i8 = 127;
 
 fn bound(key: i8) -> Bound
@@ -28,7 +28,7 @@ fn zone(keys: &[i8; 6]) -> Option<Zone> {
     })
 }
 
-/// Whether the difference `p/n - q/n` meets the bound with this key, counted out.
+// Whether the difference `p/n - q/n` meets the bound with this key, counted out.
 fn meets(key: i8, p: u8, q: u8, n: u8) -> bool {
     let most = i64::from(key >> 1) * i64::from(n);
     let difference = i64::from(p) - i64::from(q);

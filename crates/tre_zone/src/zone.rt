@@ -2,20 +2,18 @@ ghost use Rattle.std.specs.Prelude.{◌≡◌, ℕ, ◌+◌, ◌*◌, ◌^◌, �
 ghost use Rattle.tre_pairs.specs.Pairs.{Both, Lasting};
 ghost use Rattle.tre_zone.specs.Bound.{Meets};
 ghost use Rattle.tre_zone.specs.Interval.{LastsWithin};
-ghost use Rattle.tre_zone.specs.Zone.{ZoneHolds, Includes, Covers, IsCanonical, IsTight, HoldsSome, IsInSpan};
+ghost use Rattle.tre_zone.specs.Zone.{ZoneHolds, Includes, Covers, IsCanonical, IsFramed, IsTight, HoldsSome, IsInSpan};
 ghost use Rattle.tre_zone.specs.Zone.{IsInstantBetween, EndsAt, IsInFrame, GivesZone, AreKeysWithin, AreValuesWithin};
 ghost use Rattle.tre_zone.specs.Zone.{span_of, instants_of, row_of};
-ghost use Rattle.tre_zone.specs.Closing.{IsFramed};
 
 use crate::bound::Bound;
-use crate::canonical::{closed, covers, framed, leaves_room, tighter};
 use crate::interval::Interval;
 use crate::zone_bounds::ZoneBounds;
 use std::marker::Model;
 use tre_pairs::TIME_MAX;
 
-/// A set of pairs of times `t <= t'` under six bounds, never empty, each bound the tightest that the
-/// set allows.
+/// A set of pairs of times `t <= t'` under six bounds, never empty, each bound the tightest that
+/// the set allows.
 #[derive(Clone, Copy, Debug, PartialEq, Eq)]
 pub struct Zone {
     bounds: ZoneBounds,
@@ -35,13 +33,13 @@ impl Model for Zone {
 }
 
 impl Zone {
-    /// The pairs that meet the six bounds and lie in the frame `0 <= t <= t' <= TIME_MAX`, None where
-    /// there is none.
+    /// The pairs that meet the six bounds and lie in the frame `0 <= t <= t' <= TIME_MAX`, None
+    /// where there is none.
     pub fn new(bounds: &ZoneBounds) -> Option<Zone>
         requires { AreValuesWithin (2 ^ 42) bounds.now }
         ensures { GivesZone result (Both (ZoneHolds bounds.now) (IsInFrame TIME_MAX)) }
     {
-        canonical(&framed(bounds))
+        canonical(&bounds.framed())
     }
 
     /// The pairs with `begin <= t < t' <= end`: a stretch of more than an instant inside a run.
@@ -70,7 +68,8 @@ impl Zone {
         requires rising { from ≤ to }
         requires limit { to ≤ TIME_MAX }
         ensures bounds { result ≡ instants_of from to }
-        ensures held { (a b n : ℕ) → 0 < n → ZoneHolds result a b n ↔ IsInstantBetween from to a b n }
+        ensures held { (a b n : ℕ) → 0 < n
+            → ZoneHolds result a b n ↔ IsInstantBetween from to a b n }
     {
         let low = Bound::weak(-(from as i64));
         let high = Bound::weak(to as i64);
@@ -106,44 +105,44 @@ impl Zone {
         ensures keys { IsTrue result ↔ Covers self.now other.now }
         ensures pairs { IsTrue result ↔ Includes self.now other.now }
     {
-        covers(&self.bounds, &other.bounds)
+        self.bounds.covers(&other.bounds)
     }
 
     /// The pairs in both zones, None where there is none.
     pub fn meet(&self, other: &Zone) -> Option<Zone>
         ensures { GivesZone result (Both (ZoneHolds self.now) (ZoneHolds other.now)) }
     {
-        canonical(&tighter(&self.bounds, &other.bounds))
+        canonical(&self.bounds.tighter(&other.bounds))
     }
 
     /// The pairs whose duration is in the interval, None where there is none.
-    pub fn within(&self, i: &Interval) -> Option<Zone>
-        ensures { GivesZone result (Lasting (LastsWithin i.now) (ZoneHolds self.now)) }
+    pub fn within(&self, interval: &Interval) -> Option<Zone>
+        ensures { GivesZone result (Lasting (LastsWithin interval.now) (ZoneHolds self.now)) }
     {
-        let b = &self.bounds;
+        let bounds = &self.bounds;
         canonical(&ZoneBounds {
-            begin_low: b.begin_low,
-            begin_high: b.begin_high,
-            end_low: b.end_low,
-            end_high: b.end_high,
-            dur_low: b.dur_low.tighter(&i.low_bound()),
-            dur_high: i.bounded(&b.dur_high),
+            begin_low: bounds.begin_low,
+            begin_high: bounds.begin_high,
+            end_low: bounds.end_low,
+            end_high: bounds.end_high,
+            dur_low: bounds.dur_low.tighter(&interval.low_bound()),
+            dur_high: interval.bounded(&bounds.dur_high),
         })
     }
 
-    /// The pairs that end at `t`, None where there is none.
-    pub fn ending_at(&self, t: u64) -> Option<Zone>
-        requires { t ≤ TIME_MAX }
-        ensures { GivesZone result (Both (ZoneHolds self.now) (EndsAt t)) }
+    /// The pairs that end at `time`, None where there is none.
+    pub fn ending_at(&self, time: u64) -> Option<Zone>
+        requires { time ≤ TIME_MAX }
+        ensures { GivesZone result (Both (ZoneHolds self.now) (EndsAt time)) }
     {
-        let b = &self.bounds;
+        let bounds = &self.bounds;
         canonical(&ZoneBounds {
-            begin_low: b.begin_low,
-            begin_high: b.begin_high,
-            end_low: b.end_low.tighter(&Bound::weak(-(t as i64))),
-            end_high: b.end_high.tighter(&Bound::weak(t as i64)),
-            dur_low: b.dur_low,
-            dur_high: b.dur_high,
+            begin_low: bounds.begin_low,
+            begin_high: bounds.begin_high,
+            end_low: bounds.end_low.tighter(&Bound::weak(-(time as i64))),
+            end_high: bounds.end_high.tighter(&Bound::weak(time as i64)),
+            dur_low: bounds.dur_low,
+            dur_high: bounds.dur_high,
         })
     }
 
@@ -158,7 +157,8 @@ impl Zone {
         self.bounds
     }
 
-    /// The zone with these bounds, which are canonical already: the inverse of `bounds`, and no work.
+    /// The zone with these bounds, which are canonical already: the inverse of `bounds`, and no
+    /// work.
     pub fn from_canonical(bounds: &ZoneBounds) -> Zone
         requires { IsCanonical bounds.now }
         ensures { result ≡ bounds.now }
@@ -166,47 +166,39 @@ impl Zone {
         Zone { bounds: *bounds }
     }
 
-    /// A law, and no work: two zones that hold the same pairs are one zone.
-    pub fn same_pairs(one: &Zone, other: &Zone)
-        ensures { Includes one.now other.now → Includes other.now one.now → one.now ≡ other.now }
-    {
-        let _one = &one.bounds;
-        let _other = &other.bounds;
-    }
-
     /// The six keys in the order of the fields, then 0 and 0.
     pub fn row(&self) -> [i64; 8]
         ensures { result ≡ row_of self.now }
     {
-        let b = &self.bounds;
+        let bounds = &self.bounds;
         [
-            b.begin_low.key(),
-            b.begin_high.key(),
-            b.end_low.key(),
-            b.end_high.key(),
-            b.dur_low.key(),
-            b.dur_high.key(),
+            bounds.begin_low.key(),
+            bounds.begin_high.key(),
+            bounds.end_low.key(),
+            bounds.end_high.key(),
+            bounds.dur_low.key(),
+            bounds.dur_high.key(),
             0,
             0,
         ]
     }
 }
 
-/// The zone of the pairs that meet the bounds, None where there is none.
+// The zone of the pairs that meet the bounds, None where there is none.
 fn canonical(bounds: &ZoneBounds) -> Option<Zone>
     requires framed { IsFramed bounds.now }
     requires keys { AreKeysWithin (2 ^ 45) bounds.now }
     ensures { GivesZone result (ZoneHolds bounds.now) }
 {
-    let closed = closed(bounds);
-    if leaves_room(&closed) {
+    let closed = bounds.closed();
+    if closed.leaves_room() {
         Some(Zone { bounds: closed })
     } else {
         None
     }
 }
 
-/// Whether the difference of `p/n` and `q/n` meets the bound.
+// Whether the difference of `p/n` and `q/n` meets the bound.
 fn is_met(bound: &Bound, p: u64, q: u64, n: u32) -> bool
     ensures { IsTrue result ↔ Meets bound.now p q n }
 {

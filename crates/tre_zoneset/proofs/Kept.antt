@@ -3,16 +3,18 @@ use Rattle.std.proofs.Common.{◌≡◌, ℕ, ◌<◌, ◌≤◌, ◌⊎◌, Boo
 use Rattle.std.specs.List.{items_where_true}
 use Rattle.std.specs.List.Retain.{ReturnsInTurn, IsFiltered}
 use Rattle.tre_zone.specs.Zone.{ZoneHolds, HoldsSome, Includes}
-use Rattle.tre_zone.specs.ZoneList.{SetHolds, IsApartFrom, IsApart}
+use Rattle.tre_zone.specs.ZoneList.{SetHolds, IsApartFrom, IsApart, AreCanonical}
 use Rattle.tre_zone.specs.declared.zone_bounds.ZoneBounds.{ZoneBounds}
 use Rattle.tre_zone.proofs.Tightness.{canonical-some}
-use Rattle.tre_zoneset.specs.ZoneSet.{AreCanonical, IsZoneSet, Without, Stays}
+use Rattle.tre_zoneset.specs.ZoneSet.{IsZoneSet, Without, Stays}
 use Rattle.tre_zoneset.proofs.Members.{Any-head, Any-tail}
 
 -- What a test that changes nothing leaves of a list.
 module _ {F : Type 0} (R : F → ZoneBounds → Bool → F → Type 0) (outer : ZoneBounds) (f : F)
-    (says : (zone : ZoneBounds) (stays : Bool) (f' : F) → R f zone stays f' → Stays stays outer zone × (f' ≡ f)) where
-  in_turn : (zones : List ZoneBounds) (answers : List Bool) (last : F) → length answers ≡ length zones → ReturnsInTurn R f answers zones last
+    (says : (zone : ZoneBounds) (stays : Bool) (f' : F) → R f zone stays f'
+    → Stays stays outer zone × (f' ≡ f)) where
+  in_turn : (zones : List ZoneBounds) (answers : List Bool) (last : F)
+      → length answers ≡ length zones → ReturnsInTurn R f answers zones last
       → Without (Includes outer) zones (items_where_true answers zones)
   unfolding Without
   in_turn [] [] last same turns = refl
@@ -21,18 +23,28 @@ module _ {F : Type 0} (R : F → ZoneBounds → Bool → F → Type 0) (outer : 
   in_turn (zone ∷ zones) (true ∷ answers) last same turns =
       let one = says zone true turns.0 turns.1 in
       let rest = subst (λ (g : F). ReturnsInTurn R g answers zones last) one.1 turns.2 in
-      inr (one.0.told, (items_where_true answers zones, refl, in_turn zones answers last (omega arith) rest))
+      inr (
+        one.0.told,
+        (
+          items_where_true answers zones,
+          refl,
+          in_turn zones answers last
+              (omega arith) rest,
+        ),
+      )
   in_turn (zone ∷ zones) (false ∷ answers) last same turns =
       let one = says zone false turns.0 turns.1 in
       let rest = subst (λ (g : F). ReturnsInTurn R g answers zones last) one.1 turns.2 in
       inl (one.0.told, in_turn zones answers last (omega arith) rest)
 
-  pub Without-from_retain : (zones kept : List ZoneBounds) → IsFiltered R f zones kept → Without (Includes outer) zones kept
+  pub Without-from_retain : (zones kept : List ZoneBounds) → IsFiltered R f zones kept
+      → Without (Includes outer) zones kept
   Without-from_retain zones kept (answers, last, same, turns, is) =
       subst (Without (Includes outer) zones) (sym is) (in_turn zones answers last same turns)
 
 module _ (P : ZoneBounds → Type 0) where
-  apart_from : (zone : ZoneBounds) (old kept : List ZoneBounds) → Without P old kept → IsApartFrom zone old → IsApartFrom zone kept
+  apart_from : (zone : ZoneBounds) (old kept : List ZoneBounds) → Without P old kept
+      → IsApartFrom zone old → IsApartFrom zone kept
   unfolding Without IsApartFrom
   apart_from zone [] kept is apart = subst (IsApartFrom zone) (sym is) tt
   apart_from zone (other ∷ old) kept (inl gone) apart = apart_from zone old kept gone.1 apart.1
@@ -46,51 +58,65 @@ module _ (P : ZoneBounds → Type 0) where
   apart (zone ∷ old) kept (inr (stays, (rest, is, without))) set =
       subst IsApart (sym is) (apart_from zone old rest without set.0, apart old rest without set.1)
 
-  canonical : (old kept : List ZoneBounds) → Without P old kept → AreCanonical old → AreCanonical kept
+  canonical : (old kept : List ZoneBounds) → Without P old kept → AreCanonical old
+      → AreCanonical kept
   unfolding Without AreCanonical
   canonical [] kept is all = subst AreCanonical (sym is) tt
   canonical (zone ∷ old) kept (inl gone) all = canonical old kept gone.1 all.1
   canonical (zone ∷ old) kept (inr (stays, (rest, is, without))) all =
       subst AreCanonical (sym is) (all.0, canonical old rest without all.1)
 
-  pub IsZoneSet-kept : (old kept : List ZoneBounds) → Without P old kept → IsZoneSet old → IsZoneSet kept
+  pub IsZoneSet-kept : (old kept : List ZoneBounds) → Without P old kept → IsZoneSet old
+      → IsZoneSet kept
   IsZoneSet-kept old kept without set = record {
     apart = apart old kept without set.apart;
     canonical = canonical old kept without set.canonical;
   }
 
   -- What stays holds no more than the list did.
-  pub SetHolds-kept : (old kept : List ZoneBounds) → Without P old kept → (a b n : ℕ) → SetHolds kept a b n → SetHolds old a b n
+  pub SetHolds-kept : (old kept : List ZoneBounds) → Without P old kept → (a b n : ℕ)
+      → SetHolds kept a b n → SetHolds old a b n
   unfolding Without SetHolds
   SetHolds-kept [] kept is a b n h = subst (λ zones. SetHolds zones a b n) is h
   SetHolds-kept (zone ∷ old) kept (inl gone) a b n h = inr (SetHolds-kept old kept gone.1 a b n h)
   SetHolds-kept (zone ∷ old) kept (inr (stays, (rest, is, without))) a b n h =
-      ⊎_elim (λ x. inl x) (λ x. inr (SetHolds-kept old rest without a b n x)) (subst (λ zones. SetHolds zones a b n) is h)
+      ⊎_elim (λ x. inl x) (λ x. inr (SetHolds-kept old rest without a b n x))
+      (subst (λ zones. SetHolds zones a b n) is h)
 
 -- Where no member includes the zone, it is apart from those that it doesn't include.
-pub IsApartFrom-kept : (zone : ZoneBounds) (old kept : List ZoneBounds) → Without (Includes zone) old kept
+pub IsApartFrom-kept : (zone : ZoneBounds) (old kept : List ZoneBounds)
+    → Without (Includes zone) old kept
     → (Any (λ member. Includes member zone) old → ⊥) → IsApartFrom zone kept
 unfolding Without IsApartFrom
 IsApartFrom-kept zone [] kept is none = subst (IsApartFrom zone) (sym is) tt
 IsApartFrom-kept zone (other ∷ old) kept (inl gone) none =
-    IsApartFrom-kept zone old kept gone.1 (λ any. none (Any-tail (λ member. Includes member zone) other old any))
+    IsApartFrom-kept zone old kept gone.1
+    (λ any. none (Any-tail (λ member. Includes member zone) other old any))
 IsApartFrom-kept zone (other ∷ old) kept (inr (stays, (rest, is, without))) none =
     subst (IsApartFrom zone) (sym is) (
-      record { left = stays; right = λ h. none (Any-head (λ member. Includes member zone) other old h) },
-      IsApartFrom-kept zone old rest without (λ any. none (Any-tail (λ member. Includes member zone) other old any)),
+      record {
+        left = stays;
+        right = λ h.
+            none (Any-head (λ member. Includes member zone) other old h);
+      },
+      IsApartFrom-kept zone old rest without
+          (λ any. none (Any-tail (λ member. Includes member zone) other old any)),
     )
 
 -- What the zone drops, it holds itself.
-pub SetHolds-dropped : (zone : ZoneBounds) (old kept : List ZoneBounds) → Without (Includes zone) old kept → (a b n : ℕ) → 0 < n → a ≤ b
+pub SetHolds-dropped : (zone : ZoneBounds) (old kept : List ZoneBounds)
+    → Without (Includes zone) old kept → (a b n : ℕ) → 0 < n → a ≤ b
     → SetHolds old a b n → SetHolds kept a b n ⊎ ZoneHolds zone a b n
 unfolding Without SetHolds
 SetHolds-dropped zone [] kept is a b n some le h = absurd h
 SetHolds-dropped zone (other ∷ old) kept (inl gone) a b n some le h =
-    ⊎_elim (λ x. inr (gone.0.every a b n some le x)) (λ x. SetHolds-dropped zone old kept gone.1 a b n some le x) h
+    ⊎_elim (λ x. inr (gone.0.every a b n some le x))
+    (λ x. SetHolds-dropped zone old kept gone.1 a b n some le x) h
 SetHolds-dropped zone (other ∷ old) kept (inr (stays, (rest, is, without))) a b n some le h =
     ⊎_elim
     (λ x. inl (subst (λ zones. SetHolds zones a b n) (sym is) (inl x)))
-    (λ x. ⊎_elim (λ y. inl (subst (λ zones. SetHolds zones a b n) (sym is) (inr y))) (λ y. inr y) (SetHolds-dropped zone old rest without a b n some le x))
+    (λ x. ⊎_elim (λ y. inl (subst (λ zones. SetHolds zones a b n) (sym is) (inr y))) (λ y. inr y)
+    (SetHolds-dropped zone old rest without a b n some le x))
     h
 
 -- A zone that shares no pair with a list is apart from it: each of them holds some pair.
@@ -102,8 +128,10 @@ IsApartFrom-disjoint zone [] never some all = tt
 IsApartFrom-disjoint zone (other ∷ zones) never some all =
     let there = canonical-some other all.0 in (
       record {
-        left = λ h. never there.a there.b there.n there.some there.rising (inl there.held) (h.every there.a there.b there.n there.some there.rising there.held);
-        right = λ h. never some.a some.b some.n some.some some.rising (inl (h.every some.a some.b some.n some.some some.rising some.held)) some.held;
+        left = λ h. never there.a there.b there.n there.some there.rising (inl there.held)
+            (h.every there.a there.b there.n there.some there.rising there.held);
+        right = λ h. never some.a some.b some.n some.some some.rising
+            (inl (h.every some.a some.b some.n some.some some.rising some.held)) some.held;
       },
       IsApartFrom-disjoint zone zones (λ a b n pos le x. never a b n pos le (inr x)) some all.1,
     )

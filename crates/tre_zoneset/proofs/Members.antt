@@ -5,37 +5,47 @@ use Rattle.std.proofs.lemmas.List.{take_more}
 use Rattle.tre_zone.specs.Zone.{ZoneHolds, IsCanonical}
 use Rattle.tre_zone.specs.ZoneList.{SetHolds, IsApartFrom}
 use Rattle.tre_zone.specs.declared.zone_bounds.ZoneBounds.{ZoneBounds}
-use Rattle.tre_zone.proofs.ZoneListLemmas.{SetHolds-push, IsApart-empty, IsApart-push}
-use Rattle.tre_zoneset.specs.ZoneSet.{AreCanonical, IsZoneSet}
+use Rattle.tre_zone.proofs.ZoneListLemmas.{SetHolds-push, IsApart-empty, IsApart-push, AreCanonical-empty, AreCanonical-push}
+use Rattle.tre_zoneset.specs.ZoneSet.{IsZoneSet}
 
-pub Any-head : (P : ZoneBounds → Type 0) (zone : ZoneBounds) (zones : List ZoneBounds) → P zone → Any P (zone ∷ zones)
+pub Any-head : (P : ZoneBounds → Type 0) (zone : ZoneBounds) (zones : List ZoneBounds) → P zone
+    → Any P (zone ∷ zones)
 Any-head P zone zones p = (0, zone, omega arith, refl, p)
 
-pub Any-tail : (P : ZoneBounds → Type 0) (zone : ZoneBounds) (zones : List ZoneBounds) → Any P zones → Any P (zone ∷ zones)
+pub Any-tail : (P : ZoneBounds → Type 0) (zone : ZoneBounds) (zones : List ZoneBounds)
+    → Any P zones → Any P (zone ∷ zones)
 Any-tail P zone zones any = (suc any.0, any.1, omega (arith, any.2), any.3, any.4)
 
-pub Any-cases : (P : ZoneBounds → Type 0) (zone : ZoneBounds) (zones : List ZoneBounds) → Any P (zone ∷ zones) → P zone ⊎ Any P zones
+pub Any-cases : (P : ZoneBounds → Type 0) (zone : ZoneBounds) (zones : List ZoneBounds)
+    → Any P (zone ∷ zones) → P zone ⊎ Any P zones
 Any-cases P zone zones (zero, member, within, is, p) = inl (subst P (sym is) p)
-Any-cases P zone zones (suc k, member, within, is, p) = inr (k, member, omega (arith, within), is, p)
+Any-cases P zone zones (suc k, member, within, is, p) =
+    inr (k, member, omega (arith, within), is, p)
 
 -- A set holds a pair where some member does.
-pub SetHolds-any : (zones : List ZoneBounds) (a b n : ℕ) → SetHolds zones a b n ↔ Any (λ zone. ZoneHolds zone a b n) zones
+pub SetHolds-any : (zones : List ZoneBounds) (a b n : ℕ)
+    → SetHolds zones a b n ↔ Any (λ zone. ZoneHolds zone a b n) zones
 unfolding SetHolds
 SetHolds-any [] a b n = ((λ h. absurd h), (λ any. absurd (omega (arith, any.2))))
 SetHolds-any (zone ∷ zones) a b n =
     let rest = SetHolds-any zones a b n in (
-      (λ h. ⊎_elim (λ x. Any-head (λ z. ZoneHolds z a b n) zone zones x) (λ x. Any-tail (λ z. ZoneHolds z a b n) zone zones (rest.0 x)) h),
-      (λ any. ⊎_elim (λ x. inl x) (λ x. inr (rest.1 x)) (Any-cases (λ z. ZoneHolds z a b n) zone zones any)),
+      (λ h. ⊎_elim (λ x. Any-head (λ z. ZoneHolds z a b n) zone zones x)
+          (λ x. Any-tail (λ z. ZoneHolds z a b n) zone zones (rest.0 x)) h),
+      (λ any. ⊎_elim (λ x. inl x) (λ x. inr (rest.1 x))
+          (Any-cases (λ z. ZoneHolds z a b n) zone zones any)),
     )
 
 -- What a search for a member answers.
-any_at : (P : ZoneBounds → Type 0) (zones : List ZoneBounds) (k : ℕ) → k < length zones → HoldsAt P zones k → Any P zones
+any_at : (P : ZoneBounds → Type 0) (zones : List ZoneBounds) (k : ℕ) → k < length zones
+    → HoldsAt P zones k → Any P zones
 any_at P [] k within at = absurd (omega arith)
 any_at P (zone ∷ zones) zero within at = Any-head P zone zones (at zone)
-any_at P (zone ∷ zones) (suc k) within at = Any-tail P zone zones (any_at P zones k (omega arith) at)
+any_at P (zone ∷ zones) (suc k) within at =
+    Any-tail P zone zones (any_at P zones k (omega arith) at)
 
 pub any_is : (P : ZoneBounds → Type 0) (answer : Bool) (zones : List ZoneBounds)
-    → MatchBool answer ((k : ℕ) × (k < length zones) × HoldsAt P zones k) (AllWithin (λ zone. P zone → ⊥) zones 0 (length zones))
+    → MatchBool answer ((k : ℕ) × (k < length zones) × HoldsAt P zones k)
+    (AllWithin (λ zone. P zone → ⊥) zones 0 (length zones))
     → IsTrue answer ↔ Any P zones
 any_is P true zones found = ((λ t. any_at P zones found.0 found.1 found.2), (λ any. refl))
 any_is P false zones none = (
@@ -43,23 +53,19 @@ any_is P false zones none = (
   (λ any. absurd (none any.0 any.1 (omega arith) any.2 (subst P (sym any.3) any.4))),
 )
 
-pub AreCanonical-push : (zones : List ZoneBounds) (zone : ZoneBounds) → AreCanonical zones → IsCanonical zone → AreCanonical (zones ++ zone ∷ [])
-unfolding AreCanonical
-AreCanonical-push [] zone all new = (new, tt)
-AreCanonical-push (other ∷ zones) zone all new = (all.0, AreCanonical-push zones zone all.1 new)
-
 pub IsZoneSet-empty : IsZoneSet []
-unfolding AreCanonical
-IsZoneSet-empty = record { apart = IsApart-empty; canonical = tt }
+IsZoneSet-empty = record { apart = IsApart-empty; canonical = AreCanonical-empty }
 
-pub IsZoneSet-push : (zones : List ZoneBounds) (zone : ZoneBounds) → IsZoneSet zones → IsApartFrom zone zones → IsCanonical zone → IsZoneSet (zones ++ zone ∷ [])
+pub IsZoneSet-push : (zones : List ZoneBounds) (zone : ZoneBounds) → IsZoneSet zones
+    → IsApartFrom zone zones → IsCanonical zone → IsZoneSet (zones ++ zone ∷ [])
 IsZoneSet-push zones zone set apart canonical = record {
   apart = IsApart-push zones zone set.apart apart;
   canonical = AreCanonical-push zones zone set.canonical canonical;
 }
 
 -- The first zones of a list, and one more.
-pub SetHolds-more : (zones : List ZoneBounds) (i : ℕ) (zone : ZoneBounds) → i < length zones → zone ≡ get_or zones i zone → (a b n : ℕ)
+pub SetHolds-more : (zones : List ZoneBounds) (i : ℕ) (zone : ZoneBounds) → i < length zones
+    → zone ≡ get_or zones i zone → (a b n : ℕ)
     → SetHolds (take (i + 1) zones) a b n ↔ (SetHolds (take i zones) a b n ⊎ ZoneHolds zone a b n)
 SetHolds-more zones i zone within is a b n =
     let last = SetHolds-push (take i zones) zone a b n in

@@ -1,36 +1,42 @@
 -- A set that grows by what it is to unite.
-use Rattle.std.proofs.Common.{◌≡◌, ℕ, ◌+◌, ◌<◌, ◌≤◌, ◌⊎◌, ◌↔◌, List, [], ◌∷◌, ◌++◌, length, get_or, take, Any, Option, Some, None, subst, ◌∙◌, inl, inr, ⊎_elim, arith}
+use Rattle.std.proofs.Common.{◌≡◌, ℕ, ◌+◌, ◌<◌, ◌≤◌, ◌⊎◌, ◌↔◌, List, [], ◌∷◌, ◌++◌, length, get_or, take, Any, Option, Some, None, Result, Ok, Err, OnErr, subst, ◌∙◌, inl, inr, ⊎_elim, arith}
 use Rattle.std.proofs.lemmas.List.{take_all}
 use Rattle.tre_pairs.specs.Pairs.{Pairs, Either, Both, Lasting}
 use Rattle.tre_zone.specs.Zone.{ZoneHolds, Includes, GivesZone}
 use Rattle.tre_zone.specs.ZoneList.{SetHolds, HoldExactly}
 use Rattle.tre_zone.specs.declared.zone_bounds.ZoneBounds.{ZoneBounds}
-use Rattle.tre_zone.proofs.ZoneListLemmas.{SetHolds-push, HoldExactly-empty}
+use Rattle.tre_zone.proofs.ZoneListLemmas.{SetHolds-append, SetHolds-push, HoldExactly-empty}
 use Rattle.tre_zoneset.specs.ZoneSet.{Without, FoundHolds}
 use Rattle.tre_zoneset.proofs.Members.{Any-cases, SetHolds-more}
 use Rattle.tre_zoneset.proofs.Kept.{SetHolds-kept, SetHolds-dropped}
 
-SetHolds-included : (zones : List ZoneBounds) (zone : ZoneBounds) → Any (λ member. Includes member zone) zones → (a b n : ℕ) → 0 < n → a ≤ b
+pub SetHolds-included : (zones : List ZoneBounds) (zone : ZoneBounds)
+    → Any (λ member. Includes member zone) zones → (a b n : ℕ) → 0 < n → a ≤ b
     → ZoneHolds zone a b n → SetHolds zones a b n
 unfolding SetHolds
 SetHolds-included [] zone any a b n some le h = absurd (omega (arith, any.2))
 SetHolds-included (other ∷ zones) zone any a b n some le h =
-    ⊎_elim (λ x. inl (x.every a b n some le h)) (λ x. inr (SetHolds-included zones zone x a b n some le h))
+    ⊎_elim (λ x. inl (x.every a b n some le h))
+    (λ x. inr (SetHolds-included zones zone x a b n some le h))
     (Any-cases (λ member. Includes member zone) other zones any)
 
-pub HoldExactly-itself : (zones : List ZoneBounds) (P : Pairs) → ((a b n : ℕ) → 0 < n → a ≤ b → P a b n → SetHolds zones a b n)
+pub HoldExactly-itself : (zones : List ZoneBounds) (P : Pairs)
+    → ((a b n : ℕ) → 0 < n → a ≤ b → P a b n → SetHolds zones a b n)
     → HoldExactly zones (Either (SetHolds zones) P)
 HoldExactly-itself zones P held = record {
   exact = λ a b n some le. ((λ h. inl h), (λ h. ⊎_elim (λ x. x) (λ x. held a b n some le x) h));
 }
 
 -- A zone that a member includes brings nothing.
-pub HoldExactly-included : (zones : List ZoneBounds) (zone : ZoneBounds) → Any (λ member. Includes member zone) zones
+pub HoldExactly-included : (zones : List ZoneBounds) (zone : ZoneBounds)
+    → Any (λ member. Includes member zone) zones
     → HoldExactly zones (Either (SetHolds zones) (ZoneHolds zone))
-HoldExactly-included zones zone any = HoldExactly-itself zones (ZoneHolds zone) (λ a b n some le h. SetHolds-included zones zone any a b n some le h)
+HoldExactly-included zones zone any = HoldExactly-itself zones (ZoneHolds zone)
+    (λ a b n some le h. SetHolds-included zones zone any a b n some le h)
 
 -- The set held P, and then united Q: it holds R, which holds where one of them does.
-pub HoldExactly-more : (now next : List ZoneBounds) (P Q R : Pairs) → HoldExactly now P → HoldExactly next (Either (SetHolds now) Q)
+pub HoldExactly-more : (now next : List ZoneBounds) (P Q R : Pairs) → HoldExactly now P
+    → HoldExactly next (Either (SetHolds now) Q)
     → ((a b n : ℕ) → 0 < n → a ≤ b → R a b n ↔ (P a b n ⊎ Q a b n)) → HoldExactly next R
 HoldExactly-more now next P Q R held more same = record {
   exact = λ a b n some le.
@@ -42,40 +48,49 @@ HoldExactly-more now next P Q R held more same = record {
       );
 }
 
-pub HoldExactly-push : (zones : List ZoneBounds) (zone : ZoneBounds) → HoldExactly (zones ++ zone ∷ []) (Either (SetHolds zones) (ZoneHolds zone))
+pub HoldExactly-push : (zones : List ZoneBounds) (zone : ZoneBounds)
+    → HoldExactly (zones ++ zone ∷ []) (Either (SetHolds zones) (ZoneHolds zone))
 HoldExactly-push zones zone = record { exact = λ a b n some le. SetHolds-push zones zone a b n }
 
 -- A zone that was added, in place of those that it includes.
-pub HoldExactly-added : (old kept : List ZoneBounds) (zone : ZoneBounds) → Without (Includes zone) old kept
+pub HoldExactly-added : (old kept : List ZoneBounds) (zone : ZoneBounds)
+    → Without (Includes zone) old kept
     → HoldExactly (kept ++ zone ∷ []) (Either (SetHolds old) (ZoneHolds zone))
 HoldExactly-added old kept zone without = record {
   exact = λ a b n some le.
       let last = SetHolds-push kept zone a b n in (
-        (λ h. ⊎_elim (λ x. inl (SetHolds-kept (Includes zone) old kept without a b n x)) (λ x. inr x) (last.0 h)),
-        (λ h. last.1 (⊎_elim (λ x. SetHolds-dropped zone old kept without a b n some le x) (λ x. inr x) h)),
+        (λ h. ⊎_elim (λ x. inl (SetHolds-kept (Includes zone) old kept without a b n x))
+            (λ x. inr x) (last.0 h)),
+        (λ h. last.1 (⊎_elim (λ x. SetHolds-dropped zone old kept without a b n some le x)
+            (λ x. inr x) h)),
       );
 }
 
 -- What was found is what was looked for.
-pub FoundHolds-exact : (found : Option ZoneBounds) (P : Pairs) → GivesZone found P → (a b n : ℕ) → 0 < n → a ≤ b → FoundHolds found a b n ↔ P a b n
+pub FoundHolds-exact : (found : Option ZoneBounds) (P : Pairs) → GivesZone found P → (a b n : ℕ)
+    → 0 < n → a ≤ b → FoundHolds found a b n ↔ P a b n
 unfolding FoundHolds
 FoundHolds-exact None P none a b n some le = ((λ h. absurd h), (λ h. none.never a b n some le h))
 FoundHolds-exact (Some zone) P is a b n some le = is.exact a b n some le
 
-pub HoldExactly-found : (old new : List ZoneBounds) (zone : ZoneBounds) → HoldExactly new (Either (SetHolds old) (ZoneHolds zone))
+pub HoldExactly-found : (old new : List ZoneBounds) (zone : ZoneBounds)
+    → HoldExactly new (Either (SetHolds old) (ZoneHolds zone))
     → HoldExactly new (Either (SetHolds old) (FoundHolds (Some zone)))
 unfolding FoundHolds
 HoldExactly-found old new zone held = record { exact = λ a b n some le. held.exact a b n some le }
 
-pub HoldExactly-not_found : (zones : List ZoneBounds) → HoldExactly zones (Either (SetHolds zones) (FoundHolds None))
+pub HoldExactly-not_found : (zones : List ZoneBounds)
+    → HoldExactly zones (Either (SetHolds zones) (FoundHolds None))
 unfolding FoundHolds
-HoldExactly-not_found zones = HoldExactly-itself zones (FoundHolds None) (λ a b n some le h. absurd h)
+HoldExactly-not_found zones = HoldExactly-itself zones (FoundHolds None)
+    (λ a b n some le h. absurd h)
 
 -- ---- one zone after another of a list
 
 -- What F makes of a union is the union of what it makes of the parts.
 abbrev pub IsAdditive : (Pairs → Pairs) → Type 1
-IsAdditive F = (R S T : Pairs) → ((a b n : ℕ) → T a b n ↔ (R a b n ⊎ S a b n)) → (a b n : ℕ) → F T a b n ↔ (F R a b n ⊎ F S a b n)
+IsAdditive F = (R S T : Pairs) → ((a b n : ℕ) → T a b n ↔ (R a b n ⊎ S a b n)) → (a b n : ℕ)
+    → F T a b n ↔ (F R a b n ⊎ F S a b n)
 
 pub itself-additive : IsAdditive (λ R. R)
 itself-additive R S T same a b n = same a b n
@@ -84,7 +99,8 @@ pub Lasting-additive : (D : ℕ → ℕ → Type 0) → IsAdditive (Lasting D)
 Lasting-additive D R S T same a b n =
     let both = same a b n in (
       (λ h.
-          ⊎_elim (λ x. inl (record { related = x; admitted = h.admitted })) (λ x. inr (record { related = x; admitted = h.admitted })) (both.0 h.related)),
+          ⊎_elim (λ x. inl (record { related = x; admitted = h.admitted }))
+          (λ x. inr (record { related = x; admitted = h.admitted })) (both.0 h.related)),
       (λ h.
           ⊎_elim (λ x. record { related = both.1 (inl x.related); admitted = x.admitted })
           (λ x. record { related = both.1 (inr x.related); admitted = x.admitted }) h),
@@ -93,64 +109,114 @@ Lasting-additive D R S T same a b n =
 pub Both-additive_left : (E : Pairs) → IsAdditive (λ R. Both R E)
 Both-additive_left E R S T same a b n =
     let both = same a b n in (
-      (λ h. ⊎_elim (λ x. inl (record { left = x; right = h.right })) (λ x. inr (record { left = x; right = h.right })) (both.0 h.left)),
-      (λ h. ⊎_elim (λ x. record { left = both.1 (inl x.left); right = x.right }) (λ x. record { left = both.1 (inr x.left); right = x.right }) h),
+      (λ h. ⊎_elim (λ x. inl (record { left = x; right = h.right }))
+          (λ x. inr (record { left = x; right = h.right })) (both.0 h.left)),
+      (λ h. ⊎_elim (λ x. record { left = both.1 (inl x.left); right = x.right })
+          (λ x. record { left = both.1 (inr x.left); right = x.right }) h),
     )
 
 pub Both-additive_right : (E : Pairs) → IsAdditive (Both E)
 Both-additive_right E R S T same a b n =
     let both = same a b n in (
-      (λ h. ⊎_elim (λ x. inl (record { left = h.left; right = x })) (λ x. inr (record { left = h.left; right = x })) (both.0 h.right)),
-      (λ h. ⊎_elim (λ x. record { left = x.left; right = both.1 (inl x.right) }) (λ x. record { left = x.left; right = both.1 (inr x.right) }) h),
+      (λ h. ⊎_elim (λ x. inl (record { left = h.left; right = x }))
+          (λ x. inr (record { left = h.left; right = x })) (both.0 h.right)),
+      (λ h. ⊎_elim (λ x. record { left = x.left; right = both.1 (inl x.right) })
+          (λ x. record { left = x.left; right = both.1 (inr x.right) }) h),
     )
 
--- The set held what F makes of the first zones. It united what F makes of the next, and holds what it makes of those and the next.
-pub HoldExactly-each : (F : Pairs → Pairs) → IsAdditive F → (now next zones : List ZoneBounds) (i : ℕ) (zone : ZoneBounds) (Q : Pairs)
-    → i < length zones → zone ≡ get_or zones i zone → HoldExactly now (F (SetHolds (take i zones))) → HoldExactly next (Either (SetHolds now) Q)
-    → ((a b n : ℕ) → 0 < n → a ≤ b → Q a b n ↔ F (ZoneHolds zone) a b n) → HoldExactly next (F (SetHolds (take (i + 1) zones)))
+-- The set held what F makes of the first zones. It united what F makes of the next, and holds what
+-- it makes of those and the next.
+pub HoldExactly-each : (F : Pairs → Pairs) → IsAdditive F
+    → (now next zones : List ZoneBounds) (i : ℕ) (zone : ZoneBounds) (Q : Pairs)
+    → i < length zones → zone ≡ get_or zones i zone → HoldExactly now (F (SetHolds (take i zones)))
+    → HoldExactly next (Either (SetHolds now) Q)
+    → ((a b n : ℕ) → 0 < n → a ≤ b → Q a b n ↔ F (ZoneHolds zone) a b n)
+    → HoldExactly next (F (SetHolds (take (i + 1) zones)))
 HoldExactly-each F additive now next zones i zone Q within is held more same =
-    HoldExactly-more now next (F (SetHolds (take i zones))) Q (F (SetHolds (take (i + 1) zones))) held more
+    HoldExactly-more now next (F (SetHolds (take i zones))) Q
+    (F (SetHolds (take (i + 1) zones))) held more
     (λ a b n some le.
-    let parts = additive (SetHolds (take i zones)) (ZoneHolds zone) (SetHolds (take (i + 1) zones)) (SetHolds-more zones i zone within is) a b n in
+    let parts = additive (SetHolds (take i zones)) (ZoneHolds zone) (SetHolds (take (i + 1) zones))
+    (SetHolds-more zones i zone within is) a b n in
     let last = same a b n some le in (
       (λ h. ⊎_elim (λ x. inl x) (λ x. inr (last.1 x)) (parts.0 h)),
       (λ h. parts.1 (⊎_elim (λ x. inl x) (λ x. inr (last.0 x)) h)),
     ))
 
 -- The same beside what a set held before.
-pub HoldExactly-each_beside : (F : Pairs → Pairs) → IsAdditive F → (start now next zones : List ZoneBounds) (i : ℕ) (zone : ZoneBounds) (Q : Pairs)
-    → i < length zones → zone ≡ get_or zones i zone → HoldExactly now (Either (SetHolds start) (F (SetHolds (take i zones))))
-    → HoldExactly next (Either (SetHolds now) Q) → ((a b n : ℕ) → 0 < n → a ≤ b → Q a b n ↔ F (ZoneHolds zone) a b n)
+pub HoldExactly-each_beside : (F : Pairs → Pairs) → IsAdditive F
+    → (start now next zones : List ZoneBounds) (i : ℕ) (zone : ZoneBounds) (Q : Pairs)
+    → i < length zones → zone ≡ get_or zones i zone
+    → HoldExactly now (Either (SetHolds start) (F (SetHolds (take i zones))))
+    → HoldExactly next (Either (SetHolds now) Q)
+    → ((a b n : ℕ) → 0 < n → a ≤ b → Q a b n ↔ F (ZoneHolds zone) a b n)
     → HoldExactly next (Either (SetHolds start) (F (SetHolds (take (i + 1) zones))))
 HoldExactly-each_beside F additive start now next zones i zone Q within is held more same =
-    HoldExactly-more now next (Either (SetHolds start) (F (SetHolds (take i zones)))) Q (Either (SetHolds start) (F (SetHolds (take (i + 1) zones)))) held more
+    HoldExactly-more now next (Either (SetHolds start) (F (SetHolds (take i zones)))) Q
+    (Either (SetHolds start) (F (SetHolds (take (i + 1) zones)))) held more
     (λ a b n some le.
-    let parts = additive (SetHolds (take i zones)) (ZoneHolds zone) (SetHolds (take (i + 1) zones)) (SetHolds-more zones i zone within is) a b n in
+    let parts = additive (SetHolds (take i zones)) (ZoneHolds zone) (SetHolds (take (i + 1) zones))
+    (SetHolds-more zones i zone within is) a b n in
     let last = same a b n some le in (
-      (λ h. ⊎_elim (λ x. inl (inl x)) (λ x. ⊎_elim (λ y. inl (inr y)) (λ y. inr (last.1 y)) (parts.0 x)) h),
-      (λ h. ⊎_elim (λ x. ⊎_elim (λ y. inl y) (λ y. inr (parts.1 (inl y))) x) (λ x. inr (parts.1 (inr (last.0 x)))) h),
+      (λ h. ⊎_elim (λ x. inl (inl x)) (λ x.
+          ⊎_elim (λ y. inl (inr y)) (λ y. inr (last.1 y)) (parts.0 x)) h),
+      (λ h. ⊎_elim (λ x. ⊎_elim (λ y. inl y) (λ y. inr (parts.1 (inl y))) x)
+          (λ x. inr (parts.1 (inr (last.0 x)))) h),
     ))
 
 -- Before the first of them there is nothing.
-pub HoldExactly-none_beside : (start : List ZoneBounds) (P : Pairs) → ((a b n : ℕ) → P a b n → ⊥) → HoldExactly start (Either (SetHolds start) P)
-HoldExactly-none_beside start P never = HoldExactly-itself start P (λ a b n some le h. absurd (never a b n h))
+pub HoldExactly-none_beside : (start : List ZoneBounds) (P : Pairs) → ((a b n : ℕ) → P a b n → ⊥)
+    → HoldExactly start (Either (SetHolds start) P)
+HoldExactly-none_beside start P never = HoldExactly-itself start P
+    (λ a b n some le h. absurd (never a b n h))
 
 pub HoldExactly-none : (P : Pairs) → ((a b n : ℕ) → P a b n → ⊥) → HoldExactly [] P
 HoldExactly-none P never = HoldExactly-empty P (λ a b n some le h. never a b n h)
 
 -- After the last of them the list is whole.
-pub HoldExactly-all : (F : Pairs → Pairs) (set zones whole : List ZoneBounds) (i : ℕ) → length zones ≤ i → zones ≡ whole
+pub HoldExactly-all : (F : Pairs → Pairs) (set zones whole : List ZoneBounds) (i : ℕ)
+    → length zones ≤ i → zones ≡ whole
     → HoldExactly set (F (SetHolds (take i zones))) → HoldExactly set (F (SetHolds whole))
 HoldExactly-all F set zones whole i all same held =
-    subst (λ (list : List ZoneBounds). HoldExactly set (F (SetHolds list))) (take_all i zones all ∙ same) held
+    subst (λ (list : List ZoneBounds). HoldExactly set (F (SetHolds list)))
+    (take_all i zones all ∙ same) held
 
 -- One more zone at the end of a list that is united.
-pub HoldExactly-pushed : (start now list next : List ZoneBounds) (zone : ZoneBounds) → HoldExactly now (Either (SetHolds start) (SetHolds list))
-    → HoldExactly next (Either (SetHolds now) (ZoneHolds zone)) → HoldExactly next (Either (SetHolds start) (SetHolds (list ++ zone ∷ [])))
+pub HoldExactly-pushed : (start now list next : List ZoneBounds) (zone : ZoneBounds)
+    → HoldExactly now (Either (SetHolds start) (SetHolds list))
+    → HoldExactly next (Either (SetHolds now) (ZoneHolds zone))
+    → HoldExactly next (Either (SetHolds start) (SetHolds (list ++ zone ∷ [])))
 HoldExactly-pushed start now list next zone held more =
-    HoldExactly-more now next (Either (SetHolds start) (SetHolds list)) (ZoneHolds zone) (Either (SetHolds start) (SetHolds (list ++ zone ∷ []))) held more
+    HoldExactly-more now next (Either (SetHolds start) (SetHolds list)) (ZoneHolds zone)
+    (Either (SetHolds start) (SetHolds (list ++ zone ∷ []))) held more
     (λ a b n some le.
     let parts = SetHolds-push list zone a b n in (
       (λ h. ⊎_elim (λ x. inl (inl x)) (λ x. ⊎_elim (λ y. inl (inr y)) (λ y. inr y) (parts.0 x)) h),
-      (λ h. ⊎_elim (λ x. ⊎_elim (λ y. inl y) (λ y. inr (parts.1 (inl y))) x) (λ x. inr (parts.1 (inr x))) h),
+      (λ h. ⊎_elim (λ x. ⊎_elim (λ y. inl y) (λ y. inr (parts.1 (inl y))) x)
+          (λ x. inr (parts.1 (inr x))) h),
     ))
+
+-- A set of what a list holds, and what the list was to hold.
+pub HoldExactly-gathered : (set found : List ZoneBounds) (P : Pairs)
+    → HoldExactly set (SetHolds found) → HoldExactly found P → HoldExactly set P
+HoldExactly-gathered set found P held exact = record {
+  exact = λ a b n some le.
+      let one = held.exact a b n some le in
+      let two = exact.exact a b n some le in
+      ((λ h. two.0 (one.0 h)), (λ h. one.1 (two.1 h)));
+}
+
+-- A set of what two lists hold, one after the other.
+pub HoldExactly-append : (set left right : List ZoneBounds)
+    → HoldExactly set (SetHolds (left ++ right))
+    → HoldExactly set (Either (SetHolds left) (SetHolds right))
+HoldExactly-append set left right held = record {
+  exact = λ a b n some le.
+      let whole = held.exact a b n some le in
+      let parts = SetHolds-append left right a b n in
+      ((λ h. parts.0 (whole.0 h)), (λ h. whole.1 (parts.1 h)));
+}
+
+pub OnErr-from : {T E : Type 0} (P : Type 0) (answer : Result T E) → P → OnErr answer P
+OnErr-from P (Ok x) p = tt
+OnErr-from P (Err e) p = p

@@ -1,1 +1,5 @@
+-- What a reader must believe: the list of a set (IsZoneSet), and what adding a zone changes
+-- (IsAdded, Without). What the functions inside promise each other: Stays, FoundHolds, IsThinned
+-- and its words.
 pub mod ZoneSet
+pub mod Short

@@ -1,9 +1,11 @@
 //! Sets of zones: finite unions, as lists in which no zone is included in another.
 //!
-//! A [`ZoneSet`] is seen as the list of its zones, and holds a pair of times exactly where one of them
-//! does. [`ZoneSet::add`] keeps the list apart: a zone that a member includes is not added, and the
-//! members that it includes go. Each call that makes a set holds exactly the pairs that it names.
-//! Where zones are known to share no pair, [`ZoneSet::push_disjoint`] takes them in constant time.
+//! A [`ZoneSet`] is seen as the list of its zones, and holds a pair of times exactly where one of
+//! them does. [`ZoneSet::add`] keeps the list apart: a zone that a member includes is not added,
+//! and the members that it includes go. That is for small sets: [`ZoneSet::of_zones`] makes a set
+//! of many zones at once, by an index, and each call that makes a set gathers its zones for it.
+//! Each holds exactly the pairs that it names. Where zones are known to share no pair,
+//! [`ZoneSet::push_disjoint`] takes them in constant time.
 //!
 //! ```
 //! let mut set = ZoneSet::new(alloc);
@@ -12,7 +14,7 @@
 //! ```
 #![tactic(auto)]
 
-pub use zone_set::ZoneSet;
+pub use zone_set::{ZoneSet, gather, index_of};
 
 #[cfg(test)]
 mod tests;

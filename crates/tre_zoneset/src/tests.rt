@@ -3,19 +3,19 @@ use std::alloc::{AllocError, Global};
 use std::test::Fail;
 use tre_zone::{Interval, Zone};
 
-/// The row of a zone: the keys of its bounds, and two zeros.
+// The row of a zone: the keys of its bounds, and two zeros.
 type Row = [i64; 8];
 
-/// `[0,1) (0,1] (0,1]`
+// `[0,1) (0,1] (0,1]`
 const UNIT: Row = [1, 2, 0, 3, 0, 3, 0, 0];
-/// `[0,0] [1,1] [1,1]`
+// `[0,0] [1,1] [1,1]`
 const TICK: Row = [1, 1, -1, 3, -1, 3, 0, 0];
-/// `[0,2) (0,2] (0,2]`
+// `[0,2) (0,2] (0,2]`
 const EARLY: Row = [1, 4, 0, 5, 0, 5, 0, 0];
-/// `[1,3) (1,3] (0,2]`
+// `[1,3) (1,3] (0,2]`
 const LATE: Row = [-1, 6, -2, 7, 0, 5, 0, 0];
 
-/// The stretch of one tick from 0 on.
+// The stretch of one tick from 0 on.
 fn tick() -> Option<Zone> {
     Zone::span(0, 1).within(&Interval::new(1, true, Some(1), true)?)
 }
@@ -28,7 +28,7 @@ fn set(alloc: Global, zones: &[Zone]) -> Result<ZoneSet, AllocError> {
     Ok(set)
 }
 
-/// Whether the set has the zones of these rows, in this order.
+// Whether the set has the zones of these rows, in this order.
 fn is(set: &ZoneSet, rows: &[Row]) -> bool {
     let zones = set.zones();
     zones.len() == rows.len()

@@ -1,14 +1,18 @@
-ghost use Rattle.std.specs.Prelude.{◌≡◌, ℕ, ◌+◌, ◌<◌, ◌≤◌, ◌↔◌, false, true, IsTrue, OnOk, OnErr, IfOk, Any, [], ◌∷◌, ◌++◌, take, vec_len, vec_capacity};
+ghost use Rattle.std.specs.Prelude.{◌≡◌, ℕ, ◌+◌, ◌<◌, ◌≤◌, ◌↔◌, false, true, IsTrue, OnOk, OnErr, IfOk, Any, [], ◌∷◌, ◌++◌, take, vec_len, vec_capacity, pos, ◌≤ℤ◌, ◌^◌};
 ghost use Rattle.tre_pairs.specs.Pairs.{Either, Both, Lasting};
+ghost use Rattle.tre_zone.specs.Bound.{sum_of, IsKeyWithin};
 ghost use Rattle.tre_zone.specs.Interval.{LastsWithin};
+ghost use Rattle.tre_zone.specs.Longest.{LastsUpTo, IsLongest};
 ghost use Rattle.tre_zone.specs.Zone.{ZoneHolds, Includes, HasNoPair, EndsAt};
-ghost use Rattle.tre_zone.specs.ZoneList.{SetHolds, IsApartFrom, HoldExactly};
-ghost use Rattle.tre_zoneset.specs.ZoneSet.{IsZoneSet, Without, Stays, Adds, FoundHolds};
+ghost use Rattle.tre_zone.specs.ZoneList.{SetHolds, IsApartFrom, AreCanonical, AreTight, HoldExactly};
+ghost use Rattle.tre_zoneset.specs.ZoneSet.{IsZoneSet, Without, Stays, IsAdded, FoundHolds, IsThinned, IsKept};
+ghost use Rattle.tre_zoneset.specs.Short.{AreUpTo};
 
 use std::alloc::{AllocError, Global};
 use std::marker::Model;
+use tre_index::{ZoneIndex, key_meeting};
 use tre_pairs::TIME_MAX;
-use tre_zone::{Interval, Zone};
+use tre_zone::{Bound, Interval, Zone};
 
 /// A finite union of zones, none of which is included in another.
 #[derive(Debug, Drop)]
@@ -38,10 +42,22 @@ impl ZoneSet {
         }
     }
 
+    /// The set of what the zones hold: of them it has those that no other includes.
+    pub fn of_zones(alloc: Global, zones: Vec<Zone>) -> Result<ZoneSet, AllocError>
+        ensures { IfOk result (λ set. HoldExactly set (SetHolds zones.items)) }
+    {
+        if begins_rise(&zones) {
+            return Ok(ZoneSet { zones });
+        }
+        let zones = none_included(alloc, zones)?;
+        Ok(ZoneSet { zones })
+    }
+
     /// The zones, in the order in which they were added.
     pub fn zones(&self) -> &[Zone]
         ensures same { result.now ≡ self.now }
         ensures set { IsZoneSet self.now }
+        ensures tight { AreTight self.now }
     {
         &self.zones
     }
@@ -61,16 +77,17 @@ impl ZoneSet {
         self.zones.iter().any(|zone| zone.holds(a, b, n))
     }
 
-    /// Adds a zone, and says whether it was added: one that a member includes is not, and the set stays
-    /// as it is. An added zone comes last, and the members that it includes go.
+    /// Adds a zone, and says whether it was added: one that a member includes is not, and the set
+    /// stays as it is. An added zone comes last, and the members that it includes go.
     pub fn add(&mut self, zone: Zone) -> Result<bool, AllocError>
         // A zone that is included needs no memory, and so is never refused for want of it.
         ensures included { (result ≡ Ok false) ↔ Any (λ member. Includes member zone) self.old }
         ensures unchanged { result ≡ Ok false → self.new ≡ self.old }
-        ensures added { result ≡ Ok true → Adds self.old zone self.new }
+        ensures added { result ≡ Ok true → IsAdded self.old zone self.new }
         ensures err { OnErr result (self.new ≡ self.old) }
 
-        ensures held { OnOk result (HoldExactly self.new (Either (SetHolds self.old) (ZoneHolds zone))) }
+        ensures held { OnOk result
+            (HoldExactly self.new (Either (SetHolds self.old) (ZoneHolds zone))) }
         ensures set { IsZoneSet self.new }
     {
         // For the proof: the call says that the zone is canonical.
@@ -86,7 +103,8 @@ impl ZoneSet {
 
     /// Adds the zone that was found, if there is one.
     pub fn add_found(&mut self, zone: Option<Zone>) -> Result<(), AllocError>
-        ensures held { OnOk result (HoldExactly self.new (Either (SetHolds self.old) (FoundHolds zone))) }
+        ensures held { OnOk result
+            (HoldExactly self.new (Either (SetHolds self.old) (FoundHolds zone))) }
         ensures err { OnErr result (self.new ≡ self.old) }
     {
         if let Some(zone) = zone {
@@ -99,7 +117,8 @@ impl ZoneSet {
     pub fn push_apart(&mut self, zone: Zone) -> Result<(), AllocError>
         requires { IsApartFrom zone self.old }
         ensures ok { OnOk result (self.new ≡ self.old ++ zone ∷ []) }
-        ensures held { OnOk result (HoldExactly self.new (Either (SetHolds self.old) (ZoneHolds zone))) }
+        ensures held { OnOk result
+            (HoldExactly self.new (Either (SetHolds self.old) (ZoneHolds zone))) }
         ensures err { OnErr result (self.new ≡ self.old) }
     {
         // For the proof: the call says that the zone is canonical.
@@ -112,7 +131,8 @@ impl ZoneSet {
     pub fn push_disjoint(&mut self, zone: Zone) -> Result<(), AllocError>
         requires { HasNoPair (Both (SetHolds self.old) (ZoneHolds zone)) }
         ensures ok { OnOk result (self.new ≡ self.old ++ zone ∷ []) }
-        ensures held { OnOk result (HoldExactly self.new (Either (SetHolds self.old) (ZoneHolds zone))) }
+        ensures held { OnOk result
+            (HoldExactly self.new (Either (SetHolds self.old) (ZoneHolds zone))) }
         ensures err { OnErr result (self.new ≡ self.old) }
     {
         // For the proof: what the set and the zone are before the call.
@@ -121,50 +141,92 @@ impl ZoneSet {
         self.push_apart(zone)
     }
 
-    /// Adds the zones of `other`, in their order.
+    /// Adds the zones of `other`: the set then has the zones that adding one by one would leave, in
+    /// the order of their begins where these were mixed.
     pub fn join(&mut self, other: &ZoneSet) -> Result<(), AllocError>
-        ensures held { OnOk result (HoldExactly self.new (Either (SetHolds self.old) (SetHolds other.now))) }
+        ensures held { OnOk result
+            (HoldExactly self.new (Either (SetHolds self.old) (SetHolds other.now))) }
         // Where memory ran out, a first part of them was added.
-        ensures err { OnErr result ((k : ℕ) × HoldExactly self.new (Either (SetHolds self.old) (SetHolds (take k other.now)))) }
+        ensures err { OnErr result ((k : ℕ)
+            × HoldExactly self.new (Either (SetHolds self.old) (SetHolds (take k other.now)))) }
     {
-        for zone in other.zones() {
-            self.add(*zone)?;
-        }
+        let joined = self.joined(other)?;
+        *self = joined;
         Ok(())
     }
 
     /// The pairs in both sets.
     pub fn meet(&self, other: &ZoneSet) -> Result<ZoneSet, AllocError>
-        ensures { IfOk result (λ set. HoldExactly set (Both (SetHolds self.now) (SetHolds other.now))) }
+        ensures { IfOk result (λ set.
+            HoldExactly set (Both (SetHolds self.now) (SetHolds other.now))) }
     {
-        let mut met = ZoneSet::new(*self.zones.allocator());
+        let alloc = *self.zones.allocator();
+        let mut found = Vec::new(alloc);
+        let others = index_of(alloc, other.zones())?;
         for zone in self.zones() {
-            met.add_meets(zone, other.zones())?;
+            gather_meets(&mut found, zone, &others)?;
         }
+        let met = ZoneSet::of_zones(alloc, found)?;
         Ok(met)
     }
 
     /// The pairs whose duration is in the interval.
-    pub fn within(&self, i: &Interval) -> Result<ZoneSet, AllocError>
-        ensures { IfOk result (λ set. HoldExactly set (Lasting (LastsWithin i.now) (SetHolds self.now))) }
+    pub fn within(&self, interval: &Interval) -> Result<ZoneSet, AllocError>
+        ensures { IfOk result (λ set.
+            HoldExactly set (Lasting (LastsWithin interval.now) (SetHolds self.now))) }
     {
-        let mut lasting = ZoneSet::new(*self.zones.allocator());
+        let alloc = *self.zones.allocator();
+        let mut found = Vec::new(alloc);
         for zone in self.zones() {
-            lasting.add_found(zone.within(i))?;
+            gather(&mut found, zone.within(interval))?;
         }
+        let lasting = ZoneSet::of_zones(alloc, found)?;
         Ok(lasting)
     }
 
-    /// The pairs that end at `t`.
-    pub fn ending_at(&self, t: u64) -> Result<ZoneSet, AllocError>
-        requires { t ≤ TIME_MAX }
-        ensures { IfOk result (λ set. HoldExactly set (Both (SetHolds self.now) (EndsAt t))) }
+    /// The pairs that last at most `longest`: the set itself where all of them do.
+    pub fn up_to(self, longest: Option<u64>) -> Result<ZoneSet, AllocError>
+        requires { IsLongest longest }
+        ensures { IfOk result (λ set.
+            HoldExactly set (Lasting (LastsUpTo longest) (SetHolds self))) }
     {
-        let mut ending = ZoneSet::new(*self.zones.allocator());
-        for zone in self.zones() {
-            ending.add_found(zone.ending_at(t))?;
+        if are_up_to(self.zones(), longest) {
+            return Ok(self);
         }
+        let alloc = *self.zones.allocator();
+        let mut found = Vec::new(alloc);
+        for zone in self.zones() {
+            gather(&mut found, zone.up_to(longest))?;
+        }
+        let lasting = ZoneSet::of_zones(alloc, found)?;
+        Ok(lasting)
+    }
+
+    /// The pairs that end at `time`.
+    pub fn ending_at(&self, time: u64) -> Result<ZoneSet, AllocError>
+        requires { time ≤ TIME_MAX }
+        ensures { IfOk result (λ set. HoldExactly set (Both (SetHolds self.now) (EndsAt time))) }
+    {
+        let alloc = *self.zones.allocator();
+        let mut found = Vec::new(alloc);
+        for zone in self.zones() {
+            gather(&mut found, zone.ending_at(time))?;
+        }
+        let ending = ZoneSet::of_zones(alloc, found)?;
         Ok(ending)
+    }
+
+    // The pairs in either set.
+    fn joined(&self, other: &ZoneSet) -> Result<ZoneSet, AllocError>
+        ensures { IfOk result (λ set.
+            HoldExactly set (Either (SetHolds self.now) (SetHolds other.now))) }
+    {
+        let alloc = *self.zones.allocator();
+        let mut zones = Vec::new(alloc);
+        zones.extend_from_slice(self.zones())?;
+        zones.extend_from_slice(other.zones())?;
+        let joined = ZoneSet::of_zones(alloc, zones)?;
+        Ok(joined)
     }
 
     /// The same zones in the same order.
@@ -174,26 +236,142 @@ impl ZoneSet {
         let zones = self.zones.clone()?;
         Ok(ZoneSet { zones })
     }
-
-    /// Adds what the zone has in common with each of the others.
-    fn add_meets(&mut self, zone: &Zone, others: &[Zone]) -> Result<(), AllocError>
-        ensures { OnOk result (HoldExactly self.new (Either (SetHolds self.old) (Both (ZoneHolds zone.now) (SetHolds others.now)))) }
-    {
-        for other in others {
-            self.add_found(zone.meet(other))?;
-        }
-        Ok(())
-    }
 }
 
-/// Whether one of the zones includes the other.
+/// The zones with an index over them.
+pub fn index_of(alloc: Global, zones: &[Zone]) -> Result<ZoneIndex, AllocError>
+    ensures { IfOk result (λ index. index ≡ zones.now) }
+{
+    let mut list = Vec::new(alloc);
+    list.extend_from_slice(zones)?;
+    let index = ZoneIndex::of_list(alloc, list)?;
+    Ok(index)
+}
+
+/// Adds the zone that was found to a list, if there is one: lists that are to become a set.
+pub fn gather(found: &mut Vec<Zone>, zone: Option<Zone>) -> Result<(), AllocError>
+    ensures { OnOk result (HoldExactly found.new.items
+        (Either (SetHolds found.old.items) (FoundHolds zone))) }
+{
+    if let Some(zone) = zone {
+        found.push(zone)?;
+    }
+    Ok(())
+}
+
+// Whether every pair of the zones lasts at most `longest`.
+fn are_up_to(zones: &[Zone], longest: Option<u64>) -> bool
+    requires { IsLongest longest }
+    ensures { IsTrue result → AreUpTo longest zones.now }
+{
+    for zone in zones {
+        if !zone.is_up_to(longest) {
+            return false;
+        }
+    }
+    true
+}
+
+// Adds what the zone has in common with each of the others to a list.
+fn gather_meets(found: &mut Vec<Zone>, zone: &Zone, others: &ZoneIndex) -> Result<(), AllocError>
+    requires { AreCanonical others.now }
+    ensures { OnOk result (HoldExactly found.new.items
+        (Either (SetHolds found.old.items) (Both (ZoneHolds zone.now) (SetHolds others.now)))) }
+{
+    let key = key_meeting(zone);
+    let items = others.items();
+    let count = items.len();
+    let mut place = 0;
+    while place < count {
+        match others.next_at_least(place, &key) {
+            Some(next) => {
+                gather(found, zone.meet(&items[next]))?;
+                place = next + 1;
+            }
+            None => return Ok(()),
+        }
+    }
+    Ok(())
+}
+
+// Those of the zones that no other includes.
+fn none_included(alloc: Global, zones: Vec<Zone>) -> Result<Vec<Zone>, AllocError>
+    ensures held { IfOk result (λ kept. HoldExactly kept.items (SetHolds zones.items)) }
+    ensures set { IfOk result (λ kept. IsZoneSet kept.items) }
+{
+    let mut zones = zones;
+    zones.sort_unstable_by_key(|zone| order_of(zone));
+    let mut turned = thin(alloc, &zones)?;
+    drop(zones);
+    turned.reverse();
+    let mut kept = thin(alloc, &turned)?;
+    kept.reverse();
+    Ok(kept)
+}
+
+// By this zones are sorted: the earlier begin first, and then the wider zone.
+fn order_of(zone: &Zone) -> [i64; 6] {
+    let row = zone.row();
+    [!row[0], !row[1], !row[2], !row[3], !row[4], !row[5]]
+}
+
+// Those of the zones that none before them includes.
+fn thin(alloc: Global, zones: &[Zone]) -> Result<Vec<Zone>, AllocError>
+    ensures { IfOk result (λ kept. IsThinned zones.now kept.items) }
+{
+    let mut kept = ZoneIndex::new(alloc);
+    for zone in zones {
+        keep(&mut kept, zone)?;
+    }
+    Ok(kept.into_items())
+}
+
+// Keeps the zone too, where no kept one includes it.
+fn keep(kept: &mut ZoneIndex, zone: &Zone) -> Result<(), AllocError>
+    ensures { OnOk result (IsKept kept.old zone.now kept.new) }
+{
+    // For the proof: the call says that the zone is canonical.
+    let _bounds = zone.bounds();
+    if !kept.includes(zone) {
+        kept.push(*zone)?;
+    }
+    Ok(())
+}
+
+// Whether each zone begins later than those before it: all its pairs do. Such zones are apart as
+// they stand.
+fn begins_rise(zones: &[Zone]) -> bool
+    ensures { IsTrue result → IsZoneSet zones.now }
+{
+    let mut latest = Bound::strict(0);
+    for zone in zones {
+        let bounds = zone.bounds();
+        if is_before(&latest, &bounds.begin_low) {
+            latest = bounds.begin_high;
+        } else {
+            return false;
+        }
+    }
+    true
+}
+
+// Whether no time meets both a bound from above and one from below.
+fn is_before(high: &Bound, low: &Bound) -> bool
+    requires high { IsKeyWithin (2 ^ 42) high.now }
+    requires low { IsKeyWithin (2 ^ 42) low.now }
+    ensures { IsTrue result ↔ (sum_of high.now low.now ≤ℤ pos 0) }
+{
+    high.plus(low).key() <= 0
+}
+
+// Whether one of the zones includes the other.
 fn some_includes(zones: &[Zone], zone: &Zone) -> bool
     ensures { IsTrue result ↔ Any (λ member. Includes member zone.now) zones.now }
 {
     zones.iter().any(|member| member.includes(zone))
 }
 
-/// Drops the zones that the other includes.
+// Drops the zones that the other includes.
 fn drop_included(zones: &mut Vec<Zone>, zone: &Zone)
     ensures kept { Without (Includes zone.now) zones.old.items zones.new.items }
     ensures fewer { vec_len zones.new ≤ vec_len zones.old }
@@ -202,7 +380,7 @@ fn drop_included(zones: &mut Vec<Zone>, zone: &Zone)
     zones.retain(|member| stays(zone, member));
 }
 
-/// Whether a member stays where the zone is added.
+// Whether a member stays where the zone is added.
 fn stays(zone: &Zone, member: &Zone) -> bool
     ensures { Stays result zone.now member.now }
 {

@@ -5,6 +5,15 @@ use Rattle.tre_compose.proofs.composed.Goals as goal
 pub returns : goal.returns
 unfolding joined_of composed_of
 returns c =
-    zones_same _ _ c.no_looser-begin_low.ensures.bound c.no_looser-begin_high.ensures.bound c.no_looser-end_low.ensures.bound c.no_looser-end_high.ensures.bound
-    (rw (c.plus.ensures.key, c.no_looser-begin_high.ensures.bound, c.no_looser-end_low.ensures.bound) at c.no_looser.ensures.bound)
-    (rw (c.plus-2.ensures.key, c.no_looser-end_high.ensures.bound, c.no_looser-begin_low.ensures.bound) at c.no_looser-2.ensures.bound)
+    zones_same _ _ c.no_looser-begin_low.ensures.bound c.no_looser-begin_high.ensures.bound
+    c.no_looser-end_low.ensures.bound c.no_looser-end_high.ensures.bound
+    (rw (
+      c.plus-shortest.ensures.key,
+      c.no_looser-begin_high.ensures.bound,
+      c.no_looser-end_low.ensures.bound,
+    ) at c.no_looser.ensures.bound)
+    (rw (
+      c.plus-longest.ensures.key,
+      c.no_looser-end_high.ensures.bound,
+      c.no_looser-begin_low.ensures.bound,
+    ) at c.no_looser-2.ensures.bound)

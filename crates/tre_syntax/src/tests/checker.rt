@@ -7,16 +7,17 @@ ghost use Rattle.tre_syntax.specs.Expr.{tree_of};
 ghost use Rattle.tre_syntax.specs.PatternTree.{NumbersBelow};
 
 use crate::{Expr, Pattern};
-use tre_state::State;
+use tre_state::{NAMES_MAX, State};
 use tre_trace::Segment;
 
-/// Whether the pattern matches the stretch from `a/n` to `b/n`, which lies within the trace, if a match
-/// needs at most `cuts` cuts.
+/// Whether the pattern matches the stretch from `a/n` to `b/n`, which lies within the trace, if a
+/// match needs at most `cuts` cuts.
 ///
-/// The cuts are looked for among the multiples of `1/((cuts + 1) * n)`. That is enough: each condition
-/// of the meaning compares the difference of two times with a whole number, so it depends on the whole
-/// parts of the times and on the order of their fractional parts alone. Between two neighbouring
-/// multiples of `1/n` there are `cuts` finer ones, and that is room for all the cuts in any order.
+/// The cuts are looked for among the multiples of `1/((cuts + 1) * n)`. That is enough: each
+/// condition of the meaning compares the difference of two times with a whole number, so it depends
+/// on the whole parts of the times and on the order of their fractional parts alone. Between two
+/// neighbouring multiples of `1/n` there are `cuts` finer ones, and that is room for all the cuts
+/// in any order.
 pub fn decide(pattern: &Pattern, trace: &[Segment], a: u8, b: u8, n: u8, cuts: u8) -> bool {
     let finer = u64::from(cuts) + 1;
     let n = u32::from(n) * (u32::from(cuts) + 1);
@@ -28,7 +29,7 @@ pub fn decide(pattern: &Pattern, trace: &[Segment], a: u8, b: u8, n: u8, cuts: u
 // Whether the expression matches the stretch, with cuts at the multiples of `1/n` alone.
 #[cycle(checker)]
 fn matches(expr: &Expr, trace: &[Segment], a: u64, b: u64, n: u32) -> bool
-    requires below_64 { NumbersBelow 64 (tree_of expr.now) }
+    requires numbers { NumbersBelow NAMES_MAX (tree_of expr.now) }
     requires positive { 0 < n }
 {
     match expr {
@@ -57,7 +58,7 @@ fn matches(expr: &Expr, trace: &[Segment], a: u64, b: u64, n: u32) -> bool
 // that are reached are found in rising order. No more than 64 moments are looked at.
 #[cycle(checker)]
 fn repeat(expr: &Expr, trace: &[Segment], a: u64, b: u64, n: u32) -> bool
-    requires below_64 { NumbersBelow 64 (tree_of expr.now) }
+    requires numbers { NumbersBelow NAMES_MAX (tree_of expr.now) }
     requires positive { 0 < n }
 {
     let mut reached = bit(0);
@@ -72,7 +73,7 @@ fn repeat(expr: &Expr, trace: &[Segment], a: u64, b: u64, n: u32) -> bool
 // The moments up to `b` to which one step leads from the cut, each as a bit counted from `a`.
 #[cycle(checker)]
 fn steps_from(expr: &Expr, trace: &[Segment], a: u64, cut: u64, b: u64, n: u32) -> u64
-    requires below_64 { NumbersBelow 64 (tree_of expr.now) }
+    requires numbers { NumbersBelow NAMES_MAX (tree_of expr.now) }
     requires positive { 0 < n }
 {
     let mut reached = 0;
@@ -91,7 +92,7 @@ fn bit(place: u64) -> u64 {
 
 // Whether the state is true on each segment that has a moment strictly between.
 fn holds_between(state: &State, trace: &[Segment], a: u64, b: u64, n: u32) -> bool
-    requires { StateNumbersBelow 64 (state_tree_of state.now) }
+    requires { StateNumbersBelow NAMES_MAX (state_tree_of state.now) }
 {
     let mut start: u64 = 0;
     for segment in trace {
@@ -108,7 +109,7 @@ fn holds_between(state: &State, trace: &[Segment], a: u64, b: u64, n: u32) -> bo
 
 // Whether two segments meet at `a/n` on which the state changes, to true where `up`.
 fn has_edge(state: &State, trace: &[Segment], a: u64, n: u32, up: bool) -> bool
-    requires { StateNumbersBelow 64 (state_tree_of state.now) }
+    requires { StateNumbersBelow NAMES_MAX (state_tree_of state.now) }
 {
     let mut end: u64 = 0;
     for i in 1..trace.len() {

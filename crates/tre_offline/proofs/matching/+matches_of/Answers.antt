@@ -1,60 +1,125 @@
+-- The operator at the top is the tree's, and its parts are those of the tree.
 use Rattle.std.proofs.Common.{◌≡◌, ap, sym, subst}
 use Rattle.std.proofs.lemmas.Result.{IfOk-weaker}
+use Rattle.tre_pairs.specs.Pairs.{Lasting}
+use Rattle.tre_zone.specs.Longest.{LastsUpTo}
 use Rattle.tre_zone.specs.ZoneList.{HoldExactly}
+use Rattle.tre_state.specs.State as states
 use Rattle.tre_syntax.specs.Expr.{tree_of}
-use Rattle.tre_syntax.specs.Meaning.{Matches}
-use Rattle.tre_syntax.specs.PatternTree.{PatternTree, sequence, alternation, intersection, repetition, restriction}
+use Rattle.tre_syntax.specs.Meaning.{MatchesRest}
+use Rattle.tre_syntax.specs.PatternTree.{PatternTree, atom, empty, literal, rise, fall, sequence, alternation, intersection, repetition, restriction}
 use Rattle.tre_offline.proofs.matching.+matches_of.Goals as goal
 
 pub returns-in_ok-second-in-Seq : goal.returns-in_ok-second-in-Seq
-returns-in_ok-second-in-Seq t c =
-    let e = tree_of c.deref.result.now in
-    let f = tree_of c.deref-in-Seq.result.now in
-    let tree : tree_of c.args.e.now ≡ sequence e f = rw (c.deref.ensures, c.deref-in-Seq.ensures) (ap tree_of c.in-Seq.is) in
+returns-in_ok-second-in-Seq g t c =
+    let rest = g.A.Atoms.rest c.args.atoms.now in
+    let left = tree_of c.deref.result.now in
+    let right = tree_of c.deref-in-Seq.result.now in
+    let tree : tree_of c.args.expr.now ≡ sequence left right =
+    rw (c.deref.ensures, c.deref-in-Seq.ensures) (ap tree_of c.in-Seq.is) in
     IfOk-weaker c.followed.result _ _
     (λ zones exact.
-    subst (λ (whole : PatternTree). HoldExactly zones (Matches whole c.args.w.now)) (sym tree)
-    (exact e f c.args.w.now c.in_ok-first-in-Seq.ensures c.in_ok-second-in-Seq.ensures))
+    subst (λ (whole : PatternTree). HoldExactly zones (Lasting (LastsUpTo c.args.longest)
+    (MatchesRest whole rest))) (sym tree)
+    (exact left right rest c.in_ok-first-in-Seq.ensures c.in_ok-second-in-Seq.ensures))
     c.followed.ensures
 
 pub returns-in_ok-other-in-Alt : goal.returns-in_ok-other-in-Alt
-returns-in_ok-other-in-Alt t c =
-    let e = tree_of c.deref-in-Alt.result.now in
-    let f = tree_of c.deref-in-Alt-2.result.now in
-    let tree : tree_of c.args.e.now ≡ alternation e f = rw (c.deref-in-Alt.ensures, c.deref-in-Alt-2.ensures) (ap tree_of c.in-Alt.is) in
+returns-in_ok-other-in-Alt g t c =
+    let rest = g.A.Atoms.rest c.args.atoms.now in
+    let left = tree_of c.deref-in-Alt.result.now in
+    let right = tree_of c.deref-in-Alt-2.result.now in
+    let tree : tree_of c.args.expr.now ≡ alternation left right =
+    rw (c.deref-in-Alt.ensures, c.deref-in-Alt-2.ensures) (ap tree_of c.in-Alt.is) in
     IfOk-weaker c.joined.result _ _
     (λ zones exact.
-    subst (λ (whole : PatternTree). HoldExactly zones (Matches whole c.args.w.now)) (sym tree)
-    (exact e f c.args.w.now c.in_ok-one-in-Alt.ensures c.in_ok-other-in-Alt.ensures))
+    subst (λ (whole : PatternTree). HoldExactly zones (Lasting (LastsUpTo c.args.longest)
+    (MatchesRest whole rest))) (sym tree)
+    (exact c.args.longest left right rest c.in_ok-one-in-Alt.ensures c.in_ok-other-in-Alt.ensures))
     c.joined.ensures
 
 pub returns-in_ok-other-in-Meet : goal.returns-in_ok-other-in-Meet
-returns-in_ok-other-in-Meet t c =
-    let e = tree_of c.deref-in-Meet.result.now in
-    let f = tree_of c.deref-in-Meet-2.result.now in
-    let tree : tree_of c.args.e.now ≡ intersection e f = rw (c.deref-in-Meet.ensures, c.deref-in-Meet-2.ensures) (ap tree_of c.in-Meet.is) in
+returns-in_ok-other-in-Meet g t c =
+    let rest = g.A.Atoms.rest c.args.atoms.now in
+    let left = tree_of c.deref-in-Meet.result.now in
+    let right = tree_of c.deref-in-Meet-2.result.now in
+    let tree : tree_of c.args.expr.now ≡ intersection left right =
+    rw (c.deref-in-Meet.ensures, c.deref-in-Meet-2.ensures) (ap tree_of c.in-Meet.is) in
     IfOk-weaker c.met.result _ _
     (λ zones exact.
-    subst (λ (whole : PatternTree). HoldExactly zones (Matches whole c.args.w.now)) (sym tree)
-    (exact e f c.args.w.now c.in_ok-one-in-Meet.ensures c.in_ok-other-in-Meet.ensures))
+    subst (λ (whole : PatternTree). HoldExactly zones (Lasting (LastsUpTo c.args.longest)
+    (MatchesRest whole rest))) (sym tree)
+    (exact c.args.longest left right rest c.in_ok-one-in-Meet.ensures
+    c.in_ok-other-in-Meet.ensures))
     c.met.ensures
 
 pub returns-in_ok-step-in-Star : goal.returns-in_ok-step-in-Star
-returns-in_ok-step-in-Star t c =
-    let e = tree_of c.deref-in-Star.result.now in
-    let tree : tree_of c.args.e.now ≡ repetition e = rw c.deref-in-Star.ensures (ap tree_of c.in-Star.is) in
+returns-in_ok-step-in-Star g t c =
+    let rest = g.A.Atoms.rest c.args.atoms.now in
+    let step = tree_of c.deref-in-Star.result.now in
+    let tree : tree_of c.args.expr.now ≡ repetition step =
+    rw c.deref-in-Star.ensures (ap tree_of c.in-Star.is) in
     IfOk-weaker c.repeated.result _ _
     (λ zones exact.
-    subst (λ (whole : PatternTree). HoldExactly zones (Matches whole c.args.w.now)) (sym tree)
-    (exact e c.in_ok-step-in-Star.ensures))
+    subst (λ (whole : PatternTree). HoldExactly zones (Lasting (LastsUpTo c.args.longest)
+    (MatchesRest whole rest))) (sym tree)
+    (exact step rest c.begin.ensures c.end.ensures.end c.in_ok-step-in-Star.ensures))
     c.repeated.ensures
 
 pub returns-in_ok-all-in-Within : goal.returns-in_ok-all-in-Within
-returns-in_ok-all-in-Within t c =
-    let e = tree_of c.deref-in-Within.result.now in
-    let tree : tree_of c.args.e.now ≡ restriction e c.in-Within.interval = rw c.deref-in-Within.ensures (ap tree_of c.in-Within.is) in
+returns-in_ok-all-in-Within g t c =
+    let rest = g.A.Atoms.rest c.args.atoms.now in
+    let all = tree_of c.deref-in-Within.result.now in
+    let tree : tree_of c.args.expr.now ≡ restriction all c.in-Within.interval =
+    rw c.deref-in-Within.ensures (ap tree_of c.in-Within.is) in
     IfOk-weaker c.restricted.result _ _
     (λ zones exact.
-    subst (λ (whole : PatternTree). HoldExactly zones (Matches whole c.args.w.now)) (sym tree)
-    (exact e c.args.w.now c.in_ok-all-in-Within.ensures))
+    subst (λ (whole : PatternTree). HoldExactly zones (Lasting (LastsUpTo c.args.longest)
+    (MatchesRest whole rest))) (sym tree)
+    (exact c.up_to-inner.result c.args.longest all rest c.up_to-inner.ensures.same
+    c.in_ok-all-in-Within.ensures))
     c.restricted.ensures
+
+pub returns-in_ok-all-in-Eps : goal.returns-in_ok-all-in-Eps
+returns-in_ok-all-in-Eps g t c =
+    let rest = g.A.Atoms.rest c.args.atoms.now in
+    let part : PatternTree = atom empty in
+    let tree : tree_of c.args.expr.now ≡ part = ap tree_of c.in-Eps.is in
+    IfOk-weaker c.shortened.result _ _
+    (λ zones exact.
+    subst (λ (whole : PatternTree). HoldExactly zones (Lasting (LastsUpTo c.args.longest)
+    (MatchesRest whole rest))) (sym tree) (exact part rest c.in_ok-all-in-Eps.ensures))
+    c.shortened.ensures
+
+pub returns-in_ok-all-in-Lit : goal.returns-in_ok-all-in-Lit
+returns-in_ok-all-in-Lit g t c =
+    let rest = g.A.Atoms.rest c.args.atoms.now in
+    let part : PatternTree = atom (literal (states.tree_of c.in-Lit.state)) in
+    let tree : tree_of c.args.expr.now ≡ part = ap tree_of c.in-Lit.is in
+    IfOk-weaker c.shortened-in-Lit.result _ _
+    (λ zones exact.
+    subst (λ (whole : PatternTree). HoldExactly zones (Lasting (LastsUpTo c.args.longest)
+    (MatchesRest whole rest))) (sym tree) (exact part rest c.in_ok-all-in-Lit.ensures))
+    c.shortened-in-Lit.ensures
+
+pub returns-in_ok-all-in-Rise : goal.returns-in_ok-all-in-Rise
+returns-in_ok-all-in-Rise g t c =
+    let rest = g.A.Atoms.rest c.args.atoms.now in
+    let part : PatternTree = atom (rise (states.tree_of c.in-Rise.state)) in
+    let tree : tree_of c.args.expr.now ≡ part = ap tree_of c.in-Rise.is in
+    IfOk-weaker c.shortened-in-Rise.result _ _
+    (λ zones exact.
+    subst (λ (whole : PatternTree). HoldExactly zones (Lasting (LastsUpTo c.args.longest)
+    (MatchesRest whole rest))) (sym tree) (exact part rest c.in_ok-all-in-Rise.ensures))
+    c.shortened-in-Rise.ensures
+
+pub returns-in_ok-all-in-Fall : goal.returns-in_ok-all-in-Fall
+returns-in_ok-all-in-Fall g t c =
+    let rest = g.A.Atoms.rest c.args.atoms.now in
+    let part : PatternTree = atom (fall (states.tree_of c.in-Fall.state)) in
+    let tree : tree_of c.args.expr.now ≡ part = ap tree_of c.in-Fall.is in
+    IfOk-weaker c.shortened-in-Fall.result _ _
+    (λ zones exact.
+    subst (λ (whole : PatternTree). HoldExactly zones (Lasting (LastsUpTo c.args.longest)
+    (MatchesRest whole rest))) (sym tree) (exact part rest c.in_ok-all-in-Fall.ensures))
+    c.shortened-in-Fall.ensures

@@ -6,10 +6,12 @@ use Rattle.tre_syntax.proofs.count.+seen_after.Goals as goal
 
 pub returns-in-Some : goal.returns-in-Some
 returns-in-Some t c =
-    let left = numbers_of (tree_of c.in-Seq.e.value) in
-    let right = numbers_of (tree_of c.in-Seq.f.value) in
+    let left = numbers_of (tree_of c.in-Seq.one.value) in
+    let right = numbers_of (tree_of c.in-Seq.other.value) in
     let whole : numbers_of (tree_of c.args.expr.now) ≡ left ++ right =
-    ⊎_elim (ap (λ x. numbers_of (tree_of x))) (⊎_elim (ap (λ x. numbers_of (tree_of x))) (ap (λ x. numbers_of (tree_of x)))) c.in-Seq.is in
+    ⊎_elim (ap (λ x. numbers_of (tree_of x)))
+    (⊎_elim (ap (λ x. numbers_of (tree_of x))) (ap (λ x. numbers_of (tree_of x)))) c.in-Seq.is
+    in
     let first : seen_after c.args.seen left ≡ Some c.in-Some.seen =
     ap (λ x. seen_after c.args.seen (numbers_of (tree_of x))) (sym c.deref.ensures)
     ∙ sym c.seen_after.ensures ∙ c.in-Some.is in
@@ -20,10 +22,12 @@ returns-in-Some t c =
 
 pub returns-in-None : goal.returns-in-None
 returns-in-None t c =
-    let left = numbers_of (tree_of c.in-Seq.e.value) in
-    let right = numbers_of (tree_of c.in-Seq.f.value) in
+    let left = numbers_of (tree_of c.in-Seq.one.value) in
+    let right = numbers_of (tree_of c.in-Seq.other.value) in
     let whole : numbers_of (tree_of c.args.expr.now) ≡ left ++ right =
-    ⊎_elim (ap (λ x. numbers_of (tree_of x))) (⊎_elim (ap (λ x. numbers_of (tree_of x))) (ap (λ x. numbers_of (tree_of x)))) c.in-Seq.is in
+    ⊎_elim (ap (λ x. numbers_of (tree_of x)))
+    (⊎_elim (ap (λ x. numbers_of (tree_of x))) (ap (λ x. numbers_of (tree_of x)))) c.in-Seq.is
+    in
     let first : seen_after c.args.seen left ≡ None =
     ap (λ x. seen_after c.args.seen (numbers_of (tree_of x))) (sym c.deref.ensures)
     ∙ sym c.seen_after.ensures ∙ c.in-None.is in

@@ -7,8 +7,8 @@ use Rattle.tre_syntax.proofs.count.+seen_after_state.Goals as goal
 
 pub returns-in-Some : goal.returns-in-Some
 returns-in-Some t c =
-    let left = numbers_of (tree_of c.in-And.s.value) in
-    let right = numbers_of (tree_of c.in-And.t.value) in
+    let left = numbers_of (tree_of c.in-And.one.value) in
+    let right = numbers_of (tree_of c.in-And.other.value) in
     let whole : numbers_of (tree_of c.args.state.now) ≡ left ++ right =
     ⊎_elim (ap (λ x. numbers_of (tree_of x))) (ap (λ x. numbers_of (tree_of x))) c.in-And.is in
     let first : seen_after c.args.seen left ≡ Some c.in-Some.seen =
@@ -21,8 +21,8 @@ returns-in-Some t c =
 
 pub returns-in-None : goal.returns-in-None
 returns-in-None t c =
-    let left = numbers_of (tree_of c.in-And.s.value) in
-    let right = numbers_of (tree_of c.in-And.t.value) in
+    let left = numbers_of (tree_of c.in-And.one.value) in
+    let right = numbers_of (tree_of c.in-And.other.value) in
     let whole : numbers_of (tree_of c.args.state.now) ≡ left ++ right =
     ⊎_elim (ap (λ x. numbers_of (tree_of x))) (ap (λ x. numbers_of (tree_of x))) c.in-And.is in
     let first : seen_after c.args.seen left ≡ None =

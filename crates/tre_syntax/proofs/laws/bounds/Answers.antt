@@ -6,7 +6,15 @@ use Rattle.tre_syntax.proofs.laws.bounds.Goals as goal
 
 pub returns : goal.returns
 returns c = record {
-  begin = λ tree rest. (IsBounded-Meaning (AtomMatches rest) rest.start (end_of rest.start rest.segments) (IsBounded-Atom rest) tree).begin;
-  order = λ tree rest. (IsOrdered-Meaning (AtomMatches rest) (IsOrdered-Atom rest) (IsInstant-Empty rest) tree).le;
-  end = λ tree rest. (IsBounded-Meaning (AtomMatches rest) rest.start (end_of rest.start rest.segments) (IsBounded-Atom rest) tree).end;
+  begin =
+      λ tree rest.
+      (IsBounded-Meaning (AtomMatches rest) rest.start (end_of rest.start rest.segments)
+      (IsBounded-Atom rest) tree).begin;
+  order =
+      λ tree rest.
+      (IsOrdered-Meaning (AtomMatches rest) (IsOrdered-Atom rest) (IsInstant-Empty rest) tree).le;
+  end =
+      λ tree rest.
+      (IsBounded-Meaning (AtomMatches rest) rest.start (end_of rest.start rest.segments)
+      (IsBounded-Atom rest) tree).end;
 }

@@ -1,5 +1,5 @@
 use Rattle.std.proofs.Common.{ℕ, Option, List, None, ◌++◌}
-use Rattle.tre_pairs.specs.Laws.{ImpliesBefore}
+use Rattle.tre_pairs.proofs.Laws.{ImpliesBefore}
 use Rattle.tre_trace.specs.declared.segment.Segment.{Segment}
 use Rattle.tre_trace.specs.Trace.{end_of}
 use Rattle.tre_syntax.specs.Meaning.{MatchesRest}
@@ -10,10 +10,18 @@ use Rattle.tre_syntax.proofs.Growth.{ImpliesBefore-cut}
 use Rattle.tre_syntax.proofs.MeaningLaws.{ImpliesBefore-Meaning}
 use Rattle.tre_syntax.proofs.laws.cutting_off.Goals as goal
 
-cut : (tree : PatternTree) (start : ℕ) (before : Option ℕ) (u v : List Segment) → ImpliesBefore (end_of start u) (MatchesRest tree (rest_of start before (u ++ v))) (MatchesRest tree (rest_of start before u))
+cut : (tree : PatternTree) (start : ℕ) (before : Option ℕ) (u v : List Segment)
+    → ImpliesBefore (end_of start u) (MatchesRest tree (rest_of start before (u ++ v)))
+    (MatchesRest tree (rest_of start before u))
 cut tree start before u v =
     let longer = rest_of start before (u ++ v) in
-    ImpliesBefore-Meaning (AtomMatches longer) (AtomMatches (rest_of start before u)) (end_of start u) (IsOrdered-Atom longer) (IsInstant-Empty longer) (ImpliesBefore-cut start before u v) tree
+    ImpliesBefore-Meaning (AtomMatches longer) (AtomMatches (rest_of start before u))
+    (end_of start u) (IsOrdered-Atom longer) (IsInstant-Empty longer)
+    (ImpliesBefore-cut start before u v) tree
 
 pub returns : goal.returns
-returns c = record { rest = λ tree start before u v. (cut tree start before u v).at; whole = λ tree u v. (cut tree 0 None u v).at }
+returns c = record {
+  rest = λ tree start before u v. (cut tree start before u v).at;
+  whole =
+      λ tree u v. (cut tree 0 None u v).at;
+}

@@ -6,6 +6,8 @@ pub returns : goal.returns
 returns c = record {
   rise = λ s segments a b n. edge_iff (λ w. ¬ HoldsOn s w) (HoldsOn s) segments a b n;
   fall = λ s segments a b n. edge_iff (HoldsOn s) (λ w. ¬ HoldsOn s w) segments a b n;
-  rise_inside = λ s segments a b n some trace h. edge_inside (λ w. ¬ HoldsOn s w) (HoldsOn s) segments a b n some trace.long h;
-  fall_inside = λ s segments a b n some trace h. edge_inside (HoldsOn s) (λ w. ¬ HoldsOn s w) segments a b n some trace.long h;
+  rise_inside = λ s segments a b n some trace h. edge_inside (λ w. ¬ HoldsOn s w)
+      (HoldsOn s) segments a b n some trace.long h;
+  fall_inside = λ s segments a b n some trace h. edge_inside (HoldsOn s)
+      (λ w. ¬ HoldsOn s w) segments a b n some trace.long h;
 }

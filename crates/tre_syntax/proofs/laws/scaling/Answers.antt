@@ -5,7 +5,10 @@ use Rattle.tre_syntax.proofs.laws.scaling.Goals as goal
 
 pub returns : goal.returns
 returns c = record {
-  rest = λ tree rest k a b n pos. let law = Scales-Meaning (AtomMatches rest) (Scales-Atom rest) tree in (law.up k a b n pos, law.down k a b n pos);
+  rest = λ tree rest k a b n pos. let law =
+      Scales-Meaning (AtomMatches rest) (Scales-Atom rest) tree in
+      (law.up k a b n pos, law.down k a b n pos);
   whole = λ tree segments k a b n pos.
-      let law = Scales-Meaning (AtomMatches (whole segments)) (Scales-Atom (whole segments)) tree in (law.up k a b n pos, law.down k a b n pos);
+      let law = Scales-Meaning (AtomMatches (whole segments)) (Scales-Atom (whole segments)) tree in
+      (law.up k a b n pos, law.down k a b n pos);
 }

@@ -7,13 +7,17 @@ use Rattle.tre_syntax.proofs.MeaningLaws.{Implies-Meaning}
 use Rattle.tre_syntax.proofs.Splits.{one, two, Implies-split, Implies-joined}
 use Rattle.tre_syntax.proofs.laws.splitting.Goals as goal
 
-split : (tree : PatternTree) (start : ℕ) (before : Option ℕ) (front back : List Segment) (first second val a b n : ℕ)
-    → MatchesRest tree (rest_of start before (front ++ one first second val back)) a b n ↔ MatchesRest tree (rest_of start before (front ++ two first second val back)) a b n
+split : (tree : PatternTree) (start : ℕ) (before : Option ℕ) (front back : List Segment)
+    (first second val a b n : ℕ)
+    → MatchesRest tree (rest_of start before (front ++ one first second val back)) a b n
+    ↔ MatchesRest tree (rest_of start before (front ++ two first second val back)) a b n
 split tree start before front back first second val a b n =
     let uncut = AtomMatches (rest_of start before (front ++ one first second val back)) in
     let parts = AtomMatches (rest_of start before (front ++ two first second val back)) in (
-      (Implies-Meaning uncut parts (Implies-split first second val back start before front) tree).at a b n,
-      (Implies-Meaning parts uncut (Implies-joined first second val back start before front) tree).at a b n,
+      (Implies-Meaning uncut parts (Implies-split first second val back start before front) tree).at
+          a b n,
+      (Implies-Meaning parts uncut (Implies-joined first second val back start before front)
+          tree).at a b n,
     )
 
 pub returns : goal.returns

@@ -8,6 +8,7 @@ invariant-loop-piece g l =
     let written = g.E.Sink.written in
     let faults = g.E.Sink.faults in
     record {
-      appended : Appends (written l.fn.err) (written l.err) (flat_map (λ piece. piece.now) (take l.piece-index l.pieces));
+      appended : Appends (written l.fn.err) (written l.err) (flat_map (λ piece. piece.now)
+          (take l.piece-index l.pieces));
       no_fault : faults l.err ≡ faults l.fn.err;
     }

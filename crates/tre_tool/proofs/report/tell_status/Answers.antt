@@ -3,10 +3,13 @@ use Rattle.tre_tool.proofs.report.tell_status.Goals as goal
 
 pub returns-in-Trace-clause-line : goal.returns-in-Trace-clause-line
 returns-in-Trace-clause-line g c =
-    rw c.in-Trace.is (simp append_assoc (rw (c.kind_name-name.ensures, c.format-place.ensures.text) at c.put_pieces-in-Trace.ensures.all))
+    rw c.in-Trace.is (simp append_assoc (rw
+    (c.kind_name-name.ensures, c.format-place.ensures.text) at
+    c.put_pieces-in-Trace.ensures.all))
 
 pub returns-in-InputTooLong-clause-line : goal.returns-in-InputTooLong-clause-line
-returns-in-InputTooLong-clause-line g c = rw c.in-InputTooLong.is c.put_pieces-in-InputTooLong.ensures.all
+returns-in-InputTooLong-clause-line g c = rw c.in-InputTooLong.is
+    c.put_pieces-in-InputTooLong.ensures.all
 
 pub returns-in-ReadFault-clause-line : goal.returns-in-ReadFault-clause-line
 returns-in-ReadFault-clause-line g c = rw c.in-ReadFault.is c.put_pieces-in-ReadFault.ensures.all
@@ -19,16 +22,20 @@ returns-in-Memory-clause-line g c = rw c.in-Memory.is c.put_pieces-in-Memory.ens
 
 pub returns-in-Trace-clause-part : goal.returns-in-Trace-clause-part
 returns-in-Trace-clause-part g c =
-    rw c.in-Trace.is (simp append_assoc (rw (c.kind_name-name.ensures, c.format-place.ensures.text) at c.put_pieces-in-Trace.ensures.part))
+    rw c.in-Trace.is (simp append_assoc (rw
+    (c.kind_name-name.ensures, c.format-place.ensures.text) at
+    c.put_pieces-in-Trace.ensures.part))
 
 pub returns-in-InputTooLong-clause-part : goal.returns-in-InputTooLong-clause-part
-returns-in-InputTooLong-clause-part g c = rw c.in-InputTooLong.is c.put_pieces-in-InputTooLong.ensures.part
+returns-in-InputTooLong-clause-part g c = rw c.in-InputTooLong.is
+    c.put_pieces-in-InputTooLong.ensures.part
 
 pub returns-in-ReadFault-clause-part : goal.returns-in-ReadFault-clause-part
 returns-in-ReadFault-clause-part g c = rw c.in-ReadFault.is c.put_pieces-in-ReadFault.ensures.part
 
 pub returns-in-WriteFault-clause-part : goal.returns-in-WriteFault-clause-part
-returns-in-WriteFault-clause-part g c = rw c.in-WriteFault.is c.put_pieces-in-WriteFault.ensures.part
+returns-in-WriteFault-clause-part g c = rw c.in-WriteFault.is
+    c.put_pieces-in-WriteFault.ensures.part
 
 pub returns-in-Memory-clause-part : goal.returns-in-Memory-clause-part
 returns-in-Memory-clause-part g c = rw c.in-Memory.is c.put_pieces-in-Memory.ensures.part

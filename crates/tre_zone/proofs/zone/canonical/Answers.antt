@@ -1,5 +1,5 @@
 use Rattle.std.proofs.Common.{sym, subst, refl}
-use Rattle.tre_zone.specs.Closing.{LeavesRoom}
+use Rattle.tre_zone.specs.Zone.{LeavesRoom}
 use Rattle.tre_zone.proofs.Closing.{closed-canonical}
 use Rattle.tre_zone.proofs.Given.{closed-keys, closed-exact, closed-never}
 use Rattle.tre_zone.proofs.zone.canonical.Goals as goal
@@ -10,7 +10,8 @@ leaves_room-requires c = rw c.closed-closed.ensures (closed-keys c.args.bounds.n
 pub invariant_of-result : goal.invariant_of-result
 invariant_of-result c =
     rw c.closed-closed.ensures
-    (closed-canonical c.args.bounds.now c.requires.framed (subst LeavesRoom c.closed-closed.ensures (c.if-leaves_room.ensures.0 refl)))
+    (closed-canonical c.args.bounds.now c.requires.framed
+    (subst LeavesRoom c.closed-closed.ensures (c.if-leaves_room.ensures.0 refl)))
 
 pub returns-then-leaves_room : goal.returns-then-leaves_room
 returns-then-leaves_room c = rw c.closed-closed.ensures (closed-exact c.args.bounds.now)
@@ -18,4 +19,5 @@ returns-then-leaves_room c = rw c.closed-closed.ensures (closed-exact c.args.bou
 pub returns-else-leaves_room : goal.returns-else-leaves_room
 returns-else-leaves_room c =
     closed-never c.args.bounds.now
-    (λ h. let e = c.if-leaves_room.ensures.1 (subst LeavesRoom (sym c.closed-closed.ensures) h) in (cc))
+    (λ h. let e = c.if-leaves_room.ensures.1 (subst LeavesRoom (sym c.closed-closed.ensures) h) in
+    (cc))

@@ -11,5 +11,6 @@ returns-then-is_weak c =
 
 pub returns-else-is_weak : goal.returns-else-is_weak
 returns-else-is_weak c =
-    let strict : weakness_of c.args.bound.now ≡ 0 = not_weak c.args.bound.now (λ h. let e = c.if-is_weak.ensures.1 h in (cc)) in
+    let strict : weakness_of c.args.bound.now ≡ 0 =
+    not_weak c.args.bound.now (λ h. let e = c.if-is_weak.ensures.1 h in (cc)) in
     ((λ t. record { met = grind (arith, ints) }), (λ m. let met = m.met in grind (arith, ints)))

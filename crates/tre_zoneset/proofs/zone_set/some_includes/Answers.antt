@@ -8,4 +8,7 @@ use Rattle.tre_zoneset.proofs.zone_set.some_includes.Goals as goal
 pub returns : goal.returns
 returns c =
     any_is (λ member. Includes member c.args.zone.now) c.any.result c.args.zones.now
-    (cases_from_any _ _ _ (λ member. Includes member c.args.zone.now) (λ member. Includes member c.args.zone.now → ⊥) c.any.ensures.ran (YieldsList-from_slice c.args.zones.now cc) (λ x q k. search (rules, tests)) (λ x q k. search (rules, tests)))
+    (cases_from_any _ _ _ (λ member. Includes member c.args.zone.now)
+    (λ member. Includes member c.args.zone.now → ⊥) c.any.ensures.ran
+    (YieldsList-from_slice c.args.zones.now cc) (λ x q k. search (rules, tests))
+    (λ x q k. search (rules, tests)))

@@ -1,4 +1,5 @@
--- A source of the system tells no name and no bytes of its file, and after a failure it stands where it stood.
+-- A source of the system tells no name and no bytes of its file, and after a failure it stands
+-- where it stood.
 use Rattle.std.proofs.Common.{refl, sym, ap, subst}
 use Rattle.std.proofs.lemmas.Bool.{false≢true}
 use Rattle.std.proofs.KnownBytes.{Keeps-refl}
@@ -13,8 +14,11 @@ open-tells g c =
       opens = c.ensures.opens;
       by_name = on_ok_weaker c.result (λ _. tt) c.ensures.opens;
       bytes = on_ok_weaker c.result (λ _. tt) c.ensures.opens;
-      opened_before = on_err_weaker c.result (λ same. ap (λ source. source.opened) same) c.ensures.unchanged;
-      left_before = on_err_weaker c.result (λ same. subst (Keeps before.left) (sym (ap (λ source. source.left) same)) (Keeps-refl before.left)) c.ensures.unchanged;
+      opened_before =
+          on_err_weaker c.result (λ same. ap (λ source. source.opened) same) c.ensures.unchanged;
+      left_before = on_err_weaker c.result (λ same.
+          subst (Keeps before.left) (sym (ap (λ source. source.left) same)) (Keeps-refl before.left))
+          c.ensures.unchanged;
       cause = c.ensures.cause;
       never_fails = λ sound _. absurd (false≢true sound);
       same_name = refl;

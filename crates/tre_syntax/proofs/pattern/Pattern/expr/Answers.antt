@@ -6,4 +6,9 @@ use Rattle.tre_syntax.proofs.pattern.Pattern.expr.Goals as goal
 pub returns-clause-pattern : goal.returns-clause-pattern
 returns-clause-pattern c =
     let p = c.args.self.now in
-    record { small = p.small; numbered = p.numbered; below_64 = numbered_below (pattern_tree p) (length (names_of p)) p.numbered p.few; few = p.few }
+    record {
+      small = p.small;
+      numbered = p.numbered;
+      numbers = numbered_below (pattern_tree p) (length (names_of p)) p.numbered p.few;
+      few = p.few;
+    }

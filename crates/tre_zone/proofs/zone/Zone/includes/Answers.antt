@@ -5,5 +5,6 @@ pub returns-clause-pairs : goal.returns-clause-pairs
 returns-clause-pairs c =
     rw (← c.self.view_is, ← c.other.view_is) (
       (λ t. Covers-Includes c.self.inside.bounds c.other.inside.bounds (c.covers.ensures.0 t)),
-      (λ h. c.covers.ensures.1 (Includes-Covers c.self.inside.bounds c.other.inside.bounds c.other.invariant h)),
+      (λ h. c.covers.ensures.1 (Includes-Covers c.self.inside.bounds c.other.inside.bounds
+          c.other.invariant h)),
     )

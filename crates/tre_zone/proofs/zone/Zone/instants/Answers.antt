@@ -16,9 +16,11 @@ returns-clause-bounds c =
 
 pub invariant_of-result : goal.invariant_of-result
 invariant_of-result c =
-    subst IsCanonical (sym (returns-clause-bounds c)) (instants-canonical c.args.from c.args.to c.requires.rising c.requires.limit)
+    subst IsCanonical (sym (returns-clause-bounds c))
+    (instants-canonical c.args.from c.args.to c.requires.rising c.requires.limit)
 
 pub returns-clause-held : goal.returns-clause-held
 returns-clause-held c = λ a b n some.
-    let P : ZoneBounds → Type 0 = λ z. ZoneHolds z a b n ↔ IsInstantBetween c.args.from c.args.to a b n in
+    let P : ZoneBounds → Type 0 = λ z. ZoneHolds z a b n ↔ IsInstantBetween c.args.from c.args.to a
+    b n in
     subst P (sym (returns-clause-bounds c)) (instants-holds c.args.from c.args.to a b n some)

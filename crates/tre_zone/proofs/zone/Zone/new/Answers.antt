@@ -10,4 +10,6 @@ canonical-requires-clause-keys c = rw c.framed.ensures (framed-keys c.args.bound
 
 pub returns : goal.returns
 returns c =
-    GivesZone-same c.canonical.result _ _ (λ a b n some le. rw c.framed.ensures (framed-holds c.args.bounds.now a b n some)) c.canonical.ensures
+    GivesZone-same c.canonical.result _ _
+    (λ a b n some le. rw c.framed.ensures (framed-holds c.args.bounds.now a b n some))
+    c.canonical.ensures

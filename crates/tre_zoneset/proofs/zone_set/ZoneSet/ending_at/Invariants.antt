@@ -5,4 +5,5 @@ use Rattle.tre_zone.specs.ZoneList.{SetHolds, HoldExactly}
 use Rattle.tre_zoneset.proofs.zone_set.ZoneSet.ending_at.Given as goal
 
 abbrev pub invariant-loop-zone : goal.invariant-loop-zone
-invariant-loop-zone l = HoldExactly l.ending (Both (SetHolds (take l.zone-index l.zone-items)) (EndsAt l.t))
+invariant-loop-zone l = HoldExactly l.found.items
+    (Both (SetHolds (take l.zone-index l.zone-items)) (EndsAt l.time))

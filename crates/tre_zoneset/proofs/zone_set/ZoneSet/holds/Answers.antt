@@ -10,5 +10,8 @@ returns c =
     let some = SetHolds-any c.args.self.now c.args.a c.args.b c.args.n in
     let any =
     any_is (λ zone. ZoneHolds zone c.args.a c.args.b c.args.n) c.any.result c.args.self.now
-    (cases_from_any _ _ _ (λ zone. ZoneHolds zone c.args.a c.args.b c.args.n) (λ zone. ZoneHolds zone c.args.a c.args.b c.args.n → ⊥) c.any.ensures.ran (YieldsList-from_slice c.args.self.now cc) (λ x q k. search (rules, tests)) (λ x q k. search (rules, tests))) in
+    (cases_from_any _ _ _ (λ zone. ZoneHolds zone c.args.a c.args.b c.args.n)
+    (λ zone. ZoneHolds zone c.args.a c.args.b c.args.n → ⊥) c.any.ensures.ran
+    (YieldsList-from_slice c.args.self.now cc) (λ x q k. search (rules, tests))
+    (λ x q k. search (rules, tests))) in
     ((λ t. some.1 (any.0 t)), (λ h. any.1 (some.0 h)))

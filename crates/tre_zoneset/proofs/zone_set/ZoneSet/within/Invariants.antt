@@ -5,4 +5,5 @@ use Rattle.tre_zone.specs.ZoneList.{SetHolds, HoldExactly}
 use Rattle.tre_zoneset.proofs.zone_set.ZoneSet.within.Given as goal
 
 abbrev pub invariant-loop-zone : goal.invariant-loop-zone
-invariant-loop-zone l = HoldExactly l.lasting (Lasting (LastsWithin l.i) (SetHolds (take l.zone-index l.zone-items)))
+invariant-loop-zone l = HoldExactly l.found.items
+    (Lasting (LastsWithin l.interval) (SetHolds (take l.zone-index l.zone-items)))

@@ -1,0 +1,93 @@
+"""Processor time and memory of one run of a program. For Linux. Standard library alone."""
+
+import ctypes
+import os
+import signal
+import subprocess
+import sys
+
+SECONDS = 20         # processor time that one run may take
+KILOBYTES = 3000000  # memory that one run may take
+ONCE = 5             # a run that takes more seconds than this isn't repeated
+
+# The shell ends at once, and what it started becomes a child of this script.
+# A child that this script started itself would be told as no smaller than
+# Python, since the memory before the call of the program counts too.
+START = ('ulimit -c 0; ulimit -t "$1"; ulimit -v "$2"; input=$3; output=$4; '
+         'shift 4; "$@" < "$input" > "$output" 2> /dev/null &')
+
+
+class Run:
+    """Why it was stopped or None, and of the best of three the seconds and the kilobytes."""
+
+    def __init__(self, stopped, user=0.0, system=0.0, peak=0):
+        self.stopped = stopped
+        self.user = user
+        self.seconds = user + system
+        self.peak = peak
+
+
+def adopt_orphans():
+    set_child_subreaper = 36
+    if ctypes.CDLL(None).prctl(set_child_subreaper, 1, 0, 0, 0) != 0:
+        sys.exit("this system doesn't hand over orphans")
+
+
+def run_once(words, trace, output):
+    """The wait status and what the system tells of the run."""
+    subprocess.run(["sh", "-c", START, "sh", str(SECONDS), str(KILOBYTES),
+                    trace, output] + words, check=True)
+    try:
+        _, status, usage = os.wait4(-1, 0)
+    except ChildProcessError:  # a slow shell saw the end itself
+        return run_once(words, trace, output)
+    return status, usage
+
+
+def why_stopped(status):
+    if os.WIFSIGNALED(status):
+        by_time = os.WTERMSIG(status) in (signal.SIGXCPU, signal.SIGKILL)
+        return "over %d s" % SECONDS if by_time else "killed"
+    if os.WEXITSTATUS(status) == 8:
+        return "over %d GB" % (KILOBYTES // 1000000)
+    if os.WEXITSTATUS(status) != 0:
+        return "status %d" % os.WEXITSTATUS(status)
+    return None
+
+
+def measure(words, trace, output):
+    best = None
+    for _ in range(3):
+        status, usage = run_once(words, trace, output)
+        stopped = why_stopped(status)
+        if stopped is not None:
+            return Run(stopped)
+        run = Run(None, usage.ru_utime, usage.ru_stime, usage.ru_maxrss)
+        if best is None or run.seconds < best.seconds:
+            run.peak = min(run.peak, best.peak) if best else run.peak
+            best = run
+        if run.seconds > ONCE:
+            break
+    return best
+
+
+def count_lines(path):
+    with open(path, "rb") as file:
+        return sum(1 for _ in file)
+
+
+def ratio(now, before):
+    return "%.3g" % (now / before) if before else "-"
+
+
+def print_row(cells):
+    print("| " + " | ".join(cells) + " |", flush=True)
+
+
+def print_head(cells):
+    print_row(cells)
+    print("|---|" + "---:|" * (len(cells) - 1), flush=True)
+
+
+def cell(pattern):
+    return "`" + pattern.replace("|", "\\|") + "`"

@@ -1,0 +1,85 @@
+-- The atoms over one segment.
+use Rattle.std.proofs.Common.{◌≡◌, ℕ, ◌+◌, ◌<◌, ◌↔◌, Bool, IsTrue, Option, Some, None, [], ◌∷◌, IsSomeAnd, inl, ⊎_elim, arith}
+use Rattle.tre_pairs.specs.Pairs.{Pairs}
+use Rattle.tre_trace.specs.declared.segment.Segment.{Segment}
+use Rattle.tre_trace.specs.Literal.{LiteralMatches}
+use Rattle.tre_zone.specs.Zone.{ZoneHolds, IsZoneOf, HasNoPair, GivesZone, IsInSpan, IsInstantBetween}
+use Rattle.tre_zone.specs.declared.zone_bounds.ZoneBounds.{ZoneBounds}
+use Rattle.tre_syntax.specs.Rest.{rest_of, EdgeMatches, EmptyMatches}
+use Rattle.tre_edges.specs.Truth.{IsFoundAt}
+use Rattle.tre_edges.proofs.EdgesOfRests.{EdgeMatches-segment, EdgeMatches-end}
+
+-- what gives the zone of a relation gives that of another with the same pairs
+pub GivesZone-agree : (answer : Option ZoneBounds) (R S : Pairs)
+    → ((a b n : ℕ) → R a b n ↔ S a b n) → GivesZone answer R → GivesZone answer S
+GivesZone-agree None R S same given = record {
+  never = λ a b n some rising h. given.never a b n some rising ((same a b n).1 h);
+}
+GivesZone-agree (Some zone) R S same given = record {
+  exact = λ a b n some rising.
+      let one = given.exact a b n some rising in
+      let other = same a b n in
+      ((λ h. other.0 (one.0 h)), (λ h. one.1 (other.1 h)));
+}
+
+-- the one edge over a segment is at its begin
+pub edge_of_segment : (P Q : ℕ → Type 0) (begin : ℕ) (before : Option ℕ) (segment : Segment)
+    (found : Bool) → IsTrue found ↔ (IsSomeAnd before P × Q segment.val) → (a b n : ℕ)
+    → IsFoundAt found begin a b n ↔ EdgeMatches P Q (rest_of begin before (segment ∷ [])) a b n
+edge_of_segment P Q begin before segment found is a b n =
+    let law = EdgeMatches-segment P Q begin before segment [] found is a b n in (
+      λ h. law.1 (inl h),
+      λ h. ⊎_elim (λ x. x)
+          (λ x. absurd (EdgeMatches-end P Q (begin + segment.len) (Some segment.val) a b n x))
+          (law.0 h),
+    )
+
+pub no_edge : (P Q : ℕ → Type 0) (begin : ℕ) (segment : Segment)
+    → HasNoPair (EdgeMatches P Q (rest_of begin None (segment ∷ [])))
+no_edge P Q begin segment = record {
+  never = λ a b n some rising h.
+      ⊎_elim (λ here. absurd here.1) (λ later. absurd later) h.edge;
+}
+
+-- the stretches of a literal over a segment on which it holds, and none where it doesn't
+pub literal_of_segment : (P : ℕ → Type 0) (begin end : ℕ) (segment : Segment) (zone : ZoneBounds)
+    → P segment.val → end ≡ begin + segment.len
+    → ((a b n : ℕ) → 0 < n → ZoneHolds zone a b n ↔ IsInSpan begin end a b n)
+    → IsZoneOf zone (LiteralMatches P begin (segment ∷ []))
+literal_of_segment P begin end segment zone holds ends held = record {
+  exact = λ a b n some rising.
+      let is = held a b n some in (
+        λ h. let span = is.0 h in record {
+          begin = span.starts;
+          some_time = span.lasts;
+          end = rw (← ends) span.ends;
+          throughout = (λ _ _. holds, tt);
+        },
+        λ h. is.1 (record { starts = h.begin; lasts = h.some_time; ends = rw ends h.end }),
+      );
+}
+
+pub no_literal : (P : ℕ → Type 0) (begin : ℕ) (segment : Segment) → ¬ P segment.val
+    → HasNoPair (LiteralMatches P begin (segment ∷ []))
+no_literal P begin segment fails = record {
+  never = λ a b n some rising h.
+      let first = h.begin in
+      let last = h.end in
+      let passes = h.some_time in
+      fails (h.throughout.0 (omega (arith, first, passes)) (omega (arith, last, passes)));
+}
+
+-- the moments of a segment
+pub moments_of_segment : (begin end : ℕ) (before : Option ℕ) (segment : Segment) (zone : ZoneBounds)
+    → end ≡ begin + segment.len
+    → ((a b n : ℕ) → 0 < n → ZoneHolds zone a b n ↔ IsInstantBetween begin end a b n)
+    → IsZoneOf zone (EmptyMatches (rest_of begin before (segment ∷ [])))
+moments_of_segment begin end before segment zone ends held = record {
+  exact = λ a b n some rising.
+      let is = held a b n some in (
+        λ h.
+            let one = is.0 h in
+            record { begin = one.starts; same = one.same; end = rw (← ends) one.ends },
+        λ h. is.1 (record { starts = h.begin; same = h.same; ends = rw ends h.end }),
+      );
+}

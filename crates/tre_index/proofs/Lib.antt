@@ -1,0 +1,5 @@
+pub mod Growing
+pub mod Raising
+pub mod Searching
+pub mod UpperRows
+pub mod ZoneRows

@@ -1,0 +1,176 @@
+-- The short matches of each operator, from those of its parts.
+use Rattle.std.proofs.Common.{◌≡◌, ◌↔◌, ◌-◌, ℕ, List, Option, inl, inr, ⊎_elim, subst}
+use Rattle.tre_pairs.specs.Pairs.{Pairs, Composed, Either, Both, Lasting, Chain}
+use Rattle.tre_pairs.proofs.Laws.{IsOrdered, IsInstant, Agree}
+use Rattle.tre_pairs.proofs.Agreement.{Agree-Composed, Agree-Chain, Agree-Lasting}
+use Rattle.tre_pairs.proofs.Order.{IsOrdered-Lasting}
+use Rattle.tre_pairs.proofs.Shortening.{Agree-trans, Lasting-Composed, Lasting-Chain, Lasting-Either, Lasting-Both}
+use Rattle.tre_zone.specs.Interval.{IntervalEnds, LastsWithin}
+use Rattle.tre_zone.specs.Longest.{LastsUpTo}
+use Rattle.tre_zone.proofs.Lasting.{LastsUpTo-downward, LastsUpTo-scales}
+use Rattle.tre_zone.specs.Zone.{IsInstantBetween}
+use Rattle.tre_zone.specs.ZoneList.{SetHolds, HoldExactly}
+use Rattle.tre_zone.specs.declared.zone_bounds.ZoneBounds.{ZoneBounds}
+use Rattle.tre_zoneset.specs.ZoneSet.{IsZoneSet}
+use Rattle.tre_trace.specs.Trace.{end_of}
+use Rattle.tre_syntax.specs.Meaning.{MatchesRest}
+use Rattle.tre_syntax.specs.PatternTree.{PatternTree, empty, sequence, alternation, intersection, repetition, restriction}
+use Rattle.tre_syntax.specs.Rest.{Rest, AtomMatches}
+use Rattle.tre_syntax.proofs.CutMeaning.{IsOrdered-rest}
+use Rattle.tre_offline.proofs.Unions.{Agree-held, HoldExactly-agree}
+
+-- The moments of a rest.
+Agree-moments : (rest : Rest)
+    → Agree (IsInstantBetween rest.start (end_of rest.start rest.segments)) (AtomMatches rest empty)
+Agree-moments rest = record {
+  at = λ a b n some. (
+    (λ h. record { begin = h.starts; same = h.same; end = h.ends }),
+    (λ h. record { starts = h.begin; same = h.same; ends = h.end }),
+  );
+}
+
+IsInstant-moments : (rest : Rest) → IsInstant (AtomMatches rest empty)
+IsInstant-moments rest = record { same = λ a b n h. h.same }
+
+module _ (longest : Option ℕ) (tree : PatternTree) (rest : Rest) where
+  -- The short matches of the expression.
+  abbrev Short : Pairs
+  Short = Lasting (LastsUpTo longest) (MatchesRest tree rest)
+
+  IsOrdered-short : IsOrdered Short
+  IsOrdered-short = IsOrdered-Lasting (LastsUpTo longest) (MatchesRest tree rest)
+      (IsOrdered-rest tree rest)
+
+  pub shortened_exact : (all zones : List ZoneBounds) → HoldExactly all (MatchesRest tree rest)
+      → HoldExactly zones (Lasting (LastsUpTo longest) (SetHolds all)) → HoldExactly zones Short
+  shortened_exact all zones exact held = record {
+    exact = λ a b n some le.
+        let one = held.exact a b n some le in
+        let two = exact.exact a b n some le in (
+          (λ h.
+              let x = one.0 h in
+              record { related = two.0 x.related; admitted = x.admitted }),
+          (λ h. one.1 (record { related = two.1 h.related; admitted = h.admitted })),
+        );
+  }
+
+module _ (longest : Option ℕ) (left right : PatternTree) (rest : Rest)
+    (one other zones : List ZoneBounds)
+    (first : HoldExactly one (Short longest left rest))
+    (second : HoldExactly other (Short longest right rest)) where
+  pub sequence_exact : IsZoneSet one → IsZoneSet other
+      → HoldExactly zones (Lasting (LastsUpTo longest) (Composed (SetHolds one) (SetHolds other)))
+      → HoldExactly zones (Short longest (sequence left right) rest)
+  sequence_exact set set' =
+      HoldExactly-agree zones
+      (Lasting (LastsUpTo longest) (Composed (SetHolds one) (SetHolds other)))
+      (Short longest (sequence left right) rest)
+      (Agree-trans
+      (Lasting (LastsUpTo longest) (Composed (SetHolds one) (SetHolds other)))
+      (Lasting (LastsUpTo longest)
+      (Composed (Short longest left rest) (Short longest right rest)))
+      (Short longest (sequence left right) rest)
+      (Agree-Lasting (LastsUpTo longest) (Composed (SetHolds one) (SetHolds other))
+      (Composed (Short longest left rest) (Short longest right rest))
+      (Agree-Composed (SetHolds one) (Short longest left rest)
+      (SetHolds other) (Short longest right rest)
+      (Agree-held one (Short longest left rest) set (IsOrdered-short longest left rest) first)
+      (Agree-held other (Short longest right rest) set' (IsOrdered-short longest right rest)
+      second)))
+      (Lasting-Composed (LastsUpTo longest) (LastsUpTo-downward longest)
+      (LastsUpTo-scales longest) (MatchesRest left rest) (MatchesRest right rest)
+      (IsOrdered-rest left rest) (IsOrdered-rest right rest)))
+
+  pub alternation_exact : HoldExactly zones (Either (SetHolds one) (SetHolds other))
+      → HoldExactly zones (Short longest (alternation left right) rest)
+  alternation_exact held = record {
+    exact = λ a b n some le.
+        let whole = held.exact a b n some le in
+        let l = first.exact a b n some le in
+        let r = second.exact a b n some le in
+        let same = (Lasting-Either (LastsUpTo longest) (MatchesRest left rest)
+        (MatchesRest right rest)).at a b n some in (
+          (λ h. same.0 (⊎_elim (λ x. inl (l.0 x)) (λ x. inr (r.0 x)) (whole.0 h))),
+          (λ h. whole.1 (⊎_elim (λ x. inl (l.1 x)) (λ x. inr (r.1 x)) (same.1 h))),
+        );
+  }
+
+  pub intersection_exact : HoldExactly zones (Both (SetHolds one) (SetHolds other))
+      → HoldExactly zones (Short longest (intersection left right) rest)
+  intersection_exact held = record {
+    exact = λ a b n some le.
+        let whole = held.exact a b n some le in
+        let l = first.exact a b n some le in
+        let r = second.exact a b n some le in
+        let same = (Lasting-Both (LastsUpTo longest) (MatchesRest left rest)
+        (MatchesRest right rest)).at a b n some in (
+          (λ h.
+              let x = whole.0 h in
+              same.0 (record { left = l.0 x.left; right = r.0 x.right })),
+          (λ h.
+              let x = same.1 h in
+              whole.1 (record { left = l.1 x.left; right = r.1 x.right })),
+        );
+  }
+
+module _ (longest : Option ℕ) (tree : PatternTree) (rest : Rest) (all zones : List ZoneBounds)
+    (inner : HoldExactly all (Short longest tree rest)) where
+  over : HoldExactly zones (Lasting (LastsUpTo longest)
+      (Chain (SetHolds all) (IsInstantBetween rest.start (end_of rest.start rest.segments))))
+      → IsZoneSet all → HoldExactly zones (Short longest (repetition tree) rest)
+  over held set =
+      let moments = IsInstantBetween rest.start (end_of rest.start rest.segments) in
+      let points = AtomMatches rest empty in
+      HoldExactly-agree zones (Lasting (LastsUpTo longest) (Chain (SetHolds all) moments))
+      (Short longest (repetition tree) rest)
+      (Agree-trans (Lasting (LastsUpTo longest) (Chain (SetHolds all) moments))
+      (Lasting (LastsUpTo longest) (Chain (Short longest tree rest) points))
+      (Short longest (repetition tree) rest)
+      (Agree-Lasting (LastsUpTo longest) (Chain (SetHolds all) moments)
+      (Chain (Short longest tree rest) points)
+      (Agree-Chain (SetHolds all) (Short longest tree rest) moments points
+      (Agree-held all (Short longest tree rest) set (IsOrdered-short longest tree rest) inner)
+      (Agree-moments rest)))
+      (Lasting-Chain (LastsUpTo longest) (LastsUpTo-downward longest) (LastsUpTo-scales longest)
+      (MatchesRest tree rest) points (IsOrdered-rest tree rest) (IsInstant-moments rest)))
+      held
+
+  pub repetition_exact : (begin end : ℕ) → begin ≡ rest.start
+      → end ≡ end_of rest.start rest.segments → IsZoneSet all
+      → HoldExactly zones (Lasting (LastsUpTo longest)
+      (Chain (SetHolds all) (IsInstantBetween begin end)))
+      → HoldExactly zones (Short longest (repetition tree) rest)
+  repetition_exact begin end begins ends set held =
+      let P : ℕ → ℕ → Type 0 =
+      λ (t t' : ℕ). HoldExactly zones
+      (Lasting (LastsUpTo longest) (Chain (SetHolds all) (IsInstantBetween t t'))) in
+      let from = subst (λ (t : ℕ). P t end) begins held in
+      over (subst (λ (t : ℕ). P rest.start t) ends from) set
+
+-- Inside an interval the part may be cut to a longest duration of its own.
+pub restriction_exact : (inner longest : Option ℕ) (tree : PatternTree) (ends : IntervalEnds)
+    (rest : Rest) (all zones : List ZoneBounds)
+    → ((d n : ℕ) → LastsWithin ends d n → LastsUpTo inner d n ↔ LastsUpTo longest d n)
+    → HoldExactly all (Short inner tree rest)
+    → HoldExactly zones (Lasting (LastsWithin ends) (SetHolds all))
+    → HoldExactly zones (Short longest (restriction tree ends) rest)
+restriction_exact inner longest tree ends rest all zones same exact held = record {
+  exact = λ a b n some le.
+      let one = held.exact a b n some le in
+      let two = exact.exact a b n some le in (
+        (λ h.
+            let x = one.0 h in
+            let y = two.0 x.related in
+            record {
+              related = record { related = y.related; admitted = x.admitted };
+              admitted = (same (b - a) n x.admitted).0 y.admitted;
+            }),
+        (λ h. one.1 (record {
+          related = two.1 (record {
+            related = h.related.related;
+            admitted = (same (b - a) n h.related.admitted).1 h.admitted;
+          });
+          admitted = h.related.admitted;
+        })),
+      );
+}

@@ -1,0 +1,125 @@
+// What the atoms of an expression match, over what is still to come of a trace.
+ghost use Rattle.std.specs.Prelude.{◌≡◌, ◌≤◌, IfOk};
+ghost use Rattle.tre_pairs.specs.declared.TheConstants.{TIME_MAX};
+ghost use Rattle.tre_state.specs.State.{tree_of};
+ghost use Rattle.tre_state.specs.StateTree.{NumbersBelow};
+ghost use Rattle.tre_syntax.specs.PatternTree as pattern;
+ghost use Rattle.tre_syntax.specs.PatternTree.{Atom};
+ghost use Rattle.tre_syntax.specs.Rest.{Rest, whole, AtomMatches};
+ghost use Rattle.tre_trace.specs.Trace.{end_of};
+ghost use Rattle.tre_zone.specs.Zone.{GivesZone};
+ghost use Rattle.tre_zone.specs.ZoneList.{HoldExactly};
+ghost use Rattle.tre_edges.specs.Piece.{rest_of_piece};
+
+use std::alloc::{AllocError, Global};
+use tre_edges::literal::literal;
+use tre_edges::moments::moments;
+use tre_edges::{Piece, fall_in, falls, literal_in, moments_in, rise_in, rises};
+use tre_state::{NAMES_MAX, State};
+use tre_trace::Trace;
+use tre_zone::Zone;
+use tre_zoneset::ZoneSet;
+
+/// A trace, or a part of one: it has a begin and an end, and the matches of each atom over it.
+pub trait Atoms {
+    /// What is still to come of a trace, and what was just before.
+    ghost rest: { Self → Rest };
+
+    fn begin(&self) -> u64
+        ensures { result ≡ (rest self.now).start };
+
+    fn end(&self) -> u64
+        ensures end { result ≡ end_of (rest self.now).start (rest self.now).segments }
+        ensures order { (rest self.now).start ≤ result }
+        ensures limit { result ≤ TIME_MAX };
+
+    /// The matches of `eps`: every moment from the begin to the end.
+    fn moments(&self, alloc: Global) -> Result<ZoneSet, AllocError>
+        ensures { IfOk result (λ zones.
+            HoldExactly zones (AtomMatches (rest self.now) pattern.empty)) };
+
+    /// The matches of the state as a literal.
+    fn literal(&self, alloc: Global, state: &State) -> Result<ZoneSet, AllocError>
+        requires { NumbersBelow NAMES_MAX (tree_of state.now) }
+        ensures { IfOk result (λ zones.
+            HoldExactly zones
+            (AtomMatches (rest self.now) (pattern.literal (tree_of state.now)))) };
+
+    /// The instants at which the state becomes true.
+    fn rises(&self, alloc: Global, state: &State) -> Result<ZoneSet, AllocError>
+        requires { NumbersBelow NAMES_MAX (tree_of state.now) }
+        ensures { IfOk result (λ zones.
+            HoldExactly zones (AtomMatches (rest self.now) (pattern.rise (tree_of state.now)))) };
+
+    /// The instants at which the state becomes false.
+    fn falls(&self, alloc: Global, state: &State) -> Result<ZoneSet, AllocError>
+        requires { NumbersBelow NAMES_MAX (tree_of state.now) }
+        ensures { IfOk result (λ zones.
+            HoldExactly zones (AtomMatches (rest self.now) (pattern.fall (tree_of state.now)))) };
+}
+
+impl Atoms for Trace {
+    ghost rest = { λ trace. whole trace };
+
+    fn begin(&self) -> u64 {
+        0
+    }
+
+    fn end(&self) -> u64 {
+        self.end()
+    }
+
+    fn moments(&self, alloc: Global) -> Result<ZoneSet, AllocError> {
+        moments(alloc, self)
+    }
+
+    fn literal(&self, alloc: Global, state: &State) -> Result<ZoneSet, AllocError> {
+        literal(alloc, state, self)
+    }
+
+    fn rises(&self, alloc: Global, state: &State) -> Result<ZoneSet, AllocError> {
+        rises(alloc, state, self)
+    }
+
+    fn falls(&self, alloc: Global, state: &State) -> Result<ZoneSet, AllocError> {
+        falls(alloc, state, self)
+    }
+}
+
+impl Atoms for Piece {
+    ghost rest = { λ piece. rest_of_piece piece };
+
+    fn begin(&self) -> u64 {
+        self.begin
+    }
+
+    fn end(&self) -> u64 {
+        self.begin + self.segment.len
+    }
+
+    fn moments(&self, alloc: Global) -> Result<ZoneSet, AllocError> {
+        set_of(alloc, Some(moments_in(self)))
+    }
+
+    fn literal(&self, alloc: Global, state: &State) -> Result<ZoneSet, AllocError> {
+        set_of(alloc, literal_in(state, self))
+    }
+
+    fn rises(&self, alloc: Global, state: &State) -> Result<ZoneSet, AllocError> {
+        set_of(alloc, rise_in(state, self))
+    }
+
+    fn falls(&self, alloc: Global, state: &State) -> Result<ZoneSet, AllocError> {
+        set_of(alloc, fall_in(state, self))
+    }
+}
+
+// The set of the zone that was found, empty where there is none.
+fn set_of(alloc: Global, found: Option<Zone>) -> Result<ZoneSet, AllocError>
+    ensures { IfOk result (λ zones. (atom : Atom) (rest : Rest)
+        → GivesZone found (AtomMatches rest atom) → HoldExactly zones (AtomMatches rest atom)) }
+{
+    let mut zones = ZoneSet::new(alloc);
+    zones.add_found(found)?;
+    Ok(zones)
+}

@@ -1,0 +1,104 @@
+// The operators of expressions, each on the matches of its parts: on those of them that last at
+// most `longest`, and of its own those alone. Where there is no longest, these are all.
+ghost use Rattle.std.specs.Prelude.{◌≡◌, ◌≤◌, ◌↔◌, ℕ, Option, IfOk};
+ghost use Rattle.tre_pairs.specs.Pairs.{Lasting};
+ghost use Rattle.tre_pairs.specs.declared.TheConstants.{TIME_MAX};
+ghost use Rattle.tre_syntax.specs.Meaning.{MatchesRest};
+ghost use Rattle.tre_syntax.specs.PatternTree.{PatternTree, sequence, alternation, intersection, repetition, restriction};
+ghost use Rattle.tre_syntax.specs.Rest.{Rest};
+ghost use Rattle.tre_trace.specs.Trace.{end_of};
+ghost use Rattle.tre_zone.specs.Interval.{LastsWithin};
+ghost use Rattle.tre_zone.specs.Longest.{LastsUpTo, IsLongest};
+ghost use Rattle.tre_zone.specs.ZoneList.{HoldExactly};
+
+use std::alloc::{AllocError, Global};
+use tre_star::closure::closure_up_to;
+use tre_star::compose_sets::compose_sets_up_to;
+use tre_zone::Interval;
+use tre_zoneset::ZoneSet;
+
+/// The short ones of all matches of an expression.
+pub fn shortened(all: ZoneSet, longest: Option<u64>) -> Result<ZoneSet, AllocError>
+    requires { IsLongest longest }
+    ensures { IfOk result (λ zones. (tree : PatternTree) (rest : Rest)
+        → HoldExactly all (MatchesRest tree rest)
+        → HoldExactly zones (Lasting (LastsUpTo longest) (MatchesRest tree rest))) }
+{
+    all.up_to(longest)
+}
+
+/// The matches of a sequence, of those of its parts.
+pub fn followed(
+    alloc: Global,
+    first: &ZoneSet,
+    second: &ZoneSet,
+    longest: Option<u64>,
+) -> Result<ZoneSet, AllocError>
+    requires { IsLongest longest }
+    ensures { IfOk result (λ zones. (left right : PatternTree) (rest : Rest)
+        → HoldExactly first.now (Lasting (LastsUpTo longest) (MatchesRest left rest))
+        → HoldExactly second.now (Lasting (LastsUpTo longest) (MatchesRest right rest))
+        → HoldExactly zones
+        (Lasting (LastsUpTo longest) (MatchesRest (sequence left right) rest))) }
+{
+    // For the proof: the calls say that both are sets of zones.
+    let _first = first.zones();
+    let _second = second.zones();
+    compose_sets_up_to(alloc, first, second, longest)
+}
+
+/// The matches of an alternation, of those of its parts: with parts cut to any longest duration.
+pub fn joined(mut one: ZoneSet, other: &ZoneSet) -> Result<ZoneSet, AllocError>
+    ensures { IfOk result (λ zones. (longest : Option ℕ) (left right : PatternTree) (rest : Rest)
+        → HoldExactly one (Lasting (LastsUpTo longest) (MatchesRest left rest))
+        → HoldExactly other.now (Lasting (LastsUpTo longest) (MatchesRest right rest))
+        → HoldExactly zones
+        (Lasting (LastsUpTo longest) (MatchesRest (alternation left right) rest))) }
+{
+    one.join(other)?;
+    Ok(one)
+}
+
+/// The matches of an intersection, of those of its parts: with parts cut to any longest duration.
+pub fn met(one: &ZoneSet, other: &ZoneSet) -> Result<ZoneSet, AllocError>
+    ensures { IfOk result (λ zones. (longest : Option ℕ) (left right : PatternTree) (rest : Rest)
+        → HoldExactly one.now (Lasting (LastsUpTo longest) (MatchesRest left rest))
+        → HoldExactly other.now (Lasting (LastsUpTo longest) (MatchesRest right rest))
+        → HoldExactly zones
+        (Lasting (LastsUpTo longest) (MatchesRest (intersection left right) rest))) }
+{
+    one.meet(other)
+}
+
+/// The matches of a repetition, of those of its part, over a rest from `begin` to `end`.
+pub fn repeated(
+    alloc: Global,
+    step: &ZoneSet,
+    begin: u64,
+    end: u64,
+    longest: Option<u64>,
+) -> Result<ZoneSet, AllocError>
+    requires order { begin ≤ end }
+    requires limit { end ≤ TIME_MAX }
+    requires longest { IsLongest longest }
+    ensures { IfOk result (λ zones. (tree : PatternTree) (rest : Rest)
+        → begin ≡ rest.start → end ≡ end_of rest.start rest.segments
+        → HoldExactly step.now (Lasting (LastsUpTo longest) (MatchesRest tree rest))
+        → HoldExactly zones (Lasting (LastsUpTo longest) (MatchesRest (repetition tree) rest))) }
+{
+    // For the proof: the call says that it is a set of zones.
+    let _step = step.zones();
+    closure_up_to(alloc, step, begin, end, longest)
+}
+
+/// The matches of a restriction to the interval, of those of its part: its part may be cut to an
+/// `inner` longest duration that is the longest for all durations in the interval.
+pub fn restricted(all: &ZoneSet, interval: &Interval) -> Result<ZoneSet, AllocError>
+    ensures { IfOk result (λ zones. (inner longest : Option ℕ) (tree : PatternTree) (rest : Rest)
+        → ((d n : ℕ) → LastsWithin interval.now d n → LastsUpTo inner d n ↔ LastsUpTo longest d n)
+        → HoldExactly all.now (Lasting (LastsUpTo inner) (MatchesRest tree rest))
+        → HoldExactly zones
+        (Lasting (LastsUpTo longest) (MatchesRest (restriction tree interval.now) rest))) }
+{
+    all.within(interval)
+}

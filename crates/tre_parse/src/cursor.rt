@@ -1,0 +1,117 @@
+ghost use Rattle.std.specs.Prelude.{◌≡◌, ◌↔◌, ℕ, List, IsTrue, length};
+ghost use Rattle.tre_parse.specs.declared.token.Token.{Token};
+ghost use Rattle.tre_parse.specs.Front.{front, tail};
+ghost use Rattle.tre_parse.specs.Reading.{Closes};
+
+use crate::token::Token;
+use std::alloc::{AllocError, AllocFailed};
+use std::marker::Model;
+
+/// The tokens that are still to be read.
+#[derive(Drop)]
+pub(crate) struct Cursor<'a> {
+    tokens: &'a [Token],
+}
+
+impl<'a> Model for Cursor<'a> {
+    ghost Value = { List Token };
+
+    ghost view = { λ c. c.tokens.now };
+}
+
+impl<'a> Cursor<'a> {
+    pub(crate) fn new(tokens: &'a [Token]) -> Cursor<'a>
+        ensures { result ≡ tokens.now }
+    {
+        Cursor { tokens }
+    }
+
+    /// How many tokens are left.
+    pub(crate) fn left(&self) -> usize
+        ensures { result ≡ length self.now }
+    {
+        self.tokens.len()
+    }
+
+    /// The next token, `EndOfText` where there is none.
+    pub(crate) fn peek(&self) -> Token
+        ensures { result ≡ front self.now }
+    {
+        match self.tokens.first() {
+            Some(token) => *token,
+            None => Token::EndOfText,
+        }
+    }
+
+    /// Goes past the next token.
+    pub(crate) fn advance(&mut self)
+        ensures { self.new ≡ tail self.old }
+    {
+        if let Some((_, rest)) = self.tokens.split_first() {
+            self.tokens = rest;
+        }
+    }
+
+    /// Goes past a `)`.
+    pub(crate) fn close_paren(&mut self) -> Result<(), Stop>
+        ensures { Closes Token.RightParen result self.old self.new }
+    {
+        match self.peek() {
+            Token::RightParen => {
+                self.advance();
+                Ok(())
+            }
+            _ => Err(self.refused()),
+        }
+    }
+
+    /// Goes past a `}`.
+    pub(crate) fn close_brace(&mut self) -> Result<(), Stop>
+        ensures { Closes Token.RightBrace result self.old self.new }
+    {
+        match self.peek() {
+            Token::RightBrace => {
+                self.advance();
+                Ok(())
+            }
+            _ => Err(self.refused()),
+        }
+    }
+
+    /// The fault that the next token can't stand where it does.
+    pub(crate) fn refused(&self) -> Stop
+        ensures { result ≡ Stop.Syntax (length self.now) }
+    {
+        Stop::Syntax { left: self.left() }
+    }
+}
+
+/// Why reading stops.
+#[derive(Clone, Copy, Debug)]
+pub(crate) enum Stop {
+    /// The next token can't stand where it does. So many are left with it, and none at the end.
+    Syntax { left: usize },
+    Memory,
+}
+
+impl From<AllocError> for Stop {
+    ghost use Rattle.std.specs.Prelude.{◌≡◌};
+    ghost use Rattle.tre_parse.specs.declared.cursor.Stop.{Stop};
+
+    ghost from_gives = { λ _ stop. stop ≡ Stop.Memory };
+
+    fn from(_: AllocError) -> Stop {
+        Stop::Memory
+    }
+}
+
+impl<T: Drop> From<AllocFailed<T>> for Stop {
+    ghost use Rattle.std.specs.Prelude.{◌≡◌};
+    ghost use Rattle.tre_parse.specs.declared.cursor.Stop.{Stop};
+
+    ghost from_gives = { λ _ stop. stop ≡ Stop.Memory };
+
+    fn from(_: AllocFailed<T>) -> Stop {
+        Stop::Memory
+    }
+}

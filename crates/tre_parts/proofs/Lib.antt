@@ -1,0 +1,4 @@
+mod Cuts
+pub mod Walks
+mod Feeding
+mod Fed

@@ -1,0 +1,15 @@
+use Rattle.std.proofs.Common.{◌≡◌, ◌+◌, ◌^◌, ◌≤◌, ℕ, List, ◌++◌, length, false}
+use Rattle.tre_parts.specs.Format.{reading_of}
+use Rattle.tre_parts.specs.Walk.{IsAt, Takes}
+use Rattle.tre_parts.proofs.Feeding.{IsFed}
+use Rattle.tre_parts.proofs.walk.Walk.feed.Given as goal
+
+abbrev pub invariant-loop-place : goal.invariant-loop-place
+invariant-loop-place g l =
+    IsFed g.R.PartReader.names g.R.PartReader.format g.R.PartReader.holds
+    l.initial.self.reader l.initial.self.part.items l.initial.self.spot l.initial.segments.items
+    l.initial.rest
+    l.self.reader l.self.part.items l.self.spot l.segments.items l.rest
+
+abbrev pub decreases-loop-place : goal.decreases-loop-place
+decreases-loop-place g l = length l.rest

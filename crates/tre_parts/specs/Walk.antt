@@ -1,0 +1,82 @@
+-- Where a reader is in its input, and what a call does that takes bytes of it.
+use Rattle.std.specs.Prelude.{◌≡◌, ◌≢◌, ℕ, ◌+◌, ◌<◌, ◌≤◌, Bool, true, false, List, [], ◌∷◌, ◌++◌, length, take, slice_index, Option, Result, Ok, Err}
+use Rattle.std.specs.List.{All}
+use Rattle.tre_parts.specs.Format.{Format, Step, behind, reading_from, reading_of}
+use Rattle.tre_parts.specs.declared.TheConstants.{PART_MAX}
+use Rattle.tre_parts.specs.declared.said.Said.{Said}
+use Rattle.tre_parts.specs.declared.said.Said.TheVariants.{Nothing, Says, Wrong}
+use Rattle.tre_parts.specs.declared.spot.Spot.{Spot}
+use Rattle.tre_trace.specs.Reading.{Reading, Adds, IsRefused}
+use Rattle.tre_trace.specs.declared.segment.Segment.{Segment}
+use Rattle.tre_trace.specs.declared.fault.TraceFault.{TraceFault}
+use Rattle.tre_trace.specs.declared.fault.TraceKind.{TraceKind}
+use Rattle.tre_trace.specs.declared.fault.TraceKind.TheVariants.{Memory, Spent}
+
+-- no separator stands in the bytes
+abbrev pub IsInside : (ℕ → Bool) → List ℕ → Type 0
+IsInside separates bytes = All (λ byte. separates byte ≡ false) bytes
+
+-- the first separator among the bytes is at this place
+pub record EndsAt (separates : ℕ → Bool) (bytes : List ℕ) (place : ℕ) : Type 0 where
+  pub within : place < length bytes
+  pub inside : IsInside separates (take place bytes)
+  pub ends : separates (slice_index bytes place) ≡ true
+
+-- a part said these segments, and the state behind it is held
+pub record GoesOn {State : Type 0} (said : Result (Step State) TraceKind) (segments : List Segment)
+    (holds : State → Type 0) : Type 0 where
+  pub state : State
+  pub says : said ≡ Ok (record { segments = segments; state = state })
+  pub is_held : holds state
+
+-- a part has this fault, or no memory was found
+pub record IsWrong {State : Type 0} (said : Result (Step State) TraceKind) (kind : TraceKind) : Type
+    0 where
+  pub says : kind ≢ Memory → said ≡ Err kind
+  pub never_spent : kind ≢ Spent
+
+-- what a reader told of a part is what the part says, and the reader holds the state behind it
+abbrev pub Tells : {State : Type 0} → Result (Step State) TraceKind → (State → Type 0) → Said
+    → Type 0
+Tells said holds Nothing = GoesOn said [] holds
+Tells said holds (Says segment) = GoesOn said (segment ∷ []) holds
+Tells said holds (Wrong kind) = IsWrong said kind
+
+-- The reader has read these bytes and found no fault: it holds a state, it kept the part that
+-- isn't ended yet, and what follows is read from there.
+pub record IsAt {Reader State : Type 0} (names_of : Reader → List (List ℕ)) (format : List (List ℕ)
+    → Format State) (holds : Reader → State → Type 0)
+    (names : List (List ℕ)) (reader : Reader) (part : List ℕ) (spot : Spot) (bytes : List ℕ) : Type
+    0 where
+  pub named : names_of reader ≡ names
+  pub state : State
+  pub is_held : holds reader state
+  pub told : List Segment
+  pub follows : (closed : Bool) (more : List ℕ) →
+      reading_of (format names) closed (bytes ++ more) ≡ behind told (reading_from (format names)
+      closed state spot (part ++ more))
+  pub inside : IsInside (format names).separates part
+  pub short : length part ≤ PART_MAX
+  pub counts : spot.offset + length part ≡ length bytes
+  pub few : spot.number ≤ spot.offset + 1
+
+-- A part was read and put its segments behind the others.
+pub record AddsPart {State : Type 0} (said : Result (Step State) TraceKind) (holds : State → Type 0)
+    (old new : List Segment) : Type 0 where
+  pub segments : List Segment
+  pub goes_on : GoesOn said segments holds
+  pub added : new ≡ old ++ segments
+
+-- A part was refused, and no segment added.
+pub record IsRefusedPart {State : Type 0} (said : Result (Step State) TraceKind) (place : ℕ)
+    (old new : List Segment) (fault : TraceFault) : Type 0 where
+  pub wrong : IsWrong said fault.kind
+  pub at_place : fault.kind ≢ Memory → fault.place ≡ place
+  pub same : new ≡ old
+
+-- A call that read more bytes: Ok says that the reader is behind them, and what it put behind the
+-- old segments is what they say; a fault is the first one that they say.
+abbrev pub Takes : {T : Type 0} → Type 0 → List Segment → List Segment → Reading → Reading
+    → Result T TraceFault → Type 0
+Takes IsBehind old new before now (Ok _) = IsBehind × Adds old new before now
+Takes IsBehind old new before now (Err fault) = IsRefused old new before now fault

@@ -1,0 +1,10 @@
+use tre_trace::{Segment, TraceKind};
+
+/// What a part says.
+#[derive(Clone, Copy, Debug, PartialEq, Eq)]
+pub enum Said {
+    Nothing,
+    Says(Segment),
+    /// It has a fault, or no memory was found to read it.
+    Wrong(TraceKind),
+}

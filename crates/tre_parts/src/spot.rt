@@ -1,0 +1,26 @@
+ghost use Rattle.std.specs.Prelude.{◌≡◌, ◌+◌, ◌≤◌};
+ghost use Rattle.tre_parts.specs.declared.spot.Spot.{Spot};
+
+use tre_trace::FED_MAX;
+
+/// Where a part begins.
+#[derive(Clone, Copy, Debug, PartialEq, Eq)]
+pub struct Spot {
+    /// Its number, from 1.
+    pub number: u64,
+    /// The offset of its first byte, from 0.
+    pub offset: u64,
+}
+
+impl Spot {
+    // Where the next part begins, behind a part of this length and its separator.
+    pub fn after(self, len: usize) -> Spot
+        ensures { self.offset + len + 1 ≤ FED_MAX → self.number ≤ self.offset + 1 →
+            result ≡ record { number = self.number + 1; offset = self.offset + len + 1 } }
+    {
+        Spot {
+            number: self.number.saturating_add(1),
+            offset: self.offset.saturating_add(len as u64).saturating_add(1),
+        }
+    }
+}

@@ -1,0 +1,188 @@
+// Where a reader is in its input.
+ghost use Rattle.std.specs.Prelude.{◌≡◌, ◌≢◌, ℕ, ◌+◌, ◌^◌, ◌≤◌, List, [], ◌∷◌, None, ◌++◌, length, true, false, OnOk, OnErr, IfErr};
+ghost use Rattle.tre_parts.specs.Format.{reading_of, part_says};
+ghost use Rattle.tre_parts.specs.Walk.{IsInside, IsAt, AddsPart, IsRefusedPart, EndsAt, Takes};
+ghost use Rattle.tre_trace.specs.declared.fault.TraceKind.TheVariants.{Spent};
+ghost use Rattle.tre_trace.specs.declared.segment.Segment.{Segment};
+
+use crate::{PART_MAX, PartReader, Said, Spot};
+use std::alloc::Global;
+use tre_trace::{FED_MAX, Segment, TraceFault, TraceKind};
+
+// The reader of the parts, the part that isn't ended yet, and where it begins.
+#[derive(Drop)]
+pub struct Walk<R> {
+    pub reader: R,
+    pub part: Vec<u8>,
+    pub spot: Spot,
+}
+
+// Reads a part, and puts the segment that it says behind the others.
+fn add_part<R: PartReader>(
+    reader: &mut R,
+    spot: Spot,
+    part: &[u8],
+    segments: &mut Vec<Segment>,
+) -> Result<(), TraceFault>
+    ensures adds { (state : R.State) → R.holds reader.old state →
+        OnOk result (AddsPart (part_says (R.format (R.names reader.old)) state part.now)
+        (R.holds reader.new) segments.old.items segments.new.items) }
+    ensures refused { (state : R.State) → R.holds reader.old state →
+        IfErr result (IsRefusedPart (part_says (R.format (R.names reader.old)) state part.now)
+        ((R.format (R.names reader.old)).place spot) segments.old.items segments.new.items) }
+    ensures never_spent { IfErr result (λ fault. fault.kind ≢ Spent) }
+    ensures same_names { R.names reader.new ≡ R.names reader.old }
+{
+    let place = reader.place(spot);
+    if part.len() > PART_MAX {
+        let kind = TraceKind::LineTooLong;
+        return Err(TraceFault { place, kind });
+    }
+    match reader.read(part) {
+        Said::Nothing => Ok(()),
+        Said::Says(segment) => match segments.push(segment) {
+            Ok(()) => Ok(()),
+            Err(_) => Err(out_of_memory()),
+        },
+        Said::Wrong(TraceKind::Memory) => Err(out_of_memory()),
+        Said::Wrong(kind) => Err(TraceFault { place, kind }),
+    }
+}
+
+fn out_of_memory() -> TraceFault
+    ensures { result ≡ record { place = 0; kind = TraceKind.Memory } }
+{
+    let kind = TraceKind::Memory;
+    TraceFault { place: 0, kind }
+}
+
+impl<R: PartReader> Walk<R> {
+    // Keeps bytes of a part that isn't ended yet.
+    fn keep(&mut self, more: &[u8]) -> Result<(), TraceFault>
+        ensures takes { (names : List (List ℕ)) (bytes : List ℕ) (segments : List Segment) →
+            IsAt R.names R.format R.holds names self.old.reader self.old.part.items self.old.spot
+            bytes →
+            IsInside (R.format names).separates more.now →
+            Takes (IsAt R.names R.format R.holds names self.new.reader self.new.part.items
+            self.new.spot (bytes ++ more.now))
+            segments segments (reading_of (R.format names) false bytes)
+            (reading_of (R.format names) false (bytes ++ more.now)) result }
+        ensures never_spent { IfErr result (λ fault. fault.kind ≢ Spent) }
+        ensures same_reader { self.new.reader ≡ self.old.reader }
+    {
+        if self.part.len() + more.len() > PART_MAX {
+            let place = self.reader.place(self.spot);
+            let kind = TraceKind::LineTooLong;
+            return Err(TraceFault { place, kind });
+        }
+        match self.part.extend_from_slice(more) {
+            Ok(()) => Ok(()),
+            Err(_) => Err(out_of_memory()),
+        }
+    }
+
+    // Reads a part that lies whole in these bytes, behind which a separator stands.
+    fn end_here(&mut self, part: &[u8], segments: &mut Vec<Segment>) -> Result<(), TraceFault>
+        requires { self.old.part.items ≡ [] }
+        ensures takes { (names : List (List ℕ)) (bytes : List ℕ) (separator : ℕ) →
+            IsAt R.names R.format R.holds names self.old.reader self.old.part.items self.old.spot
+            bytes →
+            IsInside (R.format names).separates part.now → (R.format names).separates separator
+            ≡ true →
+            length bytes + length part.now + 1 ≤ FED_MAX →
+            Takes (IsAt R.names R.format R.holds names self.new.reader self.new.part.items
+            self.new.spot (bytes ++ (part.now ++ separator ∷ [])))
+            segments.old.items segments.new.items (reading_of (R.format names) false bytes)
+            (reading_of (R.format names) false (bytes ++ (part.now ++ separator ∷ []))) result }
+        ensures never_spent { IfErr result (λ fault. fault.kind ≢ Spent) }
+        ensures same_names { R.names self.new.reader ≡ R.names self.old.reader }
+    {
+        add_part(&mut self.reader, self.spot, part, segments)?;
+        self.spot = self.spot.after(part.len());
+        Ok(())
+    }
+
+    // Reads the part that was kept, behind which a separator stands.
+    fn end_kept(&mut self, segments: &mut Vec<Segment>) -> Result<(), TraceFault>
+        ensures takes { (names : List (List ℕ)) (bytes : List ℕ) (separator : ℕ) →
+            IsAt R.names R.format R.holds names self.old.reader self.old.part.items self.old.spot
+            bytes →
+            (R.format names).separates separator ≡ true → length bytes + 1 ≤ FED_MAX →
+            Takes (IsAt R.names R.format R.holds names self.new.reader self.new.part.items
+            self.new.spot (bytes ++ separator ∷ []))
+            segments.old.items segments.new.items (reading_of (R.format names) false bytes)
+            (reading_of (R.format names) false (bytes ++ separator ∷ [])) result }
+        ensures never_spent { IfErr result (λ fault. fault.kind ≢ Spent) }
+        ensures same_names { R.names self.new.reader ≡ R.names self.old.reader }
+    {
+        add_part(&mut self.reader, self.spot, &self.part, segments)?;
+        self.spot = self.spot.after(self.part.len());
+        self.part.clear();
+        Ok(())
+    }
+    // Reads the part that ends behind these bytes, where a separator stands.
+    fn end_part(&mut self, front: &[u8], segments: &mut Vec<Segment>) -> Result<(), TraceFault>
+        ensures takes { (names : List (List ℕ)) (bytes : List ℕ) (separator : ℕ) →
+            IsAt R.names R.format R.holds names self.old.reader self.old.part.items self.old.spot
+            bytes →
+            IsInside (R.format names).separates front.now → (R.format names).separates separator
+            ≡ true →
+            length bytes + length front.now + 1 ≤ FED_MAX →
+            Takes (IsAt R.names R.format R.holds names self.new.reader self.new.part.items
+            self.new.spot (bytes ++ (front.now ++ separator ∷ [])))
+            segments.old.items segments.new.items (reading_of (R.format names) false bytes)
+            (reading_of (R.format names) false (bytes ++ (front.now ++ separator ∷ []))) result }
+        ensures never_spent { IfErr result (λ fault. fault.kind ≢ Spent) }
+        ensures same_names { R.names self.new.reader ≡ R.names self.old.reader }
+    {
+        if self.part.is_empty() {
+            self.end_here(front, segments)?;
+            return Ok(());
+        }
+        self.keep(front)?;
+        self.end_kept(segments)?;
+        Ok(())
+    }
+
+    // Reads a piece: the parts that end in it, and then what is kept of it.
+    pub fn feed(&mut self, piece: &[u8], segments: &mut Vec<Segment>) -> Result<(), TraceFault>
+        ensures takes { (names : List (List ℕ)) (bytes : List ℕ) →
+            IsAt R.names R.format R.holds names self.old.reader self.old.part.items self.old.spot
+            bytes →
+            length bytes + length piece.now ≤ FED_MAX →
+            Takes (IsAt R.names R.format R.holds names self.new.reader self.new.part.items
+            self.new.spot (bytes ++ piece.now))
+            segments.old.items segments.new.items (reading_of (R.format names) false bytes)
+            (reading_of (R.format names) false (bytes ++ piece.now)) result }
+        ensures never_spent { IfErr result (λ fault. fault.kind ≢ Spent) }
+        ensures same_names { R.names self.new.reader ≡ R.names self.old.reader }
+    {
+        let mut rest = piece;
+        while let Some(place) = self.reader.separator_in(rest) {
+            self.end_part(&rest[..place], segments)?;
+            rest = &rest[place + 1..];
+        }
+        self.keep(rest)?;
+        Ok(())
+    }
+
+    // Reads the end of the input, which is at this offset.
+    pub fn finish(&mut self, end: u64, segments: &mut Vec<Segment>) -> Result<(), TraceFault>
+        ensures takes { (names : List (List ℕ)) (bytes : List ℕ) →
+            IsAt R.names R.format R.holds names self.old.reader self.old.part.items self.old.spot
+            bytes →
+            end ≡ length bytes →
+            Takes ((reading_of (R.format names) true bytes).fault ≡ None) segments.old.items
+            segments.new.items
+            (reading_of (R.format names) false bytes) (reading_of (R.format names) true bytes)
+            result }
+        ensures never_spent { IfErr result (λ fault. fault.kind ≢ Spent) }
+        ensures same_names { R.names self.new.reader ≡ R.names self.old.reader }
+    {
+        add_part(&mut self.reader, self.spot, &self.part, segments)?;
+        match self.reader.at_end() {
+            None => Ok(()),
+            Some(kind) => Err(TraceFault { place: end, kind }),
+        }
+    }
+}

@@ -1,0 +1,68 @@
+-- What sets of zones hold, where the first time is not after the second.
+use Rattle.std.proofs.Common.{ℕ, ◌<◌, ◌≤◌, List, [], ◌∷◌, ⊎_elim}
+use Rattle.std.proofs.Math.Nat.{mul-le-mul_left, le_of_mul-le-mul_left}
+use Rattle.tre_pairs.specs.Pairs.{Composed}
+use Rattle.tre_pairs.proofs.Agreement.{Agree-Composed}
+use Rattle.tre_pairs.proofs.Laws.{Scales, IsOrdered, Agree}
+use Rattle.tre_pairs.proofs.Order.{IsOrdered-Composed}
+use Rattle.tre_zone.specs.ZoneList.{SetHolds, AreCanonical, HoldExactly}
+use Rattle.tre_zone.specs.declared.zone_bounds.ZoneBounds.{ZoneBounds}
+use Rattle.tre_zone.proofs.Scaling.{SetHolds-scale, canonical-frame}
+use Rattle.tre_zone.proofs.ZoneListLemmas.{SetHolds-empty}
+use Rattle.tre_zoneset.specs.ZoneSet.{IsZoneSet}
+use Rattle.tre_residual.specs.Residual.{Held, IsComposition}
+
+pub Scales-Held : (zones : List ZoneBounds) → Scales (Held zones)
+Scales-Held zones = record {
+  up = λ k a b n pos h. record {
+    rising = mul-le-mul_left k h.rising;
+    held = (SetHolds-scale zones k a b n pos).0 h.held;
+  };
+  down = λ k a b n pos h. record {
+    rising = le_of_mul-le-mul_left h.rising pos;
+    held = (SetHolds-scale zones k a b n pos).1 h.held;
+  };
+}
+
+pub IsOrdered-Held : (zones : List ZoneBounds) → IsOrdered (Held zones)
+IsOrdered-Held zones = record { le = λ a b n h. h.rising }
+
+pub Held-empty : (a b n : ℕ) → Held [] a b n → ⊥
+Held-empty a b n h = SetHolds-empty a b n h.held
+
+-- The pairs of a set of zones are ordered.
+SetHolds-le : (zones : List ZoneBounds) → AreCanonical zones → (a b n : ℕ) → 0 < n
+    → SetHolds zones a b n → a ≤ b
+unfolding SetHolds AreCanonical
+SetHolds-le [] all a b n some h = absurd h
+SetHolds-le (zone ∷ zones) all a b n some h =
+    ⊎_elim (λ x. (canonical-frame zone all.0 a b n some x).rising)
+    (λ x. SetHolds-le zones all.1 a b n some x) h
+
+Agree-Held : (zones : List ZoneBounds) → IsZoneSet zones → Agree (Held zones) (SetHolds zones)
+Agree-Held zones set = record {
+  at = λ a b n some. (
+    (λ h. h.held),
+    (λ h. record { rising = SetHolds-le zones set.canonical a b n some h; held = h }),
+  );
+}
+
+pub composed_exact : (first second zones : List ZoneBounds) → IsZoneSet first → IsZoneSet second
+    → HoldExactly zones (Composed (SetHolds first) (SetHolds second))
+    → IsComposition zones first second
+composed_exact first second zones one other held =
+    let same = Agree-Composed (Held first) (SetHolds first) (Held second) (SetHolds second)
+    (Agree-Held first one) (Agree-Held second other) in
+    let ordered = IsOrdered-Composed (Held first) (Held second) (IsOrdered-Held first)
+    (IsOrdered-Held second) in
+    record {
+      pairs = λ a b n some. (
+        (λ h. (same.at a b n some).1 ((held.exact a b n some h.rising).0 h.held)),
+        (λ h.
+            let le = ordered.le a b n h in
+            record {
+              rising = le;
+              held = (held.exact a b n some le).1 ((same.at a b n some).0 h);
+            }),
+      );
+    }

@@ -1,0 +1,4 @@
+pub mod HeldSets
+pub mod Meanings
+pub mod Crossings
+pub mod Forms

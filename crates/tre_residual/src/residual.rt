@@ -1,0 +1,204 @@
+ghost use Rattle.std.specs.Prelude.{ℕ, ◌↔◌, ◌<◌, ◌≡◌, [], IfOk, IsTrue};
+ghost use Rattle.tre_state.specs.declared.names.TheConstants.{NAMES_MAX};
+ghost use Rattle.tre_syntax.specs.Expr.{tree_of};
+ghost use Rattle.tre_syntax.specs.PatternTree.{NumbersBelow};
+ghost use Rattle.tre_residual.specs.Residual.{nothing, here, joined, preceded, followed, either, both, lasting, residual_tree, IsWellAt, Builds, IsComposition};
+
+use std::alloc::{AllocError, Global};
+use tre_star::compose_sets::compose_sets;
+use tre_syntax::Expr;
+use tre_zone::Interval;
+use tre_zoneset::ZoneSet;
+
+/// Pairs of times, each of which begins up to a time, the present one, and ends at it or later:
+/// what comes next in the trace decides.
+#[derive(Debug, Drop)]
+pub enum Residual {
+    /// No pair.
+    Nil,
+    /// The pairs of the set, each of which ends at the present time.
+    Here(ZoneSet),
+    /// A pair of the set up to the present time, and then a match of what comes next.
+    At(ZoneSet, Expr),
+    /// A pair of the set, and then one of the residual.
+    Pre(ZoneSet, Box<Residual>),
+    /// A pair of the residual, and then a match of what comes next.
+    Post(Box<Residual>, Expr),
+    /// One of the two.
+    Or(Box<Residual>, Box<Residual>),
+    /// Both, of the same two times.
+    Both(Box<Residual>, Box<Residual>),
+    /// With its duration in the interval.
+    Dur(Box<Residual>, Interval),
+}
+
+impl Residual {
+    /// A pair of the set, and then one of the residual. The set goes as far into the residual as it
+    /// can, so that what can no longer begin falls away.
+    pub fn pre(alloc: Global, zones: ZoneSet, residual: Residual) -> Result<Residual, AllocError>
+        ensures { IfOk result (λ whole.
+            Builds (residual_tree whole) (preceded zones (residual_tree residual))) }
+    {
+        if zones.is_empty() {
+            return Ok(Residual::Nil);
+        }
+        match residual {
+            Residual::Nil => Ok(Residual::Nil),
+            Residual::Here(ended) => here_after(alloc, &zones, &ended),
+            Residual::At(begun, expr) => at_after(alloc, &zones, &begun, expr),
+            Residual::Pre(first, rest) => pre_after(alloc, &zones, &first, rest),
+            Residual::Post(first, expr) => {
+                let first = Residual::pre(alloc, zones, Box::into_inner(first))?;
+                followed_by(alloc, first, expr)
+            }
+            Residual::Or(one, other) => {
+                let copy = zones.try_clone()?;
+                let one = Residual::pre(alloc, copy, Box::into_inner(one))?;
+                let other = Residual::pre(alloc, zones, Box::into_inner(other))?;
+                Residual::or(alloc, one, other)
+            }
+            Residual::Both(one, other) => {
+                let residual = Box::new(alloc, Residual::Both(one, other))?;
+                Ok(Residual::Pre(zones, residual))
+            }
+            Residual::Dur(inner, interval) => {
+                let residual = Box::new(alloc, Residual::Dur(inner, interval))?;
+                Ok(Residual::Pre(zones, residual))
+            }
+        }
+    }
+
+    /// A pair of the residual, and then a match of the expression.
+    pub fn post(alloc: Global, residual: Residual, expr: Expr) -> Result<Residual, AllocError>
+        requires numbers { NumbersBelow NAMES_MAX (tree_of expr) }
+        ensures builds { IfOk result (λ whole.
+            Builds (residual_tree whole) (followed (residual_tree residual) (tree_of expr))) }
+        ensures well { IfOk result (λ whole. (time : ℕ)
+            → IsWellAt time (residual_tree residual) → IsWellAt time (residual_tree whole)) }
+    {
+        followed_by(alloc, residual, expr)
+    }
+
+    /// A pair of one of the two.
+    pub fn or(alloc: Global, one: Residual, other: Residual) -> Result<Residual, AllocError>
+        ensures { IfOk result (λ whole.
+            Builds (residual_tree whole) (either (residual_tree one) (residual_tree other))) }
+    {
+        if one.is_nil() {
+            return Ok(other);
+        }
+        if other.is_nil() {
+            return Ok(one);
+        }
+        let one = Box::new(alloc, one)?;
+        let other = Box::new(alloc, other)?;
+        Ok(Residual::Or(one, other))
+    }
+
+    /// A pair of both.
+    pub fn both(alloc: Global, one: Residual, other: Residual) -> Result<Residual, AllocError>
+        ensures { IfOk result (λ whole.
+            Builds (residual_tree whole) (both (residual_tree one) (residual_tree other))) }
+    {
+        if one.is_nil() || other.is_nil() {
+            return Ok(Residual::Nil);
+        }
+        let one = Box::new(alloc, one)?;
+        let other = Box::new(alloc, other)?;
+        Ok(Residual::Both(one, other))
+    }
+
+    /// A pair of the residual with its duration in the interval.
+    pub fn dur(
+        alloc: Global,
+        residual: Residual,
+        interval: Interval,
+    ) -> Result<Residual, AllocError>
+        ensures { IfOk result (λ whole.
+            Builds (residual_tree whole) (lasting (residual_tree residual) interval)) }
+    {
+        if residual.is_nil() {
+            return Ok(Residual::Nil);
+        }
+        let residual = Box::new(alloc, residual)?;
+        Ok(Residual::Dur(residual, interval))
+    }
+
+    /// Whether it is `Nil`.
+    pub fn is_nil(&self) -> bool
+        ensures { IsTrue result ↔ (residual_tree self.now ≡ nothing) }
+    {
+        match self {
+            Residual::Nil => true,
+            _ => false,
+        }
+    }
+}
+
+// The pairs of a set followed by pairs that are here.
+fn here_after(alloc: Global, zones: &ZoneSet, ended: &ZoneSet) -> Result<Residual, AllocError>
+    ensures { IfOk result (λ whole.
+        Builds (residual_tree whole) (preceded zones.now (here ended.now))) }
+{
+    let whole = composed(alloc, zones, ended)?;
+    if whole.is_empty() {
+        return Ok(Residual::Nil);
+    }
+    Ok(Residual::Here(whole))
+}
+
+// The pairs of a set followed by pairs that a match of the expression goes on.
+fn at_after(
+    alloc: Global,
+    zones: &ZoneSet,
+    begun: &ZoneSet,
+    expr: Expr,
+) -> Result<Residual, AllocError>
+    ensures { IfOk result (λ whole.
+        Builds (residual_tree whole) (preceded zones.now (joined begun.now (tree_of expr)))) }
+{
+    let whole = composed(alloc, zones, begun)?;
+    if whole.is_empty() {
+        return Ok(Residual::Nil);
+    }
+    Ok(Residual::At(whole, expr))
+}
+
+// The pairs of a set followed by those of another, and then by the residual.
+fn pre_after(
+    alloc: Global,
+    zones: &ZoneSet,
+    first: &ZoneSet,
+    rest: Box<Residual>,
+) -> Result<Residual, AllocError>
+    ensures { IfOk result (λ whole. Builds (residual_tree whole)
+        (preceded zones.now (preceded first.now (residual_tree rest.value)))) }
+{
+    let whole = composed(alloc, zones, first)?;
+    if whole.is_empty() {
+        return Ok(Residual::Nil);
+    }
+    Ok(Residual::Pre(whole, rest))
+}
+
+// A pair of the residual, and then a match of the expression, whose names are of no account here.
+fn followed_by(alloc: Global, residual: Residual, expr: Expr) -> Result<Residual, AllocError>
+    ensures { IfOk result (λ whole.
+        Builds (residual_tree whole) (followed (residual_tree residual) (tree_of expr))) }
+{
+    if residual.is_nil() {
+        return Ok(Residual::Nil);
+    }
+    let residual = Box::new(alloc, residual)?;
+    Ok(Residual::Post(residual, expr))
+}
+
+// The pairs of the first set, each followed by one of the second.
+fn composed(alloc: Global, first: &ZoneSet, second: &ZoneSet) -> Result<ZoneSet, AllocError>
+    ensures { IfOk result (λ zones. IsComposition zones first.now second.now) }
+{
+    // For the proof: the calls say that both are sets of zones.
+    let _first = first.zones();
+    let _second = second.zones();
+    compose_sets(alloc, first, second)
+}

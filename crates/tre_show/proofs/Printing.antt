@@ -1,0 +1,154 @@
+-- A printed text is that of one list of zones, and of one end.
+use Rattle.std.proofs.Common.{◌≡◌, ℕ, ◌≤◌, ◌==◌, List, [], ◌∷◌, ◌++◌, append_assoc, refl, sym, ◌∙◌, arith, ℤ, pos, ◌≤ℤ◌}
+use Rattle.std.specs.Prelude.{codes, decimal}
+use Rattle.std.proofs.lemmas.Int.{ints}
+use Rattle.tre_pairs.specs.declared.TheConstants.{TIME_MAX}
+use Rattle.tre_zone.specs.Bound.{weakness_of, sum_of}
+use Rattle.tre_zone.specs.Zone.{IsCanonical}
+use Rattle.tre_zone.specs.declared.zone_bounds.ZoneBounds.{ZoneBounds}
+use Rattle.tre_zone.proofs.Bounds.{split, split-sum}
+use Rattle.tre_zone.proofs.Tightness.{canonical-keys}
+use Rattle.tre_zone.proofs.ZoneKeys.{zones_same}
+use Rattle.tre_zone.specs.ZoneList.{AreCanonical}
+use Rattle.tre_show.specs.Line.{line_of, lines_of, offline_text}
+use Rattle.tre_show.proofs.Ranges.{range_text, behind_byte, number_end, no_range, range_text-bytes, AreRangeKeys, range_once}
+
+-- ---- the keys of a canonical zone
+
+-- where two bounds leave room for a pair and the lower one is at most 0, the higher one is at least
+-- 0
+up_from : (low high : ℤ) → pos 1 ≤ℤ sum_of low high → low ≤ℤ pos 1 → pos 0 ≤ℤ high
+up_from low high loop down =
+    let a = split low in let b = split high in let d = split-sum low high in omega (arith, ints)
+
+-- a sum of two bounds that are at most 0 is at most 0
+down_from : (key left right : ℤ) → key ≤ℤ sum_of left right → left ≤ℤ pos 1 → right ≤ℤ pos 1
+    → key ≤ℤ pos 1
+down_from key left right le p q =
+    let a = split left in let b = split right in let d = split-sum left right in omega (arith, ints)
+
+-- the keys of each of its three ranges
+begin_keys : (zone : ZoneBounds) → IsCanonical zone → AreRangeKeys zone.begin_low zone.begin_high
+begin_keys zone canonical =
+    let keys = canonical-keys zone canonical in
+    record {
+      down = canonical.framed.starts;
+      up = up_from zone.begin_low zone.begin_high canonical.room.begin_loop canonical.framed.starts;
+      low_within = keys.begin_low;
+      high_within = keys.begin_high;
+    }
+
+end_keys : (zone : ZoneBounds) → IsCanonical zone → AreRangeKeys zone.end_low zone.end_high
+end_keys zone canonical =
+    let keys = canonical-keys zone canonical in
+    let down = down_from zone.end_low zone.begin_low zone.dur_low canonical.closed.end_low
+    canonical.framed.starts canonical.framed.lasts in
+    record {
+      down = down;
+      up = up_from zone.end_low zone.end_high canonical.room.end_loop down;
+      low_within = keys.end_low;
+      high_within = keys.end_high;
+    }
+
+dur_keys : (zone : ZoneBounds) → IsCanonical zone → AreRangeKeys zone.dur_low zone.dur_high
+dur_keys zone canonical =
+    let keys = canonical-keys zone canonical in
+    record {
+      down = canonical.framed.lasts;
+      up = up_from zone.dur_low zone.dur_high canonical.room.dur_loop canonical.framed.lasts;
+      low_within = keys.dur_low;
+      high_within = keys.dur_high;
+    }
+
+-- ---- lines and texts
+
+-- the pieces of a line, one after the other
+line_pieces : (p q r xs : List ℕ) → (p ++ codes " " ++ q ++ codes " " ++ r ++ codes "\n") ++ xs
+    ≡ p ++ (32 ∷ (q ++ (32 ∷ (r ++ (10 ∷ xs)))))
+line_pieces p q r xs = simp append_assoc
+
+line_of-pieces : (zone : ZoneBounds) (xs : List ℕ)
+    → line_of zone ++ xs ≡ range_text zone.begin_low zone.begin_high ++
+    (32 ∷ (range_text zone.end_low zone.end_high ++
+    (32 ∷ (range_text zone.dur_low zone.dur_high ++ (10 ∷ xs)))))
+line_of-pieces zone xs =
+    line_pieces (range_text zone.begin_low zone.begin_high) (range_text zone.end_low zone.end_high)
+    (range_text zone.dur_low zone.dur_high) xs
+
+-- The text of a line tells its zone and what follows it.
+line_once : (zone other : ZoneBounds) (xs ys : List ℕ) → IsCanonical zone → IsCanonical other
+    → line_of zone ++ xs ≡ line_of other ++ ys → (zone ≡ other) × (xs ≡ ys)
+line_once zone other xs ys canonical canonical' e =
+    let begin = range_once zone.begin_low zone.begin_high other.begin_low other.begin_high
+    (32 ∷ (range_text zone.end_low zone.end_high ++
+    (32 ∷ (range_text zone.dur_low zone.dur_high ++ (10 ∷ xs)))))
+    (32 ∷ (range_text other.end_low other.end_high ++
+    (32 ∷ (range_text other.dur_low other.dur_high ++ (10 ∷ ys)))))
+    (begin_keys zone canonical) (begin_keys other canonical')
+    (sym (line_of-pieces zone xs) ∙ e ∙ line_of-pieces other ys) in
+    let end = range_once zone.end_low zone.end_high other.end_low other.end_high
+    (32 ∷ (range_text zone.dur_low zone.dur_high ++ (10 ∷ xs)))
+    (32 ∷ (range_text other.dur_low other.dur_high ++ (10 ∷ ys)))
+    (end_keys zone canonical) (end_keys other canonical') (behind_byte 32 _ _ begin.2) in
+    let dur = range_once zone.dur_low zone.dur_high other.dur_low other.dur_high (10 ∷ xs) (10 ∷ ys)
+    (dur_keys zone canonical) (dur_keys other canonical') (behind_byte 32 _ _ end.2) in
+    (zones_same zone other begin.0 begin.1 end.0 end.1 dur.0 dur.1, behind_byte 10 xs ys dur.2)
+
+-- A line begins with a bracket, and the end's line with the letter e.
+no_line : (zone : ZoneBounds) (xs ys : List ℕ) → 101 ∷ ys ≡ line_of zone ++ xs → ⊥
+no_line zone xs ys e = no_range (weakness_of zone.begin_low == 1) _ ys
+    (e ∙ line_of-pieces zone xs ∙ range_text-bytes zone.begin_low zone.begin_high _)
+
+-- The lines before the end's line tell the zones, and the end's line is what follows.
+lines_once : (zones others : List ZoneBounds) (xs ys : List ℕ) → AreCanonical zones
+    → AreCanonical others
+    → lines_of zones ++ (101 ∷ xs) ≡ lines_of others ++ (101 ∷ ys) → (zones ≡ others) × (xs ≡ ys)
+unfolding lines_of AreCanonical
+lines_once [] [] xs ys p q e = (refl, cc)
+lines_once [] (other ∷ others) xs ys p q e = absurd
+    (no_line other (lines_of others ++ (101 ∷ ys)) xs
+    (e ∙ append_assoc (line_of other) (lines_of others) (101 ∷ ys)))
+lines_once (zone ∷ zones) [] xs ys p q e = absurd
+    (no_line zone (lines_of zones ++ (101 ∷ xs)) ys
+    (sym e ∙ append_assoc (line_of zone) (lines_of zones) (101 ∷ xs)))
+lines_once (zone ∷ zones) (other ∷ others) xs ys p q e =
+    let line = line_once zone other (lines_of zones ++ (101 ∷ xs))
+    (lines_of others ++ (101 ∷ ys)) p.0 q.0
+    (sym (append_assoc (line_of zone) (lines_of zones) (101 ∷ xs)) ∙ e
+    ∙ append_assoc (line_of other) (lines_of others) (101 ∷ ys)) in
+    let lines = lines_once zones others xs ys p.1 q.1 line.1 in
+    let first : zone ≡ other = line.0 in
+    let rest : zones ≡ others = lines.0 in
+    (cc, lines.1)
+
+-- the line of the end behind its letter e
+abbrev end_bytes : ℕ → List ℕ
+end_bytes end = 110 ∷ 100 ∷ 32 ∷ (decimal end ++ (10 ∷ []))
+
+offline_text-lines : (zones : List ZoneBounds) (end : ℕ)
+    → offline_text zones end ≡ lines_of zones ++ (101 ∷ end_bytes end)
+unfolding offline_text
+offline_text-lines zones end = simp append_assoc
+
+-- The whole text tells the zones and the line of the end.
+text_once : (zones others : List ZoneBounds) (end other : ℕ) → AreCanonical zones
+    → AreCanonical others
+    → offline_text zones end ≡ offline_text others other
+    → (zones ≡ others) × (end_bytes end ≡ end_bytes other)
+text_once zones others end other p q e =
+    lines_once zones others (end_bytes end) (end_bytes other) p q
+    (sym (offline_text-lines zones end) ∙ e ∙ offline_text-lines others other)
+
+pub zones_once : (zones others : List ZoneBounds) (end other : ℕ) → AreCanonical zones
+    → AreCanonical others → offline_text zones end ≡ offline_text others other → zones ≡ others
+zones_once zones others end other p q e = (text_once zones others end other p q e).0
+
+pub end_once : (zones others : List ZoneBounds) (end other : ℕ) → AreCanonical zones
+    → AreCanonical others
+    → end ≤ TIME_MAX → other ≤ TIME_MAX → offline_text zones end ≡ offline_text others other
+    → end ≡ other
+end_once zones others end other p q small_end small_other e =
+    let bytes : end_bytes end ≡ end_bytes other = (text_once zones others end other p q e).1 in
+    let numbers : decimal end ++ (10 ∷ []) ≡ decimal other ++ (10 ∷ []) = cc in
+    (number_end end other 10 10 [] [] (omega (arith, small_end)) (omega (arith, small_other))
+    (omega arith) (omega arith) numbers).0

@@ -1,0 +1,234 @@
+-- The text of a range tells its two bounds and what follows it.
+use Rattle.std.proofs.Common.{◌≡◌, ℕ, ◌<◌, ◌≤◌, ◌^◌, ◌==◌, Bool, true, false, List, [], ◌∷◌, ◌++◌, append_assoc, refl, sym, ap, ◌∙◌, arith, ℤ, pos, negsuc, neg_ℤ, ◌≤ℤ◌, nat_abs}
+use Rattle.std.specs.Prelude.{codes, decimal, if◌then◌else◌}
+use Rattle.std.proofs.lemmas.Int.{ints}
+use Rattle.std.proofs.lemmas.Bool.Decides.{nat_tests}
+use Rattle.std.proofs.lemmas.Fmt.{decimal_is_IsNumeral}
+use Rattle.std.specs.Char.{digit_value}
+use Rattle.std.specs.Str.Parse.{AllDigits, digits_value}
+use Rattle.tre_zone.specs.Bound.{value_of, weakness_of, IsKeyWithin}
+use Rattle.tre_zone.proofs.Bounds.{split}
+use Rattle.tre_show.specs.Interval.{interval_text}
+use Rattle.tre_zone.specs.Ranges.{range_of}
+
+-- ---- a byte and what follows it
+
+-- two lists that are the same begin with the same byte
+first_byte : (byte other : ℕ) (xs ys : List ℕ) → byte ∷ xs ≡ other ∷ ys → byte ≡ other
+first_byte byte other xs ys e = cc
+
+-- and go on in the same way behind it
+pub behind_byte : (byte : ℕ) (xs ys : List ℕ) → byte ∷ xs ≡ byte ∷ ys → xs ≡ ys
+behind_byte byte xs ys e = cc
+
+-- ---- a number, and then a byte that is no digit
+
+-- The first byte that is no digit ends the digits before it.
+digits_end : (ds es : List ℕ) (c d : ℕ) (xs ys : List ℕ) → AllDigits 10 ds → AllDigits 10 es
+    → 10 ≤ digit_value c → 10 ≤ digit_value d
+    → ds ++ (c ∷ xs) ≡ es ++ (d ∷ ys) → (ds ≡ es) × (c ∷ xs ≡ d ∷ ys)
+digits_end [] [] c d xs ys p q u v e = (refl, e)
+digits_end [] (b ∷ es) c d xs ys p q u v e =
+    let same : c ≡ b = cc in
+    let at : digit_value c ≡ digit_value b = ap digit_value same in
+    let small : digit_value b < 10 = q.0 in
+    absurd (omega arith)
+digits_end (a ∷ ds) [] c d xs ys p q u v e =
+    let same : a ≡ d = cc in
+    let at : digit_value a ≡ digit_value d = ap digit_value same in
+    let small : digit_value a < 10 = p.0 in
+    absurd (omega arith)
+digits_end (a ∷ ds) (b ∷ es) c d xs ys p q u v e =
+    let first : a ≡ b = cc in
+    let behind : ds ++ (c ∷ xs) ≡ es ++ (d ∷ ys) = cc in
+    let rest = digits_end ds es c d xs ys p.1 q.1 u v behind in
+    let digits : ds ≡ es = rest.0 in
+    (cc, rest.1)
+
+-- The digits of a number tell the number.
+pub number_end : (m n c d : ℕ) (xs ys : List ℕ) → m < 2 ^ 64 → n < 2 ^ 64 → 10 ≤ digit_value c
+    → 10 ≤ digit_value d
+    → decimal m ++ (c ∷ xs) ≡ decimal n ++ (d ∷ ys) → (m ≡ n) × (c ∷ xs ≡ d ∷ ys)
+number_end m n c d xs ys small_m small_n u v e =
+    let p = decimal_is_IsNumeral m small_m in
+    let q = decimal_is_IsNumeral n small_n in
+    let ends = digits_end (decimal m) (decimal n) c d xs ys p.0.1 q.0.1 u v e in
+    (sym p.1 ∙ ap (digits_value 10) ends.0 ∙ q.1, ends.1)
+
+-- ---- a range of two bounds
+
+-- The byte of the left bracket: a square one includes an end.
+abbrev pub left_of : Bool → ℕ
+left_of weak = if weak then 91 else 40
+
+-- The byte of the right one.
+abbrev pub right_of : Bool → ℕ
+right_of weak = if weak then 93 else 41
+
+-- A range begins with a bracket, and not with the letter e.
+pub no_range : (weak : Bool) (xs ys : List ℕ) → 101 ∷ ys ≡ left_of weak ∷ xs → ⊥
+no_range true xs ys e = let first = first_byte 101 91 ys xs e in absurd (omega arith)
+no_range false xs ys e = let first = first_byte 101 40 ys xs e in absurd (omega arith)
+
+-- the left bracket tells whether the end is included
+left_once : (one other : Bool) → left_of one ≡ left_of other → one ≡ other
+left_once true true e = refl
+left_once true false e = absurd (omega arith)
+left_once false true e = absurd (omega arith)
+left_once false false e = refl
+
+-- so does the right one
+right_once : (one other : Bool) → right_of one ≡ right_of other → one ≡ other
+right_once true true e = refl
+right_once true false e = absurd (omega arith)
+right_once false true e = absurd (omega arith)
+right_once false false e = refl
+
+-- the right bracket ends the digits before it
+right_no_digit : (weak : Bool) → 10 ≤ digit_value (right_of weak)
+right_no_digit true = omega arith
+right_no_digit false = omega arith
+
+-- a range and what follows it, byte by byte
+abbrev pub range_bytes : Bool → ℕ → ℕ → Bool → List ℕ → List ℕ
+range_bytes low_weak low high high_weak xs =
+    left_of low_weak ∷ (decimal low ++ (44 ∷ (decimal high ++ (right_of high_weak ∷ xs))))
+
+-- the pieces of a range, one after the other
+brackets_round : (left right : ℕ) (low high xs : List ℕ)
+    → (((left ∷ []) ++ low ++ (44 ∷ [])) ++ (high ++ (right ∷ []))) ++ xs
+    ≡ left ∷ (low ++ (44 ∷ (high ++ (right ∷ xs))))
+brackets_round left right low high xs =
+    append_assoc (left ∷ (low ++ (44 ∷ []))) (high ++ (right ∷ [])) xs
+    ∙ ap (λ rest. left ∷ rest) (append_assoc low (44 ∷ []) ((high ++ (right ∷ [])) ++ xs))
+    ∙ ap (λ rest. left ∷ (low ++ (44 ∷ rest))) (append_assoc high (right ∷ []) xs)
+
+range_pieces : (low_weak high_weak : Bool) (low high xs : List ℕ)
+    → (((if low_weak then codes "[" else codes "(") ++ low ++ codes ",")
+    ++ (high ++ (if high_weak then codes "]" else codes ")"))) ++ xs
+    ≡ left_of low_weak ∷ (low ++ (44 ∷ (high ++ (right_of high_weak ∷ xs))))
+range_pieces true true low high xs = brackets_round 91 93 low high xs
+range_pieces true false low high xs = brackets_round 91 41 low high xs
+range_pieces false true low high xs = brackets_round 40 93 low high xs
+range_pieces false false low high xs = brackets_round 40 41 low high xs
+
+-- The text between two bounds.
+abbrev pub range_text : ℤ → ℤ → List ℕ
+range_text low high = interval_text (range_of low high)
+
+pub range_text-bytes : (low high : ℤ) (xs : List ℕ)
+    → range_text low high ++ xs ≡ range_bytes (weakness_of low == 1) (nat_abs (value_of low))
+    (nat_abs (value_of high)) (weakness_of high == 1) xs
+range_text-bytes low high xs =
+    range_pieces (weakness_of low == 1) (weakness_of high == 1) (decimal (nat_abs (value_of low)))
+    (decimal (nat_abs (value_of high))) xs
+
+-- The bytes of a range tell its brackets, its numbers and what follows it.
+parts_once : (a b a' b' : Bool) (m n m' n' : ℕ) (xs ys : List ℕ) → m < 2 ^ 64 → n < 2 ^ 64
+    → m' < 2 ^ 64 → n' < 2 ^ 64
+    → range_bytes a m n b xs ≡ range_bytes a' m' n' b' ys
+    → (a ≡ a') × (m ≡ m') × (n ≡ n') × (b ≡ b') × (xs ≡ ys)
+parts_once a b a' b' m n m' n' xs ys p q p' q' e =
+    let first : left_of a ≡ left_of a' = cc in
+    let behind : decimal m ++ (44 ∷ (decimal n ++ (right_of b ∷ xs))) ≡ decimal m' ++
+    (44 ∷ (decimal n' ++ (right_of b' ∷ ys))) = cc in
+    let low = number_end m m' 44 44 (decimal n ++ (right_of b ∷ xs))
+    (decimal n' ++ (right_of b' ∷ ys)) p p' (omega arith) (omega arith) behind in
+    let comma : 44 ∷ (decimal n ++ (right_of b ∷ xs)) ≡ 44 ∷ (decimal n' ++ (right_of b' ∷ ys)) =
+    low.1 in
+    let behind_comma : decimal n ++ (right_of b ∷ xs) ≡ decimal n' ++ (right_of b' ∷ ys) = cc in
+    let high = number_end n n' (right_of b) (right_of b') xs ys q q' (right_no_digit b)
+    (right_no_digit b') behind_comma in
+    let closed : right_of b ∷ xs ≡ right_of b' ∷ ys = high.1 in
+    let last : right_of b ≡ right_of b' = cc in
+    (left_once a a' first, low.0, high.0, right_once b b' last, cc)
+
+-- ---- the keys of a range
+
+-- The keys of a range of a canonical zone: the lower bound is at most 0, the higher one is at least
+-- 0.
+pub record AreRangeKeys (low high : ℤ) : Type 0 where
+  pub down : low ≤ℤ pos 1
+  pub up : pos 0 ≤ℤ high
+  pub low_within : IsKeyWithin (2 ^ 42) low
+  pub high_within : IsKeyWithin (2 ^ 42) high
+
+-- a value within bounds has a size within bounds
+nat_abs-within : (value : ℤ) → neg_ℤ (pos (2 ^ 42)) ≤ℤ value → value ≤ℤ pos (2 ^ 42)
+    → nat_abs value < 2 ^ 64
+nat_abs-within (pos n) low high = omega (arith, ints)
+nat_abs-within (negsuc n) low high = omega (arith, ints)
+
+-- a key within bounds has a value that is printed whole
+printed_within : (key : ℤ) → IsKeyWithin (2 ^ 42) key → nat_abs (value_of key) < 2 ^ 64
+printed_within key within =
+    let own = split key in
+    nat_abs-within (value_of key) (omega (arith, ints, within.low))
+    (omega (arith, ints, within.high))
+
+-- Values that are both at most 0 are the same where their sizes are.
+same_down : (one other : ℤ) → one ≤ℤ pos 0 → other ≤ℤ pos 0 → nat_abs one ≡ nat_abs other
+    → one ≡ other
+same_down (pos m) (pos n) p q e = omega (arith, ints)
+same_down (pos m) (negsuc n) p q e = omega (arith, ints)
+same_down (negsuc m) (pos n) p q e = omega (arith, ints)
+same_down (negsuc m) (negsuc n) p q e = omega (arith, ints)
+
+-- the same of values that are both at least 0
+same_up : (one other : ℤ) → pos 0 ≤ℤ one → pos 0 ≤ℤ other → nat_abs one ≡ nat_abs other
+    → one ≡ other
+same_up (pos m) (pos n) p q e = omega (arith, ints)
+same_up (pos m) (negsuc n) p q e = omega (arith, ints)
+same_up (negsuc m) (pos n) p q e = omega (arith, ints)
+same_up (negsuc m) (negsuc n) p q e = omega (arith, ints)
+
+-- a weakness is 0 or 1, so that the bracket tells it
+same_weakness : (one other : ℕ) → one ≤ 1 → other ≤ 1 → (one == 1) ≡ (other == 1) → one ≡ other
+same_weakness one other p q e = grind (arith, nat_tests)
+
+-- a value and a weakness tell the key
+key_once : (one other : ℤ) → (weakness_of one == 1) ≡ (weakness_of other == 1)
+    → value_of one ≡ value_of other → one ≡ other
+key_once one other weak value =
+    let own = split one in
+    let its = split other in
+    let same = same_weakness (weakness_of one) (weakness_of other) own.small its.small weak in
+    omega (arith, ints)
+
+-- The number and the bracket of a lower bound tell its key.
+low_once : (one other : ℤ) → one ≤ℤ pos 1 → other ≤ℤ pos 1
+    → (weakness_of one == 1) ≡ (weakness_of other == 1)
+    → nat_abs (value_of one) ≡ nat_abs (value_of other) → one ≡ other
+low_once one other p q weak size =
+    let own = split one in
+    let its = split other in
+    key_once one other weak (same_down (value_of one) (value_of other) (omega (arith, ints))
+    (omega (arith, ints)) size)
+
+-- Those of a higher bound tell its key.
+high_once : (one other : ℤ) → pos 0 ≤ℤ one → pos 0 ≤ℤ other
+    → (weakness_of one == 1) ≡ (weakness_of other == 1)
+    → nat_abs (value_of one) ≡ nat_abs (value_of other) → one ≡ other
+high_once one other p q weak size =
+    let own = split one in
+    let its = split other in
+    key_once one other weak (same_up (value_of one) (value_of other) (omega (arith, ints))
+    (omega (arith, ints)) size)
+
+-- The text of a range tells its two keys and what follows it.
+pub range_once : (low high low' high' : ℤ) (xs ys : List ℕ) → AreRangeKeys low high
+    → AreRangeKeys low' high'
+    → range_text low high ++ xs ≡ range_text low' high' ++ ys
+    → (low ≡ low') × (high ≡ high') × (xs ≡ ys)
+range_once low high low' high' xs ys keys keys' e =
+    let parts = parts_once (weakness_of low == 1) (weakness_of high == 1) (weakness_of low' == 1)
+    (weakness_of high' == 1)
+    (nat_abs (value_of low)) (nat_abs (value_of high)) (nat_abs (value_of low'))
+    (nat_abs (value_of high')) xs ys
+    (printed_within low keys.low_within) (printed_within high keys.high_within)
+    (printed_within low' keys'.low_within) (printed_within high' keys'.high_within)
+    (sym (range_text-bytes low high xs) ∙ e ∙ range_text-bytes low' high' ys) in (
+      low_once low low' keys.down keys'.down parts.0 parts.1,
+      high_once high high' keys.up keys'.up parts.3 parts.2,
+      parts.4,
+    )

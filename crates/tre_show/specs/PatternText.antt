@@ -1,0 +1,36 @@
+-- The text of an expression, over the names of its propositions.
+use Rattle.std.specs.Prelude.{ℕ, nat_lt, List, ◌++◌, codes}
+use Rattle.tre_syntax.specs.PatternTree.{Atom, empty, literal, rise, fall}
+use Rattle.tre_syntax.specs.PatternTree.{PatternTree, atom, sequence, alternation, intersection}
+use Rattle.tre_syntax.specs.PatternTree.{repetition, restriction}
+use Rattle.tre_show.specs.declared.pattern.TheConstants.{ALTERNATION, INTERSECTION, SEQUENCE}
+use Rattle.tre_show.specs.declared.pattern.TheConstants.{POSTFIX}
+use Rattle.tre_show.specs.Interval.{interval_text}
+use Rattle.tre_show.specs.StateText.{in_parens, state_text, literal_text}
+
+abbrev pub atom_text : List (List ℕ) → Atom → List ℕ
+atom_text names empty = codes "eps"
+atom_text names (literal state) = literal_text names state
+atom_text names (rise state) = codes "rise(" ++ state_text names state ++ codes ")"
+atom_text names (fall state) = codes "fall(" ++ state_text names state ++ codes ")"
+
+-- The text of an expression as an operand: in parentheses where its operator binds less than
+-- `least`. From the loosest, operators are `|`, `&`, `;`, and then the signs behind an operand.
+abbrev pub operand_text : ℕ → List (List ℕ) → PatternTree → List ℕ
+operand_text least names (atom x) = atom_text names x
+operand_text least names (sequence e f) =
+    in_parens (nat_lt SEQUENCE least)
+    (operand_text SEQUENCE names e ++ codes ";" ++ operand_text POSTFIX names f)
+operand_text least names (intersection e f) =
+    in_parens (nat_lt INTERSECTION least)
+    (operand_text INTERSECTION names e ++ codes " & " ++ operand_text SEQUENCE names f)
+operand_text least names (alternation e f) =
+    in_parens (nat_lt ALTERNATION least)
+    (operand_text ALTERNATION names e ++ codes " | " ++ operand_text INTERSECTION names f)
+operand_text least names (repetition e) = operand_text POSTFIX names e ++ codes "*"
+operand_text least names (restriction e ends) =
+    operand_text POSTFIX names e ++ codes " % " ++ interval_text ends
+
+-- The text of an expression.
+abbrev pub expression_text : List (List ℕ) → PatternTree → List ℕ
+expression_text names tree = operand_text ALTERNATION names tree

@@ -1,0 +1,23 @@
+//! Laws of the printed texts, each as a function whose contract it is.
+ghost use Rattle.std.specs.Prelude.{◌≡◌, ◌≤◌, ℕ, List};
+ghost use Rattle.tre_pairs.specs.declared.TheConstants.{TIME_MAX};
+ghost use Rattle.tre_zone.specs.declared.zone_bounds.ZoneBounds.{ZoneBounds};
+ghost use Rattle.tre_zone.specs.Zone.{IsCanonical};
+ghost use Rattle.tre_zone.specs.ZoneList.{AreCanonical};
+ghost use Rattle.tre_show.specs.Line.{line_of, offline_text, TellsZone};
+
+/// The line of a zone tells exactly the pairs that the zone holds.
+pub fn line_tells_zone()
+    ensures { (zone : ZoneBounds) → IsCanonical zone → TellsZone (line_of zone) zone }
+{}
+
+/// A printed text is that of one list of zones, and of one end. The end of a trace is at most
+/// `TIME_MAX`.
+pub fn one_text()
+    ensures zones { (zones others : List ZoneBounds) (end other : ℕ) →
+        AreCanonical zones → AreCanonical others →
+        offline_text zones end ≡ offline_text others other → zones ≡ others }
+    ensures end { (zones others : List ZoneBounds) (end other : ℕ) →
+        AreCanonical zones → AreCanonical others → end ≤ TIME_MAX → other ≤ TIME_MAX →
+        offline_text zones end ≡ offline_text others other → end ≡ other }
+{}

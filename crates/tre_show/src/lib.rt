@@ -1,0 +1,29 @@
+//! What Montre prints: the line of a zone, the text of a whole match, and the text of a pattern.
+//!
+//! [`zone_line`] appends the line of a zone: three ranges that tell exactly the pairs that the zone
+//! holds. [`offline_text`] is the text of a whole match, of zones that [`printed_order`] puts in
+//! order. [`pattern_text`] is the text of a pattern, which spells it. The layers above may rely on
+//! the definitions of the three texts, and on the laws of them that stand in [`laws`]: one text is
+//! that of one list of zones and one end.
+//!
+//! ```text
+//! let zones = printed_order(alloc, &set)?;
+//! let text = offline_text(alloc, &zones, trace.end())?; // [0,3) (0,3] (0,3], end 3
+//! let spelling = pattern_text(alloc, &pattern)?; // (rise(p);p;fall(p)) % [2,inf)
+//! ```
+#![tactic(auto)]
+
+pub use line::zone_line;
+pub use offline::offline_text;
+pub use order::printed_order;
+pub use pattern::pattern_text;
+
+mod interval;
+pub mod laws;
+mod line;
+mod offline;
+mod order;
+mod pattern;
+mod state;
+#[cfg(test)]
+mod tests;

@@ -1,0 +1,113 @@
+// The text of a pattern.
+ghost use Rattle.std.specs.Prelude.{◌≡◌, ◌++◌, codes, string_bytes, IfOk, OnOk};
+ghost use Rattle.tre_state.specs.State.{tree_of as state_tree_of};
+ghost use Rattle.tre_syntax.specs.Expr.{tree_of};
+ghost use Rattle.tre_syntax.specs.Pattern.{pattern_tree, names_of};
+ghost use Rattle.tre_zone.specs.Interval.{IsInterval};
+ghost use Rattle.tre_parse.specs.Outcome.{IsSpelling, Outcome, IsOutcome};
+ghost use Rattle.tre_show.specs.ReadBack.{IsReadBack};
+ghost use Rattle.tre_show.specs.Interval.{interval_text};
+ghost use Rattle.tre_show.specs.Intervals.{HasIntervals};
+ghost use Rattle.tre_show.specs.StateText.{state_text};
+ghost use Rattle.tre_show.specs.PatternText.{operand_text, expression_text};
+
+use crate::interval::push_interval;
+use crate::state::{push_close, push_literal, push_open, push_state, push_text};
+use std::alloc::{AllocError, Global};
+use tre_state::{Names, State};
+use tre_syntax::{Expr, Pattern};
+use tre_zone::Interval;
+
+// How strongly the operators of expressions bind.
+const ALTERNATION: u8 = 0;
+
+const INTERSECTION: u8 = 1;
+
+const SEQUENCE: u8 = 2;
+
+const POSTFIX: u8 = 3;
+
+/// The text of the pattern, which spells it.
+///
+/// It goes as deep as the expression does, which is at most as deep as a pattern has nodes.
+pub fn pattern_text(alloc: Global, pattern: &Pattern) -> Result<String, AllocError>
+    ensures text { IfOk result (λ text. string_bytes text
+        ≡ expression_text (names_of pattern.now) (pattern_tree pattern.now)) }
+    ensures spelling { IfOk result (λ text.
+        IsSpelling (string_bytes text) (pattern_tree pattern.now) (names_of pattern.now)) }
+    ensures outcome { IfOk result (λ text.
+        (outcome : Outcome) → IsOutcome (string_bytes text) outcome →
+        IsReadBack (pattern_tree pattern.now) (names_of pattern.now) outcome) }
+{
+    let names = pattern.names();
+    // For the proof: the call says that the names are names, and no two of them the same.
+    let _count = names.len();
+    let mut text = String::new(alloc);
+    push_operand(&mut text, names, pattern.expr(), ALTERNATION)?;
+    Ok(text)
+}
+
+// The text of an expression, in parentheses where its operator binds less than `least`.
+fn push_operand(text: &mut String, names: &Names, expr: &Expr, least: u8) -> Result<(), AllocError>
+    ensures text { OnOk result (string_bytes text.new
+        ≡ string_bytes text.old ++ operand_text least names.now (tree_of expr.now)) }
+    ensures intervals { OnOk result (HasIntervals (tree_of expr.now)) }
+{
+    match expr {
+        Expr::Eps => push_text(text, "eps"),
+        Expr::Lit(state) => push_literal(text, names, state),
+        Expr::Rise(state) => push_edge(text, "rise(", names, state),
+        Expr::Fall(state) => push_edge(text, "fall(", names, state),
+        Expr::Seq(e, f) => {
+            push_open(text, SEQUENCE < least)?;
+            push_operand(text, names, e, SEQUENCE)?;
+            push_text(text, ";")?;
+            push_operand(text, names, f, POSTFIX)?;
+            push_close(text, SEQUENCE < least)
+        }
+        Expr::Meet(e, f) => {
+            push_open(text, INTERSECTION < least)?;
+            push_operand(text, names, e, INTERSECTION)?;
+            push_text(text, " & ")?;
+            push_operand(text, names, f, SEQUENCE)?;
+            push_close(text, INTERSECTION < least)
+        }
+        Expr::Alt(e, f) => {
+            push_open(text, ALTERNATION < least)?;
+            push_operand(text, names, e, ALTERNATION)?;
+            push_text(text, " | ")?;
+            push_operand(text, names, f, INTERSECTION)?;
+            push_close(text, ALTERNATION < least)
+        }
+        Expr::Star(e) => {
+            push_operand(text, names, e, POSTFIX)?;
+            push_text(text, "*")
+        }
+        Expr::Within(e, interval) => {
+            push_operand(text, names, e, POSTFIX)?;
+            push_duration(text, interval)
+        }
+    }
+}
+
+// The text of an edge of a state.
+fn push_edge(text: &mut String, edge: &str, names: &Names, state: &State) -> Result<(), AllocError>
+    ensures { OnOk result (string_bytes text.new ≡ string_bytes text.old
+        ++ (edge.now ++ state_text names.now (state_tree_of state.now) ++ codes ")")) }
+{
+    push_text(text, edge)?;
+    push_state(text, names, state)?;
+    push_text(text, ")")?;
+    Ok(())
+}
+
+// The interval that durations are restricted to.
+fn push_duration(text: &mut String, interval: &Interval) -> Result<(), AllocError>
+    ensures text { OnOk result (string_bytes text.new
+        ≡ string_bytes text.old ++ (codes " % " ++ interval_text interval.now)) }
+    ensures interval { OnOk result (IsInterval interval.now) }
+{
+    push_text(text, " % ")?;
+    push_interval(text, interval)?;
+    Ok(())
+}

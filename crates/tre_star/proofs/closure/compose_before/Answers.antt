@@ -1,0 +1,35 @@
+use Rattle.tre_zone.specs.Longest.{LastsUpTo}
+use Rattle.tre_star.proofs.Short.{short_additive}
+use Rattle.std.proofs.Common.{refl}
+use Rattle.tre_pairs.specs.Pairs.{Pairs, Composed, Lasting}
+use Rattle.tre_zone.specs.Zone.{ZoneHolds}
+use Rattle.tre_zone.specs.ZoneList.{SetHolds}
+use Rattle.tre_zone.proofs.ZoneListLemmas.{SetHolds-empty}
+use Rattle.tre_zoneset.proofs.Unions.{HoldExactly-each, HoldExactly-none, HoldExactly-all}
+use Rattle.tre_star.proofs.Composing.{Composed-additive_right}
+use Rattle.tre_star.proofs.closure.compose_before.Goals as goal
+
+pub loop-zone-init : goal.loop-zone-init
+loop-zone-init c =
+    rw c.new-found.ensures.items (HoldExactly-none _
+    (λ a b n h. SetHolds-empty _ _ _ h.related.right))
+
+pub loop-zone-preserved : goal.loop-zone-preserved
+loop-zone-preserved c =
+    HoldExactly-each
+    (λ (R : Pairs). Lasting (LastsUpTo c.args.longest) (Composed (SetHolds c.args.steps.now) R))
+    (short_additive (LastsUpTo c.args.longest) (Composed (SetHolds c.args.steps.now))
+    (Composed-additive_right (SetHolds c.args.steps.now))) c.loop-zone.found.items
+    c.gather_before.new.found.items c.args.zones.now c.loop-zone.zone-index c.zone-item.result
+    (Lasting (LastsUpTo c.args.longest)
+    (Composed (SetHolds c.args.steps.now) (ZoneHolds c.zone-item.result))) c.loop-zone-test.true
+    c.zone-item.is c.loop-zone.invariant c.in_ok-gather_before.ensures
+    (λ a b n some le. ((λ h. h), (λ h. h)))
+
+pub returns : goal.returns
+returns c =
+    HoldExactly-all
+    (λ (R : Pairs). Lasting (LastsUpTo c.args.longest) (Composed (SetHolds c.args.steps.now) R))
+    c.loop-zone.found.items
+    c.args.zones.now c.args.zones.now c.loop-zone.zone-index c.loop-zone-test.false refl
+    c.loop-zone.invariant

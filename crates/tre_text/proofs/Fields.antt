@@ -1,0 +1,143 @@
+-- How a line is cut into fields.
+use Rattle.std.proofs.Common.{◌≡◌, ◌≢◌, ℕ, zero, suc, ◌+◌, ◌-◌, ◌<◌, ◌≤◌, Bool, true, false, cond, nat_eq, ◌==◌, List, [], ◌∷◌, ◌++◌, append-nil, length, get_or, take, drop, refl, sym, ap, ◌∙◌, arith, drop-cons, take-append-drop, length-take, if◌then◌else◌}
+use Rattle.std.proofs.Math.Seq.{drop-length, take-length}
+use Rattle.std.specs.List.{slice_split, position_or_len}
+use Rattle.std.proofs.lemmas.Bool.Decides.{nat_tests}
+use Rattle.std.proofs.lemmas.List.{length-drop}
+use Rattle.std.proofs.lemmas.List.Elements.{All-from_get_or}
+use Rattle.std.proofs.lemmas.List.Splits.{slice_split-cons_yes, slice_split_none, slice_split_first}
+use Rattle.std.proofs.lemmas.List.Sums.{fails_before_first}
+use Rattle.tre_parts.specs.Joins.{join_parts, HasFirst, slice_split-has, slice_split-append}
+use Rattle.tre_text.specs.TraceLines.{IsField}
+use Rattle.tre_text.specs.TextReading.{is_blank, without_return, with_bytes, fields_among}
+
+-- a blank in front says nothing
+fields-blank : (byte : ℕ) (bytes : List ℕ) → is_blank byte ≡ true → fields_among (byte ∷ bytes)
+    ≡ fields_among bytes
+fields-blank byte bytes blank = ap with_bytes (slice_split-cons_yes is_blank byte bytes blank)
+
+pub fields-drop : (bytes : List ℕ) (i : ℕ) → i < length bytes → is_blank (get_or bytes i 0) ≡ true
+    → fields_among (drop i bytes) ≡ fields_among (drop (i + 1) bytes)
+fields-drop bytes i below blank =
+    let one : i + 1 ≡ suc i = omega arith in
+    rw (one, drop-cons bytes i 0 below) (fields-blank (get_or bytes i 0) (drop (suc i) bytes) blank)
+
+-- a line without a byte, and one with a last byte
+pub no_return : (bytes : List ℕ) (last : ℕ) → (last == 13) ≡ false → without_return
+    (bytes ++ last ∷ []) ≡ bytes ++ last ∷ []
+no_return [] last other = rw other refl
+no_return (byte ∷ []) last other = rw other refl
+no_return (byte ∷ next ∷ bytes) last other = ap (λ rest. byte ∷ rest) (no_return (next ∷ bytes) last
+    other)
+
+pub with_return : (bytes : List ℕ) (last : ℕ) → (last == 13) ≡ true → without_return
+    (bytes ++ last ∷ []) ≡ bytes
+with_return [] last return = rw return refl
+with_return (byte ∷ []) last return = rw return refl
+with_return (byte ∷ next ∷ bytes) last return = ap (λ rest. byte ∷ rest) (with_return (next ∷ bytes)
+    last return)
+
+-- a line with bytes is its front and its last byte
+pub front_and_last : (line : List ℕ) → 0 < length line → line ≡ take (length line - 1) line ++
+    get_or line (length line - 1) 0 ∷ []
+front_and_last line some =
+    let one : suc (length line - 1) ≡ length line = omega arith in
+    sym (take-append-drop (length line - 1) line)
+    ∙ ap (λ rest. take (length line - 1) line ++ rest)
+    (drop-cons line (length line - 1) 0 (omega arith)
+    ∙ ap (λ (rest : List ℕ). get_or line (length line - 1) 0 ∷ rest) (ap (λ n. drop n line) one
+    ∙ drop-length line))
+
+is_return : (byte : ℕ) → byte ≡ 13 → (byte == 13) ≡ true
+is_return byte is = rw is refl
+
+is_other : (byte : ℕ) → byte ≢ 13 → (byte == 13) ≡ false
+is_other byte other = grind (arith, nat_tests)
+
+pub without_return-last : (line : List ℕ) → 0 < length line → get_or line (length line - 1) 0 ≡ 13
+    → without_return line ≡ take (length line - 1) line
+without_return-last line some return =
+    ap without_return (front_and_last line some)
+    ∙ with_return (take (length line - 1) line) (get_or line (length line - 1) 0)
+    (is_return (get_or line (length line - 1) 0) return)
+
+pub without_return-empty : (line : List ℕ) → length line ≤ 0 → without_return line ≡ line
+without_return-empty [] none = refl
+without_return-empty (byte ∷ bytes) none = absurd (omega (arith, none))
+
+pub without_return-none : (line : List ℕ) → 0 < length line → get_or line (length line - 1) 0 ≢ 13
+    → without_return line ≡ line
+without_return-none line some other =
+    ap without_return (front_and_last line some)
+    ∙ no_return (take (length line - 1) line) (get_or line (length line - 1) 0)
+    (is_other (get_or line (length line - 1) 0) other)
+    ∙ sym (front_and_last line some)
+
+with_bytes-cons : (part : List ℕ) (parts : List (List ℕ)) → 0 < length part → with_bytes
+    (part ∷ parts) ≡ part ∷ with_bytes parts
+with_bytes-cons [] parts some = absurd (omega (arith, some))
+with_bytes-cons (byte ∷ bytes) parts some = refl
+
+-- bytes without a blank are one field
+pub fields-one : (bytes : List ℕ) → 0 < length bytes → position_or_len is_blank bytes ≡ length bytes
+    → fields_among bytes ≡ bytes ∷ []
+fields-one bytes some end =
+    ap with_bytes (slice_split_none is_blank bytes
+    (All-from_get_or (λ byte. is_blank byte ≡ false) bytes 0 (λ k below. fails_before_first
+    is_blank bytes k 0 (omega (arith, below, end)))))
+    ∙ with_bytes-cons bytes [] some
+
+-- the first field ends at the first blank
+pub fields-cut : (bytes : List ℕ) (k : ℕ) → k ≡ position_or_len is_blank bytes → 0 < k → k < length
+    bytes
+    → fields_among bytes ≡ take k bytes ∷ fields_among (drop (k + 1) bytes)
+fields-cut bytes k is some below =
+    let short : position_or_len is_blank bytes < length bytes = omega (arith, is, below) in
+    ap with_bytes (slice_split_first is_blank bytes 0 short ∙ ap (λ n. take n bytes ∷ slice_split
+    is_blank (drop (n + 1) bytes)) (sym is))
+    ∙ with_bytes-cons (take k bytes) (slice_split is_blank (drop (k + 1) bytes))
+    (omega (arith, length-take k bytes))
+
+pub first_blank-later : (bytes : List ℕ) → 0 < length bytes → is_blank (get_or bytes 0 0) ≡ false
+    → 0 < position_or_len is_blank bytes
+first_blank-later [] some other = absurd (omega (arith, some))
+first_blank-later (byte ∷ bytes) some other = rw other (omega arith)
+
+pub take-rest : (i : ℕ) (xs : List ℕ) → take (length xs - i) (drop i xs) ≡ drop i xs
+take-rest i xs = rw (← length-drop i xs) (take-length (drop i xs))
+
+with_bytes-append : (part : List ℕ) (parts others : List (List ℕ)) → with_bytes (part ∷ others)
+    ≡ with_bytes (part ∷ []) ++ with_bytes others
+with_bytes-append [] parts others = refl
+with_bytes-append (byte ∷ bytes) parts others = refl
+
+with_bytes-later : (part : List ℕ) (front back rest : List (List ℕ)) → with_bytes rest ≡ with_bytes
+    front ++ with_bytes back
+    → with_bytes (part ∷ rest) ≡ with_bytes (part ∷ front) ++ with_bytes back
+with_bytes-later [] front back rest is = is
+with_bytes-later (byte ∷ bytes) front back rest is = ap (λ (parts : List (List ℕ)). (byte ∷ bytes) ∷
+    parts) is
+
+with_bytes-join : (parts others : List (List ℕ)) → HasFirst parts → with_bytes
+    (join_parts parts ([] ∷ others)) ≡ with_bytes parts ++ with_bytes others
+with_bytes-join [] others has = cc (has.is)
+with_bytes-join (part ∷ []) others has =
+    ap (λ (first : List ℕ). with_bytes (first ∷ others)) (append-nil part) ∙ with_bytes-append part
+    [] others
+with_bytes-join (part ∷ next ∷ parts) others has =
+    with_bytes-later part (next ∷ parts) others (join_parts (next ∷ parts) ([] ∷ others))
+    (with_bytes-join (next ∷ parts) others (record { first = next; later = parts; is = refl }))
+
+-- a blank parts the fields in front of it from those behind it
+pub fields-parted : (front back : List ℕ) (byte : ℕ) → is_blank byte ≡ true → fields_among
+    (front ++ byte ∷ back) ≡ fields_among front ++ fields_among back
+fields-parted front back byte blank =
+    ap with_bytes
+    (slice_split-append is_blank front (byte ∷ back)
+    ∙ ap (join_parts (slice_split is_blank front)) (slice_split-cons_yes is_blank byte back blank))
+    ∙ with_bytes-join (slice_split is_blank front) (slice_split is_blank back)
+    (slice_split-has is_blank front)
+
+pub fields-field : (bytes : List ℕ) → IsField bytes → fields_among bytes ≡ bytes ∷ []
+fields-field bytes field = ap with_bytes (slice_split_none is_blank bytes field.whole)
+    ∙ with_bytes-cons bytes [] field.some

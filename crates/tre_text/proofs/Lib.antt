@@ -1,0 +1,7 @@
+mod Digits
+mod Entries
+mod Fields
+mod Places
+mod TraceLines
+mod Valuations
+mod Words

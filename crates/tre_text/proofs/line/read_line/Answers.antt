@@ -1,0 +1,92 @@
+use Rattle.std.proofs.Common.{◌≡◌, ◌≢◌, ◌+◌, ◌<◌, ◌≤◌, ap, sym, ◌∙◌, arith}
+use Rattle.std.specs.Str.Parse.{digits_value}
+use Rattle.tre_pairs.specs.declared.TheConstants.{TIME_MAX}
+use Rattle.tre_text.specs.TextReading.{fields_among, one_segment, valuation_of, fields_of}
+use Rattle.tre_text.proofs.Entries.{IsEntryOf, no_comment, says-nothing, says-comment, says-no_number, says-zero, says-late, says-no_name, says-segment}
+use Rattle.tre_text.proofs.line.read_line.Goals as goal
+
+pub returns-in_default : goal.returns-in_default
+returns-in_default c =
+    says-nothing _ _ _ (ap fields_among (sym c.without_return.ensures) ∙ c.in_default.ensures.none)
+
+pub returns-then-first-eq35 : goal.returns-then-first-eq35
+returns-then-first-eq35 c =
+    says-comment _ _ _ c.in-Some.first.now _ (ap fields_among (sym c.without_return.ensures)
+    ∙ c.in-Some.ensures.field)
+    c.in-Some.ensures.some c.if-first-eq35.true
+
+pub returns-in_default-read_number : goal.returns-in_default-read_number
+returns-in_default-read_number c =
+    let entry : IsEntryOf c.args.line.now c.in-Some.first.now (fields_among c.in-Some.fields.now) =
+    record {
+      is = ap fields_among (sym c.without_return.ensures) ∙ c.in-Some.ensures.field;
+      no_comment = no_comment c.in-Some.first.now c.in-Some.ensures.some c.if-first-eq35.false;
+    } in
+    (says-no_number _ _ _ _ _ entry c.in_default-read_number.ensures.none, λ e. cc)
+
+pub returns-then-len-eq0 : goal.returns-then-len-eq0
+returns-then-len-eq0 c =
+    let entry : IsEntryOf c.args.line.now c.in-Some.first.now (fields_among c.in-Some.fields.now) =
+    record {
+      is = ap fields_among (sym c.without_return.ensures) ∙ c.in-Some.ensures.field;
+      no_comment = no_comment c.in-Some.first.now c.in-Some.ensures.some c.if-first-eq35.false;
+    } in
+    let number = c.in-Some-read_number.ensures in (
+      says-zero _ _ _ _ _ entry number.digits (omega (arith, number.value, c.if-len-eq0.true)),
+      λ e.
+          cc,
+    )
+
+pub returns-then-saturating_add-gt-TIME_MAX : goal.returns-then-saturating_add-gt-TIME_MAX
+returns-then-saturating_add-gt-TIME_MAX c =
+    let entry : IsEntryOf c.args.line.now c.in-Some.first.now (fields_among c.in-Some.fields.now) =
+    record {
+      is = ap fields_among (sym c.without_return.ensures) ∙ c.in-Some.ensures.field;
+      no_comment = no_comment c.in-Some.first.now c.in-Some.ensures.some c.if-first-eq35.false;
+    } in
+    let number = c.in-Some-read_number.ensures in
+    let some : digits_value 10 c.in-Some.first.now ≢ 0 = λ zero. c.if-len-eq0.false
+    (omega (arith, number.value, zero)) in (
+      says-late _ _ _ _ _ entry number.digits some
+          (omega (
+            arith,
+            number.value,
+            c.saturating_add.ensures,
+            c.if-saturating_add-gt-TIME_MAX.true,
+          )),
+      λ e. cc,
+    )
+
+pub returns-in-Some-read_names : goal.returns-in-Some-read_names
+returns-in-Some-read_names c =
+    let entry : IsEntryOf c.args.line.now c.in-Some.first.now (fields_among c.in-Some.fields.now) =
+    record {
+      is = ap fields_among (sym c.without_return.ensures) ∙ c.in-Some.ensures.field;
+      no_comment = no_comment c.in-Some.first.now c.in-Some.ensures.some c.if-first-eq35.false;
+    } in
+    let number = c.in-Some-read_number.ensures in
+    let some : digits_value 10 c.in-Some.first.now ≢ 0 = λ zero. c.if-len-eq0.false
+    (omega (arith, number.value, zero)) in
+    let fits : c.args.end + c.in-Some-read_number.len ≤ TIME_MAX = omega
+    (arith, c.saturating_add.ensures, c.if-saturating_add-gt-TIME_MAX.false) in
+    let len : c.in-Some-read_number.len ≡ digits_value 10 c.in-Some.first.now = omega
+    (arith, number.value, fits) in (
+      rw (len, c.in-Some-read_names.ensures.value)
+          (says-segment _ _ _ _ _ entry number.digits some (omega (arith, len, fits))
+          c.in-Some-read_names.ensures.names),
+      fits,
+    )
+
+pub returns-in-None : goal.returns-in-None
+returns-in-None c =
+    let entry : IsEntryOf c.args.line.now c.in-Some.first.now (fields_among c.in-Some.fields.now) =
+    record {
+      is = ap fields_among (sym c.without_return.ensures) ∙ c.in-Some.ensures.field;
+      no_comment = no_comment c.in-Some.first.now c.in-Some.ensures.some c.if-first-eq35.false;
+    } in
+    let number = c.in-Some-read_number.ensures in
+    let some : digits_value 10 c.in-Some.first.now ≢ 0 = λ zero. c.if-len-eq0.false
+    (omega (arith, number.value, zero)) in
+    let fits : c.args.end + digits_value 10 c.in-Some.first.now ≤ TIME_MAX = omega
+    (arith, number.value, c.saturating_add.ensures, c.if-saturating_add-gt-TIME_MAX.false) in
+    (says-no_name _ _ _ _ _ entry number.digits some fits c.in-None.ensures.other, λ e. cc)

@@ -1,0 +1,94 @@
+-- The bytes of a text trace, said of its lines.
+use Rattle.std.specs.Prelude.{◌≡◌, ◌≢◌, ◌⊎◌, ℕ, ◌+◌, ◌<◌, ◌≤◌, true, false, List, [], ◌∷◌, ◌++◌, length}
+use Rattle.std.specs.List.{All, list_all}
+use Rattle.std.specs.Str.Parse.{digits_value}
+use Rattle.tre_pairs.specs.declared.TheConstants.{TIME_MAX}
+use Rattle.tre_parts.specs.declared.TheConstants.{PART_MAX}
+use Rattle.tre_text.specs.TextReading.{is_line_end, is_blank, fields_of, begins_comment, is_numeral, spells_word, valuation_of}
+use Rattle.tre_trace.specs.declared.segment.Segment.{Segment}
+use Rattle.tre_trace.specs.declared.fault.TraceKind.{TraceKind}
+use Rattle.tre_trace.specs.declared.fault.TraceKind.TheVariants.{BadNumber, Zero, TooLate, BadName}
+
+-- No line end stands in the line, and it has no more bytes than a line may have.
+pub record IsLine (line : List ℕ) : Type 0 where
+  pub unbroken : All (λ byte. is_line_end byte ≡ false) line
+  pub short : length line ≤ PART_MAX
+
+abbrev pub AreLines : List (List ℕ) → Type 0
+AreLines [] = Unit {0}
+AreLines (line ∷ lines) = IsLine line × AreLines lines
+
+-- The lines, one after the other, each with a line end behind it.
+abbrev pub ended : List (List ℕ) → List ℕ
+ended [] = []
+ended (line ∷ lines) = line ++ 10 ∷ ended lines
+
+-- neither a space nor a tab stands in the bytes, and there are some
+pub record IsField (bytes : List ℕ) : Type 0 where
+  pub some : 0 < length bytes
+  pub whole : All (λ byte. is_blank byte ≡ false) bytes
+
+-- The line has a first field, and this holds of it and of the others.
+pub record HasFields (line : List ℕ) (P : List ℕ → List (List ℕ) → Type 0) : Type 0 where
+  pub first : List ℕ
+  pub others : List (List ℕ)
+  pub fields : fields_of line ≡ first ∷ others
+  pub holds : P first others
+
+-- nothing stands on the line, or a comment
+abbrev pub IsSilent : List ℕ → Type 0
+IsSilent line = (fields_of line ≡ []) ⊎ HasFields line (λ first others. begins_comment first ≡ true)
+
+-- A duration stands first, and the others are names: those of what is true on the segment.
+pub record IsEntry (names : List (List ℕ)) (segment : Segment) (first : List ℕ)
+    (others : List (List ℕ)) : Type 0 where
+  pub numeral : is_numeral first ≡ true
+  pub len : segment.len ≡ digits_value 10 first
+  pub words : list_all spells_word others ≡ true
+  pub val : segment.val ≡ valuation_of names others
+
+-- The line says the first of the segments, and this holds of the later ones.
+pub record SaysFirst (names : List (List ℕ)) (line : List ℕ) (segments : List Segment)
+    (Later : List Segment → Type 0) : Type 0 where
+  pub segment : Segment
+  pub rest : List Segment
+  pub is : segments ≡ segment ∷ rest
+  pub entry : HasFields line (IsEntry names segment)
+  pub later : Later rest
+
+-- Each line is silent or says the next segment, and these are all segments.
+abbrev pub Say : List (List ℕ) → List (List ℕ) → List Segment → Type 0
+Say names [] segments = segments ≡ []
+Say names (line ∷ lines) segments =
+    (IsSilent line × Say names lines segments) ⊎ SaysFirst names line segments (Say names lines)
+
+-- It isn't a number of ticks.
+pub record IsNoNumber (first : List ℕ) (others : List (List ℕ)) : Type 0 where
+  pub no_comment : begins_comment first ≡ false
+  pub no_numeral : is_numeral first ≡ false
+
+-- It is the number 0.
+pub record IsNoTime (first : List ℕ) (others : List (List ℕ)) : Type 0 where
+  pub numeral : is_numeral first ≡ true
+  pub zero : digits_value 10 first ≡ 0
+
+-- It is a number of ticks that leads past the limit.
+pub record IsTooLong (end : ℕ) (first : List ℕ) (others : List (List ℕ)) : Type 0 where
+  pub numeral : is_numeral first ≡ true
+  pub some : digits_value 10 first ≢ 0
+  pub late : TIME_MAX < end + digits_value 10 first
+
+-- It is a number of ticks, and one of the others is no name.
+pub record HasNoName (end : ℕ) (first : List ℕ) (others : List (List ℕ)) : Type 0 where
+  pub numeral : is_numeral first ≡ true
+  pub some : digits_value 10 first ≢ 0
+  pub in_time : end + digits_value 10 first ≤ TIME_MAX
+  pub no_words : list_all spells_word others ≡ false
+
+-- The fault of a line behind a trace that ends at `end`.
+abbrev pub HasFault : ℕ → List ℕ → TraceKind → Type 0
+HasFault end line BadNumber = HasFields line IsNoNumber
+HasFault end line Zero = HasFields line IsNoTime
+HasFault end line TooLate = HasFields line (IsTooLong end)
+HasFault end line BadName = HasFields line (HasNoName end)
+HasFault end line _ = ⊥

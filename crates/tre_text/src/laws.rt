@@ -1,0 +1,50 @@
+//! Laws of the text format, each as a function whose contract it is.
+
+ghost use Rattle.std.specs.Prelude.{◌≡◌, ◌↔◌, ℕ, ◌+◌, Bool, true, None, Some, List, [], ◌∷◌, ◌++◌, length, IsBitSet};
+ghost use Rattle.tre_text.specs.TextReading.{is_blank, fields_among, fields_of, valuation_of, IsNamed, text_reading};
+ghost use Rattle.tre_text.specs.TraceLines.{IsLine, AreLines, ended, IsField, Say, HasFault};
+ghost use Rattle.tre_trace.specs.Trace.{end_of, IsTrace};
+ghost use Rattle.tre_trace.specs.declared.fault.TraceKind.{TraceKind};
+ghost use Rattle.tre_trace.specs.declared.segment.Segment.{Segment};
+
+/// Lines of which each is silent or says a segment of a trace are that trace. Where such lines
+/// stand in front of one with a fault, that fault is told with the number of its line, whatever
+/// follows.
+pub fn reading()
+    ensures trace { (names : List (List ℕ)) (closed : Bool) (lines : List (List ℕ))
+        (segments : List Segment) → AreLines lines → Say names lines segments → IsTrace segments →
+        text_reading names closed (ended lines) ≡ record { segments = segments; fault = None } }
+    ensures fault { (names : List (List ℕ)) (closed : Bool) (front : List (List ℕ))
+        (line back : List ℕ)
+        (segments : List Segment) (kind : TraceKind) → AreLines front → IsLine line →
+        Say names front segments → IsTrace segments → HasFault (end_of 0 segments) line kind →
+        text_reading names closed (ended front ++ (line ++ 10 ∷ back))
+        ≡ record {
+          segments = segments;
+          fault =
+              Some (record { place = length front + 1; kind = kind });
+        } }
+{}
+
+/// A last line without a line end is read as one with it, where the input is closed.
+pub fn last_line()
+    ensures { (names lines : List (List ℕ)) (last : List ℕ) → AreLines lines → IsLine last →
+        text_reading names true (ended lines ++ last) ≡ text_reading names true
+        (ended lines ++ (last ++ 10 ∷ [])) }
+{}
+
+/// Blanks part fields, however many there are, and a carriage return at the end of a line is
+/// none.
+pub fn fields()
+    ensures blank { (front back : List ℕ) (byte : ℕ) → is_blank byte ≡ true →
+        fields_among (front ++ byte ∷ back) ≡ fields_among front ++ fields_among back }
+    ensures field { (bytes : List ℕ) → IsField bytes → fields_among bytes ≡ bytes ∷ [] }
+    ensures none { fields_among [] ≡ [] }
+    ensures carriage_return { (line : List ℕ) → fields_of (line ++ 13 ∷ []) ≡ fields_among line }
+{}
+
+/// On the valuation of a line exactly those propositions are true whose names stand on the line.
+pub fn naming()
+    ensures { (names fields : List (List ℕ)) (i : ℕ) →
+        IsBitSet (valuation_of names fields) i ↔ IsNamed names fields i }
+{}

@@ -1,0 +1,53 @@
+use Rattle.std.proofs.Common.{◌∙◌, ap, Err, Some, sym}
+use Rattle.std.proofs.lemmas.Result.{err_from_is_err_and}
+use Rattle.tre_syntax.specs.Pattern.{pattern_tree, names_of}
+use Rattle.tre_text.specs.TextReading.{text_reading}
+use Rattle.tre_vcd.specs.VcdReading.{vcd_reading}
+use Rattle.tre_trace.specs.declared.trace.Trace.{Trace}
+use Rattle.tre_tool.specs.Feeding.{StopsReading}
+use Rattle.tre_tool.specs.Run.{request_for, input_told}
+use Rattle.tre_tool.proofs.Readings.{text_reading-nothing, vcd_reading-nothing}
+use Rattle.tre_tool.proofs.Stops.{StopsAs-reading}
+use Rattle.tre_tool.proofs.answer.read_input.Goals as goal
+
+pub read_trace-requires-clause-nothing : goal.read_trace-requires-clause-nothing
+read_trace-requires-clause-nothing g c = text_reading-nothing
+    c.new-reader.result.lines.walk.reader.names
+
+pub returns-in_err-trace-in-Text-clause-stops : goal.returns-in_err-trace-in-Text-clause-stops
+returns-in_err-trace-in-Text-clause-stops g c =
+    let p = err_from_is_err_and c.from_residual-in_err-trace-in-Text.result
+    c.from_residual-in_err-trace-in-Text.ensures.1 in
+    let request = request_for c.args.job.now (pattern_tree c.args.pattern.now)
+    (names_of c.args.pattern.now) in
+    let input = input_told g.S.Source.file_name g.S.Source.file g.S.Source.sound g.S.Source.left
+    g.S.Source.faults c.args.input.now c.read_trace.new.input in
+    let stops : StopsReading (text_reading (names_of c.args.pattern.now)) c.args.job.now.max_bytes
+    (g.S.Source.file c.args.input.now) c.in_err-trace-in-Text.field-0.0 =
+    rw (c.new-reader.ensures.names ∙ c.in_ok-names.ensures
+    ∙ c.names.ensures.names) at c.in_err-trace-in-Text.ensures.stops in
+    rw (p.1, p.2) (StopsAs-reading Trace request input c.in_err-trace-in-Text.field-0.0
+    c.requires.offline (rw c.in-Text.is stops) c.in_err-trace-in-Text.ensures.cause
+    (λ good named is. c.in_err-trace-in-Text.ensures.sound good (named
+    ∙ ap Some (sym c.text.ensures)) (ap Err is)))
+
+pub read_trace-requires-in-Vcd-clause-nothing : goal.read_trace-requires-in-Vcd-clause-nothing
+read_trace-requires-in-Vcd-clause-nothing g c = vcd_reading-nothing
+    c.new-reader-in-Vcd.result.tokens.walk.reader.names
+
+pub returns-in_err-trace-in-Vcd-clause-stops : goal.returns-in_err-trace-in-Vcd-clause-stops
+returns-in_err-trace-in-Vcd-clause-stops g c =
+    let p = err_from_is_err_and c.from_residual-in_err-trace-in-Vcd.result
+    c.from_residual-in_err-trace-in-Vcd.ensures.1 in
+    let request = request_for c.args.job.now (pattern_tree c.args.pattern.now)
+    (names_of c.args.pattern.now) in
+    let input = input_told g.S.Source.file_name g.S.Source.file g.S.Source.sound g.S.Source.left
+    g.S.Source.faults c.args.input.now c.read_trace-in-Vcd.new.input in
+    let stops : StopsReading (vcd_reading (names_of c.args.pattern.now)) c.args.job.now.max_bytes
+    (g.S.Source.file c.args.input.now) c.in_err-trace-in-Vcd.field-0.0 =
+    rw (c.new-reader-in-Vcd.ensures.names ∙ c.in_ok-names.ensures
+    ∙ c.names.ensures.names) at c.in_err-trace-in-Vcd.ensures.stops in
+    rw (p.1, p.2) (StopsAs-reading Trace request input c.in_err-trace-in-Vcd.field-0.0
+    c.requires.offline (rw c.in-Vcd.is stops) c.in_err-trace-in-Vcd.ensures.cause
+    (λ good named is. c.in_err-trace-in-Vcd.ensures.sound good (named
+    ∙ ap Some (sym c.text-in-Vcd.ensures)) (ap Err is)))

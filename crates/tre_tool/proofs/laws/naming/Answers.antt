@@ -1,5 +1,0 @@
-use Rattle.tre_tool.proofs.Valuations.{valuation_of-is}
-use Rattle.tre_tool.proofs.laws.naming.Goals as goal
-
-pub returns : goal.returns
-returns c = λ names fields i. valuation_of-is names fields i

@@ -1,5 +1,0 @@
-use Rattle.tre_tool.proofs.Printing.{zones_once, end_once}
-use Rattle.tre_tool.proofs.laws.one_text.Goals as goal
-
-pub returns : goal.returns
-returns c = record { zones = zones_once; end = end_once }

@@ -1,0 +1,44 @@
+-- What the parts of a run promise each other: the end of a run over a request, and what was read.
+use Rattle.std.specs.Prelude.{ℕ, ◌≤◌, List, length, Result, Ok, Err, IfSome}
+use Rattle.std.specs.Io.KnownBytes.{IsAtEnd}
+use Rattle.tre_trace.specs.Trace.{IsTrace}
+use Rattle.tre_trace.specs.declared.segment.Segment.{Segment}
+use Rattle.tre_tool.specs.Outcome.{Reads}
+use Rattle.tre_tool.specs.Run.{Request, InputTold, OutputTold, AllReadsGood, NothingWritten, IsAnswerIn, IsReadToItsEnd, EndsDone, EndsTrace, EndsTooLong, EndsReadFault, EndsWriteFault, EndsMemory}
+use Rattle.tre_tool.specs.declared.status.Status.{Status}
+use Rattle.tre_tool.specs.declared.status.Status.TheVariants.{Done, Usage, Expression, Trace, InputTooLong, ReadFault, WriteFault, Memory}
+
+-- how a run ended that went on as `?` does
+abbrev pub status_of : {T : Type 0} → Result T Status → Status
+status_of (Ok value) = Done
+status_of (Err status) = status
+
+-- The end of a run over this request, status by status.
+abbrev pub EndsOver : Request → InputTold → OutputTold → Status → Type 0
+EndsOver request input output Done = EndsDone request input output
+EndsOver request input output Usage = ⊥
+EndsOver request input output (Expression fault) = ⊥
+EndsOver request input output (Trace fault) = EndsTrace request input output fault
+EndsOver request input output InputTooLong = EndsTooLong request input output
+EndsOver request input output ReadFault = EndsReadFault request input output
+EndsOver request input output WriteFault = EndsWriteFault request input output
+EndsOver request input output Memory = EndsMemory input output
+
+-- What was done with the input is as at the end of a run with this status that wrote nothing.
+abbrev pub StopsAs : Request → InputTold → Status → Type 0
+StopsAs request input status =
+    (output : OutputTold) → NothingWritten output → EndsOver request input output status
+
+-- The whole input was read, and it is this trace.
+pub record IsReadAs (request : Request) (input : InputTold) (trace : List Segment) : Type 0 where
+  pub reads : AllReadsGood input
+  pub all_read : IsAtEnd input.left
+  pub is_trace : IsTrace trace
+  pub within : IfSome input.file (λ bytes. length bytes ≤ request.job.max_bytes)
+  pub reads_as : IfSome input.file (λ bytes. Reads request.job.format request.names bytes trace)
+
+-- The text is the answer to the request, and nothing of the input is left.
+pub record IsFoundFor (request : Request) (input : InputTold) (text : List ℕ) : Type 0 where
+  pub reads : AllReadsGood input
+  pub all_read : IsReadToItsEnd request.job.mode input
+  pub right : IsAnswerIn request.job.mode request input.file text

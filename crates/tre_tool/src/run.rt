@@ -1,0 +1,127 @@
+ghost use Rattle.std.specs.Prelude.{◌≡◌, ◌≢◌, ◌⊎◌, ◌+◌, IsTrue, IfSome, OnOk, OnErr, IfErr, false, map, string_bytes};
+ghost use Rattle.std.specs.Io.KnownBytes.{Appends};
+ghost use Rattle.tre_io.specs.Faults.{counted, Rises};
+ghost use Rattle.tre_io.specs.Written.{AppendsPart};
+ghost use Rattle.tre_tool.specs.Answer.{status_of};
+ghost use Rattle.tre_tool.specs.Input.{TakesAtMost};
+ghost use Rattle.tre_tool.specs.Job.{GivesJob};
+ghost use Rattle.tre_tool.specs.Run.{Request, AsksFor, AsksForNothing, ReadsInput, input_told, output_told, EndsAs, IsComplete};
+ghost use Rattle.tre_tool.specs.Status.{error_line};
+ghost use Rattle.tre_tool.specs.declared.job.Job.{Job};
+
+use crate::answer::answer;
+use crate::job::Mode;
+use crate::report::tell_status;
+use crate::status::Status;
+use crate::words::read_words;
+use std::alloc::Global;
+use tre_io::{Sink, Source, put_all};
+use tre_parse::parse;
+
+// Writes the answer.
+fn write_answer<O: Sink>(text: &str, out: &mut O) -> Result<(), Status>
+    ensures all { OnOk result (Appends (O.written out.old) (O.written out.new) text.now) }
+    ensures good { OnOk result (O.faults out.new ≡ O.faults out.old) }
+    ensures part { OnErr result (AppendsPart (O.written out.old) (O.written out.new) text.now) }
+    ensures cause { OnErr result (O.faults out.new ≡ counted (O.faults out.old)) }
+    ensures status { IfErr result (λ status. status ≡ Status.WriteFault) }
+{
+    match put_all(out, text.as_bytes()) {
+        Ok(()) => Ok(()),
+        Err(_) => Err(Status::WriteFault),
+    }
+}
+
+// Runs, and leaves it to the caller to tell how the run ended.
+fn run_words<S: Source, O: Sink>(
+    alloc: Global,
+    words: &[String],
+    input: &mut S,
+    out: &mut O,
+) -> Result<(), Status>
+    requires { S.opened input.old ≡ false }
+    ensures ends { EndsAs (map string_bytes words.now)
+        (input_told S.file_name S.file S.sound S.left S.faults input.old input.new)
+        (output_told O.written O.faults out.old out.new)
+        (status_of result) }
+    ensures untouched { AsksForNothing (map string_bytes words.now) →
+        (input.new ≡ input.old) × (out.new ≡ out.old) }
+    ensures source_untouched { (job : Job) → GivesJob (map string_bytes words.now) job →
+        job.mode ≡ Mode.Show → input.new ≡ input.old }
+    ensures by_name { (request : Request) → AsksFor (map string_bytes words.now) request →
+        ReadsInput request.job.mode → status_of result ≢ Status.Usage →
+        status_of result ≢ Status.ReadFault → status_of result ≢ Status.Memory →
+        IfSome (S.file_name input.old) (λ told. told ≡ request.job.input) }
+    ensures reads_at_most { (job : Job) → GivesJob (map string_bytes words.now) job →
+        IsTrue (S.opened input.new) →
+        TakesAtMost (job.max_bytes + 1) (S.file input.old) (S.left input.new) }
+{
+    let job = read_words(alloc, words)?;
+    let pattern = parse(alloc, job.expr.text())?;
+    let text = answer(alloc, &pattern, &job, input)?;
+    write_answer(text.as_str(), out)?;
+    Ok(())
+}
+
+// The status of a run that ended so.
+fn ending(ended: Result<(), Status>) -> Status
+    ensures { result ≡ status_of ended }
+{
+    match ended {
+        Ok(()) => Status::Done,
+        Err(status) => status,
+    }
+}
+
+/// Matches the pattern in the words over the input that they name, writes the zones of all matches
+/// to `out`, and tells `err` how the run ended. With `--show` it writes the pattern's text instead.
+///
+/// The words are those after the program's name. What `ends` says of bytes holds where the source
+/// and the sinks tell their bytes; what it says of counts holds for every source and sink. A count
+/// that stands at 2^64 - 1 can't rise, and counts as one that rose.
+pub fn run<S: Source, O: Sink, E: Sink>(
+    alloc: Global,
+    words: &[String],
+    input: &mut S,
+    out: &mut O,
+    err: &mut E,
+) -> Status
+    requires { S.opened input.old ≡ false }
+
+    // What the status means, what was written, and why the run ended so.
+    ensures ends { EndsAs (map string_bytes words.now)
+        (input_told S.file_name S.file S.sound S.left S.faults input.old input.new)
+        (output_told O.written O.faults out.old out.new) result }
+
+    // Where no fault was counted, what the words ask for and the input comes to decides the status.
+    ensures complete { IsComplete (map string_bytes words.now)
+        (input_told S.file_name S.file S.sound S.left S.faults input.old input.new)
+        (output_told O.written O.faults out.old out.new) result }
+
+    // Words that ask for nothing leave the source and the output as they were.
+    ensures untouched { AsksForNothing (map string_bytes words.now) →
+        (input.new ≡ input.old) × (out.new ≡ out.old) }
+
+    // A run that shows the pattern's text reads no input.
+    ensures source_untouched { (job : Job) → GivesJob (map string_bytes words.now) job →
+        job.mode ≡ Mode.Show → input.new ≡ input.old }
+
+    // Standard error is told the status, and a failure to tell it leaves a first part of the line.
+    ensures error_line { ¬ Rises (E.faults err.old) (E.faults err.new) →
+        Appends (E.written err.old) (E.written err.new) (error_line result) }
+    ensures error_part { Appends (E.written err.old) (E.written err.new) (error_line result)
+        ⊎ AppendsPart (E.written err.old) (E.written err.new) (error_line result) }
+
+    // The input is read to its end, or to one byte past the limit, and the words name it.
+    ensures reads_at_most { (job : Job) → GivesJob (map string_bytes words.now) job →
+        IsTrue (S.opened input.new) →
+        TakesAtMost (job.max_bytes + 1) (S.file input.old) (S.left input.new) }
+    ensures by_name { (request : Request) → AsksFor (map string_bytes words.now) request →
+        ReadsInput request.job.mode → result ≢ Status.Usage →
+        result ≢ Status.ReadFault → result ≢ Status.Memory →
+        IfSome (S.file_name input.old) (λ told. told ≡ request.job.input) }
+{
+    let status = ending(run_words(alloc, words, input, out));
+    let _ = tell_status(&status, err);
+    status
+}

@@ -1,0 +1,214 @@
+// The words of the command line.
+ghost use Rattle.std.specs.Prelude.{◌≡◌, ◌≤◌, ◌^◌, ◌-◌, min, map, string_bytes, IfOk, IsErrOf, IfSome, IfNone, Some, None, true, false, codes, option_and_then};
+ghost use Rattle.std.specs.Str.Parse.{digits_value};
+ghost use Rattle.clap.specs.Words.{app_of, rule_of, found_of, rows_of, matches_of, first_of, kind_of};
+ghost use Rattle.tre_tool.specs.Job.{flag_rule, option_rule, operand_rule, command_line, is_given, mode_for, mode_in, format_named, is_numeral, limit_written, has_run, GivesFrom, GivesJob, GivesNoJob, AreTaken};
+ghost use Rattle.tre_tool.specs.declared.job.Job.{Job};
+
+use crate::job::{Format, Job, LIMIT_MAX, Mode, Word, WordsFault};
+use clap::error::ErrorKind;
+use clap::{Arg, ArgAction, ArgMatches, Command};
+use std::alloc::{AllocError, Global};
+
+fn flag<'a>(alloc: Global, name: &'a str) -> Arg<'a>
+    ensures rule { rule_of result ≡ flag_rule name.entry.now }
+    ensures local { result.global ≡ false }
+{
+    Arg::new(alloc, name).long(name).action(ArgAction::SetTrue)
+}
+
+fn option<'a>(alloc: Global, name: &'a str, default: &'a str) -> Arg<'a>
+    ensures rule { rule_of result ≡ option_rule name.entry.now default.entry.now }
+    ensures local { result.global ≡ false }
+{
+    Arg::new(alloc, name)
+        .long(name)
+        .action(ArgAction::Set)
+        .default_value(default)
+}
+
+fn operand<'a>(alloc: Global, name: &'a str) -> Arg<'a>
+    ensures rule { rule_of result ≡ operand_rule name.entry.now }
+    ensures local { result.global ≡ false }
+{
+    Arg::new(alloc, name).action(ArgAction::Set).required(true)
+}
+
+fn command_line<'a>(alloc: Global) -> Result<Command<'a>, AllocError>
+    ensures { IfOk result (λ command. app_of command ≡ command_line) }
+{
+    let bare = Command::new(alloc, "montre")
+        .no_binary_name(true)
+        .disable_help_flag(true);
+    let command = bare
+        .arg(flag(alloc, "online"))?
+        .arg(flag(alloc, "show"))?
+        .arg(option(alloc, "format", "text"))?
+        .arg(option(alloc, "input", "-"))?
+        .arg(option(alloc, "max-bytes", "1073741824"))?
+        .arg(operand(alloc, "EXPR"))?;
+    Ok(command)
+}
+
+// What `clap` answers to words that it didn't take.
+fn words_fault(kind: ErrorKind) -> WordsFault
+    ensures { kind ≡ ErrorKind.OutOfMemory → result ≡ WordsFault.Memory }
+{
+    match kind {
+        ErrorKind::OutOfMemory => WordsFault::Memory,
+        _ => WordsFault::Usage,
+    }
+}
+
+fn parse_words<'a>(alloc: Global, words: &'a [String]) -> Result<ArgMatches<'a>, WordsFault>
+    ensures matches { IfOk result (λ matches.
+        rows_of (found_of matches) ≡ matches_of command_line (map string_bytes words.entry.now)) }
+    ensures usage { IsErrOf result WordsFault.Usage →
+        AreTaken (map string_bytes words.entry.now) → ⊥ }
+{
+    let command = command_line(alloc)?;
+    match command.try_get_matches_from(words) {
+        Ok(matches) => Ok(matches),
+        Err(error) => Err(words_fault(error.kind())),
+    }
+}
+
+// The value of an option, given or not, or of the operand.
+fn value_of<'a>(matches: &ArgMatches<'a>, name: &str) -> Option<&'a str>
+    ensures some { IfSome result (λ value.
+        first_of name.now (rows_of (found_of matches.now)) ≡ Some value.now) }
+    ensures none { IfNone result (first_of name.now (rows_of (found_of matches.now)) ≡ None) }
+{
+    matches.get_str(name)
+}
+
+fn is_given(matches: &ArgMatches, name: &str) -> bool
+    ensures { result ≡ is_given name.now (rows_of (found_of matches.now)) }
+{
+    match value_of(matches, name) {
+        Some(text) => text == "true",
+        None => false,
+    }
+}
+
+fn mode_in(matches: &ArgMatches) -> Mode
+    ensures { result ≡ mode_in (rows_of (found_of matches.now)) }
+{
+    if is_given(matches, "show") {
+        return Mode::Show;
+    }
+    if is_given(matches, "online") {
+        return Mode::Online;
+    }
+    Mode::Offline
+}
+
+fn format_named(text: &str) -> Option<Format>
+    ensures { result ≡ format_named text.now }
+{
+    if text == "text" {
+        return Some(Format::Text);
+    }
+    if text == "vcd" {
+        return Some(Format::Vcd);
+    }
+    None
+}
+
+// The number that the digits write; past 2^64 - 1 it stays there. None where the text isn't digits.
+fn read_number(text: &[u8]) -> Option<u64>
+    ensures digits { IfSome result (λ _. is_numeral text.now ≡ true) }
+    ensures value { IfSome result (λ number. number ≡ min (digits_value 10 text.now) (2 ^ 64 - 1)) }
+    ensures none { IfNone result (is_numeral text.now ≡ false) }
+{
+    if text.is_empty() {
+        return None;
+    }
+    let mut number = 0u64;
+    for byte in text {
+        if !byte.is_ascii_digit() {
+            return None;
+        }
+        number = number
+            .saturating_mul(10)
+            .saturating_add(u64::from(*byte - b'0'));
+    }
+    Some(number)
+}
+
+fn limit_written(text: &str) -> Option<u64>
+    ensures { result ≡ limit_written text.now }
+{
+    let number = read_number(text.as_bytes())?;
+    if number == 0 || number > LIMIT_MAX {
+        return None;
+    }
+    Some(number)
+}
+
+fn has_run(mode: Mode) -> bool
+    ensures { result ≡ has_run mode }
+{
+    match mode {
+        Mode::Offline | Mode::Show => true,
+        Mode::Online => false,
+    }
+}
+
+fn format_in(matches: &ArgMatches) -> Option<Format>
+    ensures { result ≡ option_and_then format_named
+        (first_of (codes "format") (rows_of (found_of matches.now))) }
+{
+    format_named(value_of(matches, "format")?)
+}
+
+fn limit_in(matches: &ArgMatches) -> Option<u64>
+    ensures { result ≡ option_and_then limit_written
+        (first_of (codes "max-bytes") (rows_of (found_of matches.now))) }
+{
+    limit_written(value_of(matches, "max-bytes")?)
+}
+
+// The job that the values of the options give, where they give one.
+fn job_in(alloc: Global, matches: &ArgMatches) -> Result<Job, WordsFault>
+    ensures ok { IfOk result (GivesFrom (rows_of (found_of matches.now))) }
+    ensures usage { IsErrOf result WordsFault.Usage →
+        (job : Job) → GivesFrom (rows_of (found_of matches.now)) job → ⊥ }
+{
+    let mode = mode_in(matches);
+    let Some(format) = format_in(matches) else {
+        return Err(WordsFault::Usage);
+    };
+    let Some(max_bytes) = limit_in(matches) else {
+        return Err(WordsFault::Usage);
+    };
+    let Some(input) = value_of(matches, "input") else {
+        return Err(WordsFault::Usage);
+    };
+    let Some(expr) = value_of(matches, "EXPR") else {
+        return Err(WordsFault::Usage);
+    };
+    if !has_run(mode) {
+        return Err(WordsFault::Usage);
+    }
+    Ok(Job {
+        mode,
+        format,
+        input: Word::new(alloc, input)?,
+        max_bytes,
+        expr: Word::new(alloc, expr)?,
+    })
+}
+
+/// Reads the words after the program's name:
+/// `[--online] [--show] [--format text|vcd] [--input NAME] [--max-bytes N] EXPR`.
+pub fn read_words(alloc: Global, words: &[String]) -> Result<Job, WordsFault>
+    ensures ok { IfOk result (GivesJob (map string_bytes words.now)) }
+    ensures small { IfOk result (λ job. job.max_bytes ≤ LIMIT_MAX) }
+    ensures usage { IsErrOf result WordsFault.Usage → AreTaken (map string_bytes words.now) →
+        GivesNoJob (map string_bytes words.now) }
+{
+    let matches = parse_words(alloc, words)?;
+    let job = job_in(alloc, &matches)?;
+    Ok(job)
+}

@@ -1,0 +1,7 @@
+mod Digits
+mod Knowing
+mod Reading
+mod Rows
+mod Scoping
+mod Signals
+mod Tokens

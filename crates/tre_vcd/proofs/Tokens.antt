@@ -1,0 +1,132 @@
+-- What stands in a token.
+use Rattle.std.proofs.Common.{◌≡◌, ℕ, suc, ◌-◌, ◌==◌, ◌<◌, ◌≤◌, nat_lt, Bool, true, false, ◌&&◌, List, [], ◌∷◌, length, length-take, map, get_or, take, subst, None, Some, codes, Result, Err, refl, sym, ap, ◌∙◌, arith, if◌then◌else◌}
+use Rattle.std.specs.Str.{bytes_eq}
+use Rattle.std.proofs.lemmas.List.{get_or-map}
+use Rattle.std.proofs.lemmas.Bool.Decides.{nat_tests}
+use Rattle.tre_trace.specs.declared.fault.TraceKind.TheVariants.{BadToken}
+use Rattle.tre_vcd.specs.VcdReading.{Statement, Place, scope, upscope, var, definitions, nothing, path, is_signal, identifier_in, goes_to, scope_says, declaration_says, section_says, ends_true}
+use Rattle.tre_vcd.specs.Sections.{command_of}
+use Rattle.tre_vcd.specs.declared.command.Command.{Command}
+use Rattle.tre_vcd.specs.declared.command.Command.TheVariants.{Scope, Upscope, Var, EndDefinitions, Other}
+use Rattle.tre_parts.specs.Format.{Step}
+use Rattle.tre_trace.specs.declared.fault.TraceKind.{TraceKind}
+use Rattle.tre_vcd.specs.Kept.{Declares}
+
+pub ends_true-last : (value : List ℕ) → 0 < length value
+    → (get_or value (length value - 1) 0 == 49) ≡ ends_true value
+ends_true-last [] some = absurd (omega (arith, some))
+ends_true-last (byte ∷ []) some = refl
+ends_true-last (byte ∷ next ∷ bytes) some =
+    let one : suc (suc (length bytes)) - 1 ≡ suc (suc (length bytes) - 1) = omega arith in
+    ap (λ n. get_or (byte ∷ next ∷ bytes) n 0 == 49) one
+    ∙ ends_true-last (next ∷ bytes) (omega arith)
+
+-- ---- sections, by their first five tokens
+
+pub scope-short : (past : List Statement) (tokens : List (List ℕ)) → length (take 5 tokens) < 2
+    → scope_says past tokens ≡ Err BadToken
+scope-short past [] short = refl
+scope-short past (kind ∷ []) short = refl
+scope-short past (kind ∷ name ∷ tokens) short = absurd (omega (arith, short))
+
+pub scope-long : (past : List Statement) (tokens : List (List ℕ)) → 2 ≤ length (take 5 tokens)
+    → scope_says past tokens ≡ goes_to (scope (get_or (take 5 tokens) 1 []) ∷ past) nothing
+scope-long past [] long = absurd (omega (arith, long))
+scope-long past (kind ∷ []) long = absurd (omega (arith, long))
+scope-long past (kind ∷ name ∷ tokens) long = refl
+
+less : (a b : ℕ) → a < b → nat_lt a b ≡ true
+less a b h = grind (arith, nat_tests)
+
+more : (a b : ℕ) → b ≤ a → nat_lt a b ≡ false
+more a b h = grind (arith, nat_tests)
+
+pub declaration-short : (past : List Statement) (tokens : List (List ℕ))
+    → length (take 5 tokens) < 4 → declaration_says past tokens ≡ Err BadToken
+declaration-short past tokens short =
+    rw (less (length tokens) 4 (omega (arith, short, length-take 5 tokens))) refl
+
+pub declaration-long : (past : List Statement) (tokens : List (List ℕ))
+    → 4 ≤ length (take 5 tokens)
+    → declaration_says past tokens ≡ goes_to (var tokens ∷ past) nothing
+declaration-long past tokens long =
+    rw (more (length tokens) 4 (omega (arith, long, length-take 5 tokens))) refl
+
+-- four tokens declare a proposition, where they are a signal's
+pub declares-four : (scopes tokens : List (List ℕ)) → length (take 5 tokens) ≡ 4
+    → is_signal (get_or (take 5 tokens) 0 []) (get_or (take 5 tokens) 1 []) ≡ true
+    → Declares scopes tokens (get_or (take 5 tokens) 2 []) (get_or (take 5 tokens) 3 [])
+declares-four scopes [] four signal = absurd (omega (arith, four))
+declares-four scopes (a ∷ []) four signal = absurd (omega (arith, four))
+declares-four scopes (a ∷ b ∷ []) four signal = absurd (omega (arith, four))
+declares-four scopes (a ∷ b ∷ c ∷ []) four signal = absurd (omega (arith, four))
+declares-four scopes (a ∷ b ∷ c ∷ d ∷ []) four signal = record {
+  is = λ name. ap (λ (s : Bool). if s && bytes_eq name (path scopes d) then Some c else None)
+      signal;
+}
+declares-four scopes (a ∷ b ∷ c ∷ d ∷ e ∷ tokens) four signal = absurd (omega (arith, four))
+
+-- other tokens declare none
+pub declares-none : (scopes tokens : List (List ℕ)) → (length (take 5 tokens) ≡ 4
+    → is_signal (get_or (take 5 tokens) 0 []) (get_or (take 5 tokens) 1 []) ≡ false)
+    → (name : List ℕ) → identifier_in scopes name tokens ≡ None
+declares-none scopes [] other name = refl
+declares-none scopes (a ∷ []) other name = refl
+declares-none scopes (a ∷ b ∷ []) other name = refl
+declares-none scopes (a ∷ b ∷ c ∷ []) other name = refl
+declares-none scopes (a ∷ b ∷ c ∷ d ∷ []) other name =
+    ap (λ (s : Bool). if s && bytes_eq name (path scopes d) then Some c else None) (other refl)
+declares-none scopes (a ∷ b ∷ c ∷ d ∷ e ∷ tokens) other name = refl
+
+-- ---- the end of a section, by its command
+
+abbrev pub ended_by : Command → List Statement → List (List ℕ) → Result (Step Place) TraceKind
+ended_by Scope past tokens = scope_says past tokens
+ended_by Upscope past tokens = goes_to (upscope ∷ past) nothing
+ended_by Var past tokens = declaration_says past tokens
+ended_by EndDefinitions past tokens = goes_to (definitions ∷ past) nothing
+ended_by Other past tokens = goes_to past nothing
+
+picked : (a b c d : Bool) (past : List Statement) (tokens : List (List ℕ))
+    → (if a then scope_says past tokens else (if b then goes_to (upscope ∷ past) nothing
+    else (if c then declaration_says past tokens
+    else (if d then goes_to (definitions ∷ past) nothing else goes_to past nothing))))
+    ≡ ended_by (if a then Scope else (if b then Upscope else (if c then Var else (if d then
+    EndDefinitions else Other)))) past tokens
+picked true b c d past tokens = refl
+picked false true c d past tokens = refl
+picked false false true d past tokens = refl
+picked false false false true past tokens = refl
+picked false false false false past tokens = refl
+
+pub section-ended : (past : List Statement) (word : List ℕ) (tokens : List (List ℕ))
+    (command : Command) → command ≡ command_of word
+    → section_says past word tokens ≡ ended_by command past tokens
+section-ended past word tokens command is =
+    picked (bytes_eq word (codes "$scope")) (bytes_eq word (codes "$upscope"))
+    (bytes_eq word (codes "$var")) (bytes_eq word (codes "$enddefinitions")) past tokens
+    ∙ ap (λ k. ended_by k past tokens) (sym is)
+
+-- an element of a list that is kept in another form
+pub kept-at : {X : Type 0} (f : X → List ℕ) (items : List X) (kept : List (List ℕ)) (i : ℕ)
+    (d item : X) (bytes : List ℕ) → map f items ≡ kept → i < length items → item ≡ get_or items i d
+    → bytes ≡ f item → bytes ≡ get_or kept i []
+kept-at f items kept i d item bytes same below is read =
+    read ∙ ap f is ∙ sym (get_or-map f items i d [] below) ∙ ap (λ all. get_or all i []) same
+
+-- whether they are a signal's tokens is told by the first two of those that are kept
+pub same-signal : (kept : List (List ℕ)) (kind size : List ℕ) (value : Bool)
+    → kind ≡ get_or kept 0 [] → size ≡ get_or kept 1 [] → is_signal kind size ≡ value
+    → is_signal (get_or kept 0 []) (get_or kept 1 []) ≡ value
+same-signal kept kind size value first second is =
+    sym (ap (λ k. is_signal k size) first ∙ ap (λ s. is_signal (get_or kept 0 []) s) second) ∙ is
+
+pub declares-kept : (scopes tokens : List (List ℕ)) (identifier reference : List ℕ)
+    → identifier ≡ get_or (take 5 tokens) 2 [] → reference ≡ get_or (take 5 tokens) 3 []
+    → length (take 5 tokens) ≡ 4
+    → is_signal (get_or (take 5 tokens) 0 []) (get_or (take 5 tokens) 1 []) ≡ true
+    → Declares scopes tokens identifier reference
+declares-kept scopes tokens identifier reference third fourth four signal =
+    subst (λ one. Declares scopes tokens one reference) (sym third)
+    (subst (λ other. Declares scopes tokens (get_or (take 5 tokens) 2 []) other) (sym fourth)
+    (declares-four scopes tokens four signal))

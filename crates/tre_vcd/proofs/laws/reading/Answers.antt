@@ -1,0 +1,12 @@
+use Rattle.tre_parts.specs.Growing.{reading-grows}
+use Rattle.tre_parts.specs.Times.{reading-is_trace}
+use Rattle.tre_vcd.specs.Times.{vcd-keeps_time}
+use Rattle.tre_vcd.specs.VcdReading.{vcd_format}
+use Rattle.tre_vcd.proofs.laws.reading.Goals as goal
+
+pub returns : goal.returns
+returns c = record {
+  is_trace = λ names closed bytes.
+      reading-is_trace (vcd_format names) closed bytes (vcd-keeps_time names);
+  grows = λ names closed first more. reading-grows (vcd_format names) closed first more;
+}

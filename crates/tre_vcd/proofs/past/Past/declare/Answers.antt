@@ -1,0 +1,69 @@
+use Rattle.std.proofs.Common.{◌≡◌, ◌<◌, ◌∷◌, List, [], ℕ, get_or, length, ap, sym, ◌∙◌, subst, arith, None, Some, false}
+use Rattle.std.specs.Str.{bytes_eq}
+use Rattle.tre_vcd.specs.VcdReading.{var, path, scopes_at, identifier_in, first_of}
+use Rattle.tre_vcd.specs.declared.signal.Signal.{Signal}
+use Rattle.tre_vcd.specs.Kept.{Knows, identifier_kept}
+use Rattle.tre_vcd.proofs.Knowing.{in-none, in-some, knows-other, known-set}
+use Rattle.tre_vcd.proofs.past.Past.declare.Goals.{in-Some+then-place-as_slice+in_ok-declare, in-Some+else-place-as_slice, in_default}
+use Rattle.tre_vcd.proofs.past.Past.declare.Goals as goal
+
+pub returns : goal.returns
+returns c = λ past tokens known before declares.
+    let names = c.args.names.now in
+    let identifier = c.args.identifier.now in
+    let reference = c.args.reference.now in
+    let kept = c.fill.new.self in
+    let filled : Knows names kept past = c.in_ok-fill.ensures.known past known in
+    let len : length kept.signals.items ≡ length names = c.in_ok-fill.ensures.len past known in
+    let bytes = c.deref.result.now in
+    let is : bytes ≡ path (scopes_at past) reference =
+    c.deref.ensures.value ∙ c.in_ok-name.ensures (scopes_at past) known.scopes in
+    let other : (name : List ℕ) → bytes_eq name bytes ≡ false → identifier_in (scopes_at past) name
+    tokens ≡ None =
+    λ name differs. in-none (scopes_at past) tokens identifier reference bytes name declares is
+    differs in
+    elim c.match-place_of.branch [
+      | in-Some+then-place-as_slice+in_ok-declare w ↦
+          subst (λ now. Knows names now (var tokens ∷ past)) (sym w.self-is) (record {
+            defined = filled.defined;
+            dump = filled.dump;
+            time = filled.time;
+            scopes = filled.scopes;
+            signals =
+                let place = w.in-Some.place in
+                let at : w.from-place.result ≡ place = w.from-place.ensures in
+                let old = w.index_mut.result.now in
+                let below : w.from-place.result < length kept.signals.items =
+                omega (arith, at, len, w.in-Some.ensures.within) in
+                let one : identifier_in (scopes_at past) (get_or names w.from-place.result [])
+                tokens ≡ Some identifier =
+                in-some (scopes_at past) tokens identifier reference bytes
+                (get_or names w.from-place.result []) declares is
+                (ap (λ k. bytes_eq (get_or names k []) bytes) at ∙ w.in-Some.ensures.found) in
+                known-set past tokens names kept.signals.items w.from-place.result identifier old
+                w.declare.new.self below one
+                (λ k within apart. other (get_or names k []) (w.in-Some.ensures.alone k within
+                (λ e. apart (e ∙ sym at))))
+                (known.quiet before identifier) (record {
+                  identifier_is = w.in_ok-declare.ensures.identifier
+                      ∙ ap (λ signal. first_of (identifier_kept signal) (Some identifier))
+                      w.index_mut.ensures.value;
+                  value = w.declare.ensures.value
+                      ∙ ap (λ (signal : Signal). signal.value) w.index_mut.ensures.value;
+                }) filled.signals;
+            quiet = filled.quiet;
+          })
+      | in-Some+else-place-as_slice w ↦
+          absurd (omega (
+            arith,
+            len,
+            ap length w.as_slice.ensures.value,
+            w.from-place.ensures,
+            w.if-place-as_slice.false,
+            w.in-Some.ensures.within,
+          ))
+      | in_default w ↦
+          subst (λ now. Knows names now (var tokens ∷ past)) (sym w.self-is)
+          (knows-other names kept past tokens
+          (λ k below. other (get_or names k []) (w.in_default.ensures.none k below)) filled)
+    ]

@@ -1,0 +1,25 @@
+use Rattle.std.proofs.Common.{◌≡◌, ◌-◌, ◌<◌, ◌^◌, length, get_or, true, sym}
+use Rattle.std.specs.Char.{is_ascii_digit}
+use Rattle.tre_vcd.proofs.Digits.{digits_value-take, list_all-take, digit_value-digit, capped_step}
+use Rattle.tre_vcd.proofs.ticks.read_ticks.Goals as goal
+
+pub loop-byte-preserved : goal.loop-byte-preserved
+loop-byte-preserved c =
+    let digits = c.args.digits.now in
+    let i = c.loop-byte.byte-index in
+    let below : i < length digits = c.loop-byte-test.true in
+    let here : is_ascii_digit (get_or digits i 0) ≡ true = sym c.if-not-is_ascii_digit.ensures.value
+    in
+    record {
+      digits = list_all-take is_ascii_digit digits i below c.loop-byte.invariant.digits here;
+      value = rw (
+        c.saturating_add-ticks.ensures,
+        c.saturating_mul.ensures,
+        c.from.ensures,
+        ←
+            digit_value-digit _ here,
+        c.loop-byte.invariant.value,
+        digits_value-take digits i below,
+      )
+          (capped_step (2 ^ 64 - 1) _ _);
+    }

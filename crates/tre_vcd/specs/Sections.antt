@@ -1,0 +1,53 @@
+-- What the reader keeps of what is open.
+use Rattle.std.specs.Prelude.{◌≡◌, ℕ, Bool, true, false, List, [], codes, map, take, if◌then◌else◌}
+use Rattle.tre_vcd.specs.VcdReading.{Open, nothing, section, comment, vector, number, Place, is, is_defined}
+use Rattle.tre_vcd.specs.Kept.{Knows}
+use Rattle.tre_vcd.specs.declared.command.Command.{Command}
+use Rattle.tre_vcd.specs.declared.command.Command.TheVariants.{Scope, Upscope, Var, EndDefinitions, Other}
+use Rattle.tre_vcd.specs.declared.inside.Inside.{Inside}
+use Rattle.tre_vcd.specs.declared.inside.Inside.TheVariants.{Nothing, Section, Comment, Vector, Number}
+use Rattle.tre_vcd.specs.declared.token_reader.TheConstants.{KEPT_MAX}
+use Rattle.tre_vcd.specs.declared.token_reader.TokenReader.{TokenReader}
+
+abbrev pub command_of : List ℕ → Command
+command_of token =
+    if is token (codes "$scope") then Scope
+    else (if is token (codes "$upscope") then Upscope
+    else (if is token (codes "$var") then Var
+    else (if is token (codes "$enddefinitions") then EndDefinitions else Other)))
+
+abbrev pub inside_of : Open → Inside
+inside_of nothing = Nothing
+inside_of (section command tokens) = Section (command_of command)
+inside_of comment = Comment
+inside_of (vector value) = Vector value
+inside_of number = Number
+
+abbrev pub is_nothing : Inside → Bool
+is_nothing Nothing = true
+is_nothing (Section command) = false
+is_nothing Comment = false
+is_nothing (Vector value) = false
+is_nothing Number = false
+
+-- the tokens of the open section
+abbrev pub tokens_of : Open → List (List ℕ)
+tokens_of (section command tokens) = tokens
+tokens_of _ = []
+
+-- Sections are open before the declarations end, and all else behind them.
+abbrev pub Suits : Open → Bool → Type 0
+Suits nothing defined = Unit {0}
+Suits (section command tokens) defined = defined ≡ false
+Suits comment defined = defined ≡ true
+Suits (vector value) defined = defined ≡ true
+Suits number defined = defined ≡ true
+
+-- The reader is at this place: it knows the past, and of what is open it keeps what counts. Of a
+-- section the first `KEPT_MAX` tokens do.
+pub record Holds (reader : TokenReader) (place : Place) : Type 0 where
+  pub past : Knows reader.names reader.past place.past
+  pub inside : reader.inside ≡ inside_of place.inside
+  pub tokens : map (λ token. token.items) reader.tokens.items
+      ≡ take KEPT_MAX (tokens_of place.inside)
+  pub suits : Suits place.inside (is_defined place.past)

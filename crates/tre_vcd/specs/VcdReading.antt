@@ -1,0 +1,280 @@
+-- What the tokens of a value change dump say (IEEE Std 1364-2005, clause 18).
+use Rattle.std.specs.Prelude.{ℕ, ◌+◌, ◌-◌, ◌^◌, nat_le, nat_lt, Bool, true, false, not, ◌&&◌, ◌||◌, ◌==◌, List, [], ◌∷◌, ◌++◌, drop, length, Option, None, Some, Result, Ok, Err, codes, if◌then◌else◌}
+use Rattle.std.specs.List.{list_all, list_any}
+use Rattle.std.specs.Str.{bytes_eq}
+use Rattle.std.specs.Str.Parse.{digits_value}
+use Rattle.std.specs.Char.{is_ascii_digit}
+use Rattle.std.specs.Option.{option_map}
+use Rattle.tre_pairs.specs.declared.TheConstants.{TIME_MAX}
+use Rattle.tre_parts.specs.Format.{Format, Step, reading_of}
+use Rattle.tre_trace.specs.Reading.{Reading}
+use Rattle.tre_trace.specs.declared.fault.TraceKind.{TraceKind}
+use Rattle.tre_trace.specs.declared.fault.TraceKind.TheVariants.{TooLate, BadToken, UnknownName, TimeBack, CutShort}
+
+-- White space is the byte 32, and the bytes 9 to 13.
+abbrev pub is_white : ℕ → Bool
+is_white byte = byte == 32 || (nat_le 9 byte && nat_le byte 13)
+
+-- what was read whole
+pub data Statement : Type 0 where
+  scope : List ℕ → Statement
+  upscope : Statement
+  var : List (List ℕ) → Statement
+  definitions : Statement
+  time : ℕ → Statement
+  change : List ℕ → Bool → Statement
+  dump : Statement
+  dump_end : Statement
+
+-- What is open behind a token: nothing; a section of the declarations, with its command and the
+-- tokens in it; a comment among the values; a vector that waits for its identifier; a real or a
+-- string that does.
+pub data Open : Type 0 where
+  nothing : Open
+  section : List ℕ → List (List ℕ) → Open
+  comment : Open
+  vector : Bool → Open
+  number : Open
+
+-- A place among the tokens: what was read, the newest first, and what is open.
+pub record Place : Type 0 where
+  pub past : List Statement
+  pub inside : Open
+
+-- ---- what the past says
+
+-- the declarations have ended
+abbrev pub is_defined : List Statement → Bool
+is_defined [] = false
+is_defined (definitions ∷ past) = true
+is_defined (_ ∷ past) = is_defined past
+
+-- the last time, which is 0 before the first
+abbrev pub time_at : List Statement → ℕ
+time_at [] = 0
+time_at (time ticks ∷ past) = ticks
+time_at (_ ∷ past) = time_at past
+
+-- the open scopes, the innermost first
+abbrev pub scopes_at : List Statement → List (List ℕ)
+scopes_at [] = []
+scopes_at (scope name ∷ past) = name ∷ scopes_at past
+scopes_at (upscope ∷ past) = drop 1 (scopes_at past)
+scopes_at (_ ∷ past) = scopes_at past
+
+-- a dump section is open
+abbrev pub in_dump : List Statement → Bool
+in_dump [] = false
+in_dump (dump ∷ past) = true
+in_dump (dump_end ∷ past) = false
+in_dump (_ ∷ past) = in_dump past
+
+-- the value of the last change of this identifier; false where there is none
+abbrev pub value_at : List Statement → List ℕ → Bool
+value_at [] identifier = false
+value_at (change other value ∷ past) identifier =
+    if bytes_eq identifier other then value else value_at past identifier
+value_at (_ ∷ past) identifier = value_at past identifier
+
+-- the names of the scopes, the outermost first, and the reference, joined by full stops (46)
+abbrev pub path : List (List ℕ) → List ℕ → List ℕ
+path [] reference = reference
+path (name ∷ scopes) reference = path scopes (name ++ 46 ∷ reference)
+
+-- a variable of one bit that is true or false
+abbrev pub is_signal : List ℕ → List ℕ → Bool
+is_signal kind size =
+    bytes_eq size (codes "1")
+    && not (bytes_eq kind (codes "real") || bytes_eq kind (codes "realtime") || bytes_eq kind
+    (codes "event"))
+
+-- the identifier of a declaration in these scopes, where it declares the proposition of this name
+abbrev pub identifier_in : List (List ℕ) → List ℕ → List (List ℕ) → Option (List ℕ)
+identifier_in scopes name (kind ∷ size ∷ identifier ∷ reference ∷ []) =
+    if is_signal kind size && bytes_eq name (path scopes reference) then Some identifier else None
+identifier_in scopes name _ = None
+
+-- the first of two, where there is one, and else the second
+abbrev pub first_of : Option (List ℕ) → Option (List ℕ) → Option (List ℕ)
+first_of (Some identifier) other = Some identifier
+first_of None other = other
+
+-- the identifier of the proposition of this name: that of its first declaration
+abbrev pub identifier_of : List Statement → List ℕ → Option (List ℕ)
+identifier_of [] name = None
+identifier_of (var tokens ∷ past) name =
+    first_of (identifier_of past name) (identifier_in (scopes_at past) name tokens)
+identifier_of (_ ∷ past) name = identifier_of past name
+
+-- the value of the proposition of this name
+abbrev pub value_of : List Statement → Option (List ℕ) → Bool
+value_of past None = false
+value_of past (Some identifier) = value_at past identifier
+
+-- The valuation of the propositions of these names, the first of which has bit i.
+abbrev pub valuation_from : List Statement → ℕ → List (List ℕ) → ℕ
+valuation_from past i [] = 0
+valuation_from past i (name ∷ names) =
+    (if value_of past (identifier_of past name) then 2 ^ i else 0) + valuation_from past (i + 1)
+    names
+
+abbrev pub is_declared : List Statement → List ℕ → Bool
+is_declared past name = value_of (change [] true ∷ [])
+    (option_map (λ _. []) (identifier_of past name))
+
+-- ---- what a token says
+
+-- nothing is said, and this is the place behind it
+abbrev pub goes_to : List Statement → Open → Result (Step Place) TraceKind
+goes_to past inside = Ok (record { segments = []; state = record { past = past; inside = inside } })
+
+abbrev pub is : List ℕ → List ℕ → Bool
+is token word = bytes_eq token word
+
+abbrev pub is_end : List ℕ → Bool
+is_end token = bytes_eq token (codes "$end")
+
+abbrev pub is_dump : List ℕ → Bool
+is_dump token =
+    is token (codes "$dumpall") || is token (codes "$dumpoff") || is token (codes "$dumpon")
+    || is token (codes "$dumpvars")
+
+-- it begins with `$` (36)
+abbrev pub is_command : List ℕ → Bool
+is_command [] = false
+is_command (byte ∷ bytes) = byte == 36
+
+-- the end of a `$scope` section
+abbrev pub scope_says : List Statement → List (List ℕ) → Result (Step Place) TraceKind
+scope_says past (kind ∷ name ∷ tokens) = goes_to (scope name ∷ past) nothing
+scope_says past _ = Err BadToken
+
+-- the end of a `$var` section
+abbrev pub declaration_says : List Statement → List (List ℕ) → Result (Step Place) TraceKind
+declaration_says past tokens =
+    if nat_lt (length tokens) 4 then Err BadToken else goes_to (var tokens ∷ past) nothing
+
+-- the end of a section of the declarations
+abbrev pub section_says : List Statement → List ℕ → List (List ℕ) → Result (Step Place) TraceKind
+section_says past command tokens =
+    if is command (codes "$scope") then scope_says past tokens
+    else (if is command (codes "$upscope") then goes_to (upscope ∷ past) nothing
+    else (if is command (codes "$var") then declaration_says past tokens
+    else (if is command (codes "$enddefinitions") then goes_to (definitions ∷ past) nothing
+    else goes_to past nothing)))
+
+-- a token among the declarations, where no section is open
+abbrev pub command_says : List (List ℕ) → List Statement → List ℕ → Result (Step Place) TraceKind
+command_says names past token =
+    if not (is_command token) || is_end token || is_dump token then Err BadToken
+    else (if is token (codes "$upscope") && length (scopes_at past) == 0 then Err BadToken
+    else (if is token (codes "$enddefinitions") && not (list_all (is_declared past) names) then Err
+    UnknownName
+    else goes_to past (section token [])))
+
+-- a time, behind the time that was reached
+abbrev pub time_says : List (List ℕ) → List Statement → ℕ → Result (Step Place) TraceKind
+time_says names past ticks =
+    if nat_lt ticks (time_at past) then Err TimeBack
+    else (if nat_lt TIME_MAX ticks then Err TooLate
+    else (if ticks == time_at past then goes_to (time ticks ∷ past) nothing
+    else Ok (record {
+      segments = record { len = ticks - time_at past; val = valuation_from past 0 names } ∷ [];
+      state = record { past = time ticks ∷ past; inside = nothing };
+    })))
+
+-- a dump section opens or closes
+abbrev pub dump_says : List Statement → Result (Step Place) TraceKind
+dump_says past = if in_dump past then Err BadToken else goes_to (dump ∷ past) nothing
+
+abbrev pub dump_end_says : List Statement → Result (Step Place) TraceKind
+dump_end_says past = if in_dump past then goes_to (dump_end ∷ past) nothing else Err BadToken
+
+-- a command among the values
+abbrev pub keyword_says : List Statement → List ℕ → Result (Step Place) TraceKind
+keyword_says past token =
+    if is_dump token then dump_says past
+    else (if is_end token then dump_end_says past
+    else (if is token (codes "$comment") then goes_to past comment else Err BadToken))
+
+-- the letters of scalar values, of which `1` alone is true
+abbrev pub is_scalar : ℕ → Bool
+is_scalar byte = list_any (λ letter. byte == letter) (codes "01xXzZuUwWlLhH-")
+
+-- a scalar change: the value's letter, and an identifier of one byte at least
+abbrev pub scalar_says : List Statement → ℕ → List ℕ → Result (Step Place) TraceKind
+scalar_says past letter [] = Err BadToken
+scalar_says past letter identifier = goes_to (change identifier (letter == 49) ∷ past) nothing
+
+-- whether the last byte is `1` (49)
+abbrev pub ends_true : List ℕ → Bool
+ends_true [] = false
+ends_true (byte ∷ []) = byte == 49
+ends_true (byte ∷ next ∷ bytes) = ends_true (next ∷ bytes)
+
+-- a vector: its letter, and one byte at least
+abbrev pub vector_says : List Statement → List ℕ → Result (Step Place) TraceKind
+vector_says past [] = Err BadToken
+vector_says past value = goes_to past (vector (ends_true value))
+
+-- `#` and decimal digits, one at least
+abbrev pub ticks_say : List (List ℕ) → List Statement → List ℕ → Result (Step Place) TraceKind
+ticks_say names past digits =
+    if nat_lt 0 (length digits) && list_all is_ascii_digit digits
+    then time_says names past (digits_value 10 digits) else Err BadToken
+
+-- a token among the values, where nothing is open, by its first byte: `#`, `$`, the letters of
+-- vectors, those of reals and strings, and those of scalars
+abbrev pub value_says : List (List ℕ) → List Statement → List ℕ → Result (Step Place) TraceKind
+value_says names past [] = goes_to past nothing
+value_says names past (byte ∷ bytes) =
+    if byte == 35 then ticks_say names past bytes
+    else (if byte == 36 then keyword_says past (byte ∷ bytes)
+    else (if byte == 98 || byte == 66 then vector_says past bytes
+    else (if list_any (λ letter. byte == letter) (codes "rRsS") then goes_to past number
+    else (if is_scalar byte then scalar_says past byte bytes else Err BadToken))))
+
+-- a token where nothing is open
+abbrev pub first_says : List (List ℕ) → List Statement → List ℕ → Result (Step Place) TraceKind
+first_says names past token =
+    if is_defined past then value_says names past token else command_says names past token
+
+-- what a token says at a place
+abbrev pub token_at : List (List ℕ) → List Statement → Open → List ℕ → Result (Step Place) TraceKind
+token_at names past nothing token = first_says names past token
+token_at names past (section command tokens) token =
+    if is_end token then section_says past command tokens
+    else goes_to past (section command (tokens ++ token ∷ []))
+token_at names past comment token = goes_to past (if is_end token then nothing else comment)
+token_at names past (vector value) token = goes_to (change token value ∷ past) nothing
+token_at names past number token = goes_to past nothing
+
+-- what stands between two separators: a token, or nothing where they are neighbours
+unfoldable pub token_says : List (List ℕ) → Place → List ℕ → Result (Step Place) TraceKind
+token_says names place [] = goes_to place.past place.inside
+token_says names place token = token_at names place.past place.inside token
+
+-- The input may end where the declarations have ended and nothing is open.
+abbrev pub is_whole : Open → Bool
+is_whole nothing = true
+is_whole _ = false
+
+unfoldable pub end_says : Place → Option TraceKind
+end_says place =
+    if is_defined place.past && not (in_dump place.past) && is_whole place.inside then None else
+    Some CutShort
+
+-- The format: tokens between white space. A fault is told with the offset of its token.
+abbrev pub vcd_format : List (List ℕ) → Format Place
+vcd_format names = record {
+  separates = is_white;
+  start = record { past = []; inside = nothing };
+  place = λ spot. spot.offset;
+  says = token_says names;
+  at_end = end_says;
+  time = λ place. time_at place.past;
+}
+
+-- What the bytes say of a trace, for the propositions of these names.
+abbrev pub vcd_reading : List (List ℕ) → Bool → List ℕ → Reading
+vcd_reading names closed bytes = reading_of (vcd_format names) closed bytes

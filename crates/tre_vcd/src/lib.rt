@@ -1,0 +1,31 @@
+//! Value change dumps, as simulators write them (IEEE Std 1364-2005, clause 18).
+//!
+//! What the bytes of one say of a trace is in specs/VcdReading.antt: a definition that looks back
+//! over the tokens. It is tried on whole files in proofs/Rows.antt.
+//!
+//! [`VcdReader`] reads them in pieces. It keeps the token that isn't ended yet, the open section
+//! and scopes, the time, and the identifiers and values of its propositions, and nothing else.
+//! The layers above rely on the definition and on the contract of a `TraceReader`.
+//!
+//! ```text
+//! let mut reader = VcdReader::new(alloc, names);
+//! reader.feed(b"$var wire 1 ! p $end $enddefinitions $end 1! #5", &mut segments)?;
+//! reader.finish(&mut segments)?; // one segment of five ticks, on which p is true
+//! ```
+#![tactic(auto)]
+
+mod command;
+mod inside;
+pub mod laws;
+mod past;
+mod place;
+mod scopes;
+mod signal;
+#[cfg(test)]
+mod tests;
+mod ticks;
+mod token;
+mod token_reader;
+mod vcd_reader;
+
+pub use vcd_reader::VcdReader;

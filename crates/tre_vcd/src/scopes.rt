@@ -1,0 +1,69 @@
+ghost use Rattle.std.specs.Prelude.{◌≡◌, ◌==◌, ℕ, List, [], ◌∷◌, drop, length, IfOk, OnOk};
+ghost use Rattle.tre_vcd.specs.VcdReading.{path};
+ghost use Rattle.tre_vcd.specs.Kept.{AreScopes};
+
+use std::alloc::{AllocError, Global};
+
+// The open scopes: their names, the outermost first, each with a full stop behind it, and how long
+// this text was before each of them.
+#[derive(Drop)]
+pub struct Scopes {
+    pub prefix: Vec<u8>,
+    pub lens: Vec<usize>,
+}
+
+impl Scopes {
+    // No scope is open.
+    pub fn new(alloc: Global) -> Scopes
+        ensures { AreScopes [] result.prefix.items result.lens.items }
+    {
+        Scopes {
+            prefix: Vec::new(alloc),
+            lens: Vec::new(alloc),
+        }
+    }
+
+    // Whether no scope is open.
+    pub fn is_empty(&self) -> bool
+        ensures { (scopes : List (List ℕ)) →
+            AreScopes scopes self.now.prefix.items self.now.lens.items →
+            result ≡ (length scopes == 0) }
+    {
+        self.lens.as_slice().is_empty()
+    }
+
+    // A scope opens inside the others.
+    pub fn enter(&mut self, name: &[u8]) -> Result<(), AllocError>
+        ensures { (scopes : List (List ℕ)) →
+            AreScopes scopes self.old.prefix.items self.old.lens.items →
+            OnOk result (AreScopes (name.now ∷ scopes) self.new.prefix.items
+            self.new.lens.items) }
+    {
+        self.lens.push(self.prefix.len())?;
+        self.prefix.extend_from_slice(name)?;
+        self.prefix.push(b'.')?;
+        Ok(())
+    }
+
+    // The innermost scope closes.
+    pub fn leave(&mut self)
+        ensures { (scopes : List (List ℕ)) →
+            AreScopes scopes self.old.prefix.items self.old.lens.items →
+            AreScopes (drop 1 scopes) self.new.prefix.items self.new.lens.items }
+    {
+        if let Some(len) = self.lens.pop() {
+            self.prefix.truncate(len);
+        }
+    }
+
+    // The name of what has this reference in these scopes.
+    pub fn path(&self, alloc: Global, reference: &[u8]) -> Result<Vec<u8>, AllocError>
+        ensures { (scopes : List (List ℕ)) →
+            AreScopes scopes self.now.prefix.items self.now.lens.items →
+            IfOk result (λ name. name.items ≡ path scopes reference.now) }
+    {
+        let mut name = Vec::from_slice(alloc, &self.prefix)?;
+        name.extend_from_slice(reference)?;
+        Ok(name)
+    }
+}

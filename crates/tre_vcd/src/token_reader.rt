@@ -1,0 +1,444 @@
+// The tokens of a dump, one after the other.
+ghost use Rattle.std.specs.Prelude.{◌≡◌, ◌≢◌, ℕ, List, [], ◌∷◌, ◌++◌, map, true, false, not, ◌&&◌, OnOk};
+ghost use Rattle.tre_parts.specs.Walk.{Tells};
+ghost use Rattle.tre_parts.specs.declared.said.Said.{Said};
+ghost use Rattle.tre_trace.specs.declared.fault.TraceKind.TheVariants.{Spent};
+ghost use Rattle.tre_vcd.specs.VcdReading.{Statement, Place, nothing, section, comment, vector, number, is_defined, goes_to, vcd_format, token_says, command_says, section_says, ticks_say, keyword_says, scalar_says, vector_says, value_says, scope_says, declaration_says, dump_says, dump_end_says, first_says, change, token_at};
+ghost use Rattle.tre_vcd.specs.Sections.{Holds, command_of, is_nothing};
+ghost use Rattle.tre_vcd.specs.Kept.{Knows};
+ghost use Rattle.tre_vcd.specs.Times.{vcd-keeps_time};
+
+use crate::command::{Command, command_of};
+use crate::inside::Inside;
+use crate::past::Past;
+use crate::ticks::read_ticks;
+use crate::token::{
+    ends_true, first_white, is, is_dump, is_end, is_misplaced, is_number, is_scalar, is_signal,
+};
+use std::alloc::{AllocError, Global};
+use tre_pairs::TIME_MAX;
+use tre_parts::{PartReader, Said, Spot};
+use tre_state::Names;
+use tre_trace::{Segment, TraceKind};
+
+/// How many tokens of an open section are kept. No command takes more than four, and the fifth says
+/// that there are more.
+const KEPT_MAX: usize = 5;
+
+/// Reads tokens. It keeps what later ones need of the past, what is open, and the first tokens of
+/// an open section.
+#[derive(Drop)]
+pub struct TokenReader {
+    pub names: Names,
+    pub past: Past,
+    pub inside: Inside,
+    pub tokens: Vec<Vec<u8>>,
+}
+
+impl TokenReader {
+    /// Nothing was read.
+    pub fn new(alloc: Global, names: Names) -> TokenReader
+        ensures begins { Holds result (record { past = []; inside = nothing }) }
+        ensures names { result.names ≡ names }
+    {
+        TokenReader {
+            names,
+            past: Past::new(alloc),
+            inside: Inside::Nothing,
+            tokens: Vec::new(alloc),
+        }
+    }
+
+    // Whether the input may end here.
+    fn is_whole(&self) -> bool
+        ensures { result ≡ (self.now.past.is_defined && not self.now.past.in_dump
+            && is_nothing self.now.inside) }
+    {
+        self.past.is_defined && !self.past.in_dump && self.inside.is_nothing()
+    }
+
+    // Reads a token among the declarations, where no section is open.
+    fn read_command(&mut self, token: &[u8]) -> Said
+        ensures tells { (past : List Statement) →
+            Holds self.old (record { past = past; inside = nothing }) →
+            is_defined past ≡ false →
+            Tells (command_says self.old.names past token.now) (Holds self.new) result }
+        ensures kinds { result ≢ Said.Wrong Spent }
+        ensures same_names { self.new.names ≡ self.old.names }
+    {
+        if is_misplaced(token) {
+            return Said::Wrong(TraceKind::BadToken);
+        }
+        if is(token, "$upscope") && self.past.scopes.is_empty() {
+            return Said::Wrong(TraceKind::BadToken);
+        }
+        if is(token, "$enddefinitions") && !self.past.is_all_declared(&self.names) {
+            return Said::Wrong(TraceKind::UnknownName);
+        }
+        self.inside = Inside::Section(command_of(token));
+        Said::Nothing
+    }
+
+    // Keeps a token of the open section, where it is one of the first.
+    fn keep(&mut self, token: &[u8]) -> Said
+        ensures tells { (past : List Statement) (command : List ℕ) (tokens : List (List ℕ)) →
+            Holds self.old (record { past = past; inside = section command tokens }) →
+            Tells (goes_to past (section command (tokens ++ token.now ∷ []))) (Holds self.new)
+            result }
+        ensures kinds { result ≢ Said.Wrong Spent }
+        ensures same_names { self.new.names ≡ self.old.names }
+    {
+        if self.tokens.as_slice().len() >= KEPT_MAX {
+            return Said::Nothing;
+        }
+        match push_token(&mut self.tokens, self.past.alloc, token) {
+            Ok(()) => Said::Nothing,
+            Err(_) => Said::Wrong(TraceKind::Memory),
+        }
+    }
+
+    // Reads a time.
+    fn read_time(&mut self, digits: &[u8]) -> Said
+        ensures tells { (past : List Statement) →
+            Holds self.old (record { past = past; inside = nothing }) →
+            is_defined past ≡ true →
+            Tells (ticks_say self.old.names past digits.now) (Holds self.new) result }
+        ensures kinds { result ≢ Said.Wrong Spent }
+        ensures same_names { self.new.names ≡ self.old.names }
+    {
+        let Some(ticks) = read_ticks(digits) else {
+            return Said::Wrong(TraceKind::BadToken);
+        };
+        if ticks < self.past.time {
+            return Said::Wrong(TraceKind::TimeBack);
+        }
+        if ticks > TIME_MAX {
+            return Said::Wrong(TraceKind::TooLate);
+        }
+        if ticks == self.past.time {
+            self.past.reach(ticks);
+            return Said::Nothing;
+        }
+        let len = ticks - self.past.time;
+        let val = self.past.valuation(&self.names);
+        self.past.reach(ticks);
+        Said::Says(Segment { len, val })
+    }
+
+    // Reads a command among the values.
+    fn read_keyword(&mut self, token: &[u8]) -> Said
+        ensures tells { (past : List Statement) →
+            Holds self.old (record { past = past; inside = nothing }) →
+            is_defined past ≡ true →
+            Tells (keyword_says past token.now) (Holds self.new) result }
+        ensures kinds { result ≢ Said.Wrong Spent }
+        ensures same_names { self.new.names ≡ self.old.names }
+    {
+        if is_dump(token) {
+            return self.open_dump();
+        }
+        if is_end(token) {
+            return self.close_dump();
+        }
+        if is(token, "$comment") {
+            self.inside = Inside::Comment;
+            return Said::Nothing;
+        }
+        Said::Wrong(TraceKind::BadToken)
+    }
+
+    // A dump section opens.
+    fn open_dump(&mut self) -> Said
+        ensures tells { (past : List Statement) →
+            Holds self.old (record { past = past; inside = nothing }) →
+            is_defined past ≡ true →
+            Tells (dump_says past) (Holds self.new) result }
+        ensures kinds { result ≢ Said.Wrong Spent }
+        ensures same_names { self.new.names ≡ self.old.names }
+    {
+        if self.past.in_dump {
+            return Said::Wrong(TraceKind::BadToken);
+        }
+        self.past.open_dump();
+        Said::Nothing
+    }
+
+    // A dump section closes.
+    fn close_dump(&mut self) -> Said
+        ensures tells { (past : List Statement) →
+            Holds self.old (record { past = past; inside = nothing }) →
+            is_defined past ≡ true →
+            Tells (dump_end_says past) (Holds self.new) result }
+        ensures kinds { result ≢ Said.Wrong Spent }
+        ensures same_names { self.new.names ≡ self.old.names }
+    {
+        if !self.past.in_dump {
+            return Said::Wrong(TraceKind::BadToken);
+        }
+        self.past.close_dump();
+        Said::Nothing
+    }
+
+    // Reads a scalar change: the letter of its value, and its identifier.
+    fn read_scalar(&mut self, letter: u8, identifier: &[u8]) -> Said
+        ensures tells { (past : List Statement) →
+            Holds self.old (record { past = past; inside = nothing }) →
+            is_defined past ≡ true →
+            Tells (scalar_says past letter identifier.now) (Holds self.new) result }
+        ensures kinds { result ≢ Said.Wrong Spent }
+        ensures same_names { self.new.names ≡ self.old.names }
+    {
+        if identifier.is_empty() {
+            return Said::Wrong(TraceKind::BadToken);
+        }
+        self.past.change(identifier, letter == b'1');
+        Said::Nothing
+    }
+
+    // Reads a vector, whose identifier is the next token.
+    fn read_vector(&mut self, value: &[u8]) -> Said
+        ensures tells { (past : List Statement) →
+            Holds self.old (record { past = past; inside = nothing }) →
+            is_defined past ≡ true →
+            Tells (vector_says past value.now) (Holds self.new) result }
+        ensures kinds { result ≢ Said.Wrong Spent }
+        ensures same_names { self.new.names ≡ self.old.names }
+    {
+        if value.is_empty() {
+            return Said::Wrong(TraceKind::BadToken);
+        }
+        self.inside = Inside::Vector(ends_true(value));
+        Said::Nothing
+    }
+
+    // Reads a token among the values, where nothing is open, by its first byte.
+    fn read_value(&mut self, token: &[u8]) -> Said
+        ensures tells { (past : List Statement) →
+            Holds self.old (record { past = past; inside = nothing }) →
+            is_defined past ≡ true →
+            Tells (value_says self.old.names past token.now) (Holds self.new) result }
+        ensures kinds { result ≢ Said.Wrong Spent }
+        ensures same_names { self.new.names ≡ self.old.names }
+    {
+        let Some((first, rest)) = token.split_first() else {
+            return Said::Nothing;
+        };
+        let letter = *first;
+        if letter == b'#' {
+            return self.read_time(rest);
+        }
+        if letter == b'$' {
+            return self.read_keyword(token);
+        }
+        if letter == b'b' || letter == b'B' {
+            return self.read_vector(rest);
+        }
+        if is_number(letter) {
+            self.inside = Inside::Number;
+            return Said::Nothing;
+        }
+        if is_scalar(letter) {
+            return self.read_scalar(letter, rest);
+        }
+        Said::Wrong(TraceKind::BadToken)
+    }
+
+    // Reads a token where nothing is open.
+    fn read_first(&mut self, token: &[u8]) -> Said
+        ensures tells { (past : List Statement) →
+            Holds self.old (record { past = past; inside = nothing }) →
+            Tells (first_says self.old.names past token.now) (Holds self.new) result }
+        ensures kinds { result ≢ Said.Wrong Spent }
+        ensures same_names { self.new.names ≡ self.old.names }
+    {
+        if self.past.is_defined {
+            return self.read_value(token);
+        }
+        self.read_command(token)
+    }
+
+    // Reads the identifier that a vector waits for.
+    fn read_identifier(&mut self, value: bool, identifier: &[u8]) -> Said
+        ensures tells { (past : List Statement) →
+            Holds self.old (record { past = past; inside = vector value }) →
+            Tells (goes_to (change identifier.now value ∷ past) nothing) (Holds self.new) result }
+        ensures kinds { result ≢ Said.Wrong Spent }
+        ensures same_names { self.new.names ≡ self.old.names }
+    {
+        self.past.change(identifier, value);
+        self.inside = Inside::Nothing;
+        Said::Nothing
+    }
+
+    // Nothing is open any more.
+    fn close(&mut self)
+        ensures holds { (past : List Statement) → Knows self.old.names self.old.past past →
+            Holds self.new (record { past = past; inside = nothing }) }
+        ensures same_names { self.new.names ≡ self.old.names }
+    {
+        self.inside = Inside::Nothing;
+        self.tokens.clear();
+    }
+
+    // A scope opens by the section that ends.
+    fn end_scope(&mut self) -> Said
+        ensures tells { (past : List Statement) (word : List ℕ) (tokens : List (List ℕ)) →
+            Holds self.old (record { past = past; inside = section word tokens }) →
+            Tells (scope_says past tokens) (Holds self.new) result }
+        ensures kinds { result ≢ Said.Wrong Spent }
+        ensures same_names { self.new.names ≡ self.old.names }
+    {
+        if self.tokens.as_slice().len() < 2 {
+            return Said::Wrong(TraceKind::BadToken);
+        }
+        match self.past.enter(&self.tokens.as_slice()[1]) {
+            Ok(()) => {
+                self.close();
+                Said::Nothing
+            }
+            Err(_) => Said::Wrong(TraceKind::Memory),
+        }
+    }
+
+    // A variable is declared by the section that ends.
+    fn end_declaration(&mut self) -> Said
+        ensures tells { (past : List Statement) (word : List ℕ) (tokens : List (List ℕ)) →
+            Holds self.old (record { past = past; inside = section word tokens }) →
+            Tells (declaration_says past tokens) (Holds self.new) result }
+        ensures kinds { result ≢ Said.Wrong Spent }
+        ensures same_names { self.new.names ≡ self.old.names }
+    {
+        let tokens = self.tokens.as_slice();
+        if tokens.len() < 4 {
+            return Said::Wrong(TraceKind::BadToken);
+        }
+        if tokens.len() == 4 && is_signal(&tokens[0], &tokens[1]) {
+            match self.past.declare(&self.names, &tokens[2], &tokens[3]) {
+                Ok(()) => {}
+                Err(_) => return Said::Wrong(TraceKind::Memory),
+            }
+        }
+        self.close();
+        Said::Nothing
+    }
+
+    // The section of this command ends.
+    fn end_section(&mut self, command: Command) -> Said
+        ensures tells { (past : List Statement) (word : List ℕ) (tokens : List (List ℕ)) →
+            Holds self.old (record { past = past; inside = section word tokens }) →
+            command ≡ command_of word →
+            Tells (section_says past word tokens) (Holds self.new) result }
+        ensures kinds { result ≢ Said.Wrong Spent }
+        ensures same_names { self.new.names ≡ self.old.names }
+    {
+        match command {
+            Command::Scope => self.end_scope(),
+            Command::Upscope => {
+                self.past.leave();
+                self.close();
+                Said::Nothing
+            }
+            Command::Var => self.end_declaration(),
+            Command::EndDefinitions => {
+                self.past.define();
+                self.close();
+                Said::Nothing
+            }
+            Command::Other => {
+                self.close();
+                Said::Nothing
+            }
+        }
+    }
+
+    // Reads a token in the section of this command.
+    fn read_inside(&mut self, command: Command, token: &[u8]) -> Said
+        ensures tells { (past : List Statement) (word : List ℕ) (tokens : List (List ℕ)) →
+            Holds self.old (record { past = past; inside = section word tokens }) →
+            command ≡ command_of word →
+            Tells (token_at self.old.names past (section word tokens) token.now)
+            (Holds self.new) result }
+        ensures kinds { result ≢ Said.Wrong Spent }
+        ensures same_names { self.new.names ≡ self.old.names }
+    {
+        if is_end(token) {
+            return self.end_section(command);
+        }
+        self.keep(token)
+    }
+
+    // Reads a token in a comment.
+    fn read_comment(&mut self, token: &[u8]) -> Said
+        ensures tells { (past : List Statement) →
+            Holds self.old (record { past = past; inside = comment }) →
+            Tells (token_at self.old.names past comment token.now) (Holds self.new) result }
+        ensures kinds { result ≢ Said.Wrong Spent }
+        ensures same_names { self.new.names ≡ self.old.names }
+    {
+        if is_end(token) {
+            self.inside = Inside::Nothing;
+        }
+        Said::Nothing
+    }
+
+    // Passes over the identifier that a real or a string waits for.
+    fn pass_over(&mut self) -> Said
+        ensures tells { (past : List Statement) →
+            Holds self.old (record { past = past; inside = number }) →
+            Tells (goes_to past nothing) (Holds self.new) result }
+        ensures kinds { result ≢ Said.Wrong Spent }
+        ensures same_names { self.new.names ≡ self.old.names }
+    {
+        self.inside = Inside::Nothing;
+        Said::Nothing
+    }
+}
+
+impl PartReader for TokenReader {
+    ghost State = { Place };
+
+    ghost names = { λ reader. reader.names };
+
+    ghost format = { vcd_format };
+
+    ghost holds = { Holds };
+
+    ghost keeps_time = { vcd-keeps_time };
+
+    fn separator_in(&self, bytes: &[u8]) -> Option<usize> {
+        first_white(bytes)
+    }
+
+    fn read(&mut self, part: &[u8]) -> Said {
+        if part.is_empty() {
+            return Said::Nothing;
+        }
+        match self.inside {
+            Inside::Nothing => self.read_first(part),
+            Inside::Section(command) => self.read_inside(command, part),
+            Inside::Comment => self.read_comment(part),
+            Inside::Vector(value) => self.read_identifier(value, part),
+            Inside::Number => self.pass_over(),
+        }
+    }
+
+    fn at_end(&self) -> Option<TraceKind> {
+        if self.is_whole() {
+            return None;
+        }
+        Some(TraceKind::CutShort)
+    }
+
+    fn place(&self, spot: Spot) -> u64 {
+        spot.offset
+    }
+}
+
+// Puts a copy of the token behind the others.
+fn push_token(tokens: &mut Vec<Vec<u8>>, alloc: Global, token: &[u8]) -> Result<(), AllocError>
+    ensures { OnOk result (map (λ token. token.items) tokens.new.items
+        ≡ map (λ token. token.items) tokens.old.items ++ token.now ∷ []) }
+{
+    tokens.push(Vec::from_slice(alloc, token)?)?;
+    Ok(())
+}
