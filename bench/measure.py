@@ -91,3 +91,18 @@ def print_head(cells):
 
 def cell(pattern):
     return "`" + pattern.replace("|", "\\|") + "`"
+
+
+BESIDE_WORDS = ["seconds", "`wc -w`", "ratio", "ratio of user time", "MB", "MB of `wc -w`"]
+
+
+def print_beside_words(labels, command, path, output):
+    """A row of the command over the file at `path`, beside `wc -w` on it: the labels, and BESIDE_WORDS."""
+    run = measure(command, path, output)
+    if run.stopped is not None:
+        print_row(labels + [run.stopped] + ["-"] * (len(BESIDE_WORDS) - 1))
+        return
+    words = measure(["wc", "-w"], path, output)
+    print_row(labels + ["%.3f" % run.seconds, "%.3f" % words.seconds,
+                        ratio(run.seconds, words.seconds), ratio(run.user, words.user),
+                        "%.1f" % (run.peak / 1024), "%.1f" % (words.peak / 1024)])

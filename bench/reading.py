@@ -10,7 +10,7 @@ import os
 import sys
 import tempfile
 
-from measure import adopt_orphans, count_lines, measure, print_head, print_row, ratio
+from measure import BESIDE_WORDS, adopt_orphans, count_lines, print_beside_words, print_head
 
 MEGABYTES = 100
 PATTERN = "bus.valid"
@@ -41,16 +41,8 @@ def write_file(path, line, megabytes):
 def report(montre, folder, name, line, megabytes):
     trace, output = os.path.join(folder, "trace"), os.path.join(folder, "output")
     write_file(trace, line, megabytes)
-    lines = count_lines(trace)
-    run = measure([montre, PATTERN], trace, output)
-    if run.stopped is not None:
-        print_row([name, str(megabytes), str(lines), run.stopped] + ["-"] * 5)
-        return
-    words = measure(["wc", "-w"], trace, output)
-    print_row([name, str(megabytes), str(lines), "%.3f" % run.seconds,
-               "%.3f" % words.seconds, ratio(run.seconds, words.seconds),
-               ratio(run.user, words.user), "%.1f" % (run.peak / 1024),
-               "%.1f" % (words.peak / 1024)])
+    print_beside_words([name, str(megabytes), str(count_lines(trace))],
+                       [montre, PATTERN], trace, output)
 
 
 def main():
@@ -60,8 +52,7 @@ def main():
     most = int(sys.argv[2]) if len(sys.argv) == 3 else MEGABYTES
     adopt_orphans()
     with tempfile.TemporaryDirectory() as folder:
-        print_head(["lines", "MB of input", "lines", "seconds", "`wc -w`", "ratio",
-                    "ratio of user time", "MB", "MB of `wc -w`"])
+        print_head(["lines", "MB of input", "lines"] + BESIDE_WORDS)
         report(montre, folder, "six names", six_names, most)
         report(montre, folder, "comments", comments, max(1, most // 10))
         report(montre, folder, "comments", comments, most)

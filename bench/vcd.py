@@ -11,7 +11,7 @@ import os
 import sys
 import tempfile
 
-from measure import adopt_orphans, measure, print_head, print_row, ratio
+from measure import BESIDE_WORDS, adopt_orphans, print_beside_words, print_head
 
 MEGABYTES = 100
 SIGNALS = 64   # of which 8 have eight bits, and the others one
@@ -102,15 +102,8 @@ def write_dump(path, block, megabytes):
 def report(montre, folder, name, block, megabytes):
     dump, output = os.path.join(folder, "dump"), os.path.join(folder, "output")
     times = write_dump(dump, block, megabytes)
-    run = measure([montre, "--format", "vcd", PATTERN], dump, output)
-    if run.stopped is not None:
-        print_row([name, str(megabytes), str(times), run.stopped] + ["-"] * 5)
-        return
-    words = measure(["wc", "-w"], dump, output)
-    print_row([name, str(megabytes), str(times), "%.3f" % run.seconds,
-               "%.3f" % words.seconds, ratio(run.seconds, words.seconds),
-               ratio(run.user, words.user), "%.1f" % (run.peak / 1024),
-               "%.1f" % (words.peak / 1024)])
+    print_beside_words([name, str(megabytes), str(times)],
+                       [montre, "--format", "vcd", PATTERN], dump, output)
 
 
 def main():
@@ -120,8 +113,7 @@ def main():
     most = int(sys.argv[2]) if len(sys.argv) == 3 else MEGABYTES
     adopt_orphans()
     with tempfile.TemporaryDirectory() as folder:
-        print_head(["dump", "MB of input", "times", "seconds", "`wc -w`", "ratio",
-                    "ratio of user time", "MB", "MB of `wc -w`"])
+        print_head(["dump", "MB of input", "times"] + BESIDE_WORDS)
         report(montre, folder, "64 signals", all_signals, most)
         report(montre, folder, "hardly a time", no_time, max(1, most // 10))
         report(montre, folder, "hardly a time", no_time, most)
