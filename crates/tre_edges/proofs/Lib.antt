@@ -3,7 +3,13 @@ pub mod RunLists
 pub mod InstantLists
 pub mod Literals
 pub mod EdgesOfRests
-pub mod Segments
+pub mod WordBits
+pub mod StateWords
+pub mod NextPlaces
+pub mod Places
+pub mod RunsOfTraces
+pub mod EdgesOfTraces
+pub mod NextTurns
 pub mod Turns
 pub mod MomentsOfTraces
 pub mod AtomsOfSegments

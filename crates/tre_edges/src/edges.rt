@@ -11,6 +11,8 @@ ghost use Rattle.tre_edges.specs.Ends.{EndBefore};
 ghost use Rattle.tre_edges.specs.Instants.{AreInstants};
 ghost use Rattle.tre_edges.specs.Truth.{HasTruth, ComesTo, IsFoundAt};
 
+use crate::next_place::next_place;
+use crate::truth_words::truth;
 use std::alloc::{AllocError, Global};
 use tre_state::{NAMES_MAX, State};
 use tre_trace::Trace;
@@ -38,32 +40,29 @@ pub fn falls(alloc: Global, state: &State, trace: &Trace) -> Result<ZoneSet, All
 }
 
 // The instants at which the state comes to this truth.
-fn changes(alloc: Global, state: &State, trace: &Trace, truth: bool) -> Result<ZoneSet, AllocError>
+fn changes(
+    alloc: Global,
+    state: &State,
+    trace: &Trace,
+    becomes: bool,
+) -> Result<ZoneSet, AllocError>
     requires { NumbersBelow NAMES_MAX (tree_of state.now) }
     ensures matches { IfOk result (λ zones.
-        HoldExactly zones (ComesTo truth (tree_of state.now) (whole trace.now))) }
+        HoldExactly zones (ComesTo becomes (tree_of state.now) (whole trace.now))) }
     ensures instants { IfOk result (λ zones. AreInstants 0 zones) }
 {
+    let words = truth(alloc, state, trace)?;
+    let count = trace.segments().len();
     let mut zones = ZoneSet::new(alloc);
-    // Whether the state has had the other truth until `now`: nothing was before the trace.
-    let mut other_before = false;
-    let mut now = 0;
-    for segment in trace.segments() {
-        let is = has_truth(state, segment.val, truth);
-        add_edge(&mut zones, now, other_before && is)?;
-        other_before = !is;
-        now += segment.len;
+    // All edges before the place `at` are in, and the one there is none.
+    let mut at = 0;
+    while at < count {
+        let other = next_place(&words, !becomes, at, count);
+        let turn = next_place(&words, becomes, other, count);
+        add_edge(&mut zones, trace.start_of(turn), turn < count)?;
+        at = turn + 1;
     }
     Ok(zones)
-}
-
-// Whether the state has this truth on the valuation.
-pub(crate) fn has_truth(state: &State, valuation: u64, truth: bool) -> bool
-    requires { NumbersBelow NAMES_MAX (tree_of state.now) }
-    ensures is { IsTrue result ↔ HasTruth truth (tree_of state.now) valuation }
-    ensures other { IsTrue (not result) ↔ HasTruth (not truth) (tree_of state.now) valuation }
-{
-    state.eval(valuation) == truth
 }
 
 // Adds the instant, where an edge was found there.

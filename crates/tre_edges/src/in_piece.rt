@@ -1,5 +1,5 @@
 // The atoms over one piece of a trace.
-ghost use Rattle.std.specs.Prelude.{◌+◌, ◌≤◌, ◌&&◌};
+ghost use Rattle.std.specs.Prelude.{◌+◌, ◌≤◌, ◌↔◌, ◌&&◌, not, IsTrue};
 ghost use Rattle.tre_pairs.specs.declared.TheConstants.{TIME_MAX};
 ghost use Rattle.tre_state.specs.State.{tree_of};
 ghost use Rattle.tre_state.specs.StateTree.{NumbersBelow};
@@ -7,9 +7,8 @@ ghost use Rattle.tre_syntax.specs.PatternTree.{empty, literal, rise, fall};
 ghost use Rattle.tre_syntax.specs.Rest.{AtomMatches};
 ghost use Rattle.tre_zone.specs.Zone.{IsZoneOf, GivesZone};
 ghost use Rattle.tre_edges.specs.Piece.{rest_of_piece};
-ghost use Rattle.tre_edges.specs.Truth.{ComesTo, IsFoundAt};
+ghost use Rattle.tre_edges.specs.Truth.{HasTruth, ComesTo, IsFoundAt};
 
-use crate::edges::has_truth;
 use crate::piece::Piece;
 use tre_state::{NAMES_MAX, State};
 use tre_zone::Zone;
@@ -75,4 +74,13 @@ fn turn_at(instant: u64, other_before: bool, is: bool) -> Option<Zone>
         return Some(Zone::instants(instant, instant));
     }
     None
+}
+
+// Whether the state has this truth on the valuation.
+fn has_truth(state: &State, valuation: u64, truth: bool) -> bool
+    requires { NumbersBelow NAMES_MAX (tree_of state.now) }
+    ensures is { IsTrue result ↔ HasTruth truth (tree_of state.now) valuation }
+    ensures other { IsTrue (not result) ↔ HasTruth (not truth) (tree_of state.now) valuation }
+{
+    state.eval(valuation) == truth
 }

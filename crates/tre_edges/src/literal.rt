@@ -11,6 +11,8 @@ ghost use Rattle.tre_zone.specs.ZoneList.{SetHolds, HoldExactly};
 ghost use Rattle.tre_edges.specs.Ends.{EndBefore};
 ghost use Rattle.tre_edges.specs.Runs.{AreRuns};
 
+use crate::next_place::next_place;
+use crate::truth_words::truth;
 use std::alloc::{AllocError, Global};
 use tre_state::{NAMES_MAX, State};
 use tre_trace::Trace;
@@ -25,21 +27,17 @@ pub fn literal(alloc: Global, state: &State, trace: &Trace) -> Result<ZoneSet, A
         HoldExactly zones (AtomMatches (whole trace.now) (pattern.literal (tree_of state.now)))) }
     ensures runs { IfOk result (λ zones. AreRuns 0 zones) }
 {
+    let words = truth(alloc, state, trace)?;
+    let count = trace.segments().len();
     let mut zones = ZoneSet::new(alloc);
-    // The state has held from `begin` to `now`, where the next segment begins.
-    let mut begin = 0;
-    let mut now = 0;
-    for segment in trace.segments() {
-        let end = now + segment.len;
-        if state.eval(segment.val) {
-            now = end;
-            continue;
-        }
-        close(&mut zones, begin, now)?;
-        begin = end;
-        now = end;
+    // All runs that begin before `at` are in.
+    let mut at = 0;
+    while at < count {
+        let begin = next_place(&words, true, at, count);
+        let end = next_place(&words, false, begin, count);
+        close(&mut zones, trace.start_of(begin), trace.start_of(end))?;
+        at = end + 1;
     }
-    close(&mut zones, begin, now)?;
     Ok(zones)
 }
 

@@ -1,7 +1,7 @@
 use crate::literal::literal;
 use crate::moments::moments;
-use crate::{Piece, fall_in, falls, literal_in, moments_in, rise_in, rises};
-use std::alloc::Global;
+use crate::{Piece, fall_in, falls, literal_in, moments_in, rise_in, rises, truth};
+use std::alloc::{AllocError, Global};
 use std::test::Fail;
 use tre_state::State;
 use tre_trace::{PushFault, Segment, Trace};
@@ -70,17 +70,139 @@ fn edges_of_p(rt: HostRuntime) -> Result<(), Fail> {
 }
 
 #[test]
-fn equal_segments(rt: HostRuntime) -> Result<(), Fail> {
-    // [0,64) (0,64] (0,64] and [0,65) (0,65] (0,65]
-    for (count, keys) in [
-        (64, [1, 128, 0, 129, 0, 129]),
-        (65, [1, 130, 0, 131, 0, 131]),
-    ] {
+fn words_of_states(rt: HostRuntime) -> Result<(), Fail> {
+    let alloc = rt.alloc();
+    let trace = trace(alloc, &[(3, P), (2, Q), (4, P | Q)])?;
+    let not_p = State::Not(Box::new(alloc, State::Prop(0))?);
+    let p = Box::new(alloc, State::Prop(0))?;
+    let both = State::And(p, Box::new(alloc, State::Prop(1))?);
+    let p = Box::new(alloc, State::Prop(0))?;
+    let either = State::Or(p, Box::new(alloc, State::Prop(1))?);
+    assert_eq!(rt;
+        truth(alloc, &State::Prop(0), &trace)?.as_slice(),
+        [0b101].as_slice()
+    );
+    assert_eq!(rt;
+        truth(alloc, &not_p, &trace)?.as_slice(),
+        [0b010].as_slice()
+    );
+    assert_eq!(rt; truth(alloc, &both, &trace)?.as_slice(), [0b100].as_slice());
+    assert_eq!(rt;
+        truth(alloc, &either, &trace)?.as_slice(),
+        [0b111].as_slice()
+    );
+    assert_eq!(rt;
+        truth(alloc, &State::Yes, &trace)?.as_slice(),
+        [0b111].as_slice()
+    );
+    Ok(())
+}
+
+#[test]
+fn runs_at_the_end_of_a_word(rt: HostRuntime) -> Result<(), Fail> {
+    let p = State::Prop(0);
+    // [0,65) (0,65] (0,65]
+    let trace = ticks(rt.alloc(), 65)?;
+    assert!(rt;
+        is(
+            &literal(rt.alloc(), &p, &trace)?,
+            &[[1, 130, 0, 131, 0, 131]]
+        )
+    );
+    // [0,64) (0,64] (0,64] and [65,66) (65,66] (0,1]
+    let mut trace = ticks(rt.alloc(), 64)?;
+    trace.push(Segment { len: 1, val: 0 })?;
+    trace.push(Segment { len: 1, val: P })?;
+    let runs = [[1, 128, 0, 129, 0, 129], [-129, 132, -130, 133, 0, 3]];
+    assert!(rt; is(&literal(rt.alloc(), &p, &trace)?, &runs));
+    // [65,65] [65,65] [0,0] and [64,64] [64,64] [0,0]
+    assert!(rt;
+        is(
+            &rises(rt.alloc(), &p, &trace)?,
+            &[[-129, 131, -129, 131, 1, 1]]
+        )
+    );
+    assert!(rt;
+        is(
+            &falls(rt.alloc(), &p, &trace)?,
+            &[[-127, 129, -127, 129, 1, 1]]
+        )
+    );
+    Ok(())
+}
+
+/// Whether p is true on the tick from `time` on: on four of five.
+fn is_true(time: u8) -> bool {
+    time % 5 != 4
+}
+
+/// The keys of `[begin,end) (begin,end] (0,end-begin]`.
+fn span(begin: u8, end: u8) -> Keys {
+    let (begin, end) = (i64::from(begin), i64::from(end));
+    let len = end - begin;
+    [
+        1 - 2 * begin,
+        2 * end,
+        -2 * begin,
+        2 * end + 1,
+        0,
+        2 * len + 1,
+    ]
+}
+
+/// The keys of `[time,time] [time,time] [0,0]`.
+fn instant(time: u8) -> Keys {
+    let time = i64::from(time);
+    [1 - 2 * time, 2 * time + 1, 1 - 2 * time, 2 * time + 1, 1, 1]
+}
+
+/// The runs of p on so many ticks, one tick after the other.
+fn plain_runs(alloc: Global, count: u8) -> Result<Vec<Keys>, AllocError> {
+    let mut runs = Vec::new(alloc);
+    let mut begin = 0_u8;
+    for time in 0..count {
+        if is_true(time) && (time + 1 == count || !is_true(time + 1)) {
+            runs.push(span(begin, time + 1))?;
+        }
+        if !is_true(time) {
+            begin = time + 1;
+        }
+    }
+    Ok(runs)
+}
+
+/// The instants at which p comes to this truth on so many ticks, one tick after the other.
+fn plain_edges(alloc: Global, count: u8, becomes: bool) -> Result<Vec<Keys>, AllocError> {
+    let mut edges = Vec::new(alloc);
+    for time in 1..count {
+        if is_true(time - 1) != becomes && is_true(time) == becomes {
+            edges.push(instant(time))?;
+        }
+    }
+    Ok(edges)
+}
+
+/// The trace of so many ticks on which p is true on four of five.
+fn fives(alloc: Global, count: u8) -> Result<Trace, PushFault> {
+    let mut trace = Trace::new(alloc);
+    for time in 0..count {
+        let val = u64::from(is_true(time));
+        trace.push(Segment { len: 1, val })?;
+    }
+    Ok(trace)
+}
+
+#[test]
+fn as_segment_by_segment(rt: HostRuntime) -> Result<(), Fail> {
+    for count in [0, 1, 63, 64, 65, 127, 128, 129] {
         let p = State::Prop(0);
-        let trace = ticks(rt.alloc(), count)?;
-        assert!(rt; is(&literal(rt.alloc(), &p, &trace)?, &[keys]));
-        assert!(rt; rises(rt.alloc(), &p, &trace)?.is_empty());
-        assert!(rt; falls(rt.alloc(), &p, &trace)?.is_empty());
+        let trace = fives(rt.alloc(), count)?;
+        let runs = plain_runs(rt.alloc(), count)?;
+        let ups = plain_edges(rt.alloc(), count, true)?;
+        let downs = plain_edges(rt.alloc(), count, false)?;
+        assert!(rt; is(&literal(rt.alloc(), &p, &trace)?, &runs));
+        assert!(rt; is(&rises(rt.alloc(), &p, &trace)?, &ups));
+        assert!(rt; is(&falls(rt.alloc(), &p, &trace)?, &downs));
     }
     Ok(())
 }

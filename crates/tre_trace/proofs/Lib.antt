@@ -1,2 +1,6 @@
 pub mod Segments
 pub mod Readings
+pub mod Bits
+pub mod Words
+pub mod Starts
+pub mod Beside

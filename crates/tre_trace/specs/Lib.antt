@@ -2,3 +2,8 @@
 pub mod Trace
 pub mod Literal
 pub mod Reading
+pub mod Planes
+-- What the functions inside promise each other.
+pub mod Starts
+pub mod Words
+pub mod Beside

@@ -3,21 +3,25 @@
 //! A [`Trace`] is seen as the list of its segments. Each is at least one tick long and the last
 //! ends at `TIME_MAX` or earlier. A [`TraceReader`] reads one from bytes that come in pieces: its
 //! contract says what the bytes say, however they are cut. The layers above rely on these two.
-//! The words on a trace are in specs/: when segments end, where a property holds throughout a
-//! stretch, and how a reading grows.
+//! Beside the segments a trace keeps planes: the values of one proposition, a bit a segment.
 //!
 //! ```text
 //! let mut trace = Trace::new(alloc);
 //! trace.push(Segment { len: 3, val: 0b01 })?; // proposition 0 is true for three ticks
+//! let bits = trace.plane(0); // the one word 0b1
 //! ```
 #![tactic(auto)]
 
 mod fault;
+mod plane;
+mod planes;
 mod reader;
 mod segment;
+#[cfg(test)]
+mod tests;
 mod trace;
 
 pub use fault::{PushFault, TraceFault, TraceKind};
 pub use reader::{FED_MAX, TraceReader};
-pub use segment::Segment;
+pub use segment::{Segment, generated};
 pub use trace::Trace;

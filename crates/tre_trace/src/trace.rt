@@ -1,31 +1,40 @@
-ghost use Rattle.std.specs.Prelude.{◌≡◌, ◌+◌, List, [], ◌∷◌, ◌++◌, IfErr, OnOk, OnErr, sum_by};
+ghost use Rattle.std.specs.Prelude.{◌≡◌, ◌+◌, ◌≤◌, ◌<◌, List, [], ◌∷◌, ◌++◌, IfErr, IfOk, OnOk, OnErr, length, sum_by, take};
 
+use crate::plane::WORD_BITS;
+use crate::planes::Planes;
 use crate::{PushFault, Segment};
-use std::alloc::Global;
+use std::alloc::{AllocError, Global};
 use std::marker::Model;
 use tre_pairs::TIME_MAX;
 
 /// The segments of a trace, in the order of time from 0.
+///
+/// Beside them it keeps one plane of bits for each proposition that was ever true, and one of
+/// zeros: a word each for 64 segments.
 #[derive(Debug, Drop)]
 pub struct Trace {
     segments: Vec<Segment>,
     end: u64,
+    planes: Planes,
 }
 
 impl Model for Trace {
     ghost use Rattle.std.specs.Prelude.{◌≡◌, List};
     ghost use Rattle.tre_trace.specs.declared.segment.Segment.{Segment};
     ghost use Rattle.tre_trace.specs.Trace.{end_of, IsTrace};
+    ghost use Rattle.tre_trace.specs.Beside.{AreBeside};
 
     ghost Value = { List Segment };
 
     ghost view = { λ t. t.segments.items };
 
-    ghost invariant = { λ t. IsTrace t.segments.items × (t.end ≡ end_of 0 t.segments.items) };
+    ghost invariant = { λ t. IsTrace t.segments.items × (t.end ≡ end_of 0 t.segments.items)
+        × AreBeside t.segments.items t.planes };
 }
 
 impl Trace {
     ghost use Rattle.tre_trace.specs.Trace.{end_of, IsTrace, Fits, IsRefusedFor};
+    ghost use Rattle.tre_trace.specs.Planes.{IsPlane};
 
     /// The trace of no segments.
     pub fn new(alloc: Global) -> Self
@@ -35,20 +44,28 @@ impl Trace {
         Trace {
             segments: Vec::new(alloc),
             end: 0,
+            planes: Planes::new(alloc),
         }
     }
 
     /// The trace of these segments.
-    pub fn of_segments(segments: Vec<Segment>) -> Self
+    pub fn of_segments(alloc: Global, segments: Vec<Segment>) -> Result<Self, AllocError>
         requires trace { IsTrace segments.items }
-        ensures same { result ≡ segments.items }
-        ensures trace { IsTrace result }
+        ensures same { IfOk result (λ trace. trace ≡ segments.items) }
+        ensures trace { IfOk result (λ trace. IsTrace trace) }
     {
+        let mut planes = Planes::new(alloc);
         let mut end = 0;
-        for segment in &segments {
+        for (place, segment) in segments.iter().enumerate() {
+            planes.make_room(&segments[..place], end, segment.val)?;
+            planes.write(place, segment.val);
             end += segment.len;
         }
-        Trace { segments, end }
+        Ok(Trace {
+            segments,
+            end,
+            planes,
+        })
     }
 
     /// Puts a segment behind the others. A segment of no time is refused as `Zero`, whatever its
@@ -70,13 +87,26 @@ impl Trace {
         if end > u128::from(TIME_MAX) {
             return Err(PushFault::TooLate { end });
         }
-        match self.segments.push(segment) {
-            Ok(()) => {
-                self.end += segment.len;
-                Ok(())
-            }
+        match self.put(segment) {
+            Ok(()) => Ok(()),
             Err(_) => Err(PushFault::Memory),
         }
+    }
+
+    // Puts a segment that fits behind the others.
+    fn put(&mut self, segment: Segment) -> Result<(), AllocError>
+        requires { Fits self.old segment }
+        ensures ok { OnOk result (self.new ≡ self.old ++ segment ∷ []) }
+        ensures err { OnErr result (self.new ≡ self.old) }
+        ensures trace { IsTrace self.new }
+    {
+        let place = self.segments.len();
+        self.planes
+            .make_room(&self.segments, self.end, segment.val)?;
+        self.segments.push(segment)?;
+        self.planes.write(place, segment.val);
+        self.end += segment.len;
+        Ok(())
     }
 
     /// When the last segment ends, in ticks; 0 where there is none.
@@ -95,45 +125,30 @@ impl Trace {
     {
         &self.segments
     }
-}
 
-#[cfg(test)]
-mod tests {
-    use super::*;
-    use std::test::Fail;
-
-    #[test]
-    fn refuses_in_order(rt: HostRuntime) -> Result<(), Fail> {
-        let mut trace = Trace::new(rt.alloc());
-        let long = Segment {
-            len: 1 << 40,
-            val: 1,
-        };
-        let short = Segment { len: 1, val: 0 };
-        assert_eq!(rt;
-            trace.push(Segment { len: 0, val: 1 }),
-            Err(PushFault::Zero)
-        );
-        assert_eq!(rt; trace.push(long), Ok(()));
-        assert_eq!(rt;
-            trace.push(short),
-            Err(PushFault::TooLate { end: 1099511627777 })
-        );
-        assert_eq!(rt; trace.end(), 1099511627776);
-        assert_eq!(rt; trace.segments(), [long].as_slice());
-        Ok(())
+    /// When the segment at the place begins, in ticks; the end of the trace for the place behind
+    /// the last. At most 63 lengths are added up for it.
+    pub fn start_of(&self, place: usize) -> u64
+        requires { place ≤ length self.now }
+        ensures { result ≡ end_of 0 (take place self.now) }
+    {
+        let block = place / WORD_BITS;
+        if block >= self.planes.starts.len() {
+            return self.end;
+        }
+        let mut start = self.planes.starts[block];
+        for segment in &self.segments[block * WORD_BITS..place] {
+            start += segment.len;
+        }
+        start
     }
 
-    #[test]
-    fn refuses_the_longest_segment(rt: HostRuntime) -> Result<(), Fail> {
-        let mut trace = Trace::new(rt.alloc());
-        let longest = Segment {
-            len: 18446744073709551615,
-            val: 0,
-        };
-        let end = 18446744073709551615;
-        assert_eq!(rt; trace.push(longest), Err(PushFault::TooLate { end }));
-        assert!(rt; trace.segments().is_empty());
-        Ok(())
+    /// The bits of the proposition of this number: bit j % 64 of word j / 64 is its value on the
+    /// segment at the place j.
+    pub fn plane(&self, number: u8) -> &[u64]
+        requires { number < 64 }
+        ensures { IsPlane number self.now result.now }
+    {
+        self.planes.plane(number, &self.segments)
     }
 }

@@ -1,27 +1,27 @@
-use Rattle.std.proofs.Common.{◌≡◌, ℕ, ◌<◌, ◌≤◌, ◌↔◌, ◌⊎◌, Option, drop, not, IsTrue, IsSomeAnd}
+use Rattle.std.proofs.Common.{ℕ, ◌-◌, ◌<◌, ◌≤◌, ◌↔◌, ◌⊎◌, length, not, IsSomeAnd}
 use Rattle.tre_state.specs.State.{tree_of}
-use Rattle.tre_syntax.specs.Rest.{rest_of, whole, EdgeMatches}
-use Rattle.tre_trace.specs.Trace.{end_of}
+use Rattle.tre_syntax.specs.Rest.{whole}
 use Rattle.tre_zone.specs.ZoneList.{SetHolds}
 use Rattle.tre_edges.specs.Ends.{EndBefore}
 use Rattle.tre_edges.specs.Instants.{AreInstants}
 use Rattle.tre_edges.specs.Truth.{HasTruth, ComesTo}
+use Rattle.tre_edges.proofs.Places.{time_of}
+use Rattle.tre_edges.proofs.EdgesOfTraces.{EdgesFrom, before_at}
 use Rattle.tre_edges.proofs.edges.changes.Given as goal
 
--- The zones hold the edges before `now`; the others are those of the rest, of which `last` is the
--- valuation before it.
-abbrev pub invariant-loop-segment : goal.invariant-loop-segment
-invariant-loop-segment l =
-    let is = HasTruth l.truth (tree_of l.state) in
-    let is_other = HasTruth (not l.truth) (tree_of l.state) in
-    let rest = drop l.segment-index l.segment-items in
+-- The zones hold the edges before the place `at`; before it the state hasn't the other truth.
+abbrev pub invariant-loop-at : goal.invariant-loop-at
+invariant-loop-at l =
+    let is = HasTruth l.becomes (tree_of l.state) in
+    let is_other = HasTruth (not l.becomes) (tree_of l.state) in
     record {
-      last : Option ℕ;
-      before : IsTrue l.other_before ↔ IsSomeAnd last is_other;
       exact : (a b n : ℕ) → 0 < n → a ≤ b
-          → ComesTo l.truth (tree_of l.state) (whole l.segment-items) a b n
-          ↔ (SetHolds l.zones a b n ⊎ EdgeMatches is_other is (rest_of l.now last rest) a b n);
+          → ComesTo l.becomes (tree_of l.state) (whole l.trace) a b n
+          ↔ (SetHolds l.zones a b n ⊎ EdgesFrom is_other is l.trace l.at a b n);
       instants : AreInstants 0 l.zones;
-      ended : EndBefore l.now l.zones;
-      ends : end_of l.now rest ≡ end_of 0 l.segment-items;
+      ended : l.at < length l.trace → EndBefore (time_of l.trace l.at) l.zones;
+      calm : l.at < length l.trace → IsSomeAnd (before_at l.trace l.at) is_other → ⊥;
     }
+
+abbrev pub decreases-loop-at : goal.decreases-loop-at
+decreases-loop-at l = l.count - l.at

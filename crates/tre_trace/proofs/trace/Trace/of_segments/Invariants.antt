@@ -1,7 +1,10 @@
-use Rattle.std.proofs.Common.{◌≡◌, drop}
+use Rattle.std.proofs.Common.{◌≡◌, take}
 use Rattle.tre_trace.specs.Trace.{end_of}
+use Rattle.tre_trace.specs.Beside.{AreBeside}
 use Rattle.tre_trace.proofs.trace.Trace.of_segments.Given as goal
 
-abbrev pub invariant-loop-segment : goal.invariant-loop-segment
-invariant-loop-segment l = end_of l.end (drop l.segment-index l.segment-items)
-    ≡ end_of 0 l.segment-items
+abbrev pub invariant-loop-place : goal.invariant-loop-place
+invariant-loop-place l = record {
+  beside : AreBeside (take l.place l.segment-items) l.planes;
+  end : l.end ≡ end_of 0 (take l.place l.segment-items);
+}

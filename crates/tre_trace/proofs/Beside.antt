@@ -1,0 +1,124 @@
+-- What is kept beside segments, by the numbers of the propositions.
+use Rattle.std.proofs.Common.{◌≡◌, ◌≢◌, ℕ, ◌+◌, ◌/◌, ◌^◌, max, ◌≤◌, ◌<◌, inl, inr, List, [], length, set, get_or, refl, ◌∙◌, arith}
+use Rattle.std.proofs.Math.Nat.{div-lt_iff_lt-mul}
+use Rattle.std.proofs.lemmas.Bool.{cases_eq, cases_lt}
+use Rattle.std.proofs.lemmas.List.{get_or-set_same, get_or-set_other, get_or_past, get_or_default}
+use Rattle.std.proofs.lemmas.Nat.{pow_pos}
+use Rattle.std.proofs.lemmas.Nat.Bits.{bit_at_above, bit_at-lt}
+use Rattle.std.specs.Int.{bit_at}
+use Rattle.tre_trace.specs.Planes.{bit_in}
+use Rattle.tre_trace.specs.Words.{words_at, HasRoom, IsStretched, IsWritten}
+
+IsStretched-trans : (count : ℕ) (a b c : List ℕ) → IsStretched count a b → IsStretched count b c
+    → IsStretched count a c
+IsStretched-trans count a b c first second = record {
+  longer =
+      elim second.longer [
+        | inl same ↦ rw same first.longer
+        | inr long ↦ inr long
+      ];
+  bits = λ place. second.bits place ∙ first.bits place;
+}
+
+-- The words of one more number are made longer.
+module _ (own : List (List ℕ)) (number : ℕ) (item new : List ℕ) (within : number < length own)
+  where
+    at_number : words_at (set own number new) number ≡ new
+    at_number = get_or-set_same own number new [] within
+
+    elsewhere : (other : ℕ) → other ≢ number → words_at (set own number new) other ≡ words_at own other
+    elsewhere other apart = get_or-set_other own number other new [] apart
+
+    pub stretched_more : (was : List (List ℕ)) (count : ℕ)
+        → ((k : ℕ) → IsStretched count (words_at was k) (words_at own k))
+        → IsStretched count (get_or own number item) new
+        → (k : ℕ) → IsStretched count (words_at was k) (words_at (set own number new) k)
+    stretched_more was count all step k =
+        elim (cases_eq k number) [
+          | inl here ↦
+              rw (here, at_number)
+              (IsStretched-trans count (words_at was number) (words_at own number) new (all number)
+              (rw (get_or_default own number item [] within) at step))
+          | inr other ↦ rw (elsewhere k other) (all k)
+        ]
+
+    pub room_more : (place valuation : ℕ)
+        → ((k : ℕ) → k < number → HasRoom place (bit_at valuation k) (words_at own k))
+        → HasRoom place (bit_at valuation number) new
+        → (k : ℕ) → k < number + 1
+        → HasRoom place (bit_at valuation k) (words_at (set own number new) k)
+    room_more place valuation all step k below =
+        elim (cases_eq k number) [
+          | inl here ↦ rw (here, at_number) step
+          | inr other ↦ rw (elsewhere k other) (all k (omega (arith, below, other)))
+        ]
+
+small_of : (n d : ℕ) → 0 < d → n / d ≡ 0 → n < d
+small_of n d some none = omega (arith, (div-lt_iff_lt-mul {k = d} {x = n} {y = 1} some).0 (omega (arith, none)))
+
+-- a valuation that is shifted out has no bit from there on
+pub bit_past : (valuation count number : ℕ) → valuation / 2 ^ count ≡ 0 → count ≤ number
+    → bit_at valuation number ≡ 0
+bit_past valuation count number none late =
+    bit_at_above valuation count number (small_of valuation (2 ^ count) (pow_pos count) none) late
+
+-- a proposition without a plane needs no room
+pub HasRoom-past : (own : List (List ℕ)) (place valuation number : ℕ) → length own ≤ number
+    → bit_at valuation number ≢ 1 → HasRoom place (bit_at valuation number) (words_at own number)
+HasRoom-past own place valuation number late unset = record {
+  enough = inl (get_or_past own number [] late);
+  needed = λ one. absurd (unset one);
+}
+
+-- and nothing is written for it
+pub IsWritten-past : (own new : List (List ℕ)) (place valuation number : ℕ)
+    → length new ≡ length own → length own ≤ number
+    → HasRoom place (bit_at valuation number) (words_at own number)
+    → IsWritten place (bit_at valuation number) (words_at own number) (words_at new number)
+IsWritten-past own new place valuation number same late room =
+    let was : words_at own number ≡ [] = get_or_past own number [] late in
+    let is : words_at new number ≡ [] = get_or_past new number [] (omega (arith, same, late)) in
+    rw is (rw was (record {
+      same_length = refl;
+      there = unset (rw was at room);
+      others = λ other apart. refl;
+    })) where
+      none : List ℕ
+      none = []
+
+      unset : HasRoom place (bit_at valuation number) none
+          → bit_in none place ≡ max (bit_in none place) (bit_at valuation number)
+      unset room =
+          elim (cases_eq (bit_at valuation number) 1) [
+            | inl one ↦ absurd (omega (arith, room.needed one))
+            | inr other ↦ omega (arith, other, bit_at-lt valuation number)
+          ]
+
+pub written_all : (own new : List (List ℕ)) (place valuation : ℕ) → length new ≡ length own
+    → ((number : ℕ) → number < length new
+    → IsWritten place (bit_at valuation number) (words_at own number) (words_at new number))
+    → ((number : ℕ) → number < 64
+    → HasRoom place (bit_at valuation number) (words_at own number))
+    → (number : ℕ) → number < 64
+    → IsWritten place (bit_at valuation number) (words_at own number) (words_at new number)
+written_all own new place valuation same written room number below =
+    elim (cases_lt number (length new)) [
+      | inl early ↦ written number early
+      | inr late ↦
+          IsWritten-past own new place valuation number same (omega (arith, same, late))
+          (room number below)
+    ]
+
+pub room_all : (own : List (List ℕ)) (place valuation : ℕ)
+    → ((number : ℕ) → number < 64 → bit_at valuation number ≡ 1 → number < length own)
+    → ((number : ℕ) → number < length own
+    → HasRoom place (bit_at valuation number) (words_at own number))
+    → (number : ℕ) → number < 64
+    → HasRoom place (bit_at valuation number) (words_at own number)
+room_all own place valuation all room number below =
+    elim (cases_lt number (length own)) [
+      | inl early ↦ room number early
+      | inr late ↦
+          HasRoom-past own place valuation number late
+          (λ one. omega (arith, all number below one, late))
+    ]

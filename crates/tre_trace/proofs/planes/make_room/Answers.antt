@@ -1,0 +1,19 @@
+use Rattle.std.proofs.Common.{◌<◌, length, arith}
+use Rattle.tre_trace.proofs.Beside.{stretched_more, room_more}
+use Rattle.tre_trace.proofs.planes.make_room.Goals as goal
+
+pub loop-number-preserved : goal.loop-number-preserved
+loop-number-preserved c =
+    let own = c.loop-number.own in
+    let number = c.loop-number.number in
+    let item = c.index-own-number.result in
+    let new = c.make_room.new.self in
+    let within : number < length own =
+    omega (arith, c.loop-number-test.true, c.loop-number.auto.own) in
+    record {
+      stretched =
+          stretched_more own number item new within c.args.own.now _ c.loop-number.invariant.stretched c.make_room.ensures.stretched;
+      room =
+          room_more own number item new within c.args.place c.args.valuation c.loop-number.invariant.room
+          (rw c.bit_of.ensures at c.in_ok-make_room.ensures.ok);
+    }

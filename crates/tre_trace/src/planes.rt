@@ -1,0 +1,159 @@
+// What a trace keeps beside its segments: planes of bits, and times.
+ghost use Rattle.std.specs.Prelude.{◌≡◌, ◌+◌, ◌*◌, ◌/◌, ◌≤◌, ◌<◌, [], ◌∷◌, ◌++◌, ℕ, List, length, OnOk};
+ghost use Rattle.std.specs.Int.{bit_at};
+ghost use Rattle.tre_trace.specs.Trace.{end_of};
+ghost use Rattle.tre_trace.specs.Planes.{IsPlane};
+ghost use Rattle.tre_trace.specs.Starts.{AreStarts};
+ghost use Rattle.tre_trace.specs.Words.{words_at, HasRoom, IsStretched, IsWritten};
+
+use crate::Segment;
+use crate::plane::{Plane, WORD_BITS};
+use std::alloc::{AllocError, Global};
+
+/// How many propositions have a bit in a valuation.
+pub(crate) const NUMBERS: usize = 64;
+
+/// Beside each block of 64 segments: when it begins, and a word for each proposition.
+#[derive(Debug, Drop)]
+pub(crate) struct Planes {
+    /// When each block begins, in ticks.
+    pub(crate) starts: Vec<u64>,
+    /// Zeros: the words of each proposition that was never true.
+    pub(crate) blank: Plane,
+    /// By the number of the proposition. Those that were never true have no words.
+    pub(crate) own: Vec<Plane>,
+}
+
+impl Planes {
+    ghost use Rattle.tre_trace.specs.Beside.{AreBeside, HasRoomAt};
+    ghost use Rattle.tre_trace.specs.declared.segment.Segment.{Segment};
+
+    /// What is beside no segments.
+    pub(crate) fn new(alloc: Global) -> Planes
+        ensures { AreBeside [] result }
+    {
+        Planes {
+            starts: Vec::new(alloc),
+            blank: Plane::new(alloc),
+            own: Vec::new(alloc),
+        }
+    }
+
+    /// Makes room for a segment behind these, which end at `end`.
+    pub(crate) fn make_room(
+        &mut self,
+        segments: &[Segment],
+        end: u64,
+        valuation: u64,
+    ) -> Result<(), AllocError>
+        requires beside { AreBeside segments.now self.old }
+        requires end { end ≡ end_of 0 segments.now }
+        ensures beside { AreBeside segments.now self.new }
+        ensures room { OnOk result (HasRoomAt (length segments.now) valuation self.new) }
+    {
+        begin_block(&mut self.starts, segments, end)?;
+        self.blank.stretch(segments.len() / WORD_BITS + 1)?;
+        widen(&mut self.own, valuation)?;
+        make_room(&mut self.own, segments.len(), valuation)?;
+        Ok(())
+    }
+
+    /// Writes the valuation of the segment at the place, behind all others.
+    pub(crate) fn write(&mut self, place: usize, valuation: u64)
+        requires few { length self.old.own.items ≤ 64 }
+        requires room { HasRoomAt place valuation self.old }
+        ensures { (segments : List Segment) (segment : Segment) → length segments ≡ place →
+            segment.val ≡ valuation → AreBeside segments self.old →
+            AreBeside (segments ++ segment ∷ []) self.new }
+    {
+        write(&mut self.own, place, valuation);
+    }
+
+    /// The bits of the proposition of this number on these segments.
+    pub(crate) fn plane(&self, number: u8, segments: &[Segment]) -> &[u64]
+        requires number { number < 64 }
+        requires beside { AreBeside segments.now self.now }
+        ensures { IsPlane number segments.now result.now }
+    {
+        let words = segments.len().div_ceil(WORD_BITS);
+        let own = words_of(&self.own, usize::from(number));
+        if own.is_empty() {
+            return &self.blank.words()[..words];
+        }
+        &own[..words]
+    }
+}
+
+/// The words of the proposition of this number, if it has any.
+fn words_of(own: &[Plane], number: usize) -> &[u64]
+    ensures { result.now ≡ words_at own.now number }
+{
+    match own.get(number) {
+        Some(plane) => plane.words(),
+        None => &[],
+    }
+}
+
+/// The bit of the proposition of this number.
+fn bit_of(valuation: u64, number: usize) -> u64
+    requires { number < 64 }
+    ensures { result ≡ bit_at valuation number }
+{
+    valuation >> number & 1
+}
+
+/// Notes when the next block begins, where the segments fill all blocks so far.
+fn begin_block(starts: &mut Vec<u64>, segments: &[Segment], end: u64) -> Result<(), AllocError>
+    requires starts { AreStarts segments.now starts.old.items }
+    requires end { end ≡ end_of 0 segments.now }
+    ensures starts { AreStarts segments.now starts.new.items }
+    ensures room { OnOk result (length segments.now < length starts.new.items * 64) }
+{
+    if starts.len() <= segments.len() / WORD_BITS {
+        starts.push(end)?;
+    }
+    Ok(())
+}
+
+/// Adds planes of no words, until each proposition of the valuation has one.
+fn widen(own: &mut Vec<Plane>, valuation: u64) -> Result<(), AllocError>
+    requires few { length own.old.items ≤ 64 }
+    ensures few { length own.new.items ≤ 64 }
+    ensures same { (number : ℕ) → words_at own.new.items number ≡ words_at own.old.items number }
+    ensures all { OnOk result ((number : ℕ) → number < 64 → bit_at valuation number ≡ 1 →
+        number < length own.new.items) }
+{
+    let alloc = *own.allocator();
+    while own.len() < NUMBERS && valuation >> own.len() != 0 {
+        own.push(Plane::new(alloc))?;
+    }
+    Ok(())
+}
+
+/// Makes room in each plane for the bit of its proposition, where it is needed.
+fn make_room(own: &mut [Plane], place: usize, valuation: u64) -> Result<(), AllocError>
+    requires few { length own.old ≤ 64 }
+    ensures stretched { (number : ℕ) →
+        IsStretched (place / 64 + 1) (words_at own.old number) (words_at own.new number) }
+    ensures ok { OnOk result ((number : ℕ) → number < length own.new →
+        HasRoom place (bit_at valuation number) (words_at own.new number)) }
+{
+    for number in 0..own.len() {
+        own[number].make_room(place, bit_of(valuation, number))?;
+    }
+    Ok(())
+}
+
+/// Writes in each plane the bit of its proposition.
+fn write(own: &mut [Plane], place: usize, valuation: u64)
+    requires few { length own.old ≤ 64 }
+    requires room { (number : ℕ) → number < length own.old →
+        HasRoom place (bit_at valuation number) (words_at own.old number) }
+    ensures { (number : ℕ) → number < length own.new →
+        IsWritten place (bit_at valuation number) (words_at own.old number)
+        (words_at own.new number) }
+{
+    for number in 0..own.len() {
+        own[number].write(place, bit_of(valuation, number));
+    }
+}
