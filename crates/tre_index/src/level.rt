@@ -36,14 +36,14 @@ impl Level {
         Ok(level)
     }
 
-    /// The bounds above these items, where there are enough of them for a block.
+    /// The bounds above these items, where there are more of them than a block has.
     pub(crate) fn above_blocks<T: HasRow>(
         alloc: Global,
         items: &[T],
     ) -> Result<Option<Level>, AllocError>
         ensures { IfOk result (λ found. IfSome found (IsAbove (map T.row_of items.now))) }
     {
-        if items.len() < FAN {
+        if items.len() <= FAN {
             return Ok(None);
         }
         let level = Level::above(alloc, items)?;

@@ -49,7 +49,9 @@ impl<T: HasRow> RowIndex<T> {
             above: Vec::new(alloc),
         };
         for _ in 0..LEVELS_MAX {
-            index.grow()?;
+            if !index.grow()? {
+                return Ok(index);
+            }
         }
         Ok(index)
     }
@@ -86,19 +88,23 @@ impl<T: HasRow> RowIndex<T> {
         Ok(())
     }
 
-    /// Puts one more level on top, where the topmost list is long enough for a block.
-    fn grow(&mut self) -> Result<(), AllocError>
+    /// Puts one more level on top, where the topmost list is longer than a block, and says
+    /// whether it was.
+    fn grow(&mut self) -> Result<bool, AllocError>
         ensures { self.new ≡ self.old }
     {
         let alloc = *self.items.allocator();
-        if let Some(top) = next_level(alloc, &self.items, &self.above)? {
-            self.above.push(top)?;
+        match next_level(alloc, &self.items, &self.above)? {
+            Some(top) => {
+                self.above.push(top)?;
+                Ok(true)
+            }
+            None => Ok(false),
         }
-        Ok(())
     }
 }
 
-/// One more level to put on top, where the topmost list is long enough for a block.
+/// One more level to put on top, where the topmost list is longer than a block.
 fn next_level<T: HasRow>(
     alloc: Global,
     items: &[T],

@@ -96,7 +96,7 @@ fn matches_of<A: Atoms>(
         Expr::Within(all, interval) => {
             let inner = interval.up_to(longest);
             let all = matches_of(alloc, all, atoms, inner)?;
-            restricted(&all, interval)
+            restricted(all, interval)
         }
     }
 }

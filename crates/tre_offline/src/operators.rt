@@ -93,12 +93,12 @@ pub fn repeated(
 
 /// The matches of a restriction to the interval, of those of its part: its part may be cut to an
 /// `inner` longest duration that is the longest for all durations in the interval.
-pub fn restricted(all: &ZoneSet, interval: &Interval) -> Result<ZoneSet, AllocError>
+pub fn restricted(all: ZoneSet, interval: &Interval) -> Result<ZoneSet, AllocError>
     ensures { IfOk result (λ zones. (inner longest : Option ℕ) (tree : PatternTree) (rest : Rest)
         → ((d n : ℕ) → LastsWithin interval.now d n → LastsUpTo inner d n ↔ LastsUpTo longest d n)
-        → HoldExactly all.now (Lasting (LastsUpTo inner) (MatchesRest tree rest))
+        → HoldExactly all (Lasting (LastsUpTo inner) (MatchesRest tree rest))
         → HoldExactly zones
         (Lasting (LastsUpTo longest) (MatchesRest (restriction tree interval.now) rest))) }
 {
-    all.within(interval)
+    all.into_within(interval)
 }

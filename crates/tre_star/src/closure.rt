@@ -43,6 +43,7 @@ pub fn closure_up_to(
     let steps = steps_of(alloc, steps.zones())?;
     let index = ZoneIndex::of_list(alloc, steps)?;
     let found = chains_of(alloc, &index, from, to, longest)?;
+    drop(index);
     let chains = ZoneSet::of_zones(alloc, found)?;
     Ok(chains)
 }

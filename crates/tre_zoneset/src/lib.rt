@@ -14,8 +14,9 @@
 //! ```
 #![tactic(auto)]
 
-pub use zone_set::{ZoneSet, gather, index_of};
+pub use zone_set::{ZoneSet, are_few, gather, index_of};
 
+mod rise;
 #[cfg(test)]
 mod tests;
 mod zone_set;

@@ -68,6 +68,29 @@ fn cut(rt: HostRuntime) -> Result<(), Fail> {
     let two = Interval::new(2, true, Some(2), true).ok_or("no interval")?;
     // [0,1] [2,3] [2,2]
     assert!(rt; is(&long.within(&two)?, &[[1, 3, -3, 7, -3, 5, 0, 0]]));
+    assert!(rt; is(&long.into_within(&two)?, &[[1, 3, -3, 7, -3, 5, 0, 0]]));
+    let short = Interval::new(0, false, Some(2), true).ok_or("no interval")?;
+    assert!(rt; is(&early.within(&short)?, &[EARLY]));
+    assert!(rt; is(&early.into_within(&short)?, &[EARLY]));
+    Ok(())
+}
+
+// Lists of one begin, of which the ends rise or not, and lists that are mixed.
+#[test]
+fn gathered(rt: HostRuntime) -> Result<(), Fail> {
+    let (early, late, unit) = (Zone::span(0, 2), Zone::span(1, 3), Zone::span(0, 1));
+    let at_start = set(rt.alloc(), &[Zone::instants(0, 0)])?;
+    let table = [
+        ([unit, early, late], [EARLY, LATE].as_slice()),
+        ([late, unit, early], [LATE, EARLY].as_slice()),
+        ([early, late, late], [EARLY, LATE].as_slice()),
+    ];
+    for (zones, rows) in table {
+        let mut list = Vec::new(rt.alloc());
+        list.extend_from_slice(&zones)?;
+        assert!(rt; is(&ZoneSet::of_zones(rt.alloc(), list)?, rows));
+    }
+    assert!(rt; at_start.meet(&ZoneSet::new(rt.alloc()))?.is_empty());
     Ok(())
 }
 

@@ -1,18 +1,21 @@
 ghost use Rattle.std.specs.Prelude.{◌≡◌, ℕ, ◌+◌, ◌<◌, ◌≤◌, ◌↔◌, false, true, IsTrue, OnOk, OnErr, IfOk, Any, [], ◌∷◌, ◌++◌, take, vec_len, vec_capacity, pos, ◌≤ℤ◌, ◌^◌};
 ghost use Rattle.tre_pairs.specs.Pairs.{Either, Both, Lasting};
-ghost use Rattle.tre_zone.specs.Bound.{sum_of, IsKeyWithin};
 ghost use Rattle.tre_zone.specs.Interval.{LastsWithin};
 ghost use Rattle.tre_zone.specs.Longest.{LastsUpTo, IsLongest};
 ghost use Rattle.tre_zone.specs.Zone.{ZoneHolds, Includes, HasNoPair, EndsAt};
 ghost use Rattle.tre_zone.specs.ZoneList.{SetHolds, IsApartFrom, AreCanonical, AreTight, HoldExactly};
 ghost use Rattle.tre_zoneset.specs.ZoneSet.{IsZoneSet, Without, Stays, IsAdded, FoundHolds, IsThinned, IsKept};
-ghost use Rattle.tre_zoneset.specs.Short.{AreUpTo};
+ghost use Rattle.tre_zoneset.specs.Short.{AreUpTo, AreWithin, IsWithin};
 
+use crate::rise::all_rise;
 use std::alloc::{AllocError, Global};
 use std::marker::Model;
 use tre_index::{ZoneIndex, key_meeting};
 use tre_pairs::TIME_MAX;
-use tre_zone::{Bound, Interval, Zone};
+use tre_zone::{Interval, Zone};
+
+/// So few zones are looked at one by one, without an index.
+const FEW: usize = 8;
 
 /// A finite union of zones, none of which is included in another.
 #[derive(Debug, Drop)]
@@ -46,8 +49,12 @@ impl ZoneSet {
     pub fn of_zones(alloc: Global, zones: Vec<Zone>) -> Result<ZoneSet, AllocError>
         ensures { IfOk result (λ set. HoldExactly set (SetHolds zones.items)) }
     {
-        if begins_rise(&zones) {
+        if all_rise(&zones) {
             return Ok(ZoneSet { zones });
+        }
+        if are_few(&zones) {
+            let set = all_added(alloc, &zones)?;
+            return Ok(set);
         }
         let zones = none_included(alloc, zones)?;
         Ok(ZoneSet { zones })
@@ -142,7 +149,7 @@ impl ZoneSet {
     }
 
     /// Adds the zones of `other`: the set then has the zones that adding one by one would leave, in
-    /// the order of their begins where these were mixed.
+    /// the order of their begins where they are many and were mixed.
     pub fn join(&mut self, other: &ZoneSet) -> Result<(), AllocError>
         ensures held { OnOk result
             (HoldExactly self.new (Either (SetHolds self.old) (SetHolds other.now))) }
@@ -150,6 +157,9 @@ impl ZoneSet {
         ensures err { OnErr result ((k : ℕ)
             × HoldExactly self.new (Either (SetHolds self.old) (SetHolds (take k other.now)))) }
     {
+        if other.is_empty() {
+            return Ok(());
+        }
         let joined = self.joined(other)?;
         *self = joined;
         Ok(())
@@ -161,17 +171,43 @@ impl ZoneSet {
             HoldExactly set (Both (SetHolds self.now) (SetHolds other.now))) }
     {
         let alloc = *self.zones.allocator();
-        let mut found = Vec::new(alloc);
-        let others = index_of(alloc, other.zones())?;
-        for zone in self.zones() {
-            gather_meets(&mut found, zone, &others)?;
+        if self.is_empty() || are_few(other.zones()) {
+            let found = meets_of(alloc, self.zones(), other.zones())?;
+            let met = ZoneSet::of_zones(alloc, found)?;
+            return Ok(met);
         }
+        let found = meets_by_index(alloc, self.zones(), other.zones())?;
         let met = ZoneSet::of_zones(alloc, found)?;
         Ok(met)
     }
 
     /// The pairs whose duration is in the interval.
     pub fn within(&self, interval: &Interval) -> Result<ZoneSet, AllocError>
+        ensures { IfOk result (λ set.
+            HoldExactly set (Lasting (LastsWithin interval.now) (SetHolds self.now))) }
+    {
+        if are_within(self.zones(), interval) {
+            let set = self.try_clone()?;
+            return Ok(set);
+        }
+        let lasting = self.cut_to(interval)?;
+        Ok(lasting)
+    }
+
+    /// The same of a set that is not needed any more: the set itself where all of them are.
+    pub fn into_within(self, interval: &Interval) -> Result<ZoneSet, AllocError>
+        ensures { IfOk result (λ set.
+            HoldExactly set (Lasting (LastsWithin interval.now) (SetHolds self))) }
+    {
+        if are_within(self.zones(), interval) {
+            return Ok(self);
+        }
+        let lasting = self.cut_to(interval)?;
+        Ok(lasting)
+    }
+
+    // The pairs whose duration is in the interval, zone by zone.
+    fn cut_to(&self, interval: &Interval) -> Result<ZoneSet, AllocError>
         ensures { IfOk result (λ set.
             HoldExactly set (Lasting (LastsWithin interval.now) (SetHolds self.now))) }
     {
@@ -238,6 +274,11 @@ impl ZoneSet {
     }
 }
 
+/// Whether there are so few zones that each is looked at, and no index is worth its making.
+pub fn are_few(zones: &[Zone]) -> bool {
+    zones.len() <= FEW
+}
+
 /// The zones with an index over them.
 pub fn index_of(alloc: Global, zones: &[Zone]) -> Result<ZoneIndex, AllocError>
     ensures { IfOk result (λ index. index ≡ zones.now) }
@@ -272,6 +313,65 @@ fn are_up_to(zones: &[Zone], longest: Option<u64>) -> bool
     true
 }
 
+// Whether every pair of the zones lasts for a duration in the interval.
+fn are_within(zones: &[Zone], interval: &Interval) -> bool
+    ensures { IsTrue result → AreWithin interval.now zones.now }
+{
+    for zone in zones {
+        if !is_within(zone, interval) {
+            return false;
+        }
+    }
+    true
+}
+
+// Whether the interval leaves the zone as it is.
+fn is_within(zone: &Zone, interval: &Interval) -> bool
+    ensures { IsTrue result → IsWithin interval.now zone.now }
+{
+    match zone.within(interval) {
+        Some(rest) => rest.includes(zone),
+        None => false,
+    }
+}
+
+// What the zones have in common with the others, two by two.
+fn meets_of(alloc: Global, zones: &[Zone], others: &[Zone]) -> Result<Vec<Zone>, AllocError>
+    ensures { IfOk result (λ found.
+        HoldExactly found.items (Both (SetHolds zones.now) (SetHolds others.now))) }
+{
+    let mut found = Vec::new(alloc);
+    for zone in zones {
+        gather_each_meet(&mut found, zone, others)?;
+    }
+    Ok(found)
+}
+
+// Adds what the zone has in common with each of the others to a list: by looking at each.
+fn gather_each_meet(found: &mut Vec<Zone>, zone: &Zone, others: &[Zone]) -> Result<(), AllocError>
+    ensures { OnOk result (HoldExactly found.new.items
+        (Either (SetHolds found.old.items) (Both (ZoneHolds zone.now) (SetHolds others.now)))) }
+{
+    for other in others {
+        gather(found, zone.meet(other))?;
+    }
+    Ok(())
+}
+
+// What the zones have in common with the others, by an index over these.
+fn meets_by_index(alloc: Global, zones: &[Zone], others: &[Zone]) -> Result<Vec<Zone>, AllocError>
+    requires { AreCanonical others.now }
+    ensures { IfOk result (λ found.
+        HoldExactly found.items (Both (SetHolds zones.now) (SetHolds others.now))) }
+{
+    let mut found = Vec::new(alloc);
+    let index = index_of(alloc, others)?;
+    for zone in zones {
+        gather_meets(&mut found, zone, &index)?;
+    }
+    Ok(found)
+}
+
 // Adds what the zone has in common with each of the others to a list.
 fn gather_meets(found: &mut Vec<Zone>, zone: &Zone, others: &ZoneIndex) -> Result<(), AllocError>
     requires { AreCanonical others.now }
@@ -294,6 +394,17 @@ fn gather_meets(found: &mut Vec<Zone>, zone: &Zone, others: &ZoneIndex) -> Resul
     Ok(())
 }
 
+// The set to which the zones were added, one after another: for a few of them.
+fn all_added(alloc: Global, zones: &[Zone]) -> Result<ZoneSet, AllocError>
+    ensures { IfOk result (λ set. HoldExactly set (SetHolds zones.now)) }
+{
+    let mut set = ZoneSet::new(alloc);
+    for zone in zones {
+        set.add(*zone)?;
+    }
+    Ok(set)
+}
+
 // Those of the zones that no other includes.
 fn none_included(alloc: Global, zones: Vec<Zone>) -> Result<Vec<Zone>, AllocError>
     ensures held { IfOk result (λ kept. HoldExactly kept.items (SetHolds zones.items)) }
@@ -301,6 +412,9 @@ fn none_included(alloc: Global, zones: Vec<Zone>) -> Result<Vec<Zone>, AllocErro
 {
     let mut zones = zones;
     zones.sort_unstable_by_key(|zone| order_of(zone));
+    if all_rise(&zones) {
+        return Ok(zones);
+    }
     let mut turned = thin(alloc, &zones)?;
     drop(zones);
     turned.reverse();
@@ -336,32 +450,6 @@ fn keep(kept: &mut ZoneIndex, zone: &Zone) -> Result<(), AllocError>
         kept.push(*zone)?;
     }
     Ok(())
-}
-
-// Whether each zone begins later than those before it: all its pairs do. Such zones are apart as
-// they stand.
-fn begins_rise(zones: &[Zone]) -> bool
-    ensures { IsTrue result → IsZoneSet zones.now }
-{
-    let mut latest = Bound::strict(0);
-    for zone in zones {
-        let bounds = zone.bounds();
-        if is_before(&latest, &bounds.begin_low) {
-            latest = bounds.begin_high;
-        } else {
-            return false;
-        }
-    }
-    true
-}
-
-// Whether no time meets both a bound from above and one from below.
-fn is_before(high: &Bound, low: &Bound) -> bool
-    requires high { IsKeyWithin (2 ^ 42) high.now }
-    requires low { IsKeyWithin (2 ^ 42) low.now }
-    ensures { IsTrue result ↔ (sum_of high.now low.now ≤ℤ pos 0) }
-{
-    high.plus(low).key() <= 0
 }
 
 // Whether one of the zones includes the other.

@@ -1,43 +1,18 @@
-use Rattle.tre_zone.specs.Longest.{LastsUpTo}
-use Rattle.tre_star.proofs.Short.{short_additive}
-use Rattle.tre_pairs.specs.Pairs.{Pairs, Composed, Lasting}
-use Rattle.tre_zone.specs.Zone.{ZoneHolds}
-use Rattle.tre_zone.specs.ZoneList.{SetHolds}
-use Rattle.tre_zone.proofs.ZoneListLemmas.{SetHolds-empty}
-use Rattle.tre_zoneset.proofs.Unions.{HoldExactly-each, HoldExactly-none, HoldExactly-all, HoldExactly-gathered}
-use Rattle.tre_star.proofs.Composing.{Composed-additive_left}
+use Rattle.tre_zoneset.proofs.Unions.{HoldExactly-gathered}
 use Rattle.tre_star.proofs.compose_sets.compose_sets_up_to.Goals as goal
 
-pub gather_after-requires-clause-seconds : goal.gather_after-requires-clause-seconds
-gather_after-requires-clause-seconds c =
-    rw (c.in_ok-seconds.ensures, c.zones.ensures.same) c.zones.ensures.set.canonical
-
-pub loop-zone-init : goal.loop-zone-init
-loop-zone-init c =
-    rw c.new-found.ensures.items (HoldExactly-none _
-    (λ a b n h. SetHolds-empty _ _ _ h.related.left))
-
-pub loop-zone-preserved : goal.loop-zone-preserved
-loop-zone-preserved c =
-    HoldExactly-each (λ (R : Pairs). Lasting (LastsUpTo c.args.longest)
-    (Composed R (SetHolds c.args.second.now)))
-    (short_additive (LastsUpTo c.args.longest)
-    (λ (R : Pairs). Composed R (SetHolds c.args.second.now))
-    (Composed-additive_left (SetHolds c.args.second.now)))
-    c.loop-zone.found.items
-    c.gather_after.new.found.items c.zones-zone-items.result.now c.loop-zone.zone-index
-    c.zone-item.result (Lasting (LastsUpTo c.args.longest)
-    (Composed (ZoneHolds c.zone-item.result) (SetHolds c.args.second.now)))
-    c.loop-zone-test.true c.zone-item.is c.loop-zone.invariant
-    (rw (c.in_ok-seconds.ensures, c.zones.ensures.same) at c.in_ok-gather_after.ensures)
-    (λ a b n some le. ((λ h. h), (λ h. h)))
+pub returns-then-is_empty : goal.returns-then-is_empty
+returns-then-is_empty c =
+    HoldExactly-gathered c.in_ok-composed.composed c.in_ok-found.found.items _
+    c.in_ok-composed.ensures
+    (rw (c.zones-then-is_empty.ensures.same, c.zones-then-is_empty-2.ensures.same)
+    at c.in_ok-found.ensures)
 
 pub returns : goal.returns
 returns c =
-    HoldExactly-gathered c.in_ok-composed.composed c.loop-zone.found.items _
-    c.in_ok-composed.ensures
-    (HoldExactly-all (λ (R : Pairs). Lasting (LastsUpTo c.args.longest)
-    (Composed R (SetHolds c.args.second.now)))
-    c.loop-zone.found.items
-    c.zones-zone-items.result.now c.args.first.now c.loop-zone.zone-index
-    c.loop-zone-test.false c.zones-zone-items.ensures.same c.loop-zone.invariant)
+    HoldExactly-gathered c.in_ok-composed-2.composed c.in_ok-found-2.found.items _
+    c.in_ok-composed-2.ensures
+    (rw (c.zones-2.ensures.same, c.zones-3.ensures.same) at c.in_ok-found-2.ensures)
+
+pub compose_by_index-requires-clause-seconds : goal.compose_by_index-requires-clause-seconds
+compose_by_index-requires-clause-seconds c = rw c.zones-3.ensures.same c.zones-3.ensures.set.canonical

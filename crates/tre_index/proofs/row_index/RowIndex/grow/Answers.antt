@@ -2,8 +2,8 @@ use Rattle.std.proofs.Common.{map}
 use Rattle.tre_index.proofs.Growing.{indexed_more, found_at}
 use Rattle.tre_index.proofs.row_index.RowIndex.grow.Goals as goal
 
-pub invariant_of-self : goal.invariant_of-self
-invariant_of-self g c =
+pub invariant_of-self-in-Some : goal.invariant_of-self-in-Some
+invariant_of-self-in-Some g c =
     indexed_more (map g.T.HasRow.row_of c.self.inside.items.items) c.self.inside.above.items
     c.push.new.self.items
     c.in-Some.top c.self.invariant
@@ -11,4 +11,4 @@ invariant_of-self g c =
     c.self.inside.above.items
     c.in_ok-top.field-0 c.in-Some.top c.in-Some.is c.deref.ensures.value c.deref-2.ensures.value
     c.in_ok-top.ensures)
-    c.in_ok-push.ensures.items
+    c.in_ok-push-in-Some.ensures.items

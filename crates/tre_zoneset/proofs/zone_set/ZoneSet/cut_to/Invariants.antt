@@ -2,7 +2,7 @@ use Rattle.std.proofs.Common.{take}
 use Rattle.tre_pairs.specs.Pairs.{Lasting}
 use Rattle.tre_zone.specs.Interval.{LastsWithin}
 use Rattle.tre_zone.specs.ZoneList.{SetHolds, HoldExactly}
-use Rattle.tre_zoneset.proofs.zone_set.ZoneSet.within.Given as goal
+use Rattle.tre_zoneset.proofs.zone_set.ZoneSet.cut_to.Given as goal
 
 abbrev pub invariant-loop-zone : goal.invariant-loop-zone
 invariant-loop-zone l = HoldExactly l.found.items
