@@ -1,8 +1,8 @@
 -- A reader of pieces, before its first byte and between them.
-use Rattle.std.proofs.Common.{◌≡◌, ℕ, ◌+◌, ◌≤◌, Bool, false, List, [], ◌++◌, length, length-append, None, refl, ap, subst, ◌∙◌, arith}
+use Rattle.std.proofs.Common.{◌≡◌, ℕ, false, List, [], length, refl, ap, arith}
 use Rattle.std.proofs.lemmas.List.Elements.{All-nil}
 use Rattle.tre_parts.proofs.Walks.{at-nothing}
-use Rattle.tre_parts.specs.Format.{Format, first_spot, reading_of}
+use Rattle.tre_parts.specs.Format.{Format, first_spot}
 use Rattle.tre_parts.specs.Parts.{IsFedWith}
 use Rattle.tre_parts.specs.Walk.{IsAt}
 use Rattle.tre_parts.specs.declared.spot.Spot.{Spot}

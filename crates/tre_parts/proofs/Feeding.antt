@@ -1,5 +1,5 @@
 -- A piece, part by part.
-use Rattle.std.proofs.Common.{◌≡◌, ℕ, suc, ◌+◌, ◌^◌, ◌<◌, ◌≤◌, Bool, true, false, List, [], ◌∷◌, ◌++◌, append_assoc, append-nil, length, length-append, take, drop, get_or, refl, sym, ap, subst, ◌∙◌, arith}
+use Rattle.std.proofs.Common.{◌≡◌, ℕ, suc, ◌+◌, ◌<◌, ◌≤◌, true, false, List, [], ◌∷◌, ◌++◌, append_assoc, append-nil, length, length-append, take, drop, get_or, refl, sym, ap, subst, ◌∙◌, arith}
 use Rattle.tre_parts.proofs.Cuts.{split_around}
 use Rattle.tre_parts.specs.Growing.{reading-grows}
 use Rattle.tre_parts.specs.Format.{Format, reading_of}
@@ -7,7 +7,7 @@ use Rattle.tre_parts.specs.Walk.{IsInside, EndsAt, IsAt}
 use Rattle.tre_parts.specs.declared.spot.Spot.{Spot}
 use Rattle.tre_trace.specs.declared.reader.TheConstants.{FED_MAX}
 use Rattle.tre_trace.proofs.Readings.{Adds-none, Adds-trans, IsRefused-after, IsRefused-grows}
-use Rattle.tre_trace.specs.Reading.{Reading, Adds, IsRefused}
+use Rattle.tre_trace.specs.Reading.{Adds, IsRefused}
 use Rattle.tre_trace.specs.declared.segment.Segment.{Segment}
 use Rattle.tre_trace.specs.declared.fault.TraceFault.{TraceFault}
 

@@ -1,12 +1,12 @@
 -- Where a reader is, one part after the other.
-use Rattle.std.proofs.Common.{◌≡◌, ◌≢◌, ℕ, ◌+◌, ◌^◌, ◌<◌, ◌≤◌, nat_le, Bool, true, false, List, [], ◌∷◌, ◌++◌, append_assoc, append-nil, length, length-append, Option, None, Some, Result, Ok, Err, refl, sym, ap, subst, ◌∙◌, arith, inl, inr}
-use Rattle.std.specs.List.{slice_split, All}
+use Rattle.std.proofs.Common.{◌≡◌, ◌≢◌, ℕ, ◌+◌, ◌<◌, ◌≤◌, Bool, true, false, List, [], ◌∷◌, ◌++◌, append_assoc, append-nil, length, length-append, Option, None, Some, Result, Ok, Err, refl, sym, ap, subst, ◌∙◌, arith, inl, inr}
+use Rattle.std.specs.List.{slice_split}
 use Rattle.std.proofs.lemmas.List.Elements.{All-nil, All-append}
 use Rattle.std.proofs.lemmas.List.Splits.{slice_split_none, slice_split_at}
 use Rattle.tre_parts.specs.Joins.{slice_split-has}
 use Rattle.tre_parts.specs.Growing.{more_parts, too_long, short_enough, reading-grows}
 use Rattle.tre_parts.specs.Format.{Format, Step, nothing, faulty, ending, behind, read_on, after_part, part_says, last_part, parts_reading, reading_from, reading_of}
-use Rattle.tre_parts.specs.Walk.{IsInside, GoesOn, IsWrong, IsAt, AddsPart, IsRefusedPart}
+use Rattle.tre_parts.specs.Walk.{IsInside, GoesOn, IsAt, AddsPart, IsRefusedPart}
 use Rattle.tre_parts.specs.declared.TheConstants.{PART_MAX}
 use Rattle.tre_parts.specs.declared.spot.Spot.{Spot}
 use Rattle.tre_trace.proofs.Readings.{is_memory, Adds-none, IsRefused-told, IsRefused-memory}

@@ -1,8 +1,8 @@
 -- The segments that bytes say are a trace.
-use Rattle.std.proofs.Common.{◌≡◌, ℕ, ◌+◌, ◌≤◌, nat_le, Bool, true, false, List, [], ◌∷◌, ◌++◌, length, Option, None, Some, Result, Ok, Err, refl, sym, ap, ◌∙◌, arith, subst, if◌then◌else◌}
+use Rattle.std.proofs.Common.{◌≡◌, ℕ, ◌+◌, ◌≤◌, nat_le, Bool, true, false, List, [], ◌∷◌, ◌++◌, length, Option, None, Some, Result, Ok, Err, refl, arith, subst, if◌then◌else◌}
 use Rattle.std.specs.List.{slice_split}
 use Rattle.tre_pairs.specs.declared.TheConstants.{TIME_MAX}
-use Rattle.tre_parts.specs.Format.{Format, Step, nothing, faulty, ending, behind, read_on, after_part, part_says, last_part, parts_reading, reading_from, reading_of, first_spot, Leads, KeepsTime}
+use Rattle.tre_parts.specs.Format.{Format, Step, nothing, faulty, ending, read_on, after_part, parts_reading, reading_from, reading_of, first_spot, Leads, KeepsTime}
 use Rattle.tre_parts.specs.declared.TheConstants.{PART_MAX}
 use Rattle.tre_parts.specs.declared.spot.Spot.{Spot}
 use Rattle.tre_trace.proofs.Segments.{end_of-append}

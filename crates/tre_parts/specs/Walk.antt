@@ -1,5 +1,5 @@
 -- Where a reader is in its input, and what a call does that takes bytes of it.
-use Rattle.std.specs.Prelude.{◌≡◌, ◌≢◌, ℕ, ◌+◌, ◌<◌, ◌≤◌, Bool, true, false, List, [], ◌∷◌, ◌++◌, length, take, slice_index, Option, Result, Ok, Err}
+use Rattle.std.specs.Prelude.{◌≡◌, ◌≢◌, ℕ, ◌+◌, ◌<◌, ◌≤◌, Bool, true, false, List, [], ◌∷◌, ◌++◌, length, take, slice_index, Result, Ok, Err}
 use Rattle.std.specs.List.{All}
 use Rattle.tre_parts.specs.Format.{Format, Step, behind, reading_from, reading_of}
 use Rattle.tre_parts.specs.declared.TheConstants.{PART_MAX}

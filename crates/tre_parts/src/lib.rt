@@ -3,7 +3,8 @@
 //! A [`PartReader`] says what one part says. [`Parts`] makes a reader of pieces of it: a part
 //! that lies whole in a piece is read where it lies, and only one that a piece cuts is kept until
 //! its end comes. The layers above rely on [`Parts`] being a `TraceReader` of the format, however
-//! the bytes are cut. What the bytes of a format say is in specs/Format.antt.
+//! the bytes are cut. What the bytes of a format say is in specs/Format.antt. [`read_numeral`] and
+//! [`find_name`] read what parts of both formats have in common: numbers, and names of a pattern.
 //!
 //! ```text
 //! let mut lines = Parts::new(alloc, LineReader { .. });
@@ -11,12 +12,18 @@
 //! ```
 #![tactic(auto)]
 
+mod names;
+mod numerals;
 mod part_reader;
 mod parts;
 mod said;
 mod spot;
+#[cfg(test)]
+mod tests;
 mod walk;
 
+pub use names::find_name;
+pub use numerals::read_numeral;
 pub use part_reader::PartReader;
 pub use parts::Parts;
 pub use said::Said;

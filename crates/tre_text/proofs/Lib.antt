@@ -1,7 +1,5 @@
-mod Digits
 mod Entries
 mod Fields
-mod Places
 mod TraceLines
 mod Valuations
 mod Words

@@ -1,17 +1,14 @@
 -- What a text reads as, by its lines.
-use Rattle.std.proofs.Common.{◌≡◌, ◌≢◌, ◌⊎◌, ⊎_elim, inl, inr, ℕ, ◌+◌, ◌<◌, ◌≤◌, nat_le, nat_lt, ◌==◌, ◌&&◌, Bool, true, false, List, [], ◌∷◌, ◌++◌, append_assoc, append-nil, length, None, Some, Result, Ok, Err, refl, sym, ap, ◌∙◌, subst, arith, if◌then◌else◌}
-use Rattle.std.proofs.lemmas.Bool.Decides.{nat_tests}
+use Rattle.std.proofs.Common.{◌≡◌, ◌≢◌, ⊎_elim, ℕ, ◌+◌, ◌≤◌, Bool, true, false, List, [], ◌∷◌, ◌++◌, append_assoc, append-nil, length, None, Some, Result, Ok, Err, refl, sym, ap, ◌∙◌, subst, arith}
 use Rattle.std.proofs.lemmas.List.Elements.{All-nil}
-use Rattle.std.specs.List.{list_all}
-use Rattle.std.specs.Char.{is_ascii_digit}
 use Rattle.std.specs.Str.Parse.{digits_value}
 use Rattle.tre_pairs.specs.declared.TheConstants.{TIME_MAX}
 use Rattle.tre_parts.proofs.Walks.{reading-part, reading-last}
-use Rattle.tre_parts.specs.Format.{Format, Step, nothing, faulty, behind, read_on, after_part, part_says, reading_from, first_spot}
+use Rattle.tre_parts.specs.Format.{Step, nothing, faulty, behind, read_on, after_part, part_says, reading_from, first_spot}
 use Rattle.tre_parts.specs.declared.TheConstants.{PART_MAX}
 use Rattle.tre_parts.specs.declared.spot.Spot.{Spot}
 use Rattle.tre_text.proofs.Entries.{IsEntryOf, numeral-no_comment, within, says-nothing, says-marked, says-no_number, says-zero, says-late, says-no_name, says-segment}
-use Rattle.tre_text.specs.TextReading.{is_line_end, fields_of, begins_comment, is_numeral, spells_word, valuation_of, one_segment, line_says, text_format, text_reading}
+use Rattle.tre_text.specs.TextReading.{is_line_end, valuation_of, one_segment, line_says, text_format, text_reading}
 use Rattle.tre_text.specs.TraceLines.{IsLine, AreLines, ended, HasFields, IsSilent, IsEntry, SaysFirst, Say, HasFault}
 use Rattle.tre_trace.proofs.Segments.{end_of-le}
 use Rattle.tre_trace.specs.Reading.{Reading}

@@ -1,11 +1,10 @@
 -- What was found on a line.
-use Rattle.std.specs.Prelude.{◌≡◌, ◌≢◌, ℕ, ◌+◌, ◌≤◌, List, [], ◌∷◌, Result, Ok, Err}
+use Rattle.std.specs.Prelude.{◌≡◌, ◌≢◌, ℕ, ◌+◌, ◌≤◌, [], Result, Ok, Err}
 use Rattle.tre_pairs.specs.declared.TheConstants.{TIME_MAX}
 use Rattle.tre_parts.specs.Format.{Step}
 use Rattle.tre_parts.specs.declared.said.Said.{Said}
 use Rattle.tre_parts.specs.declared.said.Said.TheVariants.{Nothing, Says, Wrong}
 use Rattle.tre_text.specs.TextReading.{one_segment}
-use Rattle.tre_trace.specs.declared.segment.Segment.{Segment}
 use Rattle.tre_trace.specs.declared.fault.TraceKind.{TraceKind}
 use Rattle.tre_trace.specs.declared.fault.TraceKind.TheVariants.{Spent}
 

@@ -1,12 +1,11 @@
 -- What the bytes of a text trace say.
-use Rattle.std.specs.Prelude.{◌≡◌, ℕ, ◌+◌, ◌^◌, nat_le, nat_lt, Bool, true, false, ◌&&◌, ◌||◌, ◌==◌, List, [], ◌∷◌, length, Option, None, Some, Result, Ok, Err, if◌then◌else◌}
+use Rattle.std.specs.Prelude.{◌≡◌, ℕ, ◌+◌, ◌^◌, nat_le, Bool, false, ◌&&◌, ◌||◌, ◌==◌, List, [], ◌∷◌, Option, None, Some, Result, Ok, Err, if◌then◌else◌}
 use Rattle.std.specs.List.{slice_split, list_all, Contains}
 use Rattle.std.specs.Str.Parse.{digits_value}
-use Rattle.std.specs.Char.{is_ascii_digit}
 use Rattle.std.specs.Int.Bits.{bit_or}
 use Rattle.tre_pairs.specs.declared.TheConstants.{TIME_MAX}
 use Rattle.tre_parts.specs.Format.{Format, Step, reading_of}
-use Rattle.tre_parts.specs.declared.spot.Spot.{Spot}
+use Rattle.tre_parts.specs.Numeral.{is_numeral}
 use Rattle.tre_state.specs.Name.{starts_name, continues_name}
 use Rattle.tre_state.specs.Names.{place_of}
 use Rattle.tre_trace.specs.Reading.{Reading}
@@ -46,10 +45,6 @@ fields_of line = fields_among (without_return line)
 abbrev pub begins_comment : List ℕ → Bool
 begins_comment [] = false
 begins_comment (byte ∷ bytes) = byte == 35
-
--- one decimal digit or more, and nothing else
-abbrev pub is_numeral : List ℕ → Bool
-is_numeral field = nat_lt 0 (length field) && list_all is_ascii_digit field
 
 -- spelt as a name is
 abbrev pub spells_word : List ℕ → Bool

@@ -1,11 +1,12 @@
 -- A line says its segment in the order of time.
-use Rattle.std.proofs.Common.{◌≡◌, ℕ, zero, suc, ◌+◌, ◌≤◌, nat_le, nat_eq, ◌==◌, Bool, true, false, List, [], ◌∷◌, Result, Ok, Err, refl, sym, ap, arith, subst, if◌then◌else◌}
+use Rattle.std.proofs.Common.{◌≡◌, ℕ, ◌+◌, ◌≤◌, nat_le, ◌==◌, Bool, true, false, List, [], ◌∷◌, Result, Ok, Err, refl, arith, subst, if◌then◌else◌}
 use Rattle.std.proofs.lemmas.Bool.Decides.{nat_tests}
 use Rattle.std.specs.List.{list_all}
 use Rattle.std.specs.Str.Parse.{digits_value}
 use Rattle.tre_pairs.specs.declared.TheConstants.{TIME_MAX}
-use Rattle.tre_parts.specs.Format.{Format, Step, Leads, KeepsTime}
-use Rattle.tre_text.specs.TextReading.{begins_comment, is_numeral, spells_word, valuation_of, one_segment, entry_says, fields_say, fields_of, line_says, text_format}
+use Rattle.tre_parts.specs.Format.{Step, Leads, KeepsTime}
+use Rattle.tre_parts.specs.Numeral.{is_numeral}
+use Rattle.tre_text.specs.TextReading.{begins_comment, spells_word, valuation_of, one_segment, entry_says, fields_say, fields_of, line_says, text_format}
 use Rattle.tre_trace.specs.declared.segment.Segment.{Segment}
 use Rattle.tre_trace.specs.declared.fault.TraceKind.{TraceKind}
 use Rattle.tre_trace.specs.declared.fault.TraceKind.TheVariants.{BadNumber, Zero, TooLate, BadName}

@@ -4,9 +4,9 @@ ghost use Rattle.std.specs.List.{list_all};
 ghost use Rattle.tre_text.specs.TextReading.{fields_among, spells_word, with_name, valuation_of, line_says};
 ghost use Rattle.tre_text.specs.Lines.{Finds};
 
-use crate::field::{next_field, place_of, read_number, spells_word, without_return};
+use crate::field::{next_field, spells_word, without_return};
 use tre_pairs::TIME_MAX;
-use tre_parts::Said;
+use tre_parts::{Said, find_name, read_numeral};
 use tre_state::Names;
 use tre_trace::{Segment, TraceKind};
 
@@ -16,7 +16,7 @@ fn with_name(names: &Names, valuation: u64, field: &[u8]) -> u64
 {
     // For the proof: the call says that there are at most 64 names.
     let _ = names.len();
-    match place_of(names, field) {
+    match find_name(names, field) {
         Some(place) => valuation | (1 << place),
         None => valuation,
     }
@@ -51,7 +51,7 @@ pub fn read_line(names: &Names, end: u64, line: &[u8]) -> Said
     if first[0] == b'#' {
         return Said::Nothing;
     }
-    let Some(len) = read_number(first) else {
+    let Some(len) = read_numeral(first) else {
         return Said::Wrong(TraceKind::BadNumber);
     };
     if len == 0 {

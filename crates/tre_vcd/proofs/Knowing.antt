@@ -1,12 +1,11 @@
 -- What is known of the past, one statement later.
 use Rattle.std.proofs.Common.{◌≡◌, ◌≢◌, ◌⊎◌, ℕ, zero, suc, ◌+◌, ◌<◌, ◌≤◌, Bool, true, false, ◌&&◌, List, [], ◌∷◌, ◌++◌, map, length, get_or, set, drop, Option, None, Some, refl, sym, ap, ◌∙◌, take, append-nil, inl, inr, arith, if◌then◌else◌}
-use Rattle.std.specs.List.{list_all, AllPairs}
+use Rattle.std.specs.List.{list_all}
 use Rattle.std.specs.Option.{is_some, option_map}
 use Rattle.std.specs.Str.{bytes_eq}
 use Rattle.std.proofs.Math.Seq.{take-length}
 use Rattle.std.proofs.Math.ListN.{drop_of_length-le}
 use Rattle.std.proofs.lemmas.Bool.{cases_lt}
-use Rattle.std.proofs.lemmas.Slice.Eq.{bytes_eq-Decides}
 use Rattle.tre_vcd.specs.VcdReading.{Statement, var, change, is_defined, time_at, scopes_at, in_dump, value_at, identifier_of, identifier_in, first_of, value_of, is_declared, valuation_from, path}
 use Rattle.tre_vcd.specs.Kept.{Knows, AreKnown, IsSignal, AreScopes, Declares, identifier_kept, has_identifier, changed, value_from}
 use Rattle.tre_vcd.specs.declared.signal.Signal.{Signal}
@@ -230,7 +229,7 @@ known-set past tokens (name ∷ names) (signal ∷ signals) (suc i) identifier d
           quiet made known.1,
     )
 
-cases_ne : (a b : ℕ) → a ≢ b → (a < b) ⊎ (b < a)
+pub cases_ne : (a b : ℕ) → a ≢ b → (a < b) ⊎ (b < a)
 cases_ne a b other =
     elim (cases_lt a b) [
       | inl below ↦ inl below
@@ -240,20 +239,6 @@ cases_ne a b other =
 pub false_of : (b : Bool) → (b ≡ true → ⊥) → b ≡ false
 false_of true wrong = absurd (wrong refl)
 false_of false wrong = refl
-
--- of names that differ only one has some bytes
-pub others-differ : (names : List (List ℕ)) (bytes : List ℕ) (i : ℕ)
-    → AllPairs (λ name other. name ≢ other) names → i < length names
-    → bytes_eq (get_or names i []) bytes ≡ true → (k : ℕ) → k < length names → k ≢ i
-    → bytes_eq (get_or names k []) bytes ≡ false
-others-differ names bytes i distinct below here k within other =
-    false_of (bytes_eq (get_or names k []) bytes) (λ also.
-    let first : get_or names k [] ≡ bytes = (bytes_eq-Decides (get_or names k []) bytes).0 also in
-    let second : get_or names i [] ≡ bytes = (bytes_eq-Decides (get_or names i []) bytes).0 here in
-    elim (cases_ne k i other) [
-      | inl before ↦ distinct k i [] before below (first ∙ sym second)
-      | inr behind ↦ distinct i k [] behind within (second ∙ sym first)
-    ])
 
 -- ---- all fields
 

@@ -1,5 +1,5 @@
-mod Digits
 mod Knowing
+mod Naming
 mod Reading
 mod Rows
 mod Scoping

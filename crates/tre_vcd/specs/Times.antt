@@ -3,8 +3,8 @@ use Rattle.std.proofs.Common.{◌≡◌, ℕ, ◌-◌, ◌<◌, ◌≤◌, nat_l
 use Rattle.std.proofs.lemmas.Bool.Decides.{nat_tests}
 use Rattle.std.specs.List.{list_all, list_any}
 use Rattle.std.specs.Str.Parse.{digits_value}
-use Rattle.std.specs.Char.{is_ascii_digit}
 use Rattle.tre_pairs.specs.declared.TheConstants.{TIME_MAX}
+use Rattle.tre_parts.specs.Numeral.{is_numeral}
 use Rattle.tre_parts.specs.Format.{Step, Leads, KeepsTime}
 use Rattle.tre_trace.specs.declared.fault.TraceKind.{TraceKind}
 use Rattle.tre_trace.specs.declared.fault.TraceKind.TheVariants.{TooLate, BadToken, UnknownName, TimeBack}
@@ -101,7 +101,7 @@ keeps-ticks names past ticks false false false e l s =
 keeps-number : (names : List (List ℕ)) (past : List Statement) (digits : List ℕ) → KeepsOrder past
     (ticks_say names past digits)
 keeps-number names past digits =
-    keeps-if past (nat_lt 0 (length digits) && list_all is_ascii_digit digits) _ _
+    keeps-if past (is_numeral digits) _ _
     (keeps-ticks names past (digits_value 10 digits) _ _ _ refl refl refl)
     (keeps-err past BadToken)
 

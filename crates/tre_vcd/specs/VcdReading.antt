@@ -3,9 +3,9 @@ use Rattle.std.specs.Prelude.{ℕ, ◌+◌, ◌-◌, ◌^◌, nat_le, nat_lt, Bo
 use Rattle.std.specs.List.{list_all, list_any}
 use Rattle.std.specs.Str.{bytes_eq}
 use Rattle.std.specs.Str.Parse.{digits_value}
-use Rattle.std.specs.Char.{is_ascii_digit}
 use Rattle.std.specs.Option.{option_map}
 use Rattle.tre_pairs.specs.declared.TheConstants.{TIME_MAX}
+use Rattle.tre_parts.specs.Numeral.{is_numeral}
 use Rattle.tre_parts.specs.Format.{Format, Step, reading_of}
 use Rattle.tre_trace.specs.Reading.{Reading}
 use Rattle.tre_trace.specs.declared.fault.TraceKind.{TraceKind}
@@ -220,7 +220,7 @@ vector_says past value = goes_to past (vector (ends_true value))
 -- `#` and decimal digits, one at least
 abbrev pub ticks_say : List (List ℕ) → List Statement → List ℕ → Result (Step Place) TraceKind
 ticks_say names past digits =
-    if nat_lt 0 (length digits) && list_all is_ascii_digit digits
+    if is_numeral digits
     then time_says names past (digits_value 10 digits) else Err BadToken
 
 -- a token among the values, where nothing is open, by its first byte: `#`, `$`, the letters of

@@ -18,12 +18,10 @@ mod command;
 mod inside;
 pub mod laws;
 mod past;
-mod place;
 mod scopes;
 mod signal;
 #[cfg(test)]
 mod tests;
-mod ticks;
 mod token;
 mod token_reader;
 mod vcd_reader;

@@ -5,10 +5,10 @@ ghost use Rattle.tre_state.specs.Names.{IsNameList};
 ghost use Rattle.tre_vcd.specs.VcdReading.{Statement, scope, upscope, var, definitions, time, change, dump, dump_end, is_defined, scopes_at, identifier_in, is_declared, valuation_from};
 ghost use Rattle.tre_vcd.specs.Kept.{Knows, AreKnown, Declares};
 
-use crate::place::place_of;
 use crate::scopes::Scopes;
 use crate::signal::{Signal, are_declared, change, valuation_of};
 use std::alloc::{AllocError, Global};
+use tre_parts::find_name;
 use tre_state::Names;
 
 // Each field is what a look back over the statements finds.
@@ -81,7 +81,7 @@ impl Past {
     {
         let name = self.scopes.path(self.alloc, reference)?;
         self.fill(names)?;
-        if let Some(place) = place_of(names, &name) {
+        if let Some(place) = find_name(names, &name) {
             let place = usize::from(place);
             if place < self.signals.as_slice().len() {
                 self.signals[place].declare(self.alloc, identifier)?;

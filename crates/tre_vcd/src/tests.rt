@@ -72,7 +72,7 @@ fn worked_dump(rt: HostRuntime) -> Result<(), Fail> {
 }
 
 // The first bytes of the worked dump, and what they say.
-const CUT: [(usize, &str); 12] = [
+const CUT: [(usize, &str); 14] = [
     (0, "CutShort 0"),
     (147, "BadToken 143"),
     (150, "CutShort 150"),
@@ -84,7 +84,9 @@ const CUT: [(usize, &str); 12] = [
     (192, "5:0 "),
     (194, "5:0 BadToken 193"),
     (200, "5:0 CutShort 200"),
+    (205, "5:0 4:1 "),
     (211, "5:0 4:1 TimeBack 209"),
+    (213, "5:0 4:1 1:0 "),
 ];
 
 #[test]

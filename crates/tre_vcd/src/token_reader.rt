@@ -11,13 +11,12 @@ ghost use Rattle.tre_vcd.specs.Times.{vcd-keeps_time};
 use crate::command::{Command, command_of};
 use crate::inside::Inside;
 use crate::past::Past;
-use crate::ticks::read_ticks;
 use crate::token::{
     ends_true, first_white, is, is_dump, is_end, is_misplaced, is_number, is_scalar, is_signal,
 };
 use std::alloc::{AllocError, Global};
 use tre_pairs::TIME_MAX;
-use tre_parts::{PartReader, Said, Spot};
+use tre_parts::{PartReader, Said, Spot, read_numeral};
 use tre_state::Names;
 use tre_trace::{Segment, TraceKind};
 
@@ -106,7 +105,7 @@ impl TokenReader {
         ensures kinds { result ≢ Said.Wrong Spent }
         ensures same_names { self.new.names ≡ self.old.names }
     {
-        let Some(ticks) = read_ticks(digits) else {
+        let Some(ticks) = read_numeral(digits) else {
             return Said::Wrong(TraceKind::BadToken);
         };
         if ticks < self.past.time {

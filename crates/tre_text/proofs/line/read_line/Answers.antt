@@ -1,7 +1,7 @@
-use Rattle.std.proofs.Common.{◌≡◌, ◌≢◌, ◌+◌, ◌<◌, ◌≤◌, ap, sym, ◌∙◌, arith}
+use Rattle.std.proofs.Common.{◌≡◌, ◌≢◌, ◌+◌, ◌≤◌, ap, sym, ◌∙◌, arith}
 use Rattle.std.specs.Str.Parse.{digits_value}
 use Rattle.tre_pairs.specs.declared.TheConstants.{TIME_MAX}
-use Rattle.tre_text.specs.TextReading.{fields_among, one_segment, valuation_of, fields_of}
+use Rattle.tre_text.specs.TextReading.{fields_among}
 use Rattle.tre_text.proofs.Entries.{IsEntryOf, no_comment, says-nothing, says-comment, says-no_number, says-zero, says-late, says-no_name, says-segment}
 use Rattle.tre_text.proofs.line.read_line.Goals as goal
 
@@ -15,14 +15,14 @@ returns-then-first-eq35 c =
     ∙ c.in-Some.ensures.field)
     c.in-Some.ensures.some c.if-first-eq35.true
 
-pub returns-in_default-read_number : goal.returns-in_default-read_number
-returns-in_default-read_number c =
+pub returns-in_default-read_numeral : goal.returns-in_default-read_numeral
+returns-in_default-read_numeral c =
     let entry : IsEntryOf c.args.line.now c.in-Some.first.now (fields_among c.in-Some.fields.now) =
     record {
       is = ap fields_among (sym c.without_return.ensures) ∙ c.in-Some.ensures.field;
       no_comment = no_comment c.in-Some.first.now c.in-Some.ensures.some c.if-first-eq35.false;
     } in
-    (says-no_number _ _ _ _ _ entry c.in_default-read_number.ensures.none, λ e. cc)
+    (says-no_number _ _ _ _ _ entry c.in_default-read_numeral.ensures.none, λ e. cc)
 
 pub returns-then-len-eq0 : goal.returns-then-len-eq0
 returns-then-len-eq0 c =
@@ -31,7 +31,7 @@ returns-then-len-eq0 c =
       is = ap fields_among (sym c.without_return.ensures) ∙ c.in-Some.ensures.field;
       no_comment = no_comment c.in-Some.first.now c.in-Some.ensures.some c.if-first-eq35.false;
     } in
-    let number = c.in-Some-read_number.ensures in (
+    let number = c.in-Some-read_numeral.ensures in (
       says-zero _ _ _ _ _ entry number.digits (omega (arith, number.value, c.if-len-eq0.true)),
       λ e.
           cc,
@@ -44,7 +44,7 @@ returns-then-saturating_add-gt-TIME_MAX c =
       is = ap fields_among (sym c.without_return.ensures) ∙ c.in-Some.ensures.field;
       no_comment = no_comment c.in-Some.first.now c.in-Some.ensures.some c.if-first-eq35.false;
     } in
-    let number = c.in-Some-read_number.ensures in
+    let number = c.in-Some-read_numeral.ensures in
     let some : digits_value 10 c.in-Some.first.now ≢ 0 = λ zero. c.if-len-eq0.false
     (omega (arith, number.value, zero)) in (
       says-late _ _ _ _ _ entry number.digits some
@@ -64,12 +64,12 @@ returns-in-Some-read_names c =
       is = ap fields_among (sym c.without_return.ensures) ∙ c.in-Some.ensures.field;
       no_comment = no_comment c.in-Some.first.now c.in-Some.ensures.some c.if-first-eq35.false;
     } in
-    let number = c.in-Some-read_number.ensures in
+    let number = c.in-Some-read_numeral.ensures in
     let some : digits_value 10 c.in-Some.first.now ≢ 0 = λ zero. c.if-len-eq0.false
     (omega (arith, number.value, zero)) in
-    let fits : c.args.end + c.in-Some-read_number.len ≤ TIME_MAX = omega
+    let fits : c.args.end + c.in-Some-read_numeral.len ≤ TIME_MAX = omega
     (arith, c.saturating_add.ensures, c.if-saturating_add-gt-TIME_MAX.false) in
-    let len : c.in-Some-read_number.len ≡ digits_value 10 c.in-Some.first.now = omega
+    let len : c.in-Some-read_numeral.len ≡ digits_value 10 c.in-Some.first.now = omega
     (arith, number.value, fits) in (
       rw (len, c.in-Some-read_names.ensures.value)
           (says-segment _ _ _ _ _ entry number.digits some (omega (arith, len, fits))
@@ -84,7 +84,7 @@ returns-in-None c =
       is = ap fields_among (sym c.without_return.ensures) ∙ c.in-Some.ensures.field;
       no_comment = no_comment c.in-Some.first.now c.in-Some.ensures.some c.if-first-eq35.false;
     } in
-    let number = c.in-Some-read_number.ensures in
+    let number = c.in-Some-read_numeral.ensures in
     let some : digits_value 10 c.in-Some.first.now ≢ 0 = λ zero. c.if-len-eq0.false
     (omega (arith, number.value, zero)) in
     let fits : c.args.end + digits_value 10 c.in-Some.first.now ≤ TIME_MAX = omega

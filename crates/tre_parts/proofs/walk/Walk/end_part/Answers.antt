@@ -1,8 +1,7 @@
-use Rattle.std.proofs.Common.{◌≡◌, ◌++◌, [], ◌∷◌, false, append_assoc, length-append, arith, refl, sym, subst, ◌∙◌}
+use Rattle.std.proofs.Common.{◌++◌, [], ◌∷◌, false, append_assoc, length-append, arith}
 use Rattle.std.proofs.lemmas.Result.{err_from_is_err_and}
 use Rattle.tre_parts.specs.Growing.{reading-grows}
 use Rattle.tre_parts.proofs.walk.Walk.end_part.Goals as goal
-use Rattle.tre_parts.specs.Format.{reading_of}
 use Rattle.tre_trace.proofs.Readings.{Adds-trans, IsRefused-after, IsRefused-grows}
 
 pub returns-in_err-keep-clause-takes : goal.returns-in_err-keep-clause-takes

@@ -1,11 +1,8 @@
-use Rattle.std.proofs.Common.{◌≡◌, ◌+◌, suc, ℕ, List, ◌++◌, [], ◌∷◌, get_or, take, drop, false, append-nil, arith, refl, sym, subst, ◌∙◌}
+use Rattle.std.proofs.Common.{◌≡◌, ◌+◌, suc, ◌++◌, [], ◌∷◌, get_or, take, drop, append-nil, arith, sym}
 use Rattle.std.proofs.lemmas.Result.{err_from_is_err_and}
 use Rattle.tre_parts.proofs.Cuts.{take-rest}
 use Rattle.tre_parts.proofs.Feeding.{in_two, around, fed-refused, fed-room, fed-step}
-use Rattle.tre_parts.specs.Format.{reading_of}
-use Rattle.tre_parts.specs.Walk.{IsAt}
 use Rattle.tre_trace.proofs.Readings.{Adds-trans}
-use Rattle.tre_trace.specs.Reading.{Adds}
 use Rattle.tre_parts.proofs.walk.Walk.feed.Goals as goal
 
 pub returns-in_err-end_part-clause-takes : goal.returns-in_err-end_part-clause-takes

@@ -1,6 +1,4 @@
-use Rattle.std.proofs.Common.{◌≡◌, ◌+◌, ◌^◌, ◌≤◌, ℕ, List, ◌++◌, length, false}
-use Rattle.tre_parts.specs.Format.{reading_of}
-use Rattle.tre_parts.specs.Walk.{IsAt, Takes}
+use Rattle.std.proofs.Common.{length}
 use Rattle.tre_parts.proofs.Feeding.{IsFed}
 use Rattle.tre_parts.proofs.walk.Walk.feed.Given as goal
 

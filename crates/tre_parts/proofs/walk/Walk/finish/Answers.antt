@@ -1,4 +1,4 @@
-use Rattle.std.proofs.Common.{◌≡◌, ◌++◌, [], append-nil, arith, refl, sym, ◌∙◌}
+use Rattle.std.proofs.Common.{sym, ◌∙◌}
 use Rattle.std.proofs.lemmas.Result.{err_from_is_err_and}
 use Rattle.tre_parts.proofs.Walks.{whole-closed, adds-closed, refused-closed, refused-end}
 use Rattle.tre_parts.proofs.walk.Walk.finish.Goals as goal

@@ -1,4 +1,4 @@
-use Rattle.std.proofs.Common.{◌+◌, ◌≤◌, ◌++◌, length, length-append, arith, sym, ap, refl}
+use Rattle.std.proofs.Common.{◌+◌, ◌≤◌, length, length-append, arith, ap}
 use Rattle.tre_parts.specs.declared.TheConstants.{PART_MAX}
 use Rattle.tre_parts.proofs.Walks.{after-kept, adds-kept, refused-long, refused-memory}
 use Rattle.tre_trace.specs.declared.fault.TraceFault.{TraceFault}

@@ -4,6 +4,7 @@ use Rattle.tre_vcd.specs.VcdReading.{var, path, scopes_at, identifier_in, first_
 use Rattle.tre_vcd.specs.declared.signal.Signal.{Signal}
 use Rattle.tre_vcd.specs.Kept.{Knows, identifier_kept}
 use Rattle.tre_vcd.proofs.Knowing.{in-none, in-some, knows-other, known-set}
+use Rattle.tre_vcd.proofs.Naming.{named-at, named-none}
 use Rattle.tre_vcd.proofs.past.Past.declare.Goals.{in-Some+then-place-as_slice+in_ok-declare, in-Some+else-place-as_slice, in_default}
 use Rattle.tre_vcd.proofs.past.Past.declare.Goals as goal
 
@@ -22,7 +23,7 @@ returns c = λ past tokens known before declares.
     tokens ≡ None =
     λ name differs. in-none (scopes_at past) tokens identifier reference bytes name declares is
     differs in
-    elim c.match-place_of.branch [
+    elim c.match-find_name.branch [
       | in-Some+then-place-as_slice+in_ok-declare w ↦
           subst (λ now. Knows names now (var tokens ∷ past)) (sym w.self-is) (record {
             defined = filled.defined;
@@ -31,18 +32,20 @@ returns c = λ past tokens known before declares.
             scopes = filled.scopes;
             signals =
                 let place = w.in-Some.place in
+                let named =
+                named-at names bytes place w.in-Some.ensures.list.distinct w.in-Some.ensures.place in
                 let at : w.from-place.result ≡ place = w.from-place.ensures in
                 let old = w.index_mut.result.now in
                 let below : w.from-place.result < length kept.signals.items =
-                omega (arith, at, len, w.in-Some.ensures.within) in
+                omega (arith, at, len, named.within) in
                 let one : identifier_in (scopes_at past) (get_or names w.from-place.result [])
                 tokens ≡ Some identifier =
                 in-some (scopes_at past) tokens identifier reference bytes
                 (get_or names w.from-place.result []) declares is
-                (ap (λ k. bytes_eq (get_or names k []) bytes) at ∙ w.in-Some.ensures.found) in
+                (ap (λ k. bytes_eq (get_or names k []) bytes) at ∙ named.found) in
                 known-set past tokens names kept.signals.items w.from-place.result identifier old
                 w.declare.new.self below one
-                (λ k within apart. other (get_or names k []) (w.in-Some.ensures.alone k within
+                (λ k within apart. other (get_or names k []) (named.alone k within
                 (λ e. apart (e ∙ sym at))))
                 (known.quiet before identifier) (record {
                   identifier_is = w.in_ok-declare.ensures.identifier
@@ -54,16 +57,19 @@ returns c = λ past tokens known before declares.
             quiet = filled.quiet;
           })
       | in-Some+else-place-as_slice w ↦
+          let named =
+          named-at names bytes w.in-Some.place w.in-Some.ensures.list.distinct
+          w.in-Some.ensures.place in
           absurd (omega (
             arith,
             len,
             ap length w.as_slice.ensures.value,
             w.from-place.ensures,
             w.if-place-as_slice.false,
-            w.in-Some.ensures.within,
+            named.within,
           ))
       | in_default w ↦
           subst (λ now. Knows names now (var tokens ∷ past)) (sym w.self-is)
           (knows-other names kept past tokens
-          (λ k below. other (get_or names k []) (w.in_default.ensures.none k below)) filled)
+          (λ k below. other (get_or names k []) (named-none names bytes w.in_default.ensures.place k below)) filled)
     ]
