@@ -6,13 +6,14 @@ use Rattle.tre_zone.specs.Interval.{IntervalEnds}
 use Rattle.tre_syntax.specs.PatternTree.{PatternTree, rise, fall, atom, sequence, alternation, intersection, restriction}
 use Rattle.tre_parse.specs.declared.token.Token.{Token}
 use Rattle.tre_parse.specs.declared.token.Token.TheVariants.{RightParen, RightBrace, Semicolon, Bar, DoubleBar, Ampersand, DoubleAmpersand, Star, Plus, Question, Percent, Ends}
-use Rattle.tre_parse.specs.Machine.{Opening, Frame, Braces, Edge}
+use Rattle.tre_parse.proofs.Machine.{Opening, Frame, Braces, Edge}
 use Rattle.tre_parse.specs.Grammar.{StateRule, lit, state, conj, neg, SpellsState, lit_name, lit_true, lit_braces, lit_bang, state_conj, state_bars, conj_neg, conj_ampersands, neg_name, neg_true, neg_parens, neg_bang, SpellsInterval, with_high, without_high, Rule, expr, meet, seq, post, primary, Spells, expr_meet, expr_bar, meet_seq, meet_ampersand, seq_post, seq_semicolon, post_primary, post_star, post_plus, post_question, post_percent, primary_eps, primary_parens, primary_rise, primary_fall, primary_lit, primary_begins, primary_ends, primary_begins_ends}
-use Rattle.tre_parse.specs.Machine.{Level, StateLevel, before, after, in_literal, after_literal, before_state, after_state, in_interval, Config, joined, fresh_level, fresh_state_level, as_expression, negated, plain_literal, kept, start}
+use Rattle.tre_parse.specs.Joins.{negated, plain_literal}
+use Rattle.tre_parse.proofs.Machine.{Level, StateLevel, before, after, in_literal, after_literal, before_state, after_state, in_interval, Config, joined, fresh_level, fresh_state_level, as_expression, kept, start}
 use Rattle.tre_parse.proofs.ReadFrom.{read_from}
 
 -- Tokens in brackets, and what follows them, grouped the other way.
-regrouped : (xs : List Token) (closing : Token) (rest : List Token) (config : Config) → read_from ((xs ++ closing ∷ []) ++ rest) config ≡ read_from (xs ++ closing ∷ rest) config
+pub regrouped : (xs : List Token) (closing : Token) (rest : List Token) (config : Config) → read_from ((xs ++ closing ∷ []) ++ rest) config ≡ read_from (xs ++ closing ∷ rest) config
 regrouped xs closing rest config = ap (λ t. read_from t config) (append_assoc xs (closing ∷ []) rest)
 
 negated_inside : (n : ℕ) (s : StateTree) → negated (n + 1) s ≡ negated n (negation s)
@@ -20,33 +21,33 @@ negated_inside zero s = refl
 negated_inside (suc n) s = let inside = rw add-one at (negated_inside n s) in rw add-one (ap negation inside)
 
 -- A state's operands after its last waiting ones: what they are together, and how they were reached.
-record IsPastConjunction (level : Level) (below : List Level) (frame : Frame) (around : List StateLevel) (bangs : ℕ) (bars : Option StateTree) (tokens rest : List Token) (s : StateTree) : Type 0 where
-  waiting : Option StateTree
-  operand : StateTree
-  joins : joined conjunction waiting operand ≡ s
-  reads : read_from tokens (kept level below (before_state frame (record { bangs = bangs; before_bars = bars; before_ampersands = None }) around 0))
+pub record PastConjunction (level : Level) (below : List Level) (frame : Frame) (around : List StateLevel) (bangs : ℕ) (bars : Option StateTree) (tokens rest : List Token) (s : StateTree) : Type 0 where
+  pub waiting : Option StateTree
+  pub operand : StateTree
+  pub joins : joined conjunction waiting operand ≡ s
+  pub reads : read_from tokens (kept level below (before_state frame (record { bangs = bangs; before_bars = bars; before_ampersands = None }) around 0))
       ≡ read_from rest (kept level below (after_state frame (record { bangs = bangs; before_bars = bars; before_ampersands = waiting }) around operand))
 
-record IsPastState (level : Level) (below : List Level) (frame : Frame) (around : List StateLevel) (bangs : ℕ) (tokens rest : List Token) (s : StateTree) : Type 0 where
-  bars : Option StateTree
-  waiting : Option StateTree
-  operand : StateTree
-  joins : joined disjunction bars (joined conjunction waiting operand) ≡ s
-  reads : read_from tokens (kept level below (before_state frame (fresh_state_level bangs) around 0))
+pub record PastState (level : Level) (below : List Level) (frame : Frame) (around : List StateLevel) (bangs : ℕ) (tokens rest : List Token) (s : StateTree) : Type 0 where
+  pub bars : Option StateTree
+  pub waiting : Option StateTree
+  pub operand : StateTree
+  pub joins : joined disjunction bars (joined conjunction waiting operand) ≡ s
+  pub reads : read_from tokens (kept level below (before_state frame (fresh_state_level bangs) around 0))
       ≡ read_from rest (kept level below (after_state frame (record { bangs = bangs; before_bars = bars; before_ampersands = waiting }) around operand))
 
 -- What reading tokens that spell a state by a rule comes to, whatever follows them.
-abbrev StateReaches : StateRule → List Token → StateTree → Type 0
+abbrev pub StateReaches : StateRule → List Token → StateTree → Type 0
 StateReaches lit xs s = (level : Level) (below : List Level) (begins : Bool) (n : ℕ) (rest : List Token) →
     read_from (xs ++ rest) (kept level below (in_literal begins n)) ≡ read_from rest (kept level below (after_literal begins (negated n s)))
 StateReaches neg xs s = (level : Level) (below : List Level) (frame : Frame) (inner : StateLevel) (around : List StateLevel) (n : ℕ) (rest : List Token) →
     read_from (xs ++ rest) (kept level below (before_state frame inner around n)) ≡ read_from rest (kept level below (after_state frame inner around (negated n s)))
 StateReaches conj xs s = (level : Level) (below : List Level) (frame : Frame) (around : List StateLevel) (bangs : ℕ) (bars : Option StateTree) (rest : List Token) →
-    IsPastConjunction level below frame around bangs bars (xs ++ rest) rest s
+    PastConjunction level below frame around bangs bars (xs ++ rest) rest s
 StateReaches state xs s = (level : Level) (below : List Level) (frame : Frame) (around : List StateLevel) (bangs : ℕ) (rest : List Token) →
-    IsPastState level below frame around bangs (xs ++ rest) rest s
+    PastState level below frame around bangs (xs ++ rest) rest s
 
-state_reaches : (r : StateRule) (xs : List Token) (s : StateTree) → SpellsState r xs s → StateReaches r xs s
+pub state_reaches : (r : StateRule) (xs : List Token) (s : StateTree) → SpellsState r xs s → StateReaches r xs s
 state_reaches _ _ _ (lit_name i) = λ level below begins n rest. refl
 state_reaches _ _ _ lit_true = λ level below begins n rest. refl
 state_reaches _ _ _ (lit_braces xs s h) = λ level below begins n rest.
@@ -88,7 +89,7 @@ abbrev pub BeginsWithoutEnds : List Token → Type 0
 BeginsWithoutEnds (Ends ∷ rest) = ⊥
 BeginsWithoutEnds _ = Unit {0}
 
-literal_ends : (level : Level) (below : List Level) (begins : Bool) (s : StateTree) (rest : List Token) → BeginsWithoutEnds rest →
+pub literal_ends : (level : Level) (below : List Level) (begins : Bool) (s : StateTree) (rest : List Token) → BeginsWithoutEnds rest →
     read_from rest (kept level below (after_literal begins s)) ≡ read_from rest (kept level below (after (plain_literal begins s)))
 literal_ends level [] begins s [] h = refl
 literal_ends level (outer ∷ below) begins s [] h = refl
@@ -96,7 +97,7 @@ literal_ends level below begins s (Ends ∷ rest) h = absurd h
 literal_ends level below begins s (_ ∷ rest) h = refl
 
 -- A literal is read at the place before an operand as it is inside a literal that just began.
-literal_begins : (r : StateRule) (xs : List Token) (s : StateTree) → SpellsState r xs s → r ≡ lit → (level : Level) (below : List Level) (rest : List Token) →
+pub literal_begins : (r : StateRule) (xs : List Token) (s : StateTree) → SpellsState r xs s → r ≡ lit → (level : Level) (below : List Level) (rest : List Token) →
     read_from (xs ++ rest) (kept level below before) ≡ read_from (xs ++ rest) (kept level below (in_literal false 0))
 literal_begins _ _ _ (lit_name i) e level below rest = refl
 literal_begins _ _ _ lit_true e level below rest = refl
@@ -111,7 +112,7 @@ literal_begins _ _ _ neg_true e level below rest = cc
 literal_begins _ _ _ (neg_parens xs s h) e level below rest = cc
 literal_begins _ _ _ (neg_bang xs s h) e level below rest = cc
 
-interval_reads : (ys : List Token) (ends : IntervalEnds) → SpellsInterval ys ends → (level : Level) (below : List Level) (x : PatternTree) (rest : List Token) →
+pub interval_reads : (ys : List Token) (ends : IntervalEnds) → SpellsInterval ys ends → (level : Level) (below : List Level) (x : PatternTree) (rest : List Token) →
     read_from (ys ++ rest) (kept level below (in_interval x Opening)) ≡ read_from rest (kept level below (after (restriction x ends)))
 interval_reads _ _ (with_high low high true true) level below x rest = refl
 interval_reads _ _ (with_high low high true false) level below x rest = refl
@@ -121,36 +122,36 @@ interval_reads _ _ (without_high low true) level below x rest = refl
 interval_reads _ _ (without_high low false) level below x rest = refl
 
 -- An expression's operands after its last waiting ones.
-record IsPastSequence (bar ampersand : Option PatternTree) (below : List Level) (tokens rest : List Token) (e : PatternTree) : Type 0 where
-  waiting : Option PatternTree
-  operand : PatternTree
-  joins : joined sequence waiting operand ≡ e
-  reads : read_from tokens (kept (record { before_bar = bar; before_ampersand = ampersand; before_semicolon = None }) below before)
+pub record PastSequence (bar ampersand : Option PatternTree) (below : List Level) (tokens rest : List Token) (e : PatternTree) : Type 0 where
+  pub waiting : Option PatternTree
+  pub operand : PatternTree
+  pub joins : joined sequence waiting operand ≡ e
+  pub reads : read_from tokens (kept (record { before_bar = bar; before_ampersand = ampersand; before_semicolon = None }) below before)
       ≡ read_from rest (kept (record { before_bar = bar; before_ampersand = ampersand; before_semicolon = waiting }) below (after operand))
 
-record IsPastIntersection (bar : Option PatternTree) (below : List Level) (tokens rest : List Token) (e : PatternTree) : Type 0 where
-  ampersand : Option PatternTree
-  waiting : Option PatternTree
-  operand : PatternTree
-  joins : joined intersection ampersand (joined sequence waiting operand) ≡ e
-  reads : read_from tokens (kept (record { before_bar = bar; before_ampersand = None; before_semicolon = None }) below before)
+pub record PastIntersection (bar : Option PatternTree) (below : List Level) (tokens rest : List Token) (e : PatternTree) : Type 0 where
+  pub ampersand : Option PatternTree
+  pub waiting : Option PatternTree
+  pub operand : PatternTree
+  pub joins : joined intersection ampersand (joined sequence waiting operand) ≡ e
+  pub reads : read_from tokens (kept (record { before_bar = bar; before_ampersand = None; before_semicolon = None }) below before)
       ≡ read_from rest (kept (record { before_bar = bar; before_ampersand = ampersand; before_semicolon = waiting }) below (after operand))
 
-record IsPastExpression (below : List Level) (tokens rest : List Token) (e : PatternTree) : Type 0 where
-  level : Level
-  operand : PatternTree
-  joins : as_expression level operand ≡ e
-  reads : read_from tokens (kept fresh_level below before) ≡ read_from rest (kept level below (after operand))
+pub record PastExpression (below : List Level) (tokens rest : List Token) (e : PatternTree) : Type 0 where
+  pub level : Level
+  pub operand : PatternTree
+  pub joins : as_expression level operand ≡ e
+  pub reads : read_from tokens (kept fresh_level below before) ≡ read_from rest (kept level below (after operand))
 
 -- What reading tokens that spell an expression by a rule comes to, whatever follows them but `:>`.
-abbrev Reaches : Rule → List Token → PatternTree → Type 0
-Reaches expr xs e = (below : List Level) (rest : List Token) → BeginsWithoutEnds rest → IsPastExpression below (xs ++ rest) rest e
-Reaches meet xs e = (bar : Option PatternTree) (below : List Level) (rest : List Token) → BeginsWithoutEnds rest → IsPastIntersection bar below (xs ++ rest) rest e
-Reaches seq xs e = (bar ampersand : Option PatternTree) (below : List Level) (rest : List Token) → BeginsWithoutEnds rest → IsPastSequence bar ampersand below (xs ++ rest) rest e
+abbrev pub Reaches : Rule → List Token → PatternTree → Type 0
+Reaches expr xs e = (below : List Level) (rest : List Token) → BeginsWithoutEnds rest → PastExpression below (xs ++ rest) rest e
+Reaches meet xs e = (bar : Option PatternTree) (below : List Level) (rest : List Token) → BeginsWithoutEnds rest → PastIntersection bar below (xs ++ rest) rest e
+Reaches seq xs e = (bar ampersand : Option PatternTree) (below : List Level) (rest : List Token) → BeginsWithoutEnds rest → PastSequence bar ampersand below (xs ++ rest) rest e
 Reaches _ xs e = (level : Level) (below : List Level) (rest : List Token) → BeginsWithoutEnds rest →
     read_from (xs ++ rest) (kept level below before) ≡ read_from rest (kept level below (after e))
 
-reaches : (r : Rule) (xs : List Token) (e : PatternTree) → Spells r xs e → Reaches r xs e
+pub reaches : (r : Rule) (xs : List Token) (e : PatternTree) → Spells r xs e → Reaches r xs e
 reaches _ _ _ (expr_meet xs e h) = λ below rest ends.
     let inside = reaches meet xs e h None below rest ends in
     record { level = record { before_bar = None; before_ampersand = inside.ampersand; before_semicolon = inside.waiting }; operand = inside.operand; joins = inside.joins; reads = inside.reads }

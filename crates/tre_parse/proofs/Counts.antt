@@ -1,5 +1,9 @@
 -- How many nodes joined trees have.
-use Rattle.std.proofs.Common.{◌≡◌, ℕ, ◌+◌, zero, suc, Bool, true, false, refl, add-one, arith}
+use Rattle.std.proofs.Common.{◌≡◌, ℕ, ◌+◌, zero, suc, Bool, true, false, Option, Some, None, inl, inr, refl, sym, ◌∙◌, ap, add-one, arith, subst}
+use Rattle.std.specs.Prelude.{IfSome}
+use Rattle.std.specs.Option.{option_zip}
+use Rattle.std.proofs.lemmas.Bool.{cases_lt}
+use Rattle.tre_syntax.specs.declared.pattern.TheConstants.{NODES_MAX}
 use Rattle.tre_state.specs.StateTree as state
 use Rattle.tre_state.specs.StateTree.{StateTree, negation}
 use Rattle.tre_syntax.specs.PatternTree.{PatternTree, node_count}
@@ -7,8 +11,8 @@ use Rattle.tre_parse.specs.declared.connective.Connective.{Connective}
 use Rattle.tre_parse.specs.declared.connective.Connective.TheVariants.{And, Or}
 use Rattle.tre_parse.specs.declared.connective.Join.{Join}
 use Rattle.tre_parse.specs.declared.connective.Join.TheVariants.{Sequence, Intersection, Alternation}
-use Rattle.tre_parse.specs.Machine.{negated, edge_of}
-use Rattle.tre_parse.specs.Joins.{connected, joined_by}
+use Rattle.tre_parse.specs.Joins.{negated, edge_of}
+use Rattle.tre_parse.specs.Joins.{connected, joined_by, Keeps}
 
 pub connected_count : (how : Connective) (s t : StateTree) → state.node_count (connected how s t) ≡ 1 + state.node_count s + state.node_count t
 connected_count And s t = refl
@@ -29,3 +33,24 @@ negated_more n s = rw add-one refl
 pub negated_count : (n : ℕ) (s : StateTree) → state.node_count (negated n s) ≡ n + state.node_count s
 negated_count zero s = omega arith
 negated_count (suc n) s = omega (arith, negated_count n s)
+
+-- Two that are kept, and what they are.
+pub zip_some : {A B : Type 0} (a : Option A) (b : Option B) (x : A) (y : B) → option_zip a b ≡ Some (x, y) → (a ≡ Some x) × (b ≡ Some y)
+zip_some None b x y e = absurd (cc)
+zip_some (Some p) None x y e = absurd (cc)
+zip_some {A = A} {B = B} (Some p) (Some q) x y e =
+    let pair : (p, q) ≡ (x, y) = cc in
+    (ap (λ (w : A × B). Some w.0) pair, ap (λ (w : A × B). Some w.1) pair)
+
+whole_is : {T : Type 0} (whole : Option T) (x : T) (IsIt : T → Type 0) → whole ≡ Some x → IfSome whole IsIt → IsIt x
+whole_is {T = T} whole x IsIt e h = let P = λ (o : Option T). IfSome o IsIt in subst P e h
+
+pub kept_is : {T : Type 0} (nodes : ℕ) (whole kept : Option T) (x : T) (IsIt : T → Type 0) → Keeps nodes whole kept → kept ≡ Some x → IfSome whole IsIt → IsIt x
+kept_is {T = T} nodes whole kept x IsIt k e h =
+    elim (cases_lt NODES_MAX nodes) [
+      | inl lt ↦ (let none = k.large lt in absurd (no_some (sym none ∙ e)))
+      | inr le ↦ whole_is whole x IsIt (sym (k.small le) ∙ e) h
+    ]
+  where
+    no_some : {y : T} → None ≡ Some y → ⊥
+    no_some q = cc

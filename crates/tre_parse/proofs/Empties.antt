@@ -1,15 +1,17 @@
 -- Where intervals stand among tokens.
-use Rattle.std.proofs.Common.{◌≡◌, ℕ, ◌+◌, ◌<◌, ◌≤◌, Bool, true, false, not, Option, Some, None, List, [], ◌∷◌, ◌++◌, length, take, drop, get_or, refl, sym, ◌∙◌, ap, subst, arith, append_assoc, add-one, drop-cons, length-append}
-use Rattle.std.specs.Prelude.{IsTrue, is_some, position, ◌^◌, ◌↔◌}
+use Rattle.std.proofs.Common.{◌≡◌, ℕ, ◌+◌, ◌<◌, ◌≤◌, Bool, true, false, not, Option, Some, None, Ok, List, [], ◌∷◌, ◌++◌, length, take, drop, get_or, refl, sym, ◌∙◌, ap, subst, arith, append_assoc, add-one, drop-cons, length-append}
+use Rattle.std.specs.Prelude.{IsTrue, is_some, position, ◌↔◌}
 use Rattle.std.proofs.Math.Seq.{drop-append_seam}
 use Rattle.std.proofs.lemmas.List.{take-append-drop, length-take-le}
+use Rattle.tre_pairs.specs.declared.TheConstants.{TIME_MAX}
 use Rattle.tre_zone.specs.Interval.{IntervalEnds, IsIntervalWithin}
 use Rattle.tre_parse.specs.declared.token.Token.{Token}
 use Rattle.tre_parse.specs.declared.token.Token.TheVariants.{Percent}
-use Rattle.tre_parse.specs.Machine.{Part, Opening}
+use Rattle.tre_parse.proofs.Machine.{Part, Opening}
 use Rattle.tre_parse.specs.Grammar.{SpellsInterval, with_high, without_high}
-use Rattle.tre_parse.specs.Machine.{PartStep, wrong, going, whole, part_step, PartReading, stuck, ends_with, after_part_step, read_part}
-use Rattle.tre_parse.specs.Parts.{IsEmptyInterval, IsFineInterval, ReadsInterval, BeginsUnkept}
+use Rattle.tre_parse.proofs.Machine.{PartStep, wrong, going, whole, part_step}
+use Rattle.tre_parse.specs.Parts.{IsEmptyInterval, IsFineInterval, BeginsUnkept, BeginsWithNone}
+use Rattle.tre_parse.specs.Reading.{ParsesInterval}
 use Rattle.tre_parse.specs.Outcome.{is_big, IsIntervalAt, HasEmptyAt, NoneEmptyBefore, NoneEmpty}
 use Rattle.tre_parse.proofs.Fine.{none_big, ends_within}
 use Rattle.tre_parse.proofs.Soundness.{PartReads, at_opening, PartStepReads, part_reads}
@@ -23,20 +25,6 @@ after_from (whole ends) next = Some ends
 abbrev pub interval_from : List Token → Part → Option IntervalEnds
 interval_from [] part = None
 interval_from (token ∷ rest) part = after_from (part_step part token) (λ next. interval_from rest next)
-
-abbrev pub ends_read : PartReading → Option IntervalEnds
-ends_read (stuck left) = None
-ends_read (ends_with ends rest) = Some ends
-
-after_from_step : (rest : List Token) (left : ℕ) → ((next : Part) → interval_from rest next ≡ ends_read (read_part rest next)) → (made : PartStep) →
-    after_from made (λ next. interval_from rest next) ≡ ends_read (after_part_step made left rest (λ next. read_part rest next))
-after_from_step rest left go wrong = refl
-after_from_step rest left go (going part) = go part
-after_from_step rest left go (whole ends) = refl
-
-pub interval_read_part : (tokens : List Token) (part : Part) → interval_from tokens part ≡ ends_read (read_part tokens part)
-interval_read_part [] part = refl
-interval_read_part (token ∷ rest) part = after_from_step rest (length (token ∷ rest)) (λ next. interval_read_part rest next) (part_step part token)
 
 -- An interval at the front is read, whatever follows it.
 pub interval_read : (body : List Token) (ends : IntervalEnds) → SpellsInterval body ends → (rest : List Token) → interval_from (body ++ rest) Opening ≡ Some ends
@@ -109,17 +97,8 @@ none_before_more tokens place none here = λ k ends lt s h.
 pub none_empty : (tokens : List Token) (place : ℕ) → length tokens ≤ place → NoneEmptyBefore tokens (place + 1) → NoneEmpty tokens
 none_empty tokens place le none = λ k ends s h. none k ends (omega (arith, (place_within tokens k ends s).1)) s h
 
--- What is read of an interval at the front of the tokens.
-record EndsRead (reading : PartReading) (ends : IntervalEnds) : Type 0 where
-  rest : List Token
-  same : reading ≡ ends_with ends rest
-
-ends_are : (reading : PartReading) (ends : IntervalEnds) → ends_read reading ≡ Some ends → EndsRead reading ends
-ends_are (stuck left) ends e = absurd (cc)
-ends_are (ends_with found rest) ends e = let same : found ≡ ends = cc in record { rest = rest; same = ap (λ i. ends_with i rest) same }
-
 -- An interval that can't be kept is empty, where no number is too big.
-unkept_empty : (ends : IntervalEnds) → IsIntervalWithin (2 ^ 40) ends → (IsFineInterval ends → ⊥) → IsEmptyInterval ends
+unkept_empty : (ends : IntervalEnds) → IsIntervalWithin TIME_MAX ends → (IsFineInterval ends → ⊥) → IsEmptyInterval ends
 unkept_empty ends w h = λ d n some within. h (record { lasts = λ empty. empty d n some within; within = w })
 
 -- The tests say whether an empty interval stands after a place.
@@ -127,20 +106,23 @@ pub decides_here : (tokens rest : List Token) (place : ℕ) (d : Token) (r : Boo
     position is_big tokens ≡ None → IsTrue r ↔ BeginsUnkept rest → IsTrue r ↔ HasEmptyAt tokens (place + 1)
 decides_here tokens rest place d r h e q big t = (
   (λ k. let u = t.0 k in
-      let read = ap (λ ts. interval_from ts Opening) (sym q) ∙ interval_read_part rest Opening ∙ ap ends_read u.reads in
+      let read = ap (λ ts. interval_from ts Opening) (sym q ∙ u.split) ∙ interval_read u.body u.ends u.spells u.rest in
       let stands = read_stands tokens place u.ends d h e read in
       record { ends = u.ends; stands = stands; empty = unkept_empty u.ends (ends_within tokens stands.front stands.body stands.rest u.ends (none_big tokens big) stands.split stands.spelt) u.unkept }),
   (λ k. let s = stands_read tokens place k.ends d h k.stands in
-      let found = ends_are (read_part rest Opening) k.ends (sym (interval_read_part rest Opening) ∙ ap (λ ts. interval_from ts Opening) q ∙ s.1) in
-      t.1 (record { ends = k.ends; rest = found.rest; reads = found.same; unkept = λ fine. fine.lasts k.empty })),
+      let found = fronts (drop (place + 1) tokens) Opening [] k.ends at_opening s.1 in
+      t.1 (record { ends = k.ends; body = found.body; rest = found.rest; split = q ∙ found.split; spells = found.spelt; unkept = λ fine. fine.lasts k.empty })),
 )
 
 pub decides_not_here : (tokens : List Token) (place : ℕ) (d : Token) → place < length tokens → (get_or tokens place d ≡ Percent → ⊥) → IsTrue false ↔ HasEmptyAt tokens (place + 1)
 decides_not_here tokens place d h never = ((λ k. absurd (cc)), (λ k. absurd (never (stands_read tokens place k.ends d h k.stands).0)))
 
 -- What the function for intervals answers says whether the interval can be kept.
-same_ends : (a b : IntervalEnds) (xs ys : List Token) → ends_with a xs ≡ ends_with b ys → a ≡ b
-same_ends a b xs ys e = cc
+same_ends : (tokens xs ys rest other : List Token) (a b : IntervalEnds) → tokens ≡ xs ++ rest → tokens ≡ ys ++ other → SpellsInterval xs a → SpellsInterval ys b → a ≡ b
+same_ends tokens xs ys rest other a b e f h k =
+    let one = ap (λ ts. interval_from ts Opening) e ∙ interval_read xs a h rest in
+    let two = ap (λ ts. interval_from ts Opening) f ∙ interval_read ys b k other in
+    cc
 
 none_kept : (r : Bool) → false ≡ not r → IsTrue r
 none_kept true e = refl
@@ -150,18 +132,15 @@ one_kept : (r : Bool) → true ≡ not r → IsTrue r → ⊥
 one_kept true e h = cc
 one_kept false e h = cc
 
-pub kept_decides : (interval : Option IntervalEnds) (r : Bool) (tokens new : List Token) → is_some interval ≡ not r → ReadsInterval interval tokens new → IsTrue r ↔ BeginsUnkept tokens
-kept_decides None r tokens new e h =
-    ((λ k. record { ends = h.ends; rest = new; reads = h.reads; unkept = λ fine. let some = h.made.made fine in (cc) }), (λ k. none_kept r e))
+pub kept_decides : (interval : Option IntervalEnds) (r : Bool) (tokens new : List Token) → is_some interval ≡ not r → ParsesInterval (Ok interval) tokens new → IsTrue r ↔ BeginsUnkept tokens
+kept_decides None r tokens new e h = (
+  (λ k. record { ends = h.tree; body = h.taken; rest = new; split = h.split; spells = h.spells; unkept = λ fine. let some = h.stands.made fine in (cc) }),
+  (λ k. none_kept r e),
+)
 kept_decides (Some kept) r tokens new e h = (
   (λ k. absurd (one_kept r e k)),
-  (λ k.
-      let P = λ (i : IntervalEnds). IsFineInterval i in
-      absurd (k.unkept (subst P (same_ends h.ends k.ends new k.rest (sym h.reads ∙ k.reads)) (h.made.fine refl)))),
+  (λ k. absurd (k.unkept (subst IsFineInterval (same_ends tokens h.taken k.body new k.rest h.tree k.ends h.split k.split h.spells k.spells) (h.stands.fine refl)))),
 )
 
-pub stuck_decides : (tokens : List Token) (left : ℕ) → read_part tokens Opening ≡ stuck left → IsTrue false ↔ BeginsUnkept tokens
-stuck_decides tokens left e = ((λ k. absurd (cc)), (λ k. absurd (no_ends (sym e ∙ k.reads))))
-  where
-    no_ends : {ends : IntervalEnds} {rest : List Token} → stuck left ≡ ends_with ends rest → ⊥
-    no_ends q = cc
+pub none_decides : (tokens : List Token) → BeginsWithNone tokens → IsTrue false ↔ BeginsUnkept tokens
+none_decides tokens none = ((λ k. absurd (cc)), (λ k. absurd (none k.body k.rest k.ends k.split k.spells)))

@@ -7,10 +7,10 @@ use Rattle.tre_zone.proofs.Durations.{Lasts, no_end, room, no_room}
 use Rattle.tre_syntax.specs.PatternTree.{PatternTree}
 use Rattle.tre_parse.specs.declared.token.Token.{Token}
 use Rattle.tre_parse.specs.declared.token.Token.TheVariants.{Percent}
-use Rattle.tre_parse.specs.Machine.{Opening}
+use Rattle.tre_parse.proofs.Machine.{Opening}
 use Rattle.tre_parse.specs.declared.fault.ParseFault.{ParseFault}
 use Rattle.tre_parse.specs.declared.fault.ParseFault.TheVariants.{Syntax, EmptyInterval}
-use Rattle.tre_parse.specs.Machine.{start, read}
+use Rattle.tre_parse.proofs.Machine.{start, read}
 use Rattle.tre_parse.proofs.ReadFrom.{read_ok}
 use Rattle.tre_parse.specs.Parts.{IsEmptyInterval}
 use Rattle.tre_parse.specs.Outcome.{Outcome, refused, TextTokens, text_tokens_of, offset_of, byte_fault, limit_fault, HasEmptyAt, NoneEmptyBefore, IsFirstEmpty, limited_outcome, IsOutcomeOfTree, IsOutcomeOfTokens, IsOutcomeWithin, IsOutcome}

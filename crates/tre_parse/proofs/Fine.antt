@@ -1,9 +1,10 @@
 -- The intervals of an expression are those that stand among its tokens.
 use Rattle.std.proofs.Common.{◌≡◌, ℕ, ◌+◌, ◌<◌, ◌≤◌, suc, Bool, false, None, List, [], ◌∷◌, ◌++◌, length, get_or, refl, sym, ◌∙◌, ap, subst, arith, append_assoc}
-use Rattle.std.specs.Prelude.{position, ◌^◌}
+use Rattle.std.specs.Prelude.{position}
 use Rattle.std.proofs.lemmas.Bool.Decides.{nat_tests}
 use Rattle.std.proofs.lemmas.List.{append-nil}
 use Rattle.tre_state.proofs.Places.{none_len, len_fails}
+use Rattle.tre_pairs.specs.declared.TheConstants.{TIME_MAX}
 use Rattle.tre_zone.specs.Interval.{IntervalEnds, IsIntervalWithin}
 use Rattle.tre_syntax.specs.PatternTree.{PatternTree}
 use Rattle.tre_parse.specs.declared.token.Token.{Token}
@@ -64,9 +65,9 @@ fine_intervals _ _ _ (primary_begins_ends xs s h) f = ((tt, tt), tt)
 
 -- No number among the tokens is big.
 pub record NoneBig (tokens : List Token) : Type 0 where
-  pub small : (front rest : List Token) (n : ℕ) → tokens ≡ front ++ Number n ∷ rest → n ≤ 1099511627776
+  pub small : (front rest : List Token) (n : ℕ) → tokens ≡ front ++ Number n ∷ rest → n ≤ TIME_MAX
 
-small_here : (n : ℕ) (p : Bool) → is_big (Number n) ≡ p → p ≡ false → n ≤ 1099511627776
+small_here : (n : ℕ) (p : Bool) → is_big (Number n) ≡ p → p ≡ false → n ≤ TIME_MAX
 small_here n p e q = grind (arith, nat_tests)
 
 -- The place of the first big number says whether there is one.
@@ -79,11 +80,11 @@ none_big tokens e =
           small_at front rest n (subst P q fails);
     }
   where
-    small_at : (front rest : List Token) (n : ℕ) → ((k : ℕ) (d : Token) → k < length (front ++ Number n ∷ rest) → is_big (get_or (front ++ Number n ∷ rest) k d) ≡ false) → n ≤ 1099511627776
+    small_at : (front rest : List Token) (n : ℕ) → ((k : ℕ) (d : Token) → k < length (front ++ Number n ∷ rest) → is_big (get_or (front ++ Number n ∷ rest) k d) ≡ false) → n ≤ TIME_MAX
     small_at [] rest n h = small_here n false (h 0 (Number n) (omega arith)) refl
     small_at (t ∷ front) rest n h = small_at front rest n (λ k d lt. h (suc k) d (omega arith))
 
-pub ends_within : (tokens front body rest : List Token) (ends : IntervalEnds) → NoneBig tokens → tokens ≡ front ++ Percent ∷ (body ++ rest) → SpellsInterval body ends → IsIntervalWithin (2 ^ 40) ends
+pub ends_within : (tokens front body rest : List Token) (ends : IntervalEnds) → NoneBig tokens → tokens ≡ front ++ Percent ∷ (body ++ rest) → SpellsInterval body ends → IsIntervalWithin TIME_MAX ends
 ends_within tokens front _ rest _ b e (with_high low high low_weak high_weak) =
     let open_low = b.small (front ++ Percent ∷ opening low_weak ∷ []) (Comma ∷ Number high ∷ closing high_weak ∷ rest) low (e ∙ sym (append_assoc front (Percent ∷ opening low_weak ∷ []) _)) in
     let open_high = b.small (front ++ Percent ∷ opening low_weak ∷ Number low ∷ Comma ∷ []) (closing high_weak ∷ rest) high (e ∙ sym (append_assoc front (Percent ∷ opening low_weak ∷ Number low ∷ Comma ∷ []) _)) in

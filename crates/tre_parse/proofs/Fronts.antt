@@ -5,6 +5,7 @@ use Rattle.std.specs.List.{prefix_len, take_while}
 use Rattle.std.specs.Char.{is_ascii_digit}
 use Rattle.std.proofs.lemmas.Bool.Decides.{nat_tests}
 use Rattle.std.proofs.lemmas.List.Sums.{prefix_len-le-length}
+use Rattle.tre_pairs.specs.declared.TheConstants.{TIME_MAX}
 use Rattle.tre_state.specs.Name.{starts_name, continues_name}
 use Rattle.tre_parse.specs.declared.token.Token.{Token}
 use Rattle.tre_parse.specs.declared.token.Token.TheVariants.{Number, DoubleBar, DoubleAmpersand, Begins, Ends}
@@ -55,8 +56,8 @@ word_front xs c ys h =
 number_front : (xs : List ℕ) (c : ℕ) (ys : List ℕ) → is_blank c ≡ true → number_lexeme (xs ++ c ∷ ys) ≡ number_lexeme xs
 number_front xs c ys h =
     let ends = blank_ends_number c h in
-    ap (λ n. Sign (Number (min (decimal (take_while is_ascii_digit (xs ++ c ∷ ys))) 1099511627777)) n) (prefix_ends is_ascii_digit xs c ys ends)
-    ∙ ap (λ w. Sign (Number (min (decimal w) 1099511627777)) (prefix_len is_ascii_digit xs)) (take_while_ends is_ascii_digit xs c ys ends)
+    ap (λ n. Sign (Number (min (decimal (take_while is_ascii_digit (xs ++ c ∷ ys))) (TIME_MAX + 1))) n) (prefix_ends is_ascii_digit xs c ys ends)
+    ∙ ap (λ w. Sign (Number (min (decimal w) (TIME_MAX + 1))) (prefix_len is_ascii_digit xs)) (take_while_ends is_ascii_digit xs c ys ends)
 
 sign_front : (z : ℕ) (xs : List ℕ) (c : ℕ) (ys : List ℕ) → is_blank c ≡ true → sign_lexeme (z ∷ (xs ++ c ∷ ys)) ≡ sign_lexeme (z ∷ xs)
 sign_front z [] c ys h = ap (λ o. signed o (bracket z) (single_sign z)) (blank_ends_sign z c h)

@@ -1,58 +1,167 @@
--- Intervals: how the machine reads their five tokens.
-use Rattle.std.proofs.Common.{◌≡◌, ℕ, Bool, true, false, Option, Some, None, Ok, Err, List, [], ◌∷◌, length, refl, ◌∙◌, ap, subst}
+-- Intervals: their parts, and where one stops.
+use Rattle.std.proofs.Common.{◌≡◌, ◌≢◌, ℕ, Bool, true, false, Option, Some, None, Ok, List, [], ◌∷◌, ◌++◌, length, refl, sym, ◌∙◌, ap, subst, option_and_then}
 use Rattle.tre_zone.specs.Interval.{IntervalEnds, kept_weak}
+use Rattle.tre_syntax.specs.PatternTree.{PatternTree}
 use Rattle.tre_parse.specs.declared.token.Token.{Token}
-use Rattle.tre_parse.specs.declared.token.Token.TheVariants.{Number, Comma}
+use Rattle.tre_parse.specs.declared.token.Token.TheVariants.{Number, LeftParen, RightParen, LeftBracket, RightBracket, Comma, Inf}
 use Rattle.tre_parse.specs.declared.cursor.Stop.{Stop}
-use Rattle.tre_parse.specs.Grammar.{opening, closing}
-use Rattle.tre_parse.specs.Machine.{Part, Opening, Low, AfterLow, High, Closing, wrong, part_step, stuck, ends_with, after_part_step, read_part}
-use Rattle.tre_parse.specs.Front.{front}
-use Rattle.tre_parse.specs.Parts.{IsStuck, IsMadeOf, high_token, IntervalParses}
+use Rattle.tre_parse.specs.declared.cursor.Stop.TheVariants.{Syntax}
+use Rattle.tre_parse.specs.Grammar.{opening, closing, SpellsInterval, with_high, without_high}
+use Rattle.tre_parse.specs.Front.{front, tail}
+use Rattle.tre_parse.specs.Parts.{IsMadeOf, high_token, BeginsWithNone}
+use Rattle.tre_parse.specs.Reading.{Stops, ExpectsInterval, ParsesInterval}
+use Rattle.tre_parse.proofs.Machine.{Level, Part, Opening, Low, AfterLow, High, Closing, wrong, part_step, after_part, kept, in_interval}
+use Rattle.tre_parse.proofs.ReadFrom.{read_from}
+use Rattle.tre_parse.proofs.Contexts.{interval_place}
+use Rattle.tre_parse.proofs.SyntaxFaults.{Stuck}
+use Rattle.tre_parse.proofs.Steps.{end_none, stops_here, fault_past}
 
-stuck_part : (ts : List Token) (part : Part) → part_step part (front ts) ≡ wrong → read_part ts part ≡ stuck (length ts)
-stuck_part [] part e = refl
-stuck_part (t ∷ ts) part e = ap (λ m. after_part_step m (length (t ∷ ts)) ts (λ next. read_part ts next)) e
+-- ---- the machine's places in an interval
 
-open_read : (weak : Bool) (ts : List Token) → read_part (opening weak ∷ ts) Opening ≡ read_part ts (Low weak)
-open_read true ts = refl
-open_read false ts = refl
+-- The tokens lead from the front of an interval to a part of it.
+abbrev Leads : List Token → Part → Type 0
+Leads xs part = (level : Level) (below : List Level) (e : PatternTree) (rest : List Token) →
+    read_from (xs ++ rest) (kept level below (in_interval e Opening)) ≡ read_from rest (kept level below (in_interval e part))
 
-high_read : (weak : Bool) (low : ℕ) (high : Option ℕ) (ts : List Token) → read_part (high_token high ∷ ts) (High weak low) ≡ read_part ts (Closing weak low high)
-high_read weak low (Some high) ts = refl
-high_read weak low None ts = refl
+to_low : (weak : Bool) → Leads (opening weak ∷ []) (Low weak)
+to_low true level below e rest = refl
+to_low false level below e rest = refl
 
-close_read : (weak : Bool) (low : ℕ) (high : Option ℕ) (high_weak : Bool) (ts : List Token) → kept_weak high high_weak ≡ high_weak →
-    read_part (closing high_weak ∷ ts) (Closing weak low high) ≡ ends_with (record { low = low; low_weak = weak; high = high; high_weak = high_weak }) ts
-close_read weak low (Some high) true ts e = refl
-close_read weak low (Some high) false ts e = refl
-close_read weak low None false ts e = refl
-close_read weak low None true ts e = absurd (cc)
+to_comma : (weak : Bool) (low : ℕ) → Leads (opening weak ∷ Number low ∷ []) (AfterLow weak low)
+to_comma true low level below e rest = refl
+to_comma false low level below e rest = refl
 
--- What is read of an interval after each of its tokens.
-pub after_opening : (old ts : List Token) (weak : Bool) → old ≡ opening weak ∷ ts → read_part old Opening ≡ read_part ts (Low weak)
-after_opening old ts weak e = ap (λ t. read_part t Opening) e ∙ open_read weak ts
+to_high : (weak : Bool) (low : ℕ) → Leads (opening weak ∷ Number low ∷ Comma ∷ []) (High weak low)
+to_high true low level below e rest = refl
+to_high false low level below e rest = refl
 
-pub after_low : (old ts us : List Token) (weak : Bool) (low : ℕ) → old ≡ opening weak ∷ ts → ts ≡ Number low ∷ us → read_part old Opening ≡ read_part us (AfterLow weak low)
-after_low old ts us weak low e f = after_opening old ts weak e ∙ ap (λ t. read_part t (Low weak)) f
+to_closing : (weak : Bool) (low : ℕ) (high : Option ℕ) → Leads (opening weak ∷ Number low ∷ Comma ∷ high_token high ∷ []) (Closing weak low high)
+to_closing true low (Some high) level below e rest = refl
+to_closing false low (Some high) level below e rest = refl
+to_closing true low None level below e rest = refl
+to_closing false low None level below e rest = refl
 
-pub after_comma : (old ts us vs : List Token) (weak : Bool) (low : ℕ) → old ≡ opening weak ∷ ts → ts ≡ Number low ∷ us → us ≡ Comma ∷ vs → read_part old Opening ≡ read_part vs (High weak low)
-after_comma old ts us vs weak low e f g = after_low old ts us weak low e f ∙ ap (λ t. read_part t (AfterLow weak low)) g
+no_opening : (t : Token) → ((weak : Bool) → t ≢ opening weak) → part_step Opening t ≡ wrong
+no_opening LeftBracket h = absurd (h true refl)
+no_opening LeftParen h = absurd (h false refl)
+no_opening _ h = refl
 
-pub after_high : (old ts us vs ws : List Token) (weak : Bool) (low : ℕ) (high : Option ℕ) → old ≡ opening weak ∷ ts → ts ≡ Number low ∷ us → us ≡ Comma ∷ vs → vs ≡ high_token high ∷ ws →
-    read_part old Opening ≡ read_part ws (Closing weak low high)
-after_high old ts us vs ws weak low high e f g h =
-    after_comma old ts us vs weak low e f g ∙ ap (λ t. read_part t (High weak low)) h ∙ high_read weak low high ws
+no_low : (weak : Bool) (t : Token) → ((low : ℕ) → t ≢ Number low) → part_step (Low weak) t ≡ wrong
+no_low weak (Number n) h = absurd (h n refl)
+no_low weak _ h = refl
 
-pub stops_in_part : (stop : Stop) (old ts new : List Token) (part : Part) → read_part old Opening ≡ read_part ts part → IsStuck stop ts part → IntervalParses (Err stop) old new
-stops_in_part stop old ts new part e k = (length ts, k.0, e ∙ stuck_part ts part k.1)
+no_comma : (weak : Bool) (low : ℕ) (t : Token) → t ≢ Comma → part_step (AfterLow weak low) t ≡ wrong
+no_comma weak low Comma h = absurd (h refl)
+no_comma weak low _ h = refl
 
-pub interval_whole : (interval : Option IntervalEnds) (old ts us vs ws new : List Token) (weak : Bool) (low : ℕ) (high : Option ℕ) (high_weak : Bool) →
-    old ≡ opening weak ∷ ts → ts ≡ Number low ∷ us → us ≡ Comma ∷ vs → vs ≡ high_token high ∷ ws → ws ≡ closing high_weak ∷ new → kept_weak high high_weak ≡ high_weak →
-    IsMadeOf interval (record { low = low; low_weak = weak; high = high; high_weak = kept_weak high high_weak }) → IntervalParses (Ok interval) old new
-interval_whole interval old ts us vs ws new weak low high high_weak e f g h k w m =
+no_high : (weak : Bool) (low : ℕ) (t : Token) → ((high : Option ℕ) → t ≢ high_token high) → part_step (High weak low) t ≡ wrong
+no_high weak low (Number n) h = absurd (h (Some n) refl)
+no_high weak low Inf h = absurd (h None refl)
+no_high weak low _ h = refl
+
+no_closing : (weak : Bool) (low : ℕ) (high : Option ℕ) (t : Token) → ((is : Bool) → kept_weak high is ≡ is → t ≢ closing is) → part_step (Closing weak low high) t ≡ wrong
+no_closing weak low (Some high) RightBracket h = absurd (h true refl refl)
+no_closing weak low (Some high) RightParen h = absurd (h false refl refl)
+no_closing weak low None RightParen h = absurd (h false refl refl)
+no_closing weak low (Some high) _ h = refl
+no_closing weak low None _ h = refl
+
+part_stuck : (ts : List Token) (level : Level) (below : List Level) (e : PatternTree) (part : Part) → part_step part (front ts) ≡ wrong → Stuck [] ts (kept level below (in_interval e part))
+part_stuck [] level below e part h = end_none level below _ refl
+part_stuck (t ∷ ts) level below e part h = λ more. ap (λ m. option_and_then (λ next. read_from more next) (after_part level below e m)) h
+
+stops_in : (stop : Stop) (old xs ts : List Token) (part : Part) → stop ≡ Syntax (length ts) → old ≡ xs ++ ts → Leads xs part → part_step part (front ts) ≡ wrong →
+    Stops ExpectsInterval stop old
+stops_in stop old xs ts part e split leads h =
+    stops_here stop (length ts) old e
+    (λ prior k.
+    let p = interval_place prior k in
+    fault_past prior xs ts old (kept p.level p.below (in_interval p.operand Opening)) p.level p.below (in_interval p.operand part) p.brings split
+    (leads p.level p.below p.operand) (part_stuck ts p.level p.below p.operand part h))
+
+-- ---- each part of an interval
+
+pub stops_opening : (stop : Stop) (old : List Token) → stop ≡ Syntax (length old) → ((weak : Bool) → front old ≢ opening weak) → Stops ExpectsInterval stop old
+stops_opening stop old e h = stops_in stop old [] old Opening e refl (λ level below x rest. refl) (no_opening (front old) h)
+
+pub none_opening : (old : List Token) → ((weak : Bool) → front old ≢ opening weak) → BeginsWithNone old
+none_opening old h xs rest ends e (with_high low high low_weak high_weak) = h low_weak (ap front e)
+none_opening old h xs rest ends e (without_high low low_weak) = h low_weak (ap front e)
+
+pub past_low : (old ts us : List Token) (weak : Bool) (low : ℕ) → old ≡ opening weak ∷ ts → ts ≡ Number low ∷ us → old ≡ opening weak ∷ Number low ∷ us
+past_low old ts us weak low e f = e ∙ ap (λ l. opening weak ∷ l) f
+
+pub past_comma : (old us vs : List Token) (weak : Bool) (low : ℕ) → old ≡ opening weak ∷ Number low ∷ us → us ≡ Comma ∷ vs → old ≡ opening weak ∷ Number low ∷ Comma ∷ vs
+past_comma old us vs weak low e f = e ∙ ap (λ l. opening weak ∷ Number low ∷ l) f
+
+pub past_high : (old vs ws : List Token) (weak : Bool) (low : ℕ) (high : Option ℕ) → old ≡ opening weak ∷ Number low ∷ Comma ∷ vs → vs ≡ high_token high ∷ ws →
+    old ≡ opening weak ∷ Number low ∷ Comma ∷ high_token high ∷ ws
+past_high old vs ws weak low high e f = e ∙ ap (λ l. opening weak ∷ Number low ∷ Comma ∷ l) f
+
+pub stops_low : (stop : Stop) (old ts : List Token) (weak : Bool) → old ≡ opening weak ∷ ts → stop ≡ Syntax (length ts) → ((low : ℕ) → front ts ≢ Number low) →
+    Stops ExpectsInterval stop old
+stops_low stop old ts weak split e h = stops_in stop old (opening weak ∷ []) ts (Low weak) e split (to_low weak) (no_low weak (front ts) h)
+
+pub none_low : (old ts : List Token) (weak : Bool) → old ≡ opening weak ∷ ts → ((low : ℕ) → front ts ≢ Number low) → BeginsWithNone old
+none_low old ts weak split h xs rest ends e (with_high low high low_weak high_weak) = h low (ap (λ l. front (tail l)) (sym split ∙ e))
+none_low old ts weak split h xs rest ends e (without_high low low_weak) = h low (ap (λ l. front (tail l)) (sym split ∙ e))
+
+pub stops_comma : (stop : Stop) (old us : List Token) (weak : Bool) (low : ℕ) → old ≡ opening weak ∷ Number low ∷ us → stop ≡ Syntax (length us) → front us ≢ Comma →
+    Stops ExpectsInterval stop old
+stops_comma stop old us weak low split e h =
+    stops_in stop old (opening weak ∷ Number low ∷ []) us (AfterLow weak low) e split (to_comma weak low) (no_comma weak low (front us) h)
+
+pub none_comma : (old us : List Token) (weak : Bool) (low : ℕ) → old ≡ opening weak ∷ Number low ∷ us → front us ≢ Comma → BeginsWithNone old
+none_comma old us weak low split h xs rest ends e (with_high l high low_weak high_weak) = h (ap (λ l. front (tail (tail l))) (sym split ∙ e))
+none_comma old us weak low split h xs rest ends e (without_high l low_weak) = h (ap (λ l. front (tail (tail l))) (sym split ∙ e))
+
+pub stops_high : (stop : Stop) (old vs : List Token) (weak : Bool) (low : ℕ) → old ≡ opening weak ∷ Number low ∷ Comma ∷ vs → stop ≡ Syntax (length vs) →
+    ((high : Option ℕ) → front vs ≢ high_token high) → Stops ExpectsInterval stop old
+stops_high stop old vs weak low split e h =
+    stops_in stop old (opening weak ∷ Number low ∷ Comma ∷ []) vs (High weak low) e split (to_high weak low) (no_high weak low (front vs) h)
+
+pub none_high : (old vs : List Token) (weak : Bool) (low : ℕ) → old ≡ opening weak ∷ Number low ∷ Comma ∷ vs → ((high : Option ℕ) → front vs ≢ high_token high) → BeginsWithNone old
+none_high old vs weak low split h xs rest ends e (with_high l high low_weak high_weak) = h (Some high) (ap (λ l. front (tail (tail (tail l)))) (sym split ∙ e))
+none_high old vs weak low split h xs rest ends e (without_high l low_weak) = h None (ap (λ l. front (tail (tail (tail l)))) (sym split ∙ e))
+
+pub stops_closing : (stop : Stop) (old ws : List Token) (weak : Bool) (low : ℕ) (high : Option ℕ) → old ≡ opening weak ∷ Number low ∷ Comma ∷ high_token high ∷ ws →
+    stop ≡ Syntax (length ws) → ((is : Bool) → kept_weak high is ≡ is → front ws ≢ closing is) → Stops ExpectsInterval stop old
+stops_closing stop old ws weak low high split e h =
+    stops_in stop old (opening weak ∷ Number low ∷ Comma ∷ high_token high ∷ []) ws (Closing weak low high) e split (to_closing weak low high)
+    (no_closing weak low high (front ws) h)
+
+kept_number : (high : Option ℕ) (n : ℕ) (is : Bool) → high_token high ≡ Number n → kept_weak high is ≡ is
+kept_number (Some high) n is e = refl
+kept_number None n is e = absurd (cc)
+
+kept_inf : (high : Option ℕ) → kept_weak high false ≡ false
+kept_inf (Some high) = refl
+kept_inf None = refl
+
+pub none_closing : (old ws : List Token) (weak : Bool) (low : ℕ) (high : Option ℕ) → old ≡ opening weak ∷ Number low ∷ Comma ∷ high_token high ∷ ws →
+    ((is : Bool) → kept_weak high is ≡ is → front ws ≢ closing is) → BeginsWithNone old
+none_closing old ws weak low high split h xs rest ends e (with_high l n low_weak high_weak) =
+    h high_weak (kept_number high n high_weak (ap (λ l. front (tail (tail (tail l)))) (sym split ∙ e))) (ap (λ l. front (tail (tail (tail (tail l))))) (sym split ∙ e))
+none_closing old ws weak low high split h xs rest ends e (without_high l low_weak) =
+    h false (kept_inf high) (ap (λ l. front (tail (tail (tail (tail l))))) (sym split ∙ e))
+
+-- ---- the whole interval
+
+spelt : (weak : Bool) (low : ℕ) (high : Option ℕ) (high_weak : Bool) → kept_weak high high_weak ≡ high_weak →
+    SpellsInterval (opening weak ∷ Number low ∷ Comma ∷ high_token high ∷ closing high_weak ∷ []) (record { low = low; low_weak = weak; high = high; high_weak = high_weak })
+spelt weak low (Some high) high_weak e = with_high low high weak high_weak
+spelt weak low None false e = without_high low weak
+spelt weak low None true e = absurd (cc)
+
+pub interval_whole : (interval : Option IntervalEnds) (old ws new : List Token) (weak : Bool) (low : ℕ) (high : Option ℕ) (high_weak : Bool) →
+    old ≡ opening weak ∷ Number low ∷ Comma ∷ high_token high ∷ ws → ws ≡ closing high_weak ∷ new → kept_weak high high_weak ≡ high_weak →
+    IsMadeOf interval (record { low = low; low_weak = weak; high = high; high_weak = kept_weak high high_weak }) → ParsesInterval (Ok interval) old new
+interval_whole interval old ws new weak low high high_weak split e w m =
     let P = λ (kept : Bool). IsMadeOf interval (record { low = low; low_weak = weak; high = high; high_weak = kept }) in
     record {
-      ends = record { low = low; low_weak = weak; high = high; high_weak = high_weak };
-      made = subst P w m;
-      reads = after_high old ts us vs ws weak low high e f g h ∙ ap (λ t. read_part t (Closing weak low high)) k ∙ close_read weak low high high_weak new w;
+      taken = opening weak ∷ Number low ∷ Comma ∷ high_token high ∷ closing high_weak ∷ [];
+      tree = record { low = low; low_weak = weak; high = high; high_weak = high_weak };
+      split = split ∙ ap (λ l. opening weak ∷ Number low ∷ Comma ∷ high_token high ∷ l) e;
+      spells = spelt weak low high high_weak w;
+      stands = subst P w m;
     }

@@ -1,28 +1,28 @@
 -- Which outcome each step of parsing comes to.
-use Rattle.std.proofs.Common.{◌≡◌, ℕ, ◌<◌, ◌≤◌, ◌-◌, Bool, true, false, Option, Some, None, Ok, Err, List, length, ◌⊎◌, inl, inr, refl, sym, ◌∙◌, ap, subst, arith}
+use Rattle.std.proofs.Common.{◌≡◌, ℕ, ◌<◌, ◌≤◌, ◌-◌, Bool, true, false, Option, Some, None, Ok, Err, List, [], length, ◌⊎◌, inl, inr, refl, sym, ◌∙◌, ap, subst, arith}
 use Rattle.std.specs.Prelude.{Result, MatchOption, position, nat_lt, min, if◌then◌else◌}
 use Rattle.std.specs.Option.{option_map}
 use Rattle.std.proofs.lemmas.Bool.Decides.{nat_tests}
+use Rattle.std.proofs.lemmas.List.{append-nil}
+use Rattle.tre_syntax.specs.declared.pattern.TheConstants.{NODES_MAX}
 use Rattle.tre_syntax.specs.declared.pattern.Pattern.{Pattern}
+use Rattle.tre_parse.specs.declared.limits.TheConstants.{TEXT_MAX, COUNT_MAX}
 use Rattle.tre_syntax.specs.Pattern.{pattern_tree, names_of}
 use Rattle.tre_syntax.specs.PatternTree.{PatternTree, node_count}
 use Rattle.tre_parse.specs.declared.fault.ParseFault.{ParseFault}
-use Rattle.tre_parse.specs.declared.fault.ParseFault.TheVariants.{TooLong, BadByte, Number, Syntax, TooManyNames, TooLarge, Memory}
-use Rattle.tre_parse.specs.declared.operand.Operand.{Operand}
+use Rattle.tre_parse.specs.declared.fault.ParseFault.TheVariants.{TooLong, BadByte, Number, TooManyNames, TooLarge, Memory}
+use Rattle.tre_parse.specs.Operands.{Operand}
+use Rattle.tre_parse.specs.declared.token.Token.{Token}
 use Rattle.tre_parse.specs.declared.scan.Scan.{Scan}
-use Rattle.tre_parse.specs.Grammar.{expr}
-use Rattle.tre_parse.specs.Machine.{read, start}
-use Rattle.tre_parse.specs.Reading.{Parses, ReadsWhole}
+use Rattle.tre_parse.specs.Grammar.{expr, Spells}
+use Rattle.tre_parse.specs.Reading.{ParsesWhole}
 use Rattle.tre_parse.specs.declared.cursor.Stop.{Stop}
 use Rattle.tre_parse.specs.declared.cursor.Stop.TheVariants.{Syntax as Stuck, Memory as Lacking}
-use Rattle.tre_parse.proofs.ReadFrom.{read_ok}
 use Rattle.tre_parse.specs.Tokens.{earlier, bad_byte}
 use Rattle.tre_parse.specs.Scan.{IsScan}
 use Rattle.tre_parse.specs.Numbering.{IsNumberedByUse}
 use Rattle.tre_parse.specs.Outcome.{Outcome, spelt, refused, TextTokens, text_tokens_of, offset_of, is_big, byte_fault, limit_fault, NoneEmpty, past_or, limited_outcome, IsOutcomeOfTokens, IsOutcomeWithin, IsOutcome}
 use Rattle.tre_parse.specs.Answers.{Answers, IsAnswered, text_tokens_in, IsFaultOf, IsRepresented, IsBuildable}
-use Rattle.tre_parse.proofs.SyntaxFaults.{fault_at}
-use Rattle.tre_parse.proofs.Soundness.{spelt_read}
 use Rattle.tre_parse.proofs.Numbers.{counts_alike}
 use Rattle.tre_parse.proofs.NumberedWords.{text_numbered}
 use Rattle.tre_parse.proofs.Fine.{none_big, stand_fine, fine_intervals}
@@ -34,22 +34,18 @@ along_none made P Q e h = let R = λ (m : Option ParseFault). MatchOption m P Q 
 pub read_outcome : (words : TextTokens) (outcome : Outcome) → limit_fault words ≡ None → IsOutcomeOfTokens words outcome → IsOutcomeWithin words outcome
 read_outcome words outcome e h = along_none (limit_fault words) _ _ e h
 
--- Tokens that are not read to an end spell no expression.
-pub stopped_outcome : (words : TextTokens) (left at : ℕ) → limit_fault words ≡ None → read words.tokens start ≡ Err left → at ≡ offset_of words (length words.tokens - left) →
-    IsOutcomeWithin words (refused (Syntax at))
-stopped_outcome words left at e h q =
-    read_outcome words (refused (Syntax at)) e (inl (length words.tokens - left, fault_at words.tokens left h, ap (λ n. refused (Syntax n)) q))
-
-pub stop_outcome : (words : TextTokens) (stop : Stop) (fault : ParseFault) → limit_fault words ≡ None →
-    Parses {A = Operand} (Err stop) (λ x. ReadsWhole x (read words.tokens start)) (read words.tokens start) → IsFaultOf words stop fault →
+-- Tokens that are not read to an end have their fault where the reading stops.
+pub stop_outcome : (words : TextTokens) (stop : Stop) (fault : ParseFault) → limit_fault words ≡ None → ParsesWhole (Err stop) words.tokens → IsFaultOf words stop fault →
     (fault ≡ Memory) ⊎ IsOutcomeWithin words (refused fault)
 stop_outcome words Lacking fault e h f = inl f
 stop_outcome words (Stuck left) fault e h f =
     let P = λ (g : ParseFault). IsOutcomeWithin words (refused g) in
-    inr (subst P (sym f) (stopped_outcome words left _ e h refl))
+    inr (subst P (sym f) (read_outcome words _ e (inl (length words.tokens - left, h [] refl, refl))))
 
-pub is_whole : (words : TextTokens) (operand : Operand) → ReadsWhole operand (read words.tokens start) → IsRepresented words operand
-is_whole words operand h = record { tree = h.tree; spells = spelt_read words.tokens h.tree (read_ok words.tokens start h.tree h.same); represents = h.represents }
+pub is_whole : (words : TextTokens) (operand : Operand) → ParsesWhole (Ok operand) words.tokens → IsRepresented words operand
+is_whole words operand h =
+    let P = λ (ts : List Token). Spells expr ts h.tree in
+    record { tree = h.tree; spells = subst P (sym (h.split ∙ append-nil h.taken)) h.spells; represents = h.stands }
 
 first_none : (words : TextTokens) (place : Option ℕ) (later : Option ParseFault) → earlier (option_map (λ at. Number (offset_of words at)) place) later ≡ None → place ≡ None
 first_none words None later e = refl
@@ -67,27 +63,27 @@ pub past_outcome : (words : TextTokens) (operand : Operand) (at : ℕ) → limit
     IsOutcomeWithin words (refused (TooManyNames at))
 past_outcome words operand at e w h q =
     judged words operand (refused (TooManyNames at)) e w h
-    (sym (ap (λ past. past_or past (if nat_lt 1000 (node_count w.tree) then refused (TooLarge (min (node_count w.tree) 1000000000)) else spelt w.tree words.names)) q))
+    (sym (ap (λ past. past_or past (if nat_lt NODES_MAX (node_count w.tree) then refused (TooLarge (min (node_count w.tree) COUNT_MAX)) else spelt w.tree words.names)) q))
 
-size_large : (is : Bool) (n : ℕ) (whole : Outcome) → nat_lt 1000 n ≡ is → 1000 < n → (if is then refused (TooLarge (min n 1000000000)) else whole) ≡ refused (TooLarge (min n 1000000000))
+size_large : (is : Bool) (n : ℕ) (whole : Outcome) → nat_lt NODES_MAX n ≡ is → NODES_MAX < n → (if is then refused (TooLarge (min n COUNT_MAX)) else whole) ≡ refused (TooLarge (min n COUNT_MAX))
 size_large true n whole t lt = refl
 size_large false n whole t lt = absurd (grind (arith, nat_tests))
 
-size_small : (is : Bool) (n : ℕ) (large whole : Outcome) → nat_lt 1000 n ≡ is → n ≤ 1000 → (if is then large else whole) ≡ whole
+size_small : (is : Bool) (n : ℕ) (large whole : Outcome) → nat_lt NODES_MAX n ≡ is → n ≤ NODES_MAX → (if is then large else whole) ≡ whole
 size_small true n large whole t le = absurd (grind (arith, nat_tests))
 size_small false n large whole t le = refl
 
-pub large_outcome : (words : TextTokens) (operand : Operand) (nodes : ℕ) → limit_fault words ≡ None → (w : IsRepresented words operand) → NoneEmpty words.tokens → words.past ≡ None → nodes ≡ operand.nodes → 1000 < nodes →
+pub large_outcome : (words : TextTokens) (operand : Operand) (nodes : ℕ) → limit_fault words ≡ None → (w : IsRepresented words operand) → NoneEmpty words.tokens → words.past ≡ None → nodes ≡ operand.nodes → NODES_MAX < nodes →
     IsOutcomeWithin words (refused (TooLarge nodes))
 large_outcome words operand nodes e w h q same lt =
     let count = w.represents.nodes in
     judged words operand (refused (TooLarge nodes)) e w h
     (ap (λ n. refused (TooLarge n)) (same ∙ count)
-    ∙ sym (size_large (nat_lt 1000 (node_count w.tree)) (node_count w.tree) (spelt w.tree words.names) refl (omega (arith, count)))
-    ∙ sym (ap (λ past. past_or past (if nat_lt 1000 (node_count w.tree) then refused (TooLarge (min (node_count w.tree) 1000000000)) else spelt w.tree words.names)) q))
+    ∙ sym (size_large (nat_lt NODES_MAX (node_count w.tree)) (node_count w.tree) (spelt w.tree words.names) refl (omega (arith, count)))
+    ∙ sym (ap (λ past. past_or past (if nat_lt NODES_MAX (node_count w.tree) then refused (TooLarge (min (node_count w.tree) COUNT_MAX)) else spelt w.tree words.names)) q))
 
 -- What is within all limits can be built, and is the pattern.
-pub is_buildable : (words : TextTokens) (operand : Operand) → limit_fault words ≡ None → (w : IsRepresented words operand) → NoneEmpty words.tokens → words.past ≡ None → operand.nodes ≤ 1000 → IsNumberedByUse words →
+pub is_buildable : (words : TextTokens) (operand : Operand) → limit_fault words ≡ None → (w : IsRepresented words operand) → NoneEmpty words.tokens → words.past ≡ None → operand.nodes ≤ NODES_MAX → IsNumberedByUse words →
     IsBuildable words.names operand
 is_buildable words operand e w h q le n =
     let count = w.represents.nodes in
@@ -99,25 +95,25 @@ is_buildable words operand e w h q le n =
       numbered = (counts_alike expr words.tokens w.tree w.spells).alike 0 (length words.names) (n q);
     }
 
-pub spelt_outcome : (words : TextTokens) (operand : Operand) (tree : PatternTree) (names : List (List ℕ)) → limit_fault words ≡ None → (w : IsRepresented words operand) → NoneEmpty words.tokens → words.past ≡ None → operand.nodes ≤ 1000 →
+pub spelt_outcome : (words : TextTokens) (operand : Operand) (tree : PatternTree) (names : List (List ℕ)) → limit_fault words ≡ None → (w : IsRepresented words operand) → NoneEmpty words.tokens → words.past ≡ None → operand.nodes ≤ NODES_MAX →
     tree ≡ w.tree → names ≡ words.names → IsOutcomeWithin words (spelt tree names)
 spelt_outcome words operand tree names e w h q le same kept =
     let count = w.represents.nodes in
     judged words operand (spelt tree names) e w h
     (ap (λ t. spelt t names) same ∙ ap (λ n. spelt w.tree n) kept
-    ∙ sym (size_small (nat_lt 1000 (node_count w.tree)) (node_count w.tree) (refused (TooLarge (min (node_count w.tree) 1000000000))) (spelt w.tree words.names) refl (omega (arith, count)))
-    ∙ sym (ap (λ past. past_or past (if nat_lt 1000 (node_count w.tree) then refused (TooLarge (min (node_count w.tree) 1000000000)) else spelt w.tree words.names)) q))
+    ∙ sym (size_small (nat_lt NODES_MAX (node_count w.tree)) (node_count w.tree) (refused (TooLarge (min (node_count w.tree) COUNT_MAX))) (spelt w.tree words.names) refl (omega (arith, count)))
+    ∙ sym (ap (λ past. past_or past (if nat_lt NODES_MAX (node_count w.tree) then refused (TooLarge (min (node_count w.tree) COUNT_MAX)) else spelt w.tree words.names)) q))
 
 -- The text as a whole.
 pub words_outcome : (text : List ℕ) (outcome : Outcome) → byte_fault text ≡ None → IsOutcomeWithin (text_tokens_of text) outcome → IsOutcome text outcome
 words_outcome text outcome e h = along_none (byte_fault text) _ _ e h
 
-short_by : (is : Bool) (n : ℕ) (first later : Option ParseFault) → nat_lt 16384 n ≡ is → n ≤ 16384 → (if is then first else later) ≡ later
+short_by : (is : Bool) (n : ℕ) (first later : Option ParseFault) → nat_lt TEXT_MAX n ≡ is → n ≤ TEXT_MAX → (if is then first else later) ≡ later
 short_by true n first later t le = absurd (grind (arith, nat_tests))
 short_by false n first later t le = refl
 
-pub good_bytes : (text : List ℕ) → length text ≤ 16384 → bad_byte text ≡ None → byte_fault text ≡ None
-good_bytes text le e = short_by (nat_lt 16384 (length text)) (length text) (Some TooLong) _ refl le ∙ ap (option_map (λ at. BadByte at)) e
+pub good_bytes : (text : List ℕ) → length text ≤ TEXT_MAX → bad_byte text ≡ None → byte_fault text ≡ None
+good_bytes text le e = short_by (nat_lt TEXT_MAX (length text)) (length text) (Some TooLong) _ refl le ∙ ap (option_map (λ at. BadByte at)) e
 
 -- A scan of a text holds its words.
 pub same_words : (text : List ℕ) (scan : Scan) → IsScan text scan → text_tokens_in scan ≡ text_tokens_of text
@@ -126,7 +122,7 @@ same_words text scan s = let z = s.size in let a = s.tokens in let b = s.offsets
 pub scan_numbered : (text : List ℕ) (scan : Scan) → IsScan text scan → IsNumberedByUse (text_tokens_in scan)
 scan_numbered text scan s = let P = λ (w : TextTokens). IsNumberedByUse w in subst P (sym (same_words text scan s)) (text_numbered text)
 
-pub answers_text : (text : List ℕ) (scan : Scan) (result : Result Pattern ParseFault) → length text ≤ 16384 → IsScan text scan → Answers (IsOutcomeWithin (text_tokens_in scan)) result → Answers (IsOutcome text) result
+pub answers_text : (text : List ℕ) (scan : Scan) (result : Result Pattern ParseFault) → length text ≤ TEXT_MAX → IsScan text scan → Answers (IsOutcomeWithin (text_tokens_in scan)) result → Answers (IsOutcome text) result
 answers_text text scan (Ok pattern) le s h =
     let P = λ (w : TextTokens). IsOutcomeWithin w (spelt (pattern_tree pattern) (names_of pattern)) in
     words_outcome text _ (good_bytes text le s.good) (subst P (same_words text scan s) h)

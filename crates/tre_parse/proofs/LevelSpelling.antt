@@ -6,7 +6,7 @@ use Rattle.tre_syntax.specs.PatternTree.{PatternTree, sequence, alternation, int
 use Rattle.tre_parse.specs.declared.token.Token.{Token}
 use Rattle.tre_parse.specs.declared.token.Token.TheVariants.{Semicolon, Bar, DoubleBar, Ampersand, DoubleAmpersand}
 use Rattle.tre_parse.specs.Grammar.{state, conj, neg, SpellsState, state_conj, state_bars, conj_neg, conj_ampersands, expr, meet, seq, post, Spells, expr_meet, expr_bar, meet_seq, meet_ampersand, seq_post, seq_semicolon}
-use Rattle.tre_parse.specs.Machine.{Level, StateLevel, joined, fresh_level, fresh_state_level, after_semicolon, after_ampersand, after_bar, as_expression, as_intersection, as_sequence, after_ampersands, after_bars, as_state, as_conjunction}
+use Rattle.tre_parse.proofs.Machine.{Level, StateLevel, joined, fresh_level, fresh_state_level, after_semicolon, after_ampersand, after_bar, as_expression, as_intersection, as_sequence, after_ampersands, after_bars, as_state, as_conjunction}
 
 -- The state's level was read from these tokens.
 pub data StateLevelReads : StateLevel → List Token → Type 0 where

@@ -1,3 +1,4 @@
+pub mod Machine
 pub mod ReadFrom
 pub mod Completeness
 pub mod LevelSpelling
@@ -17,6 +18,8 @@ pub mod StateStrength
 pub mod Existence
 pub mod Fronts
 pub mod Blanks
+pub mod Contexts
+pub mod Steps
 pub mod StateSteps
 pub mod IntervalSteps
 pub mod ExpressionSteps

@@ -5,6 +5,7 @@ use Rattle.std.specs.List.{take_while}
 use Rattle.std.specs.Str.{bytes_eq}
 use Rattle.std.specs.Char.{is_ascii_digit}
 use Rattle.std.proofs.lemmas.List.Quantifiers.{position-Some}
+use Rattle.tre_state.specs.declared.names.TheConstants.{NAMES_MAX}
 use Rattle.tre_state.specs.Names.{place_of}
 use Rattle.tre_state.specs.Name.{starts_name, continues_name}
 use Rattle.tre_state.proofs.Places.{place_of-push}
@@ -130,18 +131,18 @@ no_name_numbers : (token : Token) (rest : List Token) → IsNoName token → num
 no_name_numbers (Numbered i) rest h = absurd h
 no_name_numbers _ rest h = refl
 
--- What the number of a name is, where it is not past the first 64.
+-- What the number of a name is, where it is not past the most.
 name_seen : (known : List (List ℕ)) (bytes : List ℕ) (found : Option ℕ) (room : Bool) (rest : List ℕ) (m : ℕ) → place_of known bytes ≡ found →
     is_none (place_of (if is_none found && room then known ++ bytes ∷ [] else known) bytes) ≡ false →
     seen_after (length (if is_none found && room then known ++ bytes ∷ [] else known)) rest ≡ Some m →
-    seen_after (length known) (unwrap_or (place_of (if is_none found && room then known ++ bytes ∷ [] else known) bytes) 64 ∷ rest) ≡ Some m
+    seen_after (length known) (unwrap_or (place_of (if is_none found && room then known ++ bytes ∷ [] else known) bytes) NAMES_MAX ∷ rest) ≡ Some m
 name_seen known bytes (Some i) room rest m f p e =
     let bound = position-Some (bytes_eq bytes) known i [] f in
-    ap (λ (o : Option ℕ). seen_after (length known) (unwrap_or o 64 ∷ rest)) f ∙ seen_old (length known) i rest m bound.0 e
+    ap (λ (o : Option ℕ). seen_after (length known) (unwrap_or o NAMES_MAX ∷ rest)) f ∙ seen_old (length known) i rest m bound.0 e
 name_seen known bytes None true rest m f p e =
     let pushed = place_of-push known bytes f in
     let size : length (known ++ bytes ∷ []) ≡ length known + 1 = length-append known (bytes ∷ []) in
-    ap (λ (o : Option ℕ). seen_after (length known) (unwrap_or o 64 ∷ rest)) pushed
+    ap (λ (o : Option ℕ). seen_after (length known) (unwrap_or o NAMES_MAX ∷ rest)) pushed
     ∙ seen_new (length known) (length known) rest m refl (ap (λ n. seen_after n rest) (sym size) ∙ e)
 name_seen known bytes None false rest m f p e =
     let none = ap is_none f in absurd (cc)
@@ -155,7 +156,7 @@ spot_numbered : (word : RawToken) (at : ℕ) (known : List (List ℕ)) (rest : L
     seen_after (length known) (numbers_in (token_of known word ∷ rest)) ≡ Some m
 spot_numbered (name bytes) at known rest later m h e go =
     let split = past_none (is_past known (name bytes)) at later e in
-    name_seen known bytes (place_of known bytes) (nat_lt (length known) 64) (numbers_in rest) m refl split.0 (go split.1)
+    name_seen known bytes (place_of known bytes) (nat_lt (length known) NAMES_MAX) (numbers_in rest) m refl split.0 (go split.1)
 spot_numbered (sign token) at known rest later m h e go =
     ap (seen_after (length known)) (no_name_numbers token rest h) ∙ go e
 

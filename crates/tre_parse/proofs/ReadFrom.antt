@@ -3,7 +3,7 @@ use Rattle.std.proofs.Common.{◌≡◌, ℕ, Option, Some, None, Ok, Err, List,
 use Rattle.std.specs.Prelude.{Result}
 use Rattle.tre_syntax.specs.PatternTree.{PatternTree}
 use Rattle.tre_parse.specs.declared.token.Token.{Token}
-use Rattle.tre_parse.specs.Machine.{Config, step, end_of, ended, continued, read}
+use Rattle.tre_parse.proofs.Machine.{Config, step, end_of, ended, continued, read}
 
 abbrev pub read_from : List Token → Config → Option PatternTree
 read_from [] config = end_of config.level config.below config.place

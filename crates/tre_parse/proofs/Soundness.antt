@@ -5,9 +5,10 @@ use Rattle.tre_state.specs.StateTree.{StateTree, always, proposition}
 use Rattle.tre_syntax.specs.PatternTree.{PatternTree, empty, atom}
 use Rattle.tre_parse.specs.declared.token.Token.{Token}
 use Rattle.tre_parse.specs.declared.token.Token.TheVariants.{Name, Number, LeftParen, RightParen, LeftBracket, RightBracket, LeftBrace, RightBrace, Comma, Semicolon, Bar, DoubleBar, Ampersand, DoubleAmpersand, Bang, Star, Plus, Question, Percent, Begins, Ends, Eps, Rise, Fall, Inf, True}
-use Rattle.tre_parse.specs.Machine.{Part, Opening, Low, AfterLow, High, Closing, Frame, Braces, Edge}
+use Rattle.tre_parse.proofs.Machine.{Part, Opening, Low, AfterLow, High, Closing, Frame, Braces, Edge}
 use Rattle.tre_parse.specs.Grammar.{lit, state, neg, SpellsState, lit_name, lit_true, lit_braces, lit_bang, neg_name, neg_true, neg_parens, neg_bang, opening, SpellsInterval, with_high, without_high, expr, post, Spells, post_primary, post_star, post_plus, post_question, post_percent, primary_eps, primary_parens, primary_rise, primary_fall, primary_lit, primary_begins, primary_ends, primary_begins_ends}
-use Rattle.tre_parse.specs.Machine.{Level, StateLevel, Place, before, after, in_literal, after_literal, after_edge, before_state, after_state, in_interval, Config, fresh_state_level, after_semicolon, after_ampersand, after_bar, as_expression, as_state, after_ampersands, after_bars, negated, plain_literal, ended_literal, edge_of, PartStep, wrong, going, whole, part_step, literal_step, before_step, leave, after_step, after_literal_step, edge_step, before_state_step, leave_parens, leave_braces, after_state_step, after_part, kept, step, start}
+use Rattle.tre_parse.specs.Joins.{negated, plain_literal, ended_literal, edge_of}
+use Rattle.tre_parse.proofs.Machine.{Level, StateLevel, Place, before, after, in_literal, after_literal, after_edge, before_state, after_state, in_interval, Config, fresh_state_level, after_semicolon, after_ampersand, after_bar, as_expression, as_state, after_ampersands, after_bars, PartStep, wrong, going, whole, part_step, literal_step, before_step, leave, after_step, after_literal_step, edge_step, before_state_step, leave_parens, leave_braces, after_state_step, after_part, kept, step, start}
 use Rattle.tre_parse.proofs.ReadFrom.{read_from}
 use Rattle.tre_parse.proofs.LevelSpelling.{StateLevelReads, fresh, ampersands, bars, closed_state, LevelReads, fresh_expression, semicolon, ampersand, bar, closed_expression}
 

@@ -8,7 +8,8 @@ use Rattle.tre_parse.specs.declared.token.Token.{Token}
 use Rattle.tre_parse.specs.declared.token.Token.TheVariants.{Number, LeftParen, RightParen, LeftBracket, RightBrace, Comma, Star, Eps, Inf, True}
 use Rattle.tre_parse.specs.Grammar.{expr}
 use Rattle.tre_parse.specs.Begins.{Begins}
-use Rattle.tre_parse.specs.Machine.{Level, StateLevel, Place, before, after, in_literal, after_literal, after_edge, before_state, after_state, in_interval, Config, kept, as_expression, as_state, negated, plain_literal, edge_of, Opening, Low, AfterLow, High, Closing, Frame, Braces, Edge, step, end_of, ended, continued, read, start}
+use Rattle.tre_parse.specs.Joins.{negated, plain_literal, edge_of}
+use Rattle.tre_parse.proofs.Machine.{Level, StateLevel, Place, before, after, in_literal, after_literal, after_edge, before_state, after_state, in_interval, Config, kept, as_expression, as_state, Opening, Low, AfterLow, High, Closing, Frame, Braces, Edge, step, end_of, ended, continued, read, start}
 use Rattle.tre_parse.specs.Outcome.{IsSyntaxFaultAt}
 use Rattle.tre_parse.proofs.ReadFrom.{read_from, read_err}
 use Rattle.tre_parse.proofs.Completeness.{read_spelt}
@@ -16,23 +17,23 @@ use Rattle.tre_parse.proofs.Soundness.{spelt_read}
 use Rattle.tre_parse.proofs.Prefixes.{front_begins, completes, begins_shorter}
 
 -- From wherever the machine is, some tokens complete an expression.
-record Completes (config : Config) : Type 0 where
-  rest : List Token
-  tree : PatternTree
-  reads : read_from rest config ≡ Some tree
+pub record Completes (config : Config) : Type 0 where
+  pub rest : List Token
+  pub tree : PatternTree
+  pub reads : read_from rest config ≡ Some tree
 
 by : (token : Token) (config next : Config) → step config token ≡ Some next → Completes next → Completes config
 by token config next e c =
     record { rest = token ∷ c.rest; tree = c.tree; reads = ap (option_and_then (λ n. read_from c.rest n)) e ∙ c.reads }
 
-after_completes : (below : List Level) (level : Level) (e : PatternTree) → Completes (kept level below (after e))
+pub after_completes : (below : List Level) (level : Level) (e : PatternTree) → Completes (kept level below (after e))
 after_completes [] level e = record { rest = []; tree = as_expression level e; reads = refl }
 after_completes (outer ∷ below) level e = by RightParen _ _ refl (after_completes below outer (as_expression level e))
 
-literal_completes : (below : List Level) (level : Level) (begins : Bool) (s : StateTree) → Completes (kept level below (after_literal begins s))
+pub literal_completes : (below : List Level) (level : Level) (begins : Bool) (s : StateTree) → Completes (kept level below (after_literal begins s))
 literal_completes below level begins s = by Star _ _ refl (after_completes below level (repetition (plain_literal begins s)))
 
-state_completes : (around : List StateLevel) (level : Level) (below : List Level) (frame : Frame) (inner : StateLevel) (s : StateTree) → Completes (kept level below (after_state frame inner around s))
+pub state_completes : (around : List StateLevel) (level : Level) (below : List Level) (frame : Frame) (inner : StateLevel) (s : StateTree) → Completes (kept level below (after_state frame inner around s))
 state_completes [] level below (Braces begins n) inner s = by RightBrace _ _ refl (literal_completes below level begins (negated n (as_state inner s)))
 state_completes [] level below (Edge rises) inner s = by RightParen _ _ refl (after_completes below level (edge_of rises (as_state inner s)))
 state_completes (outer ∷ around) level below (Braces begins n) inner s = by RightParen _ _ refl (state_completes around level below (Braces begins n) outer (negated inner.bangs (as_state inner s)))
@@ -51,7 +52,7 @@ comma_completes level below e weak low = by Comma _ _ refl (high_completes level
 low_completes : (level : Level) (below : List Level) (e : PatternTree) (weak : Bool) → Completes (kept level below (in_interval e (Low weak)))
 low_completes level below e weak = by (Number 0) _ _ refl (comma_completes level below e weak 0)
 
-place_completes : (level : Level) (below : List Level) (place : Place) → Completes (kept level below place)
+pub place_completes : (level : Level) (below : List Level) (place : Place) → Completes (kept level below place)
 place_completes level below before = by Eps _ _ refl (after_completes below level (atom empty))
 place_completes level below (after e) = after_completes below level e
 place_completes level below (in_literal begins n) = by True _ _ refl (literal_completes below level begins (negated n always))
@@ -149,47 +150,65 @@ fewer_begin n xs h =
     take_drop (suc m) [] = refl
     take_drop (suc m) (t ∷ ts) = ap (λ l. t ∷ l) (take_drop m ts)
 
-front_of : (tokens : List Token) (left : ℕ) (s : Stopped tokens start left) → Begins expr s.front
-front_of tokens left s =
-    let c = place_completes s.place.level s.place.below s.place.place in
-    front_begins expr (s.front ++ c.rest) c.tree (spelt_read (s.front ++ c.rest) c.tree (s.runs c.rest ∙ c.reads)) s.front c.rest refl
+-- No tokens go on with the front as the rest does: with its first token, or with none where it is empty.
+abbrev pub Stuck : List Token → List Token → Config → Type 0
+Stuck front [] config = read_from (front ++ []) config ≡ None
+Stuck front (token ∷ others) config = (more : List Token) → read_from (front ++ token ∷ more) config ≡ None
 
-wrong_rest : (tokens : List Token) (left : ℕ) (s : Stopped tokens start left) (rest : List Token) → s.rest ≡ rest →
-    ((length s.front < length tokens) × (Begins expr (take (length s.front + 1) tokens) → ⊥)) ⊎ (length s.front ≡ length tokens)
-wrong_rest tokens left s [] e = inr (sym (ap length (s.split ∙ ap (λ l. s.front ++ l) e ∙ append-nil s.front)))
-wrong_rest tokens left s (token ∷ others) e =
-    let whole = s.split ∙ ap (λ l. s.front ++ l) e in
-    let count = ap length whole ∙ length-append s.front (token ∷ others) in
+no_tree : {t : PatternTree} → Some t ≡ None → ⊥
+no_tree q = cc
+
+stuck_whole : (front rest : List Token) (config : Config) → Stuck front rest config → read_from (front ++ rest) config ≡ None
+stuck_whole front [] config h = h
+stuck_whole front (token ∷ others) config h = h others
+
+wrong_rest : (front rest : List Token) → Stuck front rest start →
+    ((length front < length (front ++ rest)) × (Begins expr (take (length front + 1) (front ++ rest)) → ⊥)) ⊎ (length front ≡ length (front ++ rest))
+wrong_rest front [] stuck = inr (sym (ap length (append-nil front)))
+wrong_rest front (token ∷ others) stuck =
+    let count = length-append front (token ∷ others) in
     inl (
       omega (arith, count),
       λ h.
           let P = λ (ts : List Token). Begins expr ts in
-          let c = completes expr (s.front ++ token ∷ []) (subst P (ap (take (length s.front + 1)) whole ∙ take_one_more s.front token others) h) in
-          let some = read_spelt ((s.front ++ token ∷ []) ++ c.rest) c.tree c.spells in
-          let none = ap (λ ts. read_from ts start) (append_assoc s.front (token ∷ []) c.rest) ∙ s.runs (token ∷ c.rest) ∙ s.stuck token others c.rest e in
+          let c = completes expr (front ++ token ∷ []) (subst P (take_one_more front token others) h) in
+          let some = read_spelt ((front ++ token ∷ []) ++ c.rest) c.tree c.spells in
+          let none = ap (λ ts. read_from ts start) (append_assoc front (token ∷ []) c.rest) ∙ stuck c.rest in
           no_tree (sym some ∙ none),
     )
-  where
-    no_tree : {t : PatternTree} → Some t ≡ None → ⊥
-    no_tree q = cc
+
+-- Where some tokens complete the front, and none go on as the rest does, there is the fault.
+pub halts : (front rest more : List Token) (tree : PatternTree) → read_from (front ++ more) start ≡ Some tree → Stuck front rest start →
+    IsSyntaxFaultAt (front ++ rest) (length (front ++ rest) - length rest)
+halts front rest more tree whole stuck =
+    let count = length-append front rest in
+    let here : length front ≡ length (front ++ rest) - length rest = omega (arith, count) in
+    let begun = front_begins expr (front ++ more) tree (spelt_read (front ++ more) tree whole) front more refl in
+    let P = λ (n : ℕ). IsSyntaxFaultAt (front ++ rest) n in
+    subst P here
+    (record {
+      none = λ tree h. no_tree (sym (read_spelt (front ++ rest) tree h) ∙ stuck_whole front rest start stuck);
+      begins = λ n le.
+          let Q = λ (ts : List Token). Begins expr ts in
+          subst Q (sym (take_fewer n front rest le)) (fewer_begin n front begun);
+      wrong = wrong_rest front rest stuck;
+    })
+
+stuck_there : (front rest : List Token) (place : Config) → ((more : List Token) → read_from (front ++ more) start ≡ read_from more place) →
+    ((token : Token) (others more : List Token) → rest ≡ token ∷ others → read_from (token ∷ more) place ≡ None) →
+    read_from (front ++ rest) start ≡ None → Stuck front rest start
+stuck_there front [] place runs stuck none = none
+stuck_there front (token ∷ others) place runs stuck none = λ more. runs (token ∷ more) ∙ stuck token others more refl
 
 pub fault_at : (tokens : List Token) (left : ℕ) → read tokens start ≡ Err left → IsSyntaxFaultAt tokens (length tokens - left)
 fault_at tokens left e =
     let s = stopped tokens start left e in
-    let count = ap length s.split ∙ length-append s.front s.rest in
-    let here : length s.front ≡ length tokens - left = omega (arith, count, s.here) in
-    let P = λ (n : ℕ). IsSyntaxFaultAt tokens n in
-    subst P here
-    (record {
-      none = λ tree h. none_of (sym (read_spelt tokens tree h) ∙ read_err tokens start left e);
-      begins = λ n le.
-          let Q = λ (ts : List Token). Begins expr ts in
-          subst Q (sym (ap (take n) s.split ∙ take_fewer n s.front s.rest le)) (fewer_begin n s.front (front_of tokens left s));
-      wrong = wrong_rest tokens left s s.rest refl;
-    })
-  where
-    none_of : {t : PatternTree} → Some t ≡ None → ⊥
-    none_of q = cc
+    let c = place_completes s.place.level s.place.below s.place.place in
+    let none = ap (λ ts. read_from ts start) (sym s.split) ∙ read_err tokens start left e in
+    let P = λ (ts : List Token) (n : ℕ). IsSyntaxFaultAt ts (length ts - n) in
+    subst (P tokens) (sym s.here)
+    (subst (λ ts. P ts (length s.rest)) (sym s.split)
+    (halts s.front s.rest c.rest c.tree (s.runs c.rest ∙ c.reads) (stuck_there s.front s.rest s.place s.runs s.stuck none)))
 
 -- There is one such place.
 pub fault_once : (tokens : List Token) (i j : ℕ) → IsSyntaxFaultAt tokens i → IsSyntaxFaultAt tokens j → i ≡ j

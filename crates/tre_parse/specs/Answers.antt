@@ -1,16 +1,16 @@
 -- What `parse` answers, against the outcome of the text.
 use Rattle.std.specs.Prelude.{◌≡◌, ℕ, ◌≤◌, ◌-◌, ◌⊎◌, Result, Ok, Err, List, length}
 use Rattle.tre_syntax.specs.declared.pattern.Pattern.{Pattern}
+use Rattle.tre_syntax.specs.declared.pattern.TheConstants.{NODES_MAX}
 use Rattle.tre_syntax.specs.Pattern.{pattern_tree, names_of}
 use Rattle.tre_syntax.specs.PatternTree.{PatternTree, node_count, IsNumbered}
 use Rattle.tre_parse.specs.declared.fault.ParseFault.{ParseFault}
 use Rattle.tre_parse.specs.declared.fault.ParseFault.TheVariants.{Syntax, Memory}
 use Rattle.tre_parse.specs.declared.cursor.Stop.{Stop}
 use Rattle.tre_parse.specs.declared.cursor.Stop.TheVariants.{Syntax as Stuck, Memory as Lacking}
-use Rattle.tre_parse.specs.declared.operand.Operand.{Operand}
+use Rattle.tre_parse.specs.Operands.{Operand, Represents, HasFineIntervals}
 use Rattle.tre_parse.specs.declared.scan.Scan.{Scan}
 use Rattle.tre_parse.specs.Grammar.{expr, Spells}
-use Rattle.tre_parse.specs.Operands.{Represents, HasFineIntervals}
 use Rattle.tre_parse.specs.Outcome.{Outcome, spelt, refused, TextTokens, offset_of}
 
 -- The answer is an outcome of which this is so, or want of memory.
@@ -49,6 +49,6 @@ pub record IsRepresented (words : TextTokens) (operand : Operand) : Type 0 where
 pub record IsBuildable (names : List (List ℕ)) (operand : Operand) : Type 0 where
   pub tree : PatternTree
   pub represents : Represents operand tree
-  pub small : node_count tree ≤ 1000
+  pub small : node_count tree ≤ NODES_MAX
   pub fine : HasFineIntervals tree
   pub numbered : IsNumbered tree (length names)

@@ -1,7 +1,8 @@
--- How two states, and two expressions, are joined.
-use Rattle.std.specs.Prelude.{◌≡◌, ℕ, ◌≤◌, ◌<◌, Option, None}
-use Rattle.tre_state.specs.StateTree.{StateTree, conjunction, disjunction}
-use Rattle.tre_syntax.specs.PatternTree.{PatternTree, sequence, alternation, intersection}
+-- What is made of states and expressions that are read.
+use Rattle.std.specs.Prelude.{◌≡◌, ℕ, ◌≤◌, ◌<◌, zero, suc, Bool, true, false, Option, None}
+use Rattle.tre_state.specs.StateTree.{StateTree, negation, conjunction, disjunction}
+use Rattle.tre_syntax.specs.PatternTree.{PatternTree, literal, rise, fall, atom, sequence, alternation, intersection}
+use Rattle.tre_syntax.specs.declared.pattern.TheConstants.{NODES_MAX}
 use Rattle.tre_parse.specs.declared.connective.Connective.{Connective}
 use Rattle.tre_parse.specs.declared.connective.Connective.TheVariants.{And, Or}
 use Rattle.tre_parse.specs.declared.connective.Join.{Join}
@@ -16,8 +17,26 @@ joined_by Sequence e f = sequence e f
 joined_by Intersection e f = intersection e f
 joined_by Alternation e f = alternation e f
 
+-- So many negations of the state.
+abbrev pub negated : ℕ → StateTree → StateTree
+negated zero s = s
+negated (suc n) s = negation (negated n s)
+
+abbrev pub edge_of : Bool → StateTree → PatternTree
+edge_of true s = atom (rise s)
+edge_of false s = atom (fall s)
+
+-- A literal that no `:>` follows, after `<:` or not.
+abbrev pub plain_literal : Bool → StateTree → PatternTree
+plain_literal true s = sequence (atom (rise s)) (atom (literal s))
+plain_literal false s = atom (literal s)
+
+-- A literal that `:>` follows.
+abbrev pub ended_literal : Bool → StateTree → PatternTree
+ended_literal begins s = sequence (plain_literal begins s) (atom (fall s))
+
 -- What was built is kept where it has no more than so many nodes as a pattern may have, and let go
 -- elsewhere.
 pub record Keeps {A : Type 0} (nodes : ℕ) (whole kept : Option A) : Type 0 where
-  pub small : nodes ≤ 1000 → kept ≡ whole
-  pub large : 1000 < nodes → kept ≡ None
+  pub small : nodes ≤ NODES_MAX → kept ≡ whole
+  pub large : NODES_MAX < nodes → kept ≡ None

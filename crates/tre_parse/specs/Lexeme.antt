@@ -1,9 +1,11 @@
 -- What stands at a place of a text: the longest token there, a blank, or a byte at which no token
 -- begins.
-use Rattle.std.specs.Prelude.{ℕ, ◌+◌, ◌-◌, ◌*◌, ◌≤◌, ◌<◌, Bool, ◌&&◌, ◌||◌, ◌==◌, if◌then◌else◌, Option, Some, None, List, [], ◌∷◌, codes, fold, min}
+use Rattle.std.specs.Prelude.{ℕ, ◌+◌, ◌-◌, ◌*◌, ◌≤◌, ◌<◌, Bool, ◌&&◌, ◌||◌, ◌==◌, if◌then◌else◌, Option, Some, None, List, [], ◌∷◌, fold, min}
 use Rattle.std.specs.Char.{is_ascii_digit}
 use Rattle.std.specs.List.{prefix_len, take_while}
 use Rattle.std.specs.Str.{bytes_eq}
+use Rattle.tre_pairs.specs.declared.TheConstants.{TIME_MAX}
+use Rattle.tre_state.specs.declared.name.TheConstants.{RESERVED}
 use Rattle.tre_state.specs.Name.{starts_name, continues_name}
 use Rattle.tre_parse.specs.declared.token.Token.{Token}
 use Rattle.tre_parse.specs.declared.token.Token.TheVariants.{Number, LeftParen, RightParen, LeftBracket, RightBracket, LeftBrace, RightBrace, Comma, Semicolon, Bar, DoubleBar, Ampersand, DoubleAmpersand, Bang, Star, Plus, Question, Percent, Begins, Ends, Eps, Rise, Fall, Inf, True, Event}
@@ -14,16 +16,17 @@ use Rattle.tre_parse.specs.declared.lexeme.Lexeme.TheVariants.{Blank, Wrong, Nam
 abbrev pub is_blank : ℕ → Bool
 is_blank byte = byte == 32 || byte == 9 || byte == 13 || byte == 10
 
--- The words that are tokens of their own.
+-- What stands in the second list across from the first of the other that passes the test.
+abbrev pub across : {A B : Type 0} → (A → Bool) → List A → List B → Option B
+across passes (x ∷ xs) (y ∷ ys) = if passes x then Some y else across passes xs ys
+across passes _ _ = None
+
+-- The tokens of the reserved words, in their order.
+abbrev pub reserved_tokens : List Token
+reserved_tokens = Eps ∷ Rise ∷ Fall ∷ Inf ∷ True ∷ Event ∷ []
+
 abbrev pub reserved : List ℕ → Option Token
-reserved word =
-    if bytes_eq (codes "eps") word then Some Eps
-    else (if bytes_eq (codes "rise") word then Some Rise
-    else (if bytes_eq (codes "fall") word then Some Fall
-    else (if bytes_eq (codes "inf") word then Some Inf
-    else (if bytes_eq (codes "true") word then Some True
-    else (if bytes_eq (codes "event") word then Some Event
-    else None)))))
+reserved word = across (λ text. bytes_eq text.now word) RESERVED reserved_tokens
 
 abbrev pub named : ℕ → Option Token → Lexeme
 named len None = Name len
@@ -38,10 +41,11 @@ word_lexeme rest =
 abbrev pub decimal : List ℕ → ℕ
 decimal digits = fold (λ n digit. 10 * n + (digit - 48)) 0 digits
 
--- A number: as many digits as there are. All those above 2^40 are the one number 2^40 + 1.
+-- A number: as many digits as there are. All those above the latest time
+-- are the one number after it.
 abbrev pub number_lexeme : List ℕ → Lexeme
 number_lexeme rest =
-    Sign (Number (min (decimal (take_while is_ascii_digit rest)) 1099511627777))
+    Sign (Number (min (decimal (take_while is_ascii_digit rest)) (TIME_MAX + 1)))
     (prefix_len is_ascii_digit rest)
 
 -- The signs of two bytes: `||`, `&&`, `<:` and `:>`.

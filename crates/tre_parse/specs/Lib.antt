@@ -16,6 +16,5 @@ pub mod Scan
 pub mod Joins
 pub mod Parts
 pub mod Operands
-pub mod Machine
 pub mod Reading
 pub mod Answers

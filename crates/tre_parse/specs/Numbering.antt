@@ -10,7 +10,7 @@ numbers_in [] = []
 numbers_in (Name i ∷ rest) = i ∷ numbers_in rest
 numbers_in (_ ∷ rest) = numbers_in rest
 
--- Where no name is past the first 64, the names are numbered by first use from the left.
+-- Where no name is past the first NAMES_MAX, the names are numbered by first use from the left.
 abbrev pub IsNumberedByUse : TextTokens → Type 0
 IsNumberedByUse words =
     words.past ≡ None → seen_after 0 (numbers_in words.tokens) ≡ Some (length words.names)

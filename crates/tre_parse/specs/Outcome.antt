@@ -3,6 +3,9 @@ use Rattle.std.specs.Prelude.{◌≡◌, ℕ, ◌+◌, ◌-◌, ◌<◌, ◌≤�
 use Rattle.std.specs.Option.{option_map}
 use Rattle.tre_zone.specs.Interval.{IntervalEnds}
 use Rattle.tre_syntax.specs.PatternTree.{PatternTree, node_count}
+use Rattle.tre_pairs.specs.declared.TheConstants.{TIME_MAX}
+use Rattle.tre_syntax.specs.declared.pattern.TheConstants.{NODES_MAX}
+use Rattle.tre_parse.specs.declared.limits.TheConstants.{TEXT_MAX, DEPTH_MAX, COUNT_MAX}
 use Rattle.tre_parse.specs.declared.token.Token.{Token}
 use Rattle.tre_parse.specs.declared.token.Token.TheVariants.{Number, LeftParen, RightParen, LeftBracket, RightBracket, LeftBrace, RightBrace, Percent}
 use Rattle.tre_parse.specs.declared.fault.ParseFault.{ParseFault}
@@ -24,7 +27,7 @@ pub data Outcome : Type 0 where
   refused : ParseFault → Outcome
 
 -- What a text is made of: its bytes, how many, its tokens, the offset of each, its names by first
--- use, and the offset of the first name past 64.
+-- use, and the offset of the first name past NAMES_MAX.
 pub record TextTokens : Type 0 where
   pub size : ℕ
   pub tokens : List Token
@@ -48,7 +51,7 @@ offset_of words place = slice_index_or words.offsets place words.size
 
 -- A number above the latest time.
 abbrev pub is_big : Token → Bool
-is_big (Number n) = nat_lt 1099511627776 n
+is_big (Number n) = nat_lt TIME_MAX n
 is_big _ = false
 
 -- How many brackets are open after one more token. Those that close take one away, but never below
@@ -62,28 +65,28 @@ open_after depth RightBracket = depth - 1
 open_after depth RightBrace = depth - 1
 open_after depth _ = depth
 
--- The first place, counted on from `place`, at which more than 200 brackets are open.
+-- The first place, counted on from `place`, at which more than DEPTH_MAX brackets are open.
 abbrev pub deep_place : ℕ → ℕ → List Token → Option ℕ
 deep_place depth place [] = None
 deep_place depth place (token ∷ rest) =
-    if nat_lt 200 (open_after depth token) then Some place else deep_place (open_after depth token)
-    (place + 1) rest
+    if nat_lt DEPTH_MAX (open_after depth token) then Some place
+    else deep_place (open_after depth token) (place + 1) rest
 
 -- How many brackets are open after the tokens.
 abbrev pub open_from : ℕ → List Token → ℕ
 open_from depth [] = depth
 open_from depth (token ∷ rest) = open_from (open_after depth token) rest
 
--- At this token more than 200 brackets are open, and before it never.
+-- At this token more than DEPTH_MAX brackets are open, and before it never.
 pub record IsDeepAt (tokens : List Token) (place : ℕ) : Type 0 where
   pub within : place < length tokens
-  pub deep : 200 < open_from 0 (take (place + 1) tokens)
-  pub first : (n : ℕ) → n ≤ place → open_from 0 (take n tokens) ≤ 200
+  pub deep : DEPTH_MAX < open_from 0 (take (place + 1) tokens)
+  pub first : (n : ℕ) → n ≤ place → open_from 0 (take n tokens) ≤ DEPTH_MAX
 
 -- A text that is too long, or has a byte at which no token begins.
 abbrev pub byte_fault : List ℕ → Option ParseFault
 byte_fault text =
-    if nat_lt 16384 (length text) then Some TooLong else option_map (λ at. BadByte at)
+    if nat_lt TEXT_MAX (length text) then Some TooLong else option_map (λ at. BadByte at)
     (bad_byte text)
 
 -- A number above the latest time, or else too many open brackets.
@@ -134,13 +137,13 @@ abbrev pub past_or : Option ℕ → Outcome → Outcome
 past_or (Some at) _ = refused (TooManyNames at)
 past_or None outcome = outcome
 
--- What becomes of words without an empty interval that spell the expression: 64 names and 1,000
--- nodes are the limits.
+-- What becomes of words without an empty interval that spell the expression: the names and the
+-- nodes have limits.
 abbrev pub limited_outcome : TextTokens → PatternTree → Outcome
 limited_outcome words tree =
     past_or words.past
-    (if nat_lt 1000 (node_count tree) then refused (TooLarge (min
-    (node_count tree) 1000000000)) else spelt tree words.names)
+    (if nat_lt NODES_MAX (node_count tree) then refused (TooLarge (min
+    (node_count tree) COUNT_MAX)) else spelt tree words.names)
 
 -- What becomes of words that spell the expression.
 abbrev pub IsOutcomeOfTree : TextTokens → PatternTree → Outcome → Type 0

@@ -1,12 +1,12 @@
--- Intervals that are read, against the machine's, and which of them can be kept.
-use Rattle.std.specs.Prelude.{◌≡◌, ℕ, ◌<◌, ◌^◌, Bool, Option, Some, None, Result, Ok, Err, IsSome, IfSome, List, ◌∷◌, length}
+-- Intervals: which of them can be kept, and their parts as they are read.
+use Rattle.std.specs.Prelude.{◌≡◌, ◌≢◌, ℕ, ◌<◌, Bool, Option, Some, None, Result, Ok, Err, IsSome, IfSome, List, ◌∷◌, ◌++◌, length}
 use Rattle.tre_zone.specs.Interval.{IntervalEnds, LastsWithin, kept_weak, IsIntervalWithin}
+use Rattle.tre_pairs.specs.declared.TheConstants.{TIME_MAX}
 use Rattle.tre_parse.specs.declared.token.Token.{Token}
-use Rattle.tre_parse.specs.declared.token.Token.TheVariants.{Number, Comma, Inf}
+use Rattle.tre_parse.specs.declared.token.Token.TheVariants.{Number, Inf}
 use Rattle.tre_parse.specs.declared.cursor.Stop.{Stop}
 use Rattle.tre_parse.specs.declared.cursor.Stop.TheVariants.{Syntax}
-use Rattle.tre_parse.specs.Grammar.{opening, closing}
-use Rattle.tre_parse.specs.Machine.{Part, Opening, Low, AfterLow, High, Closing, wrong, part_step, stuck, ends_with, read_part}
+use Rattle.tre_parse.specs.Grammar.{opening, closing, SpellsInterval}
 use Rattle.tre_parse.specs.Front.{front}
 
 -- No duration is in the interval.
@@ -16,7 +16,7 @@ IsEmptyInterval ends = (d n : ℕ) → 0 < n → LastsWithin ends d n → ⊥
 -- Some duration is in the interval, and its ends are no later than the latest time.
 pub record IsFineInterval (ends : IntervalEnds) : Type 0 where
   pub lasts : ¬ IsEmptyInterval ends
-  pub within : IsIntervalWithin (2 ^ 40) ends
+  pub within : IsIntervalWithin TIME_MAX ends
 
 -- What the program makes of the ends of an interval: the interval, and none exactly where it is not
 -- fine.
@@ -25,21 +25,16 @@ pub record IsMadeOf (interval : Option IntervalEnds) (ends : IntervalEnds) : Typ
   pub made : IsFineInterval ends → IsSome interval
   pub fine : IsSome interval → IsFineInterval ends
 
--- A part of an interval: what is read, or the next token can't stand there.
-abbrev pub IsStuck : Stop → List Token → Part → Type 0
-IsStuck stop old part = (stop ≡ Syntax (length old)) × (part_step part (front old) ≡ wrong)
-
+-- A part of an interval that is next, or none is.
 abbrev pub OpeningParses : Result Bool Stop → List Token → List Token → Type 0
 OpeningParses (Ok weak) old new = old ≡ opening weak ∷ new
-OpeningParses (Err stop) old new = IsStuck stop old Opening
+OpeningParses (Err stop) old new =
+    (stop ≡ Syntax (length old)) × ((weak : Bool) → front old ≢ opening weak)
 
 abbrev pub LowParses : Result ℕ Stop → List Token → List Token → Type 0
 LowParses (Ok low) old new = old ≡ Number low ∷ new
-LowParses (Err stop) old new = (weak : Bool) → IsStuck stop old (Low weak)
-
-abbrev pub CommaParses : Result Unit Stop → List Token → List Token → Type 0
-CommaParses (Ok x) old new = old ≡ Comma ∷ new
-CommaParses (Err stop) old new = (weak : Bool) (low : ℕ) → IsStuck stop old (AfterLow weak low)
+LowParses (Err stop) old new =
+    (stop ≡ Syntax (length old)) × ((low : ℕ) → front old ≢ Number low)
 
 abbrev pub high_token : Option ℕ → Token
 high_token (Some high) = Number high
@@ -47,27 +42,25 @@ high_token None = Inf
 
 abbrev pub HighParses : Result (Option ℕ) Stop → List Token → List Token → Type 0
 HighParses (Ok high) old new = old ≡ high_token high ∷ new
-HighParses (Err stop) old new = (weak : Bool) (low : ℕ) → IsStuck stop old (High weak low)
+HighParses (Err stop) old new =
+    (stop ≡ Syntax (length old)) × ((high : Option ℕ) → front old ≢ high_token high)
 
 abbrev pub ClosingParses : Option ℕ → Result Bool Stop → List Token → List Token → Type 0
 ClosingParses high (Ok weak) old new = (old ≡ closing weak ∷ new) × (kept_weak high weak ≡ weak)
 ClosingParses high (Err stop) old new =
-    (weak : Bool) (low : ℕ) → IsStuck stop old (Closing weak low high)
+    (stop ≡ Syntax (length old))
+    × ((weak : Bool) → kept_weak high weak ≡ weak → front old ≢ closing weak)
 
--- A whole interval, as the machine reads it.
-pub record ReadsInterval (interval : Option IntervalEnds) (old new : List Token) : Type 0 where
-  pub ends : IntervalEnds
-  pub made : IsMadeOf interval ends
-  pub reads : read_part old Opening ≡ ends_with ends new
-
-abbrev pub IntervalParses : Result (Option IntervalEnds) Stop → List Token → List Token → Type 0
-IntervalParses (Ok interval) old new = ReadsInterval interval old new
-IntervalParses (Err stop) old new =
-    (left : ℕ) × (stop ≡ Syntax left) × (read_part old Opening ≡ stuck left)
+-- No interval stands at the front of the tokens.
+abbrev pub BeginsWithNone : List Token → Type 0
+BeginsWithNone tokens =
+    (xs rest : List Token) (ends : IntervalEnds) → tokens ≡ xs ++ rest → SpellsInterval xs ends → ⊥
 
 -- The tokens begin with an interval that can't be kept.
 pub record BeginsUnkept (tokens : List Token) : Type 0 where
   pub ends : IntervalEnds
+  pub body : List Token
   pub rest : List Token
-  pub reads : read_part tokens Opening ≡ ends_with ends rest
+  pub split : tokens ≡ body ++ rest
+  pub spells : SpellsInterval body ends
   pub unkept : IsFineInterval ends → ⊥

@@ -1,17 +1,27 @@
--- What each function of the parser answers, against the machine: from any place where its rule may
--- begin the machine comes to the place after what was read, or stops where the function says.
-use Rattle.std.specs.Prelude.{◌≡◌, ◌≢◌, ℕ, Option, None, Result, Ok, Err, List, ◌∷◌, length, Bool}
-use Rattle.tre_state.specs.StateTree.{StateTree, conjunction, disjunction}
-use Rattle.tre_syntax.specs.PatternTree.{PatternTree, sequence, alternation, intersection}
+-- What each function of the parser promises. What it takes from the front of the tokens is spelt by
+-- its rule; or the tokens have their syntax fault where it stops, behind any tokens after which the
+-- rule is expected.
+use Rattle.std.specs.Prelude.{◌≡◌, ◌≢◌, ℕ, ◌-◌, Bool, true, false, Option, Result, Ok, Err, List, [], ◌∷◌, ◌++◌, length}
+use Rattle.tre_state.specs.StateTree.{StateTree}
+use Rattle.tre_zone.specs.Interval.{IntervalEnds}
+use Rattle.tre_syntax.specs.PatternTree.{PatternTree}
 use Rattle.tre_parse.specs.declared.token.Token.{Token}
-use Rattle.tre_parse.specs.declared.token.Token.TheVariants.{Semicolon, Bar, DoubleBar, Ampersand, DoubleAmpersand, Star, Plus, Question, Percent}
+use Rattle.tre_parse.specs.declared.token.Token.TheVariants.{LeftParen, LeftBrace, Semicolon, Bar, DoubleBar, Ampersand, DoubleAmpersand, Bang, Star, Plus, Question, Percent, Begins, Ends, Eps, Rise, Fall}
 use Rattle.tre_parse.specs.declared.cursor.Stop.{Stop}
 use Rattle.tre_parse.specs.declared.cursor.Stop.TheVariants.{Syntax, Memory}
-use Rattle.tre_parse.specs.declared.formula.Formula.{Formula}
-use Rattle.tre_parse.specs.declared.operand.Operand.{Operand}
-use Rattle.tre_parse.specs.Machine.{Level, StateLevel, Place, Frame, before, after, in_literal, after_literal, before_state, after_state, Config, kept, joined, fresh_level, fresh_state_level, negated, read}
+use Rattle.tre_parse.specs.Grammar.{StateRule, lit, state, conj, neg, SpellsState, SpellsInterval, Rule, expr, meet, seq, post, primary, Spells}
 use Rattle.tre_parse.specs.Front.{front}
-use Rattle.tre_parse.specs.Operands.{RepresentsState, Represents}
+use Rattle.tre_parse.specs.Parts.{IsMadeOf}
+use Rattle.tre_parse.specs.Operands.{Formula, Operand, RepresentsState, Represents}
+use Rattle.tre_parse.specs.Outcome.{IsSyntaxFaultAt}
+
+-- A sign that stands behind an operand.
+abbrev pub IsSignAfter : Token → Type 0
+IsSignAfter Star = Unit {0}
+IsSignAfter Plus = Unit {0}
+IsSignAfter Question = Unit {0}
+IsSignAfter Percent = Unit {0}
+IsSignAfter _ = ⊥
 
 -- The token doesn't go on with what was read by the rule.
 abbrev pub IsPastConjunction : Token → Type 0
@@ -27,6 +37,7 @@ IsPastOperand Star = ⊥
 IsPastOperand Plus = ⊥
 IsPastOperand Question = ⊥
 IsPastOperand Percent = ⊥
+IsPastOperand Ends = ⊥
 IsPastOperand _ = Unit {0}
 
 abbrev pub IsPastSequence : Token → Type 0
@@ -41,176 +52,138 @@ abbrev pub IsPastExpression : Token → Type 0
 IsPastExpression Bar = ⊥
 IsPastExpression token = IsPastIntersection token
 
--- An answer: what was read, of which this is so, or want of memory, or a stop where the machine
--- stops.
-abbrev pub Parses : {A : Type 0} → Result A Stop → (A → Type 0) → Result PatternTree ℕ → Type 0
-Parses (Ok x) IsRight reading = IsRight x
-Parses (Err Memory) IsRight reading = Unit {0}
-Parses (Err (Syntax left)) IsRight reading = reading ≡ Err left
+-- After these tokens an expression may go on with what the rule spells.
+pub data Expects : Rule → List Token → Type 0 where
+  at_start : Expects expr []
+  in_parens : (prior : List Token) → Expects primary prior →
+      Expects expr (prior ++ LeftParen ∷ [])
+  first_meet : (prior : List Token) → Expects expr prior → Expects meet prior
+  after_bar : (prior xs : List Token) (e : PatternTree) → Expects expr prior →
+      Spells expr xs e → Expects meet (prior ++ (xs ++ Bar ∷ []))
+  first_seq : (prior : List Token) → Expects meet prior → Expects seq prior
+  after_ampersand : (prior xs : List Token) (e : PatternTree) → Expects meet prior →
+      Spells meet xs e → Expects seq (prior ++ (xs ++ Ampersand ∷ []))
+  first_post : (prior : List Token) → Expects seq prior → Expects post prior
+  after_semicolon : (prior xs : List Token) (e : PatternTree) → Expects seq prior →
+      Spells seq xs e → Expects post (prior ++ (xs ++ Semicolon ∷ []))
+  the_primary : (prior : List Token) → Expects post prior → Expects primary prior
 
--- A bracket that closes.
-abbrev pub Closes : Token → Result Unit Stop → List Token → List Token → Type 0
-Closes bracket (Ok x) old new = old ≡ bracket ∷ new
-Closes bracket (Err stop) old new = (stop ≡ Syntax (length old)) × (front old ≢ bracket)
+-- The same of a sign behind tokens that spell an operand, and of an interval.
+pub record ExpectsSign (xs whole : List Token) : Type 0 where
+  pub prior : List Token
+  pub expects : Expects post prior
+  pub split : whole ≡ prior ++ xs
 
--- What stands around a state.
-pub record Surroundings : Type 0 where
-  pub level : Level
-  pub below : List Level
-  pub frame : Frame
-  pub around : List StateLevel
+pub record ExpectsInterval (whole : List Token) : Type 0 where
+  pub xs : List Token
+  pub operand : PatternTree
+  pub spells : Spells post xs operand
+  pub expects : ExpectsSign (xs ++ Percent ∷ []) whole
 
-abbrev pub before_operand : Surroundings → StateLevel → ℕ → Config
-before_operand s inner bangs = kept s.level s.below (before_state s.frame inner s.around bangs)
+-- The token begins no primary but a literal, with `<:` before it or not.
+abbrev pub BeginsLiteral : Token → Type 0
+BeginsLiteral Eps = ⊥
+BeginsLiteral LeftParen = ⊥
+BeginsLiteral Rise = ⊥
+BeginsLiteral Fall = ⊥
+BeginsLiteral _ = Unit {0}
 
-abbrev pub after_operand : Surroundings → StateLevel → StateTree → Config
-after_operand s inner state = kept s.level s.below (after_state s.frame inner s.around state)
+-- The same of a literal, where this token is the next.
+pub data ExpectsLiteral : List Token → Token → Type 0 where
+  the_literal : (prior : List Token) (next : Token) → Expects primary prior →
+      BeginsLiteral next → next ≢ Begins → ExpectsLiteral prior next
+  after_begins : (prior : List Token) (next : Token) → Expects primary prior →
+      ExpectsLiteral (prior ++ Begins ∷ []) next
+  literal_after_bang : (prior : List Token) (next : Token) → ExpectsLiteral prior Bang →
+      ExpectsLiteral (prior ++ Bang ∷ []) next
 
-abbrev pub state_level : ℕ → Option StateTree → Option StateTree → StateLevel
-state_level bangs bars ampersands =
-    record { bangs = bangs; before_bars = bars; before_ampersands = ampersands }
+-- `rise` or `fall`.
+abbrev pub edge_sign : Bool → Token
+edge_sign true = Rise
+edge_sign false = Fall
 
--- The formula represents the state that the machine has read between two places: an operand,
--- operands with `&&`, a state.
-pub record ReadsOperandOfState (formula : Formula) (reading : Result PatternTree ℕ)
-    (rest : List Token) (s : Surroundings)
-    (inner : StateLevel) (bangs : ℕ) : Type 0 where
-  pub last : StateTree
-  pub represents : RepresentsState formula last
-  pub same : reading ≡ read rest (after_operand s inner (negated bangs last))
+-- The same of a state.
+pub data ExpectsState : StateRule → List Token → Type 0 where
+  in_edge : (prior : List Token) (rises : Bool) → Expects primary prior →
+      ExpectsState state (prior ++ edge_sign rises ∷ LeftParen ∷ [])
+  in_braces : (prior : List Token) → ExpectsLiteral prior LeftBrace →
+      ExpectsState state (prior ++ LeftBrace ∷ [])
+  state_in_parens : (prior : List Token) → ExpectsState neg prior →
+      ExpectsState state (prior ++ LeftParen ∷ [])
+  first_conj : (prior : List Token) → ExpectsState state prior → ExpectsState conj prior
+  after_bars : (prior xs : List Token) (s : StateTree) → ExpectsState state prior →
+      SpellsState state xs s → ExpectsState conj (prior ++ (xs ++ DoubleBar ∷ []))
+  first_neg : (prior : List Token) → ExpectsState conj prior → ExpectsState neg prior
+  after_ampersands : (prior xs : List Token) (s : StateTree) → ExpectsState conj prior →
+      SpellsState conj xs s → ExpectsState neg (prior ++ (xs ++ DoubleAmpersand ∷ []))
+  state_after_bang : (prior : List Token) → ExpectsState neg prior →
+      ExpectsState neg (prior ++ Bang ∷ [])
 
-pub record ReadsConjunction (formula : Formula) (reading : Result PatternTree ℕ)
-    (rest : List Token) (s : Surroundings)
-    (bangs : ℕ) (bars : Option StateTree) : Type 0 where
-  pub ampersands : Option StateTree
-  pub last : StateTree
-  pub represents : RepresentsState formula (joined conjunction ampersands last)
-  pub same : reading ≡ read rest (after_operand s (state_level bangs bars ampersands) last)
+-- Tokens are taken from the front, and spell what the answer stands for.
+pub record Takes {A Tree : Type 0} (Spelled : List Token → Tree → Type 0)
+    (StandsFor : A → Tree → Type 0) (x : A) (old new : List Token) : Type 0 where
+  pub taken : List Token
+  pub tree : Tree
+  pub split : old ≡ taken ++ new
+  pub spells : Spelled taken tree
+  pub stands : StandsFor x tree
 
-pub record ReadsState (formula : Formula) (reading : Result PatternTree ℕ) (rest : List Token)
-    (s : Surroundings)
-    (bangs : ℕ) : Type 0 where
-  pub bars : Option StateTree
-  pub ampersands : Option StateTree
-  pub last : StateTree
-  pub represents : RepresentsState formula (joined disjunction bars
-      (joined conjunction ampersands last))
-  pub same : reading ≡ read rest (after_operand s (state_level bangs bars ampersands) last)
+-- Behind the expected tokens these have their syntax fault where so many of them are left.
+abbrev pub Fails : (List Token → Type 0) → ℕ → List Token → Type 0
+Fails Expected left tokens =
+    (prior : List Token) → Expected prior →
+    IsSyntaxFaultAt (prior ++ tokens) (length (prior ++ tokens) - left)
 
-abbrev pub OperandOfState : Result Formula Stop → List Token → List Token → Type 0
-OperandOfState result old new = (s : Surroundings) (inner : StateLevel) (bangs : ℕ) →
-    Parses result (λ x. ReadsOperandOfState x (read old
-    (before_operand s inner bangs)) new s inner bangs)
-    (read old (before_operand s inner bangs))
+abbrev pub Stops : (List Token → Type 0) → Stop → List Token → Type 0
+Stops Expected Memory tokens = Unit {0}
+Stops Expected (Syntax left) tokens = Fails Expected left tokens
 
-abbrev pub NegationParses : Result Formula Stop → List Token → List Token → Type 0
-NegationParses result old new = (s : Surroundings) (inner : StateLevel) →
-    Parses result (λ x. ReadsOperandOfState x (read old (before_operand s inner 0)) new s inner 0)
-    (read old (before_operand s inner 0))
+abbrev pub Parses : {A Tree : Type 0} → (List Token → Tree → Type 0) → (A → Tree → Type 0) →
+    (List Token → Type 0) → Result A Stop → List Token → List Token → Type 0
+Parses Spelled StandsFor Expected (Ok x) old new = Takes Spelled StandsFor x old new
+Parses Spelled StandsFor Expected (Err stop) old new = Stops Expected stop old
 
-abbrev pub ConjunctionParses : Result Formula Stop → List Token → List Token → Type 0
-ConjunctionParses result old new = (s : Surroundings) (bangs : ℕ) (bars : Option StateTree) →
-    Parses result (λ x. ReadsConjunction x (read old (before_operand s
-    (state_level bangs bars None) 0)) new s bangs bars)
-    (read old (before_operand s (state_level bangs bars None) 0))
+abbrev pub ParsesBy : Rule → Result Operand Stop → List Token → List Token → Type 0
+ParsesBy rule result old new = Parses (Spells rule) Represents (Expects rule) result old new
 
-abbrev pub StateParses : Result Formula Stop → List Token → List Token → Type 0
-StateParses result old new = (s : Surroundings) (bangs : ℕ) →
-    Parses result (λ x. ReadsState x (read old (before_operand s
-    (fresh_state_level bangs) 0)) new s bangs)
-    (read old (before_operand s (fresh_state_level bangs) 0))
+abbrev pub ParsesState : StateRule → Result Formula Stop → List Token → List Token → Type 0
+ParsesState rule result old new =
+    Parses (SpellsState rule) RepresentsState (ExpectsState rule) result old new
 
--- The same of a literal, after `<:` or not and so many `!`.
-pub record ReadsLiteral (formula : Formula) (reading : Result PatternTree ℕ) (rest : List Token)
-    (level : Level) (below : List Level)
-    (begins : Bool) (bangs : ℕ) : Type 0 where
-  pub last : StateTree
-  pub represents : RepresentsState formula last
-  pub same : reading ≡ read rest (kept level below (after_literal begins (negated bangs last)))
+abbrev pub ParsesLiteral : Result Formula Stop → List Token → List Token → Type 0
+ParsesLiteral result old new =
+    Parses (SpellsState lit) RepresentsState (λ prior. ExpectsLiteral prior (front old))
+    result old new
 
-abbrev pub OperandOfLiteral : Result Formula Stop → List Token → List Token → Type 0
-OperandOfLiteral result old new = (level : Level) (below : List Level) (begins : Bool) (bangs : ℕ) →
-    Parses result (λ x. ReadsLiteral x (read old (kept level below
-    (in_literal begins bangs))) new level below begins bangs)
-    (read old (kept level below (in_literal begins bangs)))
-
-abbrev pub LiteralParses : Result Formula Stop → List Token → List Token → Type 0
-LiteralParses result old new = (level : Level) (below : List Level) (begins : Bool) →
-    Parses result (λ x. ReadsLiteral x (read old (kept level below
-    (in_literal begins 0))) new level below begins 0)
-    (read old (kept level below (in_literal begins 0)))
-
--- The operand represents the expression that the machine has read between two places.
-pub record ReadsOperand (operand : Operand) (reading : Result PatternTree ℕ) (rest : List Token)
-    (level : Level) (below : List Level) : Type 0 where
-  pub last : PatternTree
-  pub represents : Represents operand last
-  pub same : reading ≡ read rest (kept level below (after last))
-
-abbrev pub level_of : Option PatternTree → Option PatternTree → Option PatternTree → Level
-level_of bar ampersand semicolon =
-    record { before_bar = bar; before_ampersand = ampersand; before_semicolon = semicolon }
-
-pub record ReadsSequence (operand : Operand) (reading : Result PatternTree ℕ) (rest : List Token)
-    (below : List Level)
-    (bar ampersand : Option PatternTree) : Type 0 where
-  pub semicolon : Option PatternTree
-  pub last : PatternTree
-  pub represents : Represents operand (joined sequence semicolon last)
-  pub same : reading ≡ read rest (kept (level_of bar ampersand semicolon) below (after last))
-
-pub record ReadsIntersection (operand : Operand) (reading : Result PatternTree ℕ)
-    (rest : List Token) (below : List Level)
-    (bar : Option PatternTree) : Type 0 where
-  pub ampersand : Option PatternTree
-  pub semicolon : Option PatternTree
-  pub last : PatternTree
-  pub represents : Represents operand (joined intersection ampersand
-      (joined sequence semicolon last))
-  pub same : reading ≡ read rest (kept (level_of bar ampersand semicolon) below (after last))
-
-pub record ReadsExpression (operand : Operand) (reading : Result PatternTree ℕ) (rest : List Token)
-    (below : List Level) : Type 0 where
-  pub bar : Option PatternTree
-  pub ampersand : Option PatternTree
-  pub semicolon : Option PatternTree
-  pub last : PatternTree
-  pub represents : Represents operand (joined alternation bar (joined intersection ampersand
-      (joined sequence semicolon last)))
-  pub same : reading ≡ read rest (kept (level_of bar ampersand semicolon) below (after last))
-
--- An operand from a place on, where any level may be.
-abbrev pub ParsesFrom : Place → Result Operand Stop → List Token → List Token → Type 0
-ParsesFrom place result old new = (level : Level) (below : List Level) →
-    Parses result (λ x. ReadsOperand x (read old (kept level below place)) new level below)
-    (read old (kept level below place))
-
-abbrev pub SequenceParses : Result Operand Stop → List Token → List Token → Type 0
-SequenceParses result old new = (below : List Level) (bar ampersand : Option PatternTree) →
-    Parses result (λ x. ReadsSequence x (read old (kept
-    (level_of bar ampersand None) below before)) new below bar ampersand)
-    (read old (kept (level_of bar ampersand None) below before))
-
-abbrev pub IntersectionParses : Result Operand Stop → List Token → List Token → Type 0
-IntersectionParses result old new = (below : List Level) (bar : Option PatternTree) →
-    Parses result (λ x. ReadsIntersection x (read old (kept
-    (level_of bar None None) below before)) new below bar)
-    (read old (kept (level_of bar None None) below before))
-
-abbrev pub ExpressionParses : Result Operand Stop → List Token → List Token → Type 0
-ExpressionParses result old new = (below : List Level) →
-    Parses result (λ x. ReadsExpression x (read old (kept fresh_level below before)) new below)
-    (read old (kept fresh_level below before))
-
--- One sign after an operand, which represents any expression `e`: `same` from the place after it.
-abbrev pub SignParses : Operand → Result Operand Stop → List Token → List Token → Type 0
-SignParses operand result old new =
-    (level : Level) (below : List Level) (e : PatternTree) → Represents operand e →
-    Parses result (λ x. ReadsOperand x (read old (kept level below (after e))) new level below)
-    (read old (kept level below (after e)))
+abbrev pub ParsesInterval : Result (Option IntervalEnds) Stop → List Token → List Token → Type 0
+ParsesInterval result old new =
+    Parses SpellsInterval IsMadeOf ExpectsInterval result old new
 
 -- All the tokens.
-pub record ReadsWhole (operand : Operand) (read_as : Result PatternTree ℕ) : Type 0 where
-  pub tree : PatternTree
-  pub represents : Represents operand tree
-  pub same : read_as ≡ Ok tree
+abbrev pub ParsesWhole : Result Operand Stop → List Token → Type 0
+ParsesWhole result tokens =
+    Parses (Spells expr) Represents (λ prior. prior ≡ []) result tokens []
+
+-- One sign, behind tokens that spell the operand.
+abbrev pub ParsesSign : Operand → Result Operand Stop → List Token → List Token → Type 0
+ParsesSign whole result old new =
+    (xs : List Token) (e : PatternTree) → Spells post xs e → Represents whole e →
+    Parses (λ ys f. Spells post (xs ++ ys) f) Represents (ExpectsSign xs) result old new
+
+-- A `:>` can't come next.
+abbrev pub RefusesEnds : (List Token → Type 0) → List Token → List Token → Type 0
+RefusesEnds Expected old new = front new ≡ Ends → Fails Expected (length new) old
+
+abbrev pub SignRefusesEnds : Operand → List Token → List Token → Type 0
+SignRefusesEnds whole old new =
+    (xs : List Token) (e : PatternTree) → Spells post xs e → RefusesEnds (ExpectsSign xs) old new
+
+-- A `<:` that may be next.
+abbrev pub BeginsTaken : Bool → List Token → List Token → Type 0
+BeginsTaken true old new = old ≡ Begins ∷ new
+BeginsTaken false old new = (new ≡ old) × (front old ≢ Begins)
+
+-- A token that is expected.
+abbrev pub Passes : Token → Result Unit Stop → List Token → List Token → Type 0
+Passes token (Ok x) old new = old ≡ token ∷ new
+Passes token (Err stop) old new = (stop ≡ Syntax (length old)) × (front old ≢ token)

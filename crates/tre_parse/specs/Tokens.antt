@@ -1,6 +1,7 @@
 -- The tokens of a text with their offsets, the names among them with their numbers, and the first
 -- byte at which no token begins.
 use Rattle.std.specs.Prelude.{ℕ, ◌+◌, ◌-◌, zero, suc, Bool, false, ◌&&◌, nat_lt, is_none, if◌then◌else◌, Option, Some, None, unwrap_or, List, [], ◌∷◌, ◌++◌, length, take, map}
+use Rattle.tre_state.specs.declared.names.TheConstants.{NAMES_MAX}
 use Rattle.tre_state.specs.Names.{place_of}
 use Rattle.tre_parse.specs.declared.token.Token.{Token}
 use Rattle.tre_parse.specs.declared.token.Token.TheVariants.{Name as Numbered}
@@ -44,16 +45,18 @@ raw_tokens_from (suc skip) at (byte ∷ rest) = raw_tokens_from skip (at + 1) re
 raw_tokens_from zero at (byte ∷ rest) =
     scanned (lexeme_of (byte ∷ rest)) at (byte ∷ rest) (λ skip. raw_tokens_from skip (at + 1) rest)
 
--- The names known once one more was read: a new one goes to the end, as long as there are not 64.
+-- The names known once one more was read: a new one goes to the end, as long as there are fewer
+-- than NAMES_MAX.
 abbrev pub names_with : List (List ℕ) → List ℕ → List (List ℕ)
 names_with known bytes =
-    if is_none (place_of known bytes) && nat_lt (length known) 64 then known ++ bytes
+    if is_none (place_of known bytes) && nat_lt (length known) NAMES_MAX then known ++ bytes
     ∷ [] else known
 
--- The number of a name is its place among the names by first use from the left. 64 stands for each
--- name after the first 64.
+-- The number of a name is its place among the names by first use from the left. NAMES_MAX stands
+-- for each name past the first NAMES_MAX.
 abbrev pub token_of : List (List ℕ) → RawToken → Token
-token_of known (name bytes) = Numbered (unwrap_or (place_of (names_with known bytes) bytes) 64)
+token_of known (name bytes) =
+    Numbered (unwrap_or (place_of (names_with known bytes) bytes) NAMES_MAX)
 token_of known (sign token) = token
 
 abbrev pub known_after : List (List ℕ) → RawToken → List (List ℕ)
@@ -69,12 +72,12 @@ abbrev pub names_from : List (List ℕ) → List RawTokenAt → List (List ℕ)
 names_from known [] = known
 names_from known (raw ∷ rest) = names_from (known_after known raw.word) rest
 
--- Whether a word is a name past the first 64.
+-- Whether a word is a name past the first NAMES_MAX.
 abbrev pub is_past : List (List ℕ) → RawToken → Bool
 is_past known (name bytes) = is_none (place_of (names_with known bytes) bytes)
 is_past known (sign token) = false
 
--- The offset of the first name past the first 64.
+-- The offset of the first name past the first NAMES_MAX.
 abbrev pub past_from : List (List ℕ) → List RawTokenAt → Option ℕ
 past_from known [] = None
 past_from known (raw ∷ rest) =

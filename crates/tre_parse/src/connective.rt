@@ -12,6 +12,3 @@ pub(crate) enum Join {
     Intersection,
     Alternation,
 }
-
-/// The count of nodes goes no higher than this.
-pub(crate) const COUNT_MAX: u64 = 1_000_000_000;

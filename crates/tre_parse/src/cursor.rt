@@ -1,7 +1,7 @@
-ghost use Rattle.std.specs.Prelude.{◌≡◌, ◌↔◌, ℕ, List, IsTrue, length};
+ghost use Rattle.std.specs.Prelude.{◌≡◌, ◌≢◌, ℕ, List, length};
 ghost use Rattle.tre_parse.specs.declared.token.Token.{Token};
 ghost use Rattle.tre_parse.specs.Front.{front, tail};
-ghost use Rattle.tre_parse.specs.Reading.{Closes};
+ghost use Rattle.tre_parse.specs.Reading.{Passes};
 
 use crate::token::Token;
 use std::alloc::{AllocError, AllocFailed};
@@ -52,30 +52,16 @@ impl<'a> Cursor<'a> {
         }
     }
 
-    /// Goes past a `)`.
-    pub(crate) fn close_paren(&mut self) -> Result<(), Stop>
-        ensures { Closes Token.RightParen result self.old self.new }
+    /// Goes past the token, if it is the next.
+    pub(crate) fn expect(&mut self, token: Token) -> Result<(), Stop>
+        requires { token ≢ Token.EndOfText }
+        ensures { Passes token result self.old self.new }
     {
-        match self.peek() {
-            Token::RightParen => {
-                self.advance();
-                Ok(())
-            }
-            _ => Err(self.refused()),
+        if self.peek() == token {
+            self.advance();
+            return Ok(());
         }
-    }
-
-    /// Goes past a `}`.
-    pub(crate) fn close_brace(&mut self) -> Result<(), Stop>
-        ensures { Closes Token.RightBrace result self.old self.new }
-    {
-        match self.peek() {
-            Token::RightBrace => {
-                self.advance();
-                Ok(())
-            }
-            _ => Err(self.refused()),
-        }
+        Err(self.refused())
     }
 
     /// The fault that the next token can't stand where it does.

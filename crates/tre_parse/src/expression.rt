@@ -1,17 +1,17 @@
 //! Expressions, one function for each rule.
-ghost use Rattle.std.specs.Prelude.{◌≡◌, ◌≤◌, ◌<◌, ◌↔◌, ℕ, Bool, List, length, IfOk, IsTrue, ◌≢◌};
+ghost use Rattle.std.specs.Prelude.{◌≡◌, ◌≤◌, ◌<◌, ◌↔◌, length, IfOk, IsTrue};
 ghost use Rattle.tre_state.specs.StateTree.{StateTree};
-ghost use Rattle.tre_parse.specs.Machine.{before, after_edge, plain_literal, ended_literal};
-ghost use Rattle.tre_parse.specs.Machine as machine;
+ghost use Rattle.tre_parse.specs.Grammar.{Rule, expr, meet, seq, post};
+ghost use Rattle.tre_parse.specs.Joins.{plain_literal, ended_literal};
 ghost use Rattle.tre_parse.specs.Operands.{RepresentsState, Represents};
 ghost use Rattle.tre_parse.specs.Front.{front};
-ghost use Rattle.tre_parse.specs.Reading.{IsPastOperand, IsPastSequence, IsPastIntersection, IsPastExpression, ParsesFrom, SequenceParses, IntersectionParses, ExpressionParses, SignParses};
+ghost use Rattle.tre_parse.specs.Reading.{IsSignAfter, IsPastOperand, IsPastSequence, IsPastIntersection, IsPastExpression, BeginsLiteral, BeginsTaken, edge_sign, Expects, ParsesBy, ParsesSign, RefusesEnds, SignRefusesEnds};
 
 use crate::connective::Join;
 use crate::cursor::{Cursor, Stop};
-use crate::formula::Formula;
+use crate::formula::{Formula, copied};
 use crate::interval::interval;
-use crate::operand::Operand;
+use crate::operand::{self, Operand, at_least_once, empty, joined, optional, repeated, restricted};
 use crate::states::{literal, state};
 use crate::token::Token;
 use std::alloc::{AllocError, Global};
@@ -19,7 +19,7 @@ use std::alloc::{AllocError, Global};
 /// An expression: intersections with `|` between them.
 #[cycle(expression)]
 pub(crate) fn expression(alloc: Global, tokens: &mut Cursor) -> Result<Operand, Stop>
-    ensures reads { ExpressionParses result tokens.old tokens.new }
+    ensures reads { ParsesBy expr result tokens.old tokens.new }
     ensures shorter { IfOk result (λ _. length tokens.new ≤ length tokens.old) }
     ensures ends { IfOk result (λ _. IsPastExpression (front tokens.new)) }
 {
@@ -27,7 +27,7 @@ pub(crate) fn expression(alloc: Global, tokens: &mut Cursor) -> Result<Operand, 
     while let Token::Bar = tokens.peek() {
         tokens.advance();
         let next = intersection(alloc, tokens)?;
-        whole = whole.join(alloc, Join::Alternation, next)?;
+        whole = joined(alloc, Join::Alternation, whole, next)?;
     }
     Ok(whole)
 }
@@ -35,7 +35,7 @@ pub(crate) fn expression(alloc: Global, tokens: &mut Cursor) -> Result<Operand, 
 // Sequences with `&` between them.
 #[cycle(expression)]
 fn intersection(alloc: Global, tokens: &mut Cursor) -> Result<Operand, Stop>
-    ensures reads { IntersectionParses result tokens.old tokens.new }
+    ensures reads { ParsesBy meet result tokens.old tokens.new }
     ensures shorter { IfOk result (λ _. length tokens.new ≤ length tokens.old) }
     ensures ends { IfOk result (λ _. IsPastIntersection (front tokens.new)) }
 {
@@ -43,7 +43,7 @@ fn intersection(alloc: Global, tokens: &mut Cursor) -> Result<Operand, Stop>
     while let Token::Ampersand = tokens.peek() {
         tokens.advance();
         let next = sequence(alloc, tokens)?;
-        whole = whole.join(alloc, Join::Intersection, next)?;
+        whole = joined(alloc, Join::Intersection, whole, next)?;
     }
     Ok(whole)
 }
@@ -51,7 +51,7 @@ fn intersection(alloc: Global, tokens: &mut Cursor) -> Result<Operand, Stop>
 // Operands with `;` between them.
 #[cycle(expression)]
 fn sequence(alloc: Global, tokens: &mut Cursor) -> Result<Operand, Stop>
-    ensures reads { SequenceParses result tokens.old tokens.new }
+    ensures reads { ParsesBy seq result tokens.old tokens.new }
     ensures shorter { IfOk result (λ _. length tokens.new ≤ length tokens.old) }
     ensures ends { IfOk result (λ _. IsPastSequence (front tokens.new)) }
 {
@@ -59,15 +59,16 @@ fn sequence(alloc: Global, tokens: &mut Cursor) -> Result<Operand, Stop>
     while let Token::Semicolon = tokens.peek() {
         tokens.advance();
         let next = operand(alloc, tokens)?;
-        whole = whole.join(alloc, Join::Sequence, next)?;
+        whole = joined(alloc, Join::Sequence, whole, next)?;
     }
     Ok(whole)
 }
 
-// A primary, and any number of signs after it.
+// A primary, and any number of signs after it. No `:>` stands behind it: that of a literal is a
+// part of the primary.
 #[cycle(expression)]
 fn operand(alloc: Global, tokens: &mut Cursor) -> Result<Operand, Stop>
-    ensures reads { ParsesFrom before result tokens.old tokens.new }
+    ensures reads { ParsesBy post result tokens.old tokens.new }
     ensures shorter { IfOk result (λ _. length tokens.new ≤ length tokens.old) }
     ensures ends { IfOk result (λ _. IsPastOperand (front tokens.new)) }
 {
@@ -75,12 +76,14 @@ fn operand(alloc: Global, tokens: &mut Cursor) -> Result<Operand, Stop>
     while is_sign(tokens.peek()) {
         whole = with_sign(alloc, whole, tokens)?;
     }
-    Ok(whole)
+    match tokens.peek() {
+        Token::Ends => Err(tokens.refused()),
+        _ => Ok(whole),
+    }
 }
 
 fn is_sign(token: Token) -> bool
-    ensures yes { IsTrue result → IsPastOperand token → ⊥ }
-    ensures no { (IsTrue result → ⊥) → IsPastOperand token }
+    ensures { IsTrue result ↔ IsSignAfter token }
 {
     match token {
         Token::Star | Token::Plus | Token::Question | Token::Percent => true,
@@ -90,19 +93,20 @@ fn is_sign(token: Token) -> bool
 
 // The operand with the sign that stands after it.
 fn with_sign(alloc: Global, whole: Operand, tokens: &mut Cursor) -> Result<Operand, Stop>
-    requires { IsPastOperand (front tokens.old) → ⊥ }
-    ensures reads { SignParses whole result tokens.old tokens.new }
+    requires { IsSignAfter (front tokens.old) }
+    ensures reads { ParsesSign whole result tokens.old tokens.new }
     ensures shorter { IfOk result (λ _. length tokens.new < length tokens.old) }
+    ensures ends { IfOk result (λ _. SignRefusesEnds whole tokens.old tokens.new) }
 {
     let sign = tokens.peek();
     tokens.advance();
     match sign {
-        Token::Star => Ok(whole.repeated(alloc)?),
-        Token::Plus => Ok(whole.at_least_once(alloc)?),
-        Token::Question => Ok(whole.optional(alloc)?),
+        Token::Star => Ok(repeated(alloc, whole)?),
+        Token::Plus => Ok(at_least_once(alloc, whole)?),
+        Token::Question => Ok(optional(alloc, whole)?),
         _ => {
             let within = interval(tokens)?;
-            Ok(whole.within(alloc, within)?)
+            Ok(restricted(alloc, whole, within)?)
         }
     }
 }
@@ -110,57 +114,49 @@ fn with_sign(alloc: Global, whole: Operand, tokens: &mut Cursor) -> Result<Opera
 // `eps`, an expression in parentheses, an edge, or a literal.
 #[cycle(expression)]
 fn primary(alloc: Global, tokens: &mut Cursor) -> Result<Operand, Stop>
-    ensures reads { ParsesFrom before result tokens.old tokens.new }
+    ensures reads { ParsesBy Rule.primary result tokens.old tokens.new }
     ensures shorter { IfOk result (λ _. length tokens.new ≤ length tokens.old) }
+    ensures ends { IfOk result (λ _. RefusesEnds (Expects Rule.primary) tokens.old tokens.new) }
 {
     match tokens.peek() {
         Token::Eps => {
             tokens.advance();
-            Ok(Operand::empty())
+            Ok(empty())
         }
         Token::LeftParen => {
             tokens.advance();
             let inside = expression(alloc, tokens)?;
-            tokens.close_paren()?;
+            tokens.expect(Token::RightParen)?;
             Ok(inside)
         }
-        Token::Rise => {
-            tokens.advance();
-            edge(alloc, true, tokens)
-        }
-        Token::Fall => {
-            tokens.advance();
-            edge(alloc, false, tokens)
-        }
-        Token::Begins => {
-            tokens.advance();
-            literal_operand(alloc, true, tokens)
-        }
-        _ => literal_operand(alloc, false, tokens),
+        Token::Rise => edge(alloc, true, tokens),
+        Token::Fall => edge(alloc, false, tokens),
+        _ => literal_operand(alloc, tokens),
     }
 }
 
-// A state in parentheses, after `rise` or `fall`.
+// `rise` or `fall`, and a state in parentheses.
 fn edge(alloc: Global, rises: bool, tokens: &mut Cursor) -> Result<Operand, Stop>
-    ensures reads { ParsesFrom (after_edge rises) result tokens.old tokens.new }
+    requires { front tokens.old ≡ edge_sign rises }
+    ensures reads { ParsesBy Rule.primary result tokens.old tokens.new }
     ensures shorter { IfOk result (λ _. length tokens.new ≤ length tokens.old) }
+    ensures ends { IfOk result (λ _. RefusesEnds (Expects Rule.primary) tokens.old tokens.new) }
 {
-    match tokens.peek() {
-        Token::LeftParen => {
-            tokens.advance();
-            let inside = state(alloc, tokens)?;
-            tokens.close_paren()?;
-            Ok(Operand::edge(rises, inside))
-        }
-        _ => Err(tokens.refused()),
-    }
+    tokens.advance();
+    tokens.expect(Token::LeftParen)?;
+    let inside = state(alloc, tokens)?;
+    tokens.expect(Token::RightParen)?;
+    Ok(operand::edge(rises, inside))
 }
 
 // A literal, after `<:` or not, and `:>` after it or not.
-fn literal_operand(alloc: Global, begins: bool, tokens: &mut Cursor) -> Result<Operand, Stop>
-    ensures reads { ParsesFrom (machine.in_literal begins 0) result tokens.old tokens.new }
+fn literal_operand(alloc: Global, tokens: &mut Cursor) -> Result<Operand, Stop>
+    requires { BeginsLiteral (front tokens.old) }
+    ensures reads { ParsesBy Rule.primary result tokens.old tokens.new }
     ensures shorter { IfOk result (λ _. length tokens.new ≤ length tokens.old) }
+    ensures ends { IfOk result (λ _. RefusesEnds (Expects Rule.primary) tokens.old tokens.new) }
 {
+    let begins = begins(tokens);
     let formula = literal(alloc, tokens)?;
     match tokens.peek() {
         Token::Ends => {
@@ -171,18 +167,32 @@ fn literal_operand(alloc: Global, begins: bool, tokens: &mut Cursor) -> Result<O
     }
 }
 
+// Goes past a `<:`, if it is next.
+fn begins(tokens: &mut Cursor) -> bool
+    ensures taken { BeginsTaken result tokens.old tokens.new }
+    ensures shorter { length tokens.new ≤ length tokens.old }
+{
+    match tokens.peek() {
+        Token::Begins => {
+            tokens.advance();
+            true
+        }
+        _ => false,
+    }
+}
+
 // A literal that no `:>` follows, after `<:` or not.
 fn plain(alloc: Global, begins: bool, formula: Formula) -> Result<Operand, AllocError>
     ensures { IfOk result (λ r. (s : StateTree) → RepresentsState formula s →
         Represents r (plain_literal begins s)) }
 {
     if begins {
-        let again = formula.copy(alloc)?;
-        let begun = Operand::edge(true, again);
-        let both = begun.join(alloc, Join::Sequence, Operand::literal(formula))?;
+        let again = copied(alloc, &formula)?;
+        let begun = operand::edge(true, again);
+        let both = joined(alloc, Join::Sequence, begun, operand::literal(formula))?;
         Ok(both)
     } else {
-        Ok(Operand::literal(formula))
+        Ok(operand::literal(formula))
     }
 }
 
@@ -191,8 +201,8 @@ fn ended(alloc: Global, begins: bool, formula: Formula) -> Result<Operand, Alloc
     ensures { IfOk result (λ r. (s : StateTree) → RepresentsState formula s →
         Represents r (ended_literal begins s)) }
 {
-    let again = formula.copy(alloc)?;
+    let again = copied(alloc, &formula)?;
     let body = plain(alloc, begins, formula)?;
-    let both = body.join(alloc, Join::Sequence, Operand::edge(false, again))?;
+    let both = joined(alloc, Join::Sequence, body, operand::edge(false, again))?;
     Ok(both)
 }

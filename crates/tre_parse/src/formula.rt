@@ -1,114 +1,48 @@
-ghost use Rattle.std.specs.Prelude.{◌≡◌, ◌≤◌, IfOk};
+ghost use Rattle.std.specs.Prelude.{◌≡◌, IfOk};
 ghost use Rattle.tre_state.specs.State.{tree_of};
-ghost use Rattle.tre_parse.specs.Machine.{negated};
-ghost use Rattle.tre_parse.specs.Joins.{connected, Keeps};
+ghost use Rattle.tre_state.specs.StateTree.{StateTree, always, proposition};
+ghost use Rattle.tre_parse.specs.Joins.{negated, connected};
+ghost use Rattle.tre_parse.specs.Operands.{RepresentsState};
 
-use crate::connective::{COUNT_MAX, Connective};
+use crate::connective::Connective;
+use crate::counted::Counted;
+use crate::limits::COUNT_MAX;
 use std::alloc::{AllocError, Global};
 use tre_state::State;
-use tre_syntax::NODES_MAX;
 
-/// A state as it is read: its number of nodes, and the state itself while the nodes are few.
-#[derive(Drop)]
-pub(crate) struct Formula {
-    nodes: u64,
-    state: Option<State>,
-    ghost counted: { nodes ≤ 1000000000 },
+/// A state as it is read.
+pub(crate) type Formula = Counted<State>;
+
+pub(crate) fn always() -> Formula
+    ensures { RepresentsState result always }
+{
+    Counted::leaf(State::Yes)
 }
 
-impl Formula {
-    ghost use Rattle.tre_state.specs.StateTree.{StateTree, always, proposition};
-    ghost use Rattle.tre_parse.specs.Operands.{RepresentsState};
+pub(crate) fn proposition(number: u8) -> Formula
+    ensures { RepresentsState result (proposition number) }
+{
+    Counted::leaf(State::Prop(number))
+}
 
-    pub(crate) fn nodes(&self) -> u64
-        ensures { result ≡ self.now.nodes }
-    {
-        self.nodes
-    }
-
-    pub(crate) fn always() -> Formula
-        ensures { RepresentsState result always }
-    {
-        Formula {
-            nodes: 1,
-            state: Some(State::Yes),
-        }
-    }
-
-    pub(crate) fn proposition(number: u8) -> Formula
-        ensures { RepresentsState result (proposition number) }
-    {
-        Formula {
-            nodes: 1,
-            state: Some(State::Prop(number)),
-        }
-    }
-
-    /// The state itself, if it is built and what it goes into has no more nodes than a pattern may
-    /// have.
-    pub(crate) fn into_state(self, nodes: u64) -> Option<State>
-        ensures { Keeps nodes self.state result }
-    {
-        let Formula { state, .. } = self;
-        if nodes > NODES_MAX { None } else { state }
-    }
-
-    /// So many negations of the state.
-    #[tactic(auto, using(crate::proofs::Counts::negated_count))]
-    pub(crate) fn negated(self, alloc: Global, bangs: u64) -> Result<Formula, AllocError>
-        ensures { IfOk result (λ r. (s : StateTree) → RepresentsState self s →
-            RepresentsState r (negated bangs s)) }
-    {
-        let nodes = self.nodes.saturating_add(bangs).min(COUNT_MAX);
-        match self.into_state(nodes) {
-            None => Ok(Formula { nodes, state: None }),
-            Some(state) => {
-                let state = Some(negated(alloc, state, bangs)?);
-                Ok(Formula { nodes, state })
-            }
-        }
-    }
-
-    /// The two states joined.
-    #[tactic(auto, using(crate::proofs::Counts::connected_count))]
-    pub(crate) fn connect(
-        self,
-        alloc: Global,
-        how: Connective,
-        other: Formula,
-    ) -> Result<Formula, AllocError>
-        ensures { IfOk result (λ r. (s t : StateTree) → RepresentsState self s →
-            RepresentsState other t → RepresentsState r (connected how s t)) }
-    {
-        let nodes = (self.nodes + other.nodes + 1).min(COUNT_MAX);
-        let right = other.into_state(nodes);
-        match self.into_state(nodes).zip(right) {
-            None => Ok(Formula { nodes, state: None }),
-            Some((left, right)) => {
-                let state = Some(connect(alloc, how, left, right)?);
-                Ok(Formula { nodes, state })
-            }
-        }
-    }
-
-    /// The same once more.
-    pub(crate) fn copy(&self, alloc: Global) -> Result<Formula, AllocError>
-        ensures { IfOk result (λ r. (s : StateTree) → RepresentsState self.now s →
-            RepresentsState r s) }
-    {
-        let nodes = self.nodes;
-        match &self.state {
-            None => Ok(Formula { nodes, state: None }),
-            Some(state) => {
-                let state = Some(state.try_clone(alloc)?);
-                Ok(Formula { nodes, state })
-            }
+/// So many negations of the state.
+#[tactic(auto, using(crate::proofs::Counts::negated_count))]
+pub(crate) fn negated(alloc: Global, formula: Formula, bangs: u64) -> Result<Formula, AllocError>
+    ensures { IfOk result (λ r. (s : StateTree) → RepresentsState formula s →
+        RepresentsState r (negated bangs s)) }
+{
+    let nodes = formula.nodes.saturating_add(bangs).min(COUNT_MAX);
+    match formula.into_tree(nodes) {
+        None => Ok(Counted { nodes, tree: None }),
+        Some(state) => {
+            let tree = Some(negation(alloc, state, bangs)?);
+            Ok(Counted { nodes, tree })
         }
     }
 }
 
 #[tactic(auto, using(crate::proofs::Counts::negated_more))]
-fn negated(alloc: Global, state: State, bangs: u64) -> Result<State, AllocError>
+fn negation(alloc: Global, state: State, bangs: u64) -> Result<State, AllocError>
     ensures { IfOk result (λ r. tree_of r ≡ negated bangs (tree_of state)) }
 {
     let mut state = state;
@@ -116,6 +50,28 @@ fn negated(alloc: Global, state: State, bangs: u64) -> Result<State, AllocError>
         state = State::Not(Box::new(alloc, state)?);
     }
     Ok(state)
+}
+
+/// The two states joined.
+#[tactic(auto, using(crate::proofs::Counts::connected_count))]
+pub(crate) fn connected(
+    alloc: Global,
+    how: Connective,
+    left: Formula,
+    right: Formula,
+) -> Result<Formula, AllocError>
+    ensures { IfOk result (λ r. (s t : StateTree) → RepresentsState left s →
+        RepresentsState right t → RepresentsState r (connected how s t)) }
+{
+    let nodes = (left.nodes + right.nodes + 1).min(COUNT_MAX);
+    let second = right.into_tree(nodes);
+    match left.into_tree(nodes).zip(second) {
+        None => Ok(Counted { nodes, tree: None }),
+        Some((first, second)) => {
+            let tree = Some(connect(alloc, how, first, second)?);
+            Ok(Counted { nodes, tree })
+        }
+    }
 }
 
 fn connect(alloc: Global, how: Connective, left: State, right: State) -> Result<State, AllocError>
@@ -126,5 +82,20 @@ fn connect(alloc: Global, how: Connective, left: State, right: State) -> Result<
     match how {
         Connective::And => Ok(State::And(left, right)),
         Connective::Or => Ok(State::Or(left, right)),
+    }
+}
+
+/// The same once more.
+pub(crate) fn copied(alloc: Global, formula: &Formula) -> Result<Formula, AllocError>
+    ensures { IfOk result (λ r. (s : StateTree) → RepresentsState formula.now s →
+        RepresentsState r s) }
+{
+    let nodes = formula.nodes;
+    match &formula.tree {
+        None => Ok(Counted { nodes, tree: None }),
+        Some(state) => {
+            let tree = Some(state.try_clone(alloc)?);
+            Ok(Counted { nodes, tree })
+        }
     }
 }

@@ -1,7 +1,6 @@
-ghost use Rattle.std.specs.Prelude.{◌≡◌, ◌≤◌, ℕ, Bool, List, length, Option, IfOk};
-ghost use Rattle.tre_parse.specs.Machine.{Opening, Low, AfterLow, High, Closing};
-ghost use Rattle.tre_parse.specs.Front.{front};
-ghost use Rattle.tre_parse.specs.Parts.{IsMadeOf, IntervalParses, OpeningParses, LowParses, CommaParses, HighParses, ClosingParses};
+ghost use Rattle.std.specs.Prelude.{◌≡◌, ◌≤◌, length, IfOk, IfErr};
+ghost use Rattle.tre_parse.specs.Parts.{IsMadeOf, OpeningParses, LowParses, HighParses, ClosingParses, BeginsWithNone};
+ghost use Rattle.tre_parse.specs.Reading.{ParsesInterval};
 ghost use Rattle.tre_zone.specs.Interval.{kept_weak};
 
 use crate::cursor::{Cursor, Stop};
@@ -11,12 +10,13 @@ use tre_zone::Interval;
 
 /// An interval. None where no duration is in it, or an end is above the latest time.
 pub(crate) fn interval(tokens: &mut Cursor) -> Result<Option<Interval>, Stop>
-    ensures reads { IntervalParses result tokens.old tokens.new }
+    ensures reads { ParsesInterval result tokens.old tokens.new }
+    ensures none { IfErr result (λ _. BeginsWithNone tokens.old) }
     ensures shorter { IfOk result (λ _. length tokens.new ≤ length tokens.old) }
 {
     let low_weak = opening(tokens)?;
     let low = low(tokens)?;
-    comma(tokens)?;
+    tokens.expect(Token::Comma)?;
     let high = high(tokens)?;
     let high_weak = closing(tokens, high)?;
     Ok(made(low, low_weak, high, high_weak))
@@ -46,18 +46,6 @@ fn low(tokens: &mut Cursor) -> Result<u64, Stop>
         Token::Number(low) => {
             tokens.advance();
             Ok(low)
-        }
-        _ => Err(tokens.refused()),
-    }
-}
-
-fn comma(tokens: &mut Cursor) -> Result<(), Stop>
-    ensures { CommaParses result tokens.old tokens.new }
-{
-    match tokens.peek() {
-        Token::Comma => {
-            tokens.advance();
-            Ok(())
         }
         _ => Err(tokens.refused()),
     }

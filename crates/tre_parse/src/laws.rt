@@ -1,6 +1,8 @@
 //! Laws of the grammar, each as a function whose contract it is.
 ghost use Rattle.std.specs.Prelude.{◌≡◌, ℕ, ◌+◌, ◌≤◌, MatchOption, take, unwrap_or, true, Option, Some, None, List, [], ◌∷◌, ◌++◌, length};
 ghost use Rattle.std.specs.Option.{option_map};
+ghost use Rattle.tre_state.specs.declared.names.TheConstants.{NAMES_MAX};
+ghost use Rattle.tre_parse.specs.declared.limits.TheConstants.{DEPTH_MAX};
 ghost use Rattle.tre_state.specs.StateTree.{conjunction, disjunction};
 ghost use Rattle.tre_syntax.specs.PatternTree.{PatternTree, sequence, alternation, intersection};
 ghost use Rattle.tre_parse.specs.declared.token.Token.TheVariants.{Name, Semicolon, Bar, DoubleBar, Ampersand, DoubleAmpersand};
@@ -107,19 +109,19 @@ pub fn blank_says_nothing()
 {}
 
 /// The place of the first bracket too many, said of the fronts of the tokens: with the token there
-/// more than 200 brackets are open, and with fewer tokens never.
+/// more than `DEPTH_MAX` brackets are open, and with fewer tokens never.
 pub fn depth()
     ensures { (tokens : List Token) → MatchOption (deep_place 0 0 tokens)
-        ((n : ℕ) → open_from 0 (take n tokens) ≤ 200) (IsDeepAt tokens) }
+        ((n : ℕ) → open_from 0 (take n tokens) ≤ DEPTH_MAX) (IsDeepAt tokens) }
 {}
 
-/// At each name of a text the token is the number at which the list of names has it, 64 for a name
-/// that isn't among them; and where none is past the first 64, the list has them by first use from
-/// the left.
+/// At each name of a text the token is the number at which the list of names has it, `NAMES_MAX`
+/// for a name that isn't among them; and where none is past the first `NAMES_MAX`, the list has
+/// them by first use from the left.
 pub fn numbers_of_names()
     ensures number { (text bytes : List ℕ) (front back : List RawTokenAt) (at : ℕ) →
         raw_tokens_of text ≡ front ++ (record { at = at; word = name bytes }) ∷ back →
         HasTokenAt (tokens_of text) (length front)
-        (Name (unwrap_or (place_of (names_of text) bytes) 64)) }
+        (Name (unwrap_or (place_of (names_of text) bytes) NAMES_MAX)) }
     ensures first_use { (text : List ℕ) → IsNumberedByUse (text_tokens_of text) }
 {}

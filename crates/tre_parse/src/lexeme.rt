@@ -1,4 +1,4 @@
-ghost use Rattle.std.specs.Prelude.{◌≡◌, ◌<◌, ◌≤◌, ℕ, length, min, All, IsTrue};
+ghost use Rattle.std.specs.Prelude.{◌≡◌, ◌<◌, ◌≤◌, ◌+◌, ℕ, length, min, All, IsTrue};
 ghost use Rattle.std.specs.Char.{is_ascii_digit};
 ghost use Rattle.std.specs.List.{prefix_len, AllPass};
 ghost use Rattle.tre_state.specs.Name.{continues_name, starts_name};
@@ -71,6 +71,7 @@ fn name_len(rest: &[u8]) -> usize
         .count()
 }
 
+// The token of a reserved word.
 fn reserved(word: &[u8]) -> Option<Token>
     ensures { result ≡ reserved word.now }
 {
@@ -105,7 +106,7 @@ fn digits_len(rest: &[u8]) -> usize
 // The number that the digits spell, or the cap where it is above the latest time.
 fn capped_decimal(digits: &[u8]) -> u64
     requires { AllPass is_ascii_digit digits.now }
-    ensures { result ≡ min (decimal digits.now) 1099511627777 }
+    ensures { result ≡ min (decimal digits.now) (TIME_MAX + 1) }
 {
     let mut value: u64 = 0;
     for digit in digits {

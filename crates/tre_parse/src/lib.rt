@@ -12,10 +12,12 @@
 #![tactic(auto)]
 
 pub use fault::ParseFault;
-pub use parser::{TEXT_MAX, parse};
+pub use limits::TEXT_MAX;
+pub use parser::parse;
 pub use token::Token;
 
 mod connective;
+mod counted;
 mod cursor;
 mod expression;
 mod fault;

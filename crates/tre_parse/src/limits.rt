@@ -7,8 +7,14 @@ use crate::interval::interval;
 use crate::token::Token;
 use tre_pairs::TIME_MAX;
 
+/// How many bytes the text of a pattern may have.
+pub const TEXT_MAX: usize = 16_384;
+
 /// How many brackets may be open.
-const DEPTH_MAX: usize = 200;
+pub(crate) const DEPTH_MAX: usize = 200;
+
+/// The count of nodes goes no higher than this.
+pub(crate) const COUNT_MAX: u64 = 1_000_000_000;
 
 /// The place of the first number above the latest time.
 pub(crate) fn first_big(tokens: &[Token]) -> Option<usize>
@@ -26,7 +32,7 @@ fn is_big(token: Token) -> bool
     }
 }
 
-/// The place of the first bracket at which more than 200 are open.
+/// The place of the first bracket at which more than `DEPTH_MAX` are open.
 pub(crate) fn first_deep(tokens: &[Token]) -> Option<usize>
     ensures { result ≡ deep_place 0 0 tokens.now }
 {
@@ -42,7 +48,7 @@ pub(crate) fn first_deep(tokens: &[Token]) -> Option<usize>
 
 // How many brackets are open after one more token.
 fn open_after(depth: usize, token: Token) -> usize
-    requires { depth ≤ 200 }
+    requires { depth ≤ DEPTH_MAX }
     ensures { result ≡ open_after depth token }
 {
     match token {

@@ -1,8 +1,7 @@
 ghost use Rattle.std.specs.Prelude.{◌≡◌, Some, None, IfOk, MatchResult};
 ghost use Rattle.tre_syntax.specs.PatternTree.{PatternTree};
 ghost use Rattle.tre_syntax.specs.Pattern.{pattern_tree, names_of};
-ghost use Rattle.tre_parse.specs.Machine.{read, start};
-ghost use Rattle.tre_parse.specs.Reading.{Parses, ReadsWhole};
+ghost use Rattle.tre_parse.specs.Reading.{ParsesWhole};
 ghost use Rattle.tre_parse.specs.Numbering.{IsNumberedByUse};
 ghost use Rattle.tre_parse.specs.Operands.{Represents};
 ghost use Rattle.tre_parse.specs.Outcome.{IsSpelling, Outcome, limit_fault, IsOutcomeWithin, IsOutcome};
@@ -11,16 +10,13 @@ ghost use Rattle.tre_parse.specs.Answers.{text_tokens_in, IsFaultOf, IsRepresent
 use crate::cursor::{Cursor, Stop};
 use crate::expression::expression;
 use crate::fault::ParseFault;
-use crate::limits::{first_big, first_deep, first_empty};
+use crate::limits::{TEXT_MAX, first_big, first_deep, first_empty};
 use crate::operand::Operand;
 use crate::scan::{Scan, scan_text};
 use crate::token::Token;
 use std::alloc::Global;
 use tre_state::Names;
 use tre_syntax::{NODES_MAX, Pattern};
-
-/// How many bytes the text of a pattern may have.
-pub const TEXT_MAX: usize = 16_384;
 
 /// The pattern that the text spells.
 ///
@@ -72,7 +68,7 @@ fn fault_of(scan: &Scan, stop: Stop) -> ParseFault
 
 // The expression that all the tokens spell.
 fn whole_expression(alloc: Global, tokens: &[Token]) -> Result<Operand, Stop>
-    ensures { Parses result (λ x. ReadsWhole x (read tokens.now start)) (read tokens.now start) }
+    ensures { ParsesWhole result tokens.now }
 {
     let mut rest = Cursor::new(tokens);
     let whole = expression(alloc, &mut rest)?;
@@ -115,7 +111,7 @@ fn judge(scan: Scan, whole: Operand) -> Result<Pattern, ParseFault>
     if let Some(at) = scan.past {
         return Err(ParseFault::TooManyNames { at });
     }
-    let nodes = whole.nodes();
+    let nodes = whole.nodes;
     if nodes > NODES_MAX {
         return Err(ParseFault::TooLarge { nodes });
     }
@@ -129,8 +125,8 @@ fn build(names: Names, whole: Operand) -> Pattern
     ensures tree { (tree : PatternTree) → Represents whole tree → pattern_tree result ≡ tree }
     ensures names { names_of result ≡ names }
 {
-    let nodes = whole.nodes();
-    let Some(expr) = whole.into_expr(nodes) else {
+    let nodes = whole.nodes;
+    let Some(expr) = whole.into_tree(nodes) else {
         unreachable!()
     };
     let Some(pattern) = Pattern::new(expr, names) else {

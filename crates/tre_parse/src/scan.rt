@@ -8,10 +8,10 @@ use crate::fault::ParseFault;
 use crate::lexeme::{Lexeme, lexeme_of};
 use crate::token::Token;
 use std::alloc::{AllocError, Global};
-use tre_state::{NameFault, Names};
+use tre_state::{NAMES_MAX, NameFault, Names};
 
-/// The number of a name past the first 64.
-pub(crate) const PAST: u8 = 64;
+/// The number of a name past the first `NAMES_MAX`.
+pub(crate) const PAST: u8 = NAMES_MAX as u8;
 
 /// The tokens of a text, the offset of each, and the names among them.
 #[derive(Drop)]
@@ -19,7 +19,7 @@ pub(crate) struct Scan {
     pub(crate) tokens: Vec<Token>,
     pub(crate) offsets: Vec<u64>,
     pub(crate) names: Names,
-    /// Where the first name past the first 64 stands, if there is one.
+    /// Where the first name past the first `NAMES_MAX` stands, if there is one.
     pub(crate) past: Option<u64>,
     /// How many bytes the text has.
     pub(crate) size: u64,
@@ -108,7 +108,7 @@ impl Scan {
     }
 }
 
-// The number of a name, None where 64 others are held.
+// The number of a name, None where the most are held.
 fn number(names: &mut Names, word: &[u8]) -> Result<Option<u8>, ParseFault>
     requires { IsName word.now }
     ensures number { IfOk result (λ number. number ≡ place_of

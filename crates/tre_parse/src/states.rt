@@ -1,20 +1,19 @@
 //! States, one function for each rule.
-ghost use Rattle.std.specs.Prelude.{◌≡◌, ◌≤◌, ℕ, Bool, List, length, IfOk, replicate, ◌++◌, ◌≢◌};
-ghost use Rattle.tre_parse.specs.declared.token.Token.{Token};
-ghost use Rattle.tre_parse.specs.Machine.{Level};
+ghost use Rattle.std.specs.Prelude.{◌≡◌, ◌≢◌, ◌≤◌, ◌++◌, length, replicate, IfOk};
+ghost use Rattle.tre_parse.specs.Grammar.{state, conj, neg};
 ghost use Rattle.tre_parse.specs.Front.{front};
-ghost use Rattle.tre_parse.specs.Reading.{IsPastConjunction, IsPastState, StateParses, ConjunctionParses, NegationParses, OperandOfState, LiteralParses, OperandOfLiteral};
+ghost use Rattle.tre_parse.specs.Reading.{IsPastConjunction, IsPastState, ParsesState, ParsesLiteral};
 
 use crate::connective::Connective;
 use crate::cursor::{Cursor, Stop};
-use crate::formula::Formula;
+use crate::formula::{Formula, always, connected, negated, proposition};
 use crate::token::Token;
 use std::alloc::Global;
 
 /// A state: conjunctions with `||` between them.
 #[cycle(state)]
 pub(crate) fn state(alloc: Global, tokens: &mut Cursor) -> Result<Formula, Stop>
-    ensures reads { StateParses result tokens.old tokens.new }
+    ensures reads { ParsesState state result tokens.old tokens.new }
     ensures shorter { IfOk result (λ _. length tokens.new ≤ length tokens.old) }
     ensures ends { IfOk result (λ _. IsPastState (front tokens.new)) }
 {
@@ -22,7 +21,7 @@ pub(crate) fn state(alloc: Global, tokens: &mut Cursor) -> Result<Formula, Stop>
     while let Token::DoubleBar = tokens.peek() {
         tokens.advance();
         let next = conjunction(alloc, tokens)?;
-        whole = whole.connect(alloc, Connective::Or, next)?;
+        whole = connected(alloc, Connective::Or, whole, next)?;
     }
     Ok(whole)
 }
@@ -30,7 +29,7 @@ pub(crate) fn state(alloc: Global, tokens: &mut Cursor) -> Result<Formula, Stop>
 // Operands with `&&` between them.
 #[cycle(state)]
 fn conjunction(alloc: Global, tokens: &mut Cursor) -> Result<Formula, Stop>
-    ensures reads { ConjunctionParses result tokens.old tokens.new }
+    ensures reads { ParsesState conj result tokens.old tokens.new }
     ensures shorter { IfOk result (λ _. length tokens.new ≤ length tokens.old) }
     ensures ends { IfOk result (λ _. IsPastConjunction (front tokens.new)) }
 {
@@ -38,7 +37,7 @@ fn conjunction(alloc: Global, tokens: &mut Cursor) -> Result<Formula, Stop>
     while let Token::DoubleAmpersand = tokens.peek() {
         tokens.advance();
         let next = negation(alloc, tokens)?;
-        whole = whole.connect(alloc, Connective::And, next)?;
+        whole = connected(alloc, Connective::And, whole, next)?;
     }
     Ok(whole)
 }
@@ -46,12 +45,12 @@ fn conjunction(alloc: Global, tokens: &mut Cursor) -> Result<Formula, Stop>
 // Any number of `!`, and then an operand.
 #[cycle(state)]
 fn negation(alloc: Global, tokens: &mut Cursor) -> Result<Formula, Stop>
-    ensures reads { NegationParses result tokens.old tokens.new }
+    ensures reads { ParsesState neg result tokens.old tokens.new }
     ensures shorter { IfOk result (λ _. length tokens.new ≤ length tokens.old) }
 {
     let bangs = bangs(tokens);
     let inside = operand(alloc, tokens)?;
-    let whole = inside.negated(alloc, bangs)?;
+    let whole = negated(alloc, inside, bangs)?;
     Ok(whole)
 }
 
@@ -59,22 +58,22 @@ fn negation(alloc: Global, tokens: &mut Cursor) -> Result<Formula, Stop>
 #[cycle(state)]
 fn operand(alloc: Global, tokens: &mut Cursor) -> Result<Formula, Stop>
     requires { front tokens.old ≢ Token.Bang }
-    ensures reads { OperandOfState result tokens.old tokens.new }
+    ensures reads { ParsesState neg result tokens.old tokens.new }
     ensures shorter { IfOk result (λ _. length tokens.new ≤ length tokens.old) }
 {
     match tokens.peek() {
         Token::Name(number) => {
             tokens.advance();
-            Ok(Formula::proposition(number))
+            Ok(proposition(number))
         }
         Token::True => {
             tokens.advance();
-            Ok(Formula::always())
+            Ok(always())
         }
         Token::LeftParen => {
             tokens.advance();
             let inside = state(alloc, tokens)?;
-            tokens.close_paren()?;
+            tokens.expect(Token::RightParen)?;
             Ok(inside)
         }
         _ => Err(tokens.refused()),
@@ -96,34 +95,34 @@ pub(crate) fn bangs(tokens: &mut Cursor) -> u64
 
 /// A literal: any number of `!`, and then a name, `true` or a state in braces.
 pub(crate) fn literal(alloc: Global, tokens: &mut Cursor) -> Result<Formula, Stop>
-    ensures reads { LiteralParses result tokens.old tokens.new }
+    ensures reads { ParsesLiteral result tokens.old tokens.new }
     ensures shorter { IfOk result (λ _. length tokens.new ≤ length tokens.old) }
 {
     let bangs = bangs(tokens);
     let inside = operand_of_literal(alloc, tokens)?;
-    let whole = inside.negated(alloc, bangs)?;
+    let whole = negated(alloc, inside, bangs)?;
     Ok(whole)
 }
 
 // A name, `true` or a state in braces.
 fn operand_of_literal(alloc: Global, tokens: &mut Cursor) -> Result<Formula, Stop>
     requires { front tokens.old ≢ Token.Bang }
-    ensures reads { OperandOfLiteral result tokens.old tokens.new }
+    ensures reads { ParsesLiteral result tokens.old tokens.new }
     ensures shorter { IfOk result (λ _. length tokens.new ≤ length tokens.old) }
 {
     match tokens.peek() {
         Token::Name(number) => {
             tokens.advance();
-            Ok(Formula::proposition(number))
+            Ok(proposition(number))
         }
         Token::True => {
             tokens.advance();
-            Ok(Formula::always())
+            Ok(always())
         }
         Token::LeftBrace => {
             tokens.advance();
             let inside = state(alloc, tokens)?;
-            tokens.close_brace()?;
+            tokens.expect(Token::RightBrace)?;
             Ok(inside)
         }
         _ => Err(tokens.refused()),

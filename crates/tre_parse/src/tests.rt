@@ -147,26 +147,22 @@ fn names(rt: HostRuntime) -> Result<(), Fail> {
     Ok(())
 }
 
+// How many nodes the pattern has.
+fn nodes(alloc: Global, text: &str) -> Result<u64, ParseFault> {
+    let pattern = parse(alloc, text)?;
+    Ok(pattern.nodes())
+}
+
 #[test]
 fn plus(rt: HostRuntime) -> Result<(), Fail> {
     let alloc = rt.alloc();
-    let table = [
-        (8, ParseFault::TooLarge { nodes: 1022 }),
-        (
-            30,
-            ParseFault::TooLarge {
-                nodes: 1_000_000_000,
-            },
-        ),
-    ];
-    let mut seven = String::from_str(alloc, "p")?;
-    seven.push_str(times(alloc, "+", 7)?.as_str())?;
-    let pattern = parse(alloc, seven.as_str())?;
-    assert_eq!(rt; pattern.nodes(), 510);
-    for (count, expected) in &table {
+    assert_eq!(rt; nodes(alloc, "p+++++++")?, 510);
+    let table = [(8, 1022), (30, 1_000_000_000)];
+    for (count, nodes) in &table {
         let mut text = String::from_str(alloc, "p")?;
         text.push_str(times(alloc, "+", *count)?.as_str())?;
-        assert_eq!(rt; fault(alloc, text.as_str()), Some(*expected));
+        let large = ParseFault::TooLarge { nodes: *nodes };
+        assert_eq!(rt; fault(alloc, text.as_str()), Some(large));
     }
     Ok(())
 }

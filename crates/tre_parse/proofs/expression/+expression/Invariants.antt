@@ -1,8 +1,8 @@
-use Rattle.std.proofs.Common.{◌≤◌, ◌+◌, ◌*◌, List, length, None, Option}
-use Rattle.tre_syntax.specs.PatternTree.{PatternTree}
+use Rattle.std.proofs.Common.{◌≤◌, ◌+◌, ◌*◌, length}
+use Rattle.tre_parse.specs.Grammar.{expr, meet, seq, post, Spells}
+use Rattle.tre_parse.specs.Operands.{Represents}
 use Rattle.tre_parse.specs.Front.{front}
-use Rattle.tre_parse.specs.Machine.{Level, fresh_level, before, kept, read}
-use Rattle.tre_parse.specs.Reading.{level_of, IsPastOperand, IsPastSequence, IsPastIntersection, ReadsOperand, ReadsSequence, ReadsIntersection, ReadsExpression}
+use Rattle.tre_parse.specs.Reading.{IsPastOperand, IsPastSequence, IsPastIntersection, Expects, Takes, RefusesEnds}
 use Rattle.tre_parse.proofs.expression.+expression.Given as goal
 
 abbrev pub decreases-primary : goal.decreases-primary
@@ -22,8 +22,7 @@ decreases-expression l = 5 * length l.tokens.now + 4
 
 abbrev pub invariant-sequence-loop-tokens : goal.invariant-sequence-loop-tokens
 invariant-sequence-loop-tokens l = record {
-  reads : (below : List Level) (bar ampersand : Option PatternTree) →
-      ReadsSequence l.whole (read l.fn.tokens (kept (level_of bar ampersand None) below before)) l.tokens below bar ampersand;
+  reads : Takes (Spells seq) Represents l.whole l.fn.tokens l.tokens;
   shorter : length l.tokens ≤ length l.fn.tokens;
   ends : IsPastOperand (front l.tokens);
 }
@@ -33,8 +32,7 @@ decreases-sequence-loop-tokens l = length l.tokens
 
 abbrev pub invariant-intersection-loop-tokens : goal.invariant-intersection-loop-tokens
 invariant-intersection-loop-tokens l = record {
-  reads : (below : List Level) (bar : Option PatternTree) →
-      ReadsIntersection l.whole (read l.fn.tokens (kept (level_of bar None None) below before)) l.tokens below bar;
+  reads : Takes (Spells meet) Represents l.whole l.fn.tokens l.tokens;
   shorter : length l.tokens ≤ length l.fn.tokens;
   ends : IsPastSequence (front l.tokens);
 }
@@ -44,7 +42,7 @@ decreases-intersection-loop-tokens l = length l.tokens
 
 abbrev pub invariant-expression-loop-tokens : goal.invariant-expression-loop-tokens
 invariant-expression-loop-tokens l = record {
-  reads : (below : List Level) → ReadsExpression l.whole (read l.fn.tokens (kept fresh_level below before)) l.tokens below;
+  reads : Takes (Spells expr) Represents l.whole l.fn.tokens l.tokens;
   shorter : length l.tokens ≤ length l.fn.tokens;
   ends : IsPastIntersection (front l.tokens);
 }
@@ -54,8 +52,9 @@ decreases-expression-loop-tokens l = length l.tokens
 
 abbrev pub invariant-operand-loop-alloc : goal.invariant-operand-loop-alloc
 invariant-operand-loop-alloc l = record {
-  reads : (level : Level) (below : List Level) → ReadsOperand l.whole (read l.fn.tokens (kept level below before)) l.tokens level below;
+  reads : Takes (Spells post) Represents l.whole l.fn.tokens l.tokens;
   shorter : length l.tokens ≤ length l.fn.tokens;
+  ends : RefusesEnds (Expects post) l.fn.tokens l.tokens;
 }
 
 abbrev pub decreases-operand-loop-alloc : goal.decreases-operand-loop-alloc

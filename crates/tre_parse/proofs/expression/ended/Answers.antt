@@ -1,5 +1,5 @@
 use Rattle.tre_syntax.specs.PatternTree.{atom, fall}
-use Rattle.tre_parse.specs.Machine.{plain_literal}
+use Rattle.tre_parse.specs.Joins.{plain_literal}
 use Rattle.tre_parse.proofs.expression.ended.Goals as goal
 
 pub returns : goal.returns

@@ -1,6 +1,6 @@
 use Rattle.std.proofs.Common.{sym, subst, Bool}
 use Rattle.tre_syntax.specs.PatternTree.{atom, rise, literal}
-use Rattle.tre_parse.specs.Machine.{plain_literal}
+use Rattle.tre_parse.specs.Joins.{plain_literal}
 use Rattle.tre_parse.specs.Operands.{Represents}
 use Rattle.tre_parse.proofs.expression.plain.Goals as goal
 

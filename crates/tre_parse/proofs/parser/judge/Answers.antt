@@ -1,4 +1,4 @@
-use Rattle.std.proofs.Common.{List, ℕ, ◌≡◌, ◌∙◌, sym, ap, subst, arith, inr}
+use Rattle.std.proofs.Common.{refl, List, ℕ, ◌≡◌, ◌∙◌, sym, ap, subst, arith, inr}
 use Rattle.std.specs.Prelude.{position}
 use Rattle.tre_parse.specs.declared.token.Token.{Token}
 use Rattle.tre_parse.specs.Outcome.{is_big, NoneEmpty}
@@ -18,7 +18,7 @@ returns-in-Some-past c =
 
 pub returns-then-nodes-gt-NODES_MAX : goal.returns-then-nodes-gt-NODES_MAX
 returns-then-nodes-gt-NODES_MAX c =
-    inr (large_outcome (text_tokens_in c.args.scan) c.args.whole _ c.requires.small c.requires.whole (none_along _ _ c.deref.ensures.value c.in_default.ensures) c.in_default-past.is c.nodes-nodes.ensures
+    inr (large_outcome (text_tokens_in c.args.scan) c.args.whole _ c.requires.small c.requires.whole (none_along _ _ c.deref.ensures.value c.in_default.ensures) c.in_default-past.is refl
     c.if-nodes-gt-NODES_MAX.true)
 
 pub build-requires : goal.build-requires

@@ -1,13 +1,14 @@
 use Rattle.std.proofs.Common.{arith, ◌∙◌}
 use Rattle.std.proofs.lemmas.Result.{err_from_is_err_and}
 use Rattle.tre_parse.specs.declared.token.Token.TheVariants.{Name, LeftParen, RightParen, True, DoubleBar, DoubleAmpersand}
-use Rattle.tre_parse.proofs.StateSteps.{goes_past, one_shorter, first_conjunction, more_conjunction, stop_conjunction, first_state, more_state, stop_state, stop_first_conjunction, stop_first_state, ends_conjunction, ends_state, negation_reads, negation_stops, name_reads, true_reads, parens_read, parens_stop, parens_open, operand_stuck}
+use Rattle.tre_parse.proofs.Steps.{goes_past, one_shorter}
+use Rattle.tre_parse.proofs.StateSteps.{first_conjunction, more_conjunction, stop_conjunction, first_state, more_state, stop_state, stop_first_conjunction, stop_first_state, ends_conjunction, ends_state, negation_reads, negation_stops, name_reads, true_reads, parens_read, parens_stop, parens_open, operand_stuck}
 use Rattle.tre_parse.proofs.states.+state.Goals as goal
 
 pub conjunction-returns-in_err-whole-clause-reads : goal.conjunction-returns-in_err-whole-clause-reads
 conjunction-returns-in_err-whole-clause-reads t c =
     let p = err_from_is_err_and c.from_residual.result c.from_residual.ensures.1 in
-    rw (p.1, p.2) (stop_first_conjunction c.in_err-whole.field-0.0 c.args.tokens.now c.negation.new.tokens c.negation.new.tokens c.in_err-whole.ensures.reads)
+    rw (p.1, p.2) (stop_first_conjunction c.in_err-whole.field-0.0 c.args.tokens.now c.in_err-whole.ensures.reads)
 
 pub conjunction-loop-tokens-init : goal.conjunction-loop-tokens-init
 conjunction-loop-tokens-init t c =
@@ -23,12 +24,12 @@ pub conjunction-returns-in_err-next-clause-reads : goal.conjunction-returns-in_e
 conjunction-returns-in_err-next-clause-reads t c =
     let e = goes_past c.loop-tokens.tokens c.advance.new.self DoubleAmpersand c.in-DoubleAmpersand.ensures (λ q. cc) c.advance.ensures in
     let p = err_from_is_err_and c.from_residual-in_err-next.result c.from_residual-in_err-next.ensures.1 in
-    rw (p.1, p.2) (stop_conjunction c.in_err-next.field-0.0 c.loop-tokens.whole c.args.tokens.now c.loop-tokens.tokens c.advance.new.self c.negation-in-DoubleAmpersand.new.tokens _ c.loop-tokens.invariant.reads e c.in_err-next.ensures.reads)
+    rw (p.1, p.2) (stop_conjunction c.in_err-next.field-0.0 c.loop-tokens.whole c.args.tokens.now c.loop-tokens.tokens c.advance.new.self c.loop-tokens.invariant.reads e c.in_err-next.ensures.reads)
 
 pub conjunction-returns-in_err-whole-2-clause-reads : goal.conjunction-returns-in_err-whole-2-clause-reads
 conjunction-returns-in_err-whole-2-clause-reads t c =
     let p = err_from_is_err_and c.from_residual-in_err-whole-2.result c.from_residual-in_err-whole-2.ensures.1 in
-    rw (p.1, p.2) (λ s bangs bars. tt)
+    rw (p.1, p.2) tt
 
 pub conjunction-loop-tokens-smaller : goal.conjunction-loop-tokens-smaller
 conjunction-loop-tokens-smaller t c =
@@ -52,7 +53,7 @@ conjunction-returns t c =
 pub state-returns-in_err-whole-clause-reads : goal.state-returns-in_err-whole-clause-reads
 state-returns-in_err-whole-clause-reads t c =
     let p = err_from_is_err_and c.from_residual.result c.from_residual.ensures.1 in
-    rw (p.1, p.2) (stop_first_state c.in_err-whole.field-0.0 c.args.tokens.now c.conjunction.new.tokens c.conjunction.new.tokens c.in_err-whole.ensures.reads)
+    rw (p.1, p.2) (stop_first_state c.in_err-whole.field-0.0 c.args.tokens.now c.in_err-whole.ensures.reads)
 
 pub state-loop-tokens-init : goal.state-loop-tokens-init
 state-loop-tokens-init t c =
@@ -68,12 +69,12 @@ pub state-returns-in_err-next-clause-reads : goal.state-returns-in_err-next-clau
 state-returns-in_err-next-clause-reads t c =
     let e = goes_past c.loop-tokens.tokens c.advance.new.self DoubleBar c.in-DoubleBar.ensures (λ q. cc) c.advance.ensures in
     let p = err_from_is_err_and c.from_residual-in_err-next.result c.from_residual-in_err-next.ensures.1 in
-    rw (p.1, p.2) (stop_state c.in_err-next.field-0.0 c.loop-tokens.whole c.args.tokens.now c.loop-tokens.tokens c.advance.new.self c.conjunction-in-DoubleBar.new.tokens _ c.loop-tokens.invariant.reads e c.in_err-next.ensures.reads)
+    rw (p.1, p.2) (stop_state c.in_err-next.field-0.0 c.loop-tokens.whole c.args.tokens.now c.loop-tokens.tokens c.advance.new.self c.loop-tokens.invariant.reads e c.in_err-next.ensures.reads)
 
 pub state-returns-in_err-whole-2-clause-reads : goal.state-returns-in_err-whole-2-clause-reads
 state-returns-in_err-whole-2-clause-reads t c =
     let p = err_from_is_err_and c.from_residual-in_err-whole-2.result c.from_residual-in_err-whole-2.ensures.1 in
-    rw (p.1, p.2) (λ s bangs. tt)
+    rw (p.1, p.2) tt
 
 pub state-loop-tokens-smaller : goal.state-loop-tokens-smaller
 state-loop-tokens-smaller t c =
@@ -102,12 +103,12 @@ negation-operand-requires t c =
 pub negation-returns-in_err-inside-clause-reads : goal.negation-returns-in_err-inside-clause-reads
 negation-returns-in_err-inside-clause-reads t c =
     let p = err_from_is_err_and c.from_residual.result c.from_residual.ensures.1 in
-    rw (p.1, p.2) (negation_stops c.in_err-inside.field-0.0 c.bangs-bangs.result c.args.tokens.now c.bangs-bangs.new.tokens c.operand.new.tokens _ c.bangs-bangs.ensures.bangs c.in_err-inside.ensures.reads)
+    rw (p.1, p.2) (negation_stops c.in_err-inside.field-0.0 c.bangs-bangs.result c.args.tokens.now c.bangs-bangs.new.tokens c.bangs-bangs.ensures.bangs c.in_err-inside.ensures.reads)
 
 pub negation-returns-in_err-whole-clause-reads : goal.negation-returns-in_err-whole-clause-reads
 negation-returns-in_err-whole-clause-reads t c =
     let p = err_from_is_err_and c.from_residual-in_err-whole.result c.from_residual-in_err-whole.ensures.1 in
-    rw (p.1, p.2) (λ s inner. tt)
+    rw (p.1, p.2) tt
 
 pub negation-returns-clause-reads : goal.negation-returns-clause-reads
 negation-returns-clause-reads t c =
@@ -123,13 +124,13 @@ pub operand-returns-in_err-inside-in-LeftParen-clause-reads : goal.operand-retur
 operand-returns-in_err-inside-in-LeftParen-clause-reads t c =
     let e = goes_past c.args.tokens.now c.advance-in-LeftParen.new.self LeftParen c.in-LeftParen.ensures (λ q. cc) c.advance-in-LeftParen.ensures in
     let p = err_from_is_err_and c.from_residual.result c.from_residual.ensures.1 in
-    rw (p.1, p.2) (parens_stop c.in_err-inside-in-LeftParen.field-0.0 c.args.tokens.now c.advance-in-LeftParen.new.self c.state.new.tokens _ e c.in_err-inside-in-LeftParen.ensures.reads)
+    rw (p.1, p.2) (parens_stop c.in_err-inside-in-LeftParen.field-0.0 c.args.tokens.now c.advance-in-LeftParen.new.self e c.in_err-inside-in-LeftParen.ensures.reads)
 
-pub operand-returns-in_err-close_paren-in-LeftParen-clause-reads : goal.operand-returns-in_err-close_paren-in-LeftParen-clause-reads
-operand-returns-in_err-close_paren-in-LeftParen-clause-reads t c =
+pub operand-returns-in_err-expect-in-LeftParen-clause-reads : goal.operand-returns-in_err-expect-in-LeftParen-clause-reads
+operand-returns-in_err-expect-in-LeftParen-clause-reads t c =
     let e = goes_past c.args.tokens.now c.advance-in-LeftParen.new.self LeftParen c.in-LeftParen.ensures (λ q. cc) c.advance-in-LeftParen.ensures in
-    let p = err_from_is_err_and c.from_residual-in_err-close_paren-in-LeftParen.result c.from_residual-in_err-close_paren-in-LeftParen.ensures.1 in
-    rw (p.1, p.2) (parens_open c.in_err-close_paren-in-LeftParen.field-0.0 c.in_ok-inside-in-LeftParen.inside c.args.tokens.now c.advance-in-LeftParen.new.self c.state.new.tokens c.close_paren.new.self _ e c.in_ok-inside-in-LeftParen.ensures.reads c.in_ok-inside-in-LeftParen.ensures.ends c.in_err-close_paren-in-LeftParen.ensures)
+    let p = err_from_is_err_and c.from_residual-in_err-expect-in-LeftParen.result c.from_residual-in_err-expect-in-LeftParen.ensures.1 in
+    rw (p.1, p.2) (parens_open c.in_err-expect-in-LeftParen.field-0.0 c.in_ok-inside-in-LeftParen.inside c.args.tokens.now c.advance-in-LeftParen.new.self c.state.new.tokens e c.in_ok-inside-in-LeftParen.ensures.reads c.in_ok-inside-in-LeftParen.ensures.ends c.in_err-expect-in-LeftParen.ensures)
 
 pub operand-returns-in-Name-clause-reads : goal.operand-returns-in-Name-clause-reads
 operand-returns-in-Name-clause-reads t c =
@@ -141,18 +142,18 @@ operand-returns-in-True-clause-reads t c =
     let e = goes_past c.args.tokens.now c.advance-in-True.new.self True c.in-True.ensures (λ q. cc) c.advance-in-True.ensures in
     true_reads c.always.result c.args.tokens.now c.advance-in-True.new.self e c.always.ensures
 
-pub operand-returns-in_ok-close_paren-in-LeftParen-clause-reads : goal.operand-returns-in_ok-close_paren-in-LeftParen-clause-reads
-operand-returns-in_ok-close_paren-in-LeftParen-clause-reads t c =
+pub operand-returns-in_ok-expect-in-LeftParen-clause-reads : goal.operand-returns-in_ok-expect-in-LeftParen-clause-reads
+operand-returns-in_ok-expect-in-LeftParen-clause-reads t c =
     let e = goes_past c.args.tokens.now c.advance-in-LeftParen.new.self LeftParen c.in-LeftParen.ensures (λ q. cc) c.advance-in-LeftParen.ensures in
-    parens_read c.in_ok-inside-in-LeftParen.inside c.args.tokens.now c.advance-in-LeftParen.new.self c.state.new.tokens c.close_paren.new.self e c.in_ok-inside-in-LeftParen.ensures.reads c.in_ok-close_paren-in-LeftParen.ensures
+    parens_read c.in_ok-inside-in-LeftParen.inside c.args.tokens.now c.advance-in-LeftParen.new.self c.state.new.tokens c.expect.new.self e c.in_ok-inside-in-LeftParen.ensures.reads c.in_ok-expect-in-LeftParen.ensures
 
-pub operand-returns-in_ok-close_paren-in-LeftParen-clause-shorter : goal.operand-returns-in_ok-close_paren-in-LeftParen-clause-shorter
-operand-returns-in_ok-close_paren-in-LeftParen-clause-shorter t c =
+pub operand-returns-in_ok-expect-in-LeftParen-clause-shorter : goal.operand-returns-in_ok-expect-in-LeftParen-clause-shorter
+operand-returns-in_ok-expect-in-LeftParen-clause-shorter t c =
     let e = goes_past c.args.tokens.now c.advance-in-LeftParen.new.self LeftParen c.in-LeftParen.ensures (λ q. cc) c.advance-in-LeftParen.ensures in
     let n = one_shorter c.args.tokens.now c.advance-in-LeftParen.new.self LeftParen e in
-    let m = one_shorter c.state.new.tokens c.close_paren.new.self RightParen c.in_ok-close_paren-in-LeftParen.ensures in
+    let m = one_shorter c.state.new.tokens c.expect.new.self RightParen c.in_ok-expect-in-LeftParen.ensures in
     omega (arith, n, m, c.in_ok-inside-in-LeftParen.ensures.shorter)
 
 pub operand-returns-in_default-clause-reads : goal.operand-returns-in_default-clause-reads
 operand-returns-in_default-clause-reads t c =
-    operand_stuck c.refused.result c.args.tokens.now _ c.refused.ensures (λ i q. c.in_default.not-Name i (c.peek.ensures ∙ q)) (λ q. c.in_default.not-True (c.peek.ensures ∙ q)) (λ q. c.in_default.not-LeftParen (c.peek.ensures ∙ q)) c.requires
+    operand_stuck c.refused.result c.args.tokens.now c.refused.ensures (λ i q. c.in_default.not-Name i (c.peek.ensures ∙ q)) (λ q. c.in_default.not-True (c.peek.ensures ∙ q)) (λ q. c.in_default.not-LeftParen (c.peek.ensures ∙ q)) c.requires

@@ -1,8 +1,8 @@
-use Rattle.std.proofs.Common.{◌≤◌, ℕ, ◌+◌, ◌*◌, length, None, Option}
-use Rattle.tre_state.specs.StateTree.{StateTree}
+use Rattle.std.proofs.Common.{◌≤◌, ◌+◌, ◌*◌, length}
+use Rattle.tre_parse.specs.Grammar.{state, conj, SpellsState}
+use Rattle.tre_parse.specs.Operands.{RepresentsState}
 use Rattle.tre_parse.specs.Front.{front}
-use Rattle.tre_parse.specs.Machine.{fresh_state_level, read}
-use Rattle.tre_parse.specs.Reading.{Surroundings, before_operand, state_level, IsPastConjunction, ReadsConjunction, ReadsState}
+use Rattle.tre_parse.specs.Reading.{IsPastConjunction, Takes}
 use Rattle.tre_parse.proofs.states.+state.Given as goal
 
 abbrev pub decreases-operand : goal.decreases-operand
@@ -19,8 +19,7 @@ decreases-state l = 4 * length l.tokens.now + 3
 
 abbrev pub invariant-conjunction-loop-tokens : goal.invariant-conjunction-loop-tokens
 invariant-conjunction-loop-tokens l = record {
-  reads : (s : Surroundings) (bangs : ℕ) (bars : Option StateTree) →
-      ReadsConjunction l.whole (read l.fn.tokens (before_operand s (state_level bangs bars None) 0)) l.tokens s bangs bars;
+  reads : Takes (SpellsState conj) RepresentsState l.whole l.fn.tokens l.tokens;
   shorter : length l.tokens ≤ length l.fn.tokens;
 }
 
@@ -29,7 +28,7 @@ decreases-conjunction-loop-tokens l = length l.tokens
 
 abbrev pub invariant-state-loop-tokens : goal.invariant-state-loop-tokens
 invariant-state-loop-tokens l = record {
-  reads : (s : Surroundings) (bangs : ℕ) → ReadsState l.whole (read l.fn.tokens (before_operand s (fresh_state_level bangs) 0)) l.tokens s bangs;
+  reads : Takes (SpellsState state) RepresentsState l.whole l.fn.tokens l.tokens;
   shorter : length l.tokens ≤ length l.fn.tokens;
   ends : IsPastConjunction (front l.tokens);
 }

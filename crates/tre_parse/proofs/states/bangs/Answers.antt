@@ -1,6 +1,7 @@
 use Rattle.std.proofs.Common.{arith}
 use Rattle.tre_parse.specs.declared.token.Token.TheVariants.{Bang}
-use Rattle.tre_parse.proofs.StateSteps.{goes_past, one_shorter, bang_none, bang_more}
+use Rattle.tre_parse.proofs.StateSteps.{bang_none, bang_more}
+use Rattle.tre_parse.proofs.Steps.{goes_past, one_shorter}
 use Rattle.tre_parse.proofs.states.bangs.Goals as goal
 
 pub loop-tokens-init : goal.loop-tokens-init

@@ -1,11 +1,12 @@
 -- Reading tokens one by one from the left. What is read so far is kept as a place, and what stands
--- around it as levels, one for each open parenthesis. The machine is how the parser works; that it
--- agrees with the grammar is proved apart.
-use Rattle.std.specs.Prelude.{ℕ, ◌+◌, zero, suc, Bool, true, false, Option, Some, None, Result, Ok, Err, List, [], ◌∷◌, length}
-use Rattle.tre_state.specs.StateTree.{StateTree, always, proposition, negation, conjunction, disjunction}
+-- around it as levels, one for each open parenthesis. By it a text is seen to spell one expression,
+-- and some token to be the first that can't go on.
+use Rattle.std.specs.Prelude.{ℕ, ◌+◌, Bool, true, false, Option, Some, None, Result, Ok, Err, List, [], ◌∷◌, length}
+use Rattle.tre_state.specs.StateTree.{StateTree, always, proposition, conjunction, disjunction}
 use Rattle.tre_zone.specs.Interval.{IntervalEnds}
-use Rattle.tre_syntax.specs.PatternTree.{PatternTree, empty, literal, rise, fall, atom, sequence, alternation, intersection, repetition, restriction}
+use Rattle.tre_syntax.specs.PatternTree.{PatternTree, empty, atom, sequence, alternation, intersection, repetition, restriction}
 use Rattle.tre_parse.specs.declared.token.Token.{Token}
+use Rattle.tre_parse.specs.Joins.{negated, edge_of, plain_literal, ended_literal}
 use Rattle.tre_parse.specs.declared.token.Token.TheVariants.{Name, Number, LeftParen, RightParen, LeftBracket, RightBracket, LeftBrace, RightBrace, Comma, Semicolon, Bar, DoubleBar, Ampersand, DoubleAmpersand, Bang, Star, Plus, Question, Percent, Begins, Ends, Eps, Rise, Fall, Inf, True}
 
 -- How far an interval was read: nothing of it, its bracket, its low end, the comma, its high end or
@@ -116,24 +117,6 @@ after_ampersands level s =
 abbrev pub after_bars : StateLevel → StateTree → StateLevel
 after_bars level s =
     record { bangs = level.bangs; before_bars = Some (as_state level s); before_ampersands = None }
-
--- So many negations of the state.
-abbrev pub negated : ℕ → StateTree → StateTree
-negated zero s = s
-negated (suc n) s = negation (negated n s)
-
-abbrev pub edge_of : Bool → StateTree → PatternTree
-edge_of true s = atom (rise s)
-edge_of false s = atom (fall s)
-
--- A literal that no `:>` follows, after `<:` or not.
-abbrev pub plain_literal : Bool → StateTree → PatternTree
-plain_literal true s = sequence (atom (rise s)) (atom (literal s))
-plain_literal false s = atom (literal s)
-
--- A literal that `:>` follows.
-abbrev pub ended_literal : Bool → StateTree → PatternTree
-ended_literal begins s = sequence (plain_literal begins s) (atom (fall s))
 
 -- What one token makes of an interval that is read.
 pub data PartStep : Type 0 where
@@ -314,19 +297,23 @@ read [] config = ended (end_of config.level config.below config.place)
 read (token ∷ rest) config =
     continued (step config token) (length (token ∷ rest)) (λ next. read rest next)
 
--- The interval that the tokens begin with and the tokens after it, or how many are left where they
--- can't go on.
-pub data PartReading : Type 0 where
-  stuck : ℕ → PartReading
-  ends_with : IntervalEnds → List Token → PartReading
+-- What stands around a state.
+pub record Surroundings : Type 0 where
+  pub level : Level
+  pub below : List Level
+  pub frame : Frame
+  pub around : List StateLevel
 
-abbrev pub after_part_step : PartStep → ℕ → List Token → (Part → PartReading) → PartReading
-after_part_step wrong left rest next = stuck left
-after_part_step (going part) left rest next = next part
-after_part_step (whole ends) left rest next = ends_with ends rest
+abbrev pub before_operand : Surroundings → StateLevel → ℕ → Config
+before_operand s inner bangs = kept s.level s.below (before_state s.frame inner s.around bangs)
 
-abbrev pub read_part : List Token → Part → PartReading
-read_part [] part = stuck 0
-read_part (token ∷ rest) part =
-    after_part_step (part_step part token) (length (token
-    ∷ rest)) rest (λ next. read_part rest next)
+abbrev pub after_operand : Surroundings → StateLevel → StateTree → Config
+after_operand s inner state = kept s.level s.below (after_state s.frame inner s.around state)
+
+abbrev pub state_level : ℕ → Option StateTree → Option StateTree → StateLevel
+state_level bangs bars ampersands =
+    record { bangs = bangs; before_bars = bars; before_ampersands = ampersands }
+
+abbrev pub level_of : Option PatternTree → Option PatternTree → Option PatternTree → Level
+level_of bar ampersand semicolon =
+    record { before_bar = bar; before_ampersand = ampersand; before_semicolon = semicolon }
