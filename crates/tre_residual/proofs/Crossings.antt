@@ -1,9 +1,12 @@
--- Each pair of a residual that is well begins up to the time, and ends then or later.
+-- Each pair of a residual that is well begins up to the time, and ends then or later, within the
+-- rest.
 use Rattle.std.proofs.Common.{ℕ, ◌*◌, ◌<◌, ◌≤◌, ⊎_elim, arith}
-use Rattle.std.proofs.Math.Nat.{mul-pos}
+use Rattle.std.proofs.Math.Nat.{mul-pos, mul-le-mul_right}
 use Rattle.tre_pairs.proofs.Ticks.{le_down, ge_down}
+use Rattle.tre_trace.specs.Trace.{end_of}
 use Rattle.tre_syntax.specs.Rest.{Rest}
-use Rattle.tre_syntax.proofs.CutMeaning.{IsOrdered-rest}
+use Rattle.tre_syntax.proofs.Atoms.{end_of-le}
+use Rattle.tre_syntax.proofs.CutMeaning.{IsOrdered-rest, IsBounded-rest}
 use Rattle.tre_residual.specs.Residual.{ResidualTree, nothing, here, joined, preceded, followed, either, both, lasting, Means, IsWell}
 
 pub ends_around : (rest : Rest) (residual : ResidualTree) → IsWell rest.start residual
@@ -41,3 +44,27 @@ ends_around rest (both one other) well a b n some h =
     ends_around rest one well.0 a b n some h.left
 ends_around rest (lasting residual ends) well a b n some h =
     ends_around rest residual well a b n some h.related
+
+pub ends_within : (rest : Rest) (residual : ResidualTree) → IsWell rest.start residual
+    → (a b n : ℕ) → 0 < n → Means residual rest a b n → b ≤ end_of rest.start rest.segments * n
+ends_within rest nothing well a b n some h = absurd h
+ends_within rest (here zones) well a b n some h =
+    let ends = well.ends a b n some h in
+    let rising = mul-le-mul_right n (end_of-le rest.start rest.segments) in
+    omega (arith, ends, rising)
+ends_within rest (joined zones tree) well a b n some h =
+    (IsBounded-rest tree rest).end (rest.start * n) b n h.right
+ends_within rest (preceded zones residual) well a b n some h =
+    ge_down h.factor (end_of rest.start rest.segments) b n h.positive
+    (ends_within rest residual well h.midpoint (h.factor * b) (h.factor * n)
+    (mul-pos h.positive some) h.right)
+ends_within rest (followed residual tree) well a b n some h =
+    ge_down h.factor (end_of rest.start rest.segments) b n h.positive
+    ((IsBounded-rest tree rest).end h.midpoint (h.factor * b) (h.factor * n) h.right)
+ends_within rest (either one other) well a b n some h =
+    ⊎_elim (λ x. ends_within rest one well.0 a b n some x)
+    (λ x. ends_within rest other well.1 a b n some x) h
+ends_within rest (both one other) well a b n some h =
+    ends_within rest one well.0 a b n some h.left
+ends_within rest (lasting residual ends) well a b n some h =
+    ends_within rest residual well a b n some h.related

@@ -2,3 +2,4 @@ pub mod HeldSets
 pub mod Meanings
 pub mod Crossings
 pub mod Forms
+pub mod Growth

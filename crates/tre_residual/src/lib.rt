@@ -10,7 +10,7 @@
 //! ```
 #![tactic(auto)]
 
-pub use residual::Residual;
+pub use residual::{Residual, composed};
 
 pub mod laws;
 mod residual;

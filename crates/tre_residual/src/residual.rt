@@ -33,6 +33,26 @@ pub enum Residual {
 }
 
 impl Residual {
+    /// The pairs of the set, each of which ends at the present time.
+    pub fn here(zones: ZoneSet) -> Residual
+        ensures { Builds (residual_tree result) (here zones) }
+    {
+        if zones.is_empty() {
+            return Residual::Nil;
+        }
+        Residual::Here(zones)
+    }
+
+    /// A pair of the set up to the present time, and then a match of the expression.
+    pub fn at(zones: ZoneSet, expr: Expr) -> Residual
+        ensures { Builds (residual_tree result) (joined zones (tree_of expr)) }
+    {
+        if zones.is_empty() {
+            return Residual::Nil;
+        }
+        Residual::At(zones, expr)
+    }
+
     /// A pair of the set, and then one of the residual. The set goes as far into the residual as it
     /// can, so that what can no longer begin falls away.
     pub fn pre(alloc: Global, zones: ZoneSet, residual: Residual) -> Result<Residual, AllocError>
@@ -141,10 +161,7 @@ fn here_after(alloc: Global, zones: &ZoneSet, ended: &ZoneSet) -> Result<Residua
         Builds (residual_tree whole) (preceded zones.now (here ended.now))) }
 {
     let whole = composed(alloc, zones, ended)?;
-    if whole.is_empty() {
-        return Ok(Residual::Nil);
-    }
-    Ok(Residual::Here(whole))
+    Ok(Residual::here(whole))
 }
 
 // The pairs of a set followed by pairs that a match of the expression goes on.
@@ -158,10 +175,7 @@ fn at_after(
         Builds (residual_tree whole) (preceded zones.now (joined begun.now (tree_of expr)))) }
 {
     let whole = composed(alloc, zones, begun)?;
-    if whole.is_empty() {
-        return Ok(Residual::Nil);
-    }
-    Ok(Residual::At(whole, expr))
+    Ok(Residual::at(whole, expr))
 }
 
 // The pairs of a set followed by those of another, and then by the residual.
@@ -193,8 +207,8 @@ fn followed_by(alloc: Global, residual: Residual, expr: Expr) -> Result<Residual
     Ok(Residual::Post(residual, expr))
 }
 
-// The pairs of the first set, each followed by one of the second.
-fn composed(alloc: Global, first: &ZoneSet, second: &ZoneSet) -> Result<ZoneSet, AllocError>
+/// The pairs of the first set, each followed by one of the second.
+pub fn composed(alloc: Global, first: &ZoneSet, second: &ZoneSet) -> Result<ZoneSet, AllocError>
     ensures { IfOk result (λ zones. IsComposition zones first.now second.now) }
 {
     // For the proof: the calls say that both are sets of zones.

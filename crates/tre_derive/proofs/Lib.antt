@@ -1,0 +1,8 @@
+-- sets of zones beside relations
+pub mod Held
+pub mod Moments
+-- what residuals stand for behind a piece
+pub mod Standing
+-- and so what is fresh, and what a step makes of each form
+pub mod AcrossPieces
+pub mod StepsOfForms

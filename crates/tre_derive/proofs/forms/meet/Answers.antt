@@ -1,0 +1,10 @@
+use Rattle.tre_residual.specs.Residual.{residual_tree}
+use Rattle.tre_derive.proofs.StepsOfForms.{step_both}
+use Rattle.tre_derive.proofs.forms.meet.Goals as goal
+
+pub returns : goal.returns
+returns c = λ left right piece first second.
+    step_both piece left right c.args.one.told c.args.other.told
+    (residual_tree c.args.one.rest) (residual_tree c.args.other.rest) first second
+    c.in_ok-told.told (residual_tree c.in_ok-rest.rest) c.in_ok-told.ensures
+    c.in_ok-rest.ensures

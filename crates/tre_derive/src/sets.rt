@@ -1,0 +1,29 @@
+// Sets of zones around the ends of a piece.
+ghost use Rattle.std.specs.Prelude.{◌≡◌, ◌≤◌, IfOk};
+ghost use Rattle.tre_pairs.specs.Cuts.{IsMoment};
+ghost use Rattle.tre_pairs.specs.declared.TheConstants.{TIME_MAX};
+ghost use Rattle.tre_zone.specs.ZoneList.{HoldExactly};
+ghost use Rattle.tre_edges.specs.Piece.{end_of_piece};
+
+use std::alloc::{AllocError, Global};
+use tre_edges::Piece;
+use tre_zone::Zone;
+use tre_zoneset::ZoneSet;
+
+/// When the piece ends.
+pub fn end_of(piece: &Piece) -> u64
+    ensures end { result ≡ end_of_piece piece.now }
+    ensures limit { result ≤ TIME_MAX }
+{
+    piece.begin + piece.segment.len
+}
+
+/// The one moment.
+pub fn moment(alloc: Global, time: u64) -> Result<ZoneSet, AllocError>
+    requires { time ≤ TIME_MAX }
+    ensures { IfOk result (λ zones. HoldExactly zones (IsMoment time)) }
+{
+    let mut zones = ZoneSet::new(alloc);
+    zones.add_found(Some(Zone::instants(time, time)))?;
+    Ok(zones)
+}
