@@ -1,0 +1,230 @@
+-- The steps of the other forms, as the calls say them.
+use Rattle.std.proofs.Common.{◌≡◌, ◌*◌, List, [], inl, inr, ⊎_elim, Result, Ok, Err, IfOk, sym, subst, arith}
+use Rattle.tre_pairs.specs.Pairs.{Composed, Either, Both, Chain}
+use Rattle.tre_pairs.proofs.Laws.{Agree}
+use Rattle.tre_residual.specs.Residual.{Held, EndAt}
+use Rattle.tre_residual.proofs.HeldSets.{Held-empty}
+use Rattle.tre_syntax.specs.Meaning.{MatchesRest}
+use Rattle.tre_syntax.specs.PatternTree.{PatternTree, sequence, alternation, repetition}
+use Rattle.tre_zone.specs.Zone.{IsInstantBetween, EndsAt}
+use Rattle.tre_zone.specs.ZoneList.{HoldExactly}
+use Rattle.tre_zone.specs.declared.zone_bounds.ZoneBounds.{ZoneBounds}
+use Rattle.tre_edges.specs.Piece.{rest_of_piece}
+use Rattle.tre_edges.specs.declared.piece.Piece.{Piece}
+use Rattle.tre_mark.specs.MarkTree.{MarkTree, sequence_mark, alternation_mark, repetition_mark, intersection_none}
+use Rattle.tre_mark.specs.Marked.{EndBetween, IsWellAt}
+use Rattle.tre_mark.proofs.Agreeing.{agree_refl, agree_then, agree_composed}
+use Rattle.tre_advance.specs.Advance.{end_of_piece}
+use Rattle.tre_advance.specs.Moves.{StepsTo, EntersTo, KeepsHere}
+use Rattle.tre_advance.specs.Sets.{IsSetOf}
+use Rattle.tre_advance.proofs.AtomForms.{inside_agrees}
+use Rattle.tre_advance.proofs.FormSteps.{sequence_inner, sequence_beside, alternation_inner, alternation_beside}
+use Rattle.tre_advance.proofs.Going.{alone, begin_end}
+use Rattle.tre_advance.proofs.SetsOf.{set_agrees, set_of, no_pair}
+use Rattle.tre_advance.proofs.StarSteps.{Started, enter_tells, repetition_inner, repetition_beside}
+use Rattle.tre_advance.proofs.Steps.{Followed, steps_of, of_steps, enters_of, of_enters, followed_between}
+
+pub sequence_steps_to : (piece : Piece) (one other one' next other' : MarkTree)
+    (left right : PatternTree) (first second third told : List ZoneBounds)
+    → StepsTo one left piece first one' → StepsTo other right piece second next
+    → EntersTo next right first piece third other'
+    → IsSetOf told (Either (Held second) (Held third))
+    → StepsTo (sequence_mark one other) (sequence left right) piece told (sequence_mark one' other')
+sequence_steps_to piece one other one' next other' left right first second third told f g e union =
+    steps_of piece (sequence left right) told (sequence_mark one' other') (sequence_mark one other)
+    (sequence_inner piece one other one' next other' left right first second third told
+    (of_steps piece left first one' one f) (of_steps piece right second next other g)
+    (of_enters piece right third other' next first e) (set_agrees union))
+
+pub sequence_enters_to : (piece : Piece) (one other one' other' : MarkTree)
+    (left right : PatternTree) (enter first second : List ZoneBounds)
+    → EndBetween piece.begin (end_of_piece piece) enter
+    → EntersTo one left enter piece first one' → EntersTo other right first piece second other'
+    → EntersTo (sequence_mark one other) (sequence left right) enter piece second
+    (sequence_mark one' other')
+sequence_enters_to piece one other one' other' left right enter first second between f g =
+    enters_of piece (sequence left right) second (sequence_mark one' other')
+    (sequence_mark one other) enter
+    (sequence_beside piece one other one' other' left right enter first second between
+    (of_enters piece left first one' one enter f) (of_enters piece right second other' other first g))
+
+pub alternation_steps_to : (piece : Piece) (one other one' other' : MarkTree)
+    (left right : PatternTree) (first second told : List ZoneBounds)
+    → StepsTo one left piece first one' → StepsTo other right piece second other'
+    → IsSetOf told (Either (Held first) (Held second))
+    → StepsTo (alternation_mark one other) (alternation left right) piece told
+    (alternation_mark one' other')
+alternation_steps_to piece one other one' other' left right first second told f g union =
+    steps_of piece (alternation left right) told (alternation_mark one' other')
+    (alternation_mark one other)
+    (alternation_inner piece one other one' other' left right first second told
+    (of_steps piece left first one' one f) (of_steps piece right second other' other g)
+    (set_agrees union))
+
+pub alternation_enters_to : (piece : Piece) (one other one' other' : MarkTree)
+    (left right : PatternTree) (enter first second told : List ZoneBounds)
+    → EntersTo one left enter piece first one' → EntersTo other right enter piece second other'
+    → IsSetOf told (Either (Held first) (Held second))
+    → EntersTo (alternation_mark one other) (alternation left right) enter piece told
+    (alternation_mark one' other')
+alternation_enters_to piece one other one' other' left right enter first second told f g union =
+    enters_of piece (alternation left right) told (alternation_mark one' other')
+    (alternation_mark one other) enter
+    (alternation_beside piece one other one' other' left right enter first second told
+    (of_enters piece left first one' one enter f) (of_enters piece right second other' other enter g)
+    (set_agrees union))
+
+-- Where nothing enters, nothing is told, and the mark stays.
+pub nothing_enters_to : (piece : Piece) (mark : MarkTree) (tree : PatternTree)
+    (enter told : List ZoneBounds) → enter ≡ [] → told ≡ []
+    → IsWellAt (end_of_piece piece) mark tree
+    → EntersTo mark tree enter piece told mark
+nothing_enters_to piece mark tree enter told none empty well =
+    enters_of piece tree told mark mark enter (record {
+      tells = record {
+        at = λ a b n some. (
+          (λ h. absurd (no_pair told empty a b n h)),
+          (λ h. absurd (no_pair enter none (h.factor * a) h.midpoint (h.factor * n) h.left)),
+        );
+      };
+      leaves = λ segments long. record {
+        at = λ a b n some. (
+          (λ h. inl h),
+          (λ h. ⊎_elim (λ x. x)
+              (λ x. absurd (no_pair enter none (x.related.factor * a) x.related.midpoint
+              (x.related.factor * n) x.related.left)) h),
+        );
+      };
+      well = well;
+    })
+
+-- ---- repetitions
+
+pub repeat_set : (piece : Piece) (tree : PatternTree) (starts steps told : List ZoneBounds)
+    → EndBetween piece.begin (end_of_piece piece) starts
+    → HoldExactly steps (MatchesRest tree (rest_of_piece piece))
+    → IsSetOf told (Composed (Held starts)
+    (Chain (Held steps) (IsInstantBetween piece.begin (end_of_piece piece))))
+    → IsSetOf told (Followed (Held starts) (repetition tree) (alone piece))
+repeat_set piece tree starts steps told between held set =
+    set_of (enter_tells piece starts tree between steps told (inside_agrees piece tree steps held)
+    (set_agrees set))
+
+pub repeat_between : (piece : Piece) (tree : PatternTree) (starts told : List ZoneBounds)
+    → IsSetOf told (Followed (Held starts) (repetition tree) (alone piece))
+    → EndBetween piece.begin (end_of_piece piece) told
+repeat_between piece tree starts told set =
+    followed_between piece (repetition tree) told intersection_none (Held starts) (set_agrees set)
+
+-- The pairs behind which a repetition goes on end in the piece.
+pub starts_within : (piece : Piece) (ended here starts : List ZoneBounds)
+    → EndBetween piece.begin (end_of_piece piece) ended → EndAt piece.begin here
+    → IsSetOf starts (Either (Held ended) (Held here))
+    → EndBetween piece.begin (end_of_piece piece) starts
+starts_within piece ended here starts between ends union = record {
+  begin = λ a b n some h. ⊎_elim (λ x. between.begin a b n some x)
+      (λ x. let at = ends.ends a b n some x in omega (arith, at))
+      ((union.pairs a b n some).0 h);
+  end = λ a b n some h. ⊎_elim (λ x. between.end a b n some x)
+      (λ x.
+      let at = ends.ends a b n some x in
+      let later = begin_end piece n in
+      omega (arith, at, later))
+      ((union.pairs a b n some).0 h);
+}
+
+pub again_set : (piece : Piece) (tree : PatternTree) (ended here starts told : List ZoneBounds)
+    → IsSetOf starts (Either (Held ended) (Held here))
+    → IsSetOf told (Followed (Held starts) (repetition tree) (alone piece))
+    → IsSetOf told (Followed (Either (Held ended) (Held here)) (repetition tree) (alone piece))
+again_set piece tree ended here starts told union set =
+    set_of (agree_then (set_agrees set)
+    (agree_composed (set_agrees union) (agree_refl (MatchesRest (repetition tree) (alone piece)))))
+
+pub repetition_steps_to : (piece : Piece) (here : List ZoneBounds) (body body' body'' rest : MarkTree)
+    (tree : PatternTree) (ended told told' none : List ZoneBounds)
+    → EndAt piece.begin here → StepsTo body tree piece ended body'
+    → IsSetOf told (Followed (Either (Held ended) (Held here)) (repetition tree) (alone piece))
+    → EntersTo body' tree told piece told' body''
+    → none ≡ [] → KeepsHere (end_of_piece piece) none told body'' rest
+    → StepsTo (repetition_mark here body) (repetition tree) piece told rest
+repetition_steps_to piece here body body' body'' rest tree ended told told' none ends f set e empty
+    kept =
+    let T' = end_of_piece piece in
+    let inner = of_steps piece tree ended body' body f in
+    let alike : Agree (Either (Held ended) (Held here)) (Started piece here body tree ends (alone piece)) =
+    record {
+      at = λ a b n some.
+          let same = inner.tells.at a b n some in (
+            (λ h. ⊎_elim (λ x. inl (same.0 x)) (λ x. inr (inl x)) h),
+            (λ h. ⊎_elim (λ x. inl (same.1 x))
+                (λ x. ⊎_elim (λ y. inr y) (λ y. absurd (Held-empty a b n y)) x) h),
+          );
+    } in
+    let last : Agree (Held kept.here) (Both (Held told) (EndsAt T')) =
+    agree_then (set_agrees kept.union)
+    (agree_then (record {
+      at = λ a b n some. (
+        (λ h. ⊎_elim (λ x. x) (λ x. absurd (no_pair none empty a b n x)) h),
+        (λ h. inl h),
+      );
+    }) (set_agrees kept.ends)) in
+    subst (λ (mark : MarkTree). StepsTo (repetition_mark here body) (repetition tree) piece told mark)
+    (sym kept.shape)
+    (steps_of piece (repetition tree) told (repetition_mark kept.here body'')
+    (repetition_mark here body)
+    (repetition_inner piece here body tree ends told ended told' kept.here body' body''
+    (agree_then (set_agrees set)
+    (agree_composed alike (agree_refl (MatchesRest (repetition tree) (alone piece)))))
+    last inner (of_enters piece tree told' body'' body' told e)))
+
+pub repetition_enters_to : (piece : Piece) (old : List ZoneBounds) (body body' rest : MarkTree)
+    (tree : PatternTree) (enter told told' : List ZoneBounds)
+    → EndBetween piece.begin (end_of_piece piece) enter
+    → IsWellAt (end_of_piece piece) (repetition_mark old body) (repetition tree)
+    → IsSetOf told (Followed (Held enter) (repetition tree) (alone piece))
+    → EntersTo body tree told piece told' body'
+    → KeepsHere (end_of_piece piece) old told body' rest
+    → EntersTo (repetition_mark old body) (repetition tree) enter piece told rest
+repetition_enters_to piece old body body' rest tree enter told told' between well set e kept =
+    subst (λ (mark : MarkTree). EntersTo (repetition_mark old body) (repetition tree) enter piece
+    told mark) (sym kept.shape)
+    (enters_of piece (repetition tree) told (repetition_mark kept.here body')
+    (repetition_mark old body) enter
+    (repetition_beside piece enter tree between old told told' kept.last kept.here body body' well
+    (set_agrees set) (set_agrees kept.ends) (set_agrees kept.union)
+    (of_enters piece tree told' body' body told e)))
+
+-- ---- moments, and other names
+
+pub moments_between : (piece : Piece) (all : List ZoneBounds)
+    → HoldExactly all (IsInstantBetween piece.begin (end_of_piece piece))
+    → EndBetween piece.begin (end_of_piece piece) all
+moments_between piece all held = record {
+  begin = λ a b n some h.
+      let x = (held.exact a b n some h.rising).0 h.held in
+      let low = x.starts in
+      let same = x.same in
+      omega (arith, low, same);
+  end = λ a b n some h. ((held.exact a b n some h.rising).0 h.held).ends;
+}
+
+pub enters_moved : (piece : Piece) (mark mark' : MarkTree) (tree tree' : PatternTree)
+    (enter told : List ZoneBounds) (rest : MarkTree) → mark' ≡ mark → tree' ≡ tree
+    → EntersTo mark tree enter piece told rest → EntersTo mark' tree' enter piece told rest
+enters_moved piece mark mark' tree tree' enter told rest e f h =
+    subst (λ (t : PatternTree). EntersTo mark' t enter piece told rest) (sym f)
+    (subst (λ (m : MarkTree). EntersTo m tree enter piece told rest) (sym e) h)
+
+pub steps_moved : (piece : Piece) (mark mark' : MarkTree) (tree tree' : PatternTree)
+    (told : List ZoneBounds) (rest : MarkTree) → mark' ≡ mark → tree' ≡ tree
+    → StepsTo mark tree piece told rest → StepsTo mark' tree' piece told rest
+steps_moved piece mark mark' tree tree' told rest e f h =
+    subst (λ (t : PatternTree). StepsTo mark' t piece told rest) (sym f)
+    (subst (λ (m : MarkTree). StepsTo m tree piece told rest) (sym e) h)
+
+-- Two facts of one result.
+pub IfOk-both : {T E : Type 0} (result : Result T E) (P Q : T → Type 0) → IfOk result P
+    → IfOk result Q → IfOk result (λ value. P value × Q value)
+IfOk-both (Ok value) P Q p q = (p, q)
+IfOk-both (Err fault) P Q p q = tt

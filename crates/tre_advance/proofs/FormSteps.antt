@@ -1,0 +1,225 @@
+-- The steps of a sequence and of an alternation, from those of their parts.
+use Rattle.std.proofs.Common.{List, inl, inr, ⊎_elim}
+use Rattle.tre_pairs.specs.Cuts.{Crossing}
+use Rattle.tre_pairs.specs.Pairs.{Pairs, Composed, Either}
+use Rattle.tre_pairs.proofs.Laws.{Agree}
+use Rattle.tre_residual.specs.Residual.{Held}
+use Rattle.tre_residual.proofs.HeldSets.{Scales-Held, IsOrdered-Held}
+use Rattle.tre_syntax.specs.Meaning.{MatchesRest}
+use Rattle.tre_syntax.specs.PatternTree.{PatternTree, sequence, alternation}
+use Rattle.tre_syntax.specs.Rest.{Rest}
+use Rattle.tre_syntax.proofs.CutMeaning.{Scales-rest, IsOrdered-rest}
+use Rattle.tre_trace.specs.declared.segment.Segment.{Segment}
+use Rattle.tre_zone.specs.declared.zone_bounds.ZoneBounds.{ZoneBounds}
+use Rattle.tre_edges.specs.declared.piece.Piece.{Piece}
+use Rattle.tre_mark.specs.MarkTree.{MarkTree, sequence_mark, alternation_mark}
+use Rattle.tre_mark.specs.Marked.{Marked, EndBetween}
+use Rattle.tre_mark.proofs.Agreeing.{agree_refl, agree_sym, agree_then, agree_composed, agree_either, agree_assoc}
+use Rattle.tre_advance.specs.Advance.{end_of_piece}
+use Rattle.tre_advance.proofs.Crossings.{IsFront, agree_crossing, cross_either, cross_followed, distributes}
+use Rattle.tre_advance.proofs.Going.{over, alone, behind, cut_of, mark_front, followed_front}
+use Rattle.tre_advance.proofs.Steps.{Inner, Beside, Followed}
+
+-- What crosses where the second part of a sequence follows a front.
+module _ (piece : Piece) (right : PatternTree) (segments : List Segment) (G F : Pairs)
+    (front : IsFront (end_of_piece piece) G F) where
+  pub cross_second : Agree
+      (Crossing (end_of_piece piece) (Composed G (MatchesRest right (over piece segments))))
+      (Either (Composed (Crossing (end_of_piece piece) G)
+      (MatchesRest right (behind piece segments)))
+      (Crossing (end_of_piece piece) (Composed F (MatchesRest right (over piece segments)))))
+  cross_second =
+      let W = over piece segments in
+      cross_followed (end_of_piece piece) G F (MatchesRest right W) (MatchesRest right (alone piece))
+      (MatchesRest right (behind piece segments)) front (cut_of piece segments right)
+      (IsOrdered-rest right W)
+
+pub sequence_inner : (piece : Piece) (one other one' other' other'' : MarkTree)
+    (left right : PatternTree) (first second third told : List ZoneBounds)
+    → Inner piece left (λ r. Marked r one left) first one'
+    → Inner piece right (λ r. Marked r other right) second other'
+    → Beside piece right other' (Followed (Held first) right) third other''
+    → Agree (Held told) (Either (Held second) (Held third))
+    → Inner piece (sequence left right) (λ r. Marked r (sequence_mark one other) (sequence left right))
+    told (sequence_mark one' other'')
+sequence_inner piece one other one' other' other'' left right first second third told f g e union =
+    let T' = end_of_piece piece in
+    let P = alone piece in
+    record {
+      tells = agree_then union
+          (agree_then
+          (agree_either g.tells
+          (agree_then e.tells (agree_composed f.tells (agree_refl (MatchesRest right P)))))
+          (record {
+            at = λ a b n some. (
+              (λ h. ⊎_elim (λ x. inr x) (λ x. inl x) h),
+              (λ h. ⊎_elim (λ x. inr x) (λ x. inl x) h),
+            );
+          }));
+      leaves = λ segments long.
+          let W = over piece segments in
+          let V = behind piece segments in
+          let X = MatchesRest right W in
+          let M = Marked W one left in
+          let split = cross_second piece right segments M (Marked P one left)
+          (mark_front piece segments one left) in
+          let whole = agree_then (cross_either T' (Composed M X) (Marked W other right))
+          (agree_either split (agree_refl (Crossing T' (Marked W other right)))) in
+          let start = agree_composed (f.leaves segments long) (agree_refl (MatchesRest right V)) in
+          let last = agree_then (e.leaves segments long)
+          (agree_either (g.leaves segments long)
+          (agree_crossing T' (agree_composed f.tells (agree_refl X)))) in
+          record {
+            at = λ a b n some.
+                let w = whole.at a b n some in
+                let s = start.at a b n some in
+                let l = last.at a b n some in (
+                  (λ h. w.1 (⊎_elim (λ x. inl (inl (s.0 x)))
+                      (λ x. ⊎_elim (λ y. inr y) (λ y. inl (inr y)) (l.0 x)) h)),
+                  (λ h. ⊎_elim
+                      (λ x. ⊎_elim (λ y. inl (s.1 y)) (λ y. inr (l.1 (inr y))) x)
+                      (λ x. inr (l.1 (inl x))) (w.0 h)),
+                );
+          };
+      well = record { well = (f.well.well, e.well.well) };
+    }
+
+pub sequence_beside : (piece : Piece) (one other one' other' : MarkTree)
+    (left right : PatternTree) (enter first second : List ZoneBounds)
+    → EndBetween piece.begin (end_of_piece piece) enter
+    → Beside piece left one (Followed (Held enter) left) first one'
+    → Beside piece right other (Followed (Held first) right) second other'
+    → Beside piece (sequence left right) (sequence_mark one other)
+    (Followed (Held enter) (sequence left right)) second (sequence_mark one' other')
+sequence_beside piece one other one' other' left right enter first second between f g =
+    let T' = end_of_piece piece in
+    let P = alone piece in
+    let E = Held enter in
+    let grouped : (rest : Rest)
+    → Agree (Composed (Followed E left rest) (MatchesRest right rest))
+    (Followed E (sequence left right) rest) =
+    λ rest. agree_assoc E (MatchesRest left rest) (MatchesRest right rest) (Scales-Held enter)
+    (Scales-rest right rest) in
+    record {
+      tells = agree_then g.tells
+          (agree_then (agree_composed f.tells (agree_refl (MatchesRest right P))) (grouped P));
+      leaves = λ segments long.
+          let W = over piece segments in
+          let V = behind piece segments in
+          let X = MatchesRest right W in
+          let Y = MatchesRest right V in
+          let G = Followed E left W in
+          let whole = agree_then (agree_crossing T' (agree_sym (grouped W)))
+          (cross_second piece right segments G (Followed E left P)
+          (followed_front piece segments left E (IsOrdered-Held enter) between.end)) in
+          let start = agree_then
+          (agree_composed (f.leaves segments long) (agree_refl Y))
+          (distributes (Marked V one left) (Crossing T' G) Y) in
+          let last = agree_then (g.leaves segments long)
+          (agree_either (agree_refl (Marked V other right))
+          (agree_crossing T' (agree_composed f.tells (agree_refl X)))) in
+          record {
+            at = λ a b n some.
+                let w = whole.at a b n some in
+                let s = start.at a b n some in
+                let l = last.at a b n some in (
+                  (λ h. ⊎_elim
+                      (λ x. ⊎_elim (λ y. inl (inl y)) (λ y. inr (w.1 (inl y))) (s.0 x))
+                      (λ x. ⊎_elim (λ y. inl (inr y)) (λ y. inr (w.1 (inr y))) (l.0 x)) h),
+                  (λ h. ⊎_elim
+                      (λ x. ⊎_elim (λ y. inl (s.1 (inl y))) (λ y. inr (l.1 (inl y))) x)
+                      (λ x. ⊎_elim (λ y. inl (s.1 (inr y))) (λ y. inr (l.1 (inr y))) (w.0 x)) h),
+                );
+          };
+      well = record { well = (f.well.well, g.well.well) };
+    }
+
+pub alternation_inner : (piece : Piece) (one other one' other' : MarkTree)
+    (left right : PatternTree) (first second told : List ZoneBounds)
+    → Inner piece left (λ r. Marked r one left) first one'
+    → Inner piece right (λ r. Marked r other right) second other'
+    → Agree (Held told) (Either (Held first) (Held second))
+    → Inner piece (alternation left right)
+    (λ r. Marked r (alternation_mark one other) (alternation left right)) told
+    (alternation_mark one' other')
+alternation_inner piece one other one' other' left right first second told f g union = record {
+  tells = agree_then union (agree_either f.tells g.tells);
+  leaves = λ segments long.
+      let W = over piece segments in
+      agree_then (agree_either (f.leaves segments long) (g.leaves segments long))
+      (agree_sym (cross_either (end_of_piece piece) (Marked W one left) (Marked W other right)));
+  well = record { well = (f.well.well, g.well.well) };
+}
+
+-- Either of two matches follows.
+followed_either : (E : Pairs) (left right : PatternTree) (rest : Rest)
+    → Agree (Followed E (alternation left right) rest)
+    (Either (Followed E left rest) (Followed E right rest))
+followed_either E left right rest = record {
+  at = λ a b n some. (
+    (λ x. ⊎_elim
+        (λ y. inl (record {
+          factor = x.factor;
+          positive = x.positive;
+          midpoint = x.midpoint;
+          left = x.left;
+          right = y;
+        }))
+        (λ y. inr (record {
+          factor = x.factor;
+          positive = x.positive;
+          midpoint = x.midpoint;
+          left = x.left;
+          right = y;
+        })) x.right),
+    (λ h. ⊎_elim
+        (λ y. record {
+          factor = y.factor;
+          positive = y.positive;
+          midpoint = y.midpoint;
+          left = y.left;
+          right = inl y.right;
+        })
+        (λ y. record {
+          factor = y.factor;
+          positive = y.positive;
+          midpoint = y.midpoint;
+          left = y.left;
+          right = inr y.right;
+        }) h),
+  );
+}
+
+pub alternation_beside : (piece : Piece) (one other one' other' : MarkTree)
+    (left right : PatternTree) (enter first second told : List ZoneBounds)
+    → Beside piece left one (Followed (Held enter) left) first one'
+    → Beside piece right other (Followed (Held enter) right) second other'
+    → Agree (Held told) (Either (Held first) (Held second))
+    → Beside piece (alternation left right) (alternation_mark one other)
+    (Followed (Held enter) (alternation left right)) told (alternation_mark one' other')
+alternation_beside piece one other one' other' left right enter first second told f g union =
+    let T' = end_of_piece piece in
+    let E = Held enter in
+    record {
+      tells = agree_then union
+          (agree_then (agree_either f.tells g.tells)
+          (agree_sym (followed_either E left right (alone piece))));
+      leaves = λ segments long.
+          let W = over piece segments in
+          let parts = agree_then (agree_crossing T' (followed_either E left right W))
+          (cross_either T' (Followed E left W) (Followed E right W)) in
+          record {
+            at = λ a b n some.
+                let p = parts.at a b n some in
+                let l = (f.leaves segments long).at a b n some in
+                let r = (g.leaves segments long).at a b n some in (
+                  (λ h. ⊎_elim
+                      (λ x. ⊎_elim (λ y. inl (inl y)) (λ y. inr (p.1 (inl y))) (l.0 x))
+                      (λ x. ⊎_elim (λ y. inl (inr y)) (λ y. inr (p.1 (inr y))) (r.0 x)) h),
+                  (λ h. ⊎_elim
+                      (λ x. ⊎_elim (λ y. inl (l.1 (inl y))) (λ y. inr (r.1 (inl y))) x)
+                      (λ x. ⊎_elim (λ y. inl (l.1 (inr y))) (λ y. inr (r.1 (inr y))) (p.0 x)) h),
+                );
+          };
+      well = record { well = (f.well.well, g.well.well) };
+    }

@@ -1,0 +1,18 @@
+-- sets of ordered pairs
+pub mod SetsOf
+-- what crosses the end of a piece
+pub mod Crossings
+-- what a mark goes on with, over a piece and alone
+pub mod Going
+-- what a step does, form by form
+pub mod Steps
+pub mod FormSteps
+pub mod StarSteps
+pub mod AtomSteps
+pub mod Joins
+pub mod InstanceSteps
+-- and as the calls say it
+pub mod AtomForms
+pub mod CallForms
+pub mod ShapeForms
+pub mod StepForms

@@ -1,0 +1,218 @@
+-- What a mark does over a piece, and what enters does, over all relations that they speak of.
+use Rattle.std.proofs.Common.{ℕ, ◌*◌, ◌<◌, ◌≤◌, List, [], inr, ⊎_elim, refl, sym, arith}
+use Rattle.std.proofs.Math.Nat.{mul-pos}
+use Rattle.tre_pairs.specs.Cuts.{Crossing}
+use Rattle.tre_pairs.specs.Pairs.{Pairs, Composed, Either}
+use Rattle.tre_pairs.proofs.Chains.{Composed-at}
+use Rattle.tre_pairs.proofs.Laws.{Agree}
+use Rattle.tre_pairs.proofs.Scaling.{moved}
+use Rattle.tre_pairs.proofs.Ticks.{le_down}
+use Rattle.tre_residual.specs.Residual.{Held}
+use Rattle.tre_syntax.specs.Meaning.{MatchesRest}
+use Rattle.tre_syntax.specs.PatternTree.{PatternTree}
+use Rattle.tre_syntax.specs.Rest.{Rest}
+use Rattle.tre_syntax.proofs.CutMeaning.{Scales-rest, IsOrdered-rest, IsBounded-rest}
+use Rattle.tre_trace.specs.Trace.{AreLong}
+use Rattle.tre_trace.specs.declared.segment.Segment.{Segment}
+use Rattle.tre_zone.specs.Zone.{IsInstantBetween}
+use Rattle.tre_zone.specs.ZoneList.{HoldExactly}
+use Rattle.tre_zone.specs.declared.zone_bounds.ZoneBounds.{ZoneBounds}
+use Rattle.tre_edges.specs.declared.piece.Piece.{Piece}
+use Rattle.tre_mark.specs.MarkTree.{MarkTree}
+use Rattle.tre_mark.specs.Marked.{Marked, EndBetween, IsWellAt, IsUnbegun}
+use Rattle.tre_mark.proofs.Agreeing.{agree_refl, agree_sym, agree_then, agree_either}
+use Rattle.tre_mark.proofs.Meanings.{around_present}
+use Rattle.tre_advance.specs.Advance.{end_of_piece, GoesOver, MarkedBehind, Advances}
+use Rattle.tre_advance.specs.Moves.{StepsTo, EntersTo, Begins}
+use Rattle.tre_advance.specs.Sets.{IsSetOf}
+use Rattle.tre_advance.proofs.Crossings.{cross_either}
+use Rattle.tre_advance.proofs.Going.{over, alone, behind, begin_le, mark_ends, ends_composed, tree_ends}
+use Rattle.tre_advance.proofs.SetsOf.{exact_set}
+
+-- Told are the pairs of a relation over the piece, and what is left are those of the same over more
+-- that cross the end.
+pub record Inner (piece : Piece) (tree : PatternTree) (N : Rest → Pairs) (told : List ZoneBounds)
+    (rest : MarkTree) : Type 0 where
+  pub tells : Agree (Held told) (N (alone piece))
+  pub leaves : (segments : List Segment) → AreLong segments
+      → Agree (Marked (behind piece segments) rest tree)
+      (Crossing (end_of_piece piece) (N (over piece segments)))
+  pub well : IsWellAt (end_of_piece piece) rest tree
+
+-- The same beside what an old mark stands for.
+pub record Beside (piece : Piece) (tree : PatternTree) (old : MarkTree) (N : Rest → Pairs)
+    (told : List ZoneBounds) (rest : MarkTree) : Type 0 where
+  pub tells : Agree (Held told) (N (alone piece))
+  pub leaves : (segments : List Segment) → AreLong segments
+      → Agree (Marked (behind piece segments) rest tree)
+      (Either (Marked (behind piece segments) old tree)
+      (Crossing (end_of_piece piece) (N (over piece segments))))
+  pub well : IsWellAt (end_of_piece piece) rest tree
+
+-- What the pairs of E go on with, where a match follows.
+abbrev pub Followed : Pairs → PatternTree → Rest → Pairs
+Followed E tree rest = Composed E (MatchesRest tree rest)
+
+module _ (piece : Piece) (tree : PatternTree) (told : List ZoneBounds) (rest : MarkTree) where
+  pub marked_between : (mark : MarkTree) → Agree (Held told) (Marked (alone piece) mark tree)
+      → EndBetween piece.begin (end_of_piece piece) told
+  marked_between mark same = record {
+    begin = λ a b n some h. (around_present (alone piece) mark tree a b n
+        ((same.at a b n some).0 h)).1;
+    end = λ a b n some h. mark_ends (alone piece) (begin_le piece) mark tree a b n
+        ((same.at a b n some).0 h);
+  }
+
+  pub followed_between : (E : Pairs) → Agree (Held told) (Followed E tree (alone piece))
+      → EndBetween piece.begin (end_of_piece piece) told
+  followed_between E same = record {
+    begin = λ a b n some h.
+        let P = alone piece in
+        let x = (same.at a b n some).0 h in
+        let k = x.factor in
+        let begin = (IsBounded-rest tree P).begin x.midpoint (k * b) (k * n) x.right in
+        let rising = (IsOrdered-rest tree P).le x.midpoint (k * b) (k * n) x.right in
+        le_down k piece.begin b n x.positive (omega (arith, begin, rising));
+    end = λ a b n some h. ends_composed (alone piece) E (MatchesRest tree (alone piece))
+        (tree_ends (alone piece) tree) a b n ((same.at a b n some).0 h);
+  }
+
+  pub steps_of : (mark : MarkTree) → Inner piece tree (λ r. Marked r mark tree) told rest
+      → StepsTo mark tree piece told rest
+  steps_of mark inner = record {
+    tells = record { pairs = inner.tells.at };
+    leaves = λ segments long. (inner.leaves segments long).at;
+    between = marked_between mark inner.tells;
+    well = inner.well;
+  }
+
+  pub of_steps : (mark : MarkTree) → StepsTo mark tree piece told rest
+      → Inner piece tree (λ r. Marked r mark tree) told rest
+  of_steps mark steps = record {
+    tells = record { at = steps.tells.pairs };
+    leaves = λ segments long. record { at = steps.leaves segments long };
+    well = steps.well;
+  }
+
+  pub enters_of : (old : MarkTree) (enter : List ZoneBounds)
+      → Beside piece tree old (Followed (Held enter) tree) told rest
+      → EntersTo old tree enter piece told rest
+  enters_of old enter beside = record {
+    tells = record { pairs = beside.tells.at };
+    leaves = λ segments long. (beside.leaves segments long).at;
+    between = followed_between (Held enter) beside.tells;
+    well = beside.well;
+  }
+
+  pub of_enters : (old : MarkTree) (enter : List ZoneBounds)
+      → EntersTo old tree enter piece told rest
+      → Beside piece tree old (Followed (Held enter) tree) told rest
+  of_enters old enter enters = record {
+    tells = record { at = enters.tells.pairs };
+    leaves = λ segments long. record { at = enters.leaves segments long };
+    well = enters.well;
+  }
+
+  pub of_begins : Begins tree piece told rest → Inner piece tree (MatchesRest tree) told rest
+  of_begins begins = record {
+    tells = record { at = begins.tells.pairs };
+    leaves = λ segments long. record { at = begins.leaves segments long };
+    well = begins.well;
+  }
+
+-- What enters at any moment of the piece, where nothing has begun before, is what begins in it.
+module _ (piece : Piece) (tree : PatternTree) (all told : List ZoneBounds) (old rest : MarkTree)
+    (held : HoldExactly all (IsInstantBetween piece.begin (end_of_piece piece)))
+    (nothing : IsUnbegun old tree)
+    (enters : EntersTo old tree all piece told rest) where
+  -- From a moment of the piece the matches that begin there follow.
+  from_moment : (R : Rest) (a b n : ℕ) → 0 < n → Followed (Held all) tree R a b n
+      → MatchesRest tree R a b n
+  from_moment R a b n some h =
+      let k = h.factor in
+      let finer : 0 < k * n = mul-pos h.positive some in
+      let at = (held.exact (k * a) h.midpoint (k * n) finer h.left.rising).0 h.left.held in
+      (Scales-rest tree R).down k a b n h.positive
+      (moved (MatchesRest tree R) (sym at.same) refl refl h.right)
+
+  to_moment : (R : Rest) (a b n : ℕ) → 0 < n → piece.begin * n ≤ a → a ≤ end_of_piece piece * n
+      → MatchesRest tree R a b n → Followed (Held all) tree R a b n
+  to_moment R a b n some low high h =
+      Composed-at (Held all) (MatchesRest tree R) a a b n
+      (record {
+        rising = omega arith;
+        held = (held.exact a a n some (omega arith)).1
+            (record { starts = low; same = refl; ends = high });
+      }) h
+
+  pub begins_of : Begins tree piece told rest
+  begins_of = record {
+    tells = record {
+      pairs = λ a b n some.
+          let P = alone piece in
+          let same = enters.tells.pairs a b n some in (
+            (λ h. from_moment P a b n some (same.0 h)),
+            (λ h.
+                let low = (IsBounded-rest tree P).begin a b n h in
+                let rising = (IsOrdered-rest tree P).le a b n h in
+                let high = tree_ends P tree a b n h in
+                same.1 (to_moment P a b n some low (omega (arith, rising, high)) h)),
+          );
+    };
+    leaves = λ segments long a b n some.
+        let W = over piece segments in
+        let same = enters.leaves segments long a b n some in (
+          (λ h. ⊎_elim
+              (λ x. absurd (nothing.nothing.never tree (behind piece segments) a b n x))
+              (λ x. record {
+                related = from_moment W a b n some x.related;
+                begin = x.begin;
+                end = x.end;
+              }) (same.0 h)),
+          (λ h. same.1 (inr (record {
+            related = to_moment W a b n some ((IsBounded-rest tree W).begin a b n h.related)
+                h.begin h.related;
+            begin = h.begin;
+            end = h.end;
+          }))),
+        );
+    well = enters.well;
+  }
+
+-- A step and what enters make the whole.
+module _ (piece : Piece) (mark : MarkTree) (tree : PatternTree)
+    (enter first second told : List ZoneBounds) (left rest : MarkTree)
+    (steps : StepsTo mark tree piece first left)
+    (enters : EntersTo left tree enter piece second rest)
+    (union : IsSetOf told (Either (Held first) (Held second))) where
+  pub advances_of : Advances mark tree enter piece told rest
+  unfolding GoesOver MarkedBehind
+  advances_of =
+      let T' = end_of_piece piece in
+      let tells : Agree (Held told)
+      (Either (Marked (alone piece) mark tree) (Followed (Held enter) tree (alone piece))) =
+      agree_then (record { at = union.pairs })
+      (agree_either (record { at = steps.tells.pairs }) (record { at = enters.tells.pairs })) in
+      record {
+        tells = exact_set told (GoesOver mark tree enter piece []) (record { pairs = tells.at });
+        leaves = λ segments a b n long some.
+            let W = over piece segments in
+            let same = (agree_then (record { at = enters.leaves segments long })
+            (agree_then
+            (agree_either (record { at = steps.leaves segments long })
+            (agree_refl (Crossing T' (Followed (Held enter) tree W))))
+            (agree_sym (cross_either T' (Marked W mark tree)
+            (Followed (Held enter) tree W))))).at a b n some in (
+              (λ h.
+                  let x = same.0 h in
+                  record { related = x.related; begin = x.begin; end = x.end }),
+              (λ h. same.1 (record { related = h.related; begin = h.begin; end = h.end })),
+            );
+        between = record {
+          begin = λ a b n some h. ⊎_elim (λ x. steps.between.begin a b n some x)
+              (λ x. enters.between.begin a b n some x) ((union.pairs a b n some).0 h);
+          end = λ a b n some h. ⊎_elim (λ x. steps.between.end a b n some x)
+              (λ x. enters.between.end a b n some x) ((union.pairs a b n some).0 h);
+        };
+        well = enters.well;
+      }

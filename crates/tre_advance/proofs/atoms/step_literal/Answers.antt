@@ -1,0 +1,25 @@
+use Rattle.std.proofs.Common.{◌∙◌, ap, sym, subst}
+use Rattle.tre_pairs.specs.Pairs.{Either}
+use Rattle.tre_residual.specs.Residual.{Held}
+use Rattle.tre_syntax.specs.Expr.{tree_of}
+use Rattle.tre_mark.specs.MarkTree.{MarkTree, atom_mark}
+use Rattle.tre_advance.specs.Moves.{StepsTo}
+use Rattle.tre_advance.specs.Sets.{IsSetOf}
+use Rattle.tre_advance.proofs.AtomForms.{literal_steps_to}
+use Rattle.tre_advance.proofs.atoms.step_literal.Goals as goal
+
+pub returns : goal.returns
+returns c =
+    let here = c.args.here.now in
+    let begun = c.args.begun.now in
+    let piece = c.args.piece.now in
+    let tree = tree_of c.args.expr.now in
+    let told = c.in_ok-told.told in
+    let starts = c.in_ok-starts.starts in
+    subst (λ (mark : MarkTree). StepsTo (atom_mark here begun) tree piece told mark)
+    (sym (c.atom.ensures ∙ ap (λ x. atom_mark x c.in_ok-begun.begun) c.new.ensures))
+    (literal_steps_to piece here begun c.in_ok-inside.inside starts c.in_ok-going.going told
+    c.in_ok-begun.begun tree c.requires.literal c.requires.well c.in_ok-inside.ensures
+    (subst (λ list. IsSetOf starts (Either (Held list) (Held begun))) c.in_ok-try_clone.ensures
+    c.in_ok-starts.ensures)
+    c.in_ok-going.ensures c.in_ok-told.ensures c.in_ok-begun.ensures)

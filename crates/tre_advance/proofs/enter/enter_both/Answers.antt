@@ -1,0 +1,22 @@
+use Rattle.std.proofs.Common.{List, subst}
+use Rattle.tre_zone.specs.declared.zone_bounds.ZoneBounds.{ZoneBounds}
+use Rattle.tre_mark.specs.MarkTree.{mark_of, intersection_none, instances_before}
+use Rattle.tre_advance.specs.Advance.{end_of_piece}
+use Rattle.tre_advance.specs.Instances.{KeepsBoth}
+use Rattle.tre_advance.proofs.InstanceSteps.{both_enters}
+use Rattle.tre_advance.proofs.enter.enter_both.Goals as goal
+
+pub returns : goal.returns
+returns c left right well begins begins' =
+    let piece = c.args.piece.now in
+    let zones = c.args.zones.now in
+    let one = c.args.one in
+    let other = c.args.other in
+    let old = instances_before c.args.instances intersection_none in
+    let kept = c.in_ok-kept.kept in
+    let new = instances_before kept.rest intersection_none in
+    both_enters piece left right zones one.told other.told kept.told old (mark_of one.rest)
+    (mark_of other.rest) new c.requires.enter well begins begins'
+    (subst (λ (list : List ZoneBounds). KeepsBoth list old piece.begin (end_of_piece piece) zones
+    one.told other.told (mark_of one.rest) (mark_of other.rest) kept.told new)
+    c.new.ensures c.in_ok-kept.ensures)

@@ -1,0 +1,57 @@
+-- What one more piece of a trace makes of a mark.
+use Rattle.std.specs.Prelude.{ℕ, ◌+◌, ◌<◌, ◌↔◌, List, [], ◌∷◌}
+use Rattle.tre_pairs.specs.Cuts.{Crossing}
+use Rattle.tre_pairs.specs.Pairs.{Pairs, Composed, Either}
+use Rattle.tre_zone.specs.ZoneList.{HoldExactly}
+use Rattle.tre_zone.specs.declared.zone_bounds.ZoneBounds.{ZoneBounds}
+use Rattle.tre_trace.specs.Trace.{AreLong}
+use Rattle.tre_trace.specs.declared.segment.Segment.{Segment}
+use Rattle.tre_syntax.specs.Cut.{CutRest, uncut, back_of}
+use Rattle.tre_syntax.specs.Meaning.{MatchesRest}
+use Rattle.tre_syntax.specs.PatternTree.{PatternTree}
+use Rattle.tre_syntax.specs.Rest.{Rest}
+use Rattle.tre_edges.specs.declared.piece.Piece.{Piece}
+use Rattle.tre_residual.specs.Residual.{Held}
+use Rattle.tre_mark.specs.MarkTree.{MarkTree}
+use Rattle.tre_mark.specs.Marked.{Marked, EndBetween, IsWellAt}
+
+-- When the piece ends.
+abbrev pub end_of_piece : Piece → ℕ
+end_of_piece piece = piece.begin + piece.segment.len
+
+-- The rest of a trace that begins with the piece and goes on with the segments, cut where the piece
+-- ends.
+abbrev pub cut_behind : Piece → List Segment → CutRest
+cut_behind piece segments = record {
+  start = piece.begin;
+  before = piece.before;
+  front = piece.segment ∷ [];
+  back = segments;
+}
+
+-- The pairs of the mark, and those of the set that a match of the expression follows.
+abbrev pub Goes : Rest → MarkTree → PatternTree → List ZoneBounds → Pairs
+Goes rest mark tree enter a b n =
+    Either (Marked rest mark tree) (Composed (Held enter) (MatchesRest tree rest)) a b n
+
+-- The same over the piece and the segments behind it.
+unfoldable pub GoesOver : MarkTree → PatternTree → List ZoneBounds → Piece → List Segment → Pairs
+GoesOver mark tree enter piece segments a b n =
+    Goes (uncut (cut_behind piece segments)) mark tree enter a b n
+
+-- The pairs of the mark where the segments come behind the piece.
+unfoldable pub MarkedBehind : MarkTree → PatternTree → Piece → List Segment → Pairs
+MarkedBehind mark tree piece segments a b n =
+    Marked (back_of (cut_behind piece segments)) mark tree a b n
+
+-- The mark went over the piece, and the pairs of the set entered on the way. Told are exactly the
+-- pairs where the piece alone comes. What is left is a mark at the end of the piece, and whatever
+-- comes behind the piece it stands for exactly those that end as the piece ends or later.
+pub record Advances (mark : MarkTree) (tree : PatternTree) (enter : List ZoneBounds) (piece : Piece)
+    (told : List ZoneBounds) (rest : MarkTree) : Type 0 where
+  pub tells : HoldExactly told (GoesOver mark tree enter piece [])
+  pub leaves : (segments : List Segment) (a b n : ℕ) → AreLong segments → 0 < n
+      → MarkedBehind rest tree piece segments a b n
+      ↔ Crossing (end_of_piece piece) (GoesOver mark tree enter piece segments) a b n
+  pub between : EndBetween piece.begin (end_of_piece piece) told
+  pub well : IsWellAt (end_of_piece piece) rest tree

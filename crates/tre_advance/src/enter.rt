@@ -1,0 +1,194 @@
+// What enters a mark in a piece.
+ghost use Rattle.std.specs.Prelude.{IfOk};
+ghost use Rattle.tre_state.specs.declared.names.TheConstants.{NAMES_MAX};
+ghost use Rattle.tre_syntax.specs.Expr.{tree_of};
+ghost use Rattle.tre_syntax.specs.PatternTree.{PatternTree, NumbersBelow, intersection, restriction};
+ghost use Rattle.tre_zone.specs.Zone.{IsInstantBetween};
+ghost use Rattle.tre_zone.specs.ZoneList.{HoldExactly};
+ghost use Rattle.tre_mark.specs.MarkTree.{mark_of, intersection_none, restriction_none, instances_before};
+ghost use Rattle.tre_mark.specs.Marked.{EndBetween, IsWellAt, IsUnbegun};
+ghost use Rattle.tre_advance.specs.Advance.{end_of_piece};
+ghost use Rattle.tre_advance.specs.Moves.{EntersTo, Begins};
+
+use crate::atoms::{enter_brief, enter_literal};
+use crate::instances::{Kept, keep_both, keep_lasting};
+use crate::stepping::{Advanced, either, enter_in_turn, leave_again, repeat};
+use std::alloc::{AllocError, Global};
+use tre_edges::Piece;
+use tre_mark::{Instances, Mark, moments};
+use tre_syntax::Expr;
+use tre_zone::Interval;
+use tre_zoneset::ZoneSet;
+
+/// What is told of the pairs that enter in the piece, and the mark at its end together with them.
+/// Where nothing enters, the mark stays as it is.
+///
+/// It goes as deep as the expression does.
+pub fn enter(
+    alloc: Global,
+    mark: Mark,
+    expr: &Expr,
+    zones: &ZoneSet,
+    piece: &Piece,
+) -> Result<Advanced, AllocError>
+    requires numbers { NumbersBelow NAMES_MAX (tree_of expr.now) }
+    requires well { IsWellAt (end_of_piece piece.now) (mark_of mark) (tree_of expr.now) }
+    requires enter { EndBetween piece.now.begin (end_of_piece piece.now) zones.now }
+    ensures { IfOk result (λ r. EntersTo (mark_of mark) (tree_of expr.now) zones.now piece.now
+        r.told (mark_of r.rest)) }
+{
+    if zones.is_empty() {
+        return Ok(Advanced {
+            told: ZoneSet::new(alloc),
+            rest: mark,
+        });
+    }
+    match expr {
+        Expr::Eps => match mark {
+            Mark::Atom { here, begun } => enter_brief(alloc, here, begun, expr, zones, piece),
+            _ => unreachable!(),
+        },
+        Expr::Lit(_) => match mark {
+            Mark::Atom { here, begun } => enter_literal(alloc, here, begun, expr, zones, piece),
+            _ => unreachable!(),
+        },
+        Expr::Rise(_) => match mark {
+            Mark::Atom { here, begun } => enter_brief(alloc, here, begun, expr, zones, piece),
+            _ => unreachable!(),
+        },
+        Expr::Fall(_) => match mark {
+            Mark::Atom { here, begun } => enter_brief(alloc, here, begun, expr, zones, piece),
+            _ => unreachable!(),
+        },
+        Expr::Seq(left, right) => match mark {
+            Mark::Seq(one, other) => {
+                let left: &Expr = left;
+                let right: &Expr = right;
+                let first = enter(alloc, Box::into_inner(one), left, zones, piece)?;
+                let second = enter(alloc, Box::into_inner(other), right, &first.told, piece)?;
+                enter_in_turn(alloc, first, second)
+            }
+            _ => unreachable!(),
+        },
+        Expr::Alt(left, right) => match mark {
+            Mark::Alt(one, other) => {
+                let left: &Expr = left;
+                let right: &Expr = right;
+                let first = enter(alloc, Box::into_inner(one), left, zones, piece)?;
+                let second = enter(alloc, Box::into_inner(other), right, zones, piece)?;
+                either(alloc, first, second)
+            }
+            _ => unreachable!(),
+        },
+        Expr::Star(body) => match mark {
+            Mark::Star { here, body: inner } => {
+                let body: &Expr = body;
+                let told = repeat(alloc, zones.try_clone()?, body, piece)?;
+                let entered = enter(alloc, Box::into_inner(inner), body, &told, piece)?;
+                leave_again(alloc, here, told, entered.rest, piece)
+            }
+            _ => unreachable!(),
+        },
+        Expr::Meet(left, right) => match mark {
+            Mark::Meet(instances) => {
+                let left: &Expr = left;
+                let right: &Expr = right;
+                let all = moments_of(alloc, piece)?;
+                let empty_left = unbegun(alloc, left, piece)?;
+                let one = enter(alloc, empty_left, left, &all, piece)?;
+                let empty_right = unbegun(alloc, right, piece)?;
+                let other = enter(alloc, empty_right, right, &all, piece)?;
+                enter_both(alloc, instances, one, other, zones, piece)
+            }
+            _ => unreachable!(),
+        },
+        Expr::Within(body, interval) => match mark {
+            Mark::Within(instances) => {
+                let body: &Expr = body;
+                let all = moments_of(alloc, piece)?;
+                let empty = unbegun(alloc, body, piece)?;
+                let begun = enter(alloc, empty, body, &all, piece)?;
+                enter_lasting(alloc, instances, begun, interval, zones, piece)
+            }
+            _ => unreachable!(),
+        },
+    }
+}
+
+// Every moment of the piece.
+fn moments_of(alloc: Global, piece: &Piece) -> Result<ZoneSet, AllocError>
+    ensures held { IfOk result (λ all. HoldExactly all
+        (IsInstantBetween piece.now.begin (end_of_piece piece.now))) }
+    ensures between { IfOk result (λ all.
+        EndBetween piece.now.begin (end_of_piece piece.now) all) }
+{
+    moments(alloc, piece.begin, piece.begin + piece.segment.len)
+}
+
+// The mark of an expression of which nothing has begun, also as the piece ends.
+fn unbegun(alloc: Global, expr: &Expr, piece: &Piece) -> Result<Mark, AllocError>
+    ensures nothing { IfOk result (λ mark. IsUnbegun (mark_of mark) (tree_of expr.now)) }
+    ensures well { IfOk result (λ mark.
+        IsWellAt (end_of_piece piece.now) (mark_of mark) (tree_of expr.now)) }
+{
+    Mark::empty(alloc, expr)
+}
+
+// A restriction that begins behind each pair of the set.
+fn enter_lasting(
+    alloc: Global,
+    instances: Instances,
+    begun: Advanced,
+    interval: &Interval,
+    zones: &ZoneSet,
+    piece: &Piece,
+) -> Result<Advanced, AllocError>
+    requires enter { EndBetween piece.now.begin (end_of_piece piece.now) zones.now }
+    ensures { IfOk result (λ r. (tree : PatternTree)
+        → IsWellAt (end_of_piece piece.now) (instances_before instances restriction_none)
+        (restriction tree interval.now)
+        → Begins tree piece.now begun.told (mark_of begun.rest)
+        → EntersTo (instances_before instances restriction_none)
+        (restriction tree interval.now) zones.now piece.now r.told (mark_of r.rest)) }
+{
+    let end = piece.begin + piece.segment.len;
+    let kept = Kept {
+        told: ZoneSet::new(alloc),
+        rest: instances,
+    };
+    let kept = keep_lasting(alloc, kept, piece.begin, end, zones, begun, interval, end)?;
+    Ok(Advanced {
+        told: kept.told,
+        rest: Mark::Within(kept.rest),
+    })
+}
+
+// An intersection that begins behind each pair of the set.
+fn enter_both(
+    alloc: Global,
+    instances: Instances,
+    one: Advanced,
+    other: Advanced,
+    zones: &ZoneSet,
+    piece: &Piece,
+) -> Result<Advanced, AllocError>
+    requires enter { EndBetween piece.now.begin (end_of_piece piece.now) zones.now }
+    ensures { IfOk result (λ r. (left right : PatternTree)
+        → IsWellAt (end_of_piece piece.now) (instances_before instances intersection_none)
+        (intersection left right)
+        → Begins left piece.now one.told (mark_of one.rest)
+        → Begins right piece.now other.told (mark_of other.rest)
+        → EntersTo (instances_before instances intersection_none) (intersection left right)
+        zones.now piece.now r.told (mark_of r.rest)) }
+{
+    let end = piece.begin + piece.segment.len;
+    let kept = Kept {
+        told: ZoneSet::new(alloc),
+        rest: instances,
+    };
+    let kept = keep_both(alloc, kept, piece.begin, end, zones, one, other)?;
+    Ok(Advanced {
+        told: kept.told,
+        rest: Mark::Meet(kept.rest),
+    })
+}

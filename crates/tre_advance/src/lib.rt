@@ -1,0 +1,24 @@
+//! The step of a mark over one more piece of a trace.
+//!
+//! [`advance`] goes once over a mark and its expression. It tells, as zones, exactly the pairs that
+//! are decided by the piece, and leaves the mark at the end of the piece: whatever comes behind it,
+//! that mark stands for exactly the pairs that are still open. Pairs may enter on the way, at any
+//! moment of the piece. The layer above may rely on the cost: that of the expression, and of the
+//! instances that are still alive, however long the trace was.
+//!
+//! ```
+//! let advanced = advance(alloc, &mark, expr, &enter, &piece)?;
+//! let told = advanced.told;
+//! ```
+#![tactic(auto)]
+
+mod advancing;
+mod atoms;
+mod enter;
+mod instances;
+mod sets;
+mod step;
+mod stepping;
+
+pub use advancing::advance;
+pub use stepping::Advanced;

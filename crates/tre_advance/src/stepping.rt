@@ -1,0 +1,153 @@
+// What a form of an expression tells and leaves, from what its parts do.
+ghost use Rattle.std.specs.Prelude.{◌≡◌, List, [], IfOk};
+ghost use Rattle.tre_pairs.specs.Pairs.{Composed, Either};
+ghost use Rattle.tre_state.specs.declared.names.TheConstants.{NAMES_MAX};
+ghost use Rattle.tre_syntax.specs.Cut.{uncut};
+ghost use Rattle.tre_syntax.specs.Expr.{tree_of};
+ghost use Rattle.tre_syntax.specs.Meaning.{MatchesRest};
+ghost use Rattle.tre_syntax.specs.PatternTree.{PatternTree, NumbersBelow, sequence, alternation, repetition};
+ghost use Rattle.tre_zone.specs.declared.zone_bounds.ZoneBounds.{ZoneBounds};
+ghost use Rattle.tre_edges.specs.declared.piece.Piece.{Piece};
+ghost use Rattle.tre_residual.specs.Residual.{Held, EndAt};
+ghost use Rattle.tre_mark.specs.MarkTree.{MarkTree, mark_of, sequence_mark, alternation_mark};
+ghost use Rattle.tre_mark.specs.Marked.{EndBetween};
+ghost use Rattle.tre_advance.specs.Advance.{end_of_piece, cut_behind};
+ghost use Rattle.tre_advance.specs.Moves.{StepsTo, EntersTo, KeepsHere};
+ghost use Rattle.tre_advance.specs.Sets.{IsSetOf};
+
+use crate::sets::{ending_at, joined, repeated};
+use std::alloc::{AllocError, Global};
+use tre_edges::Piece;
+use tre_mark::{Mark, alternation, repetition, sequence};
+use tre_offline::local;
+use tre_syntax::Expr;
+use tre_zoneset::ZoneSet;
+
+/// What a step tells, and the mark that it leaves.
+#[derive(Debug, Drop)]
+pub struct Advanced {
+    pub told: ZoneSet,
+    pub rest: Mark,
+}
+
+/// The step of a sequence, whose second part told `second`, and was then entered by what the first
+/// part told.
+pub fn step_in_turn(
+    alloc: Global,
+    first: Advanced,
+    second: ZoneSet,
+    third: Advanced,
+) -> Result<Advanced, AllocError>
+    ensures { IfOk result (λ r. (one other next : MarkTree) (left right : PatternTree)
+        (piece : Piece) → StepsTo one left piece first.told (mark_of first.rest)
+        → StepsTo other right piece second next
+        → EntersTo next right first.told piece third.told (mark_of third.rest)
+        → StepsTo (sequence_mark one other) (sequence left right) piece r.told (mark_of r.rest)) }
+{
+    let told = joined(second, &third.told)?;
+    let rest = sequence(alloc, first.rest, third.rest)?;
+    Ok(Advanced { told, rest })
+}
+
+/// What enters a sequence enters its first part, and what that tells the second.
+pub fn enter_in_turn(
+    alloc: Global,
+    first: Advanced,
+    second: Advanced,
+) -> Result<Advanced, AllocError>
+    ensures { IfOk result (λ r. (one other : MarkTree) (left right : PatternTree) (piece : Piece)
+        (enter : List ZoneBounds) → EndBetween piece.begin (end_of_piece piece) enter
+        → EntersTo one left enter piece first.told (mark_of first.rest)
+        → EntersTo other right first.told piece second.told (mark_of second.rest)
+        → EntersTo (sequence_mark one other) (sequence left right) enter piece r.told
+        (mark_of r.rest)) }
+{
+    let rest = sequence(alloc, first.rest, second.rest)?;
+    Ok(Advanced {
+        told: second.told,
+        rest,
+    })
+}
+
+/// Both sides of an alternation make a step, or are entered.
+pub fn either(alloc: Global, one: Advanced, other: Advanced) -> Result<Advanced, AllocError>
+    ensures steps { IfOk result (λ r. (x y : MarkTree) (left right : PatternTree)
+        (piece : Piece) → StepsTo x left piece one.told (mark_of one.rest)
+        → StepsTo y right piece other.told (mark_of other.rest)
+        → StepsTo (alternation_mark x y) (alternation left right) piece r.told
+        (mark_of r.rest)) }
+    ensures enters { IfOk result (λ r. (x y : MarkTree) (left right : PatternTree)
+        (piece : Piece) (enter : List ZoneBounds)
+        → EntersTo x left enter piece one.told (mark_of one.rest)
+        → EntersTo y right enter piece other.told (mark_of other.rest)
+        → EntersTo (alternation_mark x y) (alternation left right) enter piece r.told
+        (mark_of r.rest)) }
+{
+    let told = joined(one.told, &other.told)?;
+    let rest = alternation(alloc, one.rest, other.rest)?;
+    Ok(Advanced { told, rest })
+}
+
+/// The pairs of the set, each followed by any number of matches of the expression inside the piece.
+pub fn repeat(
+    alloc: Global,
+    starts: ZoneSet,
+    body: &Expr,
+    piece: &Piece,
+) -> Result<ZoneSet, AllocError>
+    requires numbers { NumbersBelow NAMES_MAX (tree_of body.now) }
+    requires starts { EndBetween piece.now.begin (end_of_piece piece.now) starts }
+    ensures tells { IfOk result (λ told. IsSetOf told (Composed (Held starts)
+        (MatchesRest (repetition (tree_of body.now)) (uncut (cut_behind piece.now []))))) }
+    ensures between { IfOk result (λ told.
+        EndBetween piece.now.begin (end_of_piece piece.now) told) }
+{
+    let steps = local(alloc, body, piece)?;
+    repeated(
+        alloc,
+        starts,
+        &steps,
+        piece.begin,
+        piece.begin + piece.segment.len,
+    )
+}
+
+/// What a repetition tells of the pairs behind which its body ended, and of those that are here.
+pub fn tell_again(
+    alloc: Global,
+    ended: ZoneSet,
+    here: &ZoneSet,
+    body: &Expr,
+    piece: &Piece,
+) -> Result<ZoneSet, AllocError>
+    requires numbers { NumbersBelow NAMES_MAX (tree_of body.now) }
+    requires ended { EndBetween piece.now.begin (end_of_piece piece.now) ended }
+    requires here { EndAt piece.now.begin here.now }
+    ensures tells { IfOk result (λ told. IsSetOf told (Composed
+        (Either (Held ended) (Held here.now))
+        (MatchesRest (repetition (tree_of body.now)) (uncut (cut_behind piece.now []))))) }
+    ensures between { IfOk result (λ told.
+        EndBetween piece.now.begin (end_of_piece piece.now) told) }
+{
+    let starts = joined(ended, here)?;
+    repeat(alloc, starts, body, piece)
+}
+
+/// The mark of a repetition that has told a set, of which it keeps what ends with the piece beside
+/// what is here.
+pub fn leave_again(
+    alloc: Global,
+    here: ZoneSet,
+    told: ZoneSet,
+    body: Mark,
+    piece: &Piece,
+) -> Result<Advanced, AllocError>
+    ensures told { IfOk result (λ r. r.told ≡ told) }
+    ensures rest { IfOk result (λ r.
+        KeepsHere (end_of_piece piece.now) here told (mark_of body) (mark_of r.rest)) }
+{
+    let last = ending_at(alloc, &told, piece.begin + piece.segment.len)?;
+    let here = joined(last, &here)?;
+    let rest = repetition(alloc, here, body)?;
+    Ok(Advanced { told, rest })
+}

@@ -1,0 +1,335 @@
+-- Marks of which nothing has begun, and marks that start.
+use Rattle.std.proofs.Common.{◌≡◌, ℕ, ◌*◌, ◌≤◌, ◌<◌, List, [], Option, None, Some, MatchOption, ◌+◌, subst, refl, sym, inl, inr, ⊎_elim, arith}
+use Rattle.std.proofs.Math.Nat.{mul-pos}
+use Rattle.tre_pairs.specs.Cuts.{JoinedAt}
+use Rattle.tre_pairs.specs.Pairs.{Pairs, Composed, Both, Lasting}
+use Rattle.tre_pairs.proofs.Laws.{Scales, Agree}
+use Rattle.tre_pairs.proofs.Scaling.{moved, Scales-Composed, Scales-Both, Scales-Lasting}
+use Rattle.tre_residual.specs.Residual.{Held, EndAt}
+use Rattle.tre_residual.proofs.HeldSets.{Scales-Held, Held-empty}
+use Rattle.tre_syntax.specs.Meaning.{MatchesRest}
+use Rattle.tre_syntax.specs.PatternTree.{Atom, PatternTree, empty, literal, rise, fall, atom, sequence, alternation, intersection, repetition, restriction}
+use Rattle.tre_syntax.specs.Rest.{Rest, rest_of}
+use Rattle.tre_syntax.proofs.CutMeaning.{Scales-rest}
+use Rattle.tre_syntax.proofs.MeaningLaws.{DurationScales-LastsWithin}
+use Rattle.tre_trace.specs.declared.segment.Segment.{Segment}
+use Rattle.tre_zone.specs.Interval.{IntervalEnds, LastsWithin}
+use Rattle.tre_zone.specs.Zone.{IsInstantBetween}
+use Rattle.tre_zone.specs.ZoneList.{HoldExactly}
+use Rattle.tre_zone.specs.declared.zone_bounds.ZoneBounds.{ZoneBounds}
+use Rattle.tre_mark.specs.MarkTree.{MarkTree, atom_mark, sequence_mark, alternation_mark, repetition_mark, intersection_none, intersection_one, restriction_none, restriction_one}
+use Rattle.tre_mark.specs.Marked.{Marked, IsBegun, IsNothing, IsUnbegun, IsStart, IsEntered, IsInReach}
+use Rattle.tre_mark.proofs.Agreeing.{agree_refl, agree_sym, agree_then, agree_composed, agree_assoc, joined_composed}
+
+pub end_at_none : (time : ℕ) → EndAt time []
+end_at_none time = record { ends = λ a b n some h. absurd (Held-empty a b n h) }
+
+-- ---- nothing has begun
+
+never_atom : (tree : PatternTree) (rest : Rest) (a b n : ℕ)
+    → Marked rest (atom_mark [] []) tree a b n → ⊥
+never_atom (atom x) rest a b n h =
+    ⊎_elim (λ y. Held-empty a (rest.start * n) n y.left)
+    (λ y. Held-empty a (rest.start * n) n y.left) h
+never_atom tree rest a b n h = h
+
+pub nothing_atom : IsNothing (atom_mark [] [])
+nothing_atom = record { never = never_atom }
+
+module _ (one other : MarkTree) (first : IsNothing one) (second : IsNothing other) where
+  never_sequence : (tree : PatternTree) (rest : Rest) (a b n : ℕ)
+      → Marked rest (sequence_mark one other) tree a b n → ⊥
+  never_sequence (sequence left right) rest a b n h =
+      ⊎_elim (λ x. first.never left rest (x.factor * a) x.midpoint (x.factor * n) x.left)
+      (λ x. second.never right rest a b n x) h
+  never_sequence tree rest a b n h = h
+
+  pub nothing_sequence : IsNothing (sequence_mark one other)
+  nothing_sequence = record { never = never_sequence }
+
+  never_alternation : (tree : PatternTree) (rest : Rest) (a b n : ℕ)
+      → Marked rest (alternation_mark one other) tree a b n → ⊥
+  never_alternation (alternation left right) rest a b n h =
+      ⊎_elim (λ x. first.never left rest a b n x) (λ x. second.never right rest a b n x) h
+  never_alternation tree rest a b n h = h
+
+  pub nothing_alternation : IsNothing (alternation_mark one other)
+  nothing_alternation = record { never = never_alternation }
+
+module _ (body : MarkTree) (inner : IsNothing body) where
+  never_repetition : (tree : PatternTree) (rest : Rest) (a b n : ℕ)
+      → Marked rest (repetition_mark [] body) tree a b n → ⊥
+  never_repetition (repetition tree) rest a b n h =
+      ⊎_elim (λ x. Held-empty a (rest.start * n) n x.left)
+      (λ x. inner.never tree rest (x.factor * a) x.midpoint (x.factor * n) x.left) h
+  never_repetition tree rest a b n h = h
+
+  pub nothing_repetition : IsNothing (repetition_mark [] body)
+  nothing_repetition = record { never = never_repetition }
+
+pub nothing_intersection : IsNothing intersection_none
+nothing_intersection = record { never = λ tree rest a b n h. h }
+
+pub nothing_restriction : IsNothing restriction_none
+nothing_restriction = record { never = λ tree rest a b n h. h }
+
+begun_none : (time : ℕ) (x : Atom) → IsBegun time [] x
+begun_none time empty = refl
+begun_none time (literal state) = end_at_none time
+begun_none time (rise state) = refl
+begun_none time (fall state) = refl
+
+pub unbegun_atom : (x : Atom) → IsUnbegun (atom_mark [] []) (atom x)
+unbegun_atom x = record {
+  nothing = nothing_atom;
+  well = λ time. record { well = (end_at_none time, begun_none time x) };
+}
+
+module _ (one other : MarkTree) (left right : PatternTree) (first : IsUnbegun one left)
+    (second : IsUnbegun other right) where
+  pub unbegun_sequence : IsUnbegun (sequence_mark one other) (sequence left right)
+  unbegun_sequence = record {
+    nothing = nothing_sequence one other first.nothing second.nothing;
+    well = λ time. record { well = ((first.well time).well, (second.well time).well) };
+  }
+
+  pub unbegun_alternation : IsUnbegun (alternation_mark one other) (alternation left right)
+  unbegun_alternation = record {
+    nothing = nothing_alternation one other first.nothing second.nothing;
+    well = λ time. record { well = ((first.well time).well, (second.well time).well) };
+  }
+
+pub unbegun_repetition : (body : MarkTree) (tree : PatternTree) → IsUnbegun body tree
+    → IsUnbegun (repetition_mark [] body) (repetition tree)
+unbegun_repetition body tree inner = record {
+  nothing = nothing_repetition body inner.nothing;
+  well = λ time. record { well = (end_at_none time, (inner.well time).well) };
+}
+
+pub unbegun_intersection : (left right : PatternTree)
+    → IsUnbegun intersection_none (intersection left right)
+unbegun_intersection left right = record {
+  nothing = nothing_intersection;
+  well = λ time. record { well = tt };
+}
+
+pub unbegun_restriction : (tree : PatternTree) (ends : IntervalEnds)
+    → IsUnbegun restriction_none (restriction tree ends)
+unbegun_restriction tree ends = record {
+  nothing = nothing_restriction;
+  well = λ time. record { well = tt };
+}
+
+-- ---- marks that start
+
+module _ (time : ℕ) (zones : List ZoneBounds) (ends : EndAt time zones) where
+  pub start_atom : (x : Atom) → IsStart time zones (atom_mark zones []) (atom x)
+  start_atom x = record {
+    pairs = λ before segments a b n some. (
+      (λ h. ⊎_elim (λ y. y) (λ y. absurd (Held-empty a (time * n) n y.left)) h),
+      (λ h. inl h),
+    );
+    well = record { well = (ends, begun_none time x) };
+  }
+
+  pub start_sequence : (one other : MarkTree) (left right : PatternTree)
+      → IsStart time zones one left → IsUnbegun other right
+      → IsStart time zones (sequence_mark one other) (sequence left right)
+  start_sequence one other left right first second = record {
+    pairs = λ before segments a b n some.
+        let rest = rest_of time before segments in
+        let L = MatchesRest left rest in
+        let R = MatchesRest right rest in
+        let same : Agree (Marked rest one left) (Composed (Held zones) L) =
+        agree_then (record { at = first.pairs before segments })
+        (joined_composed time zones L ends (Scales-rest left rest)) in
+        let whole : Agree (Composed (Marked rest one left) R)
+        (JoinedAt time (Held zones) (Composed L R)) =
+        agree_then (agree_composed same (agree_refl R))
+        (agree_then (agree_assoc (Held zones) L R (Scales-Held zones) (Scales-rest right rest))
+        (agree_sym (joined_composed time zones (Composed L R) ends
+        (Scales-Composed L R (Scales-rest left rest) (Scales-rest right rest))))) in
+        let both = whole.at a b n some in (
+          (λ h. ⊎_elim (λ x. both.0 x)
+              (λ x. absurd (second.nothing.never right rest a b n x)) h),
+          (λ h. inl (both.1 h)),
+        );
+    well = record { well = (first.well.well, (second.well time).well) };
+  }
+
+  pub start_alternation : (one other : MarkTree) (left right : PatternTree)
+      → IsStart time zones one left → IsStart time zones other right
+      → IsStart time zones (alternation_mark one other) (alternation left right)
+  start_alternation one other left right first second = record {
+    pairs = λ before segments a b n some.
+        let f = first.pairs before segments a b n some in
+        let g = second.pairs before segments a b n some in (
+          (λ h. ⊎_elim
+              (λ x. let y = f.0 x in record { left = y.left; right = inl y.right })
+              (λ x. let y = g.0 x in record { left = y.left; right = inr y.right }) h),
+          (λ h. ⊎_elim
+              (λ x. inl (f.1 (record { left = h.left; right = x })))
+              (λ x. inr (g.1 (record { left = h.left; right = x }))) h.right),
+        );
+    well = record { well = (first.well.well, second.well.well) };
+  }
+
+  pub start_repetition : (body : MarkTree) (tree : PatternTree) → IsUnbegun body tree
+      → IsStart time zones (repetition_mark zones body) (repetition tree)
+  start_repetition body tree inner = record {
+    pairs = λ before segments a b n some.
+        let rest = rest_of time before segments in (
+          (λ h. ⊎_elim (λ x. x)
+              (λ x. absurd (inner.nothing.never tree rest (x.factor * a) x.midpoint (x.factor * n)
+              x.left)) h),
+          (λ h. inl h),
+        );
+    well = record { well = (ends, (inner.well time).well) };
+  }
+
+  entered_now : IsEntered time time time zones
+  entered_now = record {
+    rising = omega arith;
+    past = omega arith;
+    ends = record {
+      begin = λ a b n some h. let e = ends.ends a b n some h in omega (arith, e);
+      end = λ a b n some h. let e = ends.ends a b n some h in omega (arith, e);
+    };
+  }
+
+  -- What follows the set at the time is what follows there from the moment of the time on.
+  module _ (before : Option ℕ) (segments : List Segment) (R S : Pairs) (r : Scales R)
+      (from : (a b n : ℕ) → 0 < n → S a b n → R a b n)
+      (to : (a b n : ℕ) → 0 < n → a ≡ time * n → R a b n → S a b n) where
+    after_now : Agree (Composed (Held zones) S) (JoinedAt time (Held zones) R)
+    after_now =
+        agree_then (record {
+          at = λ a b n some. (
+            (λ h. record {
+              factor = h.factor;
+              positive = h.positive;
+              midpoint = h.midpoint;
+              left = h.left;
+              right = from h.midpoint (h.factor * b) (h.factor * n) (mul-pos h.positive some)
+                  h.right;
+            }),
+            (λ h.
+                let finer : 0 < h.factor * n = mul-pos h.positive some in
+                record {
+                  factor = h.factor;
+                  positive = h.positive;
+                  midpoint = h.midpoint;
+                  left = h.left;
+                  right = to h.midpoint (h.factor * b) (h.factor * n) finer
+                      (ends.ends (h.factor * a) h.midpoint (h.factor * n) finer h.left) h.right;
+                }),
+          );
+        })
+        (agree_sym (joined_composed time zones R ends r))
+
+in_reach_of : (time : ℕ) (high : Option ℕ)
+    → MatchOption high (Unit {0}) (λ high. time ≤ time + high)
+in_reach_of time None = tt
+in_reach_of time (Some high) = omega arith
+
+in_reach : (time : ℕ) (interval : IntervalEnds) → IsInReach time time interval
+in_reach time interval = in_reach_of time interval.high
+
+-- A mark that starts at a moment stands there for the matches of what comes.
+module _ (time : ℕ) (moment : List ZoneBounds) (held : HoldExactly moment (IsInstantBetween time time))
+    (mark : MarkTree) (tree : PatternTree) (start : IsStart time moment mark tree)
+    (before : Option ℕ) (segments : List Segment) where
+  pub from_moment : (a b n : ℕ) → 0 < n → Marked (rest_of time before segments) mark tree a b n
+      → MatchesRest tree (rest_of time before segments) a b n
+  from_moment a b n some h =
+      let x = (start.pairs before segments a b n some).0 h in
+      let at = (held.exact a (time * n) n some x.left.rising).0 x.left.held in
+      moved (MatchesRest tree (rest_of time before segments)) (sym at.same) refl refl x.right
+
+  pub to_moment : (a b n : ℕ) → 0 < n → a ≡ time * n
+      → MatchesRest tree (rest_of time before segments) a b n
+      → Marked (rest_of time before segments) mark tree a b n
+  to_moment a b n some is h =
+      let le : a ≤ time * n = omega (arith, is) in
+      let ge : time * n ≤ a = omega (arith, is) in
+      (start.pairs before segments a b n some).1 (record {
+        left = record {
+          rising = le;
+          held = (held.exact a (time * n) n some le).1
+              (record { starts = ge; same = is; ends = omega arith });
+        };
+        right = moved (MatchesRest tree (rest_of time before segments)) is refl refl h;
+      })
+
+module _ (time : ℕ) (zones : List ZoneBounds) (ends : EndAt time zones) (moment : List ZoneBounds)
+    (held : HoldExactly moment (IsInstantBetween time time)) where
+  pub start_restriction : (body : MarkTree) (tree : PatternTree) (interval : IntervalEnds)
+      → IsStart time moment body tree
+      → IsStart time zones (restriction_one time time zones body restriction_none)
+      (restriction tree interval)
+  start_restriction body tree interval start = record {
+    pairs = λ before segments a b n some.
+        let rest = rest_of time before segments in
+        let D = LastsWithin interval in
+        let R = MatchesRest tree rest in
+        let S = Marked rest body tree in
+        let same = (after_now time zones ends before segments (Lasting D R) (Lasting D S)
+        (Scales-Lasting D R (DurationScales-LastsWithin interval) (Scales-rest tree rest))
+        (λ a b n some h. record {
+          related = from_moment time moment held body tree start before segments a b n some
+              h.related;
+          admitted = h.admitted;
+        })
+        (λ a b n some is h. record {
+          related = to_moment time moment held body tree start before segments a b n some is
+              h.related;
+          admitted = h.admitted;
+        })).at a b n some in
+        ((λ h. ⊎_elim (λ x. same.0 x) (λ x. absurd x) h), (λ h. inl (same.1 h)));
+    well = record {
+      well = (entered_now time zones ends, in_reach time interval, start.well.well, tt);
+    };
+  }
+
+  pub start_intersection : (one other : MarkTree) (left right : PatternTree)
+      → IsStart time moment one left → IsStart time moment other right
+      → IsStart time zones (intersection_one time time zones one other intersection_none)
+      (intersection left right)
+  start_intersection one other left right first second = record {
+    pairs = λ before segments a b n some.
+        let rest = rest_of time before segments in
+        let R = Both (MatchesRest left rest) (MatchesRest right rest) in
+        let S = Both (Marked rest one left) (Marked rest other right) in
+        let same = (after_now time zones ends before segments R S
+        (Scales-Both (MatchesRest left rest) (MatchesRest right rest) (Scales-rest left rest)
+        (Scales-rest right rest))
+        (λ a b n some h. record {
+          left = from_moment time moment held one left first before segments a b n some h.left;
+          right = from_moment time moment held other right second before segments a b n some
+              h.right;
+        })
+        (λ a b n some is h. record {
+          left = to_moment time moment held one left first before segments a b n some is h.left;
+          right = to_moment time moment held other right second before segments a b n some is
+              h.right;
+        })).at a b n some in
+        ((λ h. ⊎_elim (λ x. same.0 x) (λ x. absurd x) h), (λ h. inl (same.1 h)));
+    well = record {
+      well = (entered_now time zones ends, first.well.well, second.well.well, tt);
+    };
+  }
+
+-- ---- the same under other names
+
+pub unbegun_moved : (mark mark' : MarkTree) (tree tree' : PatternTree) → mark' ≡ mark
+    → tree' ≡ tree → IsUnbegun mark tree → IsUnbegun mark' tree'
+unbegun_moved mark mark' tree tree' e f h =
+    subst (λ (t : PatternTree). IsUnbegun mark' t) (sym f)
+    (subst (λ (m : MarkTree). IsUnbegun m tree) (sym e) h)
+
+pub start_moved : (time : ℕ) (zones : List ZoneBounds) (mark mark' : MarkTree)
+    (tree tree' : PatternTree) → mark' ≡ mark → tree' ≡ tree → IsStart time zones mark tree
+    → IsStart time zones mark' tree'
+start_moved time zones mark mark' tree tree' e f h =
+    subst (λ (t : PatternTree). IsStart time zones mark' t) (sym f)
+    (subst (λ (m : MarkTree). IsStart time zones m tree) (sym e) h)

@@ -1,0 +1,78 @@
+-- Each form starts as its parts do.
+use Rattle.std.proofs.Common.{◌≡◌, ◌∙◌, ap, sym}
+use Rattle.std.proofs.lemmas.Result.{IfOk-weaker}
+use Rattle.tre_syntax.specs.Expr.{tree_of}
+use Rattle.tre_syntax.specs.PatternTree.{sequence, intersection, repetition, restriction}
+use Rattle.tre_mark.specs.MarkTree.{mark_of, sequence_mark, repetition_mark, intersection_none, intersection_one, restriction_none, restriction_one}
+use Rattle.tre_mark.proofs.Starts.{start_moved, start_sequence, start_repetition, start_intersection, start_restriction}
+use Rattle.tre_mark.proofs.mark.Mark.+start.Goals as goal
+
+pub returns-in_ok-right-in-Seq : goal.returns-in_ok-right-in-Seq
+returns-in_ok-right-in-Seq t c =
+    let zones = c.args.zones.now in
+    let one = mark_of c.in_ok-left-in-Seq.left in
+    let other = mark_of c.in_ok-right-in-Seq.right in
+    let left = tree_of c.deref.result.now in
+    let right = tree_of c.deref-in-Seq.result.now in
+    let form : tree_of c.args.expr.now ≡ sequence left right =
+    ap tree_of c.in-Seq.is
+    ∙ ap (λ e. sequence (tree_of e) (tree_of c.in-Seq.right.value)) (sym c.deref.ensures)
+    ∙ ap (λ e. sequence left (tree_of e)) (sym c.deref-in-Seq.ensures) in
+    IfOk-weaker c.sequence.result _ _
+    (λ mark is. start_moved c.args.time zones (sequence_mark one other) (mark_of mark)
+    (sequence left right) (tree_of c.args.expr.now) is form
+    (start_sequence c.args.time zones c.requires.ends one other left right
+    c.in_ok-left-in-Seq.ensures c.in_ok-right-in-Seq.ensures))
+    c.sequence.ensures
+
+pub returns-in_ok-here-in-Star : goal.returns-in_ok-here-in-Star
+returns-in_ok-here-in-Star t c =
+    let zones = c.args.zones.now in
+    let body = mark_of c.in_ok-body-in-Star.body in
+    let tree = tree_of c.deref-in-Star.result.now in
+    let form : tree_of c.args.expr.now ≡ repetition tree =
+    ap tree_of c.in-Star.is ∙ ap (λ e. repetition (tree_of e)) (sym c.deref-in-Star.ensures) in
+    IfOk-weaker c.repetition.result _ _
+    (λ mark is. start_moved c.args.time zones (repetition_mark zones body) (mark_of mark)
+    (repetition tree) (tree_of c.args.expr.now)
+    (is ∙ ap (λ here. repetition_mark here body) c.in_ok-here-in-Star.ensures) form
+    (start_repetition c.args.time zones c.requires.ends body tree c.in_ok-body-in-Star.ensures))
+    c.repetition.ensures
+
+pub returns-in_ok-right-in-Meet : goal.returns-in_ok-right-in-Meet
+returns-in_ok-right-in-Meet t c =
+    let time = c.args.time in
+    let zones = c.args.zones.now in
+    let one = mark_of c.in_ok-left-in-Meet.left in
+    let other = mark_of c.in_ok-right-in-Meet.right in
+    let left = tree_of c.deref-in-Meet.result.now in
+    let right = tree_of c.deref-in-Meet-2.result.now in
+    let form : tree_of c.args.expr.now ≡ intersection left right =
+    ap tree_of c.in-Meet.is
+    ∙ ap (λ e. intersection (tree_of e) (tree_of c.in-Meet.right.value)) (sym c.deref-in-Meet.ensures)
+    ∙ ap (λ e. intersection left (tree_of e)) (sym c.deref-in-Meet-2.ensures) in
+    IfOk-weaker c.both_at.result _ _
+    (λ mark is. start_moved time zones
+    (intersection_one time time zones one other intersection_none) (mark_of mark)
+    (intersection left right) (tree_of c.args.expr.now) is form
+    (start_intersection time zones c.requires.ends c.in_ok-moment-in-Meet.moment
+    c.in_ok-moment-in-Meet.ensures one other left right c.in_ok-left-in-Meet.ensures
+    c.in_ok-right-in-Meet.ensures))
+    c.both_at.ensures
+
+pub returns-in_ok-body-in-Within : goal.returns-in_ok-body-in-Within
+returns-in_ok-body-in-Within t c =
+    let time = c.args.time in
+    let zones = c.args.zones.now in
+    let body = mark_of c.in_ok-body-in-Within.body in
+    let tree = tree_of c.deref-in-Within.result.now in
+    let ends = c.in-Within.field-1 in
+    let form : tree_of c.args.expr.now ≡ restriction tree ends =
+    ap tree_of c.in-Within.is
+    ∙ ap (λ e. restriction (tree_of e) ends) (sym c.deref-in-Within.ensures) in
+    IfOk-weaker c.lasting_at.result _ _
+    (λ mark is. start_moved time zones (restriction_one time time zones body restriction_none)
+    (mark_of mark) (restriction tree ends) (tree_of c.args.expr.now) is form
+    (start_restriction time zones c.requires.ends c.in_ok-moment-in-Within.moment
+    c.in_ok-moment-in-Within.ensures body tree ends c.in_ok-body-in-Within.ensures))
+    c.lasting_at.ensures

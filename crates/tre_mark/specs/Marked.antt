@@ -1,0 +1,105 @@
+-- What a mark means over a rest of a trace, and when it is well.
+use Rattle.std.specs.Prelude.{◌≡◌, ℕ, ◌+◌, ◌*◌, ◌<◌, ◌≤◌, ◌↔◌, List, [], MatchOption, Option}
+use Rattle.tre_pairs.specs.Cuts.{IsMoment, JoinedAt}
+use Rattle.tre_pairs.specs.Pairs.{Pairs, Composed, Either, Both, Lasting}
+use Rattle.tre_residual.specs.Residual.{Held, EndAt}
+use Rattle.tre_syntax.specs.Meaning.{MatchesRest}
+use Rattle.tre_syntax.specs.PatternTree.{Atom, PatternTree, empty, literal, rise, fall, atom, sequence, alternation, intersection, repetition, restriction}
+use Rattle.tre_syntax.specs.Rest.{Rest, rest_of}
+use Rattle.tre_trace.specs.declared.segment.Segment.{Segment}
+use Rattle.tre_zone.specs.Interval.{IntervalEnds, LastsWithin}
+use Rattle.tre_zone.specs.declared.zone_bounds.ZoneBounds.{ZoneBounds}
+use Rattle.tre_mark.specs.MarkTree.{MarkTree, atom_mark, sequence_mark, alternation_mark, repetition_mark, intersection_none, intersection_one, restriction_none, restriction_one}
+
+-- How an atom that has begun earlier goes on where the rest starts: only a literal does. It ends
+-- there, or holds on.
+abbrev pub GoesOn : Rest → Atom → Pairs
+GoesOn rest empty a b n = ⊥
+GoesOn rest (literal state) a b n =
+    Either (IsMoment rest.start) (MatchesRest (atom (literal state)) rest) a b n
+GoesOn rest (rise state) a b n = ⊥
+GoesOn rest (fall state) a b n = ⊥
+
+-- The pairs that a mark of the expression stands for, where this rest of a trace comes.
+abbrev pub Marked : Rest → MarkTree → PatternTree → Pairs
+Marked rest (atom_mark here begun) (atom x) a b n =
+    Either (JoinedAt rest.start (Held here) (MatchesRest (atom x) rest))
+    (JoinedAt rest.start (Held begun) (GoesOn rest x)) a b n
+Marked rest (sequence_mark one other) (sequence left right) a b n =
+    Either (Composed (Marked rest one left) (MatchesRest right rest))
+    (Marked rest other right) a b n
+Marked rest (alternation_mark one other) (alternation left right) a b n =
+    Either (Marked rest one left) (Marked rest other right) a b n
+Marked rest (repetition_mark here body) (repetition tree) a b n =
+    Either (JoinedAt rest.start (Held here) (MatchesRest (repetition tree) rest))
+    (Composed (Marked rest body tree) (MatchesRest (repetition tree) rest)) a b n
+Marked rest (intersection_one from to outer one other others) (intersection left right) a b n =
+    Either (Composed (Held outer) (Both (Marked rest one left) (Marked rest other right)))
+    (Marked rest others (intersection left right)) a b n
+Marked rest (restriction_one from to outer one others) (restriction tree ends) a b n =
+    Either (Composed (Held outer) (Lasting (LastsWithin ends) (Marked rest one tree)))
+    (Marked rest others (restriction tree ends)) a b n
+Marked rest mark tree a b n = ⊥
+
+-- Each pair of the set ends at one of the two times or between them.
+pub record EndBetween (low high : ℕ) (zones : List ZoneBounds) : Type 0 where
+  pub begin : (a b n : ℕ) → 0 < n → Held zones a b n → low * n ≤ b
+  pub end : (a b n : ℕ) → 0 < n → Held zones a b n → b ≤ high * n
+
+-- Each pair of the set ends from `from` to `to`, and that is not after the time.
+pub record IsEntered (time from to : ℕ) (outer : List ZoneBounds) : Type 0 where
+  pub rising : from ≤ to
+  pub past : to ≤ time
+  pub ends : EndBetween from to outer
+
+-- What begins at `to` may still be in the interval where it ends at the time or later.
+abbrev pub IsInReach : ℕ → ℕ → IntervalEnds → Type 0
+IsInReach time to ends = MatchOption ends.high (Unit {0}) (λ high. time ≤ to + high)
+
+-- Which pairs an atom keeps as begun: those of a literal end at the time, and others have none.
+abbrev pub IsBegun : ℕ → List ZoneBounds → Atom → Type 0
+IsBegun time begun empty = begun ≡ []
+IsBegun time begun (literal state) = EndAt time begun
+IsBegun time begun (rise state) = begun ≡ []
+IsBegun time begun (fall state) = begun ≡ []
+
+-- The mark has the shape of the expression, each pair that is here or has begun ends at the time,
+-- and each instance was entered up to then and is not too old.
+abbrev pub IsWell : ℕ → MarkTree → PatternTree → Type 0
+IsWell time (atom_mark here begun) (atom x) = EndAt time here × IsBegun time begun x
+IsWell time (sequence_mark one other) (sequence left right) =
+    IsWell time one left × IsWell time other right
+IsWell time (alternation_mark one other) (alternation left right) =
+    IsWell time one left × IsWell time other right
+IsWell time (repetition_mark here body) (repetition tree) = EndAt time here × IsWell time body tree
+IsWell time intersection_none (intersection left right) = Unit {0}
+IsWell time (intersection_one from to outer one other others) (intersection left right) =
+    IsEntered time from to outer × IsWell time one left × IsWell time other right
+    × IsWell time others (intersection left right)
+IsWell time restriction_none (restriction tree ends) = Unit {0}
+IsWell time (restriction_one from to outer one others) (restriction tree ends) =
+    IsEntered time from to outer × IsInReach time to ends × IsWell time one tree
+    × IsWell time others (restriction tree ends)
+IsWell time mark tree = ⊥
+
+-- The mark is one of the expression at the time.
+pub record IsWellAt (time : ℕ) (mark : MarkTree) (tree : PatternTree) : Type 0 where
+  pub well : IsWell time mark tree
+
+-- The mark stands for no pair, whatever the expression and whatever comes.
+pub record IsNothing (mark : MarkTree) : Type 0 where
+  pub never : (tree : PatternTree) (rest : Rest) (a b n : ℕ) → Marked rest mark tree a b n → ⊥
+
+-- The mark is one of the expression at every time, and nothing has begun.
+pub record IsUnbegun (mark : MarkTree) (tree : PatternTree) : Type 0 where
+  pub nothing : IsNothing mark
+  pub well : (time : ℕ) → IsWellAt time mark tree
+
+-- The mark stands for a pair of the set up to the time, and then a match of what comes, and is well
+-- there.
+pub record IsStart (time : ℕ) (zones : List ZoneBounds) (mark : MarkTree) (tree : PatternTree)
+    : Type 0 where
+  pub pairs : (before : Option ℕ) (segments : List Segment) (a b n : ℕ) → 0 < n
+      → Marked (rest_of time before segments) mark tree a b n
+      ↔ JoinedAt time (Held zones) (MatchesRest tree (rest_of time before segments)) a b n
+  pub well : IsWellAt time mark tree

@@ -1,0 +1,50 @@
+ghost use Rattle.std.specs.Prelude.{IfOk};
+ghost use Rattle.tre_syntax.specs.Expr.{tree_of};
+ghost use Rattle.tre_syntax.specs.PatternTree.{Atom, atom};
+ghost use Rattle.tre_mark.specs.MarkTree.{mark_of};
+ghost use Rattle.tre_mark.specs.Marked.{IsUnbegun};
+
+use crate::forms::{alternation, atom, repetition, sequence};
+use crate::mark::{Instances, Mark};
+use std::alloc::{AllocError, Global};
+use tre_syntax::Expr;
+use tre_zoneset::ZoneSet;
+
+impl Mark {
+    /// The mark of an expression of which nothing has begun.
+    ///
+    /// It goes as deep as the expression does.
+    pub fn empty(alloc: Global, expr: &Expr) -> Result<Mark, AllocError>
+        ensures { IfOk result (λ mark. IsUnbegun (mark_of mark) (tree_of expr.now)) }
+    {
+        match expr {
+            Expr::Eps => Ok(no_atom(alloc)),
+            Expr::Lit(_) => Ok(no_atom(alloc)),
+            Expr::Rise(_) => Ok(no_atom(alloc)),
+            Expr::Fall(_) => Ok(no_atom(alloc)),
+            Expr::Seq(left, right) => {
+                let left = Mark::empty(alloc, left)?;
+                let right = Mark::empty(alloc, right)?;
+                sequence(alloc, left, right)
+            }
+            Expr::Alt(left, right) => {
+                let left = Mark::empty(alloc, left)?;
+                let right = Mark::empty(alloc, right)?;
+                alternation(alloc, left, right)
+            }
+            Expr::Star(body) => {
+                let body = Mark::empty(alloc, body)?;
+                repetition(alloc, ZoneSet::new(alloc), body)
+            }
+            Expr::Meet(_, _) => Ok(Mark::Meet(Instances::new(alloc))),
+            Expr::Within(_, _) => Ok(Mark::Within(Instances::new(alloc))),
+        }
+    }
+}
+
+// The mark of an atom that has not begun.
+fn no_atom(alloc: Global) -> Mark
+    ensures { (x : Atom) → IsUnbegun (mark_of result) (atom x) }
+{
+    atom(ZoneSet::new(alloc), ZoneSet::new(alloc))
+}

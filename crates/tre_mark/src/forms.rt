@@ -1,0 +1,99 @@
+// The forms of a mark, each from its parts.
+ghost use Rattle.std.specs.Prelude.{◌≡◌, ◌≤◌, IfOk};
+ghost use Rattle.tre_pairs.specs.declared.TheConstants.{TIME_MAX};
+ghost use Rattle.tre_zone.specs.Zone.{IsInstantBetween};
+ghost use Rattle.tre_zone.specs.ZoneList.{HoldExactly};
+ghost use Rattle.tre_mark.specs.MarkTree.{MarkTree, atom_mark, sequence_mark, alternation_mark, repetition_mark, intersection_one, restriction_one, mark_of, instance_before};
+
+use crate::mark::{Instance, Mark};
+use std::alloc::{AllocError, Global};
+use tre_zone::Zone;
+use tre_zoneset::ZoneSet;
+
+/// The mark of an atom.
+pub fn atom(here: ZoneSet, begun: ZoneSet) -> Mark
+    ensures { mark_of result ≡ atom_mark here begun }
+{
+    Mark::Atom { here, begun }
+}
+
+/// The mark of a sequence.
+pub fn sequence(alloc: Global, left: Mark, right: Mark) -> Result<Mark, AllocError>
+    ensures { IfOk result (λ mark. mark_of mark ≡ sequence_mark (mark_of left) (mark_of right)) }
+{
+    let left = Box::new(alloc, left)?;
+    let right = Box::new(alloc, right)?;
+    Ok(Mark::Seq(left, right))
+}
+
+/// The mark of an alternation.
+pub fn alternation(alloc: Global, left: Mark, right: Mark) -> Result<Mark, AllocError>
+    ensures { IfOk result (λ mark. mark_of mark ≡ alternation_mark (mark_of left) (mark_of right)) }
+{
+    let left = Box::new(alloc, left)?;
+    let right = Box::new(alloc, right)?;
+    Ok(Mark::Alt(left, right))
+}
+
+/// The mark of a repetition.
+pub fn repetition(alloc: Global, here: ZoneSet, body: Mark) -> Result<Mark, AllocError>
+    ensures { IfOk result (λ mark. mark_of mark ≡ repetition_mark here (mark_of body)) }
+{
+    let body = Box::new(alloc, body)?;
+    Ok(Mark::Star { here, body })
+}
+
+/// An instance of an intersection.
+pub fn both(
+    alloc: Global,
+    from: u64,
+    to: u64,
+    outer: ZoneSet,
+    left: Mark,
+    right: Mark,
+) -> Result<Instance, AllocError>
+    ensures { IfOk result (λ instance. (others : MarkTree) → instance_before instance others
+        ≡ intersection_one from to outer (mark_of left) (mark_of right) others) }
+{
+    let left = Box::new(alloc, left)?;
+    let right = Box::new(alloc, right)?;
+    Ok(Instance {
+        from,
+        to,
+        outer,
+        left,
+        right: Some(right),
+    })
+}
+
+/// An instance of a restriction.
+pub fn lasting(
+    alloc: Global,
+    from: u64,
+    to: u64,
+    outer: ZoneSet,
+    body: Mark,
+) -> Result<Instance, AllocError>
+    ensures { IfOk result (λ instance. (others : MarkTree) → instance_before instance others
+        ≡ restriction_one from to outer (mark_of body) others) }
+{
+    let left = Box::new(alloc, body)?;
+    Ok(Instance {
+        from,
+        to,
+        outer,
+        left,
+        right: None,
+    })
+}
+
+/// The moments from one time to another.
+pub fn moments(alloc: Global, from: u64, to: u64) -> Result<ZoneSet, AllocError>
+    requires order { from ≤ to }
+    requires limit { to ≤ TIME_MAX }
+    ensures { IfOk result (λ zones. HoldExactly zones (IsInstantBetween from to)) }
+{
+    let mut zones = ZoneSet::new(alloc);
+    zones.add(Zone::instants(from, to))?;
+    Ok(zones)
+}

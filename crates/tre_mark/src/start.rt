@@ -1,0 +1,68 @@
+ghost use Rattle.std.specs.Prelude.{ℕ, ◌≤◌, IfOk};
+ghost use Rattle.tre_pairs.specs.declared.TheConstants.{TIME_MAX};
+ghost use Rattle.tre_residual.specs.Residual.{EndAt};
+ghost use Rattle.tre_syntax.specs.Expr.{tree_of};
+ghost use Rattle.tre_syntax.specs.PatternTree.{Atom, atom};
+ghost use Rattle.tre_mark.specs.MarkTree.{mark_of};
+ghost use Rattle.tre_mark.specs.Marked.{IsStart};
+
+use crate::forms::{alternation, atom, moments, repetition, sequence};
+use crate::instance::{both_at, lasting_at};
+use crate::mark::Mark;
+use std::alloc::{AllocError, Global};
+use tre_syntax::Expr;
+use tre_zoneset::ZoneSet;
+
+impl Mark {
+    /// The mark of an expression that may begin behind each pair of the set, which ends at `time`.
+    ///
+    /// It goes as deep as the expression does.
+    pub fn start(alloc: Global, expr: &Expr, zones: &ZoneSet, time: u64) -> Result<Mark, AllocError>
+        requires time { time ≤ TIME_MAX }
+        requires ends { EndAt time zones.now }
+        ensures { IfOk result (λ mark.
+            IsStart time zones.now (mark_of mark) (tree_of expr.now)) }
+    {
+        match expr {
+            Expr::Eps => atom_at(alloc, zones),
+            Expr::Lit(_) => atom_at(alloc, zones),
+            Expr::Rise(_) => atom_at(alloc, zones),
+            Expr::Fall(_) => atom_at(alloc, zones),
+            Expr::Seq(left, right) => {
+                let left = Mark::start(alloc, left, zones, time)?;
+                let right = Mark::empty(alloc, right)?;
+                sequence(alloc, left, right)
+            }
+            Expr::Alt(left, right) => {
+                let left = Mark::start(alloc, left, zones, time)?;
+                let right = Mark::start(alloc, right, zones, time)?;
+                alternation(alloc, left, right)
+            }
+            Expr::Star(body) => {
+                let body = Mark::empty(alloc, body)?;
+                let here = zones.try_clone()?;
+                repetition(alloc, here, body)
+            }
+            Expr::Meet(left, right) => {
+                let moment = moments(alloc, time, time)?;
+                let left = Mark::start(alloc, left, &moment, time)?;
+                let right = Mark::start(alloc, right, &moment, time)?;
+                both_at(alloc, zones, time, left, right)
+            }
+            Expr::Within(body, _) => {
+                let moment = moments(alloc, time, time)?;
+                let body = Mark::start(alloc, body, &moment, time)?;
+                lasting_at(alloc, zones, time, body)
+            }
+        }
+    }
+}
+
+// The mark of an atom that may begin behind each pair of the set.
+fn atom_at(alloc: Global, zones: &ZoneSet) -> Result<Mark, AllocError>
+    ensures { IfOk result (λ mark. (time : ℕ) (x : Atom) → EndAt time zones.now
+        → IsStart time zones.now (mark_of mark) (atom x)) }
+{
+    let here = zones.try_clone()?;
+    Ok(atom(here, ZoneSet::new(alloc)))
+}
