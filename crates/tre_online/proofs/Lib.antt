@@ -1,0 +1,3 @@
+pub mod NewZones
+pub mod Standing
+pub mod Nodes

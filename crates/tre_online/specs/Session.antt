@@ -1,0 +1,67 @@
+-- Sessions: what one stands for, and what it tells of a segment.
+use Rattle.std.specs.Prelude.{◌≡◌, ℕ, ◌*◌, ◌<◌, ◌≤◌, ◌↔◌, None, Contains, List, [], ◌∷◌, ◌++◌}
+use Rattle.tre_pairs.specs.Pairs.{Either}
+use Rattle.tre_mark.specs.MarkTree.{MarkTree, mark_of}
+use Rattle.tre_mark.specs.Marked.{Marked}
+use Rattle.tre_syntax.specs.Cut.{CutRest, last_of, back_of, MatchesAcross}
+use Rattle.tre_syntax.specs.Meaning.{Matches}
+use Rattle.tre_syntax.specs.Pattern.{pattern_tree}
+use Rattle.tre_syntax.specs.PatternTree.{PatternTree}
+use Rattle.tre_syntax.specs.declared.pattern.Pattern.{Pattern}
+use Rattle.tre_trace.specs.Trace.{AreLong, end_of, IsTrace}
+use Rattle.tre_trace.specs.declared.segment.Segment.{Segment}
+use Rattle.tre_zone.specs.ZoneList.{SetHolds, IsApart, AreTight, HoldExactly}
+use Rattle.tre_zone.specs.declared.zone_bounds.ZoneBounds.{ZoneBounds}
+use Rattle.tre_online.specs.Told.{WasTold}
+use Rattle.tre_online.specs.declared.session.Session.{Session}
+
+-- The pattern that the session matches.
+abbrev pub pattern_of : Session → Pattern
+pattern_of session = session.pattern
+
+-- When its trace ends so far, in ticks.
+abbrev pub at_of : Session → ℕ
+at_of session = session.at
+
+-- The zones that it told of its last segment.
+abbrev pub ended_of : Session → List ZoneBounds
+ended_of session = session.ended
+
+-- A trace that is cut where its first segments end.
+abbrev pub cut_after : List Segment → List Segment → CutRest
+cut_after segments next =
+    record { start = 0; before = None; front = segments; back = next }
+
+-- The mark stands for the matches that the end of the segments cuts, whatever comes next.
+pub record AwaitsMatches (mark : MarkTree) (tree : PatternTree) (segments : List Segment) : Type 0
+  where
+    pub exact : (next : List Segment) (a b n : ℕ) → AreLong next → 0 < n
+        → Marked (back_of (cut_after segments next)) mark tree a b n
+        ↔ MatchesAcross tree (cut_after segments next) a b n
+
+-- The session has read these segments. It keeps when they end, the last valuation and what it told
+-- last, which are matches; and its mark means, whatever comes next, the matches that begin no later
+-- than they end and end no earlier.
+pub record StandsFor (session : Session) (segments : List Segment) : Type 0 where
+  pub trace : IsTrace segments
+  pub at : at_of session ≡ end_of 0 segments
+  pub last : session.last ≡ last_of None segments
+  pub awaits : AwaitsMatches (mark_of session.mark) (pattern_tree (pattern_of session)) segments
+  pub ended : (a b n : ℕ) → 0 < n → a ≤ b → SetHolds (ended_of session) a b n
+      → Matches (pattern_tree (pattern_of session)) segments a b n
+  pub unstarted : segments ≡ [] → ended_of session ≡ []
+
+-- What is told of a segment that comes behind these segments, where `earlier` was told last: a set
+-- of zones, none of which is included in another or in one that was told last. Its pairs end where
+-- the segment begins, or later, and are with the matches before just the matches now. Of the first
+-- segment it tells all matches.
+pub record TellsNew (tree : PatternTree) (segments : List Segment) (segment : Segment)
+    (earlier told : List ZoneBounds) : Type 0 where
+  pub apart : IsApart told
+  pub tight : AreTight told
+  pub all : (a b n : ℕ) → 0 < n → a ≤ b
+      → Either (SetHolds told) (Matches tree segments) a b n
+      ↔ Matches tree (segments ++ segment ∷ []) a b n
+  pub first : segments ≡ [] → HoldExactly told (Matches tree (segment ∷ []))
+  pub late : (a b n : ℕ) → 0 < n → a ≤ b → SetHolds told a b n → end_of 0 segments * n ≤ b
+  pub new : (zone : ZoneBounds) → Contains told zone → WasTold earlier zone → ⊥

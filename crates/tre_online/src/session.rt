@@ -1,0 +1,181 @@
+ghost use Rattle.std.specs.Prelude.{◌≡◌, ◌≤◌};
+ghost use Rattle.tre_pairs.specs.declared.TheConstants.{TIME_MAX};
+ghost use Rattle.tre_online.specs.Well.{IsWellNow, IsProp-IsWellNow};
+
+use crate::told::not_told;
+use std::alloc::{AllocError, Global};
+use tre_advance::advance;
+use tre_edges::Piece;
+use tre_mark::{Mark, moments};
+use tre_pairs::TIME_MAX;
+use tre_syntax::Pattern;
+use tre_trace::{PushFault, Segment};
+use tre_zoneset::ZoneSet;
+
+/// The matches of a pattern over a trace that is still coming.
+///
+/// It keeps the pattern, when the trace ends so far, what held last, the zones that it told last,
+/// and what may still become a match; and none of the segments.
+#[derive(Debug, Drop)]
+pub struct Session {
+    alloc: Global,
+    pattern: Pattern,
+    at: u64,
+    last: Option<u64>,
+    ended: ZoneSet,
+    mark: Mark,
+    ghost in_time: { at ≤ TIME_MAX },
+    ghost well: { IsWellNow at mark pattern } by { IsProp-IsWellNow at mark pattern },
+}
+
+impl Session {
+    ghost use Rattle.std.specs.Prelude.{[], ◌∷◌, ◌++◌, List, IfOk, OnOk, OnErr, IfErr};
+    ghost use Rattle.tre_edges.specs.declared.piece.Piece.{Piece};
+    ghost use Rattle.tre_trace.specs.Trace.{end_of, Fits, IsRefusedFor};
+    ghost use Rattle.tre_trace.specs.declared.segment.Segment.{Segment};
+    ghost use Rattle.tre_mark.specs.MarkTree.{mark_of};
+    ghost use Rattle.tre_mark.specs.Nodes.{form_count, HasNoInstances};
+    ghost use Rattle.tre_syntax.specs.PatternTree.{node_count};
+    ghost use Rattle.tre_syntax.specs.Pattern.{pattern_tree, names_of};
+    ghost use Rattle.tre_online.specs.Session.{pattern_of, at_of, ended_of, StandsFor, TellsNew};
+    ghost use Rattle.tre_online.specs.Reading.{AreMoments, IsPieceFor, Reads};
+
+    /// A session that has read no segment.
+    pub fn new(alloc: Global, pattern: Pattern) -> Result<Session, AllocError>
+        ensures stands { IfOk result (λ session. StandsFor session []) }
+        ensures tree { IfOk result (λ session.
+            pattern_tree (pattern_of session) ≡ pattern_tree pattern) }
+        ensures names { IfOk result (λ session.
+            names_of (pattern_of session) ≡ names_of pattern) }
+    {
+        let start = Session::moments(alloc, 0, 0)?;
+        let mark = Mark::start(alloc, pattern.expr(), &start, 0)?;
+        Ok(Session {
+            alloc,
+            pattern,
+            at: 0,
+            last: None,
+            ended: ZoneSet::new(alloc),
+            mark,
+        })
+    }
+
+    /// When the trace ends so far, in ticks.
+    pub fn at(&self) -> u64
+        ensures { result ≡ at_of self.now }
+    {
+        self.at
+    }
+
+    /// The pattern.
+    pub fn pattern(&self) -> &Pattern
+        ensures tree { pattern_tree result.now ≡ pattern_tree (pattern_of self.now) }
+        ensures names { names_of result.now ≡ names_of (pattern_of self.now) }
+    {
+        &self.pattern
+    }
+
+    /// How many nodes there are in what may still become a match, however many segments came. For a
+    /// pattern without `&` and `%` they are no more than the pattern has.
+    pub fn kept_nodes(&self) -> u64
+        ensures same { HasNoInstances (pattern_tree (pattern_of self.now)) →
+            result ≡ form_count (pattern_tree (pattern_of self.now)) }
+        ensures bound { HasNoInstances (pattern_tree (pattern_of self.now)) →
+            result ≤ node_count (pattern_tree (pattern_of self.now)) }
+    {
+        self.mark.nodes()
+    }
+
+    /// Reads a segment, and tells what has become a match with it: the matches that end within the
+    /// segment, with an edge at its begin known and none at its end. A segment of no time is
+    /// refused as `Zero`, whatever its end would be.
+    pub fn segment(&mut self, segment: Segment) -> Result<ZoneSet, PushFault>
+        // Whatever it stood for, it then stands for that and the segment.
+        ensures stands { (segments : List Segment) → StandsFor self.old segments →
+            OnOk result (StandsFor self.new (segments ++ segment ∷ [])) }
+        ensures fits { (segments : List Segment) → StandsFor self.old segments →
+            OnOk result (Fits segments segment) }
+        ensures tells { (segments : List Segment) → StandsFor self.old segments →
+            IfOk result (λ told. TellsNew (pattern_tree (pattern_of self.old)) segments segment
+            (ended_of self.old) told) }
+        ensures ended { IfOk result (λ told. ended_of self.new ≡ told) }
+        ensures tree { pattern_tree (pattern_of self.new) ≡ pattern_tree (pattern_of self.old) }
+        ensures names { names_of (pattern_of self.new) ≡ names_of (pattern_of self.old) }
+
+        // Each fault comes exactly where it says, and the session is unchanged after it.
+        ensures refused { (segments : List Segment) → StandsFor self.old segments →
+            IfErr result (IsRefusedFor segments segment) }
+        ensures unchanged { OnErr result (self.new ≡ self.old) }
+    {
+        let piece = self.piece(segment)?;
+        match self.read(&piece) {
+            Ok(read) => {
+                self.at = piece.begin + segment.len;
+                self.last = Some(segment.val);
+                self.ended = read.ended;
+                self.mark = read.mark;
+                Ok(read.told)
+            }
+            Err(_) => Err(PushFault::Memory),
+        }
+    }
+
+    // The moments from one time to another, each as a pair.
+    fn moments(alloc: Global, from: u64, to: u64) -> Result<ZoneSet, AllocError>
+        requires order { from ≤ to }
+        requires limit { to ≤ TIME_MAX }
+        ensures { IfOk result (λ zones. AreMoments from to zones) }
+    {
+        moments(alloc, from, to)
+    }
+
+    // The segment where the trace ends so far.
+    fn piece(&self, segment: Segment) -> Result<Piece, PushFault>
+        ensures ok { IfOk result (IsPieceFor self.now segment) }
+        ensures err { (segments : List Segment) → at_of self.now ≡ end_of 0 segments →
+            IfErr result (IsRefusedFor segments segment) }
+    {
+        if segment.len == 0 {
+            return Err(PushFault::Zero);
+        }
+        let end = u128::from(self.at) + u128::from(segment.len);
+        if end > u128::from(TIME_MAX) {
+            return Err(PushFault::TooLate { end });
+        }
+        Ok(Piece {
+            begin: self.at,
+            segment,
+            before: self.last,
+        })
+    }
+
+    // What is told of the piece, and what is left behind it.
+    fn read(&self, piece: &Piece) -> Result<Read, AllocError>
+        requires { IsPieceFor self.now piece.now.segment piece.now }
+        ensures reads { IfOk result (λ read. Reads (mark_of self.now.mark)
+            (pattern_tree (pattern_of self.now)) (ended_of self.now) piece.now read.told
+            (mark_of read.mark)) }
+        ensures twice { IfOk result (λ read. read.ended ≡ read.told) }
+    {
+        let end = piece.begin + piece.segment.len;
+        let entering = Session::moments(self.alloc, piece.begin, end)?;
+        let expr = self.pattern.expr();
+        let advanced = advance(self.alloc, &self.mark, expr, &entering, piece)?;
+        let told = not_told(self.alloc, &advanced.told, &self.ended)?;
+        let ended = told.try_clone()?;
+        Ok(Read {
+            told,
+            ended,
+            mark: advanced.rest,
+        })
+    }
+}
+
+// What a segment gives to a session.
+#[derive(Debug, Drop)]
+struct Read {
+    // What is told of the segment, twice: for the caller, and to be kept.
+    told: ZoneSet,
+    ended: ZoneSet,
+    mark: Mark,
+}
