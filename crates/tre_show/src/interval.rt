@@ -5,23 +5,15 @@ ghost use Rattle.tre_zone.specs.Interval.{IsInterval};
 ghost use Rattle.tre_show.specs.Interval.{number_text, lower_text, upper_text};
 ghost use Rattle.tre_show.specs.Interval.{end_text, interval_text};
 
-use itoa::Buffer;
+use crate::decimal::number;
 use std::alloc::AllocError;
 use tre_zone::Interval;
-
-pub(crate) fn push_number(text: &mut String, ticks: u64) -> Result<(), AllocError>
-    ensures { OnOk result (string_bytes text.new ≡ string_bytes text.old ++ number_text ticks) }
-{
-    let mut buffer = Buffer::new();
-    text.push_str(buffer.format(ticks))?;
-    Ok(())
-}
 
 pub(crate) fn push_lower(text: &mut String, low: u64, weak: bool) -> Result<(), AllocError>
     ensures { OnOk result (string_bytes text.new ≡ string_bytes text.old ++ lower_text low weak) }
 {
     text.push_str(opening(weak))?;
-    push_number(text, low)?;
+    number(low, text)?;
     text.push_str(",")?;
     Ok(())
 }
@@ -29,7 +21,7 @@ pub(crate) fn push_lower(text: &mut String, low: u64, weak: bool) -> Result<(), 
 pub(crate) fn push_upper(text: &mut String, high: u64, weak: bool) -> Result<(), AllocError>
     ensures { OnOk result (string_bytes text.new ≡ string_bytes text.old ++ upper_text high weak) }
 {
-    push_number(text, high)?;
+    number(high, text)?;
     text.push_str(closing(weak))?;
     Ok(())
 }

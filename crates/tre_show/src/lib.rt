@@ -2,9 +2,9 @@
 //!
 //! [`zone_line`] appends the line of a zone: three ranges that tell exactly the pairs that the zone
 //! holds. [`offline_text`] is the text of a whole match, of zones that [`printed_order`] puts in
-//! order. [`pattern_text`] is the text of a pattern, which spells it. The layers above may rely on
-//! the definitions of the three texts, and on the laws of them that stand in [`laws`]: one text is
-//! that of one list of zones and one end.
+//! order. [`pattern_text`] is the text of a pattern, which spells it. [`number`] appends the digits
+//! of a number. The layers above may rely on the definitions of the texts, and on the laws of them
+//! that stand in [`laws`]: one text is that of one list of zones and one end.
 //!
 //! ```text
 //! let zones = printed_order(alloc, &set)?;
@@ -13,11 +13,13 @@
 //! ```
 #![tactic(auto)]
 
+pub use decimal::number;
 pub use line::zone_line;
 pub use offline::offline_text;
 pub use order::printed_order;
 pub use pattern::pattern_text;
 
+mod decimal;
 mod interval;
 pub mod laws;
 mod line;

@@ -2,7 +2,7 @@
 ghost use Rattle.std.specs.Prelude.{◌≡◌, string_bytes, IfOk};
 ghost use Rattle.tre_show.specs.Line.{offline_text};
 
-use crate::interval::push_number;
+use crate::decimal::number;
 use crate::line::push_line;
 use std::alloc::{AllocError, Global};
 use tre_zone::Zone;
@@ -16,7 +16,7 @@ pub fn offline_text(alloc: Global, zones: &[Zone], end: u64) -> Result<String, A
         push_line(&mut text, zone)?;
     }
     text.push_str("end ")?;
-    push_number(&mut text, end)?;
+    number(end, &mut text)?;
     text.push_str("\n")?;
     Ok(text)
 }

@@ -1,5 +1,5 @@
 // The zones of a set, in the order in which they are printed.
-ghost use Rattle.std.specs.Prelude.{◌≡◌, ℕ, neg_ℤ, ◌^◌, ◌↔◌, IfOk};
+ghost use Rattle.std.specs.Prelude.{◌≡◌, ℕ, neg_ℤ, ◌^◌, ◌↔◌, IfOk, IsPermutation};
 ghost use Rattle.tre_zone.specs.Bound.{IsKeyWithin};
 ghost use Rattle.tre_zone.specs.ZoneList.{SetHolds, IsApart, AreCanonical, AreTight};
 ghost use Rattle.tre_show.specs.Order.{sort_key, IsRising};
@@ -38,6 +38,7 @@ fn copy_of(alloc: Global, zones: &[Zone]) -> Result<Vec<Zone>, AllocError>
 
 /// The zones of the set in rising order of their lines.
 pub fn printed_order(alloc: Global, set: &ZoneSet) -> Result<Vec<Zone>, AllocError>
+    ensures same { IfOk result (λ zones. IsPermutation set.now zones.items) }
     ensures held { IfOk result (λ zones.
         (a b n : ℕ) → SetHolds zones.items a b n ↔ SetHolds set.now a b n) }
     ensures apart { IfOk result (λ zones. IsApart zones.items) }

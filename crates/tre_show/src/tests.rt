@@ -1,4 +1,4 @@
-use crate::{offline_text, pattern_text, printed_order, zone_line};
+use crate::{number, offline_text, pattern_text, printed_order, zone_line};
 use std::alloc::{AllocError, Global};
 use std::test::Fail;
 use tre_state::{Names, State, is_name};
@@ -122,5 +122,15 @@ fn lines_are_in_rising_order(rt: HostRuntime) -> Result<(), Fail> {
     let text = offline_text(alloc, &zones, 9)?;
     let want = "[0,3) (0,3] (0,3]\n[2,2] [2,2] [0,0]\n[5,9) (5,9] (0,4]\nend 9\n";
     assert!(rt; text.as_str() == want);
+    Ok(())
+}
+
+#[test]
+fn a_number_is_its_digits(rt: HostRuntime) -> Result<(), Fail> {
+    let alloc = rt.alloc();
+    let mut out = String::from_str(alloc, "end ")?;
+    number(0, &mut out)?;
+    number(18446744073709551615, &mut out)?;
+    assert!(rt; out.as_str() == "end 018446744073709551615");
     Ok(())
 }

@@ -10,7 +10,7 @@ returns c =
     take-over c.loop-zone.zone-index c.args.zones.now c.loop-zone-test.false in
     rw (
       c.in_ok-push_str-2.ensures.bytes,
-      c.in_ok-push_number.ensures,
+      c.in_ok-number.ensures.text,
       c.in_ok-push_str.ensures.bytes,
       c.loop-zone.invariant,
       all,

@@ -5,6 +5,10 @@ use Rattle.tre_show.specs.Order.{sort_key, IsRising}
 use Rattle.tre_show.proofs.Orders.{SetHolds-permutation, IsApart-permutation, AreCanonical-permutation}
 use Rattle.tre_show.proofs.order.printed_order.Goals as goal
 
+pub returns-clause-same : goal.returns-clause-same
+returns-clause-same c =
+    rw (← c.zones.ensures.same, ← c.in_ok-zones.ensures) c.sort_unstable_by_key.ensures.permutation
+
 pub returns-clause-held : goal.returns-clause-held
 returns-clause-held c = λ a b n.
     rw (← c.zones.ensures.same, ← c.in_ok-zones.ensures)

@@ -1,0 +1,6 @@
+pub mod Counts
+pub mod FixedTrees
+pub mod MadeTraces
+pub mod Probing
+pub mod Telling
+pub mod Summaries

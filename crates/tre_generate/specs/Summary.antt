@@ -1,0 +1,41 @@
+-- The summary of a made trace that was matched.
+use Rattle.std.specs.Prelude.{◌≡◌, ℕ, List, ◌++◌, codes, length}
+use Rattle.tre_offline.specs.MatchSet.{IsMatchSet}
+use Rattle.tre_show.specs.Interval.{number_text}
+use Rattle.tre_syntax.specs.Meaning.{Matches}
+use Rattle.tre_trace.specs.Trace.{end_of}
+use Rattle.tre_zone.specs.declared.zone_bounds.ZoneBounds.{ZoneBounds}
+use Rattle.tre_generate.specs.FixedPattern.{fixed_tree}
+use Rattle.tre_generate.specs.Made.{made_trace}
+use Rattle.tre_generate.specs.Probes.{IsInside, IsProbed, IsCountOf}
+
+-- A line of a word and a number.
+abbrev pub number_line : List ℕ → ℕ → List ℕ
+number_line word number = word ++ number_text number ++ codes "\n"
+
+-- A line of a word and how many of all.
+abbrev pub share_line : List ℕ → ℕ → ℕ → List ℕ
+share_line word part all = word ++ number_text part ++ codes " of " ++ number_text all ++ codes "\n"
+
+-- The five lines: how many segments there are, when they end, how many zones were found in the
+-- whole trace, how many probes are held by them, and at how many the zones that were told segment
+-- by segment are alike.
+abbrev pub summary_text : ℕ → ℕ → ℕ → ℕ → ℕ → ℕ → List ℕ
+summary_text segments end zones held alike probes =
+    number_line (codes "segments ") segments ++ number_line (codes "end ") end
+    ++ number_line (codes "zones ") zones ++ share_line (codes "held ") held probes
+    ++ share_line (codes "alike ") alike probes
+
+-- The text is the summary of the first segments of the made trace, as many as `count`: its zones
+-- are the matches of the fixed pattern, none included in another; `held` of the probes that count
+-- are matches; and at all of them both ways of matching are alike.
+pub record IsSummary (count : ℕ) (text : List ℕ) : Type 0 where
+  pub zones : List ZoneBounds
+  pub matches : IsMatchSet zones fixed_tree (made_trace count)
+  pub probes : ℕ
+  pub probed : IsCountOf (IsInside (made_trace count)) count probes
+  pub held : ℕ
+  pub matched : IsCountOf (IsProbed (Matches fixed_tree (made_trace count)) (made_trace count))
+      count held
+  pub text_is : text
+      ≡ summary_text count (end_of 0 (made_trace count)) (length zones) held probes probes

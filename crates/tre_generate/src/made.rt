@@ -1,0 +1,30 @@
+// The made trace.
+ghost use Rattle.std.specs.Prelude.{◌≡◌, ◌≤◌, [], ◌∷◌, ◌++◌, IfOk, OnOk};
+ghost use Rattle.tre_generate.specs.Made.{made_segment, made_trace};
+ghost use Rattle.tre_generate.specs.declared.made_run.TheConstants.{SEGMENTS_MAX};
+
+use crate::made_run::SEGMENTS_MAX;
+use std::alloc::{AllocError, Global};
+use tre_trace::{Trace, generated};
+
+/// The first segments of the made trace.
+pub fn made_trace(alloc: Global, count: u64) -> Result<Trace, AllocError>
+    requires { count ≤ SEGMENTS_MAX }
+    ensures { IfOk result (λ trace. trace ≡ made_trace count) }
+{
+    let mut trace = Trace::new(alloc);
+    for number in 0..count {
+        push_made(&mut trace, number)?;
+    }
+    Ok(trace)
+}
+
+fn push_made(trace: &mut Trace, number: u64) -> Result<(), AllocError>
+    ensures { OnOk result (trace.new ≡ trace.old ++ made_segment number ∷ []) }
+{
+    match trace.push(generated(number)) {
+        Ok(()) => Ok(()),
+        // So few segments fit, and only memory can lack.
+        Err(_) => Err(AllocError),
+    }
+}

@@ -1,0 +1,73 @@
+// The summary of a made trace.
+ghost use Rattle.std.specs.Prelude.{◌≡◌, ◌++◌, ◌≤◌, codes, string_bytes, IfOk, OnOk};
+ghost use Rattle.tre_generate.specs.Summary.{number_line, share_line, summary_text, IsSummary};
+
+use crate::made::made_trace;
+use crate::pattern::fixed_pattern;
+use crate::tally::{Tally, count_probes};
+use crate::told::told_zones;
+use std::alloc::{AllocError, Global};
+use tre_offline::matches;
+use tre_show::number;
+
+/// How many segments a made trace may have.
+pub const SEGMENTS_MAX: u64 = 10_000;
+
+/// Makes the first `count` segments of the made trace, matches the fixed pattern
+/// `(<:p:>;(!p % [1,2]))+` over them, whole and segment by segment, and compares both at a probe
+/// for each segment.
+pub fn summary(alloc: Global, count: u64) -> Result<String, AllocError>
+    requires some { 1 ≤ count }
+    requires limit { count ≤ SEGMENTS_MAX }
+    ensures { IfOk result (λ text. IsSummary count (string_bytes text)) }
+{
+    let pattern = fixed_pattern(alloc)?;
+    let trace = made_trace(alloc, count)?;
+    let whole = matches(alloc, &pattern, &trace)?;
+    let told = told_zones(alloc, pattern, &trace)?;
+    let tally = count_probes(&trace, &whole, &told);
+    let zones = whole.zones().len() as u64;
+    summary_text(alloc, count, trace.end(), zones, &tally)
+}
+
+// The five lines.
+fn summary_text(
+    alloc: Global,
+    count: u64,
+    end: u64,
+    zones: u64,
+    tally: &Tally,
+) -> Result<String, AllocError>
+    ensures { IfOk result (λ text. string_bytes text
+        ≡ summary_text count end zones tally.now.held tally.now.alike tally.now.probes) }
+{
+    let mut text = String::new(alloc);
+    push_number_line(&mut text, "segments ", count)?;
+    push_number_line(&mut text, "end ", end)?;
+    push_number_line(&mut text, "zones ", zones)?;
+    push_share_line(&mut text, "held ", tally.held, tally.probes)?;
+    push_share_line(&mut text, "alike ", tally.alike, tally.probes)?;
+    Ok(text)
+}
+
+fn push_number_line(text: &mut String, word: &str, value: u64) -> Result<(), AllocError>
+    ensures { OnOk result (string_bytes text.new
+        ≡ string_bytes text.old ++ number_line word.now value) }
+{
+    text.push_str(word)?;
+    number(value, text)?;
+    text.push_str("\n")?;
+    Ok(())
+}
+
+fn push_share_line(text: &mut String, word: &str, part: u64, all: u64) -> Result<(), AllocError>
+    ensures { OnOk result (string_bytes text.new
+        ≡ string_bytes text.old ++ share_line word.now part all) }
+{
+    text.push_str(word)?;
+    number(part, text)?;
+    text.push_str(" of ")?;
+    number(all, text)?;
+    text.push_str("\n")?;
+    Ok(())
+}

@@ -1,0 +1,40 @@
+// The zones that a session tells.
+ghost use Rattle.std.specs.Prelude.{◌≡◌, List, IfOk};
+ghost use Rattle.tre_online.specs.Session.{pattern_of, StandsFor};
+ghost use Rattle.tre_syntax.specs.Pattern.{pattern_tree};
+ghost use Rattle.tre_trace.specs.declared.segment.Segment.{Segment};
+ghost use Rattle.tre_generate.specs.Told.{AreTold, GoesOn};
+
+use std::alloc::{AllocError, Global};
+use tre_online::Session;
+use tre_syntax::Pattern;
+use tre_trace::{Segment, Trace};
+use tre_zoneset::ZoneSet;
+
+/// The zones that a session of the pattern tells of the segments of the trace, one segment after
+/// another.
+pub fn told_zones(alloc: Global, pattern: Pattern, trace: &Trace) -> Result<ZoneSet, AllocError>
+    ensures { IfOk result (λ zones. AreTold (pattern_tree pattern) trace.now zones) }
+{
+    let mut session = Session::new(alloc, pattern)?;
+    let mut zones = Vec::new(alloc);
+    for segment in trace.segments() {
+        let told = told_of(&mut session, *segment)?;
+        zones.extend_from_slice(told.zones())?;
+    }
+    let told = ZoneSet::of_zones(alloc, zones)?;
+    Ok(told)
+}
+
+// What the session tells of the segment.
+fn told_of(session: &mut Session, segment: Segment) -> Result<ZoneSet, AllocError>
+    ensures goes_on { (segments : List Segment) → StandsFor session.old segments →
+        IfOk result (GoesOn session.old session.new segments segment) }
+    ensures tree { pattern_tree (pattern_of session.new) ≡ pattern_tree (pattern_of session.old) }
+{
+    match session.segment(segment) {
+        Ok(told) => Ok(told),
+        // Each segment of a trace fits, and only memory can lack.
+        Err(_) => Err(AllocError),
+    }
+}
