@@ -1,5 +1,5 @@
 -- Where a list is cut.
-use Rattle.std.proofs.Common.{◌≡◌, ℕ, zero, suc, ◌-◌, ◌<◌, ◌≤◌, List, [], ◌∷◌, ◌++◌, length, get_or, take, drop, refl, sym, ap, ◌∙◌, arith, drop-cons, take-append-drop, append-nil}
+use Rattle.std.proofs.Common.{◌≡◌, ℕ, zero, suc, min, ◌-◌, ◌<◌, ◌≤◌, List, [], ◌∷◌, ◌++◌, length, get_or, take, drop, refl, sym, ap, ◌∙◌, arith, drop-cons, take-append-drop, append-nil}
 use Rattle.std.proofs.Math.ListN.{drop_of_length-le}
 
 pub split_around : {X : Type 0} (xs : List X) (k : ℕ) (d : X) → k < length xs
@@ -22,3 +22,14 @@ take_split zero (x ∷ xs) ys = let none : zero - length (x ∷ xs) ≡ zero = o
 take_split (suc n) (x ∷ xs) ys =
     let less : suc n - length (x ∷ xs) ≡ n - length xs = omega arith in
     rw less (ap (λ rest. x ∷ rest) (take_split n xs ys))
+
+-- the shorter of two fronts is the one of the other
+pub take_both : {X : Type 0} (m n : ℕ) (xs : List X) → take (min m n) xs ≡ take n (take m xs)
+take_both zero zero xs = refl
+take_both zero (suc n) xs = let none : min zero (suc n) ≡ zero = omega arith in rw none refl
+take_both (suc m) zero xs = let none : min (suc m) zero ≡ zero = omega arith in rw none refl
+take_both (suc m) (suc n) [] = let more : min (suc m) (suc n) ≡ suc (min m n) = omega arith in
+    rw more refl
+take_both (suc m) (suc n) (x ∷ xs) =
+    let more : min (suc m) (suc n) ≡ suc (min m n) = omega arith in
+    rw more (ap (λ rest. x ∷ rest) (take_both m n xs))

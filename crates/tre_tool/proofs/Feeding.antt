@@ -1,7 +1,7 @@
 -- The bytes that a reader was fed, and what all bytes of the input come to.
-use Rattle.std.proofs.Common.{◌≡◌, ◌∙◌, ◌+◌, ◌-◌, ◌<◌, ◌≤◌, ℕ, nat_le, Bool, true, false, List, [], ◌++◌, length, take, Option, None, Some, IfSome, refl, sym, ap, inl, inr, arith, length-append}
+use Rattle.std.proofs.Common.{◌≡◌, ◌∙◌, ◌-◌, ◌<◌, ◌≤◌, ℕ, nat_le, Bool, true, false, List, ◌++◌, length, take, Option, None, Some, IfSome, refl, sym, ap, inl, inr, arith, length-append}
 use Rattle.std.specs.Io.KnownBytes.{Consumes, IsAtEnd}
-use Rattle.std.proofs.KnownBytes.{Consumes-nil, Consumes-trans, Consumes-whole}
+use Rattle.std.proofs.KnownBytes.{Consumes-whole}
 use Rattle.tre_trace.specs.Reading.{Reading, Grows, Adds, IsRefused}
 use Rattle.tre_trace.specs.Trace.{IsTrace}
 use Rattle.tre_trace.specs.declared.segment.Segment.{Segment}
@@ -10,12 +10,9 @@ use Rattle.tre_tool.proofs.Cuts.{take-over, take_split}
 use Rattle.tre_tool.proofs.Outcomes.{within, beyond}
 use Rattle.tre_tool.proofs.Stops.{kinds}
 use Rattle.std.proofs.lemmas.List.{take-append-le}
-use Rattle.tre_tool.specs.Input.{TakesAtMost}
-use Rattle.tre_tool.specs.Feeding.{IsWhole, StopsReading, StopsPiece}
-use Rattle.tre_tool.specs.Outcome.{refuses, exceeds, outcome_of, outcome_of_reading}
+use Rattle.tre_tool.specs.Feeding.{IsWhole, StopsReading}
+use Rattle.tre_tool.specs.Outcome.{refuses, exceeds, outcome_of, outcome_of_reading, reading_within}
 use Rattle.tre_tool.specs.Status.{trace_status}
-use Rattle.tre_tool.specs.declared.status.Status.{Status}
-use Rattle.tre_tool.specs.declared.status.Status.TheVariants.{Done, Usage, Expression, Trace, InputTooLong, ReadFault, WriteFault, Memory}
 
 -- nothing is taken back when more bytes come
 abbrev pub AllGrow : (Bool → List ℕ → Reading) → Type 0
@@ -38,7 +35,7 @@ unfolding outcome_of
 fault_stays reading grows limit taken left fault told =
     let closed = nat_le (length (taken ++ left)) limit in
     let grown = grows closed (take limit taken) (take (limit - length taken) left) in
-    rw (take_split limit taken left) (refused closed _ fault (ap (λ (r : Reading). r.fault)
+    rw (take_split limit taken left, reading_within) (refused closed _ fault (ap (λ (r : Reading). r.fault)
     (grown.fault fault told) ∙ told))
 
 pub outcome-fault : (reading : Bool → List ℕ → Reading) → AllGrow reading
@@ -59,7 +56,7 @@ unfolding outcome_of
 exceeded reading limit taken left over none =
     let longer : limit < length (taken ++ left) = omega (arith, over, length-append taken left) in
     let inside : limit ≤ length taken = omega (arith, over) in
-    rw (beyond (length (taken ++ left)) limit longer, take-append-le limit taken left inside)
+    rw (beyond (length (taken ++ left)) limit longer, take-append-le limit taken left inside, reading_within)
     (too_long (reading false (take limit taken)) none)
 
 pub outcome-exceeds : (reading : Bool → List ℕ
@@ -78,7 +75,7 @@ closed_refuses : (reading : Bool → List ℕ
     → (reading true bytes).fault ≡ Some fault → outcome_of reading limit bytes ≡ refuses fault
 unfolding outcome_of
 closed_refuses reading limit bytes fault inside told =
-    rw (within (length bytes) limit inside, take-over limit bytes inside)
+    rw (within (length bytes) limit inside, take-over limit bytes inside, reading_within)
     (refused true _ fault told)
 
 pub outcome-refuses : (reading : Bool → List ℕ
@@ -126,100 +123,6 @@ pub fed_more : (limit : ℕ) (taken piece : List ℕ) → length taken ≤ limit
 fed_more limit taken piece inside = sym (take_split limit taken piece
     ∙ ap (λ front. front ++ take (limit - length taken) piece) (take-over limit taken inside))
 
--- These bytes were taken of those that were left, and fed as far as the limit.
-pub record IsTaken (represents : List ℕ → Type 0) (reading : Bool → List ℕ
-    → Reading) (limit : ℕ) (before now : Option (List ℕ))
-    (segments : List Segment) (count : ℕ) : Type 0 where
-  pub taken : List ℕ
-  pub front : Consumes before now taken
-  pub size : length taken ≡ count
-  pub few : count ≤ limit + 1
-  pub fed : represents (take limit taken)
-  pub told : segments ≡ (reading false (take limit taken)).segments
-
--- no byte was taken
-pub IsTaken-start : (represents : List ℕ → Type 0) (reading : Bool → List ℕ
-    → Reading) (limit : ℕ) (left : Option (List ℕ)) → represents []
-    → (reading false []).segments ≡ [] → IsTaken represents reading limit left left [] 0
-IsTaken-start represents reading limit left fresh nothing = record {
-  taken = [];
-  front = Consumes-nil left;
-  size = refl;
-  few = omega arith;
-  fed = rw (take-over {X = ℕ} limit [] (omega arith)) fresh;
-  told = rw (take-over {X = ℕ} limit [] (omega arith)) (sym nothing);
-}
-
--- within the limit all of them were fed
-pub IsTaken-fed : {represents : List ℕ → Type 0} {reading : Bool → List ℕ
-    → Reading} {limit : ℕ} {before now : Option (List ℕ)} {segments : List Segment} {count : ℕ}
-    → (so_far : IsTaken represents reading limit before now segments count) → count ≤ limit
-    → represents so_far.taken
-IsTaken-fed {limit = limit} so_far inside = rw (take-over limit so_far.taken (omega
-    (arith, so_far.size, inside))) at so_far.fed
-
-pub IsTaken-told : {represents : List ℕ → Type 0} {reading : Bool → List ℕ
-    → Reading} {limit : ℕ} {before now : Option (List ℕ)} {segments : List Segment} {count : ℕ}
-    → (so_far : IsTaken represents reading limit before now segments count) → count ≤ limit
-    → segments ≡ (reading false so_far.taken).segments
-IsTaken-told {limit = limit} so_far inside = rw (take-over limit so_far.taken (omega
-    (arith, so_far.size, inside))) at so_far.told
-
--- one more piece was taken, and fed as far as the limit
-pub IsTaken-more : (represents represents' : List ℕ → Type 0) (reading : Bool → List ℕ
-    → Reading) (limit : ℕ) (a b c : Option (List ℕ)) (old new : List Segment) (count more : ℕ)
-    (piece : List ℕ)
-    → (so_far : IsTaken represents reading limit a b old count) → count ≤ limit
-    → Consumes b c piece → length piece ≡ more → more ≤ limit - count + 1
-    → represents' (so_far.taken ++ take (limit - count) piece)
-    → Adds old new (reading false so_far.taken) (reading false (so_far.taken ++ take
-    (limit - count) piece))
-    → IsTaken represents' reading limit a c new (count + more)
-IsTaken-more represents represents' reading limit a b c old new count more piece so_far inside front
-    size few goes_on adds =
-    let short : length so_far.taken ≤ limit = omega (arith, so_far.size, inside) in
-    let whole : so_far.taken ++ take (limit - count) piece ≡ take limit (so_far.taken ++ piece) =
-    ap (λ n. so_far.taken ++ take (limit - n) piece) (sym so_far.size)
-    ∙ fed_more limit so_far.taken piece short in
-    record {
-      taken = so_far.taken ++ piece;
-      front = Consumes-trans a b c so_far.taken piece so_far.front front;
-      size = omega (arith, so_far.size, size, length-append so_far.taken piece);
-      few = omega (arith, few, inside);
-      fed = rw whole at goes_on;
-      told = Adds-now old new _ _ (IsTaken-told so_far inside) (rw whole at adds);
-    }
-
--- a piece was refused
-pub StopsReading-piece : {represents : List ℕ → Type 0} (reading : Bool → List ℕ
-    → Reading) (limit : ℕ) (a b c : Option (List ℕ)) (segments : List Segment) (count : ℕ)
-    (status : Status) → AllGrow reading
-    → (so_far : IsTaken represents reading limit a b segments count) → count ≤ limit
-    → StopsPiece reading (limit - count) so_far.taken b c status
-    → StopsReading reading limit a status
-StopsReading-piece reading limit a b c segments count (Trace fault) grows so_far inside stops =
-    let short : length so_far.taken ≤ limit = omega (arith, so_far.size, inside) in
-    let has = stops.1 in
-    let whole : so_far.taken ++ take (limit - count) has.piece ≡ take limit
-    (so_far.taken ++ has.piece) =
-    ap (λ n. so_far.taken ++ take (limit - n) has.piece) (sym so_far.size)
-    ∙ fed_more limit so_far.taken has.piece short in (
-      stops.0,
-      outcome-fault reading grows limit a c (so_far.taken ++ has.piece) fault
-          (Consumes-trans a b c so_far.taken has.piece so_far.front has.front)
-          (rw whole at has.told),
-    )
-StopsReading-piece reading limit a b c segments count ReadFault grows so_far inside stops = tt
-StopsReading-piece reading limit a b c segments count Memory grows so_far inside stops = tt
-StopsReading-piece reading limit a b c segments count Done grows so_far inside stops = absurd stops
-StopsReading-piece reading limit a b c segments count Usage grows so_far inside stops = absurd stops
-StopsReading-piece reading limit a b c segments count
-    (Expression fault) grows so_far inside stops = absurd stops
-StopsReading-piece reading limit a b c segments count InputTooLong grows so_far inside stops =
-    absurd stops
-StopsReading-piece reading limit a b c segments count WriteFault grows so_far inside stops = absurd
-    stops
-
 -- the end of the input was refused
 pub StopsReading-end : (reading : Bool → List ℕ
     → Reading) (limit : ℕ) (a b : Option (List ℕ)) (old new : List Segment) (taken : List ℕ)
@@ -236,15 +139,3 @@ StopsReading-end reading limit a b old new taken fault front all inside refused 
             outcome-refuses reading limit a b taken fault front all inside (refused.told other.0),
           )
     ]
-
--- what was taken is at most one byte past the limit
-pub IsTaken-bounded : {represents : List ℕ → Type 0} {reading : Bool → List ℕ
-    → Reading} {limit : ℕ} {before now : Option (List ℕ)} {segments : List Segment} {count : ℕ}
-    → IsTaken represents reading limit before now segments count
-    → TakesAtMost (limit + 1) before now
-IsTaken-bounded so_far = record {
-  taken = so_far.taken;
-  few = omega
-      (arith, so_far.size, so_far.few);
-  front = so_far.front;
-}

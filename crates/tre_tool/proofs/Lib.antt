@@ -3,8 +3,13 @@ pub mod Cuts
 pub mod Digits
 pub mod Feeding
 pub mod Inputs
+pub mod OnlineRuns
 pub mod Outcomes
 pub mod Pieces
 pub mod Promise
 pub mod Readings
 pub mod Stops
+pub mod Tellings
+pub mod Told
+pub mod Transcripts
+pub mod Turns

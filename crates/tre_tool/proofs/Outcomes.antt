@@ -3,7 +3,7 @@ use Rattle.std.proofs.Common.{◌≡◌, ◌<◌, ◌≤◌, ℕ, nat_le, true, 
 use Rattle.std.proofs.lemmas.Bool.Decides.{nat_tests}
 use Rattle.tre_trace.specs.declared.segment.Segment.{Segment}
 use Rattle.tre_tool.proofs.Cuts.{take-over}
-use Rattle.tre_tool.specs.Outcome.{Reads, reading_in, completes, outcome_of}
+use Rattle.tre_tool.specs.Outcome.{Reads, reading_in, completes, outcome_of, reading_within}
 use Rattle.tre_tool.specs.declared.job.Format.{Format}
 
 pub within : (count limit : ℕ) → count ≤ limit → nat_le count limit ≡ true
@@ -21,5 +21,6 @@ outcome_of-completes format names limit bytes trace inside reads = rw (
   within
       (length bytes) limit inside,
   take-over limit bytes inside,
+  reading_within,
   reads,
 ) refl

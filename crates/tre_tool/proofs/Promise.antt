@@ -11,7 +11,8 @@ use Rattle.tre_syntax.specs.PatternTree.{PatternTree}
 use Rattle.tre_tool.specs.Job.{GivesJob, GivesNoJob, AreTaken}
 use Rattle.tre_tool.specs.Outcome.{Outcome, completes, refuses, exceeds}
 use Rattle.tre_tool.specs.Answer.{EndsOver, StopsAs, IsFoundFor}
-use Rattle.tre_tool.specs.Run.{Request, request_for, AsksFor, Asks, IsRefused, AsksForNothing, InputTold, OutputTold, EndsAs, EndsDone, EndsTrace, EndsTooLong, EndsReadFault, EndsWriteFault, StandsBeforeFault, StandsBeforeFailedWrite, IsAnswerIn, IsAnswerTo, NothingWritten, AllReadsGood, AllWritesGood, outcome_for, IsStatusFor, IsStatusIn, ReadsInput, IsUnlessMemory, IsComplete}
+use Rattle.tre_tool.specs.Devices.{InputTold, OutputTold, NothingWritten, AllReadsGood, AllWritesGood}
+use Rattle.tre_tool.specs.Run.{Request, request_for, AsksFor, Asks, IsRefused, AsksForNothing, EndsAs, EndsDone, EndsTrace, EndsTooLong, EndsReadFault, EndsWriteFault, StandsAtFault, StandsAtFailedRead, StandsAtFailedWrite, IsAnswerIn, IsAnswerTo, IsOnlineAnswerTo, outcome_for, IsStatusFor, IsStatusIn, ReadsInput, IsUnlessMemory, IsComplete}
 use Rattle.tre_tool.specs.Status.{words_status, parse_status}
 use Rattle.tre_tool.specs.declared.job.WordsFault.{WordsFault}
 use Rattle.tre_tool.specs.declared.job.WordsFault.TheVariants.{Usage as WordsUsage, Memory as WordsMemory}
@@ -111,9 +112,16 @@ nothing_asked words request asks nothing =
     ⊎_elim (λ none. none request.job asks.gives)
     (λ some. spelt_or_refused words request some.0 asks some.1) nothing
 
+-- right answers, offline and online
 done_completes : (request : Request) (bytes text : List ℕ) → IsAnswerTo request bytes text
     → IsStatusFor (outcome_for request bytes) Done
 done_completes request bytes text answer =
+    rw (outcome_of-completes request.job.format request.names request.job.max_bytes bytes
+    answer.trace answer.within answer.reads) (inl refl)
+
+online_completes : (request : Request) (bytes text : List ℕ) → IsOnlineAnswerTo request bytes text
+    → IsStatusFor (outcome_for request bytes) Done
+online_completes request bytes text answer =
     rw (outcome_of-completes request.job.format request.names request.job.max_bytes bytes
     answer.trace answer.within answer.reads) (inl refl)
 
@@ -128,7 +136,9 @@ done_in : (mode : Mode) (request : Request) (input : InputTold) (output : Output
 done_in Offline request input output done same = λ reads.
     let right = rw same at done.right in
     weaker input.file _ _ (λ bytes answer. done_completes request bytes done.text answer) right
-done_in Online request input output done same = absurd (rw same at done.right)
+done_in Online request input output done same = λ reads.
+    let right = rw same at done.right in
+    weaker input.file _ _ (λ bytes answer. online_completes request bytes done.text answer) right
 done_in Show request input output done same = inl refl
 
 memory_in : (mode : Mode) (request : Request) (input : InputTold)
@@ -139,15 +149,28 @@ memory_in Online request input = λ reads. free input.file _ (λ bytes. memory_i
     (outcome_for request bytes))
 memory_in Show request input = inr refl
 
--- a fault of the input, in each mode
-fault_in : (mode : Mode) (request : Request) (input : InputTold) (output : OutputTold)
-    (status : Status) → StandsBeforeFault mode request input output
+-- a run that stops at a fault of the input, or couldn't read it, is one that reads it
+reads_at_fault : (mode : Mode) (request : Request) (input : InputTold) (output : OutputTold)
+    → StandsAtFault mode request input output → ReadsInput mode
+reads_at_fault Offline request input output stands = tt
+reads_at_fault Online request input output stands = tt
+reads_at_fault Show request input output stands = stands
+
+reads_at_failed_read : (mode : Mode) (request : Request) (input : InputTold) (output : OutputTold)
+    → StandsAtFailedRead mode request input output → ReadsInput mode
+reads_at_failed_read Offline request input output stands = tt
+reads_at_failed_read Online request input output stands = tt
+reads_at_failed_read Show request input output stands = stands
+
+-- a fault of the input, in each mode that reads it
+fault_in : (mode : Mode) (request : Request) (input : InputTold) (status : Status)
+    → ReadsInput mode
     → (¬ Rises input.faults_before input.faults_now
     → IfSome input.file (λ bytes. IsStatusFor (outcome_for request bytes) status))
     → IsStatusIn mode request input status
-fault_in Offline request input output status stands told = told
-fault_in Online request input output status stands told = told
-fault_in Show request input output status stands told = absurd stands
+fault_in Offline request input status reads told = told
+fault_in Online request input status reads told = told
+fault_in Show request input status reads told = absurd reads
 
 -- what must come of a request
 asked_as : (words : List (List ℕ)) (request : Request) (input : InputTold) (output : OutputTold)
@@ -163,15 +186,18 @@ asked_as words request input output (Expression fault) taken asks ends writes = 
     (spelt_or_refused words request fault asks ends.refused)
 asked_as words request input output (Trace fault) taken asks ends writes =
     let found = the_request words request (λ r. EndsTrace r input output fault) asks ends in
-    fault_in request.job.mode request input output (Trace fault) found.stands
+    fault_in request.job.mode request input (Trace fault)
+    (reads_at_fault request.job.mode request input output found.stands)
     (λ reads. weaker input.file _ _ (λ bytes e. rw e (inl refl)) found.cause)
 asked_as words request input output InputTooLong taken asks ends writes =
     let found = the_request words request (λ r. EndsTooLong r input output) asks ends in
-    fault_in request.job.mode request input output InputTooLong found.stands
+    fault_in request.job.mode request input InputTooLong
+    (reads_at_fault request.job.mode request input output found.stands)
     (λ reads. weaker input.file _ _ (λ bytes e. rw e (inl refl)) found.cause)
 asked_as words request input output ReadFault taken asks ends writes =
     let found = the_request words request (λ r. EndsReadFault r input output) asks ends in
-    fault_in request.job.mode request input output ReadFault found.stands
+    fault_in request.job.mode request input ReadFault
+    (reads_at_failed_read request.job.mode request input output found.stands)
     (λ reads. absurd (reads (one_more _ _ found.cause)))
 asked_as words request input output WriteFault taken asks ends writes =
     let found = the_request words request (λ r. EndsWriteFault r input output) asks ends in
@@ -243,7 +269,10 @@ EndsAs-over words request input output WriteFault asks over = record {
       asks;
   is_so = over;
 }
-EndsAs-over words request input output Memory asks over = over
+EndsAs-over words request input output Memory asks over = record {
+  reads = over.0;
+  stands = inr (record { request = request; asks = asks; is_so = over.1 });
+}
 
 -- the end of a run whose words weren't read as a job
 pub EndsAs-words : (words : List (List ℕ)) (input : InputTold) (output : OutputTold)
@@ -258,8 +287,7 @@ EndsAs-words words input output WordsUsage none reads unwritten = record {
 }
 EndsAs-words words input output WordsMemory none reads unwritten = record {
   reads = reads;
-  unwritten
-      = unwritten;
+  stands = inl unwritten;
 }
 
 -- memory was wanting, or the fault is told
@@ -281,7 +309,7 @@ pub EndsAs-refused : (words : List (List ℕ)) (input : InputTold) (output : Out
     → (fault ≢ ParseMemory → IsRefused words fault) → AllReadsGood input → NothingWritten output
     → EndsAs words input output (parse_status fault)
 EndsAs-refused words input output fault told reads unwritten = elim (faults fault) [
-  | inl memory ↦ rw memory (record { reads = reads; unwritten = unwritten })
+  | inl memory ↦ rw memory (record { reads = reads; stands = inl unwritten })
   | inr other ↦ rw other.1 (record { refused = told other.0; reads = reads; unwritten = unwritten })
 ]
 
@@ -323,63 +351,53 @@ never_refused words request fault asks told = elim (faults fault) [
   | inr other ↦ absurd (spelt_or_refused words request fault asks (told other.0))
 ]
 
--- a run that stopped before its answer
-pub EndsAs-stopped : (words : List (List ℕ)) (request : Request) (input : InputTold)
-    (output : OutputTold) (status : Status) → AsksFor words request
-    → StopsAs request input status → NothingWritten output → EndsAs words input output status
-EndsAs-stopped words request input output status asks stops unwritten = EndsAs-over words request
-    input output status asks (stops output unwritten)
-
--- what stands in the output where a write failed
+-- what stands in the output where the one write of an answer failed
 cut_in : (mode : Mode) (request : Request) (input : InputTold) (output : OutputTold)
-    (text : List ℕ) → request.job.mode ≡ mode
+    (text : List ℕ) → request.job.mode ≡ mode → (mode ≡ Online → ⊥)
     → IsAnswerIn mode request input.file text
     → AppendsPart output.written_before output.written_now text
-    → StandsBeforeFailedWrite mode request input output
-cut_in Offline request input output text is right part = record {
+    → StandsAtFailedWrite mode request input output
+cut_in Offline request input output text is once right part = record {
   text = text;
   right = rw is right;
   written = part;
 }
-cut_in Online request input output text is right part = absurd right
-cut_in Show request input output text is right part = record {
+cut_in Online request input output text is once right part = absurd (once refl)
+cut_in Show request input output text is once right part = record {
   text = text;
   right = rw is right;
   written = part;
 }
 
--- a run of which a write failed
-pub EndsAs-cut : (words : List (List ℕ)) (request : Request) (input : InputTold)
-    (output : OutputTold) (text : List ℕ) → AsksFor words request
+-- a run whose answer is written at once, and that stopped before it
+pub EndsOver-stopped : (request : Request) (input : InputTold) (output : OutputTold)
+    (status : Status) → StopsAs request input status → NothingWritten output
+    → EndsOver request input output status
+EndsOver-stopped request input output status stops unwritten = stops output unwritten
+
+-- a run whose answer is written at once, and of which a write failed
+pub EndsOver-cut : (request : Request) (input : InputTold) (output : OutputTold) (text : List ℕ)
+    → (request.job.mode ≡ Online → ⊥)
     → IsFoundFor request input text → output.faults_now ≡ counted output.faults_before
     → AppendsPart output.written_before output.written_now text
-    → EndsAs words input output WriteFault
-EndsAs-cut words request input output text asks found cause part = record {
-  request = request;
-  asks = asks;
-  is_so = record {
-    cause = cause;
-    reads = found.reads;
-    stands = cut_in request.job.mode request input output text refl found.right part;
-  };
+    → EndsOver request input output WriteFault
+EndsOver-cut request input output text once found cause part = record {
+  cause = cause;
+  reads = found.reads;
+  stands = cut_in request.job.mode request input output text refl once found.right part;
 }
 
 -- a run whose answer was written
-pub EndsAs-done : (words : List (List ℕ)) (request : Request) (input : InputTold)
-    (output : OutputTold) (text : List ℕ) → AsksFor words request
+pub EndsOver-done : (request : Request) (input : InputTold) (output : OutputTold) (text : List ℕ)
     → IsFoundFor request input text → AllWritesGood output
-    → Appends output.written_before output.written_now text → EndsAs words input output Done
-EndsAs-done words request input output text asks found writes written = record {
-  request = request;
-  asks = asks;
-  is_so = record {
-    reads = found.reads;
-    all_read = found.all_read;
-    text = text;
-    right = found.right;
-    writes = writes;
-    written = written;
-  };
+    → Appends output.written_before output.written_now text → EndsOver request input output Done
+EndsOver-done request input output text found writes written = record {
+  reads = found.reads;
+  all_read = found.all_read;
+  text = text;
+  right = found.right;
+  writes = writes;
+  written = written;
 }
 
 -- the name is that of the job which the words give

@@ -7,28 +7,41 @@ use Rattle.tre_tool.specs.Answer.{StopsAs}
 use Rattle.tre_tool.specs.Feeding.{StopsReading}
 use Rattle.tre_tool.specs.Input.{HasReadCause}
 use Rattle.tre_tool.specs.Outcome.{reading_in}
-use Rattle.tre_tool.specs.Run.{Request, InputTold, OutputTold, NothingWritten, StandsBeforeFault}
+use Rattle.tre_tool.specs.Devices.{InputTold, OutputTold, NothingWritten}
+use Rattle.tre_tool.specs.Run.{Request, StandsAtFault, StandsAtFailedRead, StandsAtMemory}
 use Rattle.tre_tool.specs.Status.{trace_status}
 use Rattle.tre_tool.specs.declared.job.Mode.{Mode}
 use Rattle.tre_tool.specs.declared.job.Mode.TheVariants.{Offline, Online, Show}
 use Rattle.tre_tool.specs.declared.status.Status.{Status}
 use Rattle.tre_tool.specs.declared.status.Status.TheVariants.{Done, Usage, Expression, Trace, InputTooLong, ReadFault, WriteFault, Memory}
 
+-- memory was wanting in a run that writes its answer at once
+memory_in : (mode : Mode) (request : Request) (input : InputTold) (output : OutputTold)
+    → (mode ≡ Online → ⊥) → NothingWritten output → StandsAtMemory mode request input output
+memory_in Offline request input output once unwritten = unwritten
+memory_in Online request input output once unwritten = absurd (once refl)
+memory_in Show request input output once unwritten = unwritten
+
 -- memory was wanting, and no read failed
-pub StopsAs-memory : (request : Request) (input : InputTold)
+pub StopsAs-memory : (request : Request) (input : InputTold) → (request.job.mode ≡ Online → ⊥)
     → input.faults_now ≡ input.faults_before → StopsAs request input Memory
-StopsAs-memory request input reads = λ output unwritten. record {
-  reads = reads;
-  unwritten =
-      unwritten;
-}
+StopsAs-memory request input once reads = λ output unwritten. (
+  reads,
+  memory_in request.job.mode request input output once unwritten,
+)
 
 -- an offline run that stops before its answer has written nothing
 stands_in : (mode : Mode) (request : Request) (input : InputTold) (output : OutputTold)
-    → mode ≡ Offline → NothingWritten output → StandsBeforeFault mode request input output
+    → mode ≡ Offline → NothingWritten output → StandsAtFault mode request input output
 stands_in Offline request input output is unwritten = unwritten
 stands_in Online request input output is unwritten = cc
 stands_in Show request input output is unwritten = cc
+
+unread_in : (mode : Mode) (request : Request) (input : InputTold) (output : OutputTold)
+    → mode ≡ Offline → NothingWritten output → StandsAtFailedRead mode request input output
+unread_in Offline request input output is unwritten = unwritten
+unread_in Online request input output is unwritten = cc
+unread_in Show request input output is unwritten = cc
 
 -- the input couldn't be read as a trace
 pub StopsAs-reading : (T : Type 0) (request : Request) (input : InputTold) (status : Status)
@@ -52,10 +65,10 @@ StopsAs-reading T request input InputTooLong offline stops cause sound = λ outp
 StopsAs-reading T request input ReadFault offline stops cause sound = λ output unwritten. record {
   cause = cause;
   unsound = λ good named. sound good named refl;
-  stands = stands_in request.job.mode request input output offline unwritten;
+  stands = unread_in request.job.mode request input output offline unwritten;
 }
-StopsAs-reading T request input Memory offline stops cause sound = StopsAs-memory request input
-    cause
+StopsAs-reading T request input Memory offline stops cause sound =
+    StopsAs-memory request input (λ online. cc) cause
 StopsAs-reading T request input Done offline stops cause sound = absurd stops
 StopsAs-reading T request input Usage offline stops cause sound = absurd stops
 StopsAs-reading T request input (Expression fault) offline stops cause sound = absurd stops

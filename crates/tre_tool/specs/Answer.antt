@@ -4,7 +4,8 @@ use Rattle.std.specs.Io.KnownBytes.{IsAtEnd}
 use Rattle.tre_trace.specs.Trace.{IsTrace}
 use Rattle.tre_trace.specs.declared.segment.Segment.{Segment}
 use Rattle.tre_tool.specs.Outcome.{Reads}
-use Rattle.tre_tool.specs.Run.{Request, InputTold, OutputTold, AllReadsGood, NothingWritten, IsAnswerIn, IsReadToItsEnd, EndsDone, EndsTrace, EndsTooLong, EndsReadFault, EndsWriteFault, EndsMemory}
+use Rattle.tre_tool.specs.Devices.{InputTold, OutputTold, AllReadsGood, NothingWritten}
+use Rattle.tre_tool.specs.Run.{Request, StandsAtMemory, IsAnswerIn, IsReadToItsEnd, EndsDone, EndsTrace, EndsTooLong, EndsReadFault, EndsWriteFault}
 use Rattle.tre_tool.specs.declared.status.Status.{Status}
 use Rattle.tre_tool.specs.declared.status.Status.TheVariants.{Done, Usage, Expression, Trace, InputTooLong, ReadFault, WriteFault, Memory}
 
@@ -22,7 +23,8 @@ EndsOver request input output (Trace fault) = EndsTrace request input output fau
 EndsOver request input output InputTooLong = EndsTooLong request input output
 EndsOver request input output ReadFault = EndsReadFault request input output
 EndsOver request input output WriteFault = EndsWriteFault request input output
-EndsOver request input output Memory = EndsMemory input output
+EndsOver request input output Memory =
+    AllReadsGood input × StandsAtMemory request.job.mode request input output
 
 -- What was done with the input is as at the end of a run with this status that wrote nothing.
 abbrev pub StopsAs : Request → InputTold → Status → Type 0

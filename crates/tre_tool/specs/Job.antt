@@ -76,12 +76,6 @@ abbrev pub limit_written : Text → Option ℕ
 limit_written text =
     if is_numeral text && is_limit (digits_value 10 text) then Some (digits_value 10 text) else None
 
--- Whether runs in this mode are there. Online matching isn't yet.
-abbrev pub has_run : Mode → Bool
-has_run Offline = true
-has_run Online = false
-has_run Show = true
-
 -- What the values of the options give is this job.
 pub record GivesFrom (rows : List Row) (job : Job) : Type 0 where
   pub expr : first_of (codes "EXPR") rows ≡ Some job.expr
@@ -90,7 +84,6 @@ pub record GivesFrom (rows : List Row) (job : Job) : Type 0 where
   pub max_bytes :
       option_and_then limit_written (first_of (codes "max-bytes") rows) ≡ Some job.max_bytes
   pub mode : mode_in rows ≡ job.mode
-  pub run : has_run job.mode ≡ true
 
 -- The words give this job: its parts are the matches that `clap` promises of these words.
 abbrev pub GivesJob : List Text → Job → Type 0

@@ -46,12 +46,16 @@ outcome_from false segments None = exceeds
 abbrev pub outcome_of_reading : Bool → Reading → Outcome
 outcome_of_reading closed reading = outcome_from closed reading.segments reading.fault
 
--- What the bytes come to by this reading, where the input may have `limit` of them. Bytes past the
--- limit are not judged, and the input is closed only where there are none past it.
+-- What the bytes of an input say that may have `limit` of them. Bytes past the limit are not
+-- judged, and the input is closed only where there are none past it.
+abbrev pub reading_within : (Bool → List ℕ → Reading) → ℕ → List ℕ → Reading
+reading_within reading limit bytes =
+    reading (nat_le (length bytes) limit) (take limit bytes)
+
+-- What they come to.
 unfoldable pub outcome_of : (Bool → List ℕ → Reading) → ℕ → List ℕ → Outcome
 outcome_of reading limit bytes =
-    outcome_of_reading (nat_le (length bytes) limit)
-    (reading (nat_le (length bytes) limit) (take limit bytes))
+    outcome_of_reading (nat_le (length bytes) limit) (reading_within reading limit bytes)
 
 -- The text is right for a run to the end over these bytes: they are within the limit and say a
 -- trace, and the text is that of the matches of the pattern over it.

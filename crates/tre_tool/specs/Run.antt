@@ -10,6 +10,9 @@ use Rattle.tre_syntax.specs.PatternTree.{PatternTree}
 use Rattle.tre_parse.specs.Outcome.{IsOutcome, spelt, refused}
 use Rattle.tre_tool.specs.Job.{GivesJob, GivesNoJob, AreTaken}
 use Rattle.tre_show.specs.PatternText.{expression_text}
+use Rattle.tre_trace.specs.Reading.{Reading}
+use Rattle.tre_tool.specs.Devices.{InputTold, OutputTold, AllReadsGood, AllWritesGood, NothingWritten}
+use Rattle.tre_tool.specs.Online.{AllBlocksStand, BlocksSoFarStand, FirstBlocksStand, BlockIsCut, IsOnlineAnswer, EndIsCut}
 use Rattle.tre_tool.specs.Outcome.{Outcome, completes, refuses, exceeds, reading_in, outcome_of, IsInputKind, IsAnswer}
 use Rattle.tre_tool.specs.declared.job.Job.{Job}
 use Rattle.tre_tool.specs.declared.job.Mode.{Mode}
@@ -49,70 +52,30 @@ pub record IsRefused (words : List (List ℕ)) (fault : ParseFault) : Type 0 whe
 abbrev pub AsksForNothing : List (List ℕ) → Type 0
 AsksForNothing words = GivesNoJob words ⊎ ((fault : ParseFault) × IsRefused words fault)
 
--- What the source of a run tells and counts, before the run and at its end.
-pub record InputTold : Type 0 where
-  pub name : Option (List ℕ)
-  pub file : Option (List ℕ)
-  pub sound : Bool
-  pub left : Option (List ℕ)
-  pub faults_before : ℕ
-  pub faults_now : ℕ
-
--- What the output of a run tells and counts, before the run and at its end.
-pub record OutputTold : Type 0 where
-  pub written_before : Option (List ℕ)
-  pub written_now : Option (List ℕ)
-  pub faults_before : ℕ
-  pub faults_now : ℕ
-
--- what these meanings of a source tell of it as it was and as it is
-abbrev pub input_told : {S : Type 0} → (S → Option (List ℕ)) → (S → Option (List ℕ)) →
-    (S → Bool) → (S → Option (List ℕ)) → (S → ℕ) → S → S → InputTold
-input_told name file sound left faults before now = record {
-  name = name before;
-  file = file before;
-  sound = sound before;
-  left = left now;
-  faults_before = faults before;
-  faults_now = faults now;
-}
-
--- what these meanings of a sink tell of it as it was and as it is
-abbrev pub output_told : {O : Type 0} → (O → Option (List ℕ)) → (O → ℕ) → O → O → OutputTold
-output_told written faults before now = record {
-  written_before = written before;
-  written_now = written now;
-  faults_before = faults before;
-  faults_now = faults now;
-}
-
--- no read failed
-abbrev pub AllReadsGood : InputTold → Type 0
-AllReadsGood input = input.faults_now ≡ input.faults_before
-
--- no write failed
-abbrev pub AllWritesGood : OutputTold → Type 0
-AllWritesGood output = output.faults_now ≡ output.faults_before
-
--- nothing was written, and no write failed
-pub record NothingWritten (output : OutputTold) : Type 0 where
-  pub unwritten : output.written_now ≡ output.written_before
-  pub writes : AllWritesGood output
+-- What the bytes of an input say for a request, closed or not yet.
+abbrev pub reading_for : Request → Bool → List ℕ → Reading
+reading_for request closed bytes =
+    reading_in request.job.format request.names closed bytes
 
 -- What the bytes of an input come to for a request.
 abbrev pub outcome_for : Request → List ℕ → Outcome
 outcome_for request bytes =
-    outcome_of (reading_in request.job.format request.names) request.job.max_bytes bytes
+    outcome_of (reading_for request) request.job.max_bytes bytes
 
 -- This text is right for a request and the bytes of its input.
 abbrev pub IsAnswerTo : Request → List ℕ → List ℕ → Type 0
 IsAnswerTo request bytes text =
     IsAnswer request.job.format request.tree request.names request.job.max_bytes bytes text
 
+-- This text is right for a request that is answered as the input comes, and these bytes.
+abbrev pub IsOnlineAnswerTo : Request → List ℕ → List ℕ → Type 0
+IsOnlineAnswerTo request bytes text =
+    IsOnlineAnswer (reading_for request) request.job.max_bytes request.tree bytes text
+
 -- This is all that a run in this mode writes for a request, where the source has these bytes.
 abbrev pub IsAnswerIn : Mode → Request → Option (List ℕ) → List ℕ → Type 0
 IsAnswerIn Offline request file text = IfSome file (λ bytes. IsAnswerTo request bytes text)
-IsAnswerIn Online request file text = ⊥
+IsAnswerIn Online request file text = IfSome file (λ bytes. IsOnlineAnswerTo request bytes text)
 IsAnswerIn Show request file text =
     text ≡ expression_text request.names request.tree ++ codes "\n"
 
@@ -129,17 +92,41 @@ pub record PartIsWritten (request : Request)
   pub right : IsAnswerIn request.job.mode request input.file text
   pub written : AppendsPart output.written_before output.written_now text
 
--- What stands in the output before a write that failed.
-abbrev pub StandsBeforeFailedWrite : Mode → Request → InputTold → OutputTold → Type 0
-StandsBeforeFailedWrite Offline request input output = PartIsWritten request input output
-StandsBeforeFailedWrite Online request input output = ⊥
-StandsBeforeFailedWrite Show request input output = PartIsWritten request input output
+-- In an online run the block of a segment is cut, or the end of the whole text.
+abbrev pub OnlineIsCut : Request → InputTold → OutputTold → Type 0
+OnlineIsCut request input output =
+    BlockIsCut (reading_for request) request.job.max_bytes request.tree input output
+    ⊎ EndIsCut (reading_for request) request.job.max_bytes request.tree input output
 
--- What stands in the output before a fault of the input, where a run in this mode reads one.
-abbrev pub StandsBeforeFault : Mode → Request → InputTold → OutputTold → Type 0
-StandsBeforeFault Offline request input output = NothingWritten output
-StandsBeforeFault Online request input output = ⊥
-StandsBeforeFault Show request input output = ⊥
+-- What stands in the output where a write failed.
+abbrev pub StandsAtFailedWrite : Mode → Request → InputTold → OutputTold → Type 0
+StandsAtFailedWrite Offline request input output = PartIsWritten request input output
+StandsAtFailedWrite Online request input output = OnlineIsCut request input output
+StandsAtFailedWrite Show request input output = PartIsWritten request input output
+
+-- What stands in the output at a fault of the input, where a run in this mode reads one: in an
+-- online run the blocks of all segments before the fault, or of all that the limit leaves.
+abbrev pub StandsAtFault : Mode → Request → InputTold → OutputTold → Type 0
+StandsAtFault Offline request input output = NothingWritten output
+StandsAtFault Online request input output =
+    AllBlocksStand (reading_for request) request.job.max_bytes request.tree input output
+StandsAtFault Show request input output = ⊥
+
+-- What stands in the output where the input couldn't be opened or read on: in an online run the
+-- blocks of all segments that the bytes read complete.
+abbrev pub StandsAtFailedRead : Mode → Request → InputTold → OutputTold → Type 0
+StandsAtFailedRead Offline request input output = NothingWritten output
+StandsAtFailedRead Online request input output =
+    BlocksSoFarStand (reading_for request) request.job.max_bytes request.tree input output
+StandsAtFailedRead Show request input output = ⊥
+
+-- What stands in the output where memory was wanting: in an online run the blocks of some first
+-- segments of those read, which may be all of them, and no end.
+abbrev pub StandsAtMemory : Mode → Request → InputTold → OutputTold → Type 0
+StandsAtMemory Offline request input output = NothingWritten output
+StandsAtMemory Online request input output =
+    FirstBlocksStand (reading_for request) request.job.max_bytes request.tree input output
+StandsAtMemory Show request input output = NothingWritten output
 
 -- `Done`: the input was read to its end, and the right answer was written.
 pub record EndsDone (request : Request) (input : InputTold) (output : OutputTold) : Type 0 where
@@ -170,13 +157,13 @@ pub record EndsTrace (request : Request) (input : InputTold) (output : OutputTol
   pub kind : IsInputKind fault.kind
   pub cause : IfSome input.file (λ bytes. outcome_for request bytes ≡ refuses fault)
   pub reads : AllReadsGood input
-  pub stands : StandsBeforeFault request.job.mode request input output
+  pub stands : StandsAtFault request.job.mode request input output
 
 -- `InputTooLong`: the input has more bytes than the limit, and those within it no fault.
 pub record EndsTooLong (request : Request) (input : InputTold) (output : OutputTold) : Type 0 where
   pub cause : IfSome input.file (λ bytes. outcome_for request bytes ≡ exceeds)
   pub reads : AllReadsGood input
-  pub stands : StandsBeforeFault request.job.mode request input output
+  pub stands : StandsAtFault request.job.mode request input output
 
 -- `ReadFault`: one failure to open or read was counted, and a source that is sound under the name
 -- of the job's input has none.
@@ -184,19 +171,22 @@ pub record EndsReadFault (request : Request)
     (input : InputTold) (output : OutputTold) : Type 0 where
   pub cause : input.faults_now ≡ counted input.faults_before
   pub unsound : IsTrue input.sound → input.name ≢ Some request.job.input
-  pub stands : StandsBeforeFault request.job.mode request input output
+  pub stands : StandsAtFailedRead request.job.mode request input output
 
 -- `WriteFault`: one failure to write was counted.
 pub record EndsWriteFault (request : Request)
     (input : InputTold) (output : OutputTold) : Type 0 where
   pub cause : output.faults_now ≡ counted output.faults_before
   pub reads : AllReadsGood input
-  pub stands : StandsBeforeFailedWrite request.job.mode request input output
+  pub stands : StandsAtFailedWrite request.job.mode request input output
 
--- `Memory`: it may come at any time. No failure was counted, and nothing was written.
-pub record EndsMemory (input : InputTold) (output : OutputTold) : Type 0 where
+-- `Memory`: it may come at any time. No failure was counted, and nothing was written, or what
+-- stands in the output in the mode that the words ask for.
+pub record EndsMemory (words : List (List ℕ))
+    (input : InputTold) (output : OutputTold) : Type 0 where
   pub reads : AllReadsGood input
-  pub unwritten : NothingWritten output
+  pub stands : NothingWritten output
+      ⊎ Asks words (λ request. StandsAtMemory request.job.mode request input output)
 
 -- The end of a run, status by status.
 abbrev pub EndsAs : List (List ℕ) → InputTold → OutputTold → Status → Type 0
@@ -208,7 +198,7 @@ EndsAs words input output (Trace fault) =
 EndsAs words input output InputTooLong = Asks words (λ request. EndsTooLong request input output)
 EndsAs words input output ReadFault = Asks words (λ request. EndsReadFault request input output)
 EndsAs words input output WriteFault = Asks words (λ request. EndsWriteFault request input output)
-EndsAs words input output Memory = EndsMemory input output
+EndsAs words input output Memory = EndsMemory words input output
 
 -- The status is this one, or memory was wanting.
 abbrev pub IsUnlessMemory : Status → Status → Type 0

@@ -1,23 +1,62 @@
 // From a job to the text that answers it.
-ghost use Rattle.std.specs.Prelude.{◌≡◌, ◌≢◌, ◌≤◌, ◌+◌, ◌++◌, ◌^◌, codes, true, false, IsTrue, IfOk, IfErr, IfSome, OnOk, string_bytes};
+ghost use Rattle.std.specs.Prelude.{◌≡◌, ◌≢◌, ◌≤◌, ◌+◌, ◌++◌, ◌^◌, [], codes, false, IsTrue, IsErrOf, IfOk, IfErr, IfSome, OnOk, Some, string_bytes};
 ghost use Rattle.tre_show.specs.PatternText.{expression_text};
 ghost use Rattle.tre_syntax.specs.Pattern.{pattern_tree, names_of};
-ghost use Rattle.tre_tool.specs.Answer.{IsReadAs, IsFoundFor, StopsAs};
-ghost use Rattle.tre_tool.specs.Input.{TakesAtMost};
-ghost use Rattle.tre_tool.specs.Job.{has_run};
-ghost use Rattle.tre_tool.specs.Run.{ReadsInput, request_for, input_told};
+ghost use Rattle.tre_tool.specs.Answer.{status_of, EndsOver, IsReadAs, IsFoundFor, StopsAs};
+ghost use Rattle.tre_tool.specs.Devices.{input_told, output_told};
+ghost use Rattle.tre_tool.specs.Feeding.{IsWhole, StopsReading};
+ghost use Rattle.tre_tool.specs.Input.{TakesAtMost, HasReadCause};
+ghost use Rattle.tre_tool.specs.Run.{ReadsInput, request_for};
 
-use crate::input::read_trace;
+use crate::input::Feed;
 use crate::job::{Format, Job, Mode};
+use crate::online::tell_matches;
+use crate::output::write_text;
 use crate::status::Status;
 use std::alloc::{AllocError, Global};
-use tre_io::Source;
+use tre_io::{Sink, Source};
 use tre_offline::matches;
 use tre_show::{offline_text, pattern_text, printed_order};
 use tre_syntax::Pattern;
 use tre_text::TextReader;
-use tre_trace::Trace;
+use tre_trace::{Trace, TraceReader};
 use tre_vcd::VcdReader;
+
+// Reads the trace that the input of this name is, where it has at most `limit` bytes.
+fn read_trace<S: Source, R: TraceReader>(
+    alloc: Global,
+    name: &str,
+    limit: usize,
+    reader: &mut R,
+    input: &mut S,
+) -> Result<Trace, Status>
+    requires closed { S.opened input.old ≡ false }
+    requires fresh { R.represents reader.old [] }
+    requires nothing { (R.reading (R.names reader.old) false []).segments ≡ [] }
+    requires fits { limit ≤ 2 ^ 40 }
+    ensures named { IfErr result (λ status. status ≢ Status.ReadFault → status ≢ Status.Memory →
+        IfSome (S.file_name input.old) (λ told. told ≡ name.now)) }
+    ensures by_name { OnOk result (IfSome (S.file_name input.old) (λ told. told ≡ name.now)) }
+    ensures read { IfOk result (IsWhole (R.reading (R.names reader.old)) limit
+        (S.file input.old) (S.left input.new)) }
+    ensures stops { IfErr result
+        (StopsReading (R.reading (R.names reader.old)) limit (S.file input.old)) }
+    ensures bounded { IsTrue (S.opened input.new) →
+        TakesAtMost (limit + 1) (S.file input.old) (S.left input.new) }
+    ensures cause { HasReadCause (S.faults input.old) (S.faults input.new) result }
+    ensures sound { IsTrue (S.sound input.old) → S.file_name input.old ≡ Some name.now →
+        IsErrOf result Status.ReadFault → ⊥ }
+{
+    let mut feed = Feed::open(alloc, name, limit, input)?;
+    let mut segments = Vec::new(alloc);
+    loop {
+        if !feed.next(reader, input, &mut segments)? {
+            break;
+        }
+    }
+    let trace = Trace::of_segments(alloc, segments)?;
+    Ok(trace)
+}
 
 // The trace that the job's input is.
 fn read_input<S: Source>(
@@ -31,10 +70,10 @@ fn read_input<S: Source>(
     requires offline { job.now.mode ≡ Mode.Offline }
     ensures read { IfOk result (IsReadAs
         (request_for job.now (pattern_tree pattern.now) (names_of pattern.now))
-        (input_told S.file_name S.file S.sound S.left S.faults input.old input.new)) }
+        (input_told S.file_name S.file S.sound S.opened S.left S.faults input.old input.new)) }
     ensures stops { IfErr result (StopsAs
         (request_for job.now (pattern_tree pattern.now) (names_of pattern.now))
-        (input_told S.file_name S.file S.sound S.left S.faults input.old input.new)) }
+        (input_told S.file_name S.file S.sound S.opened S.left S.faults input.old input.new)) }
     ensures bounded { IsTrue (S.opened input.new) →
         TakesAtMost (job.now.max_bytes + 1) (S.file input.old) (S.left input.new) }
     ensures named { IfErr result (λ status. status ≢ Status.ReadFault → status ≢ Status.Memory →
@@ -69,11 +108,11 @@ fn matches_text<S: Source>(
     requires offline { job.now.mode ≡ Mode.Offline }
     ensures found { IfOk result (λ text. IsFoundFor
         (request_for job.now (pattern_tree pattern.now) (names_of pattern.now))
-        (input_told S.file_name S.file S.sound S.left S.faults input.old input.new)
+        (input_told S.file_name S.file S.sound S.opened S.left S.faults input.old input.new)
         (string_bytes text)) }
     ensures stops { IfErr result (StopsAs
         (request_for job.now (pattern_tree pattern.now) (names_of pattern.now))
-        (input_told S.file_name S.file S.sound S.left S.faults input.old input.new)) }
+        (input_told S.file_name S.file S.sound S.opened S.left S.faults input.old input.new)) }
     ensures bounded { IsTrue (S.opened input.new) →
         TakesAtMost (job.now.max_bytes + 1) (S.file input.old) (S.left input.new) }
     ensures named { IfErr result (λ status. status ≢ Status.ReadFault → status ≢ Status.Memory →
@@ -97,42 +136,40 @@ fn shown_text(alloc: Global, pattern: &Pattern) -> Result<String, AllocError>
     Ok(text)
 }
 
-/// The text that answers a job: what a run writes where all goes well.
-pub fn answer<S: Source>(
+/// Writes what answers a job: at once where all is known, or as the input comes.
+pub fn answer<S: Source, O: Sink>(
     alloc: Global,
-    pattern: &Pattern,
+    pattern: Pattern,
     job: &Job,
     input: &mut S,
-) -> Result<String, Status>
+    out: &mut O,
+) -> Result<(), Status>
     requires closed { S.opened input.old ≡ false }
     requires fits { job.now.max_bytes ≤ 2 ^ 40 }
-    requires run { has_run job.now.mode ≡ true }
-    ensures found { IfOk result (λ text. IsFoundFor
-        (request_for job.now (pattern_tree pattern.now) (names_of pattern.now))
-        (input_told S.file_name S.file S.sound S.left S.faults input.old input.new)
-        (string_bytes text)) }
-    ensures stops { IfErr result (StopsAs
-        (request_for job.now (pattern_tree pattern.now) (names_of pattern.now))
-        (input_told S.file_name S.file S.sound S.left S.faults input.old input.new)) }
+    ensures ends { EndsOver (request_for job.now (pattern_tree pattern) (names_of pattern))
+        (input_told S.file_name S.file S.sound S.opened S.left S.faults input.old input.new)
+        (output_told O.written O.faults out.old out.new) (status_of result) }
     ensures bounded { IsTrue (S.opened input.new) →
         TakesAtMost (job.now.max_bytes + 1) (S.file input.old) (S.left input.new) }
-    ensures named { IfErr result (λ status. ReadsInput job.now.mode →
-        status ≢ Status.ReadFault → status ≢ Status.Memory →
-        IfSome (S.file_name input.old) (λ told. told ≡ job.now.input)) }
-    ensures by_name { OnOk result (ReadsInput job.now.mode →
-        IfSome (S.file_name input.old) (λ told. told ≡ job.now.input)) }
+    ensures by_name { ReadsInput job.now.mode → status_of result ≢ Status.ReadFault →
+        status_of result ≢ Status.Memory →
+        IfSome (S.file_name input.old) (λ told. told ≡ job.now.input) }
     ensures shown { job.now.mode ≡ Mode.Show → input.new ≡ input.old }
 {
     match job.mode {
         Mode::Offline => {
-            let text = matches_text(alloc, pattern, job, input)?;
-            Ok(text)
+            let text = matches_text(alloc, &pattern, job, input)?;
+            write_text(text.as_str(), out)?;
+            Ok(())
         }
-        // No job asks for it yet.
-        Mode::Online => Err(Status::Usage),
+        Mode::Online => {
+            tell_matches(alloc, pattern, job, input, out)?;
+            Ok(())
+        }
         Mode::Show => {
-            let text = shown_text(alloc, pattern)?;
-            Ok(text)
+            let text = shown_text(alloc, &pattern)?;
+            write_text(text.as_str(), out)?;
+            Ok(())
         }
     }
 }

@@ -1,10 +1,10 @@
 // An input, read piece by piece.
-ghost use Rattle.std.specs.Prelude.{◌≡◌, ◌+◌, ◌<◌, ◌≤◌, ◌++◌, ◌^◌, ◌≢◌, [], IsTrue, IsErrOf, IfOk, IfErr, IfSome, OnOk, length, take, List, ℕ, false, Some};
-ghost use Rattle.std.specs.Io.KnownBytes.{Consumes, IsAtEnd};
+ghost use Rattle.std.specs.Prelude.{◌≡◌, ◌+◌, ◌<◌, ◌≤◌, ◌++◌, ◌^◌, ◌≢◌, IsTrue, IsErrOf, IfOk, IfErr, IfSome, OnOk, OnErr, length, take, List, ℕ, false, Option, Some};
+ghost use Rattle.std.specs.Io.KnownBytes.{Consumes, IsAtEnd, Keeps};
 ghost use Rattle.tre_trace.specs.Reading.{Adds};
 ghost use Rattle.tre_trace.specs.declared.reader.TheConstants.{FED_MAX};
 ghost use Rattle.tre_tool.specs.Input.{TakesAtMost, HasReadCause};
-ghost use Rattle.tre_tool.specs.Feeding.{IsWhole, StopsReading, StopsPiece};
+ghost use Rattle.tre_tool.specs.Feeding.{StopsReading, StopsPiece, IsFed, HasRead, GoesOn, IsEnded, StopsTurn};
 
 use crate::status::Status;
 use std::alloc::{AllocError, Global};
@@ -32,6 +32,7 @@ fn read_piece<S: Source>(input: &mut S, buffer: &mut [u8]) -> Result<usize, Stat
     ensures bounded { TakesAtMost (length buffer.old) (S.left input.old) (S.left input.new) }
     ensures cause { HasReadCause (S.faults input.old) (S.faults input.new) result }
     ensures failed { IfErr result (λ status. status ≡ Status.ReadFault) }
+    ensures kept { OnErr result (Keeps (S.left input.old) (S.left input.new)) }
     ensures sound { IsTrue (S.sound input.old) → IsErrOf result Status.ReadFault → ⊥ }
     ensures same_opened { S.opened input.new ≡ S.opened input.old }
     ensures same_sound { S.sound input.new ≡ S.sound input.old }
@@ -63,8 +64,8 @@ fn feed_piece<S: Source, R: TraceReader>(
         (R.reading (R.names reader.old) false bytes)
         (R.reading (R.names reader.old) false (bytes ++ take allowed (take count buffer.new)))) }
     ensures stops { (bytes : List ℕ) → R.represents reader.old bytes →
-        IfErr result (StopsPiece (R.reading (R.names reader.old)) allowed bytes
-        (S.left input.old) (S.left input.new)) }
+        IfErr result (StopsPiece (R.reading (R.names reader.old)) allowed (length buffer.old) bytes
+        (S.left input.old) (S.left input.new) segments.old.items segments.new.items) }
     ensures names { R.names reader.new ≡ R.names reader.old }
     ensures length { length buffer.new ≡ length buffer.old }
     ensures bounded { TakesAtMost (length buffer.old) (S.left input.old) (S.left input.new) }
@@ -78,74 +79,160 @@ fn feed_piece<S: Source, R: TraceReader>(
     Ok(count)
 }
 
-// Feeds the bytes that are left of an open input, but at most this many, and one byte more is read.
-fn feed_all<S: Source, R: TraceReader>(
-    alloc: Global,
+// Reads a piece, and feeds it as far as the limit. Where none comes, the reader is told the end.
+// The segments that become complete are put behind the others, also before a fault. No byte comes
+// only at the end.
+fn feed_next<S: Source, R: TraceReader>(
     limit: usize,
+    taken: usize,
     buffer: &mut [u8],
     reader: &mut R,
     input: &mut S,
-) -> Result<Vec<Segment>, Status>
+    segments: &mut Vec<Segment>,
+) -> Result<usize, Status>
     requires opened { IsTrue (S.opened input.old) }
-    requires fresh { R.represents reader.old [] }
-    requires nothing { (R.reading (R.names reader.old) false []).segments ≡ [] }
     requires fits { limit ≤ 2 ^ 40 }
+    requires fed { R.fed_of reader.old ≤ taken }
     requires room { 0 < length buffer.old }
-    ensures read { IfOk result (λ segments. IsWhole (R.reading (R.names reader.old)) limit
-        (S.left input.old) (S.left input.new) segments.items) }
-    ensures stops { IfErr result
-        (StopsReading (R.reading (R.names reader.old)) limit (S.left input.old)) }
-    ensures bounded { TakesAtMost (limit + 1) (S.left input.old) (S.left input.new) }
+    ensures read { (file : Option (List ℕ)) (bytes : List ℕ) →
+        IsFed (R.represents reader.old) limit file (S.left input.old) taken bytes →
+        HasRead (R.reading (R.names reader.old)) limit (length buffer.old) file (S.left input.new)
+        bytes segments.old.items segments.new.items }
+    ensures goes_on { (file : Option (List ℕ)) (bytes : List ℕ) →
+        IsFed (R.represents reader.old) limit file (S.left input.old) taken bytes →
+        IfOk result (λ count. 0 < count →
+        GoesOn (R.represents reader.new) (R.reading (R.names reader.old)) limit file
+        (S.left input.new) (taken + count) bytes segments.old.items segments.new.items) }
+    ensures ended { (file : Option (List ℕ)) (bytes : List ℕ) →
+        IsFed (R.represents reader.old) limit file (S.left input.old) taken bytes →
+        IfOk result (λ count. count ≡ 0 →
+        IsEnded (R.reading (R.names reader.old)) limit file (S.left input.new)
+        bytes segments.old.items segments.new.items) }
+    ensures cause_told { (file : Option (List ℕ)) (bytes : List ℕ) →
+        IsFed (R.represents reader.old) limit file (S.left input.old) taken bytes →
+        IfErr result (StopsReading (R.reading (R.names reader.old)) limit file) }
+    ensures stops { (file : Option (List ℕ)) (bytes : List ℕ) →
+        IsFed (R.represents reader.old) limit file (S.left input.old) taken bytes →
+        IfErr result (StopsTurn (R.reading (R.names reader.old)) limit file (S.left input.new)
+        bytes segments.old.items segments.new.items) }
+    ensures few { IfOk result (λ count. taken + count ≤ limit + 1) }
+    ensures names { R.names reader.new ≡ R.names reader.old }
+    ensures length { length buffer.new ≡ length buffer.old }
     ensures cause { HasReadCause (S.faults input.old) (S.faults input.new) result }
     ensures sound { IsTrue (S.sound input.old) → IsErrOf result Status.ReadFault → ⊥ }
+    ensures same_opened { S.opened input.new ≡ S.opened input.old }
+    ensures same_sound { S.sound input.new ≡ S.sound input.old }
 {
-    let mut segments = Vec::new(alloc);
-    let mut taken = 0;
-    while taken <= limit {
-        let room = buffer.len().min(limit - taken + 1);
-        let count = feed_piece(
-            limit - taken,
-            &mut buffer[..room],
-            reader,
-            input,
-            &mut segments,
-        )?;
-        if count == 0 {
-            reader.finish(&mut segments)?;
-            return Ok(segments);
-        }
-        taken += count;
+    if taken > limit {
+        return Err(Status::InputTooLong);
     }
-    Err(Status::InputTooLong)
+    let allowed = limit - taken;
+    let room = buffer.len().min(allowed + 1);
+    let count = feed_piece(allowed, &mut buffer[..room], reader, input, segments)?;
+    if count == 0 {
+        reader.finish(segments)?;
+    }
+    Ok(count)
 }
 
-/// Reads the trace that the input of this name is, where it has at most `limit` bytes.
-pub fn read_trace<S: Source, R: TraceReader>(
-    alloc: Global,
-    name: &str,
+/// An open input, as far as it was read.
+#[derive(Debug, Drop)]
+pub struct Feed {
     limit: usize,
-    reader: &mut R,
-    input: &mut S,
-) -> Result<Trace, Status>
-    requires closed { S.opened input.old ≡ false }
-    requires fresh { R.represents reader.old [] }
-    requires nothing { (R.reading (R.names reader.old) false []).segments ≡ [] }
-    requires fits { limit ≤ 2 ^ 40 }
-    ensures named { IfErr result (λ status. status ≢ Status.ReadFault → status ≢ Status.Memory →
-        IfSome (S.file_name input.old) (λ told. told ≡ name.now)) }
-    ensures by_name { OnOk result (IfSome (S.file_name input.old) (λ told. told ≡ name.now)) }
-    ensures read { IfOk result (IsWhole (R.reading (R.names reader.old)) limit
-        (S.file input.old) (S.left input.new)) }
-    ensures stops { IfErr result
-        (StopsReading (R.reading (R.names reader.old)) limit (S.file input.old)) }
-    ensures bounded { IsTrue (S.opened input.new) →
-        TakesAtMost (limit + 1) (S.file input.old) (S.left input.new) }
-    ensures cause { HasReadCause (S.faults input.old) (S.faults input.new) result }
-    ensures sound { IsTrue (S.sound input.old) → S.file_name input.old ≡ Some name.now →
-        IsErrOf result Status.ReadFault → ⊥ }
-{
-    input.open(name)?;
-    let mut buffer = buffer_of(alloc, PIECE)?;
-    let segments = feed_all(alloc, limit, &mut buffer, reader, input)?;
-    Ok(Trace::of_segments(segments))
+    taken: usize,
+    buffer: Vec<u8>,
+}
+
+impl Feed {
+    /// Opens the input of this name, of which at most `limit` bytes are fed.
+    pub fn open<S: Source>(
+        alloc: Global,
+        name: &str,
+        limit: usize,
+        input: &mut S,
+    ) -> Result<Feed, Status>
+        requires closed { S.opened input.old ≡ false }
+        ensures opened { OnOk result (IsTrue (S.opened input.new)) }
+        ensures bytes { OnOk result (Keeps (S.file input.old) (S.left input.new)) }
+        ensures start { IfOk result (λ feed. feed.taken ≡ 0) }
+        ensures limit { IfOk result (λ feed. feed.limit ≡ limit) }
+        ensures room { IfOk result (λ feed. length feed.buffer.items ≡ PIECE) }
+        ensures by_name { OnOk result (IfSome (S.file_name input.old) (λ told. told ≡ name.now)) }
+        ensures named { IfErr result (λ status. status ≢ Status.ReadFault →
+            status ≢ Status.Memory → ⊥) }
+        ensures nothing { OnErr result (IsTrue (S.opened input.new) →
+            Keeps (S.file input.old) (S.left input.new)) }
+        ensures cause { HasReadCause (S.faults input.old) (S.faults input.new) result }
+        ensures sound { IsTrue (S.sound input.old) → S.file_name input.old ≡ Some name.now →
+            IsErrOf result Status.ReadFault → ⊥ }
+        ensures same_sound { S.sound input.new ≡ S.sound input.old }
+    {
+        input.open(name)?;
+        let buffer = buffer_of(alloc, PIECE)?;
+        Ok(Feed {
+            limit,
+            taken: 0,
+            buffer,
+        })
+    }
+
+    /// Reads a piece, and feeds it; at the end of the input the reader is told so. Says whether the
+    /// input may go on. The segments that become complete are put behind the others, also where it
+    /// stops.
+    pub fn next<S: Source, R: TraceReader>(
+        &mut self,
+        reader: &mut R,
+        input: &mut S,
+        segments: &mut Vec<Segment>,
+    ) -> Result<bool, Status>
+        requires opened { IsTrue (S.opened input.old) }
+        requires fits { self.old.limit ≤ 2 ^ 40 }
+        requires fed { R.fed_of reader.old ≤ self.old.taken }
+        requires room { 0 < length self.old.buffer.items }
+        requires few { self.old.taken ≤ self.old.limit + 1 }
+        ensures read { (file : Option (List ℕ)) (bytes : List ℕ) →
+            IsFed (R.represents reader.old) self.old.limit file (S.left input.old)
+            self.old.taken bytes →
+            HasRead (R.reading (R.names reader.old)) self.old.limit (length self.old.buffer.items)
+            file (S.left input.new) bytes segments.old.items segments.new.items }
+        ensures goes_on { (file : Option (List ℕ)) (bytes : List ℕ) →
+            IsFed (R.represents reader.old) self.old.limit file (S.left input.old)
+            self.old.taken bytes → IfOk result (λ more. IsTrue more →
+            GoesOn (R.represents reader.new) (R.reading (R.names reader.old)) self.old.limit
+            file (S.left input.new) self.new.taken bytes segments.old.items segments.new.items) }
+        ensures ended { (file : Option (List ℕ)) (bytes : List ℕ) →
+            IsFed (R.represents reader.old) self.old.limit file (S.left input.old)
+            self.old.taken bytes → IfOk result (λ more. more ≡ false →
+            IsEnded (R.reading (R.names reader.old)) self.old.limit file (S.left input.new)
+            bytes segments.old.items segments.new.items) }
+        ensures cause_told { (file : Option (List ℕ)) (bytes : List ℕ) →
+            IsFed (R.represents reader.old) self.old.limit file (S.left input.old)
+            self.old.taken bytes →
+            IfErr result (StopsReading (R.reading (R.names reader.old)) self.old.limit file) }
+        ensures stops { (file : Option (List ℕ)) (bytes : List ℕ) →
+            IsFed (R.represents reader.old) self.old.limit file (S.left input.old)
+            self.old.taken bytes →
+            IfErr result (StopsTurn (R.reading (R.names reader.old)) self.old.limit file
+            (S.left input.new) bytes segments.old.items segments.new.items) }
+        ensures limit { self.new.limit ≡ self.old.limit }
+        ensures length { length self.new.buffer.items ≡ length self.old.buffer.items }
+        ensures rises { IfOk result (λ more. IsTrue more → self.old.taken < self.new.taken) }
+        ensures few { IfOk result (λ _. self.new.taken ≤ self.new.limit + 1) }
+        ensures names { R.names reader.new ≡ R.names reader.old }
+        ensures cause { HasReadCause (S.faults input.old) (S.faults input.new) result }
+        ensures sound { IsTrue (S.sound input.old) → IsErrOf result Status.ReadFault → ⊥ }
+        ensures same_opened { S.opened input.new ≡ S.opened input.old }
+        ensures same_sound { S.sound input.new ≡ S.sound input.old }
+    {
+        let count = feed_next(
+            self.limit,
+            self.taken,
+            &mut self.buffer,
+            reader,
+            input,
+            segments,
+        )?;
+        self.taken += count;
+        Ok(count > 0)
+    }
 }

@@ -1,11 +1,12 @@
 ghost use Rattle.std.specs.Prelude.{◌≡◌, ◌≢◌, ◌⊎◌, ◌+◌, IsTrue, IfSome, OnOk, OnErr, IfErr, false, map, string_bytes};
 ghost use Rattle.std.specs.Io.KnownBytes.{Appends};
-ghost use Rattle.tre_io.specs.Faults.{counted, Rises};
+ghost use Rattle.tre_io.specs.Faults.{Rises};
 ghost use Rattle.tre_io.specs.Written.{AppendsPart};
 ghost use Rattle.tre_tool.specs.Answer.{status_of};
 ghost use Rattle.tre_tool.specs.Input.{TakesAtMost};
 ghost use Rattle.tre_tool.specs.Job.{GivesJob};
-ghost use Rattle.tre_tool.specs.Run.{Request, AsksFor, AsksForNothing, ReadsInput, input_told, output_told, EndsAs, IsComplete};
+ghost use Rattle.tre_tool.specs.Devices.{input_told, output_told};
+ghost use Rattle.tre_tool.specs.Run.{Request, AsksFor, AsksForNothing, ReadsInput, EndsAs, IsComplete};
 ghost use Rattle.tre_tool.specs.Status.{error_line};
 ghost use Rattle.tre_tool.specs.declared.job.Job.{Job};
 
@@ -15,22 +16,8 @@ use crate::report::tell_status;
 use crate::status::Status;
 use crate::words::read_words;
 use std::alloc::Global;
-use tre_io::{Sink, Source, put_all};
+use tre_io::{Sink, Source};
 use tre_parse::parse;
-
-// Writes the answer.
-fn write_answer<O: Sink>(text: &str, out: &mut O) -> Result<(), Status>
-    ensures all { OnOk result (Appends (O.written out.old) (O.written out.new) text.now) }
-    ensures good { OnOk result (O.faults out.new ≡ O.faults out.old) }
-    ensures part { OnErr result (AppendsPart (O.written out.old) (O.written out.new) text.now) }
-    ensures cause { OnErr result (O.faults out.new ≡ counted (O.faults out.old)) }
-    ensures status { IfErr result (λ status. status ≡ Status.WriteFault) }
-{
-    match put_all(out, text.as_bytes()) {
-        Ok(()) => Ok(()),
-        Err(_) => Err(Status::WriteFault),
-    }
-}
 
 // Runs, and leaves it to the caller to tell how the run ended.
 fn run_words<S: Source, O: Sink>(
@@ -41,7 +28,7 @@ fn run_words<S: Source, O: Sink>(
 ) -> Result<(), Status>
     requires { S.opened input.old ≡ false }
     ensures ends { EndsAs (map string_bytes words.now)
-        (input_told S.file_name S.file S.sound S.left S.faults input.old input.new)
+        (input_told S.file_name S.file S.sound S.opened S.left S.faults input.old input.new)
         (output_told O.written O.faults out.old out.new)
         (status_of result) }
     ensures untouched { AsksForNothing (map string_bytes words.now) →
@@ -58,8 +45,7 @@ fn run_words<S: Source, O: Sink>(
 {
     let job = read_words(alloc, words)?;
     let pattern = parse(alloc, job.expr.text())?;
-    let text = answer(alloc, &pattern, &job, input)?;
-    write_answer(text.as_str(), out)?;
+    answer(alloc, pattern, &job, input, out)?;
     Ok(())
 }
 
@@ -74,7 +60,8 @@ fn ending(ended: Result<(), Status>) -> Status
 }
 
 /// Matches the pattern in the words over the input that they name, writes the zones of all matches
-/// to `out`, and tells `err` how the run ended. With `--show` it writes the pattern's text instead.
+/// to `out`, and tells `err` how the run ended. With `--online` it writes a block of zones for each
+/// segment as soon as that is complete, and with `--show` the pattern's text instead.
 ///
 /// The words are those after the program's name. What `ends` says of bytes holds where the source
 /// and the sinks tell their bytes; what it says of counts holds for every source and sink. A count
@@ -90,12 +77,12 @@ pub fn run<S: Source, O: Sink, E: Sink>(
 
     // What the status means, what was written, and why the run ended so.
     ensures ends { EndsAs (map string_bytes words.now)
-        (input_told S.file_name S.file S.sound S.left S.faults input.old input.new)
+        (input_told S.file_name S.file S.sound S.opened S.left S.faults input.old input.new)
         (output_told O.written O.faults out.old out.new) result }
 
     // Where no fault was counted, what the words ask for and the input comes to decides the status.
     ensures complete { IsComplete (map string_bytes words.now)
-        (input_told S.file_name S.file S.sound S.left S.faults input.old input.new)
+        (input_told S.file_name S.file S.sound S.opened S.left S.faults input.old input.new)
         (output_told O.written O.faults out.old out.new) result }
 
     // Words that ask for nothing leave the source and the output as they were.

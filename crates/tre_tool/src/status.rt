@@ -86,7 +86,7 @@ impl From<ParseFault> for Status {
     }
 }
 
-/// A source that couldn't be opened or read. A failed write is told by `write_answer`.
+/// A source that couldn't be opened or read. A failed write is told by `write_text`.
 impl From<Failed> for Status {
     ghost use Rattle.std.specs.Prelude.{◌≡◌};
     ghost use Rattle.tre_tool.specs.declared.status.Status.TheVariants.{ReadFault};

@@ -11,21 +11,21 @@ use tre_io::{Failed, MemSink, MemSource, Sink, Source, StdSink};
 
 /// How a run over memory ended, and what it wrote.
 #[derive(Debug, PartialEq, Eq, Drop)]
-struct Ran {
-    code: u8,
-    out: Vec<u8>,
-    err: Vec<u8>,
+pub(crate) struct Ran {
+    pub(crate) code: u8,
+    pub(crate) out: Vec<u8>,
+    pub(crate) err: Vec<u8>,
 }
 
 /// How many bytes a call of a source or a sink takes at most, and the call that fails, or 0.
 #[derive(Clone, Copy)]
-struct Device {
-    most: usize,
-    fails: u64,
+pub(crate) struct Device {
+    pub(crate) most: usize,
+    pub(crate) fails: u64,
     ghost takes_some: { 0 < most },
 }
 
-const SOUND: Device = Device {
+pub(crate) const SOUND: Device = Device {
     most: 4096,
     fails: 0,
 };
@@ -71,7 +71,7 @@ fn sink_of(alloc: Global, device: Device) -> Result<MemSink, AllocError> {
 }
 
 /// Runs over memory, with what each device does.
-fn ran_with(
+pub(crate) fn ran_with(
     alloc: Global,
     words: &[&str],
     text: &str,
@@ -217,7 +217,7 @@ fn words_refused(rt: HostRuntime) -> Result<(), Fail> {
     assert!(rt; is_answer(alloc, &["p", "q"], "3 p\n", 2, "", usage)?);
     assert_eq!(rt; code_of(alloc, &["-p"])?, 2);
     assert_eq!(rt; code_of(alloc, &["--help"])?, 2);
-    assert_eq!(rt; code_of(alloc, &["--online", "p"])?, 2);
+    assert_eq!(rt; code_of(alloc, &["--online", "--online", "p"])?, 2);
     assert_eq!(rt; code_of(alloc, &["--format", "xml", "p"])?, 2);
     assert_eq!(rt;
         code_of(alloc, &["--format=text", "--format=text", "p"])?,
@@ -296,7 +296,7 @@ fn patterns_refused(rt: HostRuntime) -> Result<(), Fail> {
 }
 
 /// `count` times the text.
-fn times(alloc: Global, text: &str, count: usize) -> Result<String, AllocError> {
+pub(crate) fn times(alloc: Global, text: &str, count: usize) -> Result<String, AllocError> {
     let mut all = String::new(alloc);
     for _ in 0..count {
         all.push_str(text)?;
@@ -357,7 +357,7 @@ fn one_byte_a_call(rt: HostRuntime) -> Result<(), Fail> {
     Ok(())
 }
 
-const DUMP: &str = "$date today $end\n$version worked $end\n$timescale 1 ns $end\n\
+pub(crate) const DUMP: &str = "$date today $end\n$version worked $end\n$timescale 1 ns $end\n\
     $scope module top $end\n$var wire 1 ! p $end\n$var reg 8 \" n [7:0] $end\n$upscope $end\n\
     $enddefinitions $end\n#0\n$dumpvars\n0!\nb0 \"\n$end\n#5\n1!\nb101 \"\n#9\n0!\n#10\n";
 

@@ -2,7 +2,7 @@
 ghost use Rattle.std.specs.Prelude.{◌≡◌, ◌≤◌, ◌^◌, ◌-◌, min, map, string_bytes, IfOk, IsErrOf, IfSome, IfNone, Some, None, true, false, codes, option_and_then};
 ghost use Rattle.std.specs.Str.Parse.{digits_value};
 ghost use Rattle.clap.specs.Words.{app_of, rule_of, found_of, rows_of, matches_of, first_of, kind_of};
-ghost use Rattle.tre_tool.specs.Job.{flag_rule, option_rule, operand_rule, command_line, is_given, mode_for, mode_in, format_named, is_numeral, limit_written, has_run, GivesFrom, GivesJob, GivesNoJob, AreTaken};
+ghost use Rattle.tre_tool.specs.Job.{flag_rule, option_rule, operand_rule, command_line, is_given, mode_for, mode_in, format_named, is_numeral, limit_written, GivesFrom, GivesJob, GivesNoJob, AreTaken};
 ghost use Rattle.tre_tool.specs.declared.job.Job.{Job};
 
 use crate::job::{Format, Job, LIMIT_MAX, Mode, Word, WordsFault};
@@ -146,15 +146,6 @@ fn limit_written(text: &str) -> Option<u64>
     Some(number)
 }
 
-fn has_run(mode: Mode) -> bool
-    ensures { result ≡ has_run mode }
-{
-    match mode {
-        Mode::Offline | Mode::Show => true,
-        Mode::Online => false,
-    }
-}
-
 fn format_in(matches: &ArgMatches) -> Option<Format>
     ensures { result ≡ option_and_then format_named
         (first_of (codes "format") (rows_of (found_of matches.now))) }
@@ -188,9 +179,6 @@ fn job_in(alloc: Global, matches: &ArgMatches) -> Result<Job, WordsFault>
     let Some(expr) = value_of(matches, "EXPR") else {
         return Err(WordsFault::Usage);
     };
-    if !has_run(mode) {
-        return Err(WordsFault::Usage);
-    }
     Ok(Job {
         mode,
         format,

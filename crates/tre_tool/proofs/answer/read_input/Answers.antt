@@ -5,7 +5,8 @@ use Rattle.tre_text.specs.TextReading.{text_reading}
 use Rattle.tre_vcd.specs.VcdReading.{vcd_reading}
 use Rattle.tre_trace.specs.declared.trace.Trace.{Trace}
 use Rattle.tre_tool.specs.Feeding.{StopsReading}
-use Rattle.tre_tool.specs.Run.{request_for, input_told}
+use Rattle.tre_tool.specs.Devices.{input_told}
+use Rattle.tre_tool.specs.Run.{request_for}
 use Rattle.tre_tool.proofs.Readings.{text_reading-nothing, vcd_reading-nothing}
 use Rattle.tre_tool.proofs.Stops.{StopsAs-reading}
 use Rattle.tre_tool.proofs.answer.read_input.Goals as goal
@@ -20,7 +21,7 @@ returns-in_err-trace-in-Text-clause-stops g c =
     c.from_residual-in_err-trace-in-Text.ensures.1 in
     let request = request_for c.args.job.now (pattern_tree c.args.pattern.now)
     (names_of c.args.pattern.now) in
-    let input = input_told g.S.Source.file_name g.S.Source.file g.S.Source.sound g.S.Source.left
+    let input = input_told g.S.Source.file_name g.S.Source.file g.S.Source.sound g.S.Source.opened g.S.Source.left
     g.S.Source.faults c.args.input.now c.read_trace.new.input in
     let stops : StopsReading (text_reading (names_of c.args.pattern.now)) c.args.job.now.max_bytes
     (g.S.Source.file c.args.input.now) c.in_err-trace-in-Text.field-0.0 =
@@ -41,7 +42,7 @@ returns-in_err-trace-in-Vcd-clause-stops g c =
     c.from_residual-in_err-trace-in-Vcd.ensures.1 in
     let request = request_for c.args.job.now (pattern_tree c.args.pattern.now)
     (names_of c.args.pattern.now) in
-    let input = input_told g.S.Source.file_name g.S.Source.file g.S.Source.sound g.S.Source.left
+    let input = input_told g.S.Source.file_name g.S.Source.file g.S.Source.sound g.S.Source.opened g.S.Source.left
     g.S.Source.faults c.args.input.now c.read_trace-in-Vcd.new.input in
     let stops : StopsReading (vcd_reading (names_of c.args.pattern.now)) c.args.job.now.max_bytes
     (g.S.Source.file c.args.input.now) c.in_err-trace-in-Vcd.field-0.0 =

@@ -1,6 +1,7 @@
 use Rattle.std.proofs.Common.{refl}
 use Rattle.std.proofs.lemmas.Result.{err_from_is_err_and}
-use Rattle.tre_tool.proofs.Promise.{named_as, only_untaken, EndsAs-refused, EndsAs-stopped, EndsAs-cut, EndsAs-done, IsRefused-parse, AsksFor-parse, nothing_asked, never_refused}
+use Rattle.tre_tool.specs.declared.status.Status.TheVariants.{Done}
+use Rattle.tre_tool.proofs.Promise.{named_as, only_untaken, EndsAs-refused, EndsAs-over, IsRefused-parse, AsksFor-parse, nothing_asked, never_refused}
 use Rattle.tre_tool.proofs.run.run_words.Goals as goal
 
 pub returns-in_err-pattern-clause-ends : goal.returns-in_err-pattern-clause-ends
@@ -20,35 +21,16 @@ returns-in_err-pattern-clause-by_name g c =
     (IsRefused-parse _ _ _ _ c.in_ok-job.ensures.ok c.text.ensures
     c.in_err-pattern.ensures.outcome))))
 
-pub returns-in_err-text-clause-ends : goal.returns-in_err-text-clause-ends
-returns-in_err-text-clause-ends g c =
-    let p = err_from_is_err_and c.from_residual-in_err-text.result
-    c.from_residual-in_err-text.ensures.1 in
+pub returns-in_err-answer-clause-ends : goal.returns-in_err-answer-clause-ends
+returns-in_err-answer-clause-ends g c =
+    let p = err_from_is_err_and c.from_residual-in_err-answer.result
+    c.from_residual-in_err-answer.ensures.1 in
     let asks = AsksFor-parse _ c.in_ok-job.job _ _ _ c.in_ok-job.ensures.ok c.text.ensures
     c.in_ok-pattern.ensures.outcome in
-    rw (p.1, p.2) (EndsAs-stopped _ _ _ _ c.in_err-text.field-0.0 asks c.in_err-text.ensures.stops
-    (record { unwritten = refl; writes = refl }))
+    rw (p.1, p.2) (EndsAs-over _ _ _ _ c.in_err-answer.field-0.0 asks c.in_err-answer.ensures.ends)
 
-pub returns-in_err-text-clause-untouched : goal.returns-in_err-text-clause-untouched
-returns-in_err-text-clause-untouched g c =
-    let asks = AsksFor-parse _ c.in_ok-job.job _ _ _ c.in_ok-job.ensures.ok c.text.ensures
-    c.in_ok-pattern.ensures.outcome in
-    λ nothing. absurd (nothing_asked _ _ asks nothing)
-
-pub returns-in_err-write_answer-clause-ends : goal.returns-in_err-write_answer-clause-ends
-returns-in_err-write_answer-clause-ends g c =
-    let p = err_from_is_err_and c.from_residual-in_err-write_answer.result
-    c.from_residual-in_err-write_answer.ensures.1 in
-    let asks = AsksFor-parse _ c.in_ok-job.job _ _ _ c.in_ok-job.ensures.ok c.text.ensures
-    c.in_ok-pattern.ensures.outcome in
-    rw (p.1, p.2, c.in_err-write_answer.ensures.status)
-    (EndsAs-cut _ _ _ _ _ asks c.in_ok-text.ensures.found
-    c.in_err-write_answer.ensures.cause (rw c.as_str.ensures.value at
-    c.in_err-write_answer.ensures.part))
-
-pub returns-in_err-write_answer-clause-untouched :
-    goal.returns-in_err-write_answer-clause-untouched
-returns-in_err-write_answer-clause-untouched g c =
+pub returns-in_err-answer-clause-untouched : goal.returns-in_err-answer-clause-untouched
+returns-in_err-answer-clause-untouched g c =
     let asks = AsksFor-parse _ c.in_ok-job.job _ _ _ c.in_ok-job.ensures.ok c.text.ensures
     c.in_ok-pattern.ensures.outcome in
     λ nothing. absurd (nothing_asked _ _ asks nothing)
@@ -57,8 +39,7 @@ pub returns-clause-ends : goal.returns-clause-ends
 returns-clause-ends g c =
     let asks = AsksFor-parse _ c.in_ok-job.job _ _ _ c.in_ok-job.ensures.ok c.text.ensures
     c.in_ok-pattern.ensures.outcome in
-    EndsAs-done _ _ _ _ _ asks c.in_ok-text.ensures.found c.in_ok-write_answer.ensures.good
-    (rw c.as_str.ensures.value at c.in_ok-write_answer.ensures.all)
+    EndsAs-over _ _ _ _ Done asks c.in_ok-answer.ensures.ends
 
 pub returns-clause-untouched : goal.returns-clause-untouched
 returns-clause-untouched g c =
@@ -72,20 +53,15 @@ returns-in_err-job-clause-by_name g c =
     λ request asks reads. rw (p.1, p.2) (λ usage read memory. absurd
     (only_untaken c.in_err-job.field-0.0 usage memory))
 
-pub returns-in_err-text-clause-by_name : goal.returns-in_err-text-clause-by_name
-returns-in_err-text-clause-by_name g c =
-    let p = err_from_is_err_and c.from_residual-in_err-text.result
-    c.from_residual-in_err-text.ensures.1 in
+pub returns-in_err-answer-clause-by_name : goal.returns-in_err-answer-clause-by_name
+returns-in_err-answer-clause-by_name g c =
+    let p = err_from_is_err_and c.from_residual-in_err-answer.result
+    c.from_residual-in_err-answer.ensures.1 in
     λ request asks reads. rw (p.1, p.2) (λ usage read memory.
     named_as _ _ request _ c.in_ok-job.ensures.ok asks
-    (λ mode. c.in_err-text.ensures.named mode read memory) reads)
-
-pub returns-in_err-write_answer-clause-by_name : goal.returns-in_err-write_answer-clause-by_name
-returns-in_err-write_answer-clause-by_name g c =
-    λ request asks reads usage read memory. named_as _ _ request _ c.in_ok-job.ensures.ok asks
-    c.in_ok-text.ensures.by_name reads
+    (λ mode. c.in_err-answer.ensures.by_name mode read memory) reads)
 
 pub returns-clause-by_name : goal.returns-clause-by_name
 returns-clause-by_name g c =
     λ request asks reads usage read memory. named_as _ _ request _ c.in_ok-job.ensures.ok asks
-    c.in_ok-text.ensures.by_name reads
+    (λ mode. c.in_ok-answer.ensures.by_name mode (λ e. cc) (λ e. cc)) reads

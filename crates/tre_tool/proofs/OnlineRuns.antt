@@ -1,0 +1,48 @@
+-- The end of a run in the mode that tells as the input comes.
+use Rattle.std.proofs.Common.{◌≡◌}
+use Rattle.tre_tool.specs.Answer.{EndsOver}
+use Rattle.tre_tool.specs.Devices.{InputTold, OutputTold}
+use Rattle.tre_tool.specs.Run.{Request, reading_for}
+use Rattle.tre_tool.specs.Telling.{EndsTelling}
+use Rattle.tre_tool.specs.declared.job.Mode.TheVariants.{Online}
+use Rattle.tre_tool.specs.declared.status.Status.{Status}
+use Rattle.tre_tool.specs.declared.status.Status.TheVariants.{Done, Usage, Expression, Trace, InputTooLong, ReadFault, WriteFault, Memory}
+
+-- the telling of the input is the run over the request
+pub EndsOver-telling : (request : Request) (input : InputTold) (output : OutputTold)
+    (status : Status) → request.job.mode ≡ Online
+    → EndsTelling (reading_for request) request.job.max_bytes request.tree request.job.input input
+    output status
+    → EndsOver request input output status
+EndsOver-telling request input output Done online ends = record {
+  reads = ends.reads;
+  all_read = rw online ends.all_read;
+  text = ends.text;
+  right = rw online ends.right;
+  writes = ends.writes;
+  written = ends.written;
+}
+EndsOver-telling request input output (Trace fault) online ends = record {
+  kind = ends.cause.0;
+  cause = ends.cause.1;
+  reads = ends.reads;
+  stands = rw online ends.stands;
+}
+EndsOver-telling request input output InputTooLong online ends = record {
+  cause = ends.cause;
+  reads = ends.reads;
+  stands = rw online ends.stands;
+}
+EndsOver-telling request input output ReadFault online ends = record {
+  cause = ends.cause;
+  unsound = ends.unsound;
+  stands = rw online ends.stands;
+}
+EndsOver-telling request input output WriteFault online ends = record {
+  cause = ends.cause;
+  reads = ends.reads;
+  stands = rw online ends.stands;
+}
+EndsOver-telling request input output Memory online ends = (ends.reads, rw online ends.stands)
+EndsOver-telling request input output Usage online ends = absurd ends
+EndsOver-telling request input output (Expression fault) online ends = absurd ends

@@ -1,0 +1,545 @@
+-- How the telling of an input ends.
+use Rattle.std.proofs.Common.{◌≡◌, ◌≢◌, ◌∙◌, ℕ, ◌+◌, ◌-◌, ◌≤◌, Bool, true, false, List, [], ◌∷◌, ◌++◌, length, take, drop, Option, None, Some, IfSome, IfErr, IsTrue, Result, Ok, Err, refl, sym, ap, subst, inl, inr, arith, length-append, append-nil, append_assoc, take-append-drop}
+use Rattle.std.specs.Io.KnownBytes.{Appends, Consumes, Keeps}
+use Rattle.std.proofs.KnownBytes.{Appends-trans, Consumes-whole, Consumes-nil}
+use Rattle.std.proofs.lemmas.List.{take-append-le, take-take}
+use Rattle.tre_online.specs.Session.{pattern_of, StandsFor}
+use Rattle.tre_online.specs.declared.session.Session.{Session}
+use Rattle.tre_syntax.specs.Pattern.{pattern_tree}
+use Rattle.tre_syntax.specs.PatternTree.{PatternTree}
+use Rattle.tre_trace.specs.Reading.{Reading}
+use Rattle.tre_trace.specs.Trace.{IsTrace, end_of}
+use Rattle.tre_trace.specs.declared.segment.Segment.{Segment}
+use Rattle.tre_trace.specs.declared.fault.TraceFault.{TraceFault}
+use Rattle.tre_zone.specs.declared.zone_bounds.ZoneBounds.{ZoneBounds}
+use Rattle.tre_tool.specs.Devices.{InputTold, OutputTold, AllReadsGood, AllWritesGood, WereRead}
+use Rattle.tre_tool.specs.Feeding.{IsFed, HasRead, GoesOn, IsEnded, TellsAll, StopsTurn, StopsReading}
+use Rattle.tre_tool.specs.Input.{HasReadCause}
+use Rattle.tre_tool.specs.Online.{BlocksWritten, AreKnown, FirstBlocksStand, IsOnlineAnswer}
+use Rattle.tre_tool.specs.Outcome.{reading_within}
+use Rattle.tre_tool.specs.Telling.{HasTold, StopsWithin, HasWriteCause, StopsAtEnd, EndsTelling}
+use Rattle.tre_tool.specs.Transcript.{block_texts, online_text, closing_line}
+use Rattle.tre_tool.specs.declared.input.TheConstants.{PIECE}
+use Rattle.tre_tool.specs.declared.status.Status.{Status}
+use Rattle.tre_tool.specs.declared.status.Status.TheVariants.{Done, Usage, Expression, Trace, InputTooLong, ReadFault, WriteFault, Memory}
+use Rattle.tre_tool.proofs.Cuts.{take-over}
+use Rattle.tre_tool.proofs.Feeding.{AllGrow}
+use Rattle.tre_tool.proofs.Readings.{IsFed-start}
+use Rattle.tre_tool.proofs.Told.{HasTold-start, IsCutBehind-after, Appends-none}
+use Rattle.tre_tool.proofs.Transcripts.{IsTranscript-none}
+use Rattle.tre_tool.proofs.Turns.{Consumes-keeps}
+
+-- These bytes were fed, and the blocks of the segments that they say were written.
+pub record IsTelling (represents : List ℕ → Type 0) (reading : Bool → List ℕ → Reading)
+    (limit : ℕ) (file left : Option (List ℕ)) (count : ℕ) (session : Session)
+    (tree : PatternTree) (before now : Option (List ℕ)) : Type 0 where
+  pub bytes : List ℕ
+  pub fed : IsFed represents limit file left count bytes
+  pub told : HasTold session tree (reading false (take limit bytes)).segments before now
+
+were_read : (input : InputTold) (bytes : List ℕ) → input.opened ≡ true
+    → Consumes input.file input.left bytes → WereRead input bytes
+were_read input bytes opened front = record {
+  of_open = λ is_open. front;
+  of_closed = λ closed. cc;
+}
+
+-- what is known where a turn ended: the segments of the bytes before it and those that it told
+known_with : (reading : Bool → List ℕ → Reading) (limit most : ℕ) (input : InputTold)
+    (bytes : List ℕ) (new : List Segment)
+    → (has : HasRead reading limit most input.file input.left bytes [] new)
+    → input.opened ≡ true → (front rest : List Segment)
+    → (reading false (take limit bytes)).segments ++ new ≡ front ++ rest
+    → AreKnown reading limit input (bytes ++ has.piece) (front ++ (rest ++ has.some.left))
+known_with reading limit most input bytes new has opened front rest split = record {
+  read = were_read input (bytes ++ has.piece) opened has.front;
+  closed = has.closed;
+  all_read = has.all_read;
+  within = has.within;
+  known =
+      let told = (reading false (take limit bytes)).segments in
+      sym (append_assoc front rest has.some.left)
+      ∙ (ap (λ all. all ++ has.some.left) (sym split)
+      ∙ (append_assoc told new has.some.left
+      ∙ (ap (λ added. told ++ (added ++ has.some.left)) has.some.new_is
+      ∙ sym has.some.beyond)));
+}
+
+-- without the piece of the turn no segment is known that wasn't told before it
+prompt : (reading : Bool → List ℕ → Reading) → AllGrow reading → (limit most : ℕ)
+    (file left : Option (List ℕ)) (bytes : List ℕ) (new : List Segment)
+    → (has : HasRead reading limit most file left bytes [] new) → most ≡ PIECE
+    → length (reading false (take (length (bytes ++ has.piece) - PIECE) (bytes ++ has.piece))).segments
+    ≤ length (reading false (take limit bytes)).segments
+prompt reading grows limit most file left bytes new has room =
+    let whole = bytes ++ has.piece in
+    let early = length whole - PIECE in
+    let inside : early ≤ length bytes = omega
+    (arith, length-append bytes has.piece, has.short, room) in
+    let within : early ≤ limit = omega (arith, has.few) in
+    let front : take early whole ≡ take early bytes = take-append-le early bytes has.piece inside in
+    let cut : take limit bytes ≡ take early bytes ++ drop early (take limit bytes) =
+    sym (take-append-drop early (take limit bytes))
+    ∙ ap (λ xs. xs ++ drop early (take limit bytes)) (take-take early limit bytes within) in
+    let grown = grows false (take early bytes) (drop early (take limit bytes)) in
+    let count : length (reading false (take limit bytes)).segments
+    ≡ length (reading false (take early bytes)).segments + length grown.added =
+    ap (λ xs. length (reading false xs).segments) cut
+    ∙ (ap length grown.segments ∙ length-append _ grown.added) in
+    rw front (omega (arith, count))
+
+no_middle : (front : List Segment) (segment : Segment) (rest : List Segment)
+    → [] ≡ front ++ segment ∷ rest → ⊥
+no_middle [] segment rest same = absurd (omega (arith, ap length same))
+no_middle (first ∷ front) segment rest same = absurd (omega (arith, ap length same))
+
+-- where a segment was told, no read failed
+reads_good : (reading : Bool → List ℕ → Reading) (limit : ℕ) (file left : Option (List ℕ))
+    (bytes : List ℕ) (new : List Segment) (tree : PatternTree) (told : List Segment)
+    (before now : Option (List ℕ)) (status : Status) (faults faults' : ℕ)
+    (fed : Result Bool Status) → HasReadCause faults faults' fed
+    → IfErr fed (StopsTurn reading limit file left bytes [] new)
+    → StopsWithin tree told new before now status → faults' ≡ faults
+reads_good reading limit file left bytes new tree told before now status faults faults' (Ok more)
+    cause stops within = cause
+reads_good reading limit file left bytes new tree told before now status faults faults'
+    (Err ReadFault) cause stops within =
+    absurd (no_middle within.front within.segment within.rest (sym stops.1 ∙ within.split))
+reads_good reading limit file left bytes new tree told before now status faults faults'
+    (Err Done) cause stops within = cause
+reads_good reading limit file left bytes new tree told before now status faults faults'
+    (Err Usage) cause stops within = cause
+reads_good reading limit file left bytes new tree told before now status faults faults'
+    (Err (Expression fault)) cause stops within = cause
+reads_good reading limit file left bytes new tree told before now status faults faults'
+    (Err (Trace fault)) cause stops within = cause
+reads_good reading limit file left bytes new tree told before now status faults faults'
+    (Err InputTooLong) cause stops within = cause
+reads_good reading limit file left bytes new tree told before now status faults faults'
+    (Err WriteFault) cause stops within = cause
+reads_good reading limit file left bytes new tree told before now status faults faults'
+    (Err Memory) cause stops within = cause
+
+split_behind : (told new front : List Segment) (segment : Segment) (rest : List Segment)
+    → new ≡ front ++ segment ∷ rest → told ++ new ≡ (told ++ front) ++ segment ∷ rest
+split_behind told new front segment rest split =
+    ap (λ xs. told ++ xs) split ∙ sym (append_assoc told front (segment ∷ rest))
+
+-- the telling stopped at a segment
+pub EndsTelling-within : (reading : Bool → List ℕ → Reading) → AllGrow reading
+    → (limit most : ℕ) (tree : PatternTree) (name : List ℕ) (input : InputTold)
+    (output : OutputTold) (bytes : List ℕ) (new : List Segment) (status : Status)
+    (fed : Result Bool Status)
+    → HasRead reading limit most input.file input.left bytes [] new → most ≡ PIECE
+    → input.opened ≡ true
+    → HasReadCause input.faults_before input.faults_now fed
+    → IfErr fed (StopsTurn reading limit input.file input.left bytes [] new)
+    → HasWriteCause {T = Unit {0}} output.faults_before output.faults_now (Err status)
+    → StopsWithin tree (reading false (take limit bytes)).segments new
+    output.written_before output.written_now status
+    → EndsTelling reading limit tree name input output status
+EndsTelling-within reading grows limit most tree name input output bytes new WriteFault fed has
+    room opened read stops write within =
+    let told = (reading false (take limit bytes)).segments in
+    let early = prompt reading grows limit most input.file input.left bytes new has room in
+    record {
+      cause = write;
+      reads = reads_good reading limit input.file input.left bytes new tree told _ _ WriteFault _ _
+          fed read stops within;
+      stands = inl (record {
+        bytes = bytes ++ has.piece;
+        front = told ++ within.front;
+        segment = within.segment;
+        rest = within.rest ++ has.some.left;
+        known = known_with reading limit most input bytes new has opened (told ++ within.front)
+            (within.segment ∷ within.rest)
+            (split_behind told new within.front within.segment within.rest within.split);
+        cut = within.stops;
+        prompt = omega (arith, early, length-append told within.front);
+      });
+    }
+EndsTelling-within reading grows limit most tree name input output bytes new Memory fed has
+    room opened read stops write within =
+    let told = (reading false (take limit bytes)).segments in
+    record {
+      reads = reads_good reading limit input.file input.left bytes new tree told _ _ Memory _ _ fed
+          read stops within;
+      stands = record {
+        writes = write;
+        bytes = bytes ++ has.piece;
+        front = told ++ within.front;
+        rest = (within.segment ∷ within.rest) ++ has.some.left;
+        known = known_with reading limit most input bytes new has opened (told ++ within.front)
+            (within.segment ∷ within.rest)
+            (split_behind told new within.front within.segment within.rest within.split);
+        stand = within.stops;
+      };
+    }
+EndsTelling-within reading grows limit most tree name input output bytes new Done fed has room
+    opened read stops write within = absurd within.stops
+EndsTelling-within reading grows limit most tree name input output bytes new Usage fed has room
+    opened read stops write within = absurd within.stops
+EndsTelling-within reading grows limit most tree name input output bytes new (Expression fault)
+    fed has room opened read stops write within = absurd within.stops
+EndsTelling-within reading grows limit most tree name input output bytes new (Trace fault) fed
+    has room opened read stops write within = absurd within.stops
+EndsTelling-within reading grows limit most tree name input output bytes new InputTooLong fed
+    has room opened read stops write within = absurd within.stops
+EndsTelling-within reading grows limit most tree name input output bytes new ReadFault fed has
+    room opened read stops write within = absurd within.stops
+
+-- all blocks of the input stand there
+all_stand : (reading : Bool → List ℕ → Reading) (limit : ℕ) (tree : PatternTree)
+    (file before now : Option (List ℕ)) (bytes : List ℕ) (new : List Segment)
+    → BlocksWritten tree ((reading false (take limit bytes)).segments ++ new) before now
+    → TellsAll reading limit file bytes [] new
+    → IfSome file (λ whole. BlocksWritten tree (reading_within reading limit whole).segments
+    before now)
+all_stand reading limit tree None before now bytes new stand all = tt
+all_stand reading limit tree (Some whole) before now bytes new stand all =
+    let told = (reading false (take limit bytes)).segments in
+    let same : (reading_within reading limit whole).segments ≡ told ++ new =
+    all.beyond ∙ ap (λ added. told ++ added) (sym all.new_is) in
+    rw same stand
+
+-- the first blocks stand there
+first_stand : (reading : Bool → List ℕ → Reading) (limit most : ℕ) (tree : PatternTree)
+    (input : InputTold) (output : OutputTold) (bytes : List ℕ) (new : List Segment)
+    → HasRead reading limit most input.file input.left bytes [] new
+    → input.opened ≡ true → AllWritesGood output
+    → BlocksWritten tree ((reading false (take limit bytes)).segments ++ new)
+    output.written_before output.written_now
+    → FirstBlocksStand reading limit tree input output
+first_stand reading limit most tree input output bytes new has opened writes stand =
+    let told = (reading false (take limit bytes)).segments in
+    record {
+      writes = writes;
+      bytes = bytes ++ has.piece;
+      front = told ++ new;
+      rest = has.some.left;
+      known = known_with reading limit most input bytes new has opened (told ++ new) []
+          (sym (append-nil (told ++ new)));
+      stand = stand;
+    }
+
+-- the input stopped, and all that it gave was told
+pub EndsTelling-stopped : (reading : Bool → List ℕ → Reading) (limit most : ℕ)
+    (tree : PatternTree) (name : List ℕ) (input : InputTold) (output : OutputTold)
+    (bytes : List ℕ) (new : List Segment) (status : Status)
+    → HasRead reading limit most input.file input.left bytes [] new
+    → input.opened ≡ true
+    → HasReadCause {T = Bool} input.faults_before input.faults_now (Err status)
+    → (IsTrue input.sound → input.name ≡ Some name → status ≢ ReadFault)
+    → StopsReading reading limit input.file status
+    → StopsTurn reading limit input.file input.left bytes [] new status
+    → AllWritesGood output
+    → BlocksWritten tree ((reading false (take limit bytes)).segments ++ new)
+    output.written_before output.written_now
+    → EndsTelling reading limit tree name input output status
+EndsTelling-stopped reading limit most tree name input output bytes new (Trace fault) has opened
+    read sound cause stops writes stand = record {
+      cause = cause;
+      reads = read;
+      stands = record {
+        writes = writes;
+        stand = all_stand reading limit tree input.file _ _ bytes new stand stops;
+      };
+    }
+EndsTelling-stopped reading limit most tree name input output bytes new InputTooLong has opened
+    read sound cause stops writes stand = record {
+      cause = cause;
+      reads = read;
+      stands = record {
+        writes = writes;
+        stand = all_stand reading limit tree input.file _ _ bytes new stand stops;
+      };
+    }
+EndsTelling-stopped reading limit most tree name input output bytes new ReadFault has opened read
+    sound cause stops writes stand = record {
+      cause = read;
+      unsound = λ good named. sound good named refl;
+      stands = record {
+        writes = writes;
+        bytes = bytes;
+        read = were_read input bytes opened stops.0;
+        stand = rw (stops.1, append-nil (reading false (take limit bytes)).segments) at stand;
+      };
+    }
+EndsTelling-stopped reading limit most tree name input output bytes new Memory has opened read
+    sound cause stops writes stand = record {
+      reads = read;
+      stands = first_stand reading limit most tree input output bytes new has opened writes stand;
+    }
+EndsTelling-stopped reading limit most tree name input output bytes new Done has opened read
+    sound cause stops writes stand = absurd stops
+EndsTelling-stopped reading limit most tree name input output bytes new Usage has opened read
+    sound cause stops writes stand = absurd stops
+EndsTelling-stopped reading limit most tree name input output bytes new (Expression fault) has
+    opened read sound cause stops writes stand = absurd stops
+EndsTelling-stopped reading limit most tree name input output bytes new WriteFault has opened
+    read sound cause stops writes stand = absurd stops
+
+-- the trace of a whole input
+whole_trace : (reading : Bool → List ℕ → Reading) (limit : ℕ) (file left : Option (List ℕ))
+    (bytes : List ℕ) (new : List Segment) → IsEnded reading limit file left bytes [] new
+    → (reading true bytes).segments ≡ (reading false (take limit bytes)).segments ++ new
+whole_trace reading limit file left bytes new ended =
+    ended.all.beyond
+    ∙ ap (λ added. (reading false (take limit bytes)).segments ++ added) (sym ended.all.new_is)
+
+same_reading : (reading : Reading) → reading.fault ≡ None
+    → reading ≡ record { segments = reading.segments; fault = None }
+same_reading reading none = ap (λ f. reading_for reading.segments f) none
+  where
+    reading_for : List Segment → Option TraceFault → Reading
+    reading_for s f = record { segments = s; fault = f }
+
+-- the text with its last line
+closed_text : (blocks : List (List ZoneBounds)) (trace : List Segment)
+    → online_text blocks trace true
+    ≡ online_text blocks trace false ++ closing_line true (end_of 0 trace)
+unfolding online_text
+closed_text blocks trace =
+    ap (λ text. text ++ closing_line true (end_of 0 trace))
+    (sym (append-nil (block_texts 0 blocks trace)))
+
+-- the right answer over the bytes, by the blocks that were told
+right_answer : (reading : Bool → List ℕ → Reading) (limit : ℕ) (tree : PatternTree)
+    (file left before now : Option (List ℕ)) (bytes : List ℕ) (new : List Segment)
+    → (ended : IsEnded reading limit file left bytes [] new)
+    → IsTrace (reading true bytes).segments
+    → (stand : BlocksWritten tree (reading true bytes).segments before now)
+    → IsOnlineAnswer reading limit tree bytes
+    (online_text stand.blocks (reading true bytes).segments true)
+right_answer reading limit tree file left before now bytes new ended trace stand = record {
+  within = ended.within;
+  trace = (reading true bytes).segments;
+  reads = same_reading (reading true bytes) ended.whole;
+  is_trace = trace;
+  blocks = stand.blocks;
+  transcript = stand.transcript;
+  printed = refl;
+}
+
+-- all was told and the last line was written
+pub EndsTelling-done : (reading : Bool → List ℕ → Reading) (limit : ℕ) (tree : PatternTree)
+    (name : List ℕ) (input : InputTold) (output : OutputTold) (bytes : List ℕ)
+    (new : List Segment) (middle : Option (List ℕ)) (end : ℕ)
+    → IsEnded reading limit input.file input.left bytes [] new
+    → IsTrace (reading true bytes).segments
+    → AllReadsGood input → AllWritesGood output
+    → BlocksWritten tree ((reading false (take limit bytes)).segments ++ new)
+    output.written_before middle
+    → end ≡ end_of 0 ((reading false (take limit bytes)).segments ++ new)
+    → Appends middle output.written_now (closing_line true end)
+    → EndsTelling reading limit tree name input output Done
+EndsTelling-done reading limit tree name input output bytes new middle end ended trace reads
+    writes stand at_end line =
+    let same = whole_trace reading limit input.file input.left bytes new ended in
+    let told : BlocksWritten tree (reading true bytes).segments output.written_before middle =
+    rw same stand in
+    record {
+      reads = reads;
+      all_read = ended.all_read;
+      text = online_text told.blocks (reading true bytes).segments true;
+      right = Consumes-whole input.file input.left bytes _ ended.front ended.all_read
+          (right_answer reading limit tree input.file input.left _ _ bytes new ended trace told);
+      writes = writes;
+      written = rw (closed_text told.blocks (reading true bytes).segments)
+          (Appends-trans output.written_before middle output.written_now _ _ told.written
+          (rw (at_end ∙ ap (end_of 0) (sym same)) at line));
+    }
+
+-- all was told, and the last line wasn't written
+pub EndsTelling-cut : (reading : Bool → List ℕ → Reading) (limit most : ℕ) (tree : PatternTree)
+    (name : List ℕ) (input : InputTold) (output : OutputTold) (bytes : List ℕ)
+    (new : List Segment) (middle : Option (List ℕ)) (end : ℕ) (status : Status)
+    → HasRead reading limit most input.file input.left bytes [] new
+    → input.opened ≡ true
+    → IsEnded reading limit input.file input.left bytes [] new
+    → IsTrace (reading true bytes).segments
+    → AllReadsGood input
+    → BlocksWritten tree ((reading false (take limit bytes)).segments ++ new)
+    output.written_before middle
+    → end ≡ end_of 0 ((reading false (take limit bytes)).segments ++ new)
+    → HasWriteCause {T = Unit {0}} output.faults_before output.faults_now (Err status)
+    → StopsAtEnd end middle output.written_now status
+    → EndsTelling reading limit tree name input output status
+EndsTelling-cut reading limit most tree name input output bytes new middle end WriteFault has
+    opened ended trace reads stand at_end write stops =
+    let same = whole_trace reading limit input.file input.left bytes new ended in
+    let told : BlocksWritten tree (reading true bytes).segments output.written_before middle =
+    rw same stand in
+    record {
+      cause = write;
+      reads = reads;
+      stands = inr (record {
+        all_read = ended.all_read;
+        cut = Consumes-whole input.file input.left bytes _ ended.front ended.all_read (record {
+          text = online_text told.blocks (reading true bytes).segments true;
+          right = record {
+            within = ended.within;
+            trace = (reading true bytes).segments;
+            reads = same_reading (reading true bytes) ended.whole;
+            is_trace = trace;
+            blocks = told.blocks;
+            transcript = told.transcript;
+            printed = refl;
+          };
+          cut = rw (closed_text told.blocks (reading true bytes).segments)
+              (IsCutBehind-after output.written_before middle output.written_now _ _ told.written
+              (rw (at_end ∙ ap (end_of 0) (sym same)) at stops));
+        });
+      });
+    }
+EndsTelling-cut reading limit most tree name input output bytes new middle end Memory has opened
+    ended trace reads stand at_end write stops = record {
+      reads = reads;
+      stands = first_stand reading limit most tree input output bytes new has opened write
+          (rw stops stand);
+    }
+EndsTelling-cut reading limit most tree name input output bytes new middle end Done has opened
+    ended trace reads stand at_end write stops = absurd stops
+EndsTelling-cut reading limit most tree name input output bytes new middle end Usage has opened
+    ended trace reads stand at_end write stops = absurd stops
+EndsTelling-cut reading limit most tree name input output bytes new middle end (Expression fault)
+    has opened ended trace reads stand at_end write stops = absurd stops
+EndsTelling-cut reading limit most tree name input output bytes new middle end (Trace fault) has
+    opened ended trace reads stand at_end write stops = absurd stops
+EndsTelling-cut reading limit most tree name input output bytes new middle end InputTooLong has
+    opened ended trace reads stand at_end write stops = absurd stops
+EndsTelling-cut reading limit most tree name input output bytes new middle end ReadFault has
+    opened ended trace reads stand at_end write stops = absurd stops
+
+none_written : (tree : PatternTree) (segments : List Segment) (told : Option (List ℕ))
+    → segments ≡ [] → BlocksWritten tree segments told told
+unfolding online_text
+none_written tree segments told none = rw none (record {
+  blocks = [];
+  transcript = IsTranscript-none tree;
+  written = Appends-none told;
+})
+
+none_read : (input : InputTold) → (IsTrue input.opened → Keeps input.file input.left)
+    → WereRead input []
+none_read input kept = record {
+  of_open = λ is_open. Consumes-keeps input.file input.file input.left [] (Consumes-nil input.file)
+      (kept is_open);
+  of_closed = λ closed. refl;
+}
+
+-- nothing was read
+pub EndsTelling-unread : (reading : Bool → List ℕ → Reading) (limit : ℕ) (tree : PatternTree)
+    (name : List ℕ) (input : InputTold) (output : OutputTold) (status : Status)
+    → (reading false []).segments ≡ []
+    → (IsTrue input.opened → Keeps input.file input.left)
+    → HasReadCause {T = Bool} input.faults_before input.faults_now (Err status)
+    → (status ≢ ReadFault → status ≢ Memory → ⊥)
+    → (IsTrue input.sound → input.name ≡ Some name → status ≢ ReadFault)
+    → output.written_now ≡ output.written_before → AllWritesGood output
+    → EndsTelling reading limit tree name input output status
+EndsTelling-unread reading limit tree name input output ReadFault nothing kept read only sound
+    unwritten writes =
+    let none : take limit [] ≡ [] = take-over {X = ℕ} limit [] (omega arith) in
+    record {
+      cause = read;
+      unsound = λ good named. sound good named refl;
+      stands = record {
+        writes = writes;
+        bytes = [];
+        read = none_read input kept;
+        stand = rw (none, unwritten) (none_written tree _ output.written_before nothing);
+      };
+    }
+EndsTelling-unread reading limit tree name input output Memory nothing kept read only sound
+    unwritten writes =
+    let none : take limit [] ≡ [] = take-over {X = ℕ} limit [] (omega arith) in
+    record {
+      reads = read;
+      stands = record {
+        writes = writes;
+        bytes = [];
+        front = [];
+        rest = [];
+        known = record {
+          read = none_read input kept;
+          closed = false;
+          all_read = λ e. cc;
+          within = λ e. cc;
+          known = rw none (sym nothing);
+        };
+        stand = rw unwritten (none_written tree [] output.written_before refl);
+      };
+    }
+EndsTelling-unread reading limit tree name input output Done nothing kept read only sound
+    unwritten writes = absurd (only (λ e. cc) (λ e. cc))
+EndsTelling-unread reading limit tree name input output Usage nothing kept read only sound
+    unwritten writes = absurd (only (λ e. cc) (λ e. cc))
+EndsTelling-unread reading limit tree name input output (Expression fault) nothing kept read only
+    sound unwritten writes = absurd (only (λ e. cc) (λ e. cc))
+EndsTelling-unread reading limit tree name input output (Trace fault) nothing kept read only sound
+    unwritten writes = absurd (only (λ e. cc) (λ e. cc))
+EndsTelling-unread reading limit tree name input output InputTooLong nothing kept read only sound
+    unwritten writes = absurd (only (λ e. cc) (λ e. cc))
+EndsTelling-unread reading limit tree name input output WriteFault nothing kept read only sound
+    unwritten writes = absurd (only (λ e. cc) (λ e. cc))
+
+-- nothing was fed or told
+pub IsTelling-start : {represents : List ℕ → Type 0} (reading : Bool → List ℕ → Reading)
+    (limit : ℕ) (file left : Option (List ℕ)) (count : ℕ) (session : Session)
+    (told : Option (List ℕ)) → represents [] → (reading false []).segments ≡ []
+    → Keeps file left → count ≡ 0 → StandsFor session []
+    → IsTelling represents reading limit file left count session
+    (pattern_tree (pattern_of session)) told told
+IsTelling-start reading limit file left count session told fresh nothing kept none stands =
+    let front : take limit [] ≡ [] = take-over {X = ℕ} limit [] (omega arith) in
+    record {
+      bytes = [];
+      fed = IsFed-start limit file left count fresh kept none;
+      told = rw (front, nothing) (HasTold-start session told stands);
+    }
+
+-- a turn went on, and what it gave was told
+pub IsTelling-more : {represents' : List ℕ → Type 0}
+    (reading : Bool → List ℕ → Reading) (limit : ℕ) (file left : Option (List ℕ)) (count : ℕ)
+    (session : Session) (tree : PatternTree) (bytes : List ℕ) (new : List Segment)
+    (before now : Option (List ℕ))
+    → GoesOn represents' reading limit file left count bytes [] new
+    → HasTold session tree ((reading false (take limit bytes)).segments ++ new) before now
+    → IsTelling represents' reading limit file left count session tree before now
+IsTelling-more reading limit file left count session tree bytes new before now more told =
+    let front = (reading false (take limit bytes)).segments in
+    let same : (reading false (take limit (bytes ++ more.piece))).segments ≡ front ++ new =
+    more.all.beyond ∙ ap (λ added. front ++ added) (sym more.all.new_is) in
+    record { bytes = bytes ++ more.piece; fed = more.fed; told = rw same told }
+
+-- causes, counted from where nothing was counted before
+pub HasReadCause-from : {T : Type 0} (before before' now : ℕ) (result : Result T Status)
+    → before ≡ before' → HasReadCause before now result → HasReadCause before' now result
+HasReadCause-from before before' now result same cause =
+    subst (λ n. HasReadCause n now result) same cause
+
+pub HasWriteCause-from : {T : Type 0} (before before' now : ℕ) (result : Result T Status)
+    → before ≡ before' → HasWriteCause before now result → HasWriteCause before' now result
+HasWriteCause-from before before' now result same cause =
+    subst (λ n. HasWriteCause n now result) same cause
+
+-- memory was wanting before the input was opened
+pub EndsTelling-unopened : (reading : Bool → List ℕ → Reading) (limit : ℕ) (tree : PatternTree)
+    (name : List ℕ) (input : InputTold) (output : OutputTold)
+    → (reading false []).segments ≡ [] → input.opened ≡ false → AllReadsGood input
+    → output.written_now ≡ output.written_before → AllWritesGood output
+    → EndsTelling reading limit tree name input output Memory
+EndsTelling-unopened reading limit tree name input output nothing closed read unwritten writes =
+    EndsTelling-unread reading limit tree name input output Memory nothing (λ is_open. cc) read
+    (λ failed wanting. wanting refl) (λ good named is. cc) unwritten writes
+
+-- the same reading and the same pattern
+pub EndsTelling-same : (reading reading' : Bool → List ℕ → Reading) (limit : ℕ)
+    (tree tree' : PatternTree) (name : List ℕ) (input : InputTold) (output : OutputTold)
+    (status : Status) → reading ≡ reading' → tree ≡ tree'
+    → EndsTelling reading limit tree name input output status
+    → EndsTelling reading' limit tree' name input output status
+EndsTelling-same reading reading' limit tree tree' name input output status same same' ends =
+    subst (λ r. EndsTelling r limit tree' name input output status) same
+    (subst (λ t. EndsTelling reading limit t name input output status) same' ends)

@@ -1,0 +1,128 @@
+-- What was told of the segments that a session was given, and what stands where it stopped.
+use Rattle.std.proofs.Common.{◌≡◌, ◌∙◌, ℕ, suc, ◌+◌, false, List, [], ◌∷◌, ◌++◌, length, Option, None, Some, refl, sym, ap, arith, length-append, append-nil}
+use Rattle.std.specs.Io.KnownBytes.{Appends}
+use Rattle.std.specs.List.Sorted.{IsPermutation}
+use Rattle.std.proofs.KnownBytes.{Appends-trans}
+use Rattle.std.proofs.Math.Seq.{take-append-add, get_or-append_seam}
+use Rattle.std.proofs.lemmas.List.Sorted.{IsPermutation-refl}
+use Rattle.tre_io.specs.Written.{AppendsPart}
+use Rattle.tre_online.specs.Session.{pattern_of, at_of, ended_of, StandsFor, TellsNew}
+use Rattle.tre_online.specs.declared.session.Session.{Session}
+use Rattle.tre_syntax.specs.Pattern.{pattern_tree}
+use Rattle.tre_syntax.specs.PatternTree.{PatternTree}
+use Rattle.tre_trace.specs.declared.segment.Segment.{Segment}
+use Rattle.tre_zone.specs.declared.zone_bounds.ZoneBounds.{ZoneBounds}
+use Rattle.tre_tool.specs.Online.{BlocksWritten, IsCutBehind, LastBlockIsCut}
+use Rattle.tre_tool.specs.Telling.{HasTold}
+use Rattle.tre_tool.specs.Transcript.{block_text, online_text, block_before, IsTranscript}
+use Rattle.tre_tool.proofs.Transcripts.{IsPrinted, IsTranscript-more, IsTranscript-none, online_text-more}
+
+pub Appends-none : (told : Option (List ℕ)) → Appends told told []
+Appends-none None = tt
+Appends-none (Some bytes) = sym (append-nil bytes)
+
+-- a new session has told nothing
+pub HasTold-start : (session : Session) (before : Option (List ℕ)) → StandsFor session []
+    → HasTold session (pattern_tree (pattern_of session)) [] before before
+unfolding online_text
+HasTold-start session before stands = record {
+  stands = stands;
+  same_tree = refl;
+  blocks = [];
+  transcript = IsTranscript-none (pattern_tree (pattern_of session));
+  written = Appends-none before;
+  ended = rw (stands.unstarted refl) (IsPermutation-refl []);
+}
+
+pub HasTold-written : {session : Session} {tree : PatternTree} {segments : List Segment}
+    {before now : Option (List ℕ)} → HasTold session tree segments before now
+    → BlocksWritten tree segments before now
+HasTold-written so_far = record {
+  blocks = so_far.blocks;
+  transcript = so_far.transcript;
+  written = so_far.written;
+}
+
+-- the transcript with the block of one segment more
+transcript_with : (session : Session) (tree : PatternTree) (segments : List Segment)
+    (segment : Segment) (told zones : List ZoneBounds) (before now : Option (List ℕ))
+    → (so_far : HasTold session tree segments before now)
+    → TellsNew (pattern_tree (pattern_of session)) segments segment (ended_of session) told
+    → IsPrinted told zones
+    → IsTranscript (so_far.blocks ++ zones ∷ []) tree (segments ++ segment ∷ [])
+transcript_with session tree segments segment told zones before now so_far tells printed =
+    IsTranscript-more so_far.blocks tree segments segment (ended_of session) told zones
+    so_far.transcript (rw so_far.same_tree at tells) printed so_far.ended
+
+-- its text, where the session ends behind the segment
+text_with : (session session' : Session) (tree : PatternTree) (segments : List Segment)
+    (segment : Segment) (zones : List ZoneBounds) (before now : Option (List ℕ))
+    → (so_far : HasTold session tree segments before now)
+    → StandsFor session' (segments ++ segment ∷ [])
+    → online_text (so_far.blocks ++ zones ∷ []) (segments ++ segment ∷ []) false
+    ≡ online_text so_far.blocks segments false ++ block_text zones (at_of session')
+text_with session session' tree segments segment zones before now so_far stands =
+    online_text-more so_far.blocks zones segments segment so_far.transcript.count
+    ∙ ap (λ end. online_text so_far.blocks segments false ++ block_text zones end)
+    (sym stands.at)
+
+-- one segment more was told
+pub HasTold-more : (session session' : Session) (tree : PatternTree) (segments : List Segment)
+    (segment : Segment) (told zones : List ZoneBounds) (before now now' : Option (List ℕ))
+    → HasTold session tree segments before now
+    → StandsFor session' (segments ++ segment ∷ [])
+    → pattern_tree (pattern_of session') ≡ pattern_tree (pattern_of session)
+    → TellsNew (pattern_tree (pattern_of session)) segments segment (ended_of session) told
+    → ended_of session' ≡ told → IsPrinted told zones
+    → Appends now now' (block_text zones (at_of session'))
+    → HasTold session' tree (segments ++ segment ∷ []) before now'
+HasTold-more session session' tree segments segment told zones before now now' so_far stands same
+    tells ended printed written = record {
+      stands = stands;
+      same_tree = same ∙ so_far.same_tree;
+      blocks = so_far.blocks ++ zones ∷ [];
+      transcript = transcript_with session tree segments segment told zones before now so_far tells
+          printed;
+      written = rw (text_with session session' tree segments segment zones before now so_far stands)
+          (Appends-trans before now now' _ _ so_far.written written);
+      ended = last_of so_far.blocks zones (ended_of session') (rw ended printed.same);
+    }
+  where
+    last_of : (blocks : List (List ZoneBounds)) (zones : List ZoneBounds)
+        (ended : List ZoneBounds) → IsPermutation ended zones
+        → IsPermutation ended (block_before (length (blocks ++ zones ∷ [])) (blocks ++ zones ∷ []))
+    last_of blocks zones ended order =
+        let count : length (blocks ++ zones ∷ []) ≡ suc (length blocks) = omega
+        (arith, length-append blocks (zones ∷ [])) in
+        rw (count, get_or-append_seam blocks zones [] []) order
+
+-- all of a text, and a part of what stands behind it
+pub IsCutBehind-after : (a b c : Option (List ℕ)) (xs ys : List ℕ) → Appends a b xs
+    → AppendsPart b c ys → IsCutBehind xs (xs ++ ys) a c
+IsCutBehind-after a b c xs ys first part = record {
+  part = record {
+    count = length xs + part.count;
+    short = omega (arith, part.short, length-append xs ys);
+    appends = rw (take-append-add xs ys part.count) (Appends-trans a b c xs _ first part.appends);
+  };
+  behind = omega arith;
+}
+
+-- a write failed within the block of one segment more
+pub HasTold-cut : (session session' : Session) (tree : PatternTree) (segments : List Segment)
+    (segment : Segment) (told zones : List ZoneBounds) (before now now' : Option (List ℕ))
+    → HasTold session tree segments before now
+    → StandsFor session' (segments ++ segment ∷ [])
+    → TellsNew (pattern_tree (pattern_of session)) segments segment (ended_of session) told
+    → IsPrinted told zones
+    → AppendsPart now now' (block_text zones (at_of session'))
+    → LastBlockIsCut tree segments segment before now'
+HasTold-cut session session' tree segments segment told zones before now now' so_far stands tells
+    printed part = record {
+      blocks = so_far.blocks;
+      zones = zones;
+      transcript = transcript_with session tree segments segment told zones before now so_far tells
+          printed;
+      cut = rw (text_with session session' tree segments segment zones before now so_far stands)
+          (IsCutBehind-after before now now' _ _ so_far.written part);
+    }

@@ -1,0 +1,235 @@
+use Rattle.std.proofs.Common.{◌∙◌, Bool, false, true, Err, Some, length, take, refl, sym, ap, arith}
+use Rattle.std.proofs.lemmas.Result.{err_from_is_err_and}
+use Rattle.tre_online.specs.Session.{pattern_of}
+use Rattle.tre_syntax.specs.Pattern.{pattern_tree}
+use Rattle.tre_tool.specs.Devices.{input_told, output_told}
+use Rattle.tre_tool.proofs.Readings.{fed_within, HasRead-bounded}
+use Rattle.tre_tool.proofs.Tellings.{IsTelling-start, IsTelling-more, EndsTelling-unread, EndsTelling-within, EndsTelling-stopped, EndsTelling-done, EndsTelling-cut, HasReadCause-from, HasWriteCause-from}
+use Rattle.tre_tool.proofs.Told.{HasTold-written}
+use Rattle.tre_tool.proofs.online.tell_input.Goals as goal
+
+pub returns-in_err-feed-clause-ends : goal.returns-in_err-feed-clause-ends
+returns-in_err-feed-clause-ends g c =
+    let p = err_from_is_err_and c.from_residual.result c.from_residual.ensures.1 in
+    let input = input_told g.S.Source.file_name g.S.Source.file g.S.Source.sound
+    g.S.Source.opened g.S.Source.left g.S.Source.faults c.args.input.now c.open.new.input in
+    let output = output_told g.O.Sink.written g.O.Sink.faults c.args.out.now c.args.out.now in
+    rw (p.1, p.2) (EndsTelling-unread
+    (g.R.TraceReader.reading (g.R.TraceReader.names c.args.reader.now)) c.args.job.now.max_bytes
+    (pattern_tree (pattern_of c.args.session.now)) c.args.job.now.input input output
+    c.in_err-feed.field-0.0 c.requires.nothing c.in_err-feed.ensures.nothing
+    c.in_err-feed.ensures.cause c.in_err-feed.ensures.named
+    (λ good named is. c.in_err-feed.ensures.sound good (named ∙ ap Some (sym c.text.ensures))
+    (ap Err is)) refl refl)
+
+pub loop-segments-init : goal.loop-segments-init
+loop-segments-init g c = record {
+  telling = IsTelling-start (g.R.TraceReader.reading (g.R.TraceReader.names c.args.reader.now))
+      c.args.job.now.max_bytes (g.S.Source.file c.args.input.now)
+      (g.S.Source.left c.open.new.input) c.in_ok-feed.feed.taken c.args.session.now
+      (g.O.Sink.written c.args.out.now) c.requires.fresh c.requires.nothing
+      c.in_ok-feed.ensures.bytes c.in_ok-feed.ensures.start c.requires.stands;
+  empty = c.new-segments.ensures.items;
+  names = refl;
+  opened = c.in_ok-feed.ensures.opened;
+  sound = c.in_ok-feed.ensures.same_sound;
+  no_fault = c.in_ok-feed.ensures.cause;
+  good = refl;
+  limit = c.in_ok-feed.ensures.limit;
+  room = c.in_ok-feed.ensures.room;
+}
+
+pub next-fed-requires-clause-opened : goal.next-fed-requires-clause-opened
+next-fed-requires-clause-opened g c = c.loop-segments.invariant.opened
+
+pub next-fed-requires-clause-fits : goal.next-fed-requires-clause-fits
+next-fed-requires-clause-fits g c = rw c.loop-segments.invariant.limit c.requires.fits
+
+pub next-fed-requires-clause-fed : goal.next-fed-requires-clause-fed
+next-fed-requires-clause-fed g c =
+    let tel = c.loop-segments.invariant.telling in
+    fed_within _ _ _ _ _ _ tel.bytes tel.fed (g.met.R.TraceReader.counts c.loop-segments.reader
+    (take c.args.job.now.max_bytes tel.bytes) tel.fed.fed).0
+
+pub next-fed-requires-clause-room : goal.next-fed-requires-clause-room
+next-fed-requires-clause-room g c = rw c.loop-segments.invariant.room (omega arith)
+
+pub next-fed-requires-clause-few : goal.next-fed-requires-clause-few
+next-fed-requires-clause-few g c =
+    let tel = c.loop-segments.invariant.telling in
+    rw c.loop-segments.invariant.limit tel.fed.few
+
+pub returns-in_err-tell_blocks-clause-ends : goal.returns-in_err-tell_blocks-clause-ends
+returns-in_err-tell_blocks-clause-ends g c =
+    let p = err_from_is_err_and c.from_residual-in_err-tell_blocks.result
+    c.from_residual-in_err-tell_blocks.ensures.1 in
+    let inv = c.loop-segments.invariant in
+    let tel = inv.telling in
+    let reading = g.R.TraceReader.reading (g.R.TraceReader.names c.args.reader.now) in
+    let limit = c.args.job.now.max_bytes in
+    let tree = pattern_tree (pattern_of c.args.session.now) in
+    let new = c.next-fed.new.segments.items in
+    let file = g.S.Source.file c.args.input.now in
+    let has = rw (inv.names, inv.limit, inv.empty) at
+    c.next-fed.ensures.read file tel.bytes tel.fed in
+    let input = input_told g.S.Source.file_name g.S.Source.file g.S.Source.sound
+    g.S.Source.opened g.S.Source.left g.S.Source.faults c.args.input.now c.next-fed.new.input in
+    let output = output_told g.O.Sink.written g.O.Sink.faults c.args.out.now c.tell_blocks.new.out in
+    let stops = rw (inv.names, inv.limit, inv.empty) at
+    c.next-fed.ensures.stops file tel.bytes tel.fed in
+    let within = rw c.deref.ensures.value at c.in_err-tell_blocks.ensures.stops tree
+    (reading false (take limit tel.bytes)).segments (g.O.Sink.written c.args.out.now) tel.told in
+    rw (p.1, p.2) (EndsTelling-within reading
+    (λ closed first more. g.met.R.TraceReader.grows (g.R.TraceReader.names c.args.reader.now)
+    closed first more) limit (length c.loop-segments.feed.buffer.items) tree
+    c.args.job.now.input input output tel.bytes new c.in_err-tell_blocks.field-0.0
+    c.next-fed.result has inv.room (c.next-fed.ensures.same_opened ∙ inv.opened)
+    (HasReadCause-from _ _ input.faults_now c.next-fed.result inv.no_fault
+    c.next-fed.ensures.cause) stops
+    (HasWriteCause-from {T = Unit {0}} _ _ output.faults_now
+    (Err c.in_err-tell_blocks.field-0.0) inv.good c.in_err-tell_blocks.ensures.cause) within)
+
+pub returns-in_err-tell_blocks-clause-bounded : goal.returns-in_err-tell_blocks-clause-bounded
+returns-in_err-tell_blocks-clause-bounded g c =
+    let inv = c.loop-segments.invariant in
+    let tel = inv.telling in
+    λ opened. HasRead-bounded (rw inv.limit at c.next-fed.ensures.read
+    (g.S.Source.file c.args.input.now) tel.bytes tel.fed)
+
+pub returns-in_err-fed-clause-ends : goal.returns-in_err-fed-clause-ends
+returns-in_err-fed-clause-ends g c =
+    let p = err_from_is_err_and c.from_residual-in_err-fed.result
+    c.from_residual-in_err-fed.ensures.1 in
+    let inv = c.loop-segments.invariant in
+    let tel = inv.telling in
+    let reading = g.R.TraceReader.reading (g.R.TraceReader.names c.args.reader.now) in
+    let limit = c.args.job.now.max_bytes in
+    let tree = pattern_tree (pattern_of c.args.session.now) in
+    let new = c.next-fed.new.segments.items in
+    let file = g.S.Source.file c.args.input.now in
+    let has = rw (inv.names, inv.limit, inv.empty) at
+    c.next-fed.ensures.read file tel.bytes tel.fed in
+    let input = input_told g.S.Source.file_name g.S.Source.file g.S.Source.sound
+    g.S.Source.opened g.S.Source.left g.S.Source.faults c.args.input.now c.next-fed.new.input in
+    let output = output_told g.O.Sink.written g.O.Sink.faults c.args.out.now c.tell_blocks.new.out in
+    let told = rw c.deref.ensures.value at c.in_ok-tell_blocks.ensures.told tree
+    (reading false (take limit tel.bytes)).segments (g.O.Sink.written c.args.out.now) tel.told in
+    let stops = rw (inv.names, inv.limit, inv.empty) at
+    c.in_err-fed.ensures.stops file tel.bytes tel.fed in
+    let cause = rw (inv.names, inv.limit) at
+    c.in_err-fed.ensures.cause_told file tel.bytes tel.fed in
+    rw (p.1, p.2) (EndsTelling-stopped reading limit (length c.loop-segments.feed.buffer.items)
+    tree c.args.job.now.input input output tel.bytes new c.in_err-fed.field-0.0 has (c.next-fed.ensures.same_opened ∙ inv.opened)
+    (HasReadCause-from {T = Bool} _ _ input.faults_now (Err c.in_err-fed.field-0.0) inv.no_fault
+    c.in_err-fed.ensures.cause)
+    (λ good named is. c.in_err-fed.ensures.sound (rw inv.sound good) (ap Err is))
+    cause stops (c.in_ok-tell_blocks.ensures.cause ∙ inv.good) (HasTold-written told))
+
+pub returns-in_err-fed-clause-bounded : goal.returns-in_err-fed-clause-bounded
+returns-in_err-fed-clause-bounded g c =
+    let inv = c.loop-segments.invariant in
+    let tel = inv.telling in
+    λ opened. HasRead-bounded (rw inv.limit at c.next-fed.ensures.read
+    (g.S.Source.file c.args.input.now) tel.bytes tel.fed)
+
+pub loop-segments-preserved : goal.loop-segments-preserved
+loop-segments-preserved g c =
+    let inv = c.loop-segments.invariant in
+    let tel = inv.telling in
+    let reading = g.R.TraceReader.reading (g.R.TraceReader.names c.args.reader.now) in
+    let limit = c.args.job.now.max_bytes in
+    let tree = pattern_tree (pattern_of c.args.session.now) in
+    let new = c.next-fed.new.segments.items in
+    let file = g.S.Source.file c.args.input.now in
+    let has = rw (inv.names, inv.limit, inv.empty) at
+    c.next-fed.ensures.read file tel.bytes tel.fed in
+    let told = rw c.deref.ensures.value at c.in_ok-tell_blocks.ensures.told tree
+    (reading false (take limit tel.bytes)).segments (g.O.Sink.written c.args.out.now) tel.told in
+    let more = rw (inv.names, inv.limit, inv.empty) at
+    c.in_ok-fed.ensures.goes_on file tel.bytes tel.fed c.if-not-branch.false in
+    record {
+      telling = IsTelling-more reading limit file (g.S.Source.left c.next-fed.new.input)
+          c.next-fed.new.self.taken c.tell_blocks.new.session tree tel.bytes new
+          (g.O.Sink.written c.args.out.now) (g.O.Sink.written c.tell_blocks.new.out) more told;
+      empty = c.clear.ensures.items;
+      names = c.next-fed.ensures.names ∙ inv.names;
+      opened = c.next-fed.ensures.same_opened ∙ inv.opened;
+      sound = c.next-fed.ensures.same_sound ∙ inv.sound;
+      no_fault = c.in_ok-fed.ensures.cause ∙ inv.no_fault;
+      good = c.in_ok-tell_blocks.ensures.cause ∙ inv.good;
+      limit = c.next-fed.ensures.limit ∙ inv.limit;
+      room = c.next-fed.ensures.length ∙ inv.room;
+    }
+
+pub returns-in_err-tell_end-clause-ends : goal.returns-in_err-tell_end-clause-ends
+returns-in_err-tell_end-clause-ends g c =
+    let p = err_from_is_err_and c.from_residual-in_err-tell_end.result
+    c.from_residual-in_err-tell_end.ensures.1 in
+    let inv = c.loop-segments.invariant in
+    let tel = inv.telling in
+    let reading = g.R.TraceReader.reading (g.R.TraceReader.names c.args.reader.now) in
+    let limit = c.args.job.now.max_bytes in
+    let tree = pattern_tree (pattern_of c.args.session.now) in
+    let new = c.next-fed.new.segments.items in
+    let file = g.S.Source.file c.args.input.now in
+    let has = rw (inv.names, inv.limit, inv.empty) at
+    c.next-fed.ensures.read file tel.bytes tel.fed in
+    let input = input_told g.S.Source.file_name g.S.Source.file g.S.Source.sound
+    g.S.Source.opened g.S.Source.left g.S.Source.faults c.args.input.now c.next-fed.new.input in
+    let output = output_told g.O.Sink.written g.O.Sink.faults c.args.out.now c.tell_end.new.out in
+    let told = rw c.deref.ensures.value at c.in_ok-tell_blocks.ensures.told tree
+    (reading false (take limit tel.bytes)).segments (g.O.Sink.written c.args.out.now) tel.told in
+    let ended = rw (inv.names, inv.limit, inv.empty) at
+    c.in_ok-fed.ensures.ended file tel.bytes tel.fed c.if-not-branch.true in
+    let trace = g.met.R.TraceReader.is_trace (g.R.TraceReader.names c.args.reader.now) true
+    tel.bytes in
+    rw (p.1, p.2) (EndsTelling-cut reading limit (length c.loop-segments.feed.buffer.items) tree
+    c.args.job.now.input input output tel.bytes new (g.O.Sink.written c.tell_blocks.new.out)
+    c.at.result c.in_err-tell_end.field-0.0 has (c.next-fed.ensures.same_opened ∙ inv.opened) ended trace
+    (c.in_ok-fed.ensures.cause ∙ inv.no_fault) (HasTold-written told)
+    (c.at.ensures ∙ told.stands.at)
+    (HasWriteCause-from {T = Unit {0}} _ _ output.faults_now (Err c.in_err-tell_end.field-0.0)
+    (c.in_ok-tell_blocks.ensures.cause ∙ inv.good)
+    c.in_err-tell_end.ensures.cause)
+    c.in_err-tell_end.ensures.stops)
+
+pub returns-in_err-tell_end-clause-bounded : goal.returns-in_err-tell_end-clause-bounded
+returns-in_err-tell_end-clause-bounded g c =
+    let inv = c.loop-segments.invariant in
+    let tel = inv.telling in
+    λ opened. HasRead-bounded (rw inv.limit at c.next-fed.ensures.read
+    (g.S.Source.file c.args.input.now) tel.bytes tel.fed)
+
+pub returns-clause-ends : goal.returns-clause-ends
+returns-clause-ends g c =
+    let inv = c.loop-segments.invariant in
+    let tel = inv.telling in
+    let reading = g.R.TraceReader.reading (g.R.TraceReader.names c.args.reader.now) in
+    let limit = c.args.job.now.max_bytes in
+    let tree = pattern_tree (pattern_of c.args.session.now) in
+    let new = c.next-fed.new.segments.items in
+    let file = g.S.Source.file c.args.input.now in
+    let has = rw (inv.names, inv.limit, inv.empty) at
+    c.next-fed.ensures.read file tel.bytes tel.fed in
+    let input = input_told g.S.Source.file_name g.S.Source.file g.S.Source.sound
+    g.S.Source.opened g.S.Source.left g.S.Source.faults c.args.input.now c.next-fed.new.input in
+    let output = output_told g.O.Sink.written g.O.Sink.faults c.args.out.now c.tell_end.new.out in
+    let told = rw c.deref.ensures.value at c.in_ok-tell_blocks.ensures.told tree
+    (reading false (take limit tel.bytes)).segments (g.O.Sink.written c.args.out.now) tel.told in
+    let ended = rw (inv.names, inv.limit, inv.empty) at
+    c.in_ok-fed.ensures.ended file tel.bytes tel.fed c.if-not-branch.true in
+    let trace = g.met.R.TraceReader.is_trace (g.R.TraceReader.names c.args.reader.now) true
+    tel.bytes in
+    EndsTelling-done reading limit tree
+    c.args.job.now.input input output tel.bytes new (g.O.Sink.written c.tell_blocks.new.out)
+    c.at.result ended trace
+    (c.in_ok-fed.ensures.cause ∙ inv.no_fault)
+    (c.in_ok-tell_end.ensures.cause ∙ (c.in_ok-tell_blocks.ensures.cause ∙ inv.good))
+    (HasTold-written told) (c.at.ensures ∙ told.stands.at) c.in_ok-tell_end.ensures.all
+
+pub returns-clause-bounded : goal.returns-clause-bounded
+returns-clause-bounded g c =
+    let inv = c.loop-segments.invariant in
+    let tel = inv.telling in
+    λ opened. HasRead-bounded (rw inv.limit at c.next-fed.ensures.read
+    (g.S.Source.file c.args.input.now) tel.bytes tel.fed)

@@ -1,0 +1,112 @@
+-- What an online run leaves in its output, however it ends. The bytes of the input say a trace by
+-- `reading`, closed or not yet, at most `limit` of them count, and `tree` is what is looked for.
+use Rattle.std.specs.Prelude.{◌≡◌, ℕ, ◌-◌, ◌≤◌, Bool, true, false, List, [], ◌∷◌, ◌++◌, length, take, Option, None, IfSome}
+use Rattle.std.specs.Io.KnownBytes.{Appends, IsAtEnd}
+use Rattle.tre_io.specs.Written.{AppendsPart}
+use Rattle.tre_syntax.specs.PatternTree.{PatternTree}
+use Rattle.tre_trace.specs.Reading.{Reading}
+use Rattle.tre_trace.specs.Trace.{IsTrace}
+use Rattle.tre_trace.specs.declared.segment.Segment.{Segment}
+use Rattle.tre_zone.specs.declared.zone_bounds.ZoneBounds.{ZoneBounds}
+use Rattle.tre_tool.specs.Devices.{InputTold, OutputTold, AllWritesGood, WereRead}
+use Rattle.tre_tool.specs.Outcome.{reading_within}
+use Rattle.tre_tool.specs.Transcript.{IsTranscript, online_text}
+use Rattle.tre_tool.specs.declared.input.TheConstants.{PIECE}
+
+-- The blocks of these segments were written, and nothing else.
+pub record BlocksWritten (tree : PatternTree) (segments : List Segment)
+    (before now : Option (List ℕ)) : Type 0 where
+  pub blocks : List (List ZoneBounds)
+  pub transcript : IsTranscript blocks tree segments
+  pub written : Appends before now (online_text blocks segments false)
+
+-- The blocks of all segments before the first fault of the input stand there, or of all that the
+-- bytes within the limit complete.
+pub record AllBlocksStand (reading : Bool → List ℕ → Reading) (limit : ℕ) (tree : PatternTree)
+    (input : InputTold) (output : OutputTold) : Type 0 where
+  pub writes : AllWritesGood output
+  pub stand : IfSome input.file (λ bytes.
+      BlocksWritten tree (reading_within reading limit bytes).segments
+      output.written_before output.written_now)
+
+-- The blocks of all segments that the bytes read complete stand there. The input wasn't seen to
+-- end, so the bytes behind its last complete segment say nothing.
+pub record BlocksSoFarStand (reading : Bool → List ℕ → Reading) (limit : ℕ) (tree : PatternTree)
+    (input : InputTold) (output : OutputTold) : Type 0 where
+  pub writes : AllWritesGood output
+  pub bytes : List ℕ
+  pub read : WereRead input bytes
+  pub stand : BlocksWritten tree (reading false (take limit bytes)).segments
+      output.written_before output.written_now
+
+-- These bytes were read, and they say these segments. The input is closed only where nothing of it
+-- is left, and it has no byte past the limit.
+pub record AreKnown (reading : Bool → List ℕ → Reading) (limit : ℕ) (input : InputTold)
+    (bytes : List ℕ) (segments : List Segment) : Type 0 where
+  pub read : WereRead input bytes
+  pub closed : Bool
+  pub all_read : closed ≡ true → IsAtEnd input.left
+  pub within : closed ≡ true → length bytes ≤ limit
+  pub known : segments ≡ (reading closed (take limit bytes)).segments
+
+-- The blocks of the first of the segments that are known stand there.
+pub record FirstBlocksStand (reading : Bool → List ℕ → Reading) (limit : ℕ) (tree : PatternTree)
+    (input : InputTold) (output : OutputTold) : Type 0 where
+  pub writes : AllWritesGood output
+  pub bytes : List ℕ
+  pub front : List Segment
+  pub rest : List Segment
+  pub known : AreKnown reading limit input bytes (front ++ rest)
+  pub stand : BlocksWritten tree front output.written_before output.written_now
+
+-- A first part of the text was written, with all of its front in it.
+pub record IsCutBehind (front text : List ℕ) (before now : Option (List ℕ)) : Type 0 where
+  pub part : AppendsPart before now text
+  pub behind : length front ≤ part.count
+
+-- The blocks of these segments were written, and a first part of that of the segment behind them.
+pub record LastBlockIsCut (tree : PatternTree) (front : List Segment) (segment : Segment)
+    (before now : Option (List ℕ)) : Type 0 where
+  pub blocks : List (List ZoneBounds)
+  pub zones : List ZoneBounds
+  pub transcript : IsTranscript (blocks ++ zones ∷ []) tree (front ++ segment ∷ [])
+  pub cut : IsCutBehind (online_text blocks front false)
+      (online_text (blocks ++ zones ∷ []) (front ++ segment ∷ []) false) before now
+
+-- The block of a segment is cut, and those of all segments before it stand there. It wasn't held
+-- back: what was read, without as many bytes as one read may ask for, doesn't complete its segment.
+pub record BlockIsCut (reading : Bool → List ℕ → Reading) (limit : ℕ) (tree : PatternTree)
+    (input : InputTold) (output : OutputTold) : Type 0 where
+  pub bytes : List ℕ
+  pub front : List Segment
+  pub segment : Segment
+  pub rest : List Segment
+  pub known : AreKnown reading limit input bytes (front ++ segment ∷ rest)
+  pub cut : LastBlockIsCut tree front segment output.written_before output.written_now
+  pub prompt : length (reading false (take (length bytes - PIECE) bytes)).segments ≤ length front
+
+-- The text is right for an online run to the end over these bytes: they are within the limit and
+-- say a trace, and the text has a block for each of its segments and then its end.
+pub record IsOnlineAnswer (reading : Bool → List ℕ → Reading) (limit : ℕ) (tree : PatternTree)
+    (bytes text : List ℕ) : Type 0 where
+  pub within : length bytes ≤ limit
+  pub trace : List Segment
+  pub reads : reading true bytes ≡ record { segments = trace; fault = None }
+  pub is_trace : IsTrace trace
+  pub blocks : List (List ZoneBounds)
+  pub transcript : IsTranscript blocks tree trace
+  pub printed : text ≡ online_text blocks trace true
+
+-- The text is right over these bytes, and its end is cut: all blocks stand there.
+pub record AnswerIsCut (reading : Bool → List ℕ → Reading) (limit : ℕ) (tree : PatternTree)
+    (before now : Option (List ℕ)) (bytes : List ℕ) : Type 0 where
+  pub text : List ℕ
+  pub right : IsOnlineAnswer reading limit tree bytes text
+  pub cut : IsCutBehind (online_text right.blocks right.trace false) text before now
+
+-- The whole input was read, and the end of its right answer is cut.
+pub record EndIsCut (reading : Bool → List ℕ → Reading) (limit : ℕ) (tree : PatternTree)
+    (input : InputTold) (output : OutputTold) : Type 0 where
+  pub all_read : IsAtEnd input.left
+  pub cut : IfSome input.file
+      (AnswerIsCut reading limit tree output.written_before output.written_now)

@@ -1,0 +1,113 @@
+-- What the parts of an online run promise each other of what was told.
+use Rattle.std.specs.Prelude.{◌≡◌, ◌≢◌, ◌⊎◌, ℕ, Bool, true, false, List, ◌∷◌, ◌++◌, length, Option, Some, IfSome, IsTrue, Result, Ok, Err, IsPermutation}
+use Rattle.std.specs.Io.KnownBytes.{Appends, IsAtEnd}
+use Rattle.tre_io.specs.Faults.{counted}
+use Rattle.tre_io.specs.Written.{AppendsPart}
+use Rattle.tre_online.specs.Session.{pattern_of, ended_of, StandsFor}
+use Rattle.tre_online.specs.declared.session.Session.{Session}
+use Rattle.tre_syntax.specs.Pattern.{pattern_tree}
+use Rattle.tre_syntax.specs.PatternTree.{PatternTree}
+use Rattle.tre_trace.specs.Reading.{Reading}
+use Rattle.tre_trace.specs.declared.segment.Segment.{Segment}
+use Rattle.tre_zone.specs.declared.zone_bounds.ZoneBounds.{ZoneBounds}
+use Rattle.tre_tool.specs.Devices.{InputTold, OutputTold, AllReadsGood, AllWritesGood}
+use Rattle.tre_tool.specs.Feeding.{StopsReading}
+use Rattle.tre_tool.specs.Online.{BlocksWritten, AllBlocksStand, BlocksSoFarStand, FirstBlocksStand, LastBlockIsCut, BlockIsCut, IsOnlineAnswer, EndIsCut}
+use Rattle.tre_tool.specs.Transcript.{IsTranscript, block_before, closing_line, online_text}
+use Rattle.tre_tool.specs.declared.status.Status.{Status}
+use Rattle.tre_tool.specs.declared.status.Status.TheVariants.{Done, Trace, InputTooLong, ReadFault, WriteFault, Memory}
+
+-- The session was given these segments, and the block of each was written.
+pub record HasTold (session : Session) (tree : PatternTree) (segments : List Segment)
+    (before now : Option (List ℕ)) : Type 0 where
+  pub stands : StandsFor session segments
+  pub same_tree : pattern_tree (pattern_of session) ≡ tree
+  pub blocks : List (List ZoneBounds)
+  pub transcript : IsTranscript blocks tree segments
+  pub written : Appends before now (online_text blocks segments false)
+  pub ended : IsPermutation (ended_of session) (block_before (length blocks) blocks)
+
+-- A segment was told behind others, or it stopped there: memory was wanting and nothing of its
+-- block was written, or a write failed within it.
+abbrev pub StopsAtSegment : PatternTree → List Segment → Segment → Option (List ℕ) →
+    Option (List ℕ) → Status → Type 0
+StopsAtSegment tree front segment before now WriteFault =
+    LastBlockIsCut tree front segment before now
+StopsAtSegment tree front segment before now Memory = BlocksWritten tree front before now
+StopsAtSegment tree front segment before now _ = ⊥
+
+-- Of some segments behind others the telling stopped at one.
+pub record StopsWithin (tree : PatternTree) (segments more : List Segment)
+    (before now : Option (List ℕ)) (status : Status) : Type 0 where
+  pub front : List Segment
+  pub segment : Segment
+  pub rest : List Segment
+  pub split : more ≡ front ++ segment ∷ rest
+  pub stops : StopsAtSegment tree (segments ++ front) segment before now status
+
+-- A failed write is one that was counted, and nothing else raises the count.
+abbrev pub HasWriteCause : {T : Type 0} → ℕ → ℕ → Result T Status → Type 0
+HasWriteCause before now (Ok value) = now ≡ before
+HasWriteCause before now (Err WriteFault) = now ≡ counted before
+HasWriteCause before now (Err _) = now ≡ before
+
+-- The last line wasn't written, or a first part of it was.
+abbrev pub StopsAtEnd : ℕ → Option (List ℕ) → Option (List ℕ) → Status → Type 0
+StopsAtEnd end before now WriteFault = AppendsPart before now (closing_line true end)
+StopsAtEnd end before now Memory = now ≡ before
+StopsAtEnd end before now _ = ⊥
+
+-- The whole input was told, and where its trace ends.
+pub record IsTold (reading : Bool → List ℕ → Reading) (limit : ℕ) (tree : PatternTree)
+    (input : InputTold) (output : OutputTold) : Type 0 where
+  pub reads : AllReadsGood input
+  pub all_read : IsAtEnd input.left
+  pub text : List ℕ
+  pub right : IfSome input.file (λ bytes. IsOnlineAnswer reading limit tree bytes text)
+  pub writes : AllWritesGood output
+  pub written : Appends output.written_before output.written_now text
+
+-- The bytes of the input are no trace within the limit, and all blocks before that were told.
+pub record IsToldToFault (reading : Bool → List ℕ → Reading) (limit : ℕ) (tree : PatternTree)
+    (input : InputTold) (output : OutputTold) (status : Status) : Type 0 where
+  pub cause : StopsReading reading limit input.file status
+  pub reads : AllReadsGood input
+  pub stands : AllBlocksStand reading limit tree input output
+
+-- A read of the input of this name failed, and all that was complete was told.
+pub record IsToldToFailedRead (reading : Bool → List ℕ → Reading) (limit : ℕ)
+    (tree : PatternTree) (name : List ℕ) (input : InputTold) (output : OutputTold) : Type 0 where
+  pub cause : input.faults_now ≡ counted input.faults_before
+  pub unsound : IsTrue input.sound → input.name ≢ Some name
+  pub stands : BlocksSoFarStand reading limit tree input output
+
+-- A write failed.
+pub record IsToldToFailedWrite (reading : Bool → List ℕ → Reading) (limit : ℕ)
+    (tree : PatternTree) (input : InputTold) (output : OutputTold) : Type 0 where
+  pub cause : output.faults_now ≡ counted output.faults_before
+  pub reads : AllReadsGood input
+  pub stands : BlockIsCut reading limit tree input output
+      ⊎ EndIsCut reading limit tree input output
+
+-- Memory was wanting.
+pub record IsToldToMemory (reading : Bool → List ℕ → Reading) (limit : ℕ) (tree : PatternTree)
+    (input : InputTold) (output : OutputTold) : Type 0 where
+  pub reads : AllReadsGood input
+  pub stands : FirstBlocksStand reading limit tree input output
+
+-- How the telling of an input of this name ends, status by status.
+abbrev pub EndsTelling : (Bool → List ℕ → Reading) → ℕ → PatternTree → List ℕ → InputTold →
+    OutputTold → Status → Type 0
+EndsTelling reading limit tree name input output Done =
+    IsTold reading limit tree input output
+EndsTelling reading limit tree name input output (Trace fault) =
+    IsToldToFault reading limit tree input output (Trace fault)
+EndsTelling reading limit tree name input output InputTooLong =
+    IsToldToFault reading limit tree input output InputTooLong
+EndsTelling reading limit tree name input output ReadFault =
+    IsToldToFailedRead reading limit tree name input output
+EndsTelling reading limit tree name input output WriteFault =
+    IsToldToFailedWrite reading limit tree input output
+EndsTelling reading limit tree name input output Memory =
+    IsToldToMemory reading limit tree input output
+EndsTelling reading limit tree name input output _ = ⊥

@@ -1,0 +1,192 @@
+// Matches that are told as the input comes: a block for each segment.
+ghost use Rattle.std.specs.Prelude.{◌≡◌, ◌≢◌, ◌≤◌, ◌+◌, ◌++◌, ◌∷◌, ◌^◌, [], ℕ, List, Option, IsTrue, IfOk, IfErr, IfSome, OnOk, string_bytes, true, false};
+ghost use Rattle.std.specs.Io.KnownBytes.{Appends};
+ghost use Rattle.tre_online.specs.Session.{pattern_of, ended_of, StandsFor, TellsNew};
+ghost use Rattle.tre_syntax.specs.Pattern.{pattern_tree, names_of};
+ghost use Rattle.tre_syntax.specs.PatternTree.{PatternTree};
+ghost use Rattle.tre_trace.specs.declared.segment.Segment.{Segment};
+ghost use Rattle.tre_tool.specs.Answer.{status_of};
+ghost use Rattle.tre_tool.specs.Devices.{input_told, output_told};
+ghost use Rattle.tre_tool.specs.Input.{TakesAtMost};
+ghost use Rattle.tre_tool.specs.Outcome.{reading_in};
+ghost use Rattle.tre_tool.specs.Telling.{HasTold, StopsAtSegment, StopsWithin, HasWriteCause, StopsAtEnd, EndsTelling};
+ghost use Rattle.tre_tool.specs.Transcript.{block_text, closing_line};
+
+use crate::input::Feed;
+use crate::job::{Format, Job};
+use crate::output::write_text;
+use crate::status::Status;
+use itoa::Buffer;
+use std::alloc::{AllocError, Global};
+use tre_io::{Sink, Source};
+use tre_online::Session;
+use tre_show::{offline_text, printed_order, zone_line};
+use tre_syntax::Pattern;
+use tre_text::TextReader;
+use tre_trace::{Segment, TraceReader};
+use tre_vcd::VcdReader;
+use tre_zone::Zone;
+use tre_zoneset::ZoneSet;
+
+// The text of the block of a segment that ends at `at`.
+fn block_text(alloc: Global, zones: &[Zone], at: u64) -> Result<String, AllocError>
+    ensures { IfOk result (λ text. string_bytes text ≡ block_text zones.now at) }
+{
+    let mut text = String::new(alloc);
+    for zone in zones {
+        zone_line(zone, &mut text)?;
+    }
+    let mut buffer = Buffer::new();
+    text.push_str("at ")?;
+    text.push_str(buffer.format(at))?;
+    text.push_str("\n")?;
+    Ok(text)
+}
+
+// What the session tells of the segment. Segments that a reader gives are a trace, so it refuses
+// none but for want of memory.
+fn told_of(segment: Segment, session: &mut Session) -> Result<ZoneSet, Status>
+    ensures stands { (segments : List Segment) → StandsFor session.old segments →
+        OnOk result (StandsFor session.new (segments ++ segment ∷ [])) }
+    ensures tells { (segments : List Segment) → StandsFor session.old segments →
+        IfOk result (λ told. TellsNew (pattern_tree (pattern_of session.old)) segments segment
+        (ended_of session.old) told) }
+    ensures ended { IfOk result (λ told. ended_of session.new ≡ told) }
+    ensures tree { pattern_tree (pattern_of session.new)
+        ≡ pattern_tree (pattern_of session.old) }
+    ensures failed { IfErr result (λ status. status ≡ Status.Memory) }
+{
+    match session.segment(segment) {
+        Ok(told) => Ok(told),
+        Err(_) => Err(Status::Memory),
+    }
+}
+
+// Gives the segment to the session, and writes its block.
+fn tell_block<O: Sink>(
+    alloc: Global,
+    segment: Segment,
+    session: &mut Session,
+    out: &mut O,
+) -> Result<(), Status>
+    ensures told { (tree : PatternTree) (segments : List Segment) (before : Option (List ℕ)) →
+        HasTold session.old tree segments before (O.written out.old) →
+        OnOk result (HasTold session.new tree (segments ++ segment ∷ []) before
+        (O.written out.new)) }
+    ensures stops { (tree : PatternTree) (segments : List Segment) (before : Option (List ℕ)) →
+        HasTold session.old tree segments before (O.written out.old) →
+        IfErr result (StopsAtSegment tree segments segment before (O.written out.new)) }
+    ensures cause { HasWriteCause (O.faults out.old) (O.faults out.new) result }
+{
+    let told = told_of(segment, session)?;
+    let zones = printed_order(alloc, &told)?;
+    let text = block_text(alloc, &zones, session.at())?;
+    write_text(text.as_str(), out)?;
+    Ok(())
+}
+
+// Gives the segments to the session one by one, and writes each block before the next is taken.
+fn tell_blocks<O: Sink>(
+    alloc: Global,
+    segments: &[Segment],
+    session: &mut Session,
+    out: &mut O,
+) -> Result<(), Status>
+    ensures told { (tree : PatternTree) (front : List Segment) (before : Option (List ℕ)) →
+        HasTold session.old tree front before (O.written out.old) →
+        OnOk result (HasTold session.new tree (front ++ segments.now) before
+        (O.written out.new)) }
+    ensures stops { (tree : PatternTree) (front : List Segment) (before : Option (List ℕ)) →
+        HasTold session.old tree front before (O.written out.old) →
+        IfErr result (StopsWithin tree front segments.now before (O.written out.new)) }
+    ensures cause { HasWriteCause (O.faults out.old) (O.faults out.new) result }
+{
+    for segment in segments {
+        tell_block(alloc, *segment, session, out)?;
+    }
+    Ok(())
+}
+
+// Writes the line that says where the trace ends.
+fn tell_end<O: Sink>(alloc: Global, end: u64, out: &mut O) -> Result<(), Status>
+    ensures all { OnOk result
+        (Appends (O.written out.old) (O.written out.new) (closing_line true end)) }
+    ensures stops { IfErr result (StopsAtEnd end (O.written out.old) (O.written out.new)) }
+    ensures cause { HasWriteCause (O.faults out.old) (O.faults out.new) result }
+{
+    let text = offline_text(alloc, &[], end)?;
+    write_text(text.as_str(), out)?;
+    Ok(())
+}
+
+// Tells the blocks of the input of this name, piece by piece, and at its end where the trace ends.
+fn tell_input<S: Source, R: TraceReader, O: Sink>(
+    alloc: Global,
+    job: &Job,
+    reader: &mut R,
+    session: &mut Session,
+    input: &mut S,
+    out: &mut O,
+) -> Result<(), Status>
+    requires closed { S.opened input.old ≡ false }
+    requires fits { job.now.max_bytes ≤ 2 ^ 40 }
+    requires fresh { R.represents reader.old [] }
+    requires nothing { (R.reading (R.names reader.old) false []).segments ≡ [] }
+    requires stands { StandsFor session.old [] }
+    ensures ends { EndsTelling (R.reading (R.names reader.old)) job.now.max_bytes
+        (pattern_tree (pattern_of session.old)) job.now.input
+        (input_told S.file_name S.file S.sound S.opened S.left S.faults input.old input.new)
+        (output_told O.written O.faults out.old out.new) (status_of result) }
+    ensures bounded { IsTrue (S.opened input.new) →
+        TakesAtMost (job.now.max_bytes + 1) (S.file input.old) (S.left input.new) }
+    ensures by_name { status_of result ≢ Status.ReadFault → status_of result ≢ Status.Memory →
+        IfSome (S.file_name input.old) (λ told. told ≡ job.now.input) }
+{
+    let mut feed = Feed::open(alloc, job.input.text(), job.max_bytes as usize, input)?;
+    let mut segments = Vec::new(alloc);
+    loop {
+        let fed = feed.next(reader, input, &mut segments);
+        tell_blocks(alloc, &segments, session, out)?;
+        segments.clear();
+        if !fed? {
+            break;
+        }
+    }
+    tell_end(alloc, session.at(), out)?;
+    Ok(())
+}
+
+/// Writes the block of each segment of the job's input as soon as it is complete, and the end.
+pub fn tell_matches<S: Source, O: Sink>(
+    alloc: Global,
+    pattern: Pattern,
+    job: &Job,
+    input: &mut S,
+    out: &mut O,
+) -> Result<(), Status>
+    requires closed { S.opened input.old ≡ false }
+    requires fits { job.now.max_bytes ≤ 2 ^ 40 }
+    ensures ends { EndsTelling (reading_in job.now.format (names_of pattern)) job.now.max_bytes
+        (pattern_tree pattern) job.now.input
+        (input_told S.file_name S.file S.sound S.opened S.left S.faults input.old input.new)
+        (output_told O.written O.faults out.old out.new) (status_of result) }
+    ensures bounded { IsTrue (S.opened input.new) →
+        TakesAtMost (job.now.max_bytes + 1) (S.file input.old) (S.left input.new) }
+    ensures by_name { status_of result ≢ Status.ReadFault → status_of result ≢ Status.Memory →
+        IfSome (S.file_name input.old) (λ told. told ≡ job.now.input) }
+{
+    let names = pattern.names().try_clone()?;
+    let mut session = Session::new(alloc, pattern)?;
+    match job.format {
+        Format::Text => {
+            let mut reader = TextReader::new(alloc, names);
+            tell_input(alloc, job, &mut reader, &mut session, input, out)?;
+            Ok(())
+        }
+        Format::Vcd => {
+            let mut reader = VcdReader::new(alloc, names);
+            tell_input(alloc, job, &mut reader, &mut session, input, out)?;
+            Ok(())
+        }
+    }
+}
