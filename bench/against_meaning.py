@@ -5,7 +5,8 @@
 
 Each pattern stands below as a tree beside its spelling. Over each small trace
 the tree is read by the definitions, on a grid of moments, and each pair of
-half ticks is compared with the zones that montre prints.
+half ticks is compared with the zones that montre prints. With --online they are
+compared after each block, with the matches over the segments up to there.
 """
 
 import os
@@ -146,12 +147,17 @@ def read_range(word):
     return int(low), int(high), word[0] == "[", word[-1] == "]"
 
 
-def run_montre(montre, spelling, trace):
-    """The printed zones, each as three ranges."""
+def run_montre(montre, words, trace):
+    """The lines that are printed."""
     text = "".join(" ".join([str(length)] + sorted(on)) + "\n" for length, on in trace)
-    done = subprocess.run([montre, spelling], input=text, text=True,
+    done = subprocess.run([montre, *words], input=text, text=True,
                           stdout=subprocess.PIPE, check=True)
-    return [list(map(read_range, line.split())) for line in done.stdout.splitlines()[:-1]]
+    return done.stdout.splitlines()
+
+
+def read_zone(line):
+    """A zone, as three ranges."""
+    return list(map(read_range, line.split()))
 
 
 def holds(zone, a, b):
@@ -159,10 +165,9 @@ def holds(zone, a, b):
     return admits(a, *begins) and admits(b, *ends) and admits(b - a, *lasts)
 
 
-def compare(montre, spelling, tree, trace, count):
+def differing(spelling, zones, meant, trace, count):
     """How many pairs were compared, are matches, and differ."""
-    meant = pairs(tree, trace, count)
-    zones = [z for z in run_montre(montre, spelling, trace) if z[0][0] * FINE < count]
+    zones = [zone for zone in zones if zone[0][0] * FINE < count]
     times = range(0, count, STEP)
     grid = [(a, b) for a in times for b in times]
     wrong = [pair for pair in grid
@@ -172,6 +177,36 @@ def compare(montre, spelling, tree, trace, count):
         print("differs: %s over %s from %g to %g: the meaning says %s"
               % (spelling, segments, a / FINE, b / FINE, (a, b) in meant))
     return len(grid), len(meant.intersection(grid)), len(wrong)
+
+
+def compare(montre, spelling, tree, trace, count):
+    lines = run_montre(montre, [spelling], trace)
+    zones = [read_zone(line) for line in lines[:-1]]
+    return differing(spelling, zones, pairs(tree, trace, count), trace, count)
+
+
+def compare_online(montre, spelling, tree, trace, count):
+    """The same after each block, for the segments up to there; and the times of the blocks."""
+    ends = [time // FINE for time in cuts(trace)]
+    zones, results, place, wrong = [], [], 0, []
+    lines = run_montre(montre, ["--online", spelling], trace)
+    for line in lines[:-1]:
+        begin, end = (ends + ends[-1:])[place:place + 2]
+        if line == "at %d" % end:
+            place += 1
+            so_far = trace[:place]
+            here = min(count, cuts(so_far)[-1] + FINE + 1)
+            meant = pairs(tree, so_far, here)
+            results.append(differing("--online " + spelling, zones, meant, so_far, here))
+            continue
+        zones.append(read_zone(line))
+        low, high = zones[-1][1][:2]
+        wrong += [] if begin <= low and high <= end else [line]
+    wrong += [] if place == len(trace) and lines[-1] == "end %d" % ends[-1] else [lines[-1]]
+    for line in wrong:
+        print("differs: --online %s over %s has the line %s" % (spelling, trace[:9], line))
+    compared, matches, differ = map(sum, zip(*results)) if results else (0, 0, 0)
+    return compared, matches, differ + len(wrong)
 
 
 def main():
@@ -189,8 +224,10 @@ def main():
     turns = [(1 + place % 3, frozenset("pq"[place % 2])) for place in range(200)]
     tasks.append(("(p;q)*", star(seq(p, q)), turns, 12 * FINE + 1))
     results = [compare(montre, *task) for task in tasks]
+    # The long trace is left out: each of its blocks would be compared.
+    results += [compare_online(montre, *task) for task in tasks[:-1]]
     compared, matches, differ = map(sum, zip(*results))
-    print("%d runs, %d matches" % (len(tasks), matches))
+    print("%d runs, %d matches" % (len(results), matches))
     print("%d pairs, %d differ" % (compared, differ))
     sys.exit(1 if differ else 0)
 
