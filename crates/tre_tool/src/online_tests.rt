@@ -21,14 +21,19 @@ fn is_up_to(count: u64, unit: u64, bound: u64, included: bool) -> bool {
     count < most || (included && count == most)
 }
 
+// The begin, the end or the duration, by the place of its range in a line.
+fn count_at(stretch: &Stretch, place: u64) -> u64 {
+    match place {
+        0 => stretch.begin,
+        1 => stretch.end,
+        2 => stretch.end.saturating_sub(stretch.begin),
+        _ => 0,
+    }
+}
+
 /// Whether the stretch lies within the three ranges of the line, as `[0,2) (0,2] (0,2]`.
 fn line_tells(line: &[u8], stretch: Stretch) -> bool {
-    let mut counts = [
-        stretch.begin,
-        stretch.end,
-        stretch.end.saturating_sub(stretch.begin),
-    ]
-    .into_iter();
+    let mut place = 0u64;
     let mut count = 0;
     let mut number = 0u64;
     let mut included = false;
@@ -38,7 +43,8 @@ fn line_tells(line: &[u8], stretch: Stretch) -> bool {
             b'[' | b'(' => {
                 included = *byte == b'[';
                 number = 0;
-                count = counts.next().unwrap_or(0);
+                count = count_at(&stretch, place);
+                place = place.saturating_add(1);
             }
             b',' => {
                 if !is_from(count, stretch.unit, number, included) {
@@ -217,14 +223,28 @@ fn ran_failing(
             alloc,
             words,
             text,
-            [Device { most, fails }, SOUND, SOUND],
+            [
+                Device {
+                    most: most.max(1),
+                    fails,
+                },
+                SOUND,
+                SOUND,
+            ],
         ),
         Failing::Output { most } => {
             ran_with(
                 alloc,
                 words,
                 text,
-                [Device { most, fails: 0 }, whole, SOUND],
+                [
+                    Device {
+                        most: most.max(1),
+                        fails: 0,
+                    },
+                    whole,
+                    SOUND,
+                ],
             )
         }
     }
