@@ -1,15 +1,14 @@
 -- What durations up to a longest one are.
-use Rattle.std.proofs.Common.{◌≡◌, refl, subst, ℕ, ◌+◌, ◌-◌, ◌*◌, ◌<◌, ◌≤◌, ◌↔◌, Bool, true, false, Option, Some, None, min, arith, ℤ, pos, ◌≤ℤ◌, ⊎_elim}
-use Rattle.std.proofs.Math.Nat.{mul-le-mul_right}
-use Rattle.std.proofs.lemmas.Bool.{cases_lt, false≢true}
+use Rattle.std.proofs.Common.{◌≡◌, refl, subst, ℕ, ◌+◌, ◌-◌, ◌*◌, ◌<◌, ◌≤◌, ◌↔◌, Bool, true, false, Option, Some, None, arith, ℤ, pos, ◌≤ℤ◌}
+use Rattle.std.proofs.lemmas.Bool.{false≢true}
 use Rattle.std.proofs.lemmas.Option.{none-some, same_Some}
 use Rattle.tre_pairs.specs.Pairs.{Lasting}
 use Rattle.tre_pairs.proofs.Laws.{DurationScales}
 use Rattle.tre_pairs.proofs.Shortening.{IsDownward}
 use Rattle.tre_pairs.proofs.Ticks.{ge_up, ge_down}
 use Rattle.tre_zone.specs.Interval.{IntervalEnds, LastsWithin, HasNoDuration, ends_of, kept_weak}
-use Rattle.tre_zone.specs.Longest.{LastsUpTo, IsLongest}
-use Rattle.tre_zone.specs.Zone.{ZoneHolds, GivesZone, HasNoPair}
+use Rattle.tre_zone.specs.Longest.{LastsUpTo, AllLastUpTo}
+use Rattle.tre_zone.specs.Zone.{ZoneHolds, GivesZone, IsTight}
 use Rattle.tre_zone.specs.declared.zone_bounds.ZoneBounds.{ZoneBounds}
 use Rattle.tre_zone.proofs.Bounds.{Meets-at_most}
 use Rattle.tre_zone.proofs.Given.{GivesZone-same}
@@ -41,23 +40,6 @@ LastsUpTo-scales (Some high) = record {
 
 -- ---- the longest inside an interval
 
-pub shorter_all : (high d n : ℕ) → d ≤ high * n → d ≤ high * n ↔ LastsUpTo None d n
-shorter_all high d n le = ((λ h. record { within = tt }), (λ h. le))
-
-pub shorter_of : (high most d n : ℕ) → d ≤ high * n
-    → d ≤ min high most * n ↔ LastsUpTo (Some most) d n
-shorter_of high most d n le =
-    ⊎_elim
-    (λ (lt : high < most).
-    let same : min high most ≡ high = omega (arith, lt) in
-    let le_most : high ≤ most = omega (arith, lt) in
-    let times : high * n ≤ most * n = mul-le-mul_right n le_most in
-    rw same ((λ h. record { within = omega (arith, times, le) }), (λ h. le)))
-    (λ (ge : most ≤ high).
-    let same : min high most ≡ most = omega (arith, ge) in
-    rw same ((λ h. record { within = h }), (λ h. h.within)))
-    (cases_lt high most)
-
 below_high : (low : ℕ) (low_weak : Bool) (top : Option ℕ) (high_weak : Bool) (high : ℕ)
     → top ≡ Some high → (d n : ℕ) → LastsWithin (ends_of low low_weak top high_weak) d n
     → d ≤ high * n
@@ -84,19 +66,30 @@ inside ends high shortest longest is same d n h =
 
 -- By its key: the bound from above on the duration is no looser.
 pub key_up_to : (zone : ZoneBounds) (high : ℕ) (key : ℤ) → key ≡ pos (2 * high + 1)
-    → zone.dur_high ≤ℤ key → (a b n : ℕ) → 0 < n → a ≤ b → ZoneHolds zone a b n
-    → LastsUpTo (Some high) (b - a) n
-key_up_to zone high key is le a b n some rising h =
-    let most = (Meets-at_most key high is b a n).0
-    (Meets-looser zone.dur_high key b a n some le h.dur_high) in
-    record { within = omega (arith, most, rising) }
+    → zone.dur_high ≤ℤ key → AllLastUpTo (Some high) zone
+key_up_to zone high key is le = record {
+  each = λ a b n some rising h.
+      let most = (Meets-at_most key high is b a n).0
+      (Meets-looser zone.dur_high key b a n some le h.dur_high) in
+      record { within = omega (arith, most, rising) };
+}
 
-pub all_short : (longest : Option ℕ) (zone : ZoneBounds)
-    → ((a b n : ℕ) → 0 < n → a ≤ b → ZoneHolds zone a b n → LastsUpTo longest (b - a) n)
+pub up_to_key : (zone : ZoneBounds) (high : ℕ) (key : ℤ) → key ≡ pos (2 * high + 1)
+    → IsTight zone → AllLastUpTo (Some high) zone → zone.dur_high ≤ℤ key
+up_to_key zone high key is tight all =
+    tight.dur_high.tightest key
+    (λ a b n some le held.
+    let short : b - a ≤ high * n = (all.each a b n some le held).within in
+    (Meets-at_most key high is b a n).1 (omega (arith, short, le)))
+
+pub all_up_to : (zone : ZoneBounds) → AllLastUpTo None zone
+all_up_to zone = record { each = λ a b n some le h. record { within = tt } }
+
+pub all_short : (longest : Option ℕ) (zone : ZoneBounds) → AllLastUpTo longest zone
     → GivesZone (Some zone) (Lasting (LastsUpTo longest) (ZoneHolds zone))
-all_short longest zone short = record {
+all_short longest zone all = record {
   exact = λ a b n some le. (
-    (λ h. record { related = h; admitted = short a b n some le h }),
+    (λ h. record { related = h; admitted = all.each a b n some le h }),
     (λ h. h.related),
   );
 }

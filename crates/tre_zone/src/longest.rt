@@ -1,8 +1,8 @@
 // Durations up to a longest one, as the upper end of an interval around an expression allows them.
-ghost use Rattle.std.specs.Prelude.{ℕ, ◌-◌, ◌<◌, ◌≤◌, ◌↔◌, IsTrue, ◌*◌};
+ghost use Rattle.std.specs.Prelude.{ℕ, ◌≤◌, ◌↔◌, IsTrue, ◌*◌};
 ghost use Rattle.tre_pairs.specs.Pairs.{Lasting};
 ghost use Rattle.tre_zone.specs.Interval.{LastsWithin};
-ghost use Rattle.tre_zone.specs.Longest.{LastsUpTo, IsLongest};
+ghost use Rattle.tre_zone.specs.Longest.{LastsUpTo, AllLastUpTo, IsLongest};
 ghost use Rattle.tre_zone.specs.Zone.{ZoneHolds, GivesZone};
 
 use crate::bound::Bound;
@@ -42,8 +42,7 @@ impl Zone {
     /// Whether every pair lasts at most `longest`: by one key.
     pub fn is_up_to(&self, longest: Option<u64>) -> bool
         requires { IsLongest longest }
-        ensures { IsTrue result → (a b n : ℕ) → 0 < n → a ≤ b → ZoneHolds self.now a b n
-            → LastsUpTo longest (b - a) n }
+        ensures { IsTrue result ↔ AllLastUpTo longest self.now }
     {
         match longest {
             None => true,

@@ -1,8 +1,8 @@
 -- Zones of which each rises behind the one before it are apart.
-use Rattle.std.proofs.Common.{◌≡◌, ℕ, ◌+◌, ◌<◌, ◌≤◌, ◌⊎◌, List, [], ◌∷◌, ◌++◌, length, get_or, take, Option, Some, None, subst, ◌∙◌, inl, inr, ⊎_elim, arith, ℤ, ◌<ℤ◌, ◌≤ℤ◌}
+use Rattle.std.proofs.Common.{◌≡◌, ℕ, ◌+◌, ◌<◌, ◌≤◌, List, [], ◌∷◌, ◌++◌, length, get_or, take, Option, Some, None, subst, ◌∙◌, inl, inr, arith, ℤ, ◌<ℤ◌, ◌≤ℤ◌}
 use Rattle.std.proofs.lemmas.Int.{ints}
 use Rattle.std.proofs.lemmas.List.{take_more, take_all}
-use Rattle.tre_zone.specs.Zone.{Includes, IsCanonical}
+use Rattle.tre_zone.specs.Zone.{IsCanonical}
 use Rattle.tre_zone.specs.ZoneList.{IsApartFrom, AreApart, AreCanonical}
 use Rattle.tre_zone.specs.declared.zone_bounds.ZoneBounds.{ZoneBounds}
 use Rattle.tre_zone.proofs.Tightness.{Includes-Covers}

@@ -4,7 +4,7 @@ use Rattle.std.proofs.lemmas.List.{take_all}
 use Rattle.tre_pairs.specs.Pairs.{Lasting}
 use Rattle.tre_zone.specs.Interval.{IntervalEnds, LastsWithin}
 use Rattle.tre_zone.specs.Longest.{LastsUpTo}
-use Rattle.tre_zone.specs.Zone.{ZoneHolds, Includes, GivesZone, IsZoneOf}
+use Rattle.tre_zone.specs.Zone.{ZoneHolds, Includes, IsZoneOf}
 use Rattle.tre_zone.specs.ZoneList.{SetHolds, HoldExactly}
 use Rattle.tre_zone.specs.declared.zone_bounds.ZoneBounds.{ZoneBounds}
 use Rattle.tre_zone.proofs.ZoneListLemmas.{SetHolds-empty}

@@ -181,21 +181,6 @@ HoldExactly-all F set zones whole i all same held =
     subst (λ (list : List ZoneBounds). HoldExactly set (F (SetHolds list)))
     (take_all i zones all ∙ same) held
 
--- One more zone at the end of a list that is united.
-pub HoldExactly-pushed : (start now list next : List ZoneBounds) (zone : ZoneBounds)
-    → HoldExactly now (Either (SetHolds start) (SetHolds list))
-    → HoldExactly next (Either (SetHolds now) (ZoneHolds zone))
-    → HoldExactly next (Either (SetHolds start) (SetHolds (list ++ zone ∷ [])))
-HoldExactly-pushed start now list next zone held more =
-    HoldExactly-more now next (Either (SetHolds start) (SetHolds list)) (ZoneHolds zone)
-    (Either (SetHolds start) (SetHolds (list ++ zone ∷ []))) held more
-    (λ a b n some le.
-    let parts = SetHolds-push list zone a b n in (
-      (λ h. ⊎_elim (λ x. inl (inl x)) (λ x. ⊎_elim (λ y. inl (inr y)) (λ y. inr y) (parts.0 x)) h),
-      (λ h. ⊎_elim (λ x. ⊎_elim (λ y. inl y) (λ y. inr (parts.1 (inl y))) x)
-          (λ x. inr (parts.1 (inr x))) h),
-    ))
-
 -- A set of what a list holds, and what the list was to hold.
 pub HoldExactly-gathered : (set found : List ZoneBounds) (P : Pairs)
     → HoldExactly set (SetHolds found) → HoldExactly found P → HoldExactly set P

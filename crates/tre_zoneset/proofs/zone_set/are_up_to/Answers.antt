@@ -9,7 +9,7 @@ pub loop-zone-preserved : goal.loop-zone-preserved
 loop-zone-preserved c =
     AreUpTo-more c.args.longest c.args.zones.now c.loop-zone.zone-index c.zone-item.result
     c.loop-zone-test.true c.zone-item.is c.loop-zone.invariant
-    (c.if-not-is_up_to.ensures refl)
+    (c.if-not-is_up_to.ensures.0 refl).each
 
 pub returns : goal.returns
 returns c = λ yes.
