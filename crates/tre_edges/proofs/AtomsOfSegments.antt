@@ -1,5 +1,5 @@
 -- The atoms over one segment.
-use Rattle.std.proofs.Common.{◌≡◌, ℕ, ◌+◌, ◌<◌, ◌↔◌, Bool, IsTrue, Option, Some, None, [], ◌∷◌, IsSomeAnd, inl, ⊎_elim, arith}
+use Rattle.std.proofs.Common.{◌≡◌, ℕ, ◌+◌, ◌<◌, ◌↔◌, Bool, IsTrue, Option, Some, None, [], ◌∷◌, IsSomeAnd, inl, ⊎_elim}
 use Rattle.tre_pairs.specs.Pairs.{Pairs}
 use Rattle.tre_trace.specs.declared.segment.Segment.{Segment}
 use Rattle.tre_trace.specs.Literal.{LiteralMatches}
@@ -57,16 +57,6 @@ literal_of_segment P begin end segment zone holds ends held = record {
         },
         λ h. is.1 (record { starts = h.begin; lasts = h.some_time; ends = rw ends h.end }),
       );
-}
-
-pub no_literal : (P : ℕ → Type 0) (begin : ℕ) (segment : Segment) → ¬ P segment.val
-    → HasNoPair (LiteralMatches P begin (segment ∷ []))
-no_literal P begin segment fails = record {
-  never = λ a b n some rising h.
-      let first = h.begin in
-      let last = h.end in
-      let passes = h.some_time in
-      fails (h.throughout.0 (omega (arith, first, passes)) (omega (arith, last, passes)));
 }
 
 -- the moments of a segment

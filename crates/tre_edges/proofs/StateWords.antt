@@ -8,7 +8,7 @@ use Rattle.std.proofs.lemmas.Simd.{length-zip2}
 use Rattle.std.specs.Int.{bit_at}
 use Rattle.std.specs.Prelude.{slice_index}
 use lib.Lanes.{zip2}
-use Rattle.tre_state.specs.StateTree.{StateTree, always, proposition, negation, conjunction, disjunction}
+use Rattle.tre_state.specs.StateTree.{StateTree, proposition, conjunction, disjunction}
 use Rattle.tre_trace.proofs.Bits.{valuation_at-past}
 use Rattle.tre_trace.specs.Planes.{IsPlane, bit_in, valuation_at}
 use Rattle.tre_trace.specs.declared.segment.Segment.{Segment}
@@ -16,7 +16,6 @@ use Rattle.tre_edges.proofs.WordBits.{bit_in-and, bit_in-or}
 use Rattle.tre_edges.specs.StateWords.{AreTruthOf}
 use Rattle.tre_edges.specs.NextPlace.{bit_for}
 use Rattle.tre_edges.specs.Truth.{HasTruth}
-use Rattle.tre_edges.specs.WordBits.{AreOpposite, AreOnes}
 
 bit_in-lt : (words : List ℕ) (place : ℕ) → bit_in words place < 2
 bit_in-lt words place = bit_at-lt (slice_index words (place / 64)) (place % 64)
@@ -36,14 +35,6 @@ bit_set n k = (
 )
 
 module _ (segments : List Segment) where
-  pub of_always : (words : List ℕ) → AreOnes (length segments) words
-      → AreTruthOf always segments words
-  of_always words ones = record {
-    size = ones.size;
-    held = λ place early. ((λ _. tt), (λ _. ones.set place early));
-    past = ones.past;
-  }
-
   pub of_proposition : (number : ℕ) (words : List ℕ) → IsPlane number segments words
       → AreTruthOf (proposition number) segments words
   of_proposition number words plane = record {
@@ -58,23 +49,6 @@ module _ (segments : List Segment) where
   } where
     none : (k : ℕ) → bit_at 0 k ≡ 0
     none = bit_at-zero
-
-  pub of_negation : (state : StateTree) (words new : List ℕ) → AreTruthOf state segments words
-      → AreOpposite (length segments) words new
-      → AreTruthOf (negation state) segments new
-  of_negation state words new truth opposite = record {
-    size = opposite.size;
-    held = λ place early.
-        let is = truth.held place early in
-        let flipped = opposite.flipped place early in (
-          λ one holds. omega (arith, one, flipped, is.1 holds),
-          λ fails. elim (cases_eq (bit_in words place) 1) [
-            | inl one ↦ absurd (fails (is.0 one))
-            | inr other ↦ omega (arith, flipped, other, bit_in-lt words place)
-          ],
-        );
-    past = opposite.past;
-  }
 
   module _ (left right : StateTree) (a b : List ℕ) (first : AreTruthOf left segments a)
       (second : AreTruthOf right segments b) where

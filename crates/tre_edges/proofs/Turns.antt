@@ -1,14 +1,6 @@
 -- One turn over the segments: what the zones hold so far, and what the rest holds.
 use Rattle.std.proofs.Common.{◌↔◌, ◌⊎◌, inl, inr, ⊎_elim}
 
--- The rest goes on with the next segment.
-pub exact_longer : {Whole Held Rest Next : Type 0} → Whole ↔ (Held ⊎ Rest) → Rest ↔ Next → Whole
-    ↔ (Held ⊎ Next)
-exact_longer exact same = (
-  λ whole. ⊎_elim (λ held. inl held) (λ rest. inr (same.0 rest)) (exact.0 whole),
-  λ either. exact.1 (⊎_elim (λ held. inl held) (λ next. inr (same.1 next)) either),
-)
-
 -- A part of the rest comes to the zones.
 pub exact_closed : {Whole Held Rest Span Next More : Type 0} → Whole ↔ (Held ⊎ Rest) → Rest
     ↔ (Span ⊎ Next) → More ↔ (Held ⊎ Span) → Whole ↔ (More ⊎ Next)
@@ -20,12 +12,4 @@ exact_closed exact parts more = (
       (λ all. ⊎_elim (λ held. inl held) (λ span. inr (parts.1 (inl span))) (more.0 all))
       (λ next. inr (parts.1 (inr next)))
       either),
-)
-
--- At the end what is held is all.
-pub exact_whole : {Whole Held Rest Span More : Type 0} → Whole ↔ (Held ⊎ Rest) → Rest ↔ Span → More
-    ↔ (Held ⊎ Span) → More ↔ Whole
-exact_whole exact same more = (
-  λ all. exact.1 (⊎_elim (λ held. inl held) (λ span. inr (same.1 span)) (more.0 all)),
-  λ whole. more.1 (⊎_elim (λ held. inl held) (λ rest. inr (same.0 rest)) (exact.0 whole)),
 )

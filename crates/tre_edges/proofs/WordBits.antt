@@ -1,5 +1,5 @@
 -- The bits of words that are combined, turned round, or cut off.
-use Rattle.std.proofs.Common.{◌≡◌, ◌≢◌, ℕ, ◌*◌, ◌-◌, ◌/◌, ◌%◌, ◌^◌, min, max, ◌≤◌, ◌<◌, inl, inr, List, length, get_or, set, map, refl, ap, ◌∙◌, arith, w64, bit_and, bit_or}
+use Rattle.std.proofs.Common.{◌≡◌, ◌≢◌, ℕ, ◌*◌, ◌-◌, ◌/◌, ◌%◌, ◌^◌, min, max, ◌≤◌, ◌<◌, inl, inr, List, length, get_or, set, map, ap, ◌∙◌, arith, w64, bit_and, bit_or}
 use Rattle.std.proofs.lemmas.Bool.{cases_eq, cases_lt}
 use Rattle.std.proofs.lemmas.List.{get_or-set_same, get_or-set_other, get_or-map, length-set, length-map}
 use Rattle.std.proofs.Math.Nat.{mod-eq_of_lt, one-mul}
@@ -10,7 +10,7 @@ use Rattle.std.specs.Int.{bit_at, bit_not}
 use lib.Lanes.{zip2}
 use Rattle.tre_trace.proofs.Bits.{bit_in-past}
 use Rattle.tre_trace.specs.Planes.{bit_in, words_for}
-use Rattle.tre_edges.specs.WordBits.{AreCleared, AreOpposite, AreOnes}
+use Rattle.tre_edges.specs.WordBits.{AreCleared, AreOpposite}
 
 -- words that are combined, bit by bit
 module _ (a b : List ℕ) (same : length a ≡ length b) (place : ℕ) where
@@ -69,15 +69,6 @@ module _ (word low : ℕ) (small : low < 64) where
       rw mask_is
       (bit_at_and word (2 ^ low - 1) i ∙ omega (arith, bit_at_ones_above low i late))
 
--- where the places fill all words, nothing is past them
-pub cleared_full : (count : ℕ) (words : List ℕ) → length words ≡ words_for count → count % 64 ≡ 0
-    → AreCleared count words words
-cleared_full count words size full = record {
-  size = refl;
-  kept = λ place early. refl;
-  past = λ place late. bit_in-past words place (omega (arith, size, full, late));
-}
-
 -- and else the last word is cut off
 module _ (count : ℕ) (words : List ℕ) (size : length words ≡ words_for count)
     (part : count % 64 ≢ 0) where
@@ -127,14 +118,4 @@ opposite_cleared count words new size fits cleared = record {
       let within : place / 64 < length words = omega (arith, size, early) in
       cleared.kept place early ∙ bit_in-not words place within (fits (place / 64) within);
   past = cleared.past;
-}
-
--- words of zeros, turned round
-pub opposite_zeros : (count : ℕ) (words new : List ℕ)
-    → ((place : ℕ) → bit_in words place ≡ 0)
-    → AreOpposite count words new → AreOnes count new
-opposite_zeros count words new none opposite = record {
-  size = opposite.size;
-  set = λ place early. omega (arith, opposite.flipped place early, none place);
-  past = opposite.past;
 }

@@ -1,15 +1,18 @@
--- The rounds of the closure: what holds between two of them, and after the last.
-use Rattle.std.proofs.Common.{◌≡◌, ℕ, ◌-◌, ◌*◌, ◌<◌, ◌≤◌, ◌⊎◌, ◌↔◌, List, [], ◌∷◌, subst, ap, inl, inr, ⊎_elim, arith}
+-- The closure: what holds while it goes on, and at its end.
+use Rattle.std.proofs.Common.{◌≡◌, ℕ, zero, suc, ◌+◌, ◌-◌, ◌*◌, ◌<◌, ◌≤◌, ◌⊎◌, ◌↔◌, List, [], ◌∷◌, ◌++◌, length, length-append, take, get_or, subst, ap, inl, inr, ⊎_elim, arith}
+use Rattle.std.proofs.lemmas.List.{take-append-le, take_all}
 use Rattle.std.proofs.Math.Nat.{mul-pos, mul-le-mul_left, le_of_mul-le-mul_left, mul_left_comm}
 use Rattle.tre_pairs.specs.Pairs.{Pairs, Either, Composed, Lasting, LeadTo, Chain}
 use Rattle.tre_pairs.proofs.Laws.{Scales, DurationScales}
 use Rattle.tre_pairs.proofs.Shortening.{IsDownward, finer_duration}
 use Rattle.tre_pairs.proofs.Chains.{Composed-at, Chain-none, Chain-step}
-use Rattle.tre_zone.specs.Zone.{IsInstantBetween}
+use Rattle.tre_zone.specs.Zone.{IsInstantBetween, ZoneHolds}
 use Rattle.tre_zone.specs.ZoneList.{SetHolds, HoldExactly, AreCanonical}
 use Rattle.tre_zone.specs.declared.zone_bounds.ZoneBounds.{ZoneBounds}
 use Rattle.tre_zone.proofs.ZoneListLemmas.{SetHolds-empty}
 use Rattle.tre_zone.proofs.Scaling.{SetHolds-scale, canonical-frame}
+use Rattle.tre_zoneset.proofs.Members.{SetHolds-more}
+use Rattle.tre_star.specs.Growth.{HasGrown}
 
 -- ---- laws of sets and of instants
 
@@ -81,21 +84,19 @@ HoldExactly-alone zones P R same held = record {
       );
 }
 
--- ---- the rounds
+-- ---- how far the closure has come
 
--- Between two rounds: what was reached are chains of durations that D admits, and has the instants;
--- and a pair of x before one that was reached, of such a duration, was reached too, or is one before
--- a fresh one, each of which was reached.
-pub record IsRound (D : ℕ → ℕ → Type 0) (x : List ZoneBounds) (E : Pairs)
-    (reached fresh : List ZoneBounds) : Type 0 where
+-- What was reached are chains of durations that D admits, and has the instants; and each pair of x
+-- before one of the first zones that were reached, of such a duration, was reached too.
+pub record IsClosedTo (D : ℕ → ℕ → Type 0) (x : List ZoneBounds) (E : Pairs)
+    (reached : List ZoneBounds) (place : ℕ) : Type 0 where
   pub set : AreCanonical reached
-  pub zones : AreCanonical fresh
+  pub within : place ≤ length reached
   pub sound : (a b n : ℕ) → 0 < n → SetHolds reached a b n
       → Lasting D (Chain (SetHolds x) E) a b n
   pub instants : (a b n : ℕ) → 0 < n → E a b n → SetHolds reached a b n
-  pub among : (a b n : ℕ) → 0 < n → a ≤ b → SetHolds fresh a b n → SetHolds reached a b n
-  pub steps : (a b n : ℕ) → 0 < n → D (b - a) n → Composed (SetHolds x) (SetHolds reached) a b n
-      → SetHolds reached a b n ⊎ Composed (SetHolds x) (SetHolds fresh) a b n
+  pub closed : (a b n : ℕ) → 0 < n → D (b - a) n
+      → Composed (SetHolds x) (SetHolds (take place reached)) a b n → SetHolds reached a b n
 
 composed_rising : (x y : List ZoneBounds) → AreCanonical x → AreCanonical y → (a b n : ℕ) → 0 < n
     → Composed (SetHolds x) (SetHolds y) a b n → a ≤ b
@@ -106,15 +107,54 @@ composed_rising x y left right a b n some h =
     let both : h.factor * a ≤ h.factor * b = omega (arith, first, second) in
     le_of_mul-le-mul_left both h.positive
 
+Composed-right : (R S T : Pairs) → ((a b n : ℕ) → S a b n → T a b n) → (a b n : ℕ)
+    → Composed R S a b n → Composed R T a b n
+Composed-right R S T implies a b n h = record {
+  factor = h.factor;
+  positive = h.positive;
+  midpoint = h.midpoint;
+  left = h.left;
+  right = implies h.midpoint (h.factor * b) (h.factor * n) h.right;
+}
+
+-- The first zones, and one more, of a list that has grown.
+first_more : (reached more next : List ZoneBounds) (place : ℕ) (zone : ZoneBounds)
+    → next ≡ reached ++ more → place < length reached → zone ≡ get_or reached place zone
+    → (a b n : ℕ) → SetHolds (take (place + 1) next) a b n
+    → SetHolds (take place reached) a b n ⊎ ZoneHolds zone a b n
+first_more reached more next place zone behind within is a b n h =
+    let front : take (place + 1) (reached ++ more) ≡ take (place + 1) reached =
+    take-append-le (place + 1) reached more (omega (arith, within)) in
+    (SetHolds-more reached place zone within is a b n).0
+    (subst (λ (zones : List ZoneBounds). SetHolds zones a b n) front
+    (subst (λ (zones : List ZoneBounds). SetHolds (take (place + 1) zones) a b n) behind h))
+
+holds_at : (zones : List ZoneBounds) (place : ℕ) (zone : ZoneBounds) → place < length zones
+    → zone ≡ get_or zones place zone → (a b n : ℕ) → ZoneHolds zone a b n → SetHolds zones a b n
+unfolding SetHolds
+holds_at [] place zone within is a b n h = absurd (omega (arith, within))
+holds_at (one ∷ zones) zero zone within is a b n h =
+    inl (subst (λ (z : ZoneBounds). ZoneHolds z a b n) is h)
+holds_at (one ∷ zones) (suc place) zone within is a b n h =
+    inr (holds_at zones place zone (omega (arith, within)) is a b n h)
+
+SetHolds-take : (zones : List ZoneBounds) (count a b n : ℕ) → SetHolds (take count zones) a b n
+    → SetHolds zones a b n
+unfolding SetHolds
+SetHolds-take zones zero a b n h = absurd h
+SetHolds-take [] (suc count) a b n h = absurd h
+SetHolds-take (zone ∷ zones) (suc count) a b n h =
+    ⊎_elim (λ x. inl x) (λ x. inr (SetHolds-take zones count a b n x)) h
+
 module _ (D : ℕ → ℕ → Type 0) (x : List ZoneBounds) (E : Pairs) (zones : AreCanonical x)
     (scales : Scales E) (same : (a b n : ℕ) → E a b n → a ≤ b) where
-  -- Before the first round the instants alone were reached, and are fresh.
-  pub IsRound-first : (reached fresh : List ZoneBounds) → AreCanonical reached → AreCanonical fresh
-      → HoldExactly reached E → HoldExactly reached (SetHolds fresh)
-      → ((a b n : ℕ) → E a b n → D (b - a) n) → IsRound D x E reached fresh
-  IsRound-first reached fresh set fresh_zones exact all short = record {
+  -- At first the instants alone were reached.
+  pub IsClosedTo-first : (reached : List ZoneBounds) → AreCanonical reached
+      → HoldExactly reached E → ((a b n : ℕ) → E a b n → D (b - a) n)
+      → IsClosedTo D x E reached 0
+  IsClosedTo-first reached set exact short = record {
     set = set;
-    zones = fresh_zones;
+    within = omega arith;
     sound = λ a b n some h.
         let instant = (exact.exact a b n some (SetHolds-rising reached set a b n some h)).0 h in
         record {
@@ -122,130 +162,102 @@ module _ (D : ℕ → ℕ → Type 0) (x : List ZoneBounds) (E : Pairs) (zones :
           admitted = short a b n instant;
         };
     instants = λ a b n some h. (exact.exact a b n some (same a b n h)).1 h;
-    among = λ a b n some le h. (all.exact a b n some le).1 h;
-    steps = λ a b n some admitted h.
-        let finer = mul-pos h.positive some in
-        let le = SetHolds-rising reached set h.midpoint (h.factor * b)
-        (h.factor * n) finer h.right in
-        inr (record {
-          factor = h.factor;
-          positive = h.positive;
-          midpoint = h.midpoint;
-          left = h.left;
-          right = (all.exact h.midpoint (h.factor * b) (h.factor * n) finer le).0 h.right;
-        });
+    closed = λ a b n some admitted h. absurd (SetHolds-empty _ _ _ h.right);
   }
 
   -- A pair of x before a pair that was reached is a chain.
-  longer_sound : (reached fresh : List ZoneBounds) → IsRound D x E reached fresh → (a b n : ℕ)
-      → 0 < n → Composed (SetHolds x) (SetHolds reached) a b n
+  longer_sound : (reached : List ZoneBounds) (place : ℕ) → IsClosedTo D x E reached place
+      → (a b n : ℕ) → 0 < n → Composed (SetHolds x) (SetHolds reached) a b n
       → Chain (SetHolds x) E a b n
-  longer_sound reached fresh round a b n some h =
+  longer_sound reached place closed a b n some h =
       Chain-step (SetHolds x) E (Scales-SetHolds x) scales a b n (record {
         factor = h.factor;
         positive = h.positive;
         midpoint = h.midpoint;
         left = h.left;
-        right = (round.sound h.midpoint (h.factor * b) (h.factor * n)
+        right = (closed.sound h.midpoint (h.factor * b) (h.factor * n)
             (mul-pos h.positive some) h.right).related;
       })
 
-  fresh_step : (reached fresh : List ZoneBounds) → IsRound D x E reached fresh → (a b n : ℕ) → 0 < n
-      → Composed (SetHolds x) (SetHolds fresh) a b n
-      → Composed (SetHolds x) (SetHolds reached) a b n
-  fresh_step reached fresh round a b n some h =
-      let finer = mul-pos h.positive some in
-      record {
-        factor = h.factor;
-        positive = h.positive;
-        midpoint = h.midpoint;
-        left = h.left;
-        right = round.among h.midpoint (h.factor * b) (h.factor * n) finer
-            (SetHolds-rising fresh round.zones h.midpoint (h.factor * b)
-            (h.factor * n) finer h.right) h.right;
-      }
+  -- What x and the zone at the place compose to was added.
+  pub IsClosedTo-next : (reached next : List ZoneBounds) (place : ℕ) (zone : ZoneBounds)
+      → place < length reached → zone ≡ get_or reached place zone
+      → IsClosedTo D x E reached place → HasGrown reached next
+      → HoldExactly next (Either (SetHolds reached)
+      (Lasting D (Composed (SetHolds x) (ZoneHolds zone))))
+      → IsClosedTo D x E next (place + 1)
+  IsClosedTo-next reached next place zone within is old grown held = record {
+    set = grown.canonical;
+    within =
+        let longer = ap length grown.behind in
+        omega (arith, within, longer, length-append reached grown.more);
+    sound = λ a b n some h.
+        let le = SetHolds-rising next grown.canonical a b n some h in
+        ⊎_elim (λ before. old.sound a b n some before)
+        (λ new. record {
+          related = longer_sound reached place old a b n some
+              (Composed-right (SetHolds x) (ZoneHolds zone) (SetHolds reached)
+              (holds_at reached place zone within is) a b n new.related);
+          admitted = new.admitted;
+        })
+        ((held.exact a b n some le).0 h);
+    instants = λ a b n some h. (held.exact a b n some (same a b n h)).1
+        (inl (old.instants a b n some h));
+    closed = λ a b n some admitted h.
+        let whole = composed_rising x next zones grown.canonical a b n some
+        (Composed-right (SetHolds x) (SetHolds (take (place + 1) next)) (SetHolds next)
+        (SetHolds-take next (place + 1)) a b n h) in
+        let back = held.exact a b n some whole in
+        ⊎_elim
+        (λ first. back.1 (inl (old.closed a b n some admitted (record {
+          factor = h.factor;
+          positive = h.positive;
+          midpoint = h.midpoint;
+          left = h.left;
+          right = first;
+        }))))
+        (λ last. back.1 (inr (record {
+          related = record {
+            factor = h.factor;
+            positive = h.positive;
+            midpoint = h.midpoint;
+            left = h.left;
+            right = last;
+          };
+          admitted = admitted;
+        })))
+        (first_more reached grown.more next place zone grown.behind within is
+        h.midpoint (h.factor * b) (h.factor * n) h.right);
+  }
 
-  -- A round: what x and the fresh ones compose to was added, and what that gained is fresh now.
-  pub IsRound-next : (reached fresh longer next gained : List ZoneBounds)
-      → IsRound D x E reached fresh → AreCanonical next → AreCanonical gained
-      → HoldExactly longer (Lasting D (Composed (SetHolds x) (SetHolds fresh)))
-      → HoldExactly next (Either (SetHolds reached) (SetHolds longer))
-      → HoldExactly next (Either (SetHolds reached) (SetHolds gained)) → IsRound D x E next gained
-  IsRound-next reached fresh longer next gained round set fresh_zones composed held fewer =
-      record {
-        set = set;
-        zones = fresh_zones;
-        sound = λ a b n some h.
-            let le = SetHolds-rising next set a b n some h in
-            ⊎_elim (λ old. round.sound a b n some old)
-            (λ new.
-            let step = (composed.exact a b n some le).0 new in
-            record {
-              related = longer_sound reached fresh round a b n some
-                  (fresh_step reached fresh round a b n some step.related);
-              admitted = step.admitted;
-            })
-            ((held.exact a b n some le).0 h);
-        among = λ a b n some le h. (fewer.exact a b n some le).1 (inr h);
-        instants = λ a b n some h. (held.exact a b n some (same a b n h)).1
-            (inl (round.instants a b n some h));
-        steps = λ a b n some admitted h.
-            let finer = mul-pos h.positive some in
-            let rises = SetHolds-rising next set h.midpoint (h.factor * b)
-            (h.factor * n) finer h.right in
-            let whole = composed_rising x next zones set a b n some h in
-            ⊎_elim
-            (λ old.
-            ⊎_elim (λ again. inl ((held.exact a b n some whole).1 (inl again)))
-            (λ step. inl ((held.exact a b n some whole).1
-            (inr ((composed.exact a b n some whole).1
-            (record { related = step; admitted = admitted })))))
-            (round.steps a b n some admitted (record {
-              factor = h.factor;
-              positive = h.positive;
-              midpoint =
-                  h.midpoint;
-              left = h.left;
-              right = old;
-            })))
-            (λ new. inr (record {
-              factor = h.factor;
-              positive = h.positive;
-              midpoint = h.midpoint;
-              left = h.left;
-              right = new;
-            }))
-            ((fewer.exact h.midpoint (h.factor * b) (h.factor * n) finer rises).0 h.right);
-      }
-
-  -- After the last round nothing is fresh, and what was reached is every chain of such a duration.
-  all_steps : IsDownward D → (reached : List ZoneBounds) → IsRound D x E reached []
+  -- At the end what was reached is every chain of such a duration.
+  all_steps : IsDownward D → (reached : List ZoneBounds) (place : ℕ)
+      → IsClosedTo D x E reached place → length reached ≤ place
       → (n from : ℕ) → 0 < n → (cuts : List ℕ) (to : ℕ) → D (to - from) n
       → LeadTo (SetHolds x) E n from cuts to → SetHolds reached from to n
-  all_steps down reached round n from some [] to short h = round.instants from to n some h
-  all_steps down reached round n from some (cut ∷ cuts) to short h =
+  all_steps down reached place closed all n from some [] to short h =
+      closed.instants from to n some h
+  all_steps down reached place closed all n from some (cut ∷ cuts) to short h =
       let rises = SetHolds-rising x zones from cut n some h.0 in
       let less : to - cut ≤ to - from = omega (arith, rises) in
-      let rest = all_steps down reached round n cut some cuts to
+      let rest = all_steps down reached place closed all n cut some cuts to
       (down.at (to - cut) (to - from) n less short) h.1 in
-      ⊎_elim (λ again. again) (λ step. absurd (SetHolds-empty _ _ _ step.right))
-      (round.steps from to n some short
+      closed.closed from to n some short
+      (rw (take_all place reached all)
       (Composed-at (SetHolds x) (SetHolds reached) from cut to n h.0 rest))
 
-  pub IsRound-last : IsDownward D → DurationScales D → (reached fresh : List ZoneBounds)
-      → IsRound D x E reached fresh → fresh ≡ []
+  pub IsClosedTo-last : IsDownward D → DurationScales D → (reached : List ZoneBounds) (place : ℕ)
+      → IsClosedTo D x E reached place → length reached ≤ place
       → HoldExactly reached (Lasting D (Chain (SetHolds x) E))
-  IsRound-last down finer reached fresh round none =
-      let last = subst (IsRound D x E reached) none round in
-      record {
-        exact = λ a b n some le. (
-          (λ h. last.sound a b n some h),
-          (λ h.
-              let chain = h.related in
-              (SetHolds-scale reached chain.factor a b n chain.positive).1
-              (all_steps down reached last (chain.factor * n) (chain.factor * a)
-              (mul-pos chain.positive some) chain.cuts (chain.factor * b)
-              (finer_duration D down finer chain.factor a b n chain.positive h.admitted)
-              chain.steps)),
-        );
-      }
+  IsClosedTo-last down finer reached place closed all = record {
+    exact = λ a b n some le. (
+      (λ h. closed.sound a b n some h),
+      (λ h.
+          let chain = h.related in
+          (SetHolds-scale reached chain.factor a b n chain.positive).1
+          (all_steps down reached place closed all (chain.factor * n) (chain.factor * a)
+          (mul-pos chain.positive some) chain.cuts (chain.factor * b)
+          (finer_duration D down finer chain.factor a b n chain.positive h.admitted)
+          chain.steps)),
+    );
+  }

@@ -1,26 +1,22 @@
 -- A zone that is added reaches its own row, which no zone reached before, and each row that was
 -- reached.
-use Rattle.std.proofs.Common.{◌≡◌, ℕ, ◌+◌, ◌*◌, ◌^◌, ◌<◌, ◌≤◌, ◌⊎◌, Bool, true, false, cond, leb, List, [], ◌∷◌, ◌++◌, Any, refl, sym, inl, inr, ⊎_elim, Decides, arith, ℤ, pos, negsuc, ◌≤ℤ◌}
+use Rattle.std.proofs.Common.{◌≡◌, ℕ, ◌+◌, ◌*◌, ◌^◌, ◌<◌, ◌≤◌, ◌⊎◌, Bool, true, false, cond, leb, List, [], ◌∷◌, ◌++◌, length-append, append_assoc, Any, refl, sym, ◌∙◌, ap, inl, inr, ⊎_elim, Decides, arith, ℤ, pos, negsuc, ◌≤ℤ◌}
 use Rattle.std.proofs.lemmas.Int.{ints}
+use Rattle.std.proofs.lemmas.List.{append-nil}
 use Rattle.std.proofs.lemmas.Bool.{leb-true, le-leb, false≢true}
 use Rattle.std.proofs.lemmas.Bool.Decides.{Decides-and, Decides-or}
 use Rattle.tre_zone.specs.Bound.{IsKeyWithin}
 use Rattle.tre_zone.specs.Zone.{IsCanonical, Includes, Covers, AreKeysWithin}
 use Rattle.tre_zone.specs.ZoneList.{AreCanonical}
 use Rattle.tre_zone.specs.declared.zone_bounds.ZoneBounds.{ZoneBounds}
+use Rattle.tre_zone.proofs.ZoneListLemmas.{AreCanonical-push}
 use Rattle.tre_zone.proofs.Tightness.{Covers-Includes, canonical-keys}
 use Rattle.tre_zoneset.proofs.Members.{Any-head, Any-tail}
+use Rattle.tre_star.specs.Growth.{HasGrown}
 use Rattle.tre_star.specs.Rows.{Row, place_of, is_reached_by, is_reached, missed}
 use Rattle.tre_star.proofs.Sums.{sum_of_rows-less}
 
 -- ---- places of keys
-
-place-le : (side : ℕ) (inner outer : ℤ) → inner ≤ℤ outer → place_of side inner ≤ place_of side outer
-unfolding place_of
-place-le side (pos a) (pos b) le = omega (arith, ints)
-place-le side (pos a) (negsuc b) le = omega (arith, ints)
-place-le side (negsuc a) (pos b) le = omega (arith, ints)
-place-le side (negsuc a) (negsuc b) le = omega (arith, ints)
 
 place-back : (side : ℕ) (inner outer : ℤ) → IsKeyWithin side inner → IsKeyWithin side outer
     → place_of side inner ≤ place_of side outer → inner ≤ℤ outer
@@ -200,8 +196,41 @@ falls side keys old zone all canonical none =
     ((reached-decides side old (own_row side zone)).0 t))))
     ((reached-decides side new (own_row side zone)).1 own))
 
--- A zone that is added makes the missed rows fewer.
-pub missed-added : (old : List ZoneBounds) (zone : ZoneBounds) → AreCanonical old
+missed-added : (old : List ZoneBounds) (zone : ZoneBounds) → AreCanonical old
     → IsCanonical zone → (Any (λ member. Includes member zone) old → ⊥)
     → missed (2 ^ 42) (old ++ zone ∷ []) < missed (2 ^ 42) old
 missed-added old zone all canonical none = falls (2 ^ 42) canonical-keys old zone all canonical none
+
+-- ---- lists that grow
+
+pub HasGrown-none : (zones : List ZoneBounds) → AreCanonical zones → HasGrown zones zones
+HasGrown-none zones all = record {
+  canonical = all;
+  more = [];
+  behind = sym (append-nil zones);
+  fewer = omega arith;
+}
+
+pub HasGrown-added : (old : List ZoneBounds) (zone : ZoneBounds) → AreCanonical old
+    → IsCanonical zone → (Any (λ member. Includes member zone) old → ⊥)
+    → HasGrown old (old ++ zone ∷ [])
+HasGrown-added old zone all canonical none = record {
+  canonical = AreCanonical-push old zone all canonical;
+  more = zone ∷ [];
+  behind = refl;
+  fewer =
+      let less = missed-added old zone all canonical none in
+      let longer = length-append old (zone ∷ []) in
+      omega (arith, less, longer);
+}
+
+pub HasGrown-then : (old now new : List ZoneBounds) → HasGrown old now → HasGrown now new
+    → HasGrown old new
+HasGrown-then old now new first second = record {
+  canonical = second.canonical;
+  more = first.more ++ second.more;
+  behind =
+      second.behind ∙ ap (λ (zones : List ZoneBounds). zones ++ second.more) first.behind
+      ∙ append_assoc old first.more second.more;
+  fewer = let one = first.fewer in let two = second.fewer in omega (arith, one, two);
+}

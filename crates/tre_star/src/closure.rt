@@ -1,12 +1,11 @@
-ghost use Rattle.std.specs.Prelude.{ℕ, ◌+◌, ◌^◌, ◌≤◌, OnOk, IfOk, List, vec_len};
+ghost use Rattle.std.specs.Prelude.{◌≤◌, OnOk, IfOk};
 ghost use Rattle.tre_pairs.specs.Pairs.{Either, Composed, Lasting, Chain};
 ghost use Rattle.tre_zone.specs.Longest.{LastsUpTo, IsLongest};
 ghost use Rattle.tre_zone.specs.Zone.{ZoneHolds, IsInstantBetween};
 ghost use Rattle.tre_zone.specs.ZoneList.{SetHolds, AreCanonical, HoldExactly};
-ghost use Rattle.tre_zone.specs.declared.zone_bounds.ZoneBounds.{ZoneBounds};
-ghost use Rattle.tre_star.specs.Rows.{missed};
+ghost use Rattle.tre_zoneset.specs.ZoneSet.{FoundHolds};
+ghost use Rattle.tre_star.specs.Growth.{HasGrown};
 
-use crate::gather_up_to::gather_up_to;
 use crate::power_limit::steps_of;
 use std::alloc::{AllocError, Global};
 use tre_compose::compose;
@@ -48,8 +47,8 @@ pub fn closure_up_to(
     Ok(chains)
 }
 
-// The zones of the chains of the steps that last at most `longest`, by rounds: each composes what
-// the round before has added.
+// The zones of the chains of the steps that last at most `longest`. The list of what was reached is
+// also that of what is still to do: before its zones from `place` on no step has been put yet.
 fn chains_of(
     alloc: Global,
     steps: &ZoneIndex,
@@ -64,50 +63,32 @@ fn chains_of(
     ensures { IfOk result (λ chains. HoldExactly chains.items (Lasting (LastsUpTo longest)
         (Chain (SetHolds steps.now) (IsInstantBetween from to)))) }
 {
-    let instants = Zone::instants(from, to);
     let mut reached = ZoneIndex::new(alloc);
-    let mut fresh = Vec::new(alloc);
-    add_fresh(&mut reached, &mut fresh, &instants)?;
-    while !fresh.is_empty() {
-        let longer = compose_before(alloc, steps, &fresh, longest)?;
-        fresh = extend(alloc, &mut reached, &longer)?;
+    add_new(&mut reached, &Zone::instants(from, to))?;
+    let mut place = 0;
+    while place < reached.items().len() {
+        let items = reached.items();
+        let zone = items[place];
+        add_before(&mut reached, &zone, steps, longest)?;
+        place += 1;
     }
     Ok(reached.into_items())
 }
 
-// The compositions of the steps with each of the zones that they can come before, as far as they
+// Adds the compositions of each of the steps that can come before the zone with it, as far as they
 // last at most `longest`.
-fn compose_before(
-    alloc: Global,
-    steps: &ZoneIndex,
-    zones: &[Zone],
-    longest: Option<u64>,
-) -> Result<Vec<Zone>, AllocError>
-    requires steps { AreCanonical steps.now }
-    requires longest { IsLongest longest }
-    ensures { IfOk result (λ found. HoldExactly found.items
-        (Lasting (LastsUpTo longest) (Composed (SetHolds steps.now) (SetHolds zones.now)))) }
-{
-    let mut found = Vec::new(alloc);
-    for zone in zones {
-        gather_before(&mut found, zone, steps, longest)?;
-    }
-    Ok(found)
-}
-
-// Adds the compositions of each of the steps that can come before the zone with it to a list, as
-// far as they last at most `longest`.
-fn gather_before(
-    found: &mut Vec<Zone>,
+fn add_before(
+    reached: &mut ZoneIndex,
     zone: &Zone,
     steps: &ZoneIndex,
     longest: Option<u64>,
 ) -> Result<(), AllocError>
+    requires reached { AreCanonical reached.old }
     requires steps { AreCanonical steps.now }
     requires longest { IsLongest longest }
-    ensures { OnOk result (HoldExactly found.new.items
-        (Either (SetHolds found.old.items)
+    ensures held { OnOk result (HoldExactly reached.new (Either (SetHolds reached.old)
         (Lasting (LastsUpTo longest) (Composed (SetHolds steps.now) (ZoneHolds zone.now))))) }
+    ensures grown { OnOk result (HasGrown reached.old reached.new) }
 {
     let key = key_before(zone);
     let items = steps.items();
@@ -116,7 +97,7 @@ fn gather_before(
     while place < count {
         match steps.next_at_least(place, &key) {
             Some(next) => {
-                gather_up_to(found, compose(&items[next], zone), longest)?;
+                add_found(reached, compose(&items[next], zone), longest)?;
                 place = next + 1;
             }
             None => return Ok(()),
@@ -125,38 +106,34 @@ fn gather_before(
     Ok(())
 }
 
-// Adds the zones that were found, and gives those that were not yet included.
-fn extend(alloc: Global, reached: &mut ZoneIndex, found: &[Zone]) -> Result<Vec<Zone>, AllocError>
-    requires { AreCanonical reached.old }
-    ensures held { OnOk result
-        (HoldExactly reached.new (Either (SetHolds reached.old) (SetHolds found.now))) }
-    ensures gained { IfOk result (λ fresh.
-        HoldExactly reached.new (Either (SetHolds reached.old) (SetHolds fresh.items))) }
-    ensures reached { OnOk result (AreCanonical reached.new) }
-    ensures fresh { IfOk result (λ fresh. AreCanonical fresh.items) }
-    // Each of them makes the rows fewer that no zone reaches: so the rounds end.
-    ensures missed { IfOk result (λ fresh.
-        missed (2 ^ 42) reached.new + vec_len fresh ≤ missed (2 ^ 42) reached.old) }
+// Adds the pairs of the zone that was found that last at most `longest`, if there are any.
+fn add_found(
+    reached: &mut ZoneIndex,
+    found: Option<Zone>,
+    longest: Option<u64>,
+) -> Result<(), AllocError>
+    requires reached { AreCanonical reached.old }
+    requires longest { IsLongest longest }
+    ensures held { OnOk result (HoldExactly reached.new
+        (Either (SetHolds reached.old) (Lasting (LastsUpTo longest) (FoundHolds found)))) }
+    ensures grown { OnOk result (HasGrown reached.old reached.new) }
 {
-    let mut fresh = Vec::new(alloc);
-    for zone in found {
-        add_fresh(reached, &mut fresh, zone)?;
-    }
-    Ok(fresh)
+    let Some(zone) = found else {
+        return Ok(());
+    };
+    let Some(short) = zone.up_to(longest) else {
+        return Ok(());
+    };
+    add_new(reached, &short)?;
+    Ok(())
 }
 
-// Adds a zone to those reached, and to the fresh ones, where none of those reached includes it.
-fn add_fresh(reached: &mut ZoneIndex, fresh: &mut Vec<Zone>, zone: &Zone) -> Result<(), AllocError>
+// Adds a zone, where none of those reached includes it.
+fn add_new(reached: &mut ZoneIndex, zone: &Zone) -> Result<(), AllocError>
     requires { AreCanonical reached.old }
     ensures held { OnOk result
         (HoldExactly reached.new (Either (SetHolds reached.old) (ZoneHolds zone.now))) }
-    ensures gained { OnOk result ((start : List ZoneBounds)
-        → HoldExactly reached.old (Either (SetHolds start) (SetHolds fresh.old.items))
-        → HoldExactly reached.new (Either (SetHolds start) (SetHolds fresh.new.items))) }
-    ensures reached { OnOk result (AreCanonical reached.new) }
-    ensures fresh { OnOk result (AreCanonical fresh.old.items → AreCanonical fresh.new.items) }
-    ensures missed { OnOk result (missed (2 ^ 42) reached.new + vec_len fresh.new
-        ≤ missed (2 ^ 42) reached.old + vec_len fresh.old) }
+    ensures grown { OnOk result (HasGrown reached.old reached.new) }
 {
     // For the proof: the call says that the zone is canonical.
     let _bounds = zone.bounds();
@@ -164,6 +141,5 @@ fn add_fresh(reached: &mut ZoneIndex, fresh: &mut Vec<Zone>, zone: &Zone) -> Res
         return Ok(());
     }
     reached.push(*zone)?;
-    fresh.push(*zone)?;
     Ok(())
 }

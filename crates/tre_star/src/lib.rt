@@ -2,10 +2,11 @@
 //!
 //! [`compose_sets::compose_sets`] gives the pairs of one set followed by one of another, as exact
 //! unions over the zones, and [`closure::closure`] those of any number of pairs of one set, one
-//! after another, by rounds that compose only what the round before has added; a step whose
-//! durations lie between two different ends has a power limit, a zone of chains that spares it most
-//! rounds. Each has a form that keeps to pairs up to a longest duration, and looks at no other. The
-//! layer above may rely on all being exact at every denominator, and on the rounds ending.
+//! after another: it puts the steps once before each zone that it has reached; a step whose
+//! durations lie between two different ends has a power limit, a zone of chains that spares it
+//! most of them. Each has a form that keeps to pairs up to a longest duration, and looks at no
+//! other. The layer above may rely on all being exact at every denominator, and on each call
+//! returning.
 //!
 //! ```
 //! let twice = compose_sets(alloc, &set, &set)?;

@@ -11,6 +11,9 @@ use tre_zone::{Bound, Zone, ZoneBounds};
 /// A zone of pairs that the pairs of `zone`, one after another, lead through: where its durations
 /// lie between two different ends, so many of them in a row may last for anything from then on.
 /// None where no such pair fits into the times that can be named.
+///
+/// No clause says that it is found: the closure is exact with any zone of chains as one more step,
+/// and with none. This one spares it most of its work.
 pub fn power_limit(zone: &Zone) -> Option<Zone>
     ensures { IfSome result (λ limit. AreChainsOf limit zone.now) }
 {

@@ -3,13 +3,15 @@ use Rattle.std.proofs.Common.{◌-◌, length}
 use Rattle.tre_pairs.specs.Pairs.{Pairs, Composed, Lasting}
 use Rattle.tre_zone.specs.Zone.{ZoneHolds}
 use Rattle.tre_zoneset.proofs.Searching.{HoldsFirst}
-use Rattle.tre_star.proofs.closure.gather_before.Given as goal
+use Rattle.tre_star.specs.Growth.{HasGrown}
+use Rattle.tre_star.proofs.closure.add_before.Given as goal
 
 abbrev pub invariant-loop-place : goal.invariant-loop-place
-invariant-loop-place l =
-    HoldsFirst (λ (R : Pairs). Lasting (LastsUpTo l.longest) (Composed R (ZoneHolds l.zone)))
-    l.initial.found.items l.steps l.place
-    l.found.items
+invariant-loop-place l = record {
+  first : HoldsFirst (λ (R : Pairs). Lasting (LastsUpTo l.longest) (Composed R (ZoneHolds l.zone)))
+      l.initial.reached l.steps l.place l.reached;
+  grown : HasGrown l.initial.reached l.reached;
+}
 
 abbrev pub decreases-loop-place : goal.decreases-loop-place
 decreases-loop-place l = length l.steps - l.place
