@@ -1,7 +1,7 @@
 ghost use Rattle.std.specs.Prelude.{◌≡◌, ◌≢◌, ℕ, ◌≤◌, List, length, Option, IfNone, IfSome};
 ghost use Rattle.tre_parts.specs.Format.{Format, KeepsTime};
 ghost use Rattle.tre_parts.specs.declared.said.Said.{Said};
-ghost use Rattle.tre_trace.specs.declared.fault.TraceKind.TheVariants.{Spent};
+ghost use Rattle.tre_trace.specs.declared.fault.TraceKind.TheVariants.{Spent, Memory};
 ghost use Rattle.tre_parts.specs.Walk.{IsInside, EndsAt, Tells};
 
 use crate::{PART_MAX, Said, Spot};
@@ -26,7 +26,8 @@ pub trait PartReader {
         ensures none { IfNone result (IsInside (format (names self.now)).separates bytes.now) }
         ensures first { IfSome result (EndsAt (format (names self.now)).separates bytes.now) };
 
-    /// Reads the next part.
+    /// Reads the next part. After `Wrong` it is not asked again, so nothing is said of what it then
+    /// knows.
     fn read(&mut self, part: &[u8]) -> Said
         requires short { length part.now ≤ PART_MAX }
         ensures tells { (state : State) → holds self.old state →
@@ -38,7 +39,8 @@ pub trait PartReader {
     fn at_end(&self) -> Option<TraceKind>
         ensures fault { (state : State) → holds self.now state →
             result ≡ (format (names self.now)).at_end state }
-        ensures kinds { IfSome result (λ kind. kind ≢ Spent) };
+        ensures kinds { IfSome result (λ kind. kind ≢ Spent) }
+        ensures never_memory { IfSome result (λ kind. kind ≢ Memory) };
 
     /// The place that a fault of a part is told with.
     fn place(&self, spot: Spot) -> u64

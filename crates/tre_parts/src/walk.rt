@@ -2,6 +2,7 @@
 ghost use Rattle.std.specs.Prelude.{◌≡◌, ◌≢◌, ℕ, ◌+◌, ◌^◌, ◌≤◌, List, [], ◌∷◌, None, ◌++◌, length, true, false, OnOk, OnErr, IfErr};
 ghost use Rattle.tre_parts.specs.Format.{reading_of, part_says};
 ghost use Rattle.tre_parts.specs.Walk.{IsInside, IsAt, AddsPart, IsRefusedPart, EndsAt, Takes};
+ghost use Rattle.tre_trace.specs.Reading.{IsPlaced};
 ghost use Rattle.tre_trace.specs.declared.fault.TraceKind.TheVariants.{Spent};
 ghost use Rattle.tre_trace.specs.declared.segment.Segment.{Segment};
 
@@ -31,6 +32,7 @@ fn add_part<R: PartReader>(
         IfErr result (IsRefusedPart (part_says (R.format (R.names reader.old)) state part.now)
         ((R.format (R.names reader.old)).place spot) segments.old.items segments.new.items) }
     ensures never_spent { IfErr result (λ fault. fault.kind ≢ Spent) }
+    ensures placed { IfErr result IsPlaced }
     ensures same_names { R.names reader.new ≡ R.names reader.old }
 {
     let place = reader.place(spot);
@@ -68,6 +70,7 @@ impl<R: PartReader> Walk<R> {
             segments segments (reading_of (R.format names) false bytes)
             (reading_of (R.format names) false (bytes ++ more.now)) result }
         ensures never_spent { IfErr result (λ fault. fault.kind ≢ Spent) }
+        ensures placed { IfErr result IsPlaced }
         ensures same_reader { self.new.reader ≡ self.old.reader }
     {
         if self.part.len() + more.len() > PART_MAX {
@@ -95,6 +98,7 @@ impl<R: PartReader> Walk<R> {
             segments.old.items segments.new.items (reading_of (R.format names) false bytes)
             (reading_of (R.format names) false (bytes ++ (part.now ++ separator ∷ []))) result }
         ensures never_spent { IfErr result (λ fault. fault.kind ≢ Spent) }
+        ensures placed { IfErr result IsPlaced }
         ensures same_names { R.names self.new.reader ≡ R.names self.old.reader }
     {
         add_part(&mut self.reader, self.spot, part, segments)?;
@@ -113,6 +117,7 @@ impl<R: PartReader> Walk<R> {
             segments.old.items segments.new.items (reading_of (R.format names) false bytes)
             (reading_of (R.format names) false (bytes ++ separator ∷ [])) result }
         ensures never_spent { IfErr result (λ fault. fault.kind ≢ Spent) }
+        ensures placed { IfErr result IsPlaced }
         ensures same_names { R.names self.new.reader ≡ R.names self.old.reader }
     {
         add_part(&mut self.reader, self.spot, &self.part, segments)?;
@@ -133,6 +138,7 @@ impl<R: PartReader> Walk<R> {
             segments.old.items segments.new.items (reading_of (R.format names) false bytes)
             (reading_of (R.format names) false (bytes ++ (front.now ++ separator ∷ []))) result }
         ensures never_spent { IfErr result (λ fault. fault.kind ≢ Spent) }
+        ensures placed { IfErr result IsPlaced }
         ensures same_names { R.names self.new.reader ≡ R.names self.old.reader }
     {
         if self.part.is_empty() {
@@ -155,6 +161,7 @@ impl<R: PartReader> Walk<R> {
             segments.old.items segments.new.items (reading_of (R.format names) false bytes)
             (reading_of (R.format names) false (bytes ++ piece.now)) result }
         ensures never_spent { IfErr result (λ fault. fault.kind ≢ Spent) }
+        ensures placed { IfErr result IsPlaced }
         ensures same_names { R.names self.new.reader ≡ R.names self.old.reader }
     {
         let mut rest = piece;
@@ -177,6 +184,7 @@ impl<R: PartReader> Walk<R> {
             (reading_of (R.format names) false bytes) (reading_of (R.format names) true bytes)
             result }
         ensures never_spent { IfErr result (λ fault. fault.kind ≢ Spent) }
+        ensures placed { IfErr result IsPlaced }
         ensures same_names { R.names self.new.reader ≡ R.names self.old.reader }
     {
         add_part(&mut self.reader, self.spot, &self.part, segments)?;

@@ -4,12 +4,13 @@ use Rattle.std.proofs.lemmas.List.Elements.{All-nil}
 use Rattle.std.specs.Str.Parse.{digits_value}
 use Rattle.tre_pairs.specs.declared.TheConstants.{TIME_MAX}
 use Rattle.tre_parts.proofs.Walks.{reading-part, reading-last}
+use Rattle.tre_parts.specs.Growing.{too_long, reading-grows}
 use Rattle.tre_parts.specs.Format.{Step, nothing, faulty, behind, read_on, after_part, part_says, reading_from, first_spot}
 use Rattle.tre_parts.specs.declared.TheConstants.{PART_MAX}
 use Rattle.tre_parts.specs.declared.spot.Spot.{Spot}
 use Rattle.tre_text.proofs.Entries.{IsEntryOf, numeral-no_comment, within, says-nothing, says-marked, says-no_number, says-zero, says-late, says-no_name, says-segment}
 use Rattle.tre_text.specs.TextReading.{is_line_end, valuation_of, one_segment, line_says, text_format, text_reading}
-use Rattle.tre_text.specs.TraceLines.{IsLine, AreLines, ended, HasFields, IsSilent, IsEntry, SaysFirst, Say, HasFault}
+use Rattle.tre_text.specs.TraceLines.{IsLine, IsOverlong, AreLines, ended, HasFields, IsSilent, IsEntry, SaysFirst, Say, HasFault}
 use Rattle.tre_trace.proofs.Segments.{end_of-le}
 use Rattle.tre_trace.specs.Reading.{Reading}
 use Rattle.tre_trace.specs.Trace.{end_of, AreLong, IsTrace}
@@ -187,6 +188,51 @@ read_fault names closed front line back segments kind are is say trace has =
       fault =
           Some (record { place = length front + 1; kind = kind });
     }) (append-nil segments)
+
+-- more bytes than a line may have, behind which more may come
+overlong_open : (names : List (List ℕ)) (end : ℕ) (spot : Spot) (line : List ℕ) → IsOverlong line
+    → reading_from (text_format names) false end spot line ≡ faulty spot.number LineTooLong
+overlong_open names end spot line is =
+    reading-last (text_format names) false end spot line is.unbroken
+    ∙ rw (too_long (length line) PART_MAX is.long) refl
+
+read_open : (names : List (List ℕ)) (front : List (List ℕ)) (line : List ℕ)
+    (segments : List Segment)
+    → AreLines front → IsOverlong line → Say names front segments → IsTrace segments
+    → text_reading names false (ended front ++ line)
+    ≡ record {
+      segments = segments;
+      fault =
+          Some (record { place = length front + 1; kind = LineTooLong });
+    }
+read_open names front line segments are is say trace =
+    let spot = spot_after first_spot front in
+    let number : spot.number ≡ length front + 1 = omega (arith, spot_after-number first_spot front)
+    in
+    read_through names false 0 first_spot front segments line are say trace.long trace.in_time
+    ∙ ap (behind segments)
+    (overlong_open names (end_of 0 segments) spot line is
+    ∙ ap (λ n. faulty n LineTooLong) number)
+    ∙ ap (λ all. record {
+      segments = all;
+      fault =
+          Some (record { place = length front + 1; kind = LineTooLong });
+    }) (append-nil segments)
+
+pub read_overlong : (names : List (List ℕ)) (closed : Bool) (front : List (List ℕ))
+    (line more : List ℕ) (segments : List Segment)
+    → AreLines front → IsOverlong line → Say names front segments → IsTrace segments
+    → text_reading names closed ((ended front ++ line) ++ more)
+    ≡ record {
+      segments = segments;
+      fault =
+          Some (record { place = length front + 1; kind = LineTooLong });
+    }
+read_overlong names closed front line more segments are is say trace =
+    let open_one = read_open names front line segments are is say trace in
+    (reading-grows (text_format names) closed (ended front ++ line) more).fault
+    (record { place = length front + 1; kind = LineTooLong })
+    (ap (λ (r : Reading). r.fault) open_one) ∙ open_one
 
 read_on-same : (place : ℕ) (said : Result (Step ℕ) TraceKind) (one other : ℕ → Reading)
     → ((now : ℕ) → one now ≡ other now) → read_on place said one ≡ read_on place said other

@@ -15,6 +15,11 @@ pub record IsLine (line : List ℕ) : Type 0 where
   pub unbroken : All (λ byte. is_line_end byte ≡ false) line
   pub short : length line ≤ PART_MAX
 
+-- No line end stands in the bytes, and they are more than a line may have.
+pub record IsOverlong (bytes : List ℕ) : Type 0 where
+  pub unbroken : All (λ byte. is_line_end byte ≡ false) bytes
+  pub long : PART_MAX < length bytes
+
 abbrev pub AreLines : List (List ℕ) → Type 0
 AreLines [] = Unit {0}
 AreLines (line ∷ lines) = IsLine line × AreLines lines

@@ -2,14 +2,14 @@
 
 ghost use Rattle.std.specs.Prelude.{◌≡◌, ◌↔◌, ℕ, ◌+◌, Bool, true, None, Some, List, [], ◌∷◌, ◌++◌, length, IsBitSet};
 ghost use Rattle.tre_text.specs.TextReading.{is_blank, fields_among, fields_of, valuation_of, IsNamed, text_reading};
-ghost use Rattle.tre_text.specs.TraceLines.{IsLine, AreLines, ended, IsField, Say, HasFault};
+ghost use Rattle.tre_text.specs.TraceLines.{IsLine, IsOverlong, AreLines, ended, IsField, Say, HasFault};
 ghost use Rattle.tre_trace.specs.Trace.{end_of, IsTrace};
 ghost use Rattle.tre_trace.specs.declared.fault.TraceKind.{TraceKind};
 ghost use Rattle.tre_trace.specs.declared.segment.Segment.{Segment};
 
 /// Lines of which each is silent or says a segment of a trace are that trace. Where such lines
 /// stand in front of one with a fault, that fault is told with the number of its line, whatever
-/// follows.
+/// follows; and so is that a line is too long, as soon as it is, whether it ends or not.
 pub fn reading()
     ensures trace { (names : List (List ℕ)) (closed : Bool) (lines : List (List ℕ))
         (segments : List Segment) → AreLines lines → Say names lines segments → IsTrace segments →
@@ -23,6 +23,15 @@ pub fn reading()
           segments = segments;
           fault =
               Some (record { place = length front + 1; kind = kind });
+        } }
+    ensures long { (names : List (List ℕ)) (closed : Bool) (front : List (List ℕ))
+        (line more : List ℕ) (segments : List Segment) → AreLines front → IsOverlong line →
+        Say names front segments → IsTrace segments →
+        text_reading names closed ((ended front ++ line) ++ more)
+        ≡ record {
+          segments = segments;
+          fault =
+              Some (record { place = length front + 1; kind = TraceKind.LineTooLong });
         } }
 {}
 

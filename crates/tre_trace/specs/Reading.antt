@@ -38,6 +38,10 @@ pub record IsRefused (old new : List Segment) (before now : Reading) (fault : Tr
     pub told : fault.kind ≢ Memory → now.fault ≡ Some fault
     pub adds : fault.kind ≢ Memory → Adds old new before now
 
+-- Want of memory is of no place in the bytes, and told with 0.
+pub record IsPlaced (fault : TraceFault) : Type 0 where
+  pub memory : fault.kind ≡ Memory → fault.place ≡ 0
+
 -- the answer of a reader that was refused or finished before
 abbrev pub spent_fault : TraceFault
 spent_fault = record { place = 0; kind = Spent }

@@ -1,5 +1,5 @@
 ghost use Rattle.std.specs.Prelude.{◌≡◌, ◌↔◌, ℕ, ◌+◌, ◌^◌, ◌≤◌, List, ◌++◌, length, Bool, true, false, None, Err, OnOk, OnErr, IfErr};
-ghost use Rattle.tre_trace.specs.Reading.{Reading, Grows, Adds, IsRefused, spent_fault};
+ghost use Rattle.tre_trace.specs.Reading.{Reading, Grows, Adds, IsRefused, IsPlaced, spent_fault};
 ghost use Rattle.tre_trace.specs.Trace.{IsTrace};
 
 use crate::{Segment, TraceFault};
@@ -43,6 +43,7 @@ pub trait TraceReader {
             (reading (names self.old) false bytes)
             (reading (names self.old) false (bytes ++ piece.now))) }
 
+        ensures placed { IfErr result IsPlaced }
         ensures spent { (result ≡ Err spent_fault) ↔ (is_spent self.old ≡ true) }
         ensures unchanged { is_spent self.old ≡ true → segments.new.items ≡ segments.old.items }
         ensures spent_then { OnErr result (is_spent self.new ≡ true) }
@@ -64,6 +65,7 @@ pub trait TraceReader {
             (reading (names self.old) false bytes)
             (reading (names self.old) true bytes)) }
 
+        ensures placed { IfErr result IsPlaced }
         ensures spent { (result ≡ Err spent_fault) ↔ (is_spent self.old ≡ true) }
         ensures unchanged { is_spent self.old ≡ true → segments.new.items ≡ segments.old.items }
         ensures spent_then { is_spent self.new ≡ true }

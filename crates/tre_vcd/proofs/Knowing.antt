@@ -110,11 +110,6 @@ pub valuation-known : (past : List Statement) (names : List (List ℕ)) (kept : 
     kept past → value_from 0 kept.signals.items ≡ valuation_from past 0 names
 valuation-known past names kept known = value-known past names kept.signals.items 0 known.signals
 
-declared-kept : (past : List Statement) (o : Option (List ℕ)) → value_of
-    (change [] true ∷ []) (option_map (λ _. []) o) ≡ is_some o
-declared-kept past None = refl
-declared-kept past (Some identifier) = refl
-
 some-kept : (signal : Signal) → is_some signal.identifier ≡ is_some (identifier_kept signal)
 some-kept signal = elim signal.identifier as (λ o. is_some o ≡ is_some (option_map (λ bytes.
     bytes.items) o)) [ None ↦ refl | Some bytes ↦ refl ]
@@ -126,8 +121,7 @@ known-declared past [] signals same known = ap (list_all _) known
 known-declared past (name ∷ names) [] same known = absurd (omega (arith, same))
 known-declared past (name ∷ names) (signal ∷ signals) same known =
     let head : is_some signal.identifier ≡ is_declared past name =
-    some-kept signal ∙ ap is_some known.0.identifier
-    ∙ sym (declared-kept past (identifier_of past name)) in
+    some-kept signal ∙ ap is_some known.0.identifier in
     rw (head, known-declared past names signals (omega (arith, same)) known.1) refl
 
 not-both : (a : Bool) → (a && false) ≡ false
@@ -141,7 +135,7 @@ pub known-undeclared : (past : List Statement) (names : List (List ℕ)) (signal
 known-undeclared past [] signals other known = absurd (other (ap length known))
 known-undeclared past (name ∷ names) [] other known =
     let none : is_declared past name ≡ false =
-    ap (λ o. value_of (change [] true ∷ []) (option_map (λ _. []) o)) known.0 in
+    ap is_some known.0 in
     rw none refl
 known-undeclared past (name ∷ names) (signal ∷ signals) other known =
     rw (known-undeclared past names signals (λ same. other (ap suc same)) known.1)

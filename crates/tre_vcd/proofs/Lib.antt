@@ -1,3 +1,4 @@
+mod Deciding
 mod Knowing
 mod Naming
 mod Reading

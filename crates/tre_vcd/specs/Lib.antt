@@ -1,5 +1,6 @@
 -- What a reader must believe.
 pub mod VcdReading
+pub mod Deciding
 -- What the functions inside promise each other.
 pub mod Kept
 pub mod Sections

@@ -3,7 +3,7 @@ use Rattle.std.specs.Prelude.{ℕ, ◌+◌, ◌-◌, ◌^◌, nat_le, nat_lt, Bo
 use Rattle.std.specs.List.{list_all, list_any}
 use Rattle.std.specs.Str.{bytes_eq}
 use Rattle.std.specs.Str.Parse.{digits_value}
-use Rattle.std.specs.Option.{option_map}
+use Rattle.std.specs.Option.{is_some}
 use Rattle.tre_pairs.specs.declared.TheConstants.{TIME_MAX}
 use Rattle.tre_parts.specs.Numeral.{is_numeral}
 use Rattle.tre_parts.specs.Format.{Format, Step, reading_of}
@@ -118,9 +118,9 @@ valuation_from past i (name ∷ names) =
     (if value_of past (identifier_of past name) then 2 ^ i else 0) + valuation_from past (i + 1)
     names
 
+-- the proposition of this name has a declaration
 abbrev pub is_declared : List Statement → List ℕ → Bool
-is_declared past name = value_of (change [] true ∷ [])
-    (option_map (λ _. []) (identifier_of past name))
+is_declared past name = is_some (identifier_of past name)
 
 -- ---- what a token says
 

@@ -1,9 +1,10 @@
 //! Laws of the format, each as a function whose contract it is.
 
-ghost use Rattle.std.specs.Prelude.{ℕ, Bool, false, List, ◌++◌};
+ghost use Rattle.std.specs.Prelude.{◌≡◌, ◌↔◌, ℕ, Bool, true, false, None, Some, List, ◌∷◌, ◌++◌, IsBitSet};
 ghost use Rattle.tre_trace.specs.Reading.{Grows};
 ghost use Rattle.tre_trace.specs.Trace.{IsTrace};
-ghost use Rattle.tre_vcd.specs.VcdReading.{vcd_reading};
+ghost use Rattle.tre_vcd.specs.Deciding.{Keeps, LastChange, Leaves, FirstDeclaration, IsHigh};
+ghost use Rattle.tre_vcd.specs.VcdReading.{vcd_reading, path, Statement, value_at, identifier_of, valuation_from};
 
 /// What is read of a dump is a trace, and nothing is taken back when more bytes come.
 pub fn reading()
@@ -11,4 +12,36 @@ pub fn reading()
         IsTrace (vcd_reading names closed bytes).segments }
     ensures grows { (names : List (List ℕ)) (closed : Bool) (first more : List ℕ) →
         Grows (vcd_reading names false first) (vcd_reading names closed (first ++ more)) }
+{}
+
+/// The path of what stands in a scope is that of the scope, a full stop and its own name.
+pub fn paths()
+    ensures { (scopes : List (List ℕ)) (name reference : List ℕ) →
+        path (name ∷ scopes) reference ≡ path scopes name ++ 46 ∷ reference }
+{}
+
+/// An identifier has the value of its last change, and is false where it has none.
+pub fn changes()
+    ensures last { (past : List Statement) (identifier : List ℕ) (value : Bool) →
+        LastChange past identifier value → value_at past identifier ≡ value }
+    ensures none { (past : List Statement) (identifier : List ℕ) →
+        Keeps identifier past → value_at past identifier ≡ false }
+    ensures high { (past : List Statement) (identifier : List ℕ) →
+        value_at past identifier ≡ true → LastChange past identifier true }
+{}
+
+/// A proposition has the identifier of the first declaration of its name, and none where there is
+/// no such declaration.
+pub fn declarations()
+    ensures first { (past : List Statement) (name identifier : List ℕ) →
+        FirstDeclaration past name identifier ↔ (identifier_of past name ≡ Some identifier) }
+    ensures none { (past : List Statement) (name : List ℕ) →
+        Leaves name past → identifier_of past name ≡ None }
+{}
+
+/// On a segment exactly those propositions are true that are declared, and whose identifier changed
+/// last to true.
+pub fn valuations()
+    ensures { (past : List Statement) (names : List (List ℕ)) (i : ℕ) →
+        IsBitSet (valuation_from past 0 names) i ↔ IsHigh past names i }
 {}
