@@ -7,12 +7,12 @@ use Rattle.tre_state.specs.Name.{starts_name}
 use Rattle.tre_syntax.specs.PatternTree.{PatternTree}
 use Rattle.tre_parse.specs.declared.lexeme.Lexeme.{Lexeme}
 use Rattle.tre_parse.specs.declared.lexeme.Lexeme.TheVariants.{Blank, Wrong, Name, Sign}
-use Rattle.tre_parse.specs.Lexeme.{is_blank, word_lexeme, number_lexeme, sign_lexeme, lexeme_of}
+use Rattle.tre_parse.specs.Lexeme.{is_blank, word_lexeme, number_lexeme, sign_lexeme, lexeme_of, FitsIn}
 use Rattle.tre_parse.specs.Tokens.{RawToken, name, sign, RawTokenAt, RawTokens, nothing_left, raw_tokens_from, scanned, with_raw_token, token_of, known_after, tokens_from, names_from, raw_tokens_of, bad_byte}
 use Rattle.tre_parse.specs.Grammar.{expr, Spells}
 use Rattle.tre_parse.specs.Outcome.{IsSpelling}
 use Rattle.tre_parse.specs.Blanks.{counted_on, SaysAs}
-use Rattle.tre_parse.proofs.Fronts.{take_front, lexeme_front, EndsWithin, lexeme_within}
+use Rattle.tre_parse.proofs.Fronts.{take_front, lexeme_front, lexeme_fits}
 
 -- The words of two texts, one after the other: where the first has a bad byte, the second isn't reached.
 abbrev joined_at : List RawTokenAt → Option ℕ → RawTokens → RawTokens
@@ -27,16 +27,16 @@ joined_word : (at : ℕ) (word : RawToken) (raw_tokens : List RawTokenAt) (bad :
 joined_word at word raw_tokens (Some b) second = refl
 joined_word at word raw_tokens None second = refl
 
-joined_scan : (lexeme : Lexeme) (at : ℕ) (xs rest : List ℕ) (long short : ℕ → RawTokens) (second : RawTokens) → 1 ≤ length xs → EndsWithin (length xs) lexeme →
+joined_scan : (lexeme : Lexeme) (at : ℕ) (xs rest : List ℕ) (long short : ℕ → RawTokens) (second : RawTokens) → 1 ≤ length xs → FitsIn (length xs) lexeme →
     ((k : ℕ) → k + 1 ≤ length xs → long k ≡ joined (short k) second) → scanned lexeme at (xs ++ rest) long ≡ joined (scanned lexeme at xs short) second
 joined_scan Blank at xs rest long short second some h go = go 0 some
 joined_scan Wrong at xs rest long short second some h go = refl
 joined_scan (Name len) at xs rest long short second some h go =
-    ap (λ w. with_raw_token at (name w) (long (len - 1))) (take_front len xs rest h)
-    ∙ ap (with_raw_token at (name (take len xs))) (go (len - 1) (omega arith))
+    ap (λ w. with_raw_token at (name w) (long (len - 1))) (take_front len xs rest h.1)
+    ∙ ap (with_raw_token at (name (take len xs))) (go (len - 1) (omega (arith, h.0, h.1)))
     ∙ joined_word at (name (take len xs)) (short (len - 1)).raw_tokens (short (len - 1)).bad second
 joined_scan (Sign token len) at xs rest long short second some h go =
-    ap (with_raw_token at (sign token)) (go (len - 1) (omega arith))
+    ap (with_raw_token at (sign token)) (go (len - 1) (omega (arith, h.0, h.1)))
     ∙ joined_word at (sign token) (short (len - 1)).raw_tokens (short (len - 1)).bad second
 
 lexed_blank : (at : ℕ) (c : ℕ) (ys : List ℕ) → is_blank c ≡ true → raw_tokens_from 0 at (c ∷ ys) ≡ raw_tokens_from 0 (at + 1) ys
@@ -56,7 +56,7 @@ lexed_parts zero at (x ∷ xs) c ys h le =
     let second = raw_tokens_from 0 (at + (length (x ∷ xs) + 1)) ys in
     ap (λ l. scanned l at (x ∷ (xs ++ c ∷ ys)) (λ skip. raw_tokens_from skip (at + 1) (xs ++ c ∷ ys))) (lexeme_front x xs c ys h)
     ∙ joined_scan (lexeme_of (x ∷ xs)) at (x ∷ xs) (c ∷ ys) (λ skip. raw_tokens_from skip (at + 1) (xs ++ c ∷ ys)) (λ skip. raw_tokens_from skip (at + 1) xs) second
-    (omega arith) (lexeme_within (x ∷ xs))
+    (omega arith) (lexeme_fits (x ∷ xs) (omega arith))
     (λ k le. lexed_parts k (at + 1) xs c ys h (omega arith) ∙ ap (λ n. joined (raw_tokens_from k (at + 1) xs) (raw_tokens_from 0 n ys)) e)
 
 -- The words of a text that begins so many bytes further on.

@@ -1,6 +1,6 @@
 -- How many nodes joined trees have.
 use Rattle.std.proofs.Common.{◌≡◌, ℕ, ◌+◌, zero, suc, Bool, true, false, Option, Some, None, inl, inr, refl, sym, ◌∙◌, ap, add-one, arith, subst}
-use Rattle.std.specs.Prelude.{IfSome}
+use Rattle.std.specs.Prelude.{IfSome, IsSome}
 use Rattle.std.specs.Option.{option_zip}
 use Rattle.std.proofs.lemmas.Bool.{cases_lt}
 use Rattle.tre_syntax.specs.declared.pattern.TheConstants.{NODES_MAX}
@@ -11,8 +11,14 @@ use Rattle.tre_parse.specs.declared.connective.Connective.{Connective}
 use Rattle.tre_parse.specs.declared.connective.Connective.TheVariants.{And, Or}
 use Rattle.tre_parse.specs.declared.connective.Join.{Join}
 use Rattle.tre_parse.specs.declared.connective.Join.TheVariants.{Sequence, Intersection, Alternation}
+use Rattle.tre_parse.specs.declared.counted.Counted.{Counted}
+use Rattle.tre_parse.specs.Operands.{Counts}
 use Rattle.tre_parse.specs.Joins.{negated, edge_of}
 use Rattle.tre_parse.specs.Joins.{connected, joined_by, Keeps}
+
+-- A tree of one node.
+pub leaf_counts : {T : Type 0} {P : T → Type 0} {F : Type 0} (counted : Counted T) (x : T) → counted.nodes ≡ 1 → counted.tree ≡ Some x → P x → Counts counted 1 P F
+leaf_counts {P = P} counted x n t h = record { nodes = n; same = subst (λ o. IfSome o P) (sym t) h; built = λ small fine. subst IsSome (sym t) refl }
 
 pub connected_count : (how : Connective) (s t : StateTree) → state.node_count (connected how s t) ≡ 1 + state.node_count s + state.node_count t
 connected_count And s t = refl

@@ -1,17 +1,19 @@
 -- A token that begins before a blank ends before it, and doesn't depend on what follows.
-use Rattle.std.proofs.Common.{◌≡◌, ℕ, ◌+◌, ◌≤◌, zero, suc, Bool, true, false, cond, ◌&&◌, Option, Some, None, List, [], ◌∷◌, ◌++◌, length, take, refl, ◌∙◌, ap, arith}
-use Rattle.std.specs.Prelude.{◌==◌, if◌then◌else◌, min}
-use Rattle.std.specs.List.{prefix_len, take_while}
+use Rattle.std.proofs.Common.{◌≡◌, ℕ, ◌+◌, ◌≤◌, ◌<◌, zero, suc, Bool, true, false, cond, ◌&&◌, Option, Some, None, List, [], ◌∷◌, ◌++◌, length, take, refl, sym, ◌∙◌, ap, arith}
+use Rattle.std.specs.Prelude.{if◌then◌else◌, min, nat_eq}
+use Rattle.std.specs.List.{prefix_len, take_while, starts_with}
 use Rattle.std.specs.Char.{is_ascii_digit}
 use Rattle.std.proofs.lemmas.Bool.Decides.{nat_tests}
 use Rattle.std.proofs.lemmas.List.Sums.{prefix_len-le-length}
 use Rattle.tre_pairs.specs.declared.TheConstants.{TIME_MAX}
 use Rattle.tre_state.specs.Name.{starts_name, continues_name}
 use Rattle.tre_parse.specs.declared.token.Token.{Token}
-use Rattle.tre_parse.specs.declared.token.Token.TheVariants.{Number, DoubleBar, DoubleAmpersand, Begins, Ends}
+use Rattle.tre_parse.specs.declared.token.Token.TheVariants.{Number}
 use Rattle.tre_parse.specs.declared.lexeme.Lexeme.{Lexeme}
 use Rattle.tre_parse.specs.declared.lexeme.Lexeme.TheVariants.{Blank, Name, Sign}
-use Rattle.tre_parse.specs.Lexeme.{is_blank, reserved, named, word_lexeme, decimal, number_lexeme, signed, sign_lexeme, lexeme_of, double_sign, bracket, single_sign}
+use Rattle.tre_parse.specs.Lexeme.{is_blank, reserved, named, first_sign, word_lexeme, decimal, number_lexeme, sign_lexeme, lexeme_of, FitsIn}
+use Rattle.tre_parse.specs.declared.lexeme.TheConstants.{SIGNS}
+use Rattle.tre_parse.proofs.Table.{Each}
 
 -- No word and no number goes on with a blank, and no sign of two bytes has one.
 blank_ends_word : (c : ℕ) → is_blank c ≡ true → continues_name c ≡ false
@@ -19,19 +21,6 @@ blank_ends_word c h = grind (arith, nat_tests)
 
 blank_ends_number : (c : ℕ) → is_blank c ≡ true → is_ascii_digit c ≡ false
 blank_ends_number c h = grind (arith, nat_tests)
-
-no_double : (a b c d : Bool) → a ≡ false → b ≡ false → c ≡ false → d ≡ false →
-    (if a then Some DoubleBar else (if b then Some DoubleAmpersand else (if c then Some Begins else (if d then Some Ends else None)))) ≡ None
-no_double false false false false _ _ _ _ = refl
-no_double true b c d h _ _ _ = absurd (cc)
-no_double false true c d _ h _ _ = absurd (cc)
-no_double false false true d _ _ h _ = absurd (cc)
-no_double false false false true _ _ _ h = absurd (cc)
-
-blank_ends_sign : (z c : ℕ) → is_blank c ≡ true → double_sign z c ≡ None
-blank_ends_sign z c h =
-    no_double (z == 124 && c == 124) (z == 38 && c == 38) (z == 60 && c == 58) (z == 58 && c == 62)
-    (grind (arith, nat_tests)) (grind (arith, nat_tests)) (grind (arith, nat_tests)) (grind (arith, nat_tests))
 
 -- What begins before a blank doesn't depend on what follows.
 prefix_ends : (p : ℕ → Bool) (xs : List ℕ) (c : ℕ) (ys : List ℕ) → p c ≡ false → prefix_len p (xs ++ c ∷ ys) ≡ prefix_len p xs
@@ -59,54 +48,87 @@ number_front xs c ys h =
     ap (λ n. Sign (Number (min (decimal (take_while is_ascii_digit (xs ++ c ∷ ys))) (TIME_MAX + 1))) n) (prefix_ends is_ascii_digit xs c ys ends)
     ∙ ap (λ w. Sign (Number (min (decimal w) (TIME_MAX + 1))) (prefix_len is_ascii_digit xs)) (take_while_ends is_ascii_digit xs c ys ends)
 
-sign_front : (z : ℕ) (xs : List ℕ) (c : ℕ) (ys : List ℕ) → is_blank c ≡ true → sign_lexeme (z ∷ (xs ++ c ∷ ys)) ≡ sign_lexeme (z ∷ xs)
-sign_front z [] c ys h = ap (λ o. signed o (bracket z) (single_sign z)) (blank_ends_sign z c h)
-sign_front z (x ∷ xs) c ys h = refl
+-- The text of a sign has no blank.
+abbrev no_blank : List ℕ → Bool
+no_blank [] = true
+no_blank (b ∷ bs) = cond (is_blank b) false (no_blank bs)
+
+other_byte : (b c : ℕ) → is_blank b ≡ false → is_blank c ≡ true → nat_eq b c ≡ false
+other_byte b c h k = grind (arith, nat_tests)
+
+past_blank : (b : ℕ) (more : Bool) → cond (is_blank b) false more ≡ true → (is_blank b ≡ false) × (more ≡ true)
+past_blank b more e = by (is_blank b) more refl e
+  where
+    by : (is more : Bool) → is ≡ is_blank b → cond is false more ≡ true → (is_blank b ≡ false) × (more ≡ true)
+    by true more q e = absurd (cc)
+    by false more q e = (sym q, e)
+
+text_front : (sign xs : List ℕ) (c : ℕ) (ys : List ℕ) → is_blank c ≡ true → no_blank sign ≡ true → starts_with nat_eq (xs ++ c ∷ ys) sign ≡ starts_with nat_eq xs sign
+text_front [] xs c ys h e = refl
+text_front (b ∷ bs) [] c ys h e = ap (λ t. t && starts_with nat_eq ys bs) (other_byte b c (past_blank b (no_blank bs) e).0 h)
+text_front (b ∷ bs) (x ∷ xs) c ys h e = ap (λ t. nat_eq b x && t) (text_front bs xs c ys h (past_blank b (no_blank bs) e).1)
+
+sign_front : {A : Type 0} (text : A → List ℕ) (token : A → Token) (signs : List A) (xs : List ℕ) (c : ℕ) (ys : List ℕ) → is_blank c ≡ true → Each (λ s. no_blank (text s) ≡ true) signs →
+    first_sign text token signs (xs ++ c ∷ ys) ≡ first_sign text token signs xs
+sign_front text token [] xs c ys h e = refl
+sign_front text token (s ∷ more) xs c ys h e =
+    ap (λ t. cond t (Sign (token s) (length (text s))) (first_sign text token more (xs ++ c ∷ ys))) (text_front (text s) xs c ys h e.0)
+    ∙ ap (λ l. cond (starts_with nat_eq xs (text s)) (Sign (token s) (length (text s))) l) (sign_front text token more xs c ys h e.1)
+
+signs_front : (xs : List ℕ) (c : ℕ) (ys : List ℕ) → is_blank c ≡ true → sign_lexeme (xs ++ c ∷ ys) ≡ sign_lexeme xs
+signs_front xs c ys h = sign_front (λ sign. sign.0.now) (λ sign. sign.1) SIGNS xs c ys h (refl, (refl, (refl, (refl, (refl, (refl, (refl, (refl, (refl, (refl, (refl, (refl, (refl, (refl, (refl, (refl, (refl, (refl, (refl, tt)))))))))))))))))))
 
 pub lexeme_front : (z : ℕ) (xs : List ℕ) (c : ℕ) (ys : List ℕ) → is_blank c ≡ true → lexeme_of (z ∷ (xs ++ c ∷ ys)) ≡ lexeme_of (z ∷ xs)
 lexeme_front z xs c ys h =
     let long = z ∷ (xs ++ c ∷ ys) in
     ap (λ l. if is_blank z then Blank else (if starts_name z then l else (if is_ascii_digit z then number_lexeme long else sign_lexeme long))) (word_front (z ∷ xs) c ys h)
     ∙ ap (λ l. if is_blank z then Blank else (if starts_name z then word_lexeme (z ∷ xs) else (if is_ascii_digit z then l else sign_lexeme long))) (number_front (z ∷ xs) c ys h)
-    ∙ ap (λ l. if is_blank z then Blank else (if starts_name z then word_lexeme (z ∷ xs) else (if is_ascii_digit z then number_lexeme (z ∷ xs) else l))) (sign_front z xs c ys h)
+    ∙ ap (λ l. if is_blank z then Blank else (if starts_name z then word_lexeme (z ∷ xs) else (if is_ascii_digit z then number_lexeme (z ∷ xs) else l))) (signs_front (z ∷ xs) c ys h)
 
--- A lexeme never goes past the end.
-abbrev pub EndsWithin : ℕ → Lexeme → Type 0
-EndsWithin available (Name len) = len ≤ available
-EndsWithin available (Sign token len) = len ≤ available
-EndsWithin available _ = Unit {0}
+-- A lexeme takes at least one byte, and never goes past the end.
+named_fits : (available n : ℕ) (o : Option Token) → 0 < n → n ≤ available → FitsIn available (named n o)
+named_fits available n None some h = (some, h)
+named_fits available n (Some t) some h = (some, h)
 
-named_within : (available n : ℕ) (o : Option Token) → n ≤ available → EndsWithin available (named n o)
-named_within available n None h = h
-named_within available n (Some t) h = h
+text_within : (sign xs : List ℕ) → starts_with nat_eq xs sign ≡ true → length sign ≤ length xs
+text_within [] xs e = omega arith
+text_within (b ∷ bs) [] e = absurd (cc)
+text_within (b ∷ bs) (x ∷ xs) e = omega (arith, text_within bs xs (second (nat_eq b x) _ e))
+  where
+    second : (a b : Bool) → a && b ≡ true → b ≡ true
+    second true b e = e
+    second false b e = absurd (cc)
 
-signed_within : (available : ℕ) (a b c : Option Token) → 2 ≤ available → EndsWithin available (signed a b c)
-signed_within available (Some t) b c h = h
-signed_within available None (Some t) c h = omega arith
-signed_within available None None (Some t) h = omega arith
-signed_within available None None None h = tt
+first_fits : {A : Type 0} (text : A → List ℕ) (token : A → Token) (signs : List A) (xs : List ℕ) → 1 ≤ length xs → Each (λ s. 0 < length (text s)) signs →
+    FitsIn (length xs) (first_sign text token signs xs)
+first_fits text token [] xs some h = some
+first_fits text token (s ∷ more) xs some h = by (first_fits text token more xs some h.1) (starts_with nat_eq xs (text s)) refl
+  where
+    by : FitsIn (length xs) (first_sign text token more xs) → (is : Bool) → is ≡ starts_with nat_eq xs (text s) →
+        FitsIn (length xs) (cond is (Sign (token s) (length (text s))) (first_sign text token more xs))
+    by next true q = (h.0, text_within (text s) xs (sym q))
+    by next false q = next
 
-single_within : (b c : Option Token) → EndsWithin 1 (signed None b c)
-single_within (Some t) c = omega arith
-single_within None (Some t) = omega arith
-single_within None None = tt
+pub sign_fits : (xs : List ℕ) → 1 ≤ length xs → FitsIn (length xs) (sign_lexeme xs)
+sign_fits xs some = first_fits (λ sign. sign.0.now) (λ sign. sign.1) SIGNS xs some ((omega arith, (omega arith, (omega arith, (omega arith, (omega arith, (omega arith, (omega arith, (omega arith, (omega arith, (omega arith, (omega arith, (omega arith, (omega arith, (omega arith, (omega arith, (omega arith, (omega arith, (omega arith, (omega arith, tt))))))))))))))))))))
 
-sign_within : (xs : List ℕ) → EndsWithin (length xs) (sign_lexeme xs)
-sign_within [] = tt
-sign_within (b ∷ []) = single_within (bracket b) (single_sign b)
-sign_within (b ∷ c ∷ rest) = signed_within (length (b ∷ c ∷ rest)) (double_sign b c) (bracket b) (single_sign b) (omega arith)
+first_passes : (p : ℕ → Bool) (x : ℕ) (xs : List ℕ) → p x ≡ true → 0 < prefix_len p (x ∷ xs)
+first_passes p x xs h = let n = ap (λ t. cond t (1 + prefix_len p xs) 0) h in omega (arith, n)
 
-first_within : (available : ℕ) (blank starts digit : Bool) (word number other : Lexeme) → EndsWithin available word → EndsWithin available number → EndsWithin available other →
-    EndsWithin available (if blank then Blank else (if starts then word else (if digit then number else other)))
-first_within available true starts digit word number other h k m = tt
-first_within available false true digit word number other h k m = h
-first_within available false false true word number other h k m = k
-first_within available false false false word number other h k m = m
+fits_by : (available : ℕ) (blank starts digit : Bool) (word number other : Lexeme) → 1 ≤ available → (starts ≡ true → FitsIn available word) → (digit ≡ true → FitsIn available number) →
+    FitsIn available other → FitsIn available (if blank then Blank else (if starts then word else (if digit then number else other)))
+fits_by available true starts digit word number other some h k m = some
+fits_by available false true digit word number other some h k m = h refl
+fits_by available false false true word number other some h k m = k refl
+fits_by available false false false word number other some h k m = m
 
-pub lexeme_within : (xs : List ℕ) → EndsWithin (length xs) (lexeme_of xs)
-lexeme_within [] = tt
-lexeme_within (z ∷ zs) =
+starts_continues : (b : ℕ) → starts_name b ≡ true → continues_name b ≡ true
+starts_continues b h = grind (arith, nat_tests)
+
+pub lexeme_fits : (xs : List ℕ) → 0 < length xs → FitsIn (length xs) (lexeme_of xs)
+lexeme_fits [] some = absurd (omega arith)
+lexeme_fits (z ∷ zs) some =
     let xs = z ∷ zs in
-    first_within (length xs) (is_blank z) (starts_name z) (is_ascii_digit z) (word_lexeme xs) (number_lexeme xs) (sign_lexeme xs)
-    (named_within (length xs) (prefix_len continues_name xs) (reserved (take_while continues_name xs)) (prefix_len-le-length continues_name xs))
-    (prefix_len-le-length is_ascii_digit xs) (sign_within xs)
+    fits_by (length xs) (is_blank z) (starts_name z) (is_ascii_digit z) (word_lexeme xs) (number_lexeme xs) (sign_lexeme xs) (omega arith)
+    (λ q. named_fits (length xs) (prefix_len continues_name xs) (reserved (take_while continues_name xs)) (first_passes continues_name z zs (starts_continues z q)) (prefix_len-le-length continues_name xs))
+    (λ q. (first_passes is_ascii_digit z zs q, prefix_len-le-length is_ascii_digit xs)) (sign_fits xs (omega arith))

@@ -22,7 +22,7 @@ use Rattle.tre_parse.specs.Tokens.{earlier, bad_byte}
 use Rattle.tre_parse.specs.Scan.{IsScan}
 use Rattle.tre_parse.specs.Numbering.{IsNumberedByUse}
 use Rattle.tre_parse.specs.Outcome.{Outcome, spelt, refused, TextTokens, text_tokens_of, offset_of, is_big, byte_fault, limit_fault, NoneEmpty, past_or, limited_outcome, IsOutcomeOfTokens, IsOutcomeWithin, IsOutcome}
-use Rattle.tre_parse.specs.Answers.{Answers, IsAnswered, text_tokens_in, IsFaultOf, IsRepresented, IsBuildable}
+use Rattle.tre_parse.specs.Answers.{Answers, text_tokens_in, IsFaultOf, IsRepresented, IsBuildable}
 use Rattle.tre_parse.proofs.Numbers.{counts_alike}
 use Rattle.tre_parse.proofs.NumberedWords.{text_numbered}
 use Rattle.tre_parse.proofs.Fine.{none_big, stand_fine, fine_intervals}
@@ -132,7 +132,7 @@ answers_text text scan (Err fault) le s (inr h) =
     inr (words_outcome text _ (good_bytes text le s.good) (subst P (same_words text scan s) h))
 
 -- The outcome is what is answered.
-pub answered : (text : List ℕ) (outcome : Outcome) (result : Result Pattern ParseFault) → Answers (IsOutcome text) result → IsOutcome text outcome → IsAnswered outcome result
+pub answered : (text : List ℕ) (outcome : Outcome) (result : Result Pattern ParseFault) → Answers (IsOutcome text) result → IsOutcome text outcome → Answers (λ answer. outcome ≡ answer) result
 answered text outcome (Ok pattern) h k = outcome_once text outcome _ k h
 answered text outcome (Err fault) (inl h) k = inl h
 answered text outcome (Err fault) (inr h) k = inr (outcome_once text outcome _ k h)

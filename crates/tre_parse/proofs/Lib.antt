@@ -26,5 +26,5 @@ pub mod ExpressionSteps
 pub mod Prefixes
 pub mod SyntaxFaults
 pub mod Depth
-pub mod LongestSign
+pub mod Table
 pub mod NameNumbers

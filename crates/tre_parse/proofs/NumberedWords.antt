@@ -1,7 +1,7 @@
 -- The words of a text number its names by first use from the left.
-use Rattle.std.proofs.Common.{◌≡◌, ℕ, ◌+◌, ◌-◌, zero, suc, Bool, true, false, ◌&&◌, Option, Some, None, List, [], ◌∷◌, ◌++◌, length, refl, sym, ◌∙◌, ap, length-append}
-use Rattle.std.specs.Prelude.{nat_lt, ◌==◌, if◌then◌else◌, is_none, unwrap_or, IfSome, codes}
-use Rattle.std.specs.List.{take_while}
+use Rattle.std.proofs.Common.{◌≡◌, ℕ, ◌+◌, ◌-◌, zero, suc, Bool, true, false, cond, ◌&&◌, Option, Some, None, List, [], ◌∷◌, ◌++◌, length, refl, sym, ◌∙◌, ap, length-append}
+use Rattle.std.specs.Prelude.{nat_lt, nat_eq, if◌then◌else◌, is_none, unwrap_or, IfSome, codes}
+use Rattle.std.specs.List.{take_while, starts_with}
 use Rattle.std.specs.Str.{bytes_eq}
 use Rattle.std.specs.Char.{is_ascii_digit}
 use Rattle.std.proofs.lemmas.List.Quantifiers.{position-Some}
@@ -12,10 +12,12 @@ use Rattle.tre_state.proofs.Places.{place_of-push}
 use Rattle.tre_syntax.specs.PatternTree.{seen_after}
 use Rattle.tre_syntax.proofs.FirstUses.{seen_old, seen_new}
 use Rattle.tre_parse.specs.declared.token.Token.{Token}
-use Rattle.tre_parse.specs.declared.token.Token.TheVariants.{Name as Numbered, LeftParen, RightParen, LeftBracket, RightBracket, LeftBrace, RightBrace, Comma, Semicolon, Bar, DoubleBar, Ampersand, DoubleAmpersand, Bang, Star, Plus, Question, Percent, Begins, Ends, Eps, Rise, Fall, Inf, True, Event}
+use Rattle.tre_parse.specs.declared.token.Token.TheVariants.{Name as Numbered, Eps, Rise, Fall, Inf, True, Event}
 use Rattle.tre_parse.specs.declared.lexeme.Lexeme.{Lexeme}
 use Rattle.tre_parse.specs.declared.lexeme.Lexeme.TheVariants.{Blank, Wrong, Name, Sign}
-use Rattle.tre_parse.specs.Lexeme.{is_blank, reserved, named, word_lexeme, number_lexeme, signed, sign_lexeme, lexeme_of, double_sign, bracket, single_sign}
+use Rattle.tre_parse.specs.Lexeme.{is_blank, reserved, named, first_sign, word_lexeme, number_lexeme, sign_lexeme, lexeme_of}
+use Rattle.tre_parse.specs.declared.lexeme.TheConstants.{SIGNS}
+use Rattle.tre_parse.proofs.Table.{Each}
 use Rattle.tre_parse.specs.Tokens.{RawToken, name, sign, RawTokenAt, RawTokens, raw_tokens_from, scanned, token_of, known_after, tokens_from, names_from, past_from, is_past, raw_tokens_of}
 use Rattle.tre_parse.specs.Numbering.{numbers_in, IsNumberedByUse}
 use Rattle.tre_parse.specs.Outcome.{text_tokens_of}
@@ -38,43 +40,6 @@ reserved_no_name : (word : List ℕ) → IfSome (reserved word) IsNoName
 reserved_no_name word =
     reserved_by (bytes_eq (codes "eps") word) (bytes_eq (codes "rise") word) (bytes_eq (codes "fall") word) (bytes_eq (codes "inf") word) (bytes_eq (codes "true") word) (bytes_eq (codes "event") word)
 
-double_by : (a b c d : Bool) → IfSome (if a then Some DoubleBar else (if b then Some DoubleAmpersand else (if c then Some Begins else (if d then Some Ends else None)))) IsNoName
-double_by true _ _ _ = tt
-double_by false true _ _ = tt
-double_by false false true _ = tt
-double_by false false false true = tt
-double_by false false false false = tt
-
-double_no_name : (a b : ℕ) → IfSome (double_sign a b) IsNoName
-double_no_name a b = double_by (a == 124 && b == 124) (a == 38 && b == 38) (a == 60 && b == 58) (a == 58 && b == 62)
-
-bracket_by : (a b c d e f : Bool) → IfSome (if a then Some LeftParen else (if b then Some RightParen else (if c then Some LeftBracket else (if d then Some RightBracket else (if e then Some LeftBrace else (if f then Some RightBrace else None)))))) IsNoName
-bracket_by true _ _ _ _ _ = tt
-bracket_by false true _ _ _ _ = tt
-bracket_by false false true _ _ _ = tt
-bracket_by false false false true _ _ = tt
-bracket_by false false false false true _ = tt
-bracket_by false false false false false true = tt
-bracket_by false false false false false false = tt
-
-bracket_no_name : (b : ℕ) → IfSome (bracket b) IsNoName
-bracket_no_name b = bracket_by (b == 40) (b == 41) (b == 91) (b == 93) (b == 123) (b == 125)
-
-single_by : (a b c d e f g h i : Bool) → IfSome (if a then Some Comma else (if b then Some Semicolon else (if c then Some Bar else (if d then Some Ampersand else (if e then Some Bang else (if f then Some Star else (if g then Some Plus else (if h then Some Question else (if i then Some Percent else None))))))))) IsNoName
-single_by true _ _ _ _ _ _ _ _ = tt
-single_by false true _ _ _ _ _ _ _ = tt
-single_by false false true _ _ _ _ _ _ = tt
-single_by false false false true _ _ _ _ _ = tt
-single_by false false false false true _ _ _ _ = tt
-single_by false false false false false true _ _ _ = tt
-single_by false false false false false false true _ _ = tt
-single_by false false false false false false false true _ = tt
-single_by false false false false false false false false true = tt
-single_by false false false false false false false false false = tt
-
-single_no_name : (b : ℕ) → IfSome (single_sign b) IsNoName
-single_no_name b = single_by (b == 44) (b == 59) (b == 124) (b == 38) (b == 33) (b == 42) (b == 43) (b == 63) (b == 37)
-
 abbrev SaysNoName : Lexeme → Type 0
 SaysNoName (Sign token len) = IsNoName token
 SaysNoName _ = Unit {0}
@@ -83,16 +48,16 @@ named_no_name : (n : ℕ) (o : Option Token) → IfSome o IsNoName → SaysNoNam
 named_no_name n None h = tt
 named_no_name n (Some t) h = h
 
-signed_no_name : (a b c : Option Token) → IfSome a IsNoName → IfSome b IsNoName → IfSome c IsNoName → SaysNoName (signed a b c)
-signed_no_name (Some t) b c h k m = h
-signed_no_name None (Some t) c h k m = k
-signed_no_name None None (Some t) h k m = m
-signed_no_name None None None h k m = tt
+first_no_name : {A : Type 0} (text : A → List ℕ) (token : A → Token) (signs : List A) (xs : List ℕ) → Each (λ s. IsNoName (token s)) signs → SaysNoName (first_sign text token signs xs)
+first_no_name text token [] xs h = tt
+first_no_name text token (s ∷ more) xs h = by (first_no_name text token more xs h.1) (starts_with nat_eq xs (text s))
+  where
+    by : SaysNoName (first_sign text token more xs) → (is : Bool) → SaysNoName (cond is (Sign (token s) (length (text s))) (first_sign text token more xs))
+    by next true = h.0
+    by next false = next
 
 sign_no_name : (rest : List ℕ) → SaysNoName (sign_lexeme rest)
-sign_no_name [] = tt
-sign_no_name (b ∷ []) = signed_no_name None (bracket b) (single_sign b) tt (bracket_no_name b) (single_no_name b)
-sign_no_name (b ∷ c ∷ rest) = signed_no_name (double_sign b c) (bracket b) (single_sign b) (double_no_name b c) (bracket_no_name b) (single_no_name b)
+sign_no_name rest = first_no_name (λ sign. sign.0.now) (λ sign. sign.1) SIGNS rest ((tt, (tt, (tt, (tt, (tt, (tt, (tt, (tt, (tt, (tt, (tt, (tt, (tt, (tt, (tt, (tt, (tt, (tt, (tt, tt))))))))))))))))))))
 
 lexeme_by : (blank starts digit : Bool) (word number other : Lexeme) → SaysNoName word → SaysNoName number → SaysNoName other →
     SaysNoName (if blank then Blank else (if starts then word else (if digit then number else other)))

@@ -9,7 +9,7 @@ use Rattle.tre_parse.specs.declared.token.Token.TheVariants.{Name, LeftParen, Ri
 use Rattle.tre_parse.specs.Grammar as grammar
 use Rattle.tre_parse.specs.Grammar.{StateRule, lit, state, conj, neg, SpellsState, SpellsInterval, Rule, expr, meet, seq, post, primary, Spells}
 use Rattle.tre_parse.specs.Begins as begin
-use Rattle.tre_parse.specs.Begins.{BeginsState, BeginsInterval, Begins}
+use Rattle.tre_parse.specs.Begins.{BeginsState, BeginsInterval, Begins, IsCompletable}
 
 -- Two splits of one list: the first front lies in the second, or goes past it.
 pub data Fronts (xs ys us vs : List Token) : Type 0 where
@@ -69,7 +69,7 @@ one_token P first xs ys e none whole =
     after_first P first [] xs ys e none (λ ws f. let Q = λ (ts : List Token). P (first ∷ ts) in subst Q (sym (nothing_left ws ys f)) whole)
 
 -- Each front of what is spelt begins the rule.
-state_front : (r : StateRule) (ts : List Token) (s : StateTree) → SpellsState r ts s → (xs ys : List Token) → ts ≡ xs ++ ys → BeginsState r xs
+pub state_front : (r : StateRule) (ts : List Token) (s : StateTree) → SpellsState r ts s → (xs ys : List Token) → ts ≡ xs ++ ys → BeginsState r xs
 state_front _ _ _ (grammar.lit_name i) xs ys e = one_token (BeginsState lit) (Name i) xs ys e (begin.none lit) (begin.lit_whole _ _ (grammar.lit_name i))
 state_front _ _ _ grammar.lit_true xs ys e = one_token (BeginsState lit) True xs ys e (begin.none lit) (begin.lit_whole _ _ grammar.lit_true)
 state_front _ _ _ (grammar.lit_braces us s h) xs ys e =
@@ -137,15 +137,11 @@ front_begins _ _ _ (grammar.primary_begins_ends us s h) xs ys q =
     (begin.primary_whole _ _ (grammar.primary_begins_ends us s h))
 
 -- Each front that begins a rule is completed by some tokens.
-pub record CompletedState (r : StateRule) (xs : List Token) : Type 0 where
-  pub rest : List Token
-  pub tree : StateTree
-  pub spells : SpellsState r (xs ++ rest) tree
+abbrev pub CompletedState : StateRule → List Token → Type 0
+CompletedState r xs = IsCompletable (SpellsState r) xs
 
-pub record Completed (r : Rule) (xs : List Token) : Type 0 where
-  pub rest : List Token
-  pub tree : PatternTree
-  pub spells : Spells r (xs ++ rest) tree
+abbrev pub Completed : Rule → List Token → Type 0
+Completed r xs = IsCompletable (Spells r) xs
 
 true_state : (r : StateRule) → SpellsState r (True ∷ []) always
 true_state lit = grammar.lit_true

@@ -1,7 +1,7 @@
 -- TextTokens of a text: which bytes they have, and that a word which is no token of its own is a name.
-use Rattle.std.proofs.Common.{◌≡◌, ℕ, ◌+◌, ◌<◌, zero, suc, Bool, true, false, cond, ◌||◌, Option, Some, None, List, [], ◌∷◌, take, get_or, refl, sym, ◌∙◌, ap, subst, arith}
-use Rattle.std.specs.Prelude.{IsTrue, if◌then◌else◌, codes}
-use Rattle.std.specs.List.{prefix_len, take_while, AllPass}
+use Rattle.std.proofs.Common.{◌≡◌, ℕ, ◌+◌, ◌<◌, zero, suc, Bool, true, false, cond, ◌||◌, Option, Some, None, List, [], ◌∷◌, take, length, get_or, refl, sym, ◌∙◌, ap, subst, arith}
+use Rattle.std.specs.Prelude.{IsTrue, if◌then◌else◌, codes, nat_eq}
+use Rattle.std.specs.List.{prefix_len, take_while, AllPass, starts_with}
 use Rattle.std.specs.Str.{bytes_eq, IsAscii}
 use Rattle.std.specs.Char.{is_ascii_digit}
 use Rattle.std.proofs.lemmas.Bool.Decides.{nat_tests}
@@ -12,7 +12,8 @@ use Rattle.tre_parse.specs.declared.token.Token.{Token}
 use Rattle.tre_parse.specs.declared.token.Token.TheVariants.{Eps, Rise, Fall, Inf, True, Event}
 use Rattle.tre_parse.specs.declared.lexeme.Lexeme.{Lexeme}
 use Rattle.tre_parse.specs.declared.lexeme.Lexeme.TheVariants.{Blank, Name, Sign}
-use Rattle.tre_parse.specs.Lexeme.{is_blank, reserved, named, word_lexeme, signed, sign_lexeme, lexeme_of, double_sign, bracket, single_sign}
+use Rattle.tre_parse.specs.Lexeme.{is_blank, reserved, named, word_lexeme, first_sign, sign_lexeme, lexeme_of}
+use Rattle.tre_parse.specs.declared.lexeme.TheConstants.{SIGNS}
 
 -- The front that passes a test does.
 pub prefix_passes : (p : ℕ → Bool) (xs : List ℕ) (n : ℕ) → n ≡ prefix_len p xs → AllPass p (take n xs)
@@ -54,16 +55,16 @@ named_name : (n len : ℕ) (o : Option Token) → named n o ≡ Name len → (o 
 named_name n len None e = (refl, cc)
 named_name n len (Some t) e = absurd (cc)
 
-signed_no_name : (a b c : Option Token) (len : ℕ) → signed a b c ≡ Name len → ⊥
-signed_no_name (Some t) b c len e = cc
-signed_no_name None (Some t) c len e = cc
-signed_no_name None None (Some t) len e = cc
-signed_no_name None None None len e = cc
+first_no_name : {A : Type 0} (text : A → List ℕ) (token : A → Token) (signs : List A) (rest : List ℕ) (len : ℕ) → first_sign text token signs rest ≡ Name len → ⊥
+first_no_name text token [] rest len e = cc
+first_no_name text token (x ∷ xs) rest len e = by (first_no_name text token xs rest len) (starts_with nat_eq rest (text x)) e
+  where
+    by : (first_sign text token xs rest ≡ Name len → ⊥) → (is : Bool) → cond is (Sign (token x) (length (text x))) (first_sign text token xs rest) ≡ Name len → ⊥
+    by more true e = cc
+    by more false e = more e
 
 sign_no_name : (rest : List ℕ) (len : ℕ) → sign_lexeme rest ≡ Name len → ⊥
-sign_no_name [] len e = cc
-sign_no_name (b ∷ []) len e = signed_no_name None (bracket b) (single_sign b) len e
-sign_no_name (b ∷ c ∷ rest) len e = signed_no_name (double_sign b c) (bracket b) (single_sign b) len e
+sign_no_name rest len e = first_no_name (λ sign. sign.0.now) (λ sign. sign.1) SIGNS rest len e
 
 name_starts : (blank starts digit : Bool) (word sign : Lexeme) (token : Token) (n len : ℕ) → (sign ≡ Name len → ⊥) →
     (if blank then Blank else (if starts then word else (if digit then Sign token n else sign))) ≡ Name len → (starts ≡ true) × (word ≡ Name len)

@@ -18,11 +18,6 @@ abbrev pub Answers : (Outcome → Type 0) → Result Pattern ParseFault → Type
 Answers IsIt (Ok pattern) = IsIt (spelt (pattern_tree pattern) (names_of pattern))
 Answers IsIt (Err fault) = (fault ≡ Memory) ⊎ IsIt (refused fault)
 
--- This outcome is the answer, where there was memory enough.
-abbrev pub IsAnswered : Outcome → Result Pattern ParseFault → Type 0
-IsAnswered outcome (Ok pattern) = outcome ≡ spelt (pattern_tree pattern) (names_of pattern)
-IsAnswered outcome (Err fault) = (fault ≡ Memory) ⊎ (outcome ≡ refused fault)
-
 -- The words that a scan holds.
 abbrev pub text_tokens_in : Scan → TextTokens
 text_tokens_in scan =

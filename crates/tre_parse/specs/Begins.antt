@@ -67,3 +67,10 @@ pub data Begins : Rule → List Token → Type 0 where
       Begins primary (Fall ∷ LeftParen ∷ xs)
   primary_lit : (xs : List Token) → BeginsState lit xs → Begins primary xs
   primary_begins : (xs : List Token) → BeginsState lit xs → Begins primary (BeginsSign ∷ xs)
+
+-- Some further tokens complete these to what is spelt.
+pub record IsCompletable {Tree : Type 0} (Spelled : List Token → Tree → Type 0)
+    (xs : List Token) : Type 0 where
+  pub rest : List Token
+  pub tree : Tree
+  pub spells : Spelled (xs ++ rest) tree

@@ -6,7 +6,7 @@ use Rattle.tre_parse.specs.declared.token.Token.{Token}
 use Rattle.tre_parse.specs.declared.token.Token.TheVariants.{Number, Inf}
 use Rattle.tre_parse.specs.declared.cursor.Stop.{Stop}
 use Rattle.tre_parse.specs.declared.cursor.Stop.TheVariants.{Syntax}
-use Rattle.tre_parse.specs.Grammar.{opening, closing, SpellsInterval}
+use Rattle.tre_parse.specs.Grammar.{closing, SpellsInterval}
 use Rattle.tre_parse.specs.Front.{front}
 
 -- No duration is in the interval.
@@ -25,25 +25,16 @@ pub record IsMadeOf (interval : Option IntervalEnds) (ends : IntervalEnds) : Typ
   pub made : IsFineInterval ends → IsSome interval
   pub fine : IsSome interval → IsFineInterval ends
 
--- A part of an interval that is next, or none is.
-abbrev pub OpeningParses : Result Bool Stop → List Token → List Token → Type 0
-OpeningParses (Ok weak) old new = old ≡ opening weak ∷ new
-OpeningParses (Err stop) old new =
-    (stop ≡ Syntax (length old)) × ((weak : Bool) → front old ≢ opening weak)
-
-abbrev pub LowParses : Result ℕ Stop → List Token → List Token → Type 0
-LowParses (Ok low) old new = old ≡ Number low ∷ new
-LowParses (Err stop) old new =
-    (stop ≡ Syntax (length old)) × ((low : ℕ) → front old ≢ Number low)
+-- A part of an interval that one token spells is next, or none is.
+abbrev pub PartParses : {A : Type 0} → (A → Token) → Result A Stop →
+    List Token → List Token → Type 0
+PartParses spelt (Ok x) old new = old ≡ spelt x ∷ new
+PartParses {A = A} spelt (Err stop) old new =
+    (stop ≡ Syntax (length old)) × ((x : A) → front old ≢ spelt x)
 
 abbrev pub high_token : Option ℕ → Token
 high_token (Some high) = Number high
 high_token None = Inf
-
-abbrev pub HighParses : Result (Option ℕ) Stop → List Token → List Token → Type 0
-HighParses (Ok high) old new = old ≡ high_token high ∷ new
-HighParses (Err stop) old new =
-    (stop ≡ Syntax (length old)) × ((high : Option ℕ) → front old ≢ high_token high)
 
 abbrev pub ClosingParses : Option ℕ → Result Bool Stop → List Token → List Token → Type 0
 ClosingParses high (Ok weak) old new = (old ≡ closing weak ∷ new) × (kept_weak high weak ≡ weak)

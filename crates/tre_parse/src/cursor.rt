@@ -4,7 +4,7 @@ ghost use Rattle.tre_parse.specs.Front.{front, tail};
 ghost use Rattle.tre_parse.specs.Reading.{Passes};
 
 use crate::token::Token;
-use std::alloc::{AllocError, AllocFailed};
+use std::alloc::AllocError;
 use std::marker::Model;
 
 /// The tokens that are still to be read.
@@ -87,17 +87,6 @@ impl From<AllocError> for Stop {
     ghost from_gives = { λ _ stop. stop ≡ Stop.Memory };
 
     fn from(_: AllocError) -> Stop {
-        Stop::Memory
-    }
-}
-
-impl<T: Drop> From<AllocFailed<T>> for Stop {
-    ghost use Rattle.std.specs.Prelude.{◌≡◌};
-    ghost use Rattle.tre_parse.specs.declared.cursor.Stop.{Stop};
-
-    ghost from_gives = { λ _ stop. stop ≡ Stop.Memory };
-
-    fn from(_: AllocFailed<T>) -> Stop {
         Stop::Memory
     }
 }

@@ -8,13 +8,15 @@ ghost use Rattle.tre_parse.specs.Front.{front};
 ghost use Rattle.tre_parse.specs.Reading.{IsSignAfter, IsPastOperand, IsPastSequence, IsPastIntersection, IsPastExpression, BeginsLiteral, BeginsTaken, edge_sign, Expects, ParsesBy, ParsesSign, RefusesEnds, SignRefusesEnds};
 
 use crate::connective::Join;
+use crate::counted::Counted;
 use crate::cursor::{Cursor, Stop};
 use crate::formula::{Formula, copied};
 use crate::interval::interval;
-use crate::operand::{self, Operand, at_least_once, empty, joined, optional, repeated, restricted};
+use crate::operand::{self, Operand, at_least_once, joined, optional, repeated, restricted};
 use crate::states::{literal, state};
 use crate::token::Token;
 use std::alloc::{AllocError, Global};
+use tre_syntax::Expr;
 
 /// An expression: intersections with `|` between them.
 #[cycle(expression)]
@@ -121,7 +123,7 @@ fn primary(alloc: Global, tokens: &mut Cursor) -> Result<Operand, Stop>
     match tokens.peek() {
         Token::Eps => {
             tokens.advance();
-            Ok(empty())
+            Ok(Counted::leaf(Expr::Eps))
         }
         Token::LeftParen => {
             tokens.advance();

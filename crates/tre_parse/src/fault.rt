@@ -1,4 +1,4 @@
-use std::alloc::{AllocError, AllocFailed};
+use std::alloc::AllocError;
 
 /// Why a text gives no pattern. The offsets are counted in bytes from 0. The refusals are tried in
 /// this order, each over the whole text before the next.
@@ -32,17 +32,6 @@ impl From<AllocError> for ParseFault {
     ghost from_gives = { λ _ fault. fault ≡ ParseFault.Memory };
 
     fn from(_: AllocError) -> ParseFault {
-        ParseFault::Memory
-    }
-}
-
-impl<T: Drop> From<AllocFailed<T>> for ParseFault {
-    ghost use Rattle.std.specs.Prelude.{◌≡◌};
-    ghost use Rattle.tre_parse.specs.declared.fault.ParseFault.{ParseFault};
-
-    ghost from_gives = { λ _ fault. fault ≡ ParseFault.Memory };
-
-    fn from(_: AllocFailed<T>) -> ParseFault {
         ParseFault::Memory
     }
 }

@@ -1,6 +1,6 @@
 ghost use Rattle.std.specs.Prelude.{◌≡◌, IfOk};
 ghost use Rattle.tre_state.specs.State.{tree_of};
-ghost use Rattle.tre_state.specs.StateTree.{StateTree, always, proposition};
+ghost use Rattle.tre_state.specs.StateTree.{StateTree};
 ghost use Rattle.tre_parse.specs.Joins.{negated, connected};
 ghost use Rattle.tre_parse.specs.Operands.{RepresentsState};
 
@@ -12,18 +12,6 @@ use tre_state::State;
 
 /// A state as it is read.
 pub(crate) type Formula = Counted<State>;
-
-pub(crate) fn always() -> Formula
-    ensures { RepresentsState result always }
-{
-    Counted::leaf(State::Yes)
-}
-
-pub(crate) fn proposition(number: u8) -> Formula
-    ensures { RepresentsState result (proposition number) }
-{
-    Counted::leaf(State::Prop(number))
-}
 
 /// So many negations of the state.
 #[tactic(auto, using(crate::proofs::Counts::negated_count))]

@@ -1,6 +1,7 @@
 ghost use Rattle.std.specs.Prelude.{◌≡◌, ◌≤◌, length, IfOk, IfErr};
-ghost use Rattle.tre_parse.specs.Parts.{IsMadeOf, OpeningParses, LowParses, HighParses, ClosingParses, BeginsWithNone};
+ghost use Rattle.tre_parse.specs.Parts.{IsMadeOf, PartParses, high_token, ClosingParses, BeginsWithNone};
 ghost use Rattle.tre_parse.specs.Reading.{ParsesInterval};
+ghost use Rattle.tre_parse.specs.Grammar.{opening};
 ghost use Rattle.tre_zone.specs.Interval.{kept_weak};
 
 use crate::cursor::{Cursor, Stop};
@@ -24,7 +25,7 @@ pub(crate) fn interval(tokens: &mut Cursor) -> Result<Option<Interval>, Stop>
 
 // The bracket before an interval, which says whether the low end is in it.
 fn opening(tokens: &mut Cursor) -> Result<bool, Stop>
-    ensures { OpeningParses result tokens.old tokens.new }
+    ensures { PartParses opening result tokens.old tokens.new }
 {
     match tokens.peek() {
         Token::LeftBracket => {
@@ -40,7 +41,7 @@ fn opening(tokens: &mut Cursor) -> Result<bool, Stop>
 }
 
 fn low(tokens: &mut Cursor) -> Result<u64, Stop>
-    ensures { LowParses result tokens.old tokens.new }
+    ensures { PartParses Token.Number result tokens.old tokens.new }
 {
     match tokens.peek() {
         Token::Number(low) => {
@@ -53,7 +54,7 @@ fn low(tokens: &mut Cursor) -> Result<u64, Stop>
 
 // The high end, None for `inf`.
 fn high(tokens: &mut Cursor) -> Result<Option<u64>, Stop>
-    ensures { HighParses result tokens.old tokens.new }
+    ensures { PartParses high_token result tokens.old tokens.new }
 {
     match tokens.peek() {
         Token::Number(high) => {

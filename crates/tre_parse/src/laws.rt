@@ -1,14 +1,17 @@
 //! Laws of the grammar, each as a function whose contract it is.
-ghost use Rattle.std.specs.Prelude.{◌≡◌, ℕ, ◌+◌, ◌≤◌, MatchOption, take, unwrap_or, true, Option, Some, None, List, [], ◌∷◌, ◌++◌, length};
+ghost use Rattle.std.specs.Prelude.{◌≡◌, ℕ, ◌+◌, ◌≤◌, MatchOption, take, unwrap_or, true, Option, Some, None, List, [], ◌∷◌, ◌++◌, length, ◌↔◌};
 ghost use Rattle.std.specs.Option.{option_map};
 ghost use Rattle.tre_state.specs.declared.names.TheConstants.{NAMES_MAX};
 ghost use Rattle.tre_parse.specs.declared.limits.TheConstants.{DEPTH_MAX};
 ghost use Rattle.tre_state.specs.StateTree.{conjunction, disjunction};
 ghost use Rattle.tre_syntax.specs.PatternTree.{PatternTree, sequence, alternation, intersection};
 ghost use Rattle.tre_parse.specs.declared.token.Token.TheVariants.{Name, Semicolon, Bar, DoubleBar, Ampersand, DoubleAmpersand};
+ghost use Rattle.tre_parse.specs.Grammar.{StateRule, SpellsState, Rule, Spells};
+ghost use Rattle.tre_parse.specs.Begins.{BeginsState, Begins, IsCompletable};
 ghost use Rattle.tre_parse.specs.Strength.{Groups, StateGroups};
-ghost use Rattle.tre_parse.specs.Lexeme.{is_blank};
+ghost use Rattle.tre_parse.specs.Lexeme.{is_blank, sign_lexeme};
 ghost use Rattle.tre_parse.specs.Signs.{IsSign, TakesSign};
+ghost use Rattle.tre_parse.specs.declared.lexeme.Lexeme.TheVariants.{Sign};
 ghost use Rattle.tre_state.specs.Names.{place_of};
 ghost use Rattle.tre_parse.specs.Numbering.{HasTokenAt, IsNumberedByUse};
 ghost use Rattle.tre_parse.specs.Tokens.{RawTokenAt, name, raw_tokens_of, bad_byte, tokens_of, names_of};
@@ -24,10 +27,21 @@ pub fn one_spelling()
         IsSpelling text tree names → IsSpelling text other others → names ≡ others }
 {}
 
-/// Where a sign of the table stands, a sign of the table is taken that is at least as long.
+/// Where a sign of the table stands, a sign of the table is taken that is at least as long; and no
+/// other token that isn't a word or a number is taken anywhere.
 pub fn longest_sign()
-    ensures { (spelling rest : List ℕ) (token : Token) → IsSign spelling token →
+    ensures longest { (spelling rest : List ℕ) (token : Token) → IsSign spelling token →
         TakesSign (spelling ++ rest) (length spelling) }
+    ensures only { (bytes : List ℕ) (token : Token) (len : ℕ) →
+        sign_lexeme bytes ≡ Sign token len → IsSign (take len bytes) token }
+{}
+
+/// Tokens begin a rule exactly where some further tokens complete them to what it spells.
+pub fn beginnings()
+    ensures expression { (rule : Rule) (tokens : List Token) → Begins rule tokens ↔
+        IsCompletable (Spells rule) tokens }
+    ensures state { (rule : StateRule) (tokens : List Token) → BeginsState rule tokens ↔
+        IsCompletable (SpellsState rule) tokens }
 {}
 
 /// Every text has an outcome.

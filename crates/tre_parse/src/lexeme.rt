@@ -2,7 +2,7 @@ ghost use Rattle.std.specs.Prelude.{◌≡◌, ◌<◌, ◌≤◌, ◌+◌, ℕ,
 ghost use Rattle.std.specs.Char.{is_ascii_digit};
 ghost use Rattle.std.specs.List.{prefix_len, AllPass};
 ghost use Rattle.tre_state.specs.Name.{continues_name, starts_name};
-ghost use Rattle.tre_parse.specs.Lexeme.{is_blank, reserved, word_lexeme, decimal, number_lexeme, double_sign, bracket, single_sign, sign_lexeme, lexeme_of, FitsIn};
+ghost use Rattle.tre_parse.specs.Lexeme.{is_blank, reserved, word_lexeme, decimal, number_lexeme, first_sign, lexeme_of, FitsIn};
 
 use crate::token::Token;
 use tre_pairs::TIME_MAX;
@@ -20,6 +20,29 @@ pub(crate) enum Lexeme {
     /// Another token, and its number of bytes.
     Sign(Token, usize),
 }
+
+/// The signs and their tokens. A sign stands before those that it begins with.
+pub(crate) const SIGNS: [(&str, Token); 19] = [
+    ("||", Token::DoubleBar),
+    ("&&", Token::DoubleAmpersand),
+    ("<:", Token::Begins),
+    (":>", Token::Ends),
+    ("(", Token::LeftParen),
+    (")", Token::RightParen),
+    ("[", Token::LeftBracket),
+    ("]", Token::RightBracket),
+    ("{", Token::LeftBrace),
+    ("}", Token::RightBrace),
+    (",", Token::Comma),
+    (";", Token::Semicolon),
+    ("|", Token::Bar),
+    ("&", Token::Ampersand),
+    ("!", Token::Bang),
+    ("*", Token::Star),
+    ("+", Token::Plus),
+    ("?", Token::Question),
+    ("%", Token::Percent),
+];
 
 // A number for all those above the latest time.
 const NUMBER_CAP: u64 = TIME_MAX + 1;
@@ -40,7 +63,7 @@ pub(crate) fn lexeme_of(rest: &[u8]) -> Lexeme
     if byte.is_ascii_digit() {
         return number_lexeme(rest);
     }
-    sign_lexeme(rest)
+    first_sign(&SIGNS, rest)
 }
 
 fn is_blank(byte: u8) -> bool
@@ -115,68 +138,14 @@ fn capped_decimal(digits: &[u8]) -> u64
     value
 }
 
-fn sign_lexeme(rest: &[u8]) -> Lexeme
-    requires { 0 < length rest.now }
-    ensures value { result ≡ sign_lexeme rest.now }
-    ensures fits { FitsIn (length rest.now) result }
+// The first of the signs that the rest begins with.
+fn first_sign(signs: &[(&str, Token)], rest: &[u8]) -> Lexeme
+    ensures { result ≡ first_sign (λ sign. sign.0.now) (λ sign. sign.1) signs.now rest.now }
 {
-    if rest.len() > 1 {
-        if let Some(token) = double_sign(rest[0], rest[1]) {
-            return Lexeme::Sign(token, 2);
+    for (spelling, token) in signs {
+        if rest.starts_with(spelling.as_bytes()) {
+            return Lexeme::Sign(*token, spelling.len());
         }
     }
-    if let Some(token) = bracket(rest[0]) {
-        return Lexeme::Sign(token, 1);
-    }
-    match single_sign(rest[0]) {
-        Some(token) => Lexeme::Sign(token, 1),
-        None => Lexeme::Wrong,
-    }
-}
-
-fn double_sign(first: u8, second: u8) -> Option<Token>
-    ensures { result ≡ double_sign first second }
-{
-    if first == b'|' && second == b'|' {
-        Some(Token::DoubleBar)
-    } else if first == b'&' && second == b'&' {
-        Some(Token::DoubleAmpersand)
-    } else if first == b'<' && second == b':' {
-        Some(Token::Begins)
-    } else if first == b':' && second == b'>' {
-        Some(Token::Ends)
-    } else {
-        None
-    }
-}
-
-fn bracket(byte: u8) -> Option<Token>
-    ensures { result ≡ bracket byte }
-{
-    match byte {
-        b'(' => Some(Token::LeftParen),
-        b')' => Some(Token::RightParen),
-        b'[' => Some(Token::LeftBracket),
-        b']' => Some(Token::RightBracket),
-        b'{' => Some(Token::LeftBrace),
-        b'}' => Some(Token::RightBrace),
-        _ => None,
-    }
-}
-
-fn single_sign(byte: u8) -> Option<Token>
-    ensures { result ≡ single_sign byte }
-{
-    match byte {
-        b',' => Some(Token::Comma),
-        b';' => Some(Token::Semicolon),
-        b'|' => Some(Token::Bar),
-        b'&' => Some(Token::Ampersand),
-        b'!' => Some(Token::Bang),
-        b'*' => Some(Token::Star),
-        b'+' => Some(Token::Plus),
-        b'?' => Some(Token::Question),
-        b'%' => Some(Token::Percent),
-        _ => None,
-    }
+    Lexeme::Wrong
 }

@@ -77,17 +77,8 @@ fn is_empty_after(tokens: &[Token], place: usize) -> bool
     requires small { position is_big tokens.now ≡ None }
     ensures { IsTrue result ↔ HasEmptyAt tokens.now (place + 1) }
 {
-    if is_percent(tokens[place]) {
-        return begins_empty(&tokens[place + 1..]);
-    }
-    false
-}
-
-fn is_percent(token: Token) -> bool
-    ensures { IsTrue result ↔ (token ≡ Token.Percent) }
-{
-    match token {
-        Token::Percent => true,
+    match tokens[place] {
+        Token::Percent => begins_empty(&tokens[place + 1..]),
         _ => false,
     }
 }

@@ -20,13 +20,6 @@ use tre_zone::Interval;
 /// An expression as it is read.
 pub(crate) type Operand = Counted<Expr>;
 
-/// The stretch of no length.
-pub(crate) fn empty() -> Operand
-    ensures { Represents result (atom empty) }
-{
-    Counted::leaf(Expr::Eps)
-}
-
 /// A stretch on which the state holds.
 pub(crate) fn literal(formula: Formula) -> Operand
     ensures { (s : StateTree) → RepresentsState formula s →
@@ -138,7 +131,8 @@ pub(crate) fn optional(alloc: Global, operand: Operand) -> Result<Operand, Alloc
     ensures { IfOk result (λ r. (e : PatternTree) → Represents operand e →
         Represents r (alternation e (atom empty))) }
 {
-    let either = joined(alloc, Join::Alternation, operand, empty())?;
+    let empty = Counted::leaf(Expr::Eps);
+    let either = joined(alloc, Join::Alternation, operand, empty)?;
     Ok(either)
 }
 

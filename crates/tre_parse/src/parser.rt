@@ -5,7 +5,7 @@ ghost use Rattle.tre_parse.specs.Reading.{ParsesWhole};
 ghost use Rattle.tre_parse.specs.Numbering.{IsNumberedByUse};
 ghost use Rattle.tre_parse.specs.Operands.{Represents};
 ghost use Rattle.tre_parse.specs.Outcome.{IsSpelling, Outcome, limit_fault, IsOutcomeWithin, IsOutcome};
-ghost use Rattle.tre_parse.specs.Answers.{text_tokens_in, IsFaultOf, IsRepresented, IsBuildable, Answers, IsAnswered};
+ghost use Rattle.tre_parse.specs.Answers.{text_tokens_in, IsFaultOf, IsRepresented, IsBuildable, Answers};
 
 use crate::cursor::{Cursor, Stop};
 use crate::expression::expression;
@@ -26,7 +26,8 @@ pub fn parse(alloc: Global, text: &str) -> Result<Pattern, ParseFault>
     ensures spelling { IfOk result (λ pattern. IsSpelling text.now (pattern_tree pattern)
         (names_of pattern)) }
     ensures outcome { Answers (IsOutcome text.now) result }
-    ensures only { (outcome : Outcome) → IsOutcome text.now outcome → IsAnswered outcome result }
+    ensures only { (outcome : Outcome) → IsOutcome text.now outcome →
+        Answers (λ answer. outcome ≡ answer) result }
 {
     parse_text(alloc, text)
 }

@@ -79,8 +79,7 @@ impl Scan {
         ensures err { IfErr result (λ fault. fault ≡ ParseFault.Memory) }
     {
         let number = number(&mut self.names, word)?;
-        self.tokens.push(Token::Name(number.unwrap_or(PAST)))?;
-        self.offsets.push(at as u64)?;
+        self.put(Token::Name(number.unwrap_or(PAST)), at)?;
         if number.is_none() && self.past.is_none() {
             self.past = Some(at as u64);
         }

@@ -5,10 +5,12 @@ ghost use Rattle.tre_parse.specs.Front.{front};
 ghost use Rattle.tre_parse.specs.Reading.{IsPastConjunction, IsPastState, ParsesState, ParsesLiteral};
 
 use crate::connective::Connective;
+use crate::counted::Counted;
 use crate::cursor::{Cursor, Stop};
-use crate::formula::{Formula, always, connected, negated, proposition};
+use crate::formula::{Formula, connected, negated};
 use crate::token::Token;
 use std::alloc::Global;
+use tre_state::State;
 
 /// A state: conjunctions with `||` between them.
 #[cycle(state)]
@@ -64,11 +66,11 @@ fn operand(alloc: Global, tokens: &mut Cursor) -> Result<Formula, Stop>
     match tokens.peek() {
         Token::Name(number) => {
             tokens.advance();
-            Ok(proposition(number))
+            Ok(Counted::leaf(State::Prop(number)))
         }
         Token::True => {
             tokens.advance();
-            Ok(always())
+            Ok(Counted::leaf(State::Yes))
         }
         Token::LeftParen => {
             tokens.advance();
@@ -113,11 +115,11 @@ fn operand_of_literal(alloc: Global, tokens: &mut Cursor) -> Result<Formula, Sto
     match tokens.peek() {
         Token::Name(number) => {
             tokens.advance();
-            Ok(proposition(number))
+            Ok(Counted::leaf(State::Prop(number)))
         }
         Token::True => {
             tokens.advance();
-            Ok(always())
+            Ok(Counted::leaf(State::Yes))
         }
         Token::LeftBrace => {
             tokens.advance();

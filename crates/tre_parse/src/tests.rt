@@ -84,6 +84,7 @@ fn depth(rt: HostRuntime) -> Result<(), Fail> {
         (["{", "(", "p", ")", "}"], 199, 200),
         (["rise(", "(", "p", ")", ")"], 199, 204),
         (["", "(", "p%[1,2]", ")", ""], 199, 202),
+        (["", "(", "p%(1,2)", ")", ""], 199, 202),
     ];
     for (parts, count, at) in &table {
         let most = nested(alloc, parts, *count)?;

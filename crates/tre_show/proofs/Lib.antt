@@ -10,3 +10,4 @@ pub mod Spelling
 pub mod ZoneLines
 pub mod TokenLimits
 pub mod Outcomes
+pub mod LineOrder

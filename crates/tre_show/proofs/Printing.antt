@@ -28,7 +28,7 @@ down_from key left right le p q =
     let a = split left in let b = split right in let d = split-sum left right in omega (arith, ints)
 
 -- the keys of each of its three ranges
-begin_keys : (zone : ZoneBounds) → IsCanonical zone → AreRangeKeys zone.begin_low zone.begin_high
+pub begin_keys : (zone : ZoneBounds) → IsCanonical zone → AreRangeKeys zone.begin_low zone.begin_high
 begin_keys zone canonical =
     let keys = canonical-keys zone canonical in
     record {
@@ -38,7 +38,7 @@ begin_keys zone canonical =
       high_within = keys.begin_high;
     }
 
-end_keys : (zone : ZoneBounds) → IsCanonical zone → AreRangeKeys zone.end_low zone.end_high
+pub end_keys : (zone : ZoneBounds) → IsCanonical zone → AreRangeKeys zone.end_low zone.end_high
 end_keys zone canonical =
     let keys = canonical-keys zone canonical in
     let down = down_from zone.end_low zone.begin_low zone.dur_low canonical.closed.end_low
@@ -50,7 +50,7 @@ end_keys zone canonical =
       high_within = keys.end_high;
     }
 
-dur_keys : (zone : ZoneBounds) → IsCanonical zone → AreRangeKeys zone.dur_low zone.dur_high
+pub dur_keys : (zone : ZoneBounds) → IsCanonical zone → AreRangeKeys zone.dur_low zone.dur_high
 dur_keys zone canonical =
     let keys = canonical-keys zone canonical in
     record {

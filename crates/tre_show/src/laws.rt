@@ -4,7 +4,11 @@ ghost use Rattle.tre_pairs.specs.declared.TheConstants.{TIME_MAX};
 ghost use Rattle.tre_zone.specs.declared.zone_bounds.ZoneBounds.{ZoneBounds};
 ghost use Rattle.tre_zone.specs.Zone.{IsCanonical};
 ghost use Rattle.tre_zone.specs.ZoneList.{AreCanonical};
+ghost use Rattle.std.specs.Cmp.Lexicographic.{slice_cmp};
+ghost use Rattle.std.specs.Ordering.{int_cmp};
+ghost use Rattle.std.specs.declared.cmp.Ordering.TheVariants.{Less};
 ghost use Rattle.tre_show.specs.Line.{line_of, offline_text, TellsZone};
+ghost use Rattle.tre_show.specs.Order.{sort_key, LineComesBefore};
 
 /// The line of a zone tells exactly the pairs that the zone holds.
 pub fn line_tells_zone()
@@ -20,4 +24,12 @@ pub fn one_text()
     ensures end { (zones others : List ZoneBounds) (end other : ℕ) →
         AreCanonical zones → AreCanonical others → end ≤ TIME_MAX → other ≤ TIME_MAX →
         offline_text zones end ≡ offline_text others other → end ≡ other }
+{}
+
+/// The order of the lines, by the ranges that stand on them: the begin decides, or else the end, or
+/// else the duration; in each the low end, or else the high end; and of two equal numbers a low end
+/// that is included comes first, and a high end that isn't.
+pub fn line_order()
+    ensures { (zone other : ZoneBounds) → IsCanonical zone → IsCanonical other →
+        slice_cmp int_cmp (sort_key zone) (sort_key other) ≡ Less → LineComesBefore zone other }
 {}

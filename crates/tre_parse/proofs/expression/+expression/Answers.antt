@@ -1,6 +1,7 @@
-use Rattle.std.proofs.Common.{arith, ◌∙◌}
+use Rattle.std.proofs.Common.{arith, ◌∙◌, refl}
 use Rattle.std.proofs.lemmas.Result.{err_from_is_err_and}
 use Rattle.tre_parse.specs.declared.token.Token.TheVariants.{Eps, LeftParen, RightParen, Semicolon, Bar, Ampersand}
+use Rattle.tre_parse.proofs.Counts.{leaf_counts}
 use Rattle.tre_parse.proofs.Steps.{goes_past, one_shorter}
 use Rattle.tre_parse.proofs.ExpressionSteps.{first_sequence, stop_first_sequence, more_sequence, stop_sequence, ends_sequence, first_intersection, stop_first_intersection, more_intersection, stop_intersection, ends_intersection, first_expression, stop_first_expression, more_expression, stop_expression, ends_expression, first_operand, stop_first_operand, first_refuses, more_operand, stop_operand, more_refuses, parens_read, parens_stop, parens_open, parens_refuse, eps_reads, eps_refuses}
 use Rattle.tre_parse.proofs.expression.+expression.Goals as goal
@@ -207,7 +208,7 @@ primary-returns-in_ok-expect-in-LeftParen-clause-ends t c =
 pub primary-returns-in-Eps-clause-reads : goal.primary-returns-in-Eps-clause-reads
 primary-returns-in-Eps-clause-reads t c =
     let e = goes_past c.args.tokens.now c.advance.new.self Eps c.in-Eps.ensures (λ q. cc) c.advance.ensures in
-    eps_reads c.empty.result c.args.tokens.now c.advance.new.self e c.empty.ensures
+    eps_reads c.leaf.result c.args.tokens.now c.advance.new.self e (leaf_counts c.leaf.result _ c.leaf.ensures.nodes c.leaf.ensures.tree refl)
 
 pub primary-returns-in-Eps-clause-ends : goal.primary-returns-in-Eps-clause-ends
 primary-returns-in-Eps-clause-ends t c =

@@ -1,5 +1,6 @@
-use Rattle.std.proofs.Common.{arith, ◌∙◌}
+use Rattle.std.proofs.Common.{arith, ◌∙◌, refl}
 use Rattle.std.proofs.lemmas.Result.{err_from_is_err_and}
+use Rattle.tre_parse.proofs.Counts.{leaf_counts}
 use Rattle.tre_parse.specs.declared.token.Token.TheVariants.{Name, LeftParen, RightParen, True, DoubleBar, DoubleAmpersand}
 use Rattle.tre_parse.proofs.Steps.{goes_past, one_shorter}
 use Rattle.tre_parse.proofs.StateSteps.{first_conjunction, more_conjunction, stop_conjunction, first_state, more_state, stop_state, stop_first_conjunction, stop_first_state, ends_conjunction, ends_state, negation_reads, negation_stops, name_reads, true_reads, parens_read, parens_stop, parens_open, operand_stuck}
@@ -135,12 +136,12 @@ operand-returns-in_err-expect-in-LeftParen-clause-reads t c =
 pub operand-returns-in-Name-clause-reads : goal.operand-returns-in-Name-clause-reads
 operand-returns-in-Name-clause-reads t c =
     let e = goes_past c.args.tokens.now c.advance.new.self (Name c.in-Name.number) c.in-Name.ensures (λ q. cc) c.advance.ensures in
-    name_reads c.in-Name.number c.proposition.result c.args.tokens.now c.advance.new.self e c.proposition.ensures
+    name_reads c.in-Name.number c.leaf.result c.args.tokens.now c.advance.new.self e (leaf_counts c.leaf.result _ c.leaf.ensures.nodes c.leaf.ensures.tree refl)
 
 pub operand-returns-in-True-clause-reads : goal.operand-returns-in-True-clause-reads
 operand-returns-in-True-clause-reads t c =
     let e = goes_past c.args.tokens.now c.advance-in-True.new.self True c.in-True.ensures (λ q. cc) c.advance-in-True.ensures in
-    true_reads c.always.result c.args.tokens.now c.advance-in-True.new.self e c.always.ensures
+    true_reads c.leaf-in-True.result c.args.tokens.now c.advance-in-True.new.self e (leaf_counts c.leaf-in-True.result _ c.leaf-in-True.ensures.nodes c.leaf-in-True.ensures.tree refl)
 
 pub operand-returns-in_ok-expect-in-LeftParen-clause-reads : goal.operand-returns-in_ok-expect-in-LeftParen-clause-reads
 operand-returns-in_ok-expect-in-LeftParen-clause-reads t c =

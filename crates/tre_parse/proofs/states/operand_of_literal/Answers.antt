@@ -1,5 +1,6 @@
-use Rattle.std.proofs.Common.{arith, ◌∙◌}
+use Rattle.std.proofs.Common.{arith, ◌∙◌, refl}
 use Rattle.std.proofs.lemmas.Result.{err_from_is_err_and}
+use Rattle.tre_parse.proofs.Counts.{leaf_counts}
 use Rattle.tre_parse.specs.declared.token.Token.TheVariants.{Name, LeftBrace, RightBrace, True}
 use Rattle.tre_parse.proofs.Steps.{goes_past, one_shorter}
 use Rattle.tre_parse.proofs.StateSteps.{literal_name, literal_true, braces_read, braces_stop, braces_open, literal_stuck}
@@ -20,12 +21,12 @@ returns-in_err-expect-in-LeftBrace-clause-reads c =
 pub returns-in-Name-clause-reads : goal.returns-in-Name-clause-reads
 returns-in-Name-clause-reads c =
     let e = goes_past c.args.tokens.now c.advance.new.self (Name c.in-Name.number) c.in-Name.ensures (λ q. cc) c.advance.ensures in
-    literal_name c.in-Name.number c.proposition.result c.args.tokens.now c.advance.new.self e c.proposition.ensures
+    literal_name c.in-Name.number c.leaf.result c.args.tokens.now c.advance.new.self e (leaf_counts c.leaf.result _ c.leaf.ensures.nodes c.leaf.ensures.tree refl)
 
 pub returns-in-True-clause-reads : goal.returns-in-True-clause-reads
 returns-in-True-clause-reads c =
     let e = goes_past c.args.tokens.now c.advance-in-True.new.self True c.in-True.ensures (λ q. cc) c.advance-in-True.ensures in
-    literal_true c.always.result c.args.tokens.now c.advance-in-True.new.self e c.always.ensures
+    literal_true c.leaf-in-True.result c.args.tokens.now c.advance-in-True.new.self e (leaf_counts c.leaf-in-True.result _ c.leaf-in-True.ensures.nodes c.leaf-in-True.ensures.tree refl)
 
 pub returns-in_ok-expect-in-LeftBrace-clause-reads : goal.returns-in_ok-expect-in-LeftBrace-clause-reads
 returns-in_ok-expect-in-LeftBrace-clause-reads c =
