@@ -9,12 +9,11 @@ use Rattle.tre_syntax.proofs.CutMeaning.{IsOrdered-rest}
 use Rattle.tre_zone.specs.Zone.{EndsAt}
 use Rattle.tre_zone.specs.ZoneList.{HoldExactly}
 use Rattle.tre_zone.specs.declared.zone_bounds.ZoneBounds.{ZoneBounds}
-use Rattle.tre_edges.specs.Piece.{rest_of_piece}
+use Rattle.tre_edges.specs.Piece.{rest_of_piece, end_of_piece}
 use Rattle.tre_edges.specs.declared.piece.Piece.{Piece}
 use Rattle.tre_mark.specs.MarkTree.{atom_mark}
 use Rattle.tre_mark.specs.Marked.{EndBetween, IsWellAt}
 use Rattle.tre_mark.proofs.Agreeing.{agree_refl, agree_then, agree_composed, agree_either}
-use Rattle.tre_advance.specs.Advance.{end_of_piece}
 use Rattle.tre_advance.specs.Moves.{StepsTo, EntersTo, IsBriefTree, IsLiteralTree}
 use Rattle.tre_advance.specs.Sets.{IsSetOf}
 use Rattle.tre_advance.proofs.AtomSteps.{IsBrief, brief_empty, brief_rise, brief_fall, here_part, literal_tells, brief_inner, brief_beside, literal_inner, literal_beside}

@@ -26,7 +26,7 @@ use Rattle.tre_mark.specs.Marked.{GoesOn, Marked, EndBetween, IsBegun, IsWellAt}
 use Rattle.tre_mark.proofs.Agreeing.{agree_refl, agree_sym, agree_then, agree_either, joined_composed}
 use Rattle.tre_mark.proofs.Meanings.{Scales-Marked, IsOrdered-GoesOn}
 use Rattle.tre_mark.proofs.Starts.{end_at_none, nothing_atom}
-use Rattle.tre_advance.specs.Advance.{end_of_piece}
+use Rattle.tre_edges.specs.Piece.{end_of_piece}
 use Rattle.tre_advance.proofs.Crossings.{agree_crossing, distributes}
 use Rattle.tre_advance.proofs.Going.{over, alone, behind, cut_of, long_front, mark_front, followed_front}
 use Rattle.tre_advance.proofs.SetsOf.{no_pair}

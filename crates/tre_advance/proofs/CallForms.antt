@@ -9,12 +9,11 @@ use Rattle.tre_syntax.specs.PatternTree.{PatternTree, sequence, alternation, rep
 use Rattle.tre_zone.specs.Zone.{IsInstantBetween, EndsAt}
 use Rattle.tre_zone.specs.ZoneList.{HoldExactly}
 use Rattle.tre_zone.specs.declared.zone_bounds.ZoneBounds.{ZoneBounds}
-use Rattle.tre_edges.specs.Piece.{rest_of_piece}
+use Rattle.tre_edges.specs.Piece.{rest_of_piece, end_of_piece}
 use Rattle.tre_edges.specs.declared.piece.Piece.{Piece}
 use Rattle.tre_mark.specs.MarkTree.{MarkTree, sequence_mark, alternation_mark, repetition_mark, intersection_none}
 use Rattle.tre_mark.specs.Marked.{EndBetween, IsWellAt}
 use Rattle.tre_mark.proofs.Agreeing.{agree_refl, agree_then, agree_composed}
-use Rattle.tre_advance.specs.Advance.{end_of_piece}
 use Rattle.tre_advance.specs.Moves.{StepsTo, EntersTo, KeepsHere}
 use Rattle.tre_advance.specs.Sets.{IsSetOf}
 use Rattle.tre_advance.proofs.AtomForms.{inside_agrees}

@@ -15,7 +15,7 @@ use Rattle.tre_edges.specs.declared.piece.Piece.{Piece}
 use Rattle.tre_mark.specs.MarkTree.{MarkTree, sequence_mark, alternation_mark}
 use Rattle.tre_mark.specs.Marked.{Marked, EndBetween}
 use Rattle.tre_mark.proofs.Agreeing.{agree_refl, agree_sym, agree_then, agree_composed, agree_either, agree_assoc}
-use Rattle.tre_advance.specs.Advance.{end_of_piece}
+use Rattle.tre_edges.specs.Piece.{end_of_piece}
 use Rattle.tre_advance.proofs.Crossings.{IsFront, agree_crossing, cross_either, cross_followed, distributes}
 use Rattle.tre_advance.proofs.Going.{over, alone, behind, cut_of, mark_front, followed_front}
 use Rattle.tre_advance.proofs.Steps.{Inner, Beside, Followed}

@@ -22,7 +22,7 @@ use Rattle.tre_edges.specs.declared.piece.Piece.{Piece}
 use Rattle.tre_mark.specs.MarkTree.{MarkTree, atom_mark, sequence_mark, alternation_mark, repetition_mark, intersection_one, restriction_one}
 use Rattle.tre_mark.specs.Marked.{GoesOn, Marked}
 use Rattle.tre_mark.proofs.Meanings.{IsOrdered-Marked, around_present}
-use Rattle.tre_advance.specs.Advance.{end_of_piece, cut_behind}
+use Rattle.tre_edges.specs.Piece.{end_of_piece, cut_behind}
 use Rattle.tre_advance.proofs.Crossings.{IsFront}
 
 -- The rest of the trace that begins with the piece, the piece alone, and what comes behind it.

@@ -21,7 +21,7 @@ use Rattle.tre_mark.specs.MarkTree.{MarkTree, intersection_none, intersection_on
 use Rattle.tre_mark.specs.Marked.{Marked, EndBetween, IsEntered, IsWell, IsWellAt, IsNothing}
 use Rattle.tre_mark.proofs.Agreeing.{agree_refl, agree_sym, agree_then, agree_composed, agree_either}
 use Rattle.tre_mark.proofs.Meanings.{around_present}
-use Rattle.tre_advance.specs.Advance.{end_of_piece}
+use Rattle.tre_edges.specs.Piece.{end_of_piece}
 use Rattle.tre_advance.specs.Moves.{StepsTo, EntersTo, Begins}
 use Rattle.tre_advance.specs.Instances.{join, IsPast, KeepsLasting, KeepsBoth}
 use Rattle.tre_advance.proofs.Crossings.{agree_crossing, cross_either, cross_after}

@@ -27,7 +27,7 @@ use Rattle.tre_mark.specs.Marked.{Marked, EndBetween, IsWellAt}
 use Rattle.tre_mark.proofs.Agreeing.{agree_refl, agree_sym, agree_then, agree_composed, agree_either, agree_assoc, joined_composed}
 use Rattle.tre_mark.proofs.Meanings.{Scales-Marked, IsOrdered-Marked, around_present}
 use Rattle.tre_mark.proofs.Starts.{end_at_none, nothing_restriction}
-use Rattle.tre_advance.specs.Advance.{end_of_piece, cut_behind}
+use Rattle.tre_edges.specs.Piece.{end_of_piece, cut_behind}
 use Rattle.tre_advance.proofs.Crossings.{IsFront, agree_crossing, cross_followed, cross_after, distributes}
 use Rattle.tre_advance.proofs.Going.{over, alone, behind, cut_of, long_front, mark_grows, mark_early, mark_ends, begin_end, begin_le, ends_composed, tree_ends}
 use Rattle.tre_advance.proofs.Steps.{Inner, Beside, Followed}

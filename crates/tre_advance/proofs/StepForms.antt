@@ -4,15 +4,18 @@ use Rattle.tre_syntax.specs.PatternTree.{PatternTree, intersection, restriction}
 use Rattle.tre_zone.specs.Interval.{IntervalEnds}
 use Rattle.tre_zone.specs.declared.zone_bounds.ZoneBounds.{ZoneBounds}
 use Rattle.tre_edges.specs.declared.piece.Piece.{Piece}
+use Rattle.tre_residual.specs.Residual.{Held}
+use Rattle.tre_mark.proofs.Agreeing.{agree_then}
 use Rattle.tre_mark.specs.MarkTree.{MarkTree, intersection_none, intersection_one, restriction_none, restriction_one, mark_of, instance_before, behind}
 use Rattle.tre_mark.specs.Marked.{Marked, EndBetween, IsWell, IsWellAt}
 use Rattle.tre_mark.specs.declared.mark.Instance.{Instance}
 use Rattle.tre_mark.specs.declared.mark.Mark.{Mark}
-use Rattle.tre_advance.specs.Advance.{end_of_piece}
+use Rattle.tre_edges.specs.Piece.{end_of_piece}
 use Rattle.tre_advance.specs.Instances.{join, KeepsLasting, KeepsBoth}
-use Rattle.tre_advance.specs.Moves.{StepsTo}
+use Rattle.tre_advance.specs.Moves.{StepsTo, EntersTo}
+use Rattle.tre_advance.specs.Sets.{IsSetOf}
 use Rattle.tre_advance.proofs.Going.{alone}
-use Rattle.tre_advance.proofs.SetsOf.{set_none, no_pair}
+use Rattle.tre_advance.proofs.SetsOf.{set_agrees, set_of, set_none, no_pair}
 use Rattle.tre_advance.proofs.InstanceSteps.{lasting_more, both_more}
 
 -- An instance of a restriction has no right side.
@@ -114,6 +117,33 @@ module _ (piece : Piece) (left right : PatternTree) (x : Instance)
       (subst (λ (m : MarkTree). IsWellAt piece.begin m (intersection left right))
       (shape intersection_none) last)
       steps inner inner' kept)
+
+-- What the instances have told is made one set.
+pub steps_united : {piece : Piece} {tree : PatternTree} {mark rest : MarkTree}
+    {told list : List ZoneBounds} → IsSetOf told (Held list) → StepsTo mark tree piece list rest
+    → StepsTo mark tree piece told rest
+steps_united union steps = record {
+  tells = set_of (agree_then (set_agrees union) (set_agrees steps.tells));
+  leaves = steps.leaves;
+  between = record {
+    begin = λ a b n some h. steps.between.begin a b n some ((union.pairs a b n some).0 h);
+    end = λ a b n some h. steps.between.end a b n some ((union.pairs a b n some).0 h);
+  };
+  well = steps.well;
+}
+
+pub enters_united : {piece : Piece} {tree : PatternTree} {mark rest : MarkTree}
+    {enter told list : List ZoneBounds} → IsSetOf told (Held list)
+    → EntersTo mark tree enter piece list rest → EntersTo mark tree enter piece told rest
+enters_united union enters = record {
+  tells = set_of (agree_then (set_agrees union) (set_agrees enters.tells));
+  leaves = enters.leaves;
+  between = record {
+    begin = λ a b n some h. enters.between.begin a b n some ((union.pairs a b n some).0 h);
+    end = λ a b n some h. enters.between.end a b n some ((union.pairs a b n some).0 h);
+  };
+  well = enters.well;
+}
 
 -- Where no instance is there, nothing is told or left.
 module _ (piece : Piece) (told : List ZoneBounds) (empty : told ≡ []) where

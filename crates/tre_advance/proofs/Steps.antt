@@ -22,7 +22,8 @@ use Rattle.tre_mark.specs.MarkTree.{MarkTree}
 use Rattle.tre_mark.specs.Marked.{Marked, EndBetween, IsWellAt, IsUnbegun}
 use Rattle.tre_mark.proofs.Agreeing.{agree_refl, agree_sym, agree_then, agree_either}
 use Rattle.tre_mark.proofs.Meanings.{around_present}
-use Rattle.tre_advance.specs.Advance.{end_of_piece, GoesOver, MarkedBehind, Advances}
+use Rattle.tre_edges.specs.Piece.{end_of_piece}
+use Rattle.tre_advance.specs.Advance.{GoesOver, MarkedBehind, Advances}
 use Rattle.tre_advance.specs.Moves.{StepsTo, EntersTo, Begins}
 use Rattle.tre_advance.specs.Sets.{IsSetOf}
 use Rattle.tre_advance.proofs.Crossings.{cross_either}

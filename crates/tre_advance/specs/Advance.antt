@@ -1,33 +1,20 @@
 -- What one more piece of a trace makes of a mark.
-use Rattle.std.specs.Prelude.{ℕ, ◌+◌, ◌<◌, ◌↔◌, List, [], ◌∷◌}
+use Rattle.std.specs.Prelude.{ℕ, ◌<◌, ◌↔◌, List, []}
 use Rattle.tre_pairs.specs.Cuts.{Crossing}
 use Rattle.tre_pairs.specs.Pairs.{Pairs, Composed, Either}
 use Rattle.tre_zone.specs.ZoneList.{HoldExactly}
 use Rattle.tre_zone.specs.declared.zone_bounds.ZoneBounds.{ZoneBounds}
 use Rattle.tre_trace.specs.Trace.{AreLong}
 use Rattle.tre_trace.specs.declared.segment.Segment.{Segment}
-use Rattle.tre_syntax.specs.Cut.{CutRest, uncut, back_of}
+use Rattle.tre_syntax.specs.Cut.{uncut, back_of}
 use Rattle.tre_syntax.specs.Meaning.{MatchesRest}
 use Rattle.tre_syntax.specs.PatternTree.{PatternTree}
 use Rattle.tre_syntax.specs.Rest.{Rest}
+use Rattle.tre_edges.specs.Piece.{end_of_piece, cut_behind}
 use Rattle.tre_edges.specs.declared.piece.Piece.{Piece}
 use Rattle.tre_residual.specs.Residual.{Held}
 use Rattle.tre_mark.specs.MarkTree.{MarkTree}
 use Rattle.tre_mark.specs.Marked.{Marked, EndBetween, IsWellAt}
-
--- When the piece ends.
-abbrev pub end_of_piece : Piece → ℕ
-end_of_piece piece = piece.begin + piece.segment.len
-
--- The rest of a trace that begins with the piece and goes on with the segments, cut where the piece
--- ends.
-abbrev pub cut_behind : Piece → List Segment → CutRest
-cut_behind piece segments = record {
-  start = piece.begin;
-  before = piece.before;
-  front = piece.segment ∷ [];
-  back = segments;
-}
 
 -- The pairs of the mark, and those of the set that a match of the expression follows.
 abbrev pub Goes : Rest → MarkTree → PatternTree → List ZoneBounds → Pairs

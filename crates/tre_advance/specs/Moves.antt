@@ -13,7 +13,7 @@ use Rattle.tre_syntax.specs.PatternTree.{PatternTree, empty, literal, rise, fall
 use Rattle.tre_edges.specs.declared.piece.Piece.{Piece}
 use Rattle.tre_mark.specs.MarkTree.{MarkTree, repetition_mark}
 use Rattle.tre_mark.specs.Marked.{Marked, EndBetween, IsWellAt}
-use Rattle.tre_advance.specs.Advance.{end_of_piece, cut_behind}
+use Rattle.tre_edges.specs.Piece.{end_of_piece, cut_behind}
 use Rattle.tre_advance.specs.Sets.{IsSetOf}
 
 -- The mark went over the piece, and nothing entered.

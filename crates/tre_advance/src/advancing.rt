@@ -4,7 +4,8 @@ ghost use Rattle.tre_syntax.specs.Expr.{tree_of};
 ghost use Rattle.tre_syntax.specs.PatternTree.{NumbersBelow};
 ghost use Rattle.tre_mark.specs.MarkTree.{mark_of};
 ghost use Rattle.tre_mark.specs.Marked.{EndBetween, IsWellAt};
-ghost use Rattle.tre_advance.specs.Advance.{end_of_piece, Advances};
+ghost use Rattle.tre_edges.specs.Piece.{end_of_piece};
+ghost use Rattle.tre_advance.specs.Advance.{Advances};
 
 use crate::enter::enter;
 use crate::sets::joined;

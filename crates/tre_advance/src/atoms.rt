@@ -6,7 +6,7 @@ ghost use Rattle.tre_syntax.specs.PatternTree.{NumbersBelow};
 ghost use Rattle.tre_zone.specs.declared.zone_bounds.ZoneBounds.{ZoneBounds};
 ghost use Rattle.tre_mark.specs.MarkTree.{mark_of, atom_mark};
 ghost use Rattle.tre_mark.specs.Marked.{EndBetween, IsWellAt};
-ghost use Rattle.tre_advance.specs.Advance.{end_of_piece};
+ghost use Rattle.tre_edges.specs.Piece.{end_of_piece};
 ghost use Rattle.tre_advance.specs.Moves.{StepsTo, EntersTo, IsBriefTree, IsLiteralTree};
 
 use crate::sets::{ending_at, followed, joined};

@@ -7,11 +7,12 @@ ghost use Rattle.tre_zone.specs.Zone.{IsInstantBetween};
 ghost use Rattle.tre_zone.specs.ZoneList.{HoldExactly};
 ghost use Rattle.tre_mark.specs.MarkTree.{mark_of, intersection_none, restriction_none, instances_before};
 ghost use Rattle.tre_mark.specs.Marked.{EndBetween, IsWellAt, IsUnbegun};
-ghost use Rattle.tre_advance.specs.Advance.{end_of_piece};
+ghost use Rattle.tre_edges.specs.Piece.{end_of_piece};
 ghost use Rattle.tre_advance.specs.Moves.{EntersTo, Begins};
 
 use crate::atoms::{enter_brief, enter_literal};
 use crate::instances::{Kept, keep_both, keep_lasting};
+use crate::sets::united;
 use crate::stepping::{Advanced, either, enter_in_turn, leave_again, repeat};
 use std::alloc::{AllocError, Global};
 use tre_edges::Piece;
@@ -153,12 +154,13 @@ fn enter_lasting(
 {
     let end = piece.begin + piece.segment.len;
     let kept = Kept {
-        told: ZoneSet::new(alloc),
+        told: Vec::new(alloc),
         rest: instances,
     };
     let kept = keep_lasting(alloc, kept, piece.begin, end, zones, begun, interval, end)?;
+    let told = united(alloc, kept.told)?;
     Ok(Advanced {
-        told: kept.told,
+        told,
         rest: Mark::Within(kept.rest),
     })
 }
@@ -183,12 +185,13 @@ fn enter_both(
 {
     let end = piece.begin + piece.segment.len;
     let kept = Kept {
-        told: ZoneSet::new(alloc),
+        told: Vec::new(alloc),
         rest: instances,
     };
     let kept = keep_both(alloc, kept, piece.begin, end, zones, one, other)?;
+    let told = united(alloc, kept.told)?;
     Ok(Advanced {
-        told: kept.told,
+        told,
         rest: Mark::Meet(kept.rest),
     })
 }

@@ -8,17 +8,18 @@ ghost use Rattle.tre_mark.specs.MarkTree.{mark_of, intersection_none, intersecti
 ghost use Rattle.tre_advance.specs.Instances.{join, IsPast, KeepsLasting, KeepsBoth};
 ghost use Rattle.tre_advance.specs.Sets.{IsSetOf};
 
-use crate::sets::{followed, joined, met, within};
+use crate::sets::{followed, gathered, met, within};
 use crate::stepping::Advanced;
 use std::alloc::{AllocError, Global};
 use tre_mark::{Instances, Mark, both, lasting};
-use tre_zone::Interval;
+use tre_zone::{Interval, Zone};
 use tre_zoneset::ZoneSet;
 
-/// What the instances have told so far, and those that are left.
+/// What the instances have told so far, as a list that is to become a set once all have told, and
+/// those that are left.
 #[derive(Debug, Drop)]
 pub struct Kept {
-    pub told: ZoneSet,
+    pub told: Vec<Zone>,
     pub rest: Instances,
 }
 
@@ -35,9 +36,9 @@ pub fn keep_lasting(
     time: u64,
 ) -> Result<Kept, AllocError>
     requires { to ≤ TIME_MAX }
-    ensures { IfOk result (λ new. KeepsLasting interval.now time kept.told
+    ensures { IfOk result (λ new. KeepsLasting interval.now time kept.told.items
         (instances_before kept.rest restriction_none) from to outer.now next.told
-        (mark_of next.rest) new.told (instances_before new.rest restriction_none)) }
+        (mark_of next.rest) new.told.items (instances_before new.rest restriction_none)) }
 {
     let told = tell_lasting(alloc, kept.told, outer, &next.told, interval)?;
     if is_past(to, interval, time) || next.rest.is_nothing() {
@@ -60,9 +61,9 @@ pub fn keep_both(
     one: Advanced,
     other: Advanced,
 ) -> Result<Kept, AllocError>
-    ensures { IfOk result (λ new. KeepsBoth kept.told
+    ensures { IfOk result (λ new. KeepsBoth kept.told.items
         (instances_before kept.rest intersection_none) from to outer.now one.told other.told
-        (mark_of one.rest) (mark_of other.rest) new.told
+        (mark_of one.rest) (mark_of other.rest) new.told.items
         (instances_before new.rest intersection_none)) }
 {
     let told = tell_both(alloc, kept.told, outer, &one.told, &other.told)?;
@@ -76,36 +77,36 @@ pub fn keep_both(
     Ok(Kept { told, rest })
 }
 
-// Adds to the set what an instance of a restriction tells.
+// Adds to the list what an instance of a restriction tells.
 fn tell_lasting(
     alloc: Global,
-    told: ZoneSet,
+    told: Vec<Zone>,
     outer: &ZoneSet,
     ended: &ZoneSet,
     interval: &Interval,
-) -> Result<ZoneSet, AllocError>
-    ensures { IfOk result (λ zones. IsSetOf zones (Either (Held told) (Composed (Held outer.now)
-        (Lasting (LastsWithin interval.now) (Held ended.now))))) }
+) -> Result<Vec<Zone>, AllocError>
+    ensures { IfOk result (λ zones. IsSetOf zones.items (Either (Held told.items)
+        (Composed (Held outer.now) (Lasting (LastsWithin interval.now) (Held ended.now))))) }
 {
     let lasting = within(alloc, ended, interval)?;
     let new = followed(alloc, outer, &lasting)?;
-    joined(told, &new)
+    gathered(told, &new)
 }
 
-// Adds to the set what an instance of an intersection tells.
+// Adds to the list what an instance of an intersection tells.
 fn tell_both(
     alloc: Global,
-    told: ZoneSet,
+    told: Vec<Zone>,
     outer: &ZoneSet,
     one: &ZoneSet,
     other: &ZoneSet,
-) -> Result<ZoneSet, AllocError>
-    ensures { IfOk result (λ zones. IsSetOf zones (Either (Held told) (Composed (Held outer.now)
-        (Both (Held one.now) (Held other.now))))) }
+) -> Result<Vec<Zone>, AllocError>
+    ensures { IfOk result (λ zones. IsSetOf zones.items (Either (Held told.items)
+        (Composed (Held outer.now) (Both (Held one.now) (Held other.now))))) }
 {
     let both = met(alloc, one, other)?;
     let new = followed(alloc, outer, &both)?;
-    joined(told, &new)
+    gathered(told, &new)
 }
 
 // Whether what began at `to` is too long for the interval where it ends at `time` or later.

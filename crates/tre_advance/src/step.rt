@@ -12,6 +12,7 @@ ghost use Rattle.tre_advance.specs.Moves.{StepsTo};
 use crate::atoms::{step_brief, step_literal};
 use crate::enter::enter;
 use crate::instances::{Kept, keep_both, keep_lasting};
+use crate::sets::united;
 use crate::stepping::{Advanced, either, leave_again, step_in_turn, tell_again};
 use std::alloc::{AllocError, Global};
 use tre_edges::Piece;
@@ -94,8 +95,9 @@ pub fn step(alloc: Global, mark: &Mark, expr: &Expr, piece: &Piece) -> Result<Ad
                     let second = step(alloc, other, right, piece)?;
                     kept = go_on_both(alloc, kept, instance, first, second)?;
                 }
+                let told = united(alloc, kept.told)?;
                 Ok(Advanced {
-                    told: kept.told,
+                    told,
                     rest: Mark::Meet(kept.rest),
                 })
             }
@@ -110,8 +112,9 @@ pub fn step(alloc: Global, mark: &Mark, expr: &Expr, piece: &Piece) -> Result<Ad
                     let next = step(alloc, inner, body, piece)?;
                     kept = go_on_lasting(alloc, kept, instance, next, interval, piece)?;
                 }
+                let told = united(alloc, kept.told)?;
                 Ok(Advanced {
-                    told: kept.told,
+                    told,
                     rest: Mark::Within(kept.rest),
                 })
             }
@@ -123,14 +126,14 @@ pub fn step(alloc: Global, mark: &Mark, expr: &Expr, piece: &Piece) -> Result<Ad
 // No instance has told anything, and none is left.
 fn nothing_kept(alloc: Global) -> Kept
     ensures lasting { (tree : PatternTree) (interval : IntervalEnds) (piece : Piece)
-        → StepsTo restriction_none (restriction tree interval) piece result.told
+        → StepsTo restriction_none (restriction tree interval) piece result.told.items
         (instances_before result.rest restriction_none) }
     ensures both { (left right : PatternTree) (piece : Piece)
-        → StepsTo intersection_none (intersection left right) piece result.told
+        → StepsTo intersection_none (intersection left right) piece result.told.items
         (instances_before result.rest intersection_none) }
 {
     Kept {
-        told: ZoneSet::new(alloc),
+        told: Vec::new(alloc),
         rest: Instances::new(alloc),
     }
 }
@@ -149,11 +152,11 @@ fn go_on_lasting(
         → IsWellAt piece.now.begin is (restriction tree interval.now)
         → IsWellAt piece.now.begin (instance_before instance.now restriction_none)
         (restriction tree interval.now)
-        → StepsTo is (restriction tree interval.now) piece.now kept.told
+        → StepsTo is (restriction tree interval.now) piece.now kept.told.items
         (instances_before kept.rest restriction_none)
         → StepsTo (mark_of instance.now.left.value) tree piece.now next.told (mark_of next.rest)
         → StepsTo (join is (instance_before instance.now restriction_none))
-        (restriction tree interval.now) piece.now new.told
+        (restriction tree interval.now) piece.now new.told.items
         (instances_before new.rest restriction_none)) }
 {
     let end = piece.begin + piece.segment.len;
@@ -221,12 +224,12 @@ fn go_on_both(
         → ((others : MarkTree) → instance_before instance.now others
         ≡ intersection_one instance.now.from instance.now.to instance.now.outer
         (mark_of instance.now.left.value) other others)
-        → StepsTo is (intersection left right) piece kept.told
+        → StepsTo is (intersection left right) piece kept.told.items
         (instances_before kept.rest intersection_none)
         → StepsTo (mark_of instance.now.left.value) left piece first.told (mark_of first.rest)
         → StepsTo other right piece second.told (mark_of second.rest)
         → StepsTo (join is (instance_before instance.now intersection_none))
-        (intersection left right) piece new.told
+        (intersection left right) piece new.told.items
         (instances_before new.rest intersection_none)) }
 {
     let outer = &instance.outer;

@@ -11,7 +11,7 @@ ghost use Rattle.tre_edges.specs.declared.piece.Piece.{Piece};
 ghost use Rattle.tre_residual.specs.Residual.{Held, EndAt};
 ghost use Rattle.tre_mark.specs.MarkTree.{MarkTree, mark_of, sequence_mark, alternation_mark};
 ghost use Rattle.tre_mark.specs.Marked.{EndBetween};
-ghost use Rattle.tre_advance.specs.Advance.{end_of_piece, cut_behind};
+ghost use Rattle.tre_edges.specs.Piece.{end_of_piece, cut_behind};
 ghost use Rattle.tre_advance.specs.Moves.{StepsTo, EntersTo, KeepsHere};
 ghost use Rattle.tre_advance.specs.Sets.{IsSetOf};
 

@@ -19,6 +19,8 @@ pub mod laws;
 mod mark;
 mod nothing;
 mod start;
+#[cfg(test)]
+mod tests;
 
 pub use forms::{alternation, atom, both, lasting, moments, repetition, sequence};
 pub use mark::{Instance, Instances, Mark};

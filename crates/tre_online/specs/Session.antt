@@ -27,6 +27,10 @@ at_of session = session.at
 abbrev pub ended_of : Session → List ZoneBounds
 ended_of session = session.ended
 
+-- How far the matches that may go on have come.
+abbrev pub kept_of : Session → MarkTree
+kept_of session = mark_of session.mark
+
 -- A trace that is cut where its first segments end.
 abbrev pub cut_after : List Segment → List Segment → CutRest
 cut_after segments next =
@@ -46,7 +50,7 @@ pub record StandsFor (session : Session) (segments : List Segment) : Type 0 wher
   pub trace : IsTrace segments
   pub at : at_of session ≡ end_of 0 segments
   pub last : session.last ≡ last_of None segments
-  pub awaits : AwaitsMatches (mark_of session.mark) (pattern_tree (pattern_of session)) segments
+  pub awaits : AwaitsMatches (kept_of session) (pattern_tree (pattern_of session)) segments
   pub ended : (a b n : ℕ) → 0 < n → a ≤ b → SetHolds (ended_of session) a b n
       → Matches (pattern_tree (pattern_of session)) segments a b n
   pub unstarted : segments ≡ [] → ended_of session ≡ []

@@ -29,15 +29,15 @@ pub struct Session {
 }
 
 impl Session {
-    ghost use Rattle.std.specs.Prelude.{[], ◌∷◌, ◌++◌, List, IfOk, OnOk, OnErr, IfErr};
+    ghost use Rattle.std.specs.Prelude.{◌-◌, ◌^◌, min, [], ◌∷◌, ◌++◌, List, IfOk, OnOk, OnErr, IfErr};
     ghost use Rattle.tre_edges.specs.declared.piece.Piece.{Piece};
     ghost use Rattle.tre_trace.specs.Trace.{end_of, Fits, IsRefusedFor};
     ghost use Rattle.tre_trace.specs.declared.segment.Segment.{Segment};
     ghost use Rattle.tre_mark.specs.MarkTree.{mark_of};
-    ghost use Rattle.tre_mark.specs.Nodes.{form_count, HasNoInstances};
+    ghost use Rattle.tre_mark.specs.Nodes.{mark_node_count, form_count, HasNoInstances};
     ghost use Rattle.tre_syntax.specs.PatternTree.{node_count};
     ghost use Rattle.tre_syntax.specs.Pattern.{pattern_tree, names_of};
-    ghost use Rattle.tre_online.specs.Session.{pattern_of, at_of, ended_of, StandsFor, TellsNew};
+    ghost use Rattle.tre_online.specs.Session.{pattern_of, at_of, ended_of, kept_of, StandsFor, TellsNew};
     ghost use Rattle.tre_online.specs.Reading.{AreMoments, IsPieceFor, Reads};
 
     /// A session that has read no segment.
@@ -75,9 +75,11 @@ impl Session {
         &self.pattern
     }
 
-    /// How many nodes there are in what may still become a match, however many segments came. For a
-    /// pattern without `&` and `%` they are no more than the pattern has.
+    /// How many nodes there are in what may still become a match, however many segments came, or
+    /// `u64::MAX` where there are more. For a pattern without `&` and `%` they are no more than the
+    /// pattern has.
     pub fn kept_nodes(&self) -> u64
+        ensures all { result ≡ min (mark_node_count (kept_of self.now)) (2 ^ 64 - 1) }
         ensures same { HasNoInstances (pattern_tree (pattern_of self.now)) →
             result ≡ form_count (pattern_tree (pattern_of self.now)) }
         ensures bound { HasNoInstances (pattern_tree (pattern_of self.now)) →

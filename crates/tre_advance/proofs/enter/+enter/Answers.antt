@@ -8,7 +8,7 @@ use Rattle.tre_syntax.specs.Expr.{tree_of}
 use Rattle.tre_syntax.specs.PatternTree.{PatternTree, empty, literal, rise, fall, sequence, alternation, intersection, repetition, restriction}
 use Rattle.tre_mark.specs.MarkTree.{MarkTree, mark_of, sequence_mark, alternation_mark, repetition_mark, intersection_none, restriction_none, instances_before}
 use Rattle.tre_mark.specs.Marked.{IsWell, IsWellAt}
-use Rattle.tre_advance.specs.Advance.{end_of_piece}
+use Rattle.tre_edges.specs.Piece.{end_of_piece}
 use Rattle.tre_advance.specs.Moves.{EntersTo}
 use Rattle.tre_advance.specs.Sets.{IsSetOf}
 use Rattle.tre_advance.proofs.Going.{alone}

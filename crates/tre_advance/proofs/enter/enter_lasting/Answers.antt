@@ -1,9 +1,10 @@
 use Rattle.std.proofs.Common.{List, subst}
 use Rattle.tre_zone.specs.declared.zone_bounds.ZoneBounds.{ZoneBounds}
 use Rattle.tre_mark.specs.MarkTree.{mark_of, restriction_none, instances_before}
-use Rattle.tre_advance.specs.Advance.{end_of_piece}
+use Rattle.tre_edges.specs.Piece.{end_of_piece}
 use Rattle.tre_advance.specs.Instances.{KeepsLasting}
 use Rattle.tre_advance.proofs.InstanceSteps.{lasting_enters}
+use Rattle.tre_advance.proofs.StepForms.{enters_united}
 use Rattle.tre_advance.proofs.enter.enter_lasting.Goals as goal
 
 pub returns : goal.returns
@@ -15,8 +16,9 @@ returns c tree well begins =
     let old = instances_before c.args.instances restriction_none in
     let kept = c.in_ok-kept.kept in
     let new = instances_before kept.rest restriction_none in
-    lasting_enters piece tree interval zones begun.told kept.told old (mark_of begun.rest) new
-    c.requires.enter well begins
+    enters_united c.in_ok-told.ensures
+    (lasting_enters piece tree interval zones begun.told kept.told.items old
+    (mark_of begun.rest) new c.requires.enter well begins
     (subst (λ (list : List ZoneBounds). KeepsLasting interval (end_of_piece piece) list old
-    piece.begin (end_of_piece piece) zones begun.told (mark_of begun.rest) kept.told new)
-    c.new.ensures c.in_ok-kept.ensures)
+    piece.begin (end_of_piece piece) zones begun.told (mark_of begun.rest) kept.told.items new)
+    c.new.ensures.items c.in_ok-kept.ensures))

@@ -6,9 +6,9 @@ use Rattle.tre_advance.proofs.instances.tell_both.Goals as goal
 
 pub returns : goal.returns
 returns c =
-    IfOk-weaker c.joined.result _ _
+    IfOk-weaker c.gathered.result _ _
     (λ zones set. set_of (agree_then (set_agrees set)
-    (agree_either (agree_refl (Held c.args.told))
+    (agree_either (agree_refl (Held c.args.told.items))
     (agree_then (set_agrees c.in_ok-new.ensures)
     (agree_composed (agree_refl (Held c.args.outer.now)) (set_agrees c.in_ok-both.ensures))))))
-    c.joined.ensures
+    c.gathered.ensures

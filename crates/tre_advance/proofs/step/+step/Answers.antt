@@ -14,6 +14,7 @@ use Rattle.tre_advance.specs.Moves.{StepsTo}
 use Rattle.tre_advance.proofs.CallForms.{IfOk-both, steps_moved, repetition_steps_to}
 use Rattle.tre_advance.proofs.Joins.{end_intersection, end_restriction, listed_both, listed_lasting, item_well, joined_more}
 use Rattle.tre_advance.proofs.ShapeForms.{shape_atom, shape_sequence, shape_alternation, shape_repetition, shape_intersection, shape_restriction}
+use Rattle.tre_advance.proofs.StepForms.{steps_united}
 use Rattle.tre_advance.proofs.step.+step.Goals as goal
 
 pub unreachable-requires : goal.unreachable-requires
@@ -256,7 +257,7 @@ loop-instance-preserved t c =
     form c.requires.well i x c.loop-instance-test.true c.instance-item.is in
     let kept = c.in_ok-kept-in-Meet-mark.kept in
     let first = c.in_ok-first-in-Meet-mark.first in
-    subst (λ (m : MarkTree). StepsTo m (intersection left right) piece kept.told
+    subst (λ (m : MarkTree). StepsTo m (intersection left right) piece kept.told.items
     (instances_before kept.rest intersection_none))
     (sym (joined_more list intersection_none end_intersection i x c.loop-instance-test.true
     c.instance-item.is))
@@ -267,8 +268,8 @@ loop-instance-preserved t c =
     c.left_of-one.ensures.same c.in_ok-first-in-Meet-mark.ensures)
     c.in_ok-second-in-Meet-mark.ensures)
 
-pub returns-after-loop-instance : goal.returns-after-loop-instance
-returns-after-loop-instance t c =
+pub returns-in_ok-told-in-Meet-mark : goal.returns-in_ok-told-in-Meet-mark
+returns-in_ok-told-in-Meet-mark t c =
     let piece = c.args.piece.now in
     let list = c.items-instance-items.result.now in
     let left = tree_of c.deref-left-in-Meet-mark.result.now in
@@ -282,12 +283,13 @@ returns-after-loop-instance t c =
     ap mark_of c.in-Meet-mark.is ∙ sym (c.items-instance-items.ensures intersection_none) in
     let kept = c.loop-instance.kept in
     steps_moved piece (list_before list intersection_none) (mark_of c.args.mark.now)
-    (intersection left right) (tree_of c.args.expr.now) kept.told
+    (intersection left right) (tree_of c.args.expr.now) c.in_ok-told-in-Meet-mark.told
     (instances_before kept.rest intersection_none) shape form
+    (steps_united c.in_ok-told-in-Meet-mark.ensures
     (subst (λ (l : List Instance). StepsTo (list_before l intersection_none)
-    (intersection left right) piece kept.told (instances_before kept.rest intersection_none))
+    (intersection left right) piece kept.told.items (instances_before kept.rest intersection_none))
     (take_all c.loop-instance.instance-index list c.loop-instance-test.false)
-    c.loop-instance.invariant)
+    c.loop-instance.invariant))
 
 -- ---- the instances of a restriction
 
@@ -336,7 +338,7 @@ loop-instance-2-preserved t c =
     c.instance-item-in-loop-instance-2.is in
     let kept = c.in_ok-kept-in-Within-mark.kept in
     let next = c.in_ok-next-in-Within-mark.next in
-    subst (λ (m : MarkTree). StepsTo m (restriction tree interval) piece kept.told
+    subst (λ (m : MarkTree). StepsTo m (restriction tree interval) piece kept.told.items
     (instances_before kept.rest restriction_none))
     (sym (joined_more list restriction_none end_restriction i x c.loop-instance-2-test.true
     c.instance-item-in-loop-instance-2.is))
@@ -345,8 +347,8 @@ loop-instance-2-preserved t c =
     (subst (λ (m : Mark). StepsTo (mark_of m) tree piece next.told (mark_of next.rest))
     c.body_of-inner.ensures.same c.in_ok-next-in-Within-mark.ensures))
 
-pub returns-after-loop-instance-2 : goal.returns-after-loop-instance-2
-returns-after-loop-instance-2 t c =
+pub returns-in_ok-told-in-Within-mark : goal.returns-in_ok-told-in-Within-mark
+returns-in_ok-told-in-Within-mark t c =
     let piece = c.args.piece.now in
     let list = c.items-instance-items-in-Within-mark.result.now in
     let tree = tree_of c.deref-body-in-Within-mark.result.now in
@@ -359,9 +361,10 @@ returns-after-loop-instance-2 t c =
     ∙ sym (c.items-instance-items-in-Within-mark.ensures restriction_none) in
     let kept = c.loop-instance-2.kept in
     steps_moved piece (list_before list restriction_none) (mark_of c.args.mark.now)
-    (restriction tree interval) (tree_of c.args.expr.now) kept.told
+    (restriction tree interval) (tree_of c.args.expr.now) c.in_ok-told-in-Within-mark.told
     (instances_before kept.rest restriction_none) shape form
+    (steps_united c.in_ok-told-in-Within-mark.ensures
     (subst (λ (l : List Instance). StepsTo (list_before l restriction_none)
-    (restriction tree interval) piece kept.told (instances_before kept.rest restriction_none))
+    (restriction tree interval) piece kept.told.items (instances_before kept.rest restriction_none))
     (take_all c.loop-instance-2.instance-index list c.loop-instance-2-test.false)
-    c.loop-instance-2.invariant)
+    c.loop-instance-2.invariant))

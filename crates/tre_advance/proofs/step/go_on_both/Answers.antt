@@ -7,8 +7,8 @@ pub returns : goal.returns
 returns c =
     IfOk-weaker c.keep_both.result _ _
     (λ new kept is other left right piece well last shape steps inner inner'.
-    both_goes_on piece left right c.args.instance.now c.args.kept.told c.args.first.told
-    c.args.second.told new.told is other (instances_before c.args.kept.rest intersection_none)
+    both_goes_on piece left right c.args.instance.now c.args.kept.told.items c.args.first.told
+    c.args.second.told new.told.items is other (instances_before c.args.kept.rest intersection_none)
     (mark_of c.args.first.rest) (mark_of c.args.second.rest)
     (instances_before new.rest intersection_none) shape well last steps inner inner' kept)
     c.keep_both.ensures
