@@ -2,11 +2,11 @@
 use Rattle.std.proofs.Common.{◌≡◌, ℕ, ◌<◌, ◌≤◌, List, [], length, ap, ◌∙◌, arith}
 use Rattle.tre_offline.specs.MatchSet.{IsMatchSet}
 use Rattle.tre_syntax.specs.Meaning.{Matches}
+use Rattle.tre_syntax.specs.PatternTree.{PatternTree}
 use Rattle.tre_trace.specs.Trace.{end_of}
 use Rattle.tre_trace.specs.declared.segment.Segment.{Segment}
 use Rattle.tre_zone.specs.ZoneList.{SetHolds}
 use Rattle.tre_zone.specs.declared.zone_bounds.ZoneBounds.{ZoneBounds}
-use Rattle.tre_generate.specs.FixedPattern.{fixed_tree}
 use Rattle.tre_generate.specs.Made.{made_trace}
 use Rattle.tre_generate.specs.Probes.{IsInside, IsProbed}
 use Rattle.tre_generate.specs.Summary.{summary_text, IsSummary}
@@ -24,9 +24,9 @@ made_some count some none =
     ap (λ (list : List Segment). length list) none in
     absurd (omega (arith, size, zero, some))
 
-module _ (count : ℕ) (some : 1 ≤ count) (whole told : List ZoneBounds) (tally : Tally)
-    (matched : IsMatchSet whole fixed_tree (made_trace count))
-    (are_told : AreTold fixed_tree (made_trace count) told)
+module _ (tree : PatternTree) (count : ℕ) (some : 1 ≤ count) (whole told : List ZoneBounds) (tally : Tally)
+    (matched : IsMatchSet whole tree (made_trace count))
+    (are_told : AreTold tree (made_trace count) told)
     (counted : IsTally whole told (made_trace count) count tally) where
   all_alike : (a b n : ℕ) → 0 < n → a ≤ b → AreAlike (SetHolds whole) (SetHolds told) a b n
   all_alike a b n pos le =
@@ -44,7 +44,7 @@ module _ (count : ℕ) (some : 1 ≤ count) (whole told : List ZoneBounds) (tall
   pub summary_is : (text : List ℕ)
       → text ≡ summary_text count (end_of 0 (made_trace count)) (length whole) tally.held
       tally.alike tally.probes
-      → IsSummary count text
+      → IsSummary tree count text
   summary_is text is = record {
     zones = whole;
     matches = matched;
@@ -52,8 +52,8 @@ module _ (count : ℕ) (some : 1 ≤ count) (whole told : List ZoneBounds) (tall
     probed = counted.probes;
     held = tally.held;
     matched = count_along (IsProbed (SetHolds whole) (made_trace count))
-        (IsProbed (Matches fixed_tree (made_trace count)) (made_trace count))
-        (probed_along (SetHolds whole) (Matches fixed_tree (made_trace count)) matched.exact.exact
+        (IsProbed (Matches tree (made_trace count)) (made_trace count))
+        (probed_along (SetHolds whole) (Matches tree (made_trace count)) matched.exact.exact
         (made_trace count)) count tally.held counted.held;
     text_is = is ∙ ap (λ (alike : ℕ). summary_text count (end_of 0 (made_trace count))
         (length whole) tally.held alike tally.probes) alike_is;

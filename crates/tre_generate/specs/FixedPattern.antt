@@ -1,5 +1,5 @@
 -- The pattern that is matched: `(<:p:>;(!p % [1,2]))+`, where p is proposition 0.
-use Rattle.std.specs.Prelude.{Some, true}
+use Rattle.std.specs.Prelude.{ℕ, List, [], ◌∷◌, Some, true, codes}
 use Rattle.tre_state.specs.StateTree.{proposition, negation}
 use Rattle.tre_syntax.specs.PatternTree.{PatternTree, atom, literal, rise, fall, sequence, repetition, restriction}
 use Rattle.tre_zone.specs.Interval.{ends_of}
@@ -17,3 +17,7 @@ pause = restriction (atom (literal (negation (proposition 0)))) (ends_of 1 true 
 -- A pulse and then a pause, once or any number of times, one after another.
 abbrev pub fixed_tree : PatternTree
 fixed_tree = sequence (sequence pulse pause) (repetition (sequence pulse pause))
+
+-- Its one name.
+abbrev pub fixed_names : List (List ℕ)
+fixed_names = codes "p" ∷ []

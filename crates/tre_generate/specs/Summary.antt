@@ -3,9 +3,9 @@ use Rattle.std.specs.Prelude.{◌≡◌, ℕ, List, ◌++◌, codes, length}
 use Rattle.tre_offline.specs.MatchSet.{IsMatchSet}
 use Rattle.tre_show.specs.Interval.{number_text}
 use Rattle.tre_syntax.specs.Meaning.{Matches}
+use Rattle.tre_syntax.specs.PatternTree.{PatternTree}
 use Rattle.tre_trace.specs.Trace.{end_of}
 use Rattle.tre_zone.specs.declared.zone_bounds.ZoneBounds.{ZoneBounds}
-use Rattle.tre_generate.specs.FixedPattern.{fixed_tree}
 use Rattle.tre_generate.specs.Made.{made_trace}
 use Rattle.tre_generate.specs.Probes.{IsInside, IsProbed, IsCountOf}
 
@@ -27,15 +27,15 @@ summary_text segments end zones held alike probes =
     ++ share_line (codes "alike ") alike probes
 
 -- The text is the summary of the first segments of the made trace, as many as `count`: its zones
--- are the matches of the fixed pattern, none included in another; `held` of the probes that count
--- are matches; and at all of them both ways of matching are alike.
-pub record IsSummary (count : ℕ) (text : List ℕ) : Type 0 where
+-- are the matches of the pattern, none included in another; `held` of the probes that count are
+-- matches; and at all of them both ways of matching are alike.
+pub record IsSummary (tree : PatternTree) (count : ℕ) (text : List ℕ) : Type 0 where
   pub zones : List ZoneBounds
-  pub matches : IsMatchSet zones fixed_tree (made_trace count)
+  pub matches : IsMatchSet zones tree (made_trace count)
   pub probes : ℕ
   pub probed : IsCountOf (IsInside (made_trace count)) count probes
   pub held : ℕ
-  pub matched : IsCountOf (IsProbed (Matches fixed_tree (made_trace count)) (made_trace count))
+  pub matched : IsCountOf (IsProbed (Matches tree (made_trace count)) (made_trace count))
       count held
   pub text_is : text
       ≡ summary_text count (end_of 0 (made_trace count)) (length zones) held probes probes

@@ -5,6 +5,7 @@ use Rattle.tre_online.specs.declared.session.Session.{Session}
 use Rattle.tre_syntax.specs.Meaning.{Matches}
 use Rattle.tre_syntax.specs.Pattern.{pattern_tree}
 use Rattle.tre_syntax.specs.PatternTree.{PatternTree}
+use Rattle.tre_trace.specs.Trace.{Fits}
 use Rattle.tre_trace.specs.declared.segment.Segment.{Segment}
 use Rattle.tre_zone.specs.Zone.{HasNoPair}
 use Rattle.tre_zone.specs.ZoneList.{SetHolds, HoldExactly}
@@ -16,6 +17,12 @@ pub record AreTold (tree : PatternTree) (segments : List Segment) (zones : List 
     : Type 0 where
   pub none : segments ≡ [] → HasNoPair (SetHolds zones)
   pub exact : (segments ≡ [] → ⊥) → HoldExactly zones (Matches tree segments)
+
+-- The session has read segments behind which this one fits.
+pub record CanRead (session : Session) (segment : Segment) : Type 0 where
+  pub segments : List Segment
+  pub stands : StandsFor session segments
+  pub fits : Fits segments segment
 
 -- The session has read one more segment, and told of it.
 pub record GoesOn (old new : Session) (segments : List Segment) (segment : Segment)

@@ -1,9 +1,11 @@
 // The made trace.
 ghost use Rattle.std.specs.Prelude.{◌≡◌, ◌≤◌, [], ◌∷◌, ◌++◌, IfOk, OnOk};
+ghost use Rattle.tre_trace.specs.Trace.{Fits};
 ghost use Rattle.tre_generate.specs.Made.{made_segment, made_trace};
 ghost use Rattle.tre_generate.specs.declared.made_run.TheConstants.{SEGMENTS_MAX};
 
 use crate::made_run::SEGMENTS_MAX;
+use crate::refusal::want_of_memory;
 use std::alloc::{AllocError, Global};
 use tre_trace::{Trace, generated};
 
@@ -19,12 +21,13 @@ pub fn made_trace(alloc: Global, count: u64) -> Result<Trace, AllocError>
     Ok(trace)
 }
 
+// Puts the segment of a number behind others, where it fits.
 fn push_made(trace: &mut Trace, number: u64) -> Result<(), AllocError>
+    requires { Fits trace.old (made_segment number) }
     ensures { OnOk result (trace.new ≡ trace.old ++ made_segment number ∷ []) }
 {
     match trace.push(generated(number)) {
         Ok(()) => Ok(()),
-        // So few segments fit, and only memory can lack.
-        Err(_) => Err(AllocError),
+        Err(fault) => Err(want_of_memory(fault)),
     }
 }

@@ -1,27 +1,26 @@
 // The summary of a made trace.
-ghost use Rattle.std.specs.Prelude.{◌≡◌, ◌++◌, ◌≤◌, codes, string_bytes, IfOk, OnOk};
+ghost use Rattle.std.specs.Prelude.{◌≡◌, ◌++◌, ◌≤◌, string_bytes, IfOk, OnOk};
+ghost use Rattle.tre_syntax.specs.Pattern.{pattern_tree};
 ghost use Rattle.tre_generate.specs.Summary.{number_line, share_line, summary_text, IsSummary};
 
 use crate::made::made_trace;
-use crate::pattern::fixed_pattern;
 use crate::tally::{Tally, count_probes};
 use crate::told::told_zones;
 use std::alloc::{AllocError, Global};
 use tre_offline::matches;
 use tre_show::number;
+use tre_syntax::Pattern;
 
 /// How many segments a made trace may have.
 pub const SEGMENTS_MAX: u64 = 10_000;
 
-/// Makes the first `count` segments of the made trace, matches the fixed pattern
-/// `(<:p:>;(!p % [1,2]))+` over them, whole and segment by segment, and compares both at a probe
-/// for each segment.
-pub fn summary(alloc: Global, count: u64) -> Result<String, AllocError>
+/// Makes the first `count` segments of the made trace, matches the pattern over them, whole and
+/// segment by segment, and compares both at a probe for each segment.
+pub fn summary(alloc: Global, pattern: Pattern, count: u64) -> Result<String, AllocError>
     requires some { 1 ≤ count }
     requires limit { count ≤ SEGMENTS_MAX }
-    ensures { IfOk result (λ text. IsSummary count (string_bytes text)) }
+    ensures { IfOk result (λ text. IsSummary (pattern_tree pattern) count (string_bytes text)) }
 {
-    let pattern = fixed_pattern(alloc)?;
     let trace = made_trace(alloc, count)?;
     let whole = matches(alloc, &pattern, &trace)?;
     let told = told_zones(alloc, pattern, &trace)?;

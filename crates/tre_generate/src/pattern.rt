@@ -1,18 +1,19 @@
 // The pattern that is matched over a made trace.
-ghost use Rattle.std.specs.Prelude.{◌≡◌, [], ◌∷◌, codes, IfOk};
+ghost use Rattle.std.specs.Prelude.{◌≡◌, IfOk};
 ghost use Rattle.tre_syntax.specs.Expr.{tree_of};
-ghost use Rattle.tre_syntax.specs.Pattern.{pattern_tree};
+ghost use Rattle.tre_syntax.specs.Pattern.{pattern_tree, names_of};
 ghost use Rattle.tre_syntax.specs.PatternTree.{sequence};
-ghost use Rattle.tre_generate.specs.FixedPattern.{pulse, pause, fixed_tree};
+ghost use Rattle.tre_generate.specs.FixedPattern.{pulse, pause, fixed_tree, fixed_names};
 
 use std::alloc::{AllocError, Global};
 use tre_state::{Names, State};
 use tre_syntax::{Expr, Pattern};
 use tre_zone::Interval;
 
-/// The pattern `(<:p:>;(!p % [1,2]))+`.
+/// The pattern that a made trace is matched with, `(<:p:>;(!p % [1,2]))+`.
 pub fn fixed_pattern(alloc: Global) -> Result<Pattern, AllocError>
-    ensures { IfOk result (λ pattern. pattern_tree pattern ≡ fixed_tree) }
+    ensures tree { IfOk result (λ pattern. pattern_tree pattern ≡ fixed_tree) }
+    ensures names { IfOk result (λ pattern. names_of pattern ≡ fixed_names) }
 {
     let once = pulse_and_pause(alloc)?;
     let again = Expr::Star(Box::new(alloc, pulse_and_pause(alloc)?)?);
@@ -25,7 +26,7 @@ pub fn fixed_pattern(alloc: Global) -> Result<Pattern, AllocError>
 
 // The name of proposition 0.
 fn one_name(alloc: Global) -> Result<Names, AllocError>
-    ensures { IfOk result (λ names. names ≡ codes "p" ∷ []) }
+    ensures { IfOk result (λ names. names ≡ fixed_names) }
 {
     let mut names = Names::new(alloc);
     match names.number("p") {

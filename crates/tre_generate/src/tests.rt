@@ -11,10 +11,14 @@ fn a_made_trace_is_matched_both_ways(rt: HostRuntime) -> Result<(), Fail> {
             200,
             "segments 200\nend 399\nzones 196\nheld 66 of 199\nalike 199 of 199\n",
         ),
+        (
+            1000,
+            "segments 1000\nend 1999\nzones 997\nheld 333 of 998\nalike 998 of 998\n",
+        ),
     ];
     for (count, want) in table {
-        let text = summary(rt.alloc(), count)?;
-        assert!(rt; text.as_str() == want, "{want}");
+        let text = summary(rt.alloc(), fixed_pattern(rt.alloc())?, count)?;
+        assert!(rt; text.as_str() == want, "{count}");
     }
     Ok(())
 }

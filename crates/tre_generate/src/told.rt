@@ -3,8 +3,9 @@ ghost use Rattle.std.specs.Prelude.{◌≡◌, List, IfOk};
 ghost use Rattle.tre_online.specs.Session.{pattern_of, StandsFor};
 ghost use Rattle.tre_syntax.specs.Pattern.{pattern_tree};
 ghost use Rattle.tre_trace.specs.declared.segment.Segment.{Segment};
-ghost use Rattle.tre_generate.specs.Told.{AreTold, GoesOn};
+ghost use Rattle.tre_generate.specs.Told.{AreTold, CanRead, GoesOn};
 
+use crate::refusal::want_of_memory;
 use std::alloc::{AllocError, Global};
 use tre_online::Session;
 use tre_syntax::Pattern;
@@ -26,15 +27,15 @@ pub fn told_zones(alloc: Global, pattern: Pattern, trace: &Trace) -> Result<Zone
     Ok(told)
 }
 
-// What the session tells of the segment.
+// What the session tells of a segment that it can read.
 fn told_of(session: &mut Session, segment: Segment) -> Result<ZoneSet, AllocError>
+    requires { CanRead session.old segment }
     ensures goes_on { (segments : List Segment) → StandsFor session.old segments →
         IfOk result (GoesOn session.old session.new segments segment) }
     ensures tree { pattern_tree (pattern_of session.new) ≡ pattern_tree (pattern_of session.old) }
 {
     match session.segment(segment) {
         Ok(told) => Ok(told),
-        // Each segment of a trace fits, and only memory can lack.
-        Err(_) => Err(AllocError),
+        Err(fault) => Err(want_of_memory(fault)),
     }
 }

@@ -3,6 +3,7 @@ pub mod Cuts
 pub mod Digits
 pub mod Feeding
 pub mod Inputs
+pub mod MadeRuns
 pub mod OnlineRuns
 pub mod Outcomes
 pub mod Pieces

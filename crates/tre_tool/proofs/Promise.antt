@@ -1,25 +1,25 @@
 -- What the end of a run says of each part of its promise.
-use Rattle.std.proofs.Common.{◌≡◌, ◌≢◌, ℕ, List, Option, None, Some, IfSome, Result, Ok, Err, OnOk, OnErr, refl, sym, ◌∙◌, subst, inl, inr, ⊎_elim, ap, ◌⊎◌, arith}
+use Rattle.std.proofs.Common.{◌≡◌, ◌≢◌, ℕ, Bool, true, false, List, Option, None, Some, IfSome, Result, Ok, Err, OnOk, OnErr, refl, sym, ◌∙◌, subst, inl, inr, ⊎_elim, ap, ◌⊎◌, arith}
 use Rattle.std.specs.Io.KnownBytes.{Appends}
 use Rattle.tre_io.specs.Faults.{counted, Rises}
 use Rattle.tre_io.specs.Written.{AppendsPart}
-use Rattle.tre_parse.specs.Outcome.{IsOutcome, spelt, refused}
+use Rattle.tre_parse.specs.Outcome.{Outcome as ParseOutcome, IsOutcome, spelt, refused}
 use Rattle.tre_parse.specs.declared.fault.ParseFault.{ParseFault}
 use Rattle.tre_parse.specs.declared.fault.ParseFault.TheVariants.{TooLong, BadByte, Number, TooDeep, Syntax, EmptyInterval, TooManyNames, TooLarge, Memory as ParseMemory}
 use Rattle.tre_parse.proofs.Outcomes.{outcome_once}
 use Rattle.tre_syntax.specs.PatternTree.{PatternTree}
-use Rattle.tre_tool.specs.Job.{GivesJob, GivesNoJob, AreTaken}
+use Rattle.tre_tool.specs.Job.{GivesWhere, GivesJob, GivesNoJob, AreTaken, is_made_run}
 use Rattle.tre_tool.specs.Outcome.{Outcome, completes, refuses, exceeds}
 use Rattle.tre_tool.specs.Answer.{EndsOver, StopsAs, IsFoundFor}
 use Rattle.tre_tool.specs.Devices.{InputTold, OutputTold, NothingWritten, AllReadsGood, AllWritesGood}
-use Rattle.tre_tool.specs.Run.{Request, request_for, AsksFor, Asks, IsRefused, AsksForNothing, EndsAs, EndsDone, EndsTrace, EndsTooLong, EndsReadFault, EndsWriteFault, StandsAtFault, StandsAtFailedRead, StandsAtFailedWrite, IsAnswerIn, IsAnswerTo, IsOnlineAnswerTo, outcome_for, IsStatusFor, IsStatusIn, ReadsInput, IsUnlessMemory, IsComplete}
+use Rattle.tre_tool.specs.Run.{Request, request_for, IsOutcomeIn, AsksFor, Asks, IsRefused, AsksForNothing, EndsAs, EndsDone, EndsTrace, EndsTooLong, EndsReadFault, EndsWriteFault, StandsAtFault, StandsAtFailedRead, StandsAtFailedWrite, IsAnswerIn, IsAnswerTo, IsOnlineAnswerTo, outcome_for, IsStatusFor, IsStatusIn, ReadsInput, IsUnlessMemory, IsComplete}
 use Rattle.tre_tool.specs.Status.{words_status, parse_status}
 use Rattle.tre_tool.specs.declared.job.WordsFault.{WordsFault}
 use Rattle.tre_tool.specs.declared.job.WordsFault.TheVariants.{Usage as WordsUsage, Memory as WordsMemory}
 use Rattle.tre_tool.specs.declared.job.Job.{Job}
 use Rattle.tre_tool.specs.declared.job.Format.{Format}
 use Rattle.tre_tool.specs.declared.job.Mode.{Mode}
-use Rattle.tre_tool.specs.declared.job.Mode.TheVariants.{Offline, Online, Show}
+use Rattle.tre_tool.specs.declared.job.Mode.TheVariants.{Offline, Online, Show, Generate}
 use Rattle.tre_tool.specs.declared.status.Status.{Status}
 use Rattle.tre_tool.specs.declared.status.Status.TheVariants.{Done, Usage, Expression, Trace, InputTooLong, ReadFault, WriteFault, Memory}
 use Rattle.tre_tool.proofs.Outcomes.{outcome_of-completes}
@@ -37,10 +37,11 @@ job_of mode format input max_bytes expr = record {
 }
 
 -- words give one job
-pub job_unique : (words : List (List ℕ)) (job other : Job) → GivesJob words job
-    → GivesJob words other → job ≡ other
+given_once : (made : Bool) (words : List (List ℕ)) (job other : Job) → GivesWhere made words job
+    → GivesWhere made words other → job ≡ other
 unfolding job_of
-job_unique words job other gives gives' =
+given_once true words job other gives gives' = one_value (sym gives ∙ gives')
+given_once false words job other gives gives' =
     let mode : job.mode ≡ other.mode = sym gives.mode ∙ gives'.mode in
     let format : job.format ≡ other.format = one_value (sym gives.format ∙ gives'.format) in
     let input : job.input ≡ other.input = one_value (sym gives.input ∙ gives'.input) in
@@ -52,6 +53,35 @@ job_unique words job other gives gives' =
     ∙ (ap (λ i. job_of other.mode other.format i job.max_bytes job.expr) input
     ∙ (ap (λ n. job_of other.mode other.format other.input n job.expr) max_bytes
     ∙ ap (λ e. job_of other.mode other.format other.input other.max_bytes e) expr)))
+
+pub job_unique : (words : List (List ℕ)) (job other : Job) → GivesJob words job
+    → GivesJob words other → job ≡ other
+job_unique words = given_once (is_made_run words) words
+
+-- a text becomes one thing
+outcome_once_in : (mode : Mode) (text : List ℕ) (one other : ParseOutcome)
+    → IsOutcomeIn mode text one → IsOutcomeIn mode text other → one ≡ other
+outcome_once_in Offline text one other is is' = outcome_once text one other is is'
+outcome_once_in Online text one other is is' = outcome_once text one other is is'
+outcome_once_in Show text one other is is' = outcome_once text one other is is'
+outcome_once_in (Generate count) text one other is is' = is ∙ sym is'
+
+-- of a run that isn't a made one, the text decides
+pub IsOutcomeIn-text : (mode : Mode) (text : List ℕ) (outcome : ParseOutcome)
+    → ((count : ℕ) → mode ≡ Generate count → ⊥) → IsOutcome text outcome
+    → IsOutcomeIn mode text outcome
+IsOutcomeIn-text Offline text outcome other is = is
+IsOutcomeIn-text Online text outcome other is = is
+IsOutcomeIn-text Show text outcome other is = is
+IsOutcomeIn-text (Generate count) text outcome other is = absurd (other count refl)
+
+pub IsOutcomeIn-refused : (mode : Mode) (text read : List ℕ) (fault : ParseFault)
+    → ((count : ℕ) → mode ≡ Generate count → ⊥) → read ≡ text
+    → (fault ≡ ParseMemory) ⊎ IsOutcome read (refused fault) → fault ≢ ParseMemory
+    → IsOutcomeIn mode text (refused fault)
+IsOutcomeIn-refused mode text read fault other same either never =
+    IsOutcomeIn-text mode text (refused fault) other (subst (λ t. IsOutcome t (refused fault)) same
+    (⊎_elim (λ memory. absurd (never memory)) (λ told. told) either))
 
 weaker : {X : Type 0} (o : Option X) (P Q : X → Type 0) → ((x : X) → P x → Q x) → IfSome o P
     → IfSome o Q
@@ -72,9 +102,9 @@ pub request_unique : (words : List (List ℕ)) (one other : Request) → AsksFor
     → AsksFor words other → one ≡ other
 request_unique words one other asks asks' =
     let same_job = job_unique words one.job other.job asks.gives asks'.gives in
-    let spells = subst (λ (j : Job). IsOutcome j.expr
+    let spells = subst (λ (j : Job). IsOutcomeIn j.mode j.expr
     (spelt one.tree one.names)) same_job asks.spells in
-    let same = outcome_once other.job.expr (spelt one.tree one.names)
+    let same = outcome_once_in other.job.mode other.job.expr (spelt one.tree one.names)
     (spelt other.tree other.names) spells asks'.spells in
     let same_tree : one.tree ≡ other.tree = cc in
     let same_names : one.names ≡ other.names = cc in
@@ -93,16 +123,17 @@ spelt_or_refused : (words : List (List ℕ)) (request : Request) (fault : ParseF
     → AsksFor words request → IsRefused words fault → ⊥
 spelt_or_refused words request fault asks told =
     let same = job_unique words told.job request.job told.gives asks.gives in
-    let wrong = outcome_once request.job.expr (refused fault) (spelt request.tree request.names)
-    (subst (λ (j : Job). IsOutcome j.expr (refused fault)) same told.refuses) asks.spells in
+    let wrong = outcome_once_in request.job.mode request.job.expr (refused fault)
+    (spelt request.tree request.names)
+    (subst (λ (j : Job). IsOutcomeIn j.mode j.expr (refused fault)) same told.refuses) asks.spells in
     cc
 
 pub refused_once : (words : List (List ℕ)) (fault other : ParseFault) → IsRefused words fault
     → IsRefused words other → other ≡ fault
 refused_once words fault other told told' =
     let same = job_unique words told'.job told.job told'.gives told.gives in
-    let one = outcome_once told.job.expr (refused other) (refused fault) (subst (λ
-    (j : Job). IsOutcome j.expr (refused other)) same told'.refuses) told.refuses in
+    let one = outcome_once_in told.job.mode told.job.expr (refused other) (refused fault) (subst (λ
+    (j : Job). IsOutcomeIn j.mode j.expr (refused other)) same told'.refuses) told.refuses in
     cc
 
 -- a run over what words ask for is none over words that ask for nothing
@@ -140,6 +171,7 @@ done_in Online request input output done same = λ reads.
     let right = rw same at done.right in
     weaker input.file _ _ (λ bytes answer. online_completes request bytes done.text answer) right
 done_in Show request input output done same = inl refl
+done_in (Generate count) request input output done same = inl refl
 
 memory_in : (mode : Mode) (request : Request) (input : InputTold)
     → IsStatusIn mode request input Memory
@@ -148,6 +180,7 @@ memory_in Offline request input = λ reads. free input.file _ (λ bytes. memory_
 memory_in Online request input = λ reads. free input.file _ (λ bytes. memory_is_free
     (outcome_for request bytes))
 memory_in Show request input = inr refl
+memory_in (Generate count) request input = inr refl
 
 -- a run that stops at a fault of the input, or couldn't read it, is one that reads it
 reads_at_fault : (mode : Mode) (request : Request) (input : InputTold) (output : OutputTold)
@@ -155,12 +188,14 @@ reads_at_fault : (mode : Mode) (request : Request) (input : InputTold) (output :
 reads_at_fault Offline request input output stands = tt
 reads_at_fault Online request input output stands = tt
 reads_at_fault Show request input output stands = stands
+reads_at_fault (Generate count) request input output stands = stands
 
 reads_at_failed_read : (mode : Mode) (request : Request) (input : InputTold) (output : OutputTold)
     → StandsAtFailedRead mode request input output → ReadsInput mode
 reads_at_failed_read Offline request input output stands = tt
 reads_at_failed_read Online request input output stands = tt
 reads_at_failed_read Show request input output stands = stands
+reads_at_failed_read (Generate count) request input output stands = stands
 
 -- a fault of the input, in each mode that reads it
 fault_in : (mode : Mode) (request : Request) (input : InputTold) (status : Status)
@@ -171,6 +206,7 @@ fault_in : (mode : Mode) (request : Request) (input : InputTold) (status : Statu
 fault_in Offline request input status reads told = told
 fault_in Online request input status reads told = told
 fault_in Show request input status reads told = absurd reads
+fault_in (Generate count) request input status reads told = absurd reads
 
 -- what must come of a request
 asked_as : (words : List (List ℕ)) (request : Request) (input : InputTold) (output : OutputTold)
@@ -313,16 +349,14 @@ EndsAs-refused words input output fault told reads unwritten = elim (faults faul
   | inr other ↦ rw other.1 (record { refused = told other.0; reads = reads; unwritten = unwritten })
 ]
 
--- a refused text, from what the parser answers
-pub IsRefused-parse : (words : List (List ℕ)) (job : Job) (text : List ℕ) (fault : ParseFault)
-    → GivesJob words job → text ≡ job.expr
-    → (fault ≡ ParseMemory) ⊎ IsOutcome text (refused fault) → fault ≢ ParseMemory
-    → IsRefused words fault
-IsRefused-parse words job text fault gives same either never = record {
+-- a refused text, from what the pattern of a job says
+pub IsRefused-of : (words : List (List ℕ)) (job : Job) (fault : ParseFault) → GivesJob words job
+    → (fault ≢ ParseMemory → IsOutcomeIn job.mode job.expr (refused fault))
+    → fault ≢ ParseMemory → IsRefused words fault
+IsRefused-of words job fault gives told never = record {
   job = job;
   gives = gives;
-  refuses = subst (λ t. IsOutcome t (refused fault)) same (⊎_elim (λ memory. absurd
-      (never memory)) (λ told. told) either);
+  refuses = told never;
   never_memory = never;
 }
 
@@ -332,15 +366,12 @@ pub all_or_part : {T E : Type 0} (result : Result T E) (All Part : Type 0) → O
 all_or_part (Ok value) All Part all part = inl all
 all_or_part (Err fault) All Part all part = inr part
 
--- what words ask for, from what the parser answers
-pub AsksFor-parse : (words : List (List ℕ)) (job : Job) (text : List ℕ) (tree : PatternTree)
-    (names : List (List ℕ)) → GivesJob words job → text ≡ job.expr
-    → IsOutcome text (spelt tree names) → AsksFor words
+-- what words ask for, from what the pattern of a job says
+pub AsksFor-of : (words : List (List ℕ)) (job : Job) (tree : PatternTree)
+    (names : List (List ℕ)) → GivesJob words job
+    → IsOutcomeIn job.mode job.expr (spelt tree names) → AsksFor words
     (record { job = job; tree = tree; names = names })
-AsksFor-parse words job text tree names gives same spells = record {
-  gives = gives;
-  spells = subst (λ t. IsOutcome t (spelt tree names)) same spells;
-}
+AsksFor-of words job tree names gives spells = record { gives = gives; spells = spells }
 
 -- a text that is one of what the words ask for is refused for want of memory alone
 pub never_refused : (words : List (List ℕ)) (request : Request) (fault : ParseFault)
@@ -364,6 +395,11 @@ cut_in Offline request input output text is once right part = record {
 }
 cut_in Online request input output text is once right part = absurd (once refl)
 cut_in Show request input output text is once right part = record {
+  text = text;
+  right = rw is right;
+  written = part;
+}
+cut_in (Generate count) request input output text is once right part = record {
   text = text;
   right = rw is right;
   written = part;
@@ -417,7 +453,8 @@ only_untaken WordsUsage usage memory = usage refl
 only_untaken WordsMemory usage memory = memory refl
 
 -- the mode is that of the job which the words give
-pub shown_as : (words : List (List ℕ)) (job other : Job) (Kept : Type 0) → GivesJob words job
-    → GivesJob words other → (job.mode ≡ Show → Kept) → other.mode ≡ Show → Kept
-shown_as words job other Kept gives gives' shown = subst (λ (j : Job). j.mode ≡ Show
-    → Kept) (job_unique words job other gives gives') shown
+pub kept_as : (words : List (List ℕ)) (job other : Job) (Kept : Type 0) → GivesJob words job
+    → GivesJob words other → ((ReadsInput job.mode → ⊥) → Kept)
+    → (ReadsInput other.mode → ⊥) → Kept
+kept_as words job other Kept gives gives' kept = subst (λ (j : Job). (ReadsInput j.mode → ⊥)
+    → Kept) (job_unique words job other gives gives') kept

@@ -11,7 +11,7 @@ use Rattle.tre_tool.specs.Devices.{InputTold, OutputTold, NothingWritten}
 use Rattle.tre_tool.specs.Run.{Request, StandsAtFault, StandsAtFailedRead, StandsAtMemory}
 use Rattle.tre_tool.specs.Status.{trace_status}
 use Rattle.tre_tool.specs.declared.job.Mode.{Mode}
-use Rattle.tre_tool.specs.declared.job.Mode.TheVariants.{Offline, Online, Show}
+use Rattle.tre_tool.specs.declared.job.Mode.TheVariants.{Offline, Online, Show, Generate}
 use Rattle.tre_tool.specs.declared.status.Status.{Status}
 use Rattle.tre_tool.specs.declared.status.Status.TheVariants.{Done, Usage, Expression, Trace, InputTooLong, ReadFault, WriteFault, Memory}
 
@@ -21,6 +21,7 @@ memory_in : (mode : Mode) (request : Request) (input : InputTold) (output : Outp
 memory_in Offline request input output once unwritten = unwritten
 memory_in Online request input output once unwritten = absurd (once refl)
 memory_in Show request input output once unwritten = unwritten
+memory_in (Generate count) request input output once unwritten = unwritten
 
 -- memory was wanting, and no read failed
 pub StopsAs-memory : (request : Request) (input : InputTold) → (request.job.mode ≡ Online → ⊥)
@@ -36,12 +37,14 @@ stands_in : (mode : Mode) (request : Request) (input : InputTold) (output : Outp
 stands_in Offline request input output is unwritten = unwritten
 stands_in Online request input output is unwritten = cc
 stands_in Show request input output is unwritten = cc
+stands_in (Generate count) request input output is unwritten = cc
 
 unread_in : (mode : Mode) (request : Request) (input : InputTold) (output : OutputTold)
     → mode ≡ Offline → NothingWritten output → StandsAtFailedRead mode request input output
 unread_in Offline request input output is unwritten = unwritten
 unread_in Online request input output is unwritten = cc
 unread_in Show request input output is unwritten = cc
+unread_in (Generate count) request input output is unwritten = cc
 
 -- the input couldn't be read as a trace
 pub StopsAs-reading : (T : Type 0) (request : Request) (input : InputTold) (status : Status)

@@ -1,5 +1,5 @@
 -- What the words of the command line ask for.
-use Rattle.std.specs.Prelude.{◌≡◌, ℕ, nat_le, nat_lt, Bool, true, false, ◌&&◌, List, [], ◌∷◌, Option, None, Some, codes, option_and_then, if◌then◌else◌, length}
+use Rattle.std.specs.Prelude.{◌≡◌, ℕ, ◌≤◌, nat_le, nat_lt, Bool, true, false, ◌&&◌, List, [], ◌∷◌, Option, None, Some, codes, option_and_then, option_map, if◌then◌else◌, length}
 use Rattle.std.specs.List.{list_all}
 use Rattle.std.specs.Option.{option_map_or}
 use Rattle.std.specs.Str.{bytes_eq}
@@ -8,12 +8,13 @@ use Rattle.std.specs.Char.{is_ascii_digit}
 use Rattle.clap.specs.Simple.{on_top}
 use Rattle.clap.specs.Words.{App, Row, Rule, Text, first_of, matches_of, new_app, new_rule, takes, with_rule}
 use Rattle.clap.specs.declared.builder.action.ArgAction.TheVariants.{Set, SetTrue}
-use Rattle.tre_tool.specs.declared.job.TheConstants.{LIMIT_MAX}
+use Rattle.tre_generate.specs.declared.made_run.TheConstants.{SEGMENTS_MAX}
+use Rattle.tre_tool.specs.declared.job.TheConstants.{LIMIT_MAX, LIMIT_DEFAULT}
 use Rattle.tre_tool.specs.declared.job.Format.{Format}
 use Rattle.tre_tool.specs.declared.job.Format.TheVariants.{Text as TextFormat, Vcd}
 use Rattle.tre_tool.specs.declared.job.Job.{Job}
 use Rattle.tre_tool.specs.declared.job.Mode.{Mode}
-use Rattle.tre_tool.specs.declared.job.Mode.TheVariants.{Offline, Online, Show}
+use Rattle.tre_tool.specs.declared.job.Mode.TheVariants.{Offline, Online, Show, Generate}
 
 -- a flag, as `--show`
 abbrev pub flag_rule : Text → Rule
@@ -45,6 +46,11 @@ command_line =
     (option_rule (codes "max-bytes") (codes "1073741824")))
     (operand_rule (codes "EXPR"))
 
+-- the first word is `--generate`
+abbrev pub is_made_run : List Text → Bool
+is_made_run [] = false
+is_made_run (first ∷ words) = bytes_eq first (codes "--generate")
+
 -- the flag stands among the words
 abbrev pub is_given : Text → List Row → Bool
 is_given name rows = option_map_or (λ text. bytes_eq text (codes "true")) (first_of name rows) false
@@ -67,14 +73,12 @@ format_named text =
 abbrev pub is_numeral : Text → Bool
 is_numeral text = nat_lt 0 (length text) && list_all is_ascii_digit text
 
--- a number of bytes that an input may be limited to
-abbrev pub is_limit : ℕ → Bool
-is_limit number = nat_lt 0 number && nat_le number LIMIT_MAX
-
--- the limit that a text writes in decimal digits
-abbrev pub limit_written : Text → Option ℕ
-limit_written text =
-    if is_numeral text && is_limit (digits_value 10 text) then Some (digits_value 10 text) else None
+-- the number from 1 to `most` that a text writes in decimal digits
+abbrev pub number_written : ℕ → Text → Option ℕ
+number_written most text =
+    if is_numeral text
+    && (nat_lt 0 (digits_value 10 text) && nat_le (digits_value 10 text) most)
+    then Some (digits_value 10 text) else None
 
 -- What the values of the options give is this job.
 pub record GivesFrom (rows : List Row) (job : Job) : Type 0 where
@@ -82,17 +86,50 @@ pub record GivesFrom (rows : List Row) (job : Job) : Type 0 where
   pub input : first_of (codes "input") rows ≡ Some job.input
   pub format : option_and_then format_named (first_of (codes "format") rows) ≡ Some job.format
   pub max_bytes :
-      option_and_then limit_written (first_of (codes "max-bytes") rows) ≡ Some job.max_bytes
+      option_and_then (number_written LIMIT_MAX) (first_of (codes "max-bytes") rows)
+      ≡ Some job.max_bytes
   pub mode : mode_in rows ≡ job.mode
 
--- The words give this job: its parts are the matches that `clap` promises of these words.
+-- how many segments the words of a made run write, which are just two
+abbrev pub made_count : List Text → Option ℕ
+made_count (first ∷ number ∷ []) = number_written SEGMENTS_MAX number
+made_count words = None
+
+-- A made trace may have so many segments.
+pub record IsCount (count : ℕ) : Type 0 where
+  pub some : 1 ≤ count
+  pub few : count ≤ SEGMENTS_MAX
+
+-- the job of a made run of so many segments; what it doesn't need is as where no word gives it
+abbrev pub made_job : ℕ → Job
+made_job count = record {
+  mode = Generate count;
+  format = TextFormat;
+  input = codes "-";
+  max_bytes = LIMIT_DEFAULT;
+  expr = [];
+}
+
+-- Words of a made run give this job, or other words. Of others its parts are the matches that
+-- `clap` promises of these words.
+abbrev pub GivesWhere : Bool → List Text → Job → Type 0
+GivesWhere true words job = option_map made_job (made_count words) ≡ Some job
+GivesWhere false words job = GivesFrom (matches_of command_line words) job
+
+-- The words give this job.
 abbrev pub GivesJob : List Text → Job → Type 0
-GivesJob words job = GivesFrom (matches_of command_line words) job
+GivesJob words job = GivesWhere (is_made_run words) words job
 
 -- The words give no job.
 abbrev pub GivesNoJob : List Text → Type 0
 GivesNoJob words = (job : Job) → GivesJob words job → ⊥
 
--- `clap` takes the words. It answers words that it doesn't take with a fault of its own.
+-- Words of a made run are always taken, since `clap` doesn't read them. Others are where `clap`
+-- takes them. It answers words that it doesn't take with a fault of its own.
+abbrev pub AreTakenWhere : Bool → List Text → Type 0
+AreTakenWhere true words = Unit {0}
+AreTakenWhere false words = takes command_line words ≡ true
+
+-- The words are taken.
 abbrev pub AreTaken : List Text → Type 0
-AreTaken words = takes command_line words ≡ true
+AreTaken words = AreTakenWhere (is_made_run words) words

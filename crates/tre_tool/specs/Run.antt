@@ -1,5 +1,5 @@
 -- The promise of a run: how it ends, what each status means, and what was written.
-use Rattle.std.specs.Prelude.{◌≡◌, ◌≢◌, ◌⊎◌, ℕ, List, Bool, Option, IfSome, IsTrue, Some, ◌++◌, codes}
+use Rattle.std.specs.Prelude.{◌≡◌, ◌≢◌, ◌⊎◌, ℕ, List, Bool, true, Option, IfSome, IsTrue, Some, ◌++◌, codes}
 use Rattle.std.specs.Io.KnownBytes.{Appends, IsAtEnd}
 use Rattle.tre_io.specs.Faults.{counted, Rises}
 use Rattle.tre_io.specs.Written.{AppendsPart}
@@ -7,8 +7,10 @@ use Rattle.tre_parse.specs.declared.fault.ParseFault.{ParseFault}
 use Rattle.tre_parse.specs.declared.fault.ParseFault.TheVariants.{Memory as ParseMemory}
 use Rattle.tre_trace.specs.declared.fault.TraceFault.{TraceFault}
 use Rattle.tre_syntax.specs.PatternTree.{PatternTree}
-use Rattle.tre_parse.specs.Outcome.{IsOutcome, spelt, refused}
-use Rattle.tre_tool.specs.Job.{GivesJob, GivesNoJob, AreTaken}
+use Rattle.tre_parse.specs.Outcome.{Outcome as ParseOutcome, IsOutcome, spelt, refused}
+use Rattle.tre_generate.specs.FixedPattern.{fixed_tree, fixed_names}
+use Rattle.tre_generate.specs.Summary.{IsSummary}
+use Rattle.tre_tool.specs.Job.{GivesJob, GivesNoJob, AreTaken, is_made_run, made_count}
 use Rattle.tre_show.specs.PatternText.{expression_text}
 use Rattle.tre_trace.specs.Reading.{Reading}
 use Rattle.tre_tool.specs.Devices.{InputTold, OutputTold, AllReadsGood, AllWritesGood, NothingWritten}
@@ -16,24 +18,33 @@ use Rattle.tre_tool.specs.Online.{AllBlocksStand, BlocksSoFarStand, FirstBlocksS
 use Rattle.tre_tool.specs.Outcome.{Outcome, completes, refuses, exceeds, reading_in, outcome_of, IsInputKind, IsAnswer}
 use Rattle.tre_tool.specs.declared.job.Job.{Job}
 use Rattle.tre_tool.specs.declared.job.Mode.{Mode}
-use Rattle.tre_tool.specs.declared.job.Mode.TheVariants.{Offline, Online, Show}
+use Rattle.tre_tool.specs.declared.job.Mode.TheVariants.{Offline, Online, Show, Generate}
 use Rattle.tre_tool.specs.declared.status.Status.{Status}
 use Rattle.tre_tool.specs.declared.status.Status.TheVariants.{Done, Usage, Expression, Trace, InputTooLong, ReadFault, WriteFault, Memory}
 
--- What words ask for: a job, and the pattern that its text spells.
+-- What words ask for: a job, and its pattern.
 pub record Request : Type 0 where
   pub job : Job
   pub tree : PatternTree
   pub names : List (List ℕ)
 
--- the request for this job, whose text spells this pattern
+-- the request for this job and this pattern
 abbrev pub request_for : Job → PatternTree → List (List ℕ) → Request
 request_for job tree names = record { job = job; tree = tree; names = names }
 
--- The words give this job, and its text spells this pattern within the limits.
+-- What becomes of the text of a job in this mode: a made run has a pattern of its own, whatever the
+-- text is.
+abbrev pub IsOutcomeIn : Mode → List ℕ → ParseOutcome → Type 0
+IsOutcomeIn Offline text outcome = IsOutcome text outcome
+IsOutcomeIn Online text outcome = IsOutcome text outcome
+IsOutcomeIn Show text outcome = IsOutcome text outcome
+IsOutcomeIn (Generate count) text outcome = outcome ≡ spelt fixed_tree fixed_names
+
+-- The words give this job, and its text spells this pattern within the limits, or it is the pattern
+-- of a made run.
 pub record AsksFor (words : List (List ℕ)) (request : Request) : Type 0 where
   pub gives : GivesJob words request.job
-  pub spells : IsOutcome request.job.expr (spelt request.tree request.names)
+  pub spells : IsOutcomeIn request.job.mode request.job.expr (spelt request.tree request.names)
 
 -- The words ask for something of which this is true.
 pub record Asks (words : List (List ℕ)) (IsSo : Request → Type 0) : Type 0 where
@@ -45,7 +56,7 @@ pub record Asks (words : List (List ℕ)) (IsSo : Request → Type 0) : Type 0 w
 pub record IsRefused (words : List (List ℕ)) (fault : ParseFault) : Type 0 where
   pub job : Job
   pub gives : GivesJob words job
-  pub refuses : IsOutcome job.expr (refused fault)
+  pub refuses : IsOutcomeIn job.mode job.expr (refused fault)
   pub never_memory : fault ≢ ParseMemory
 
 -- The words ask for nothing: they give no job, or its text is refused.
@@ -78,12 +89,14 @@ IsAnswerIn Offline request file text = IfSome file (λ bytes. IsAnswerTo request
 IsAnswerIn Online request file text = IfSome file (λ bytes. IsOnlineAnswerTo request bytes text)
 IsAnswerIn Show request file text =
     text ≡ expression_text request.names request.tree ++ codes "\n"
+IsAnswerIn (Generate count) request file text = IsSummary request.tree count text
 
 -- Nothing is left of an input that a run in this mode reads.
 abbrev pub IsReadToItsEnd : Mode → InputTold → Type 0
 IsReadToItsEnd Offline input = IsAtEnd input.left
 IsReadToItsEnd Online input = IsAtEnd input.left
 IsReadToItsEnd Show input = Unit {0}
+IsReadToItsEnd (Generate count) input = Unit {0}
 
 -- A first part of a right answer was written.
 pub record PartIsWritten (request : Request)
@@ -103,6 +116,7 @@ abbrev pub StandsAtFailedWrite : Mode → Request → InputTold → OutputTold �
 StandsAtFailedWrite Offline request input output = PartIsWritten request input output
 StandsAtFailedWrite Online request input output = OnlineIsCut request input output
 StandsAtFailedWrite Show request input output = PartIsWritten request input output
+StandsAtFailedWrite (Generate count) request input output = PartIsWritten request input output
 
 -- What stands in the output at a fault of the input, where a run in this mode reads one: in an
 -- online run the blocks of all segments before the fault, or of all that the limit leaves.
@@ -111,6 +125,7 @@ StandsAtFault Offline request input output = NothingWritten output
 StandsAtFault Online request input output =
     AllBlocksStand (reading_for request) request.job.max_bytes request.tree input output
 StandsAtFault Show request input output = ⊥
+StandsAtFault (Generate count) request input output = ⊥
 
 -- What stands in the output where the input couldn't be opened or read on: in an online run the
 -- blocks of all segments that the bytes read complete.
@@ -119,6 +134,7 @@ StandsAtFailedRead Offline request input output = NothingWritten output
 StandsAtFailedRead Online request input output =
     BlocksSoFarStand (reading_for request) request.job.max_bytes request.tree input output
 StandsAtFailedRead Show request input output = ⊥
+StandsAtFailedRead (Generate count) request input output = ⊥
 
 -- What stands in the output where memory was wanting: in an online run the blocks of some first
 -- segments of those read, which may be all of them, and no end.
@@ -127,6 +143,7 @@ StandsAtMemory Offline request input output = NothingWritten output
 StandsAtMemory Online request input output =
     FirstBlocksStand (reading_for request) request.job.max_bytes request.tree input output
 StandsAtMemory Show request input output = NothingWritten output
+StandsAtMemory (Generate count) request input output = NothingWritten output
 
 -- `Done`: the input was read to its end, and the right answer was written.
 pub record EndsDone (request : Request) (input : InputTold) (output : OutputTold) : Type 0 where
@@ -219,6 +236,7 @@ IsStatusIn Online request input status =
     ¬ Rises input.faults_before input.faults_now →
     IfSome input.file (λ bytes. IsStatusFor (outcome_for request bytes) status)
 IsStatusIn Show request input status = IsUnlessMemory Done status
+IsStatusIn (Generate count) request input status = IsUnlessMemory Done status
 
 -- What words that are taken ask for decides the status, where no fault was counted: a refused text
 -- is told, and the bytes of the input come to one outcome.
@@ -235,3 +253,30 @@ abbrev pub ReadsInput : Mode → Type 0
 ReadsInput Offline = Unit {0}
 ReadsInput Online = Unit {0}
 ReadsInput Show = ⊥
+ReadsInput (Generate count) = ⊥
+
+-- The words ask for a made run of so many segments.
+pub record AsksForMadeRun (words : List (List ℕ)) (count : ℕ) : Type 0 where
+  pub first : is_made_run words ≡ true
+  pub second : made_count words ≡ Some count
+
+-- The summary of a made run was written.
+pub record SummaryWritten (count : ℕ) (output : OutputTold) : Type 0 where
+  pub text : List ℕ
+  pub right : IsSummary fixed_tree count text
+  pub writes : AllWritesGood output
+  pub written : Appends output.written_before output.written_now text
+
+-- A first part of it was, and one failure to write was counted.
+pub record SummaryIsCut (count : ℕ) (output : OutputTold) : Type 0 where
+  pub text : List ℕ
+  pub right : IsSummary fixed_tree count text
+  pub cause : output.faults_now ≡ counted output.faults_before
+  pub written : AppendsPart output.written_before output.written_now text
+
+-- The end of a made run of so many segments, status by status. No other status comes.
+abbrev pub EndsMadeRun : ℕ → OutputTold → Status → Type 0
+EndsMadeRun count output Done = SummaryWritten count output
+EndsMadeRun count output WriteFault = SummaryIsCut count output
+EndsMadeRun count output Memory = NothingWritten output
+EndsMadeRun count output _ = ⊥

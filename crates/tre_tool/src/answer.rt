@@ -1,12 +1,14 @@
 // From a job to the text that answers it.
-ghost use Rattle.std.specs.Prelude.{◌≡◌, ◌≢◌, ◌≤◌, ◌+◌, ◌++◌, ◌^◌, [], codes, false, IsTrue, IsErrOf, IfOk, IfErr, IfSome, OnOk, Some, string_bytes};
+ghost use Rattle.std.specs.Prelude.{◌≡◌, ◌≢◌, ℕ, ◌≤◌, ◌+◌, ◌++◌, [], codes, false, IsTrue, IsErrOf, IfOk, IfErr, IfSome, OnOk, Some, string_bytes};
 ghost use Rattle.tre_show.specs.PatternText.{expression_text};
 ghost use Rattle.tre_syntax.specs.Pattern.{pattern_tree, names_of};
 ghost use Rattle.tre_tool.specs.Answer.{status_of, EndsOver, IsReadAs, IsFoundFor, StopsAs};
 ghost use Rattle.tre_tool.specs.Devices.{input_told, output_told};
 ghost use Rattle.tre_tool.specs.Feeding.{IsWhole, StopsReading};
+ghost use Rattle.tre_tool.specs.Job.{IsCount};
 ghost use Rattle.tre_tool.specs.Input.{TakesAtMost, HasReadCause};
 ghost use Rattle.tre_tool.specs.Run.{ReadsInput, request_for};
+ghost use Rattle.tre_tool.specs.declared.job.TheConstants.{LIMIT_MAX};
 
 use crate::input::Feed;
 use crate::job::{Format, Job, Mode};
@@ -14,6 +16,7 @@ use crate::online::tell_matches;
 use crate::output::write_text;
 use crate::status::Status;
 use std::alloc::{AllocError, Global};
+use tre_generate::summary;
 use tre_io::{Sink, Source};
 use tre_offline::matches;
 use tre_show::{offline_text, pattern_text, printed_order};
@@ -33,7 +36,7 @@ fn read_trace<S: Source, R: TraceReader>(
     requires closed { S.opened input.old ≡ false }
     requires fresh { R.represents reader.old [] }
     requires nothing { (R.reading (R.names reader.old) false []).segments ≡ [] }
-    requires fits { limit ≤ 2 ^ 40 }
+    requires fits { limit ≤ LIMIT_MAX }
     ensures named { IfErr result (λ status. status ≢ Status.ReadFault → status ≢ Status.Memory →
         IfSome (S.file_name input.old) (λ told. told ≡ name.now)) }
     ensures by_name { OnOk result (IfSome (S.file_name input.old) (λ told. told ≡ name.now)) }
@@ -66,7 +69,7 @@ fn read_input<S: Source>(
     input: &mut S,
 ) -> Result<Trace, Status>
     requires closed { S.opened input.old ≡ false }
-    requires fits { job.now.max_bytes ≤ 2 ^ 40 }
+    requires fits { job.now.max_bytes ≤ LIMIT_MAX }
     requires offline { job.now.mode ≡ Mode.Offline }
     ensures read { IfOk result (IsReadAs
         (request_for job.now (pattern_tree pattern.now) (names_of pattern.now))
@@ -104,7 +107,7 @@ fn matches_text<S: Source>(
     input: &mut S,
 ) -> Result<String, Status>
     requires closed { S.opened input.old ≡ false }
-    requires fits { job.now.max_bytes ≤ 2 ^ 40 }
+    requires fits { job.now.max_bytes ≤ LIMIT_MAX }
     requires offline { job.now.mode ≡ Mode.Offline }
     ensures found { IfOk result (λ text. IsFoundFor
         (request_for job.now (pattern_tree pattern.now) (names_of pattern.now))
@@ -145,7 +148,8 @@ pub fn answer<S: Source, O: Sink>(
     out: &mut O,
 ) -> Result<(), Status>
     requires closed { S.opened input.old ≡ false }
-    requires fits { job.now.max_bytes ≤ 2 ^ 40 }
+    requires fits { job.now.max_bytes ≤ LIMIT_MAX }
+    requires counted { (count : ℕ) → job.now.mode ≡ Mode.Generate count → IsCount count }
     ensures ends { EndsOver (request_for job.now (pattern_tree pattern) (names_of pattern))
         (input_told S.file_name S.file S.sound S.opened S.left S.faults input.old input.new)
         (output_told O.written O.faults out.old out.new) (status_of result) }
@@ -154,7 +158,7 @@ pub fn answer<S: Source, O: Sink>(
     ensures by_name { ReadsInput job.now.mode → status_of result ≢ Status.ReadFault →
         status_of result ≢ Status.Memory →
         IfSome (S.file_name input.old) (λ told. told ≡ job.now.input) }
-    ensures shown { job.now.mode ≡ Mode.Show → input.new ≡ input.old }
+    ensures untouched { (ReadsInput job.now.mode → ⊥) → input.new ≡ input.old }
 {
     match job.mode {
         Mode::Offline => {
@@ -168,6 +172,11 @@ pub fn answer<S: Source, O: Sink>(
         }
         Mode::Show => {
             let text = shown_text(alloc, &pattern)?;
+            write_text(text.as_str(), out)?;
+            Ok(())
+        }
+        Mode::Generate { count } => {
+            let text = summary(alloc, pattern, count)?;
             write_text(text.as_str(), out)?;
             Ok(())
         }

@@ -1,9 +1,10 @@
 // An input, read piece by piece.
-ghost use Rattle.std.specs.Prelude.{◌≡◌, ◌+◌, ◌<◌, ◌≤◌, ◌++◌, ◌^◌, ◌≢◌, IsTrue, IsErrOf, IfOk, IfErr, IfSome, OnOk, OnErr, length, take, List, ℕ, false, Option, Some};
+ghost use Rattle.std.specs.Prelude.{◌≡◌, ◌+◌, ◌<◌, ◌≤◌, ◌++◌, ◌≢◌, IsTrue, IsErrOf, IfOk, IfErr, IfSome, OnOk, OnErr, length, take, List, ℕ, false, Option, Some};
 ghost use Rattle.std.specs.Io.KnownBytes.{Consumes, IsAtEnd, Keeps};
 ghost use Rattle.tre_trace.specs.Reading.{Adds};
 ghost use Rattle.tre_trace.specs.declared.reader.TheConstants.{FED_MAX};
 ghost use Rattle.tre_tool.specs.Input.{TakesAtMost, HasReadCause};
+ghost use Rattle.tre_tool.specs.declared.job.TheConstants.{LIMIT_MAX};
 ghost use Rattle.tre_tool.specs.Feeding.{StopsReading, StopsPiece, IsFed, HasRead, GoesOn, IsEnded, StopsTurn};
 
 use crate::status::Status;
@@ -91,7 +92,7 @@ fn feed_next<S: Source, R: TraceReader>(
     segments: &mut Vec<Segment>,
 ) -> Result<usize, Status>
     requires opened { IsTrue (S.opened input.old) }
-    requires fits { limit ≤ 2 ^ 40 }
+    requires fits { limit ≤ LIMIT_MAX }
     requires fed { R.fed_of reader.old ≤ taken }
     requires room { 0 < length buffer.old }
     ensures read { (file : Option (List ℕ)) (bytes : List ℕ) →
@@ -186,7 +187,7 @@ impl Feed {
         segments: &mut Vec<Segment>,
     ) -> Result<bool, Status>
         requires opened { IsTrue (S.opened input.old) }
-        requires fits { self.old.limit ≤ 2 ^ 40 }
+        requires fits { self.old.limit ≤ LIMIT_MAX }
         requires fed { R.fed_of reader.old ≤ self.old.taken }
         requires room { 0 < length self.old.buffer.items }
         requires few { self.old.taken ≤ self.old.limit + 1 }

@@ -7,7 +7,10 @@ use thiserror::Error;
 /// The largest number of bytes that an input may be limited to.
 pub const LIMIT_MAX: u64 = 1 << 40;
 
-/// What a run does with the pattern.
+/// The largest number of bytes that an input may have where the words don't limit it.
+pub const LIMIT_DEFAULT: u64 = 1 << 30;
+
+/// What a run does.
 #[derive(Clone, Copy, Debug, PartialEq, Eq)]
 pub enum Mode {
     /// It tells the matches over the whole input.
@@ -16,6 +19,9 @@ pub enum Mode {
     Online,
     /// It writes the pattern's text, and reads no input.
     Show,
+    /// It makes the first `count` segments of a trace, matches a pattern of its own over them both
+    /// ways, and writes what it found. It reads no input.
+    Generate { count: u64 },
 }
 
 /// How the input tells a trace.
@@ -66,7 +72,7 @@ pub struct Job {
     pub input: Word,
     /// The most bytes that the input may have.
     pub max_bytes: u64,
-    /// The pattern's text.
+    /// The pattern's text; empty where the run has a pattern of its own.
     pub expr: Word,
 }
 

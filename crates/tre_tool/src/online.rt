@@ -1,5 +1,5 @@
 // Matches that are told as the input comes: a block for each segment.
-ghost use Rattle.std.specs.Prelude.{◌≡◌, ◌≢◌, ◌≤◌, ◌+◌, ◌++◌, ◌∷◌, ◌^◌, [], ℕ, List, Option, IsTrue, IfOk, IfErr, IfSome, OnOk, string_bytes, true, false};
+ghost use Rattle.std.specs.Prelude.{◌≡◌, ◌≢◌, ◌≤◌, ◌+◌, ◌++◌, ◌∷◌, [], ℕ, List, Option, IsTrue, IfOk, IfErr, IfSome, OnOk, string_bytes, true, false};
 ghost use Rattle.std.specs.Io.KnownBytes.{Appends};
 ghost use Rattle.tre_online.specs.Session.{pattern_of, ended_of, StandsFor, TellsNew};
 ghost use Rattle.tre_syntax.specs.Pattern.{pattern_tree, names_of};
@@ -11,6 +11,7 @@ ghost use Rattle.tre_tool.specs.Input.{TakesAtMost};
 ghost use Rattle.tre_tool.specs.Outcome.{reading_in};
 ghost use Rattle.tre_tool.specs.Telling.{HasTold, StopsAtSegment, StopsWithin, HasWriteCause, StopsAtEnd, EndsTelling};
 ghost use Rattle.tre_tool.specs.Transcript.{block_text, closing_line};
+ghost use Rattle.tre_tool.specs.declared.job.TheConstants.{LIMIT_MAX};
 
 use crate::input::Feed;
 use crate::job::{Format, Job};
@@ -129,7 +130,7 @@ fn tell_input<S: Source, R: TraceReader, O: Sink>(
     out: &mut O,
 ) -> Result<(), Status>
     requires closed { S.opened input.old ≡ false }
-    requires fits { job.now.max_bytes ≤ 2 ^ 40 }
+    requires fits { job.now.max_bytes ≤ LIMIT_MAX }
     requires fresh { R.represents reader.old [] }
     requires nothing { (R.reading (R.names reader.old) false []).segments ≡ [] }
     requires stands { StandsFor session.old [] }
@@ -165,7 +166,7 @@ pub fn tell_matches<S: Source, O: Sink>(
     out: &mut O,
 ) -> Result<(), Status>
     requires closed { S.opened input.old ≡ false }
-    requires fits { job.now.max_bytes ≤ 2 ^ 40 }
+    requires fits { job.now.max_bytes ≤ LIMIT_MAX }
     ensures ends { EndsTelling (reading_in job.now.format (names_of pattern)) job.now.max_bytes
         (pattern_tree pattern) job.now.input
         (input_told S.file_name S.file S.sound S.opened S.left S.faults input.old input.new)

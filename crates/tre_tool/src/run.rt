@@ -1,23 +1,46 @@
-ghost use Rattle.std.specs.Prelude.{◌≡◌, ◌≢◌, ◌⊎◌, ◌+◌, IsTrue, IfSome, OnOk, OnErr, IfErr, false, map, string_bytes};
+ghost use Rattle.std.specs.Prelude.{◌≡◌, ◌≢◌, ◌⊎◌, ◌+◌, ℕ, IsTrue, IfSome, IfOk, IfErr, false, map, string_bytes};
 ghost use Rattle.std.specs.Io.KnownBytes.{Appends};
 ghost use Rattle.tre_io.specs.Faults.{Rises};
 ghost use Rattle.tre_io.specs.Written.{AppendsPart};
+ghost use Rattle.tre_parse.specs.Outcome.{spelt, refused};
+ghost use Rattle.tre_syntax.specs.Pattern.{pattern_tree, names_of};
 ghost use Rattle.tre_tool.specs.Answer.{status_of};
 ghost use Rattle.tre_tool.specs.Input.{TakesAtMost};
 ghost use Rattle.tre_tool.specs.Job.{GivesJob};
 ghost use Rattle.tre_tool.specs.Devices.{input_told, output_told};
-ghost use Rattle.tre_tool.specs.Run.{Request, AsksFor, AsksForNothing, ReadsInput, EndsAs, IsComplete};
+ghost use Rattle.tre_tool.specs.Run.{Request, IsOutcomeIn, AsksFor, AsksForNothing, AsksForMadeRun, ReadsInput, EndsAs, EndsMadeRun, IsComplete};
 ghost use Rattle.tre_tool.specs.Status.{error_line};
 ghost use Rattle.tre_tool.specs.declared.job.Job.{Job};
 
 use crate::answer::answer;
-use crate::job::Mode;
+use crate::job::{Job, Mode};
 use crate::report::tell_status;
 use crate::status::Status;
 use crate::words::read_words;
 use std::alloc::Global;
+use tre_generate::fixed_pattern;
 use tre_io::{Sink, Source};
-use tre_parse::parse;
+use tre_parse::{ParseFault, parse};
+use tre_syntax::Pattern;
+
+// The pattern of a job: a made run has its own, and others that of their text.
+fn pattern_of(alloc: Global, job: &Job) -> Result<Pattern, ParseFault>
+    ensures spells { IfOk result (λ pattern. IsOutcomeIn job.now.mode job.now.expr
+        (spelt (pattern_tree pattern) (names_of pattern))) }
+    ensures refuses { IfErr result (λ fault. fault ≢ ParseFault.Memory →
+        IsOutcomeIn job.now.mode job.now.expr (refused fault)) }
+{
+    match job.mode {
+        Mode::Generate { .. } => {
+            let pattern = fixed_pattern(alloc)?;
+            Ok(pattern)
+        }
+        _ => {
+            let pattern = parse(alloc, job.expr.text())?;
+            Ok(pattern)
+        }
+    }
+}
 
 // Runs, and leaves it to the caller to tell how the run ended.
 fn run_words<S: Source, O: Sink>(
@@ -34,7 +57,7 @@ fn run_words<S: Source, O: Sink>(
     ensures untouched { AsksForNothing (map string_bytes words.now) →
         (input.new ≡ input.old) × (out.new ≡ out.old) }
     ensures source_untouched { (job : Job) → GivesJob (map string_bytes words.now) job →
-        job.mode ≡ Mode.Show → input.new ≡ input.old }
+        (ReadsInput job.mode → ⊥) → input.new ≡ input.old }
     ensures by_name { (request : Request) → AsksFor (map string_bytes words.now) request →
         ReadsInput request.job.mode → status_of result ≢ Status.Usage →
         status_of result ≢ Status.ReadFault → status_of result ≢ Status.Memory →
@@ -44,7 +67,7 @@ fn run_words<S: Source, O: Sink>(
         TakesAtMost (job.max_bytes + 1) (S.file input.old) (S.left input.new) }
 {
     let job = read_words(alloc, words)?;
-    let pattern = parse(alloc, job.expr.text())?;
+    let pattern = pattern_of(alloc, &job)?;
     answer(alloc, pattern, &job, input, out)?;
     Ok(())
 }
@@ -61,7 +84,8 @@ fn ending(ended: Result<(), Status>) -> Status
 
 /// Matches the pattern in the words over the input that they name, writes the zones of all matches
 /// to `out`, and tells `err` how the run ended. With `--online` it writes a block of zones for each
-/// segment as soon as that is complete, and with `--show` the pattern's text instead.
+/// segment as soon as that is complete, and with `--show` the pattern's text instead. With
+/// `--generate` as the first word it reads no input, and writes the summary of a made trace.
 ///
 /// The words are those after the program's name. What `ends` says of bytes holds where the source
 /// and the sinks tell their bytes; what it says of counts holds for every source and sink. A count
@@ -89,9 +113,14 @@ pub fn run<S: Source, O: Sink, E: Sink>(
     ensures untouched { AsksForNothing (map string_bytes words.now) →
         (input.new ≡ input.old) × (out.new ≡ out.old) }
 
-    // A run that shows the pattern's text reads no input.
+    // A run that shows the pattern's text, or makes its trace, reads no input.
     ensures source_untouched { (job : Job) → GivesJob (map string_bytes words.now) job →
-        job.mode ≡ Mode.Show → input.new ≡ input.old }
+        (ReadsInput job.mode → ⊥) → input.new ≡ input.old }
+
+    // A made run writes the summary of its segments, or a first part of it, and reads nothing.
+    ensures generated { (count : ℕ) → AsksForMadeRun (map string_bytes words.now) count →
+        EndsMadeRun count (output_told O.written O.faults out.old out.new) result
+        × (input.new ≡ input.old) }
 
     // Standard error is told the status, and a failure to tell it leaves a first part of the line.
     ensures error_line { ¬ Rises (E.faults err.old) (E.faults err.new) →

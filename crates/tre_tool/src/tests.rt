@@ -30,6 +30,11 @@ pub(crate) const SOUND: Device = Device {
     fails: 0,
 };
 
+const FIRST_FAILS: Device = Device {
+    most: 4096,
+    fails: 1,
+};
+
 fn words_of(alloc: Global, words: &[&str]) -> Result<Vec<String>, AllocError> {
     let mut all = Vec::new(alloc);
     for word in words {
@@ -49,20 +54,20 @@ fn failing(alloc: Global, device: Device) -> Result<Vec<u64>, AllocError> {
 fn named_source(
     alloc: Global,
     name: &str,
-    text: &str,
+    bytes: &[u8],
     device: Device,
 ) -> Result<MemSource, AllocError>
     ensures { IfOk result (λ source. source.opened ≡ false) }
 {
     let name = String::from_str(alloc, name)?;
-    let bytes = text.as_bytes().to_vec(alloc)?;
+    let bytes = bytes.to_vec(alloc)?;
     Ok(MemSource::new(name, bytes, device.most, failing(alloc, device)?))
 }
 
-fn source_of(alloc: Global, text: &str, device: Device) -> Result<MemSource, AllocError>
+fn source_of(alloc: Global, bytes: &[u8], device: Device) -> Result<MemSource, AllocError>
     ensures { IfOk result (λ source. source.opened ≡ false) }
 {
-    let source = named_source(alloc, "-", text, device)?;
+    let source = named_source(alloc, "-", bytes, device)?;
     Ok(source)
 }
 
@@ -77,8 +82,18 @@ pub(crate) fn ran_with(
     text: &str,
     devices: [Device; 3],
 ) -> Result<Ran, AllocError> {
+    let ran = ran_over(alloc, words, text.as_bytes(), devices)?;
+    Ok(ran)
+}
+
+fn ran_over(
+    alloc: Global,
+    words: &[&str],
+    bytes: &[u8],
+    devices: [Device; 3],
+) -> Result<Ran, AllocError> {
     let [read, write, tell] = devices;
-    let mut input = source_of(alloc, text, read)?;
+    let mut input = source_of(alloc, bytes, read)?;
     let mut out = sink_of(alloc, write)?;
     let mut err = sink_of(alloc, tell)?;
     let words = words_of(alloc, words)?;
@@ -203,41 +218,48 @@ fn the_most_names(rt: HostRuntime) -> Result<(), Fail> {
     Ok(())
 }
 
-/// What a run over `3 p` answers to these words, in its code alone.
-fn code_of(alloc: Global, words: &[&str]) -> Result<u8, AllocError> {
-    let ran = ran_with(alloc, words, "3 p\n", [SOUND, SOUND, SOUND])?;
+/// What a run over `3 p` answers to the words of the line, in its code alone.
+fn code_of(alloc: Global, line: &str) -> Result<u8, AllocError> {
+    let mut words = Vec::new(alloc);
+    for word in line.split_ascii_whitespace() {
+        words.push(word)?;
+    }
+    let ran = ran_with(alloc, &words, "3 p\n", [SOUND, SOUND, SOUND])?;
     Ok(ran.code)
 }
 
 #[test]
-fn words_refused(rt: HostRuntime) -> Result<(), Fail> {
-    let alloc = rt.alloc();
-    let usage = "montre: wrong arguments\n";
-    assert!(rt; is_answer(alloc, &[], "3 p\n", 2, "", usage)?);
-    assert!(rt; is_answer(alloc, &["p", "q"], "3 p\n", 2, "", usage)?);
-    assert_eq!(rt; code_of(alloc, &["-p"])?, 2);
-    assert_eq!(rt; code_of(alloc, &["--help"])?, 2);
-    assert_eq!(rt; code_of(alloc, &["--online", "--online", "p"])?, 2);
-    assert_eq!(rt; code_of(alloc, &["--format", "xml", "p"])?, 2);
-    assert_eq!(rt;
-        code_of(alloc, &["--format=text", "--format=text", "p"])?,
-        2
-    );
-    assert_eq!(rt; code_of(alloc, &["--max-bytes", "0", "p"])?, 2);
-    assert_eq!(rt; code_of(alloc, &["--max-bytes", "1099511627777", "p"])?, 2);
-    assert_eq!(rt; code_of(alloc, &["--max-bytes", "+4", "p"])?, 2);
-    Ok(())
-}
-
-#[test]
-fn words_taken(rt: HostRuntime) -> Result<(), Fail> {
-    let alloc = rt.alloc();
-    assert_eq!(rt; code_of(alloc, &["p"])?, 0);
-    assert_eq!(rt; code_of(alloc, &["--format", "text", "--input=-", "p"])?, 0);
-    assert_eq!(rt; code_of(alloc, &["p", "--max-bytes", "1099511627776"])?, 0);
-    assert_eq!(rt; code_of(alloc, &["--input", "b.txt", "p"])?, 6);
-    assert_eq!(rt; code_of(alloc, &["-"])?, 3);
-    assert_eq!(rt; code_of(alloc, &["--", "-p"])?, 3);
+fn lines_of_words(rt: HostRuntime) -> Result<(), Fail> {
+    let rows = [
+        ("", 2),
+        ("p q", 2),
+        ("-p", 2),
+        ("--help", 2),
+        ("--online --online p", 2),
+        ("--format xml p", 2),
+        ("--format=text --format=text p", 2),
+        ("--max-bytes 0 p", 2),
+        ("--max-bytes 1099511627777 p", 2),
+        ("--max-bytes +4 p", 2),
+        ("--generate", 2),
+        ("--generate 0", 2),
+        ("--generate 10001", 2),
+        ("--generate +5", 2),
+        ("--generate=5", 2),
+        ("--generate 5 p", 2),
+        ("--online --generate 5", 2),
+        ("p", 0),
+        ("--format text --input=- p", 0),
+        ("p --max-bytes 1099511627776", 0),
+        ("--generate 1", 0),
+        ("--input b.txt p", 6),
+        ("-", 3),
+        ("-- -p", 3),
+        ("-- --generate", 3),
+    ];
+    for (line, code) in rows {
+        assert_eq!(rt; code_of(rt.alloc(), line)?, code);
+    }
     Ok(())
 }
 
@@ -251,6 +273,36 @@ fn words_give_a_job(rt: HostRuntime) -> Result<(), Fail> {
     assert_eq!(rt; job.input.text(), "-");
     assert_eq!(rt; job.max_bytes, 1073741824);
     assert_eq!(rt; job.expr.text(), "p");
+    Ok(())
+}
+
+#[test]
+fn words_give_a_made_run(rt: HostRuntime) -> Result<(), Fail> {
+    let alloc = rt.alloc();
+    let words = words_of(alloc, &["--generate", "10000"])?;
+    let job = read_words(alloc, &words)?;
+    assert_eq!(rt; job.mode, Mode::Generate { count: 10_000 });
+    Ok(())
+}
+
+/// The first call of the input would fail.
+#[test]
+fn made_runs(rt: HostRuntime) -> Result<(), Fail> {
+    let five = "segments 5\nend 9\nzones 2\nheld 2 of 4\nalike 4 of 4\n";
+    let many = "segments 200\nend 399\nzones 196\nheld 66 of 199\nalike 199 of 199\n";
+    let rows = [
+        ("5", SOUND, five, 0),
+        ("005", SOUND, five, 0),
+        ("200", SOUND, many, 0),
+        ("5", FIRST_FAILS, "", 7),
+        ("5", Device { most: 8, fails: 3 }, "segments 5\nend 9", 7),
+    ];
+    for (count, write, out, code) in rows {
+        let words = ["--generate", count];
+        let ran = ran_with(rt.alloc(), &words, "", [FIRST_FAILS, write, SOUND])?;
+        assert_eq!(rt; ran.code, code);
+        assert_eq!(rt; ran.out.as_slice(), out.as_bytes());
+    }
     Ok(())
 }
 
@@ -410,6 +462,35 @@ fn value_change_dumps_refused(rt: HostRuntime) -> Result<(), Fail> {
     Ok(())
 }
 
+/// The first bytes of the dump: how many, the code, and what both outputs are told.
+#[test]
+fn cut_dumps(rt: HostRuntime) -> Result<(), Fail> {
+    let rows = [
+        (0usize, 4, "montre: trace: CutShort at 0\n"),
+        (147, 4, "montre: trace: BadToken at 143\n"),
+        (150, 4, "montre: trace: CutShort at 150\n"),
+        (158, 4, "montre: trace: CutShort at 158\n"),
+        (163, 0, "end 0\n"),
+        (164, 0, "end 0\n"),
+        (165, 4, "montre: trace: BadToken at 164\n"),
+        (177, 4, "montre: trace: CutShort at 177\n"),
+        (192, 0, "end 5\n"),
+        (194, 4, "montre: trace: BadToken at 193\n"),
+        (200, 4, "montre: trace: CutShort at 200\n"),
+        (205, 0, "[5,9) (5,9] (0,4]\nend 9\n"),
+        (211, 4, "montre: trace: TimeBack at 209\n"),
+    ];
+    let words = ["--format", "vcd", "top.p"];
+    for (len, code, told) in rows {
+        let bytes = DUMP.as_bytes().get(..len).unwrap_or_default();
+        let mut ran = ran_over(rt.alloc(), &words, bytes, [SOUND, SOUND, SOUND])?;
+        ran.out.extend_from_slice(&ran.err)?;
+        assert_eq!(rt; ran.code, code, "{len}");
+        assert_eq!(rt; ran.out.as_slice(), told.as_bytes(), "{len}");
+    }
+    Ok(())
+}
+
 /// How many calls take `len` bytes, at most `most` of them a call.
 fn calls_for(len: u64, most: usize) -> u64
     requires { 0 < most }
@@ -477,6 +558,9 @@ fn standard_error_fails(rt: HostRuntime) -> Result<(), Fail> {
         assert_eq!(rt; ran.err.len(), told);
         assert!(rt; line.starts_with(ran.err.as_slice()));
     }
+    let ran = ran_with(rt.alloc(), &[], "", [SOUND, SOUND, FIRST_FAILS])?;
+    assert_eq!(rt; ran.code, 2);
+    assert!(rt; ran.err.is_empty());
     Ok(())
 }
 
@@ -485,7 +569,7 @@ fn standard_error_fails(rt: HostRuntime) -> Result<(), Fail> {
 fn outputs_that_take_no_more(rt: HostRuntime) -> Result<(), Fail> {
     let alloc = rt.alloc();
     let words = words_of(alloc, &["p"])?;
-    let mut input = source_of(alloc, "3 p\n", SOUND)?;
+    let mut input = source_of(alloc, b"3 p\n", SOUND)?;
     let mut out = StdSink::over(Cursor::new([0u8; 8]));
     let mut err = StdSink::over(Cursor::new([0u8; 4]));
     assert_eq!(rt;
@@ -499,7 +583,7 @@ fn outputs_that_take_no_more(rt: HostRuntime) -> Result<(), Fail> {
 fn another_file_is_not_read(rt: HostRuntime) -> Result<(), Fail> {
     let alloc = rt.alloc();
     let words = words_of(alloc, &["p"])?;
-    let mut input = named_source(alloc, "other", "3 p\n", SOUND)?;
+    let mut input = named_source(alloc, "other", b"3 p\n", SOUND)?;
     let mut out = sink_of(alloc, SOUND)?;
     let mut err = sink_of(alloc, SOUND)?;
     assert_eq!(rt;
@@ -513,11 +597,7 @@ fn another_file_is_not_read(rt: HostRuntime) -> Result<(), Fail> {
 /// Runs over these words with an input and an output whose first call fails, and says how it ended:
 /// a call of either would show.
 fn ended_untouched(alloc: Global, words: &[&str]) -> Result<u8, Fail> {
-    let first = Device {
-        most: 4096,
-        fails: 1,
-    };
-    Ok(ran_with(alloc, words, "3 p\n", [first, first, SOUND])?.code)
+    Ok(ran_with(alloc, words, "3 p\n", [FIRST_FAILS, FIRST_FAILS, SOUND])?.code)
 }
 
 #[test]
@@ -574,7 +654,7 @@ impl<K: Sink> Sink for AtLastCount<K> {
 fn ended_at_last_count(alloc: Global, read: Device, write: Device) -> Result<Status, AllocError> {
     let words = words_of(alloc, &["p"])?;
     let mut input = AtLastCount {
-        inner: source_of(alloc, "3 p\n", read)?,
+        inner: source_of(alloc, b"3 p\n", read)?,
     };
     let mut out = AtLastCount {
         inner: sink_of(alloc, write)?,
@@ -588,17 +668,13 @@ fn ended_at_last_count(alloc: Global, read: Device, write: Device) -> Result<Sta
 #[test]
 fn counts_that_stand(rt: HostRuntime) -> Result<(), Fail> {
     let alloc = rt.alloc();
-    let first = Device {
-        most: 4096,
-        fails: 1,
-    };
     assert_eq!(rt; ended_at_last_count(alloc, SOUND, SOUND)?, Status::Done);
     assert_eq!(rt;
-        ended_at_last_count(alloc, first, SOUND)?,
+        ended_at_last_count(alloc, FIRST_FAILS, SOUND)?,
         Status::ReadFault
     );
     assert_eq!(rt;
-        ended_at_last_count(alloc, SOUND, first)?,
+        ended_at_last_count(alloc, SOUND, FIRST_FAILS)?,
         Status::WriteFault
     );
     Ok(())

@@ -1,14 +1,15 @@
 // The words of the command line.
-ghost use Rattle.std.specs.Prelude.{◌≡◌, ◌≤◌, ◌^◌, ◌-◌, min, map, string_bytes, IfOk, IsErrOf, IfSome, IfNone, Some, None, true, false, codes, option_and_then};
+ghost use Rattle.std.specs.Prelude.{◌≡◌, ℕ, ◌≤◌, ◌<◌, ◌^◌, ◌-◌, min, map, string_bytes, IfOk, IsErrOf, IfSome, IfNone, Some, None, true, false, codes, option_and_then, option_map};
 ghost use Rattle.std.specs.Str.Parse.{digits_value};
-ghost use Rattle.clap.specs.Words.{app_of, rule_of, found_of, rows_of, matches_of, first_of, kind_of};
-ghost use Rattle.tre_tool.specs.Job.{flag_rule, option_rule, operand_rule, command_line, is_given, mode_for, mode_in, format_named, is_numeral, limit_written, GivesFrom, GivesJob, GivesNoJob, AreTaken};
+ghost use Rattle.clap.specs.Words.{app_of, rule_of, found_of, rows_of, matches_of, first_of, takes};
+ghost use Rattle.tre_tool.specs.Job.{flag_rule, option_rule, operand_rule, command_line, is_given, mode_for, mode_in, format_named, is_numeral, number_written, is_made_run, made_count, made_job, IsCount, GivesFrom, GivesJob, GivesNoJob, AreTaken};
 ghost use Rattle.tre_tool.specs.declared.job.Job.{Job};
 
-use crate::job::{Format, Job, LIMIT_MAX, Mode, Word, WordsFault};
+use crate::job::{Format, Job, LIMIT_DEFAULT, LIMIT_MAX, Mode, Word, WordsFault};
 use clap::error::ErrorKind;
 use clap::{Arg, ArgAction, ArgMatches, Command};
 use std::alloc::{AllocError, Global};
+use tre_generate::SEGMENTS_MAX;
 
 fn flag<'a>(alloc: Global, name: &'a str) -> Arg<'a>
     ensures rule { rule_of result ≡ flag_rule name.entry.now }
@@ -64,7 +65,7 @@ fn parse_words<'a>(alloc: Global, words: &'a [String]) -> Result<ArgMatches<'a>,
     ensures matches { IfOk result (λ matches.
         rows_of (found_of matches) ≡ matches_of command_line (map string_bytes words.entry.now)) }
     ensures usage { IsErrOf result WordsFault.Usage →
-        AreTaken (map string_bytes words.entry.now) → ⊥ }
+        takes command_line (map string_bytes words.entry.now) ≡ true → ⊥ }
 {
     let command = command_line(alloc)?;
     match command.try_get_matches_from(words) {
@@ -136,11 +137,13 @@ fn read_number(text: &[u8]) -> Option<u64>
     Some(number)
 }
 
-fn limit_written(text: &str) -> Option<u64>
-    ensures { result ≡ limit_written text.now }
+// The number from 1 to `most` that the text writes.
+fn number_written(most: u64, text: &str) -> Option<u64>
+    requires { most < 2 ^ 64 - 1 }
+    ensures { result ≡ number_written most text.now }
 {
     let number = read_number(text.as_bytes())?;
-    if number == 0 || number > LIMIT_MAX {
+    if number == 0 || number > most {
         return None;
     }
     Some(number)
@@ -154,10 +157,10 @@ fn format_in(matches: &ArgMatches) -> Option<Format>
 }
 
 fn limit_in(matches: &ArgMatches) -> Option<u64>
-    ensures { result ≡ option_and_then limit_written
+    ensures { result ≡ option_and_then (number_written LIMIT_MAX)
         (first_of (codes "max-bytes") (rows_of (found_of matches.now))) }
 {
-    limit_written(value_of(matches, "max-bytes")?)
+    number_written(LIMIT_MAX, value_of(matches, "max-bytes")?)
 }
 
 // The job that the values of the options give, where they give one.
@@ -188,15 +191,79 @@ fn job_in(alloc: Global, matches: &ArgMatches) -> Result<Job, WordsFault>
     })
 }
 
-/// Reads the words after the program's name:
-/// `[--online] [--show] [--format text|vcd] [--input NAME] [--max-bytes N] EXPR`.
-pub fn read_words(alloc: Global, words: &[String]) -> Result<Job, WordsFault>
-    ensures ok { IfOk result (GivesJob (map string_bytes words.now)) }
-    ensures small { IfOk result (λ job. job.max_bytes ≤ LIMIT_MAX) }
-    ensures usage { IsErrOf result WordsFault.Usage → AreTaken (map string_bytes words.now) →
-        GivesNoJob (map string_bytes words.now) }
+// Reads words that `clap` reads.
+fn read_options(alloc: Global, words: &[String]) -> Result<Job, WordsFault>
+    ensures ok { IfOk result (GivesFrom (matches_of command_line (map string_bytes words.now))) }
+    ensures usage { IsErrOf result WordsFault.Usage →
+        takes command_line (map string_bytes words.now) ≡ true → (job : Job) →
+        GivesFrom (matches_of command_line (map string_bytes words.now)) job → ⊥ }
 {
     let matches = parse_words(alloc, words)?;
     let job = job_in(alloc, &matches)?;
+    Ok(job)
+}
+
+// Whether the first word is `--generate`.
+fn is_made_run(words: &[String]) -> bool
+    ensures { result ≡ is_made_run (map string_bytes words.now) }
+{
+    match words.first() {
+        Some(word) => word.as_str() == "--generate",
+        None => false,
+    }
+}
+
+// How many segments the words of a made run write, where they are two.
+fn made_count(words: &[String]) -> Option<u64>
+    ensures { result ≡ made_count (map string_bytes words.now) }
+{
+    if words.len() != 2 {
+        return None;
+    }
+    number_written(SEGMENTS_MAX, words[1].as_str())
+}
+
+fn made_job(alloc: Global, count: u64) -> Result<Job, AllocError>
+    ensures { IfOk result (λ job. job ≡ made_job count) }
+{
+    Ok(Job {
+        mode: Mode::Generate { count },
+        format: Format::Text,
+        input: Word::new(alloc, "-")?,
+        max_bytes: LIMIT_DEFAULT,
+        expr: Word::new(alloc, "")?,
+    })
+}
+
+// Reads the words of a made run.
+fn read_made_run(alloc: Global, words: &[String]) -> Result<Job, WordsFault>
+    ensures ok { IfOk result (λ job.
+        option_map made_job (made_count (map string_bytes words.now)) ≡ Some job) }
+    ensures usage { IsErrOf result WordsFault.Usage →
+        made_count (map string_bytes words.now) ≡ None }
+{
+    let Some(count) = made_count(words) else {
+        return Err(WordsFault::Usage);
+    };
+    let job = made_job(alloc, count)?;
+    Ok(job)
+}
+
+/// Reads the words after the program's name, which are
+/// `[--online] [--show] [--format text|vcd] [--input NAME] [--max-bytes N] EXPR`
+/// or `--generate K`.
+pub fn read_words(alloc: Global, words: &[String]) -> Result<Job, WordsFault>
+    ensures ok { IfOk result (GivesJob (map string_bytes words.now)) }
+    ensures small { IfOk result (λ job. job.max_bytes ≤ LIMIT_MAX) }
+    ensures counted { IfOk result (λ job. (count : ℕ) → job.mode ≡ Mode.Generate count →
+        IsCount count) }
+    ensures usage { IsErrOf result WordsFault.Usage → AreTaken (map string_bytes words.now) →
+        GivesNoJob (map string_bytes words.now) }
+{
+    if is_made_run(words) {
+        let job = read_made_run(alloc, words)?;
+        return Ok(job);
+    }
+    let job = read_options(alloc, words)?;
     Ok(job)
 }

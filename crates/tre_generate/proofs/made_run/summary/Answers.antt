@@ -1,7 +1,7 @@
 use Rattle.std.proofs.Common.{string_bytes}
 use Rattle.std.proofs.lemmas.Result.{IfOk-weaker}
 use Rattle.tre_offline.specs.MatchSet.{IsMatchSet}
-use Rattle.tre_generate.specs.FixedPattern.{fixed_tree}
+use Rattle.tre_syntax.specs.Pattern.{pattern_tree}
 use Rattle.tre_generate.specs.Made.{made_trace}
 use Rattle.tre_generate.specs.Tallies.{IsTally}
 use Rattle.tre_generate.specs.Told.{AreTold}
@@ -16,18 +16,19 @@ count_probes-tally-requires c =
 
 pub returns : goal.returns
 returns c =
+    let tree = pattern_tree c.args.pattern in
     let count = c.args.count in
     let whole = c.in_ok-whole.whole in
     let told = c.in_ok-told.told in
     let tally = c.count_probes-tally.result in
-    let matched : IsMatchSet whole fixed_tree (made_trace count) =
-    rw (c.in_ok-pattern.ensures, c.in_ok-trace.ensures) at c.in_ok-whole.ensures in
-    let are_told : AreTold fixed_tree (made_trace count) told =
-    rw (c.in_ok-pattern.ensures, c.in_ok-trace.ensures) at c.in_ok-told.ensures in
+    let matched : IsMatchSet whole tree (made_trace count) =
+    rw c.in_ok-trace.ensures at c.in_ok-whole.ensures in
+    let are_told : AreTold tree (made_trace count) told =
+    rw c.in_ok-trace.ensures at c.in_ok-told.ensures in
     let counted : IsTally whole told (made_trace count) count tally =
     rw (c.in_ok-trace.ensures, made_trace-length count) at c.count_probes-tally.ensures in
     IfOk-weaker c.summary_text.result _ _
-    (λ text is. summary_is count c.requires.some whole told tally matched are_told counted
+    (λ text is. summary_is tree count c.requires.some whole told tally matched are_told counted
     (string_bytes text)
     (rw (c.end.ensures.end, c.in_ok-trace.ensures, c.zones.ensures.same) at is))
     c.summary_text.ensures

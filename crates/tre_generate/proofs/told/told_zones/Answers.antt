@@ -1,10 +1,12 @@
-use Rattle.std.proofs.Common.{List, ◌++◌, get_or, take, sym, subst, ◌∙◌}
-use Rattle.std.proofs.lemmas.List.{take_all, take_more}
+use Rattle.std.proofs.Common.{◌≡◌, List, ◌∷◌, ◌++◌, suc, get_or, take, drop, drop-cons, sym, subst, ap, ◌∙◌}
+use Rattle.std.proofs.lemmas.List.{take_all, take_more, take-append-drop}
 use Rattle.tre_online.specs.Session.{ended_of, StandsFor, TellsNew}
 use Rattle.tre_syntax.specs.Pattern.{pattern_tree}
 use Rattle.tre_syntax.specs.PatternTree.{PatternTree}
+use Rattle.tre_trace.specs.Trace.{IsTrace}
 use Rattle.tre_trace.specs.declared.segment.Segment.{Segment}
 use Rattle.tre_generate.specs.Told.{AreTold}
+use Rattle.tre_generate.proofs.Refusals.{fits_within}
 use Rattle.tre_generate.proofs.Telling.{AreTold-none, AreTold-next, AreTold-set}
 use Rattle.tre_generate.proofs.told.told_zones.Goals as goal
 
@@ -14,6 +16,24 @@ loop-segment-init c = record {
   tree = c.in_ok-session.ensures.tree;
   told = rw c.new-zones.ensures.items (AreTold-none (pattern_tree c.args.pattern));
 }
+
+pub told_of-requires : goal.told_of-requires
+told_of-requires c =
+    let items = c.segments-segment-items.result.now in
+    let place = c.loop-segment.segment-index in
+    let front = take place items in
+    let segment = get_or items place (record { len = 0; val = 0 }) in
+    let whole : items ≡ front ++ segment ∷ drop (suc place) items =
+    sym (ap (λ (back : List Segment). front ++ back)
+    (sym (drop-cons items place (record { len = 0; val = 0 }) c.loop-segment-test.true))
+    ∙ take-append-drop place items) in
+    let trace : IsTrace items = subst IsTrace (sym c.segments-segment-items.ensures.segments)
+    c.segments-segment-items.ensures.trace in
+    record {
+      segments = front;
+      stands = c.loop-segment.invariant.stands;
+      fits = fits_within front segment (drop (suc place) items) (subst IsTrace whole trace);
+    }
 
 pub loop-segment-preserved : goal.loop-segment-preserved
 loop-segment-preserved c =

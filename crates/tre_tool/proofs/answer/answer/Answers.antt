@@ -81,3 +81,39 @@ returns-in_ok-write_text-in-Show-clause-ends g c =
       right = rw c.in-Show.is c.in_ok-text-in-Show.ensures;
     }) c.in_ok-write_text-in-Show.ensures.good
     (rw c.as_str-in-Show.ensures.value at c.in_ok-write_text-in-Show.ensures.all)
+
+pub returns-in_err-text-in-Generate-clause-ends : goal.returns-in_err-text-in-Generate-clause-ends
+returns-in_err-text-in-Generate-clause-ends g c =
+    let p = err_from_is_err_and c.from_residual-in_err-text-in-Generate.result
+    c.from_residual-in_err-text-in-Generate.ensures.1 in
+    let request = request_for c.args.job.now (pattern_tree c.args.pattern)
+    (names_of c.args.pattern) in
+    let input = input_told g.S.Source.file_name g.S.Source.file g.S.Source.sound
+    g.S.Source.opened g.S.Source.left g.S.Source.faults c.args.input.now c.args.input.now in
+    let output = output_told g.O.Sink.written g.O.Sink.faults c.args.out.now c.args.out.now in
+    let once : c.args.job.now.mode ≡ Online → ⊥ = λ online. cc in
+    rw (p.1, p.2) (EndsOver-stopped request input output Memory
+    (StopsAs-memory request input once refl) (record { unwritten = refl; writes = refl }))
+
+pub returns-in_err-write_text-in-Generate-clause-ends :
+    goal.returns-in_err-write_text-in-Generate-clause-ends
+returns-in_err-write_text-in-Generate-clause-ends g c =
+    let p = err_from_is_err_and c.from_residual-in_err-write_text-in-Generate.result
+    c.from_residual-in_err-write_text-in-Generate.ensures.1 in
+    rw (p.1, p.2, c.in_err-write_text-in-Generate.ensures.status)
+    (EndsOver-cut _ _ _ _ (λ online. cc) (record {
+      reads = refl;
+      all_read = rw c.in-Generate.is tt;
+      right = rw c.in-Generate.is c.in_ok-text-in-Generate.ensures;
+    }) c.in_err-write_text-in-Generate.ensures.cause (rw c.as_str-in-Generate.ensures.value at
+    c.in_err-write_text-in-Generate.ensures.part))
+
+pub returns-in_ok-write_text-in-Generate-clause-ends :
+    goal.returns-in_ok-write_text-in-Generate-clause-ends
+returns-in_ok-write_text-in-Generate-clause-ends g c =
+    EndsOver-done _ _ _ _ (record {
+      reads = refl;
+      all_read = rw c.in-Generate.is tt;
+      right = rw c.in-Generate.is c.in_ok-text-in-Generate.ensures;
+    }) c.in_ok-write_text-in-Generate.ensures.good
+    (rw c.as_str-in-Generate.ensures.value at c.in_ok-write_text-in-Generate.ensures.all)

@@ -1,7 +1,10 @@
-use Rattle.std.proofs.Common.{refl}
+use Rattle.std.proofs.Common.{◌+◌, refl, subst, map, string_bytes}
 use Rattle.std.proofs.lemmas.Result.{err_from_is_err_and}
 use Rattle.tre_tool.specs.declared.status.Status.TheVariants.{Done}
-use Rattle.tre_tool.proofs.Promise.{named_as, only_untaken, EndsAs-refused, EndsAs-over, IsRefused-parse, AsksFor-parse, nothing_asked, never_refused}
+use Rattle.tre_tool.specs.Input.{TakesAtMost}
+use Rattle.tre_tool.specs.declared.job.Job.{Job}
+use Rattle.tre_tool.proofs.MadeRuns.{IsCount-given}
+use Rattle.tre_tool.proofs.Promise.{named_as, only_untaken, EndsAs-refused, EndsAs-over, IsRefused-of, AsksFor-of, job_unique, kept_as, nothing_asked, never_refused}
 use Rattle.tre_tool.proofs.run.run_words.Goals as goal
 
 pub returns-in_err-pattern-clause-ends : goal.returns-in_err-pattern-clause-ends
@@ -9,7 +12,7 @@ returns-in_err-pattern-clause-ends g c =
     let p = err_from_is_err_and c.from_residual-in_err-pattern.result
     c.from_residual-in_err-pattern.ensures.1 in
     rw (p.1, p.2) (EndsAs-refused _ _ _ c.in_err-pattern.field-0.0
-    (IsRefused-parse _ _ _ _ c.in_ok-job.ensures.ok c.text.ensures c.in_err-pattern.ensures.outcome)
+    (IsRefused-of _ _ _ c.in_ok-job.ensures.ok c.in_err-pattern.ensures.refuses)
     refl (record { unwritten = refl; writes = refl }))
 
 pub returns-in_err-pattern-clause-by_name : goal.returns-in_err-pattern-clause-by_name
@@ -18,33 +21,28 @@ returns-in_err-pattern-clause-by_name g c =
     c.from_residual-in_err-pattern.ensures.1 in
     λ request asks reads. rw (p.1, p.2) (λ usage read memory. absurd (memory
     (never_refused _ request c.in_err-pattern.field-0.0 asks
-    (IsRefused-parse _ _ _ _ c.in_ok-job.ensures.ok c.text.ensures
-    c.in_err-pattern.ensures.outcome))))
+    (IsRefused-of _ _ _ c.in_ok-job.ensures.ok c.in_err-pattern.ensures.refuses))))
 
 pub returns-in_err-answer-clause-ends : goal.returns-in_err-answer-clause-ends
 returns-in_err-answer-clause-ends g c =
     let p = err_from_is_err_and c.from_residual-in_err-answer.result
     c.from_residual-in_err-answer.ensures.1 in
-    let asks = AsksFor-parse _ c.in_ok-job.job _ _ _ c.in_ok-job.ensures.ok c.text.ensures
-    c.in_ok-pattern.ensures.outcome in
+    let asks = AsksFor-of _ c.in_ok-job.job _ _ c.in_ok-job.ensures.ok c.in_ok-pattern.ensures.spells in
     rw (p.1, p.2) (EndsAs-over _ _ _ _ c.in_err-answer.field-0.0 asks c.in_err-answer.ensures.ends)
 
 pub returns-in_err-answer-clause-untouched : goal.returns-in_err-answer-clause-untouched
 returns-in_err-answer-clause-untouched g c =
-    let asks = AsksFor-parse _ c.in_ok-job.job _ _ _ c.in_ok-job.ensures.ok c.text.ensures
-    c.in_ok-pattern.ensures.outcome in
+    let asks = AsksFor-of _ c.in_ok-job.job _ _ c.in_ok-job.ensures.ok c.in_ok-pattern.ensures.spells in
     λ nothing. absurd (nothing_asked _ _ asks nothing)
 
 pub returns-clause-ends : goal.returns-clause-ends
 returns-clause-ends g c =
-    let asks = AsksFor-parse _ c.in_ok-job.job _ _ _ c.in_ok-job.ensures.ok c.text.ensures
-    c.in_ok-pattern.ensures.outcome in
+    let asks = AsksFor-of _ c.in_ok-job.job _ _ c.in_ok-job.ensures.ok c.in_ok-pattern.ensures.spells in
     EndsAs-over _ _ _ _ Done asks c.in_ok-answer.ensures.ends
 
 pub returns-clause-untouched : goal.returns-clause-untouched
 returns-clause-untouched g c =
-    let asks = AsksFor-parse _ c.in_ok-job.job _ _ _ c.in_ok-job.ensures.ok c.text.ensures
-    c.in_ok-pattern.ensures.outcome in
+    let asks = AsksFor-of _ c.in_ok-job.job _ _ c.in_ok-job.ensures.ok c.in_ok-pattern.ensures.spells in
     λ nothing. absurd (nothing_asked _ _ asks nothing)
 
 pub returns-in_err-job-clause-by_name : goal.returns-in_err-job-clause-by_name
@@ -65,3 +63,32 @@ pub returns-clause-by_name : goal.returns-clause-by_name
 returns-clause-by_name g c =
     λ request asks reads usage read memory. named_as _ _ request _ c.in_ok-job.ensures.ok asks
     (λ mode. c.in_ok-answer.ensures.by_name mode (λ e. cc) (λ e. cc)) reads
+
+pub answer-requires-clause-counted : goal.answer-requires-clause-counted
+answer-requires-clause-counted g c = λ count mode.
+    IsCount-given (map string_bytes c.args.words.now) c.in_ok-job.job count c.in_ok-job.ensures.ok mode
+
+pub returns-in_err-answer-clause-source_untouched :
+    goal.returns-in_err-answer-clause-source_untouched
+returns-in_err-answer-clause-source_untouched g c = λ job gives unread.
+    kept_as (map string_bytes c.args.words.now) c.in_ok-job.job job _ c.in_ok-job.ensures.ok gives
+    c.in_err-answer.ensures.untouched unread
+
+pub returns-clause-source_untouched : goal.returns-clause-source_untouched
+returns-clause-source_untouched g c = λ job gives unread.
+    kept_as (map string_bytes c.args.words.now) c.in_ok-job.job job _ c.in_ok-job.ensures.ok gives
+    c.in_ok-answer.ensures.untouched unread
+
+pub returns-in_err-answer-clause-reads_at_most : goal.returns-in_err-answer-clause-reads_at_most
+returns-in_err-answer-clause-reads_at_most g c = λ job gives opened.
+    subst (λ (j : Job). TakesAtMost (j.max_bytes + 1) (g.S.Source.file c.args.input.now)
+    (g.S.Source.left c.answer.new.input))
+    (job_unique (map string_bytes c.args.words.now) c.in_ok-job.job job c.in_ok-job.ensures.ok gives)
+    (c.in_err-answer.ensures.bounded opened)
+
+pub returns-clause-reads_at_most : goal.returns-clause-reads_at_most
+returns-clause-reads_at_most g c = λ job gives opened.
+    subst (λ (j : Job). TakesAtMost (j.max_bytes + 1) (g.S.Source.file c.args.input.now)
+    (g.S.Source.left c.answer.new.input))
+    (job_unique (map string_bytes c.args.words.now) c.in_ok-job.job job c.in_ok-job.ensures.ok gives)
+    (c.in_ok-answer.ensures.bounded opened)

@@ -1,0 +1,156 @@
+-- What words of a made run give, and how such a run ends.
+use Rattle.std.proofs.Common.{◌≡◌, ◌∙◌, ℕ, ◌≤◌, Bool, true, false, ◌&&◌, List, [], ◌∷◌, Option, Some, None, if◌then◌else◌, codes, ap, refl, sym, subst, ⊎_elim, arith}
+use Rattle.std.specs.Prelude.{option_map, nat_lt, nat_le}
+use Rattle.std.specs.Str.Parse.{digits_value}
+use Rattle.std.proofs.lemmas.Bool.Decides.{nat_tests}
+use Rattle.clap.specs.Words.{matches_of}
+use Rattle.tre_parse.specs.Outcome.{spelt, refused}
+use Rattle.tre_parse.specs.declared.fault.ParseFault.{ParseFault}
+use Rattle.tre_syntax.specs.PatternTree.{PatternTree}
+use Rattle.tre_generate.specs.FixedPattern.{fixed_tree}
+use Rattle.tre_generate.specs.Summary.{IsSummary}
+use Rattle.tre_generate.specs.declared.made_run.TheConstants.{SEGMENTS_MAX}
+use Rattle.tre_tool.specs.Devices.{InputTold, OutputTold}
+use Rattle.tre_tool.specs.Job.{GivesWhere, GivesJob, AreTakenWhere, AreTaken, command_line, is_made_run, made_count, made_job, mode_for, is_numeral, number_written, is_given, IsCount}
+use Rattle.tre_tool.specs.Run.{Request, AsksFor, AsksForMadeRun, EndsAs, EndsMadeRun, IsRefused, IsOutcomeIn, IsAnswerIn, StandsAtFault, StandsAtFailedRead, StandsAtFailedWrite, StandsAtMemory}
+use Rattle.tre_tool.specs.declared.job.Job.{Job}
+use Rattle.tre_tool.specs.declared.job.Mode.{Mode}
+use Rattle.tre_tool.specs.declared.job.Mode.TheVariants.{Generate}
+use Rattle.tre_tool.specs.declared.status.Status.{Status}
+use Rattle.tre_tool.specs.declared.status.Status.TheVariants.{Done, Usage, Expression, Trace, InputTooLong, ReadFault, WriteFault, Memory}
+
+one_value : {X : Type 0} {x y : X} → Some x ≡ Some y → x ≡ y
+one_value e = cc
+
+chosen : (test : Bool) (value number : ℕ) → (if test then Some value else None) ≡ Some number
+    → (test ≡ true) × (value ≡ number)
+chosen true value number e = (refl, one_value e)
+chosen false value number e = cc
+
+within : (digits : Bool) (value most : ℕ)
+    → (digits && (nat_lt 0 value && nat_le value most)) ≡ true → (1 ≤ value) × (value ≤ most)
+within true value most e = grind (arith, nat_tests)
+within false value most e = cc
+
+-- a number that is written is one of those that may be
+pub number_within : (most : ℕ) (text : List ℕ) (number : ℕ) → number_written most text ≡ Some number
+    → (1 ≤ number) × (number ≤ most)
+number_within most text number e =
+    let both = chosen (is_numeral text
+    && (nat_lt 0 (digits_value 10 text) && nat_le (digits_value 10 text) most))
+    (digits_value 10 text) number e in
+    let inside = within (is_numeral text) (digits_value 10 text) most both.0 in
+    subst (λ (n : ℕ). (1 ≤ n) × (n ≤ most)) both.1 inside
+
+never_by_flags : (show online : Bool) (count : ℕ) → mode_for show online ≡ Generate count → ⊥
+never_by_flags true online count e = cc
+never_by_flags false true count e = cc
+never_by_flags false false count e = cc
+
+written_count : (written : Option ℕ) (job : Job) (count : ℕ) → option_map made_job written ≡ Some job
+    → job.mode ≡ Generate count → written ≡ Some count
+written_count (Some number) job count e mode =
+    let same : made_job number ≡ job = one_value e in
+    let modes : Generate number ≡ Generate count = ap (λ (j : Job). j.mode) same ∙ mode in
+    cc
+written_count None job count e mode = cc
+
+of_two : (words : List (List ℕ)) (count : ℕ) → made_count words ≡ Some count → IsCount count
+of_two (first ∷ number ∷ []) count e =
+    let both = number_within SEGMENTS_MAX number count e in
+    record { some = both.0; few = both.1 }
+of_two (first ∷ second ∷ third ∷ words) count e = cc
+of_two (first ∷ []) count e = cc
+of_two [] count e = cc
+
+count_where : (made : Bool) (words : List (List ℕ)) (job : Job) (count : ℕ)
+    → GivesWhere made words job → job.mode ≡ Generate count → IsCount count
+count_where true words job count gives mode =
+    of_two words count (written_count (made_count words) job count gives mode)
+count_where false words job count gives mode =
+    absurd (never_by_flags (is_given (codes "show") (matches_of command_line words))
+    (is_given (codes "online") (matches_of command_line words)) count (gives.mode ∙ mode))
+
+-- a made run has as many segments as it may have
+pub IsCount-given : (words : List (List ℕ)) (job : Job) (count : ℕ) → GivesJob words job
+    → job.mode ≡ Generate count → IsCount count
+IsCount-given words = count_where (is_made_run words) words
+
+module _ (words : List (List ℕ)) (count : ℕ) (asks : AsksForMadeRun words count) where
+  job_given : (job : Job) → GivesJob words job → job ≡ made_job count
+  job_given job gives =
+      let here : GivesWhere true words job =
+      subst (λ (made : Bool). GivesWhere made words job) asks.first gives in
+      one_value (sym here ∙ ap (option_map made_job) asks.second)
+
+  pub gives_one : GivesJob words (made_job count)
+  gives_one =
+      let here : GivesWhere true words (made_job count) =
+      ap (option_map made_job) asks.second in
+      subst (λ (made : Bool). GivesWhere made words (made_job count)) (sym asks.first) here
+
+  are_taken : AreTaken words
+  are_taken =
+      let here : AreTakenWhere true words = tt in
+      subst (λ (made : Bool). AreTakenWhere made words) (sym asks.first) here
+
+  mode_given : (job : Job) → GivesJob words job → job.mode ≡ Generate count
+  mode_given job gives = ap (λ (j : Job). j.mode) (job_given job gives)
+
+  tree_asked : (request : Request) → AsksFor words request → request.tree ≡ fixed_tree
+  tree_asked request asked =
+      let here : IsOutcomeIn (Generate count) request.job.expr (spelt request.tree request.names) =
+      subst (λ (mode : Mode). IsOutcomeIn mode request.job.expr (spelt request.tree request.names))
+      (mode_given request.job asked.gives) asked.spells in
+      cc
+
+  summary_asked : (request : Request) (file : Option (List ℕ)) (text : List ℕ)
+      → AsksFor words request → IsAnswerIn request.job.mode request file text
+      → IsSummary fixed_tree count text
+  summary_asked request file text asked right =
+      let here : IsAnswerIn (Generate count) request file text =
+      subst (λ (mode : Mode). IsAnswerIn mode request file text)
+      (mode_given request.job asked.gives) right in
+      subst (λ (tree : PatternTree). IsSummary tree count text) (tree_asked request asked) here
+
+  never_refused : (fault : ParseFault) → IsRefused words fault → ⊥
+  never_refused fault told =
+      let here : IsOutcomeIn (Generate count) told.job.expr (refused fault) =
+      subst (λ (mode : Mode). IsOutcomeIn mode told.job.expr (refused fault))
+      (mode_given told.job told.gives) told.refuses in
+      cc
+
+  -- how it ends, of a run over words that ask for it
+  pub EndsMadeRun-ends : (input : InputTold) (output : OutputTold) (status : Status)
+      → EndsAs words input output status → EndsMadeRun count output status
+  EndsMadeRun-ends input output Done ends = record {
+    text = ends.is_so.text;
+    right = summary_asked ends.request input.file ends.is_so.text ends.asks ends.is_so.right;
+    writes = ends.is_so.writes;
+    written = ends.is_so.written;
+  }
+  EndsMadeRun-ends input output Usage ends = ends.no_job are_taken (made_job count) gives_one
+  EndsMadeRun-ends input output (Expression fault) ends = never_refused fault ends.refused
+  EndsMadeRun-ends input output (Trace fault) ends =
+      subst (λ (mode : Mode). StandsAtFault mode ends.request input output)
+      (mode_given ends.request.job ends.asks.gives) ends.is_so.stands
+  EndsMadeRun-ends input output InputTooLong ends =
+      subst (λ (mode : Mode). StandsAtFault mode ends.request input output)
+      (mode_given ends.request.job ends.asks.gives) ends.is_so.stands
+  EndsMadeRun-ends input output ReadFault ends =
+      subst (λ (mode : Mode). StandsAtFailedRead mode ends.request input output)
+      (mode_given ends.request.job ends.asks.gives) ends.is_so.stands
+  EndsMadeRun-ends input output WriteFault ends =
+      let here : StandsAtFailedWrite (Generate count) ends.request input output =
+      subst (λ (mode : Mode). StandsAtFailedWrite mode ends.request input output)
+      (mode_given ends.request.job ends.asks.gives) ends.is_so.stands in
+      record {
+        text = here.text;
+        right = summary_asked ends.request input.file here.text ends.asks here.right;
+        cause = ends.is_so.cause;
+        written = here.written;
+      }
+  EndsMadeRun-ends input output Memory ends =
+      ⊎_elim (λ none. none)
+      (λ some. subst (λ (mode : Mode). StandsAtMemory mode some.request input output)
+      (mode_given some.request.job some.asks.gives) some.is_so) ends.stands
