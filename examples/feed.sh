@@ -3,7 +3,8 @@
 trace=$1
 shift
 mkfifo lines || exit 1
-montre --online "$@" < lines > told &
+# (in this order `told` is there before `lines` has a reader, for which `exec` waits)
+montre --online "$@" > told < lines &
 exec 3> lines
 blocks=0
 while read -r line; do
