@@ -115,23 +115,6 @@ pub repeat_between : (piece : Piece) (tree : PatternTree) (starts told : List Zo
 repeat_between piece tree starts told set =
     followed_between piece (repetition tree) told intersection_none (Held starts) (set_agrees set)
 
--- The pairs behind which a repetition goes on end in the piece.
-pub starts_within : (piece : Piece) (ended here starts : List ZoneBounds)
-    → EndBetween piece.begin (end_of_piece piece) ended → EndAt piece.begin here
-    → IsSetOf starts (Either (Held ended) (Held here))
-    → EndBetween piece.begin (end_of_piece piece) starts
-starts_within piece ended here starts between ends union = record {
-  begin = λ a b n some h. ⊎_elim (λ x. between.begin a b n some x)
-      (λ x. let at = ends.ends a b n some x in omega (arith, at))
-      ((union.pairs a b n some).0 h);
-  end = λ a b n some h. ⊎_elim (λ x. between.end a b n some x)
-      (λ x.
-      let at = ends.ends a b n some x in
-      let later = begin_end piece n in
-      omega (arith, at, later))
-      ((union.pairs a b n some).0 h);
-}
-
 pub again_set : (piece : Piece) (tree : PatternTree) (ended here starts told : List ZoneBounds)
     → IsSetOf starts (Either (Held ended) (Held here))
     → IsSetOf told (Followed (Held starts) (repetition tree) (alone piece))

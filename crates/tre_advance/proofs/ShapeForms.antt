@@ -48,15 +48,6 @@ plain_instances : (time : ℕ) (tree : PatternTree) → IsPlain tree → (instan
 plain_instances time tree plain (Instances' shape row) end none well =
     plain_row time tree plain row end none well
 
-none_plain : (time : ℕ) (tree : PatternTree) → IsPlain tree
-    → (IsWell time intersection_none tree → ⊥) × (IsWell time restriction_none tree → ⊥)
-none_plain time (atom x) plain = ((λ h. h), (λ h. h))
-none_plain time (sequence left right) plain = ((λ h. h), (λ h. h))
-none_plain time (alternation left right) plain = ((λ h. h), (λ h. h))
-none_plain time (intersection left right) plain = absurd plain
-none_plain time (repetition tree) plain = ((λ h. h), (λ h. h))
-none_plain time (restriction tree ends) plain = absurd plain
-
 -- A box with a value in it.
 abbrev boxed : Box (Unit {0}) Global → Mark → Box Mark Global
 boxed box mark = record { ptr = box.ptr; alloc = box.alloc; value = mark }

@@ -54,27 +54,6 @@ pub instance_left : (time : ℕ) (x : Instance) (left right : PatternTree)
 instance_left time x left right well =
     both_left time x.right x.from x.to x.outer (mark_of x.left.value) left right well
 
--- An instance of an intersection has a right side, which is well too.
-pub instance_right : (time : ℕ) (x : Instance) (other : Box Mark Global) (left right : PatternTree)
-    → x.right ≡ Some other
-    → IsWell time (instance_before x intersection_none) (intersection left right)
-    → ((others : MarkTree) → instance_before x others
-    ≡ intersection_one x.from x.to x.outer (mark_of x.left.value) (mark_of other.value) others)
-    × IsWell time (mark_of other.value) right
-instance_right time x other left right is well =
-    let shape : (others : MarkTree) → instance_before x others
-    ≡ intersection_one x.from x.to x.outer (mark_of x.left.value) (mark_of other.value) others =
-    λ others. ap (λ r. behind r x.from x.to x.outer (mark_of x.left.value) others) is in
-    let whole = subst (λ (m : MarkTree). IsWell time m (intersection left right))
-    (shape intersection_none) well in
-    (shape, whole.2)
-
-pub instance_alone : (time : ℕ) (x : Instance) (left right : PatternTree) → x.right ≡ None
-    → IsWell time (instance_before x intersection_none) (intersection left right) → ⊥
-instance_alone time x left right is well =
-    subst (λ (m : MarkTree). IsWell time m (intersection left right))
-    (ap (λ r. behind r x.from x.to x.outer (mark_of x.left.value) intersection_none) is) well
-
 module _ (piece : Piece) (tree : PatternTree) (interval : IntervalEnds) (x : Instance)
     (old_told told new_told : List ZoneBounds) (is old_rest rest new_rest : MarkTree) where
   pub lasting_goes_on : IsWellAt piece.begin is (restriction tree interval)

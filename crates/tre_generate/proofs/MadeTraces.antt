@@ -23,13 +23,6 @@ made_trace-length (suc count) =
     length-append (made_trace count) (made_segment count ∷ [])
     ∙ ap (λ (n : ℕ). n + 1) (made_trace-length count) ∙ add-one count
 
--- the segment of a number, by its length and its valuation
-pub segment_is : (segment : Segment) (number : ℕ) → segment.len ≡ 1 + number % 3
-    → segment.val ≡ number % 2 → segment ≡ made_segment number
-segment_is segment number len val =
-    let P : Segment = record { len = 1 + number % 3; val = number % 2 } in
-    λ i. record { len = len i; val = val i }
-
 short : (number : ℕ) → (made_segment number).len ≤ 3
 short number =
     let below : number % 3 < 3 = mod-lt number (omega arith) in

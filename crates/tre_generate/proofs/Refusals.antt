@@ -6,18 +6,6 @@ use Rattle.tre_trace.specs.declared.fault.PushFault.{PushFault}
 use Rattle.tre_trace.specs.declared.fault.PushFault.TheVariants.{Zero, TooLate, Memory}
 use Rattle.tre_trace.proofs.Segments.{end_of-append, end_of-le}
 
--- one that fits is refused for want of memory alone
-pub only_memory : (segments : List Segment) (segment : Segment) (fault : PushFault)
-    → Fits segments segment → IsRefusedFor segments segment fault → fault ≡ Memory
-only_memory segments segment Zero fits refused =
-    let long = fits.long in absurd (omega (arith, refused, long))
-only_memory segments segment (TooLate end) fits refused =
-    let in_time = fits.in_time in
-    let at = refused.1 in
-    let late = refused.2 in
-    absurd (omega (arith, in_time, at, late))
-only_memory segments segment Memory fits refused = refl
-
 long_within : (front : List Segment) (segment : Segment) (rest : List Segment)
     → AreLong (front ++ segment ∷ rest) → 1 ≤ segment.len
 long_within [] segment rest long = long.0

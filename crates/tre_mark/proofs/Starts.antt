@@ -67,9 +67,6 @@ module _ (body : MarkTree) (inner : IsNothing body) where
   pub nothing_repetition : IsNothing (repetition_mark [] body)
   nothing_repetition = record { never = never_repetition }
 
-pub nothing_intersection : IsNothing intersection_none
-nothing_intersection = record { never = λ tree rest a b n h. h }
-
 pub nothing_restriction : IsNothing restriction_none
 nothing_restriction = record { never = λ tree rest a b n h. h }
 
@@ -104,20 +101,6 @@ pub unbegun_repetition : (body : MarkTree) (tree : PatternTree) → IsUnbegun bo
 unbegun_repetition body tree inner = record {
   nothing = nothing_repetition body inner.nothing;
   well = λ time. record { well = (end_at_none time, (inner.well time).well) };
-}
-
-pub unbegun_intersection : (left right : PatternTree)
-    → IsUnbegun intersection_none (intersection left right)
-unbegun_intersection left right = record {
-  nothing = nothing_intersection;
-  well = λ time. record { well = tt };
-}
-
-pub unbegun_restriction : (tree : PatternTree) (ends : IntervalEnds)
-    → IsUnbegun restriction_none (restriction tree ends)
-unbegun_restriction tree ends = record {
-  nothing = nothing_restriction;
-  well = λ time. record { well = tt };
 }
 
 -- ---- marks that start

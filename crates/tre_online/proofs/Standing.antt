@@ -313,14 +313,6 @@ start_awaits tree zones mark moments start = record {
       );
 }
 
--- The moment 0 ends at 0.
-pub EndAt-start : (zones : List ZoneBounds) → AreMoments 0 0 zones → EndAt 0 zones
-EndAt-start zones moments = record {
-  ends = λ a b n some h.
-      let end = moments.between.end a b n some h in
-      omega (arith, end);
-}
-
 -- The moments between two times.
 pub AreMoments-of : (from to : ℕ) (zones : List ZoneBounds)
     → HoldExactly zones (IsInstantBetween from to) → AreMoments from to zones

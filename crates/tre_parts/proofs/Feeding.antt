@@ -140,18 +140,3 @@ fed-step {nm = nm} {fm = fm} {hd = hd} {next = next} {part_next = part_next} {sp
           (Adds-trans old mid new _ _ _ (fed.adds names bytes here few)
           (takes names (bytes ++ fed.taken) (fed-room fed names bytes here few ends)).1);
     }
-
--- nothing of the piece was read
-pub fed-none : {Reader S : Type 0} (nm : Reader → List (List ℕ)) (fm : List (List ℕ) → Format S)
-    (hd : Reader → S → Type 0) (reader : Reader) (part : List ℕ) (spot : Spot) (old : List Segment)
-    (piece : List ℕ)
-    → IsFed nm fm hd reader part spot old piece reader part spot old piece
-fed-none nm fm hd reader part spot old piece = record {
-  taken = [];
-  cut = refl;
-  same_names = refl;
-  behind = λ names bytes here few. subst (λ (all : List ℕ). IsAt nm fm hd names reader part spot
-      all) (sym (append-nil bytes)) here;
-  adds = λ names bytes here few. Adds-none old _ _
-      (ap (λ all. (reading_of (fm names) false all).segments) (append-nil bytes));
-}

@@ -46,9 +46,6 @@ pub nothing_after_none : (residual : ResidualTree) → Builds nothing (preceded 
 nothing_after_none residual = Builds-nothing (preceded [] residual)
     (λ rest a b n some h. Held-empty (h.factor * a) h.midpoint (h.factor * n) h.left)
 
-pub nothing_before : (zones : List ZoneBounds) → Builds nothing (preceded zones nothing)
-nothing_before zones = Builds-nothing (preceded zones nothing) (λ rest a b n some h. h.right)
-
 pub nothing_followed : (tree : PatternTree) → Builds nothing (followed nothing tree)
 nothing_followed tree = Builds-nothing (followed nothing tree) (λ rest a b n some h. h.left)
 
@@ -78,12 +75,6 @@ nothing_here = Builds-nothing (here []) (λ rest a b n some h. Held-empty a b n 
 pub nothing_joined : (tree : PatternTree) → Builds nothing (joined [] tree)
 nothing_joined tree = Builds-nothing (joined [] tree)
     (λ rest a b n some h. Held-empty a (rest.start * n) n h.left)
-
-pub nothing_both_left : (other : ResidualTree) → Builds nothing (both nothing other)
-nothing_both_left other = Builds-nothing (both nothing other) (λ rest a b n some h. h.left)
-
-pub nothing_both_right : (one : ResidualTree) → Builds nothing (both one nothing)
-nothing_both_right one = Builds-nothing (both one nothing) (λ rest a b n some h. h.right)
 
 pub nothing_lasting : (ends : IntervalEnds) → Builds nothing (lasting nothing ends)
 nothing_lasting ends = Builds-nothing (lasting nothing ends) (λ rest a b n some h. h.related)

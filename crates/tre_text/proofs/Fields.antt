@@ -11,17 +11,6 @@ use Rattle.tre_parts.specs.Joins.{join_parts, HasFirst, slice_split-has, slice_s
 use Rattle.tre_text.specs.TraceLines.{IsField}
 use Rattle.tre_text.specs.TextReading.{is_blank, without_return, with_bytes, fields_among}
 
--- a blank in front says nothing
-fields-blank : (byte : ℕ) (bytes : List ℕ) → is_blank byte ≡ true → fields_among (byte ∷ bytes)
-    ≡ fields_among bytes
-fields-blank byte bytes blank = ap with_bytes (slice_split-cons_yes is_blank byte bytes blank)
-
-pub fields-drop : (bytes : List ℕ) (i : ℕ) → i < length bytes → is_blank (get_or bytes i 0) ≡ true
-    → fields_among (drop i bytes) ≡ fields_among (drop (i + 1) bytes)
-fields-drop bytes i below blank =
-    let one : i + 1 ≡ suc i = omega arith in
-    rw (one, drop-cons bytes i 0 below) (fields-blank (get_or bytes i 0) (drop (suc i) bytes) blank)
-
 -- a line without a byte, and one with a last byte
 pub no_return : (bytes : List ℕ) (last : ℕ) → (last == 13) ≡ false → without_return
     (bytes ++ last ∷ []) ≡ bytes ++ last ∷ []

@@ -3,11 +3,3 @@ use Rattle.std.proofs.Common.{ℕ, ◌+◌, ◌≤◌, List, ◌++◌, length, O
 use Rattle.std.specs.Io.KnownBytes.{Consumes}
 use Rattle.std.proofs.KnownBytes.{Consumes-trans}
 use Rattle.tre_tool.specs.Input.{TakesAtMost}
-
-pub TakesAtMost-more : (a b c : Option (List ℕ)) (bytes : List ℕ) (more most : ℕ)
-    → Consumes a b bytes → TakesAtMost more b c → length bytes + more ≤ most → TakesAtMost most a c
-TakesAtMost-more a b c bytes more most first then fits = record {
-  taken = bytes ++ then.taken;
-  few = omega (arith, length-append bytes then.taken, then.few, fits);
-  front = Consumes-trans a b c bytes then.taken first then.front;
-}

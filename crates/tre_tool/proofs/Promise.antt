@@ -310,22 +310,6 @@ EndsAs-over words request input output Memory asks over = record {
   stands = inr (record { request = request; asks = asks; is_so = over.1 });
 }
 
--- the end of a run whose words weren't read as a job
-pub EndsAs-words : (words : List (List ℕ)) (input : InputTold) (output : OutputTold)
-    (fault : WordsFault)
-    → (fault ≡ WordsUsage → AreTaken words → GivesNoJob words) → AllReadsGood input
-    → NothingWritten output → EndsAs words input output (words_status fault)
-EndsAs-words words input output WordsUsage none reads unwritten = record {
-  no_job = none refl;
-  reads
-      = reads;
-  unwritten = unwritten;
-}
-EndsAs-words words input output WordsMemory none reads unwritten = record {
-  reads = reads;
-  stands = inl unwritten;
-}
-
 -- memory was wanting, or the fault is told
 faults : (fault : ParseFault) → (fault ≡ ParseMemory) ⊎ ((fault ≢ ParseMemory) ×
     (parse_status fault ≡ Expression fault))

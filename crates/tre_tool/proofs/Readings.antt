@@ -43,40 +43,6 @@ IsFed-start limit file left count fresh kept none = record {
   fed = rw (take-over {X = ℕ} limit [] (omega arith)) fresh;
 }
 
-pub IsCollected-start : {represents : List ℕ → Type 0} (reading : Bool → List ℕ → Reading)
-    (limit : ℕ) (file left : Option (List ℕ)) (count : ℕ) (segments : List Segment)
-    → represents [] → Keeps file left → count ≡ 0 → segments ≡ []
-    → (reading false []).segments ≡ []
-    → IsCollected represents reading limit file left count segments
-IsCollected-start reading limit file left count segments fresh kept none empty nothing = record {
-  bytes = [];
-  fed = IsFed-start limit file left count fresh kept none;
-  told = rw (take-over {X = ℕ} limit [] (omega arith)) (empty ∙ sym nothing);
-}
-
-pub IsCollected-more : {represents represents' : List ℕ → Type 0}
-    {reading : Bool → List ℕ → Reading}
-    {limit : ℕ} {file left left' : Option (List ℕ)} {count count' : ℕ} {old new : List Segment}
-    → (so_far : IsCollected represents reading limit file left count old)
-    → GoesOn represents' reading limit file left' count' so_far.bytes old new
-    → IsCollected represents' reading limit file left' count' new
-IsCollected-more {old = old} {new = new} so_far more = record {
-  bytes = so_far.bytes ++ more.piece;
-  fed = more.fed;
-  told = Adds-now old new _ _ so_far.told more.all;
-}
-
--- the end of the input was found
-pub IsCollected-whole : {represents : List ℕ → Type 0} (reading : Bool → List ℕ → Reading)
-    (limit : ℕ) (file left left' : Option (List ℕ)) (count : ℕ) (old new : List Segment)
-    → (so_far : IsCollected represents reading limit file left count old)
-    → IsEnded reading limit file left' so_far.bytes old new
-    → IsTrace (reading true so_far.bytes).segments
-    → IsWhole reading limit file left' new
-IsCollected-whole reading limit file left left' count old new so_far ended trace = IsWhole-read
-    reading limit file left' so_far.bytes new ended.front ended.all_read ended.within
-    (Adds-now old new _ _ so_far.told ended.all) ended.whole trace
-
 -- a reader was fed no more than was taken
 pub fed_within : (represents : List ℕ → Type 0) (limit : ℕ) (file left : Option (List ℕ))
     (count fed : ℕ) (bytes : List ℕ) → IsFed represents limit file left count bytes
@@ -92,15 +58,6 @@ HasRead-bounded {bytes = bytes} has = record {
   taken = bytes ++ has.piece;
   few = has.few;
   front = has.front;
-}
-
--- nothing was taken of an input that was just opened
-pub TakesAtMost-none : (most : ℕ) (file left : Option (List ℕ)) → Keeps file left
-    → TakesAtMost most file left
-TakesAtMost-none most file left kept = record {
-  taken = [];
-  few = omega arith;
-  front = Consumes-keeps file file left [] (Consumes-nil file) kept;
 }
 
 pub reading_in-nothing : (format : Format) (names : List (List ℕ))

@@ -17,11 +17,6 @@ get_or-zeros [] m k = zeros m k
 get_or-zeros (word ∷ words) m zero = refl
 get_or-zeros (word ∷ words) m (suc k) = get_or-zeros words m k
 
--- words of zeros behind others add no bit
-pub bit_in-zeros : (words : List ℕ) (m place : ℕ) → bit_in (words ++ replicate m 0) place
-    ≡ bit_in words place
-bit_in-zeros words m place = ap (λ word. bit_at word (place % 64)) (get_or-zeros words m (place / 64))
-
 -- a place past the last word has the bit 0
 pub bit_in-past : (words : List ℕ) (place : ℕ) → length words * 64 ≤ place → bit_in words place ≡ 0
 bit_in-past words place past =
@@ -58,9 +53,6 @@ module _ (words : List ℕ) (place : ℕ) (within : place / 64 < length words) w
             ap (λ word. bit_at word (other % 64))
             (get_or-set_other words (place / 64) (other / 64) _ 0 elsewhere)
       ]
-
-pub bit_at-max : (n i : ℕ) → max (bit_at n i) 1 ≡ 1
-bit_at-max n i = omega (arith, bit_at-lt n i)
 
 -- the valuation at a place, with one more segment
 pub valuation_at-before : (segments : List Segment) (segment : Segment) (place : ℕ)

@@ -71,23 +71,3 @@ AreWordsOf-written number segments segment old new are room written = record {
       let is : bit_in new (length segments) ≡ bit_at segment.val number =
       omega (arith, written.there, was) in
       is ∙ sym (ap (λ valuation. bit_at valuation number) (valuation_at-last segments segment))
-
--- the plane is as many of the words as the segments have bits in
-pub IsPlane-take : (number : ℕ) (segments : List Segment) (words : List ℕ)
-    → ((place : ℕ) → bit_in words place ≡ bit_at (valuation_at segments place) number)
-    → length segments ≤ length words * 64
-    → IsPlane number segments (take (words_for (length segments)) words)
-IsPlane-take number segments words bits enough = record {
-  size = size;
-  bits = λ place.
-      elim (cases_lt (place / 64) (words_for (length segments))) [
-        | inl within ↦ bit_in-take (words_for (length segments)) words place within ∙ bits place
-        | inr past ↦
-            bit_in-past (take (words_for (length segments)) words) place
-            (omega (arith, past, size))
-            ∙ sym (ap (λ valuation. bit_at valuation number)
-            (valuation_at-past segments place (omega (arith, past))) ∙ bit_at-zero number)
-      ];
-} where
-  size : length (take (words_for (length segments)) words) ≡ words_for (length segments)
-  size = length-take-le (words_for (length segments)) words (omega (arith, enough))

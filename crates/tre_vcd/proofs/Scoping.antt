@@ -13,16 +13,6 @@ path-prefix (name ∷ scopes) prefix lens reference are =
     ∙ append_assoc are.front (name ++ 46 ∷ []) reference
     ∙ ap (λ rest. are.front ++ rest) (append_assoc name (46 ∷ []) reference))
 
-pub scopes-enter : (scopes : List (List ℕ)) (prefix lens name : List ℕ) → AreScopes scopes prefix
-    lens → AreScopes (name ∷ scopes) (prefix ++ name ++ 46 ∷ []) (lens ++ length prefix ∷ [])
-scopes-enter scopes prefix lens name are = record {
-  front = prefix;
-  front_lens = lens;
-  text = append_assoc prefix name (46 ∷ []);
-  starts = refl;
-  outer = are;
-}
-
 pub scopes-empty : (scopes : List (List ℕ)) (prefix lens : List ℕ) → AreScopes scopes prefix lens
     → (length lens == 0) ≡ (length scopes == 0)
 scopes-empty [] prefix lens are = rw are.1 refl

@@ -65,23 +65,6 @@ sum-more signals i valuation next d value few below sum is =
       }
     ] rest
 
-pub sum-begins : (signals : List Signal) → IsSum signals 0 0 1
-sum-begins signals = record { bit = refl; small = omega arith; sum = omega arith }
-
-pub sum-ends : (signals : List Signal) (valuation next : ℕ) → IsSum signals (length signals)
-    valuation next → valuation ≡ value_from 0 signals
-sum-ends signals valuation next sum =
-    let none : value_from (length signals) (drop (length signals) signals) ≡ 0 =
-    ap (value_from (length signals)) (drop-length signals) in
-    omega (arith, none, sum.sum)
-
-pub map-begins : {X : Type 0} (f : X → X) (xs : List X) → xs ≡ map f (take 0 xs) ++ drop 0 xs
-map-begins f xs = refl
-
-pub map-ends : {X : Type 0} (f : X → X) (xs : List X)
-    → map f (take (length xs) xs) ++ drop (length xs) xs ≡ map f xs
-map-ends f xs = rw (take-length xs, drop-length xs, append-nil (map f xs)) refl
-
 pub map-more : {X : Type 0} (f : X → X) (xs now : List X) (i : ℕ) (d new : X) → i < length xs
     → now ≡ map f (take i xs) ++ drop i xs → new ≡ f (get_or now i d)
     → set now i new ≡ map f (take (i + 1) xs) ++ drop (i + 1) xs

@@ -23,28 +23,11 @@ ends_true-last (byte ∷ next ∷ bytes) some =
 
 -- ---- sections, by their first five tokens
 
-pub scope-short : (past : List Statement) (tokens : List (List ℕ)) → length (take 5 tokens) < 2
-    → scope_says past tokens ≡ Err BadToken
-scope-short past [] short = refl
-scope-short past (kind ∷ []) short = refl
-scope-short past (kind ∷ name ∷ tokens) short = absurd (omega (arith, short))
-
-pub scope-long : (past : List Statement) (tokens : List (List ℕ)) → 2 ≤ length (take 5 tokens)
-    → scope_says past tokens ≡ goes_to (scope (get_or (take 5 tokens) 1 []) ∷ past) nothing
-scope-long past [] long = absurd (omega (arith, long))
-scope-long past (kind ∷ []) long = absurd (omega (arith, long))
-scope-long past (kind ∷ name ∷ tokens) long = refl
-
 less : (a b : ℕ) → a < b → nat_lt a b ≡ true
 less a b h = grind (arith, nat_tests)
 
 more : (a b : ℕ) → b ≤ a → nat_lt a b ≡ false
 more a b h = grind (arith, nat_tests)
-
-pub declaration-short : (past : List Statement) (tokens : List (List ℕ))
-    → length (take 5 tokens) < 4 → declaration_says past tokens ≡ Err BadToken
-declaration-short past tokens short =
-    rw (less (length tokens) 4 (omega (arith, short, length-take 5 tokens))) refl
 
 pub declaration-long : (past : List Statement) (tokens : List (List ℕ))
     → 4 ≤ length (take 5 tokens)

@@ -85,15 +85,6 @@ up_to_key zone high key is tight all =
 pub all_up_to : (zone : ZoneBounds) → AllLastUpTo None zone
 all_up_to zone = record { each = λ a b n some le h. record { within = tt } }
 
-pub all_short : (longest : Option ℕ) (zone : ZoneBounds) → AllLastUpTo longest zone
-    → GivesZone (Some zone) (Lasting (LastsUpTo longest) (ZoneHolds zone))
-all_short longest zone all = record {
-  exact = λ a b n some le. (
-    (λ h. record { related = h; admitted = all.each a b n some le h }),
-    (λ h. h.related),
-  );
-}
-
 -- The interval of such durations.
 pub interval_short : (longest : Option ℕ) (weak : Bool) → weak ≡ kept_weak longest true
     → (d n : ℕ) → LastsWithin (ends_of 0 true longest weak) d n ↔ LastsUpTo longest d n
