@@ -1,6 +1,7 @@
 use crate::{local, matches};
 use std::alloc::{AllocError, Global};
 use std::test::Fail;
+use tre_compose::compose;
 use tre_edges::Piece;
 use tre_state::{Names, State, is_name};
 use tre_syntax::{Expr, Pattern};
@@ -77,6 +78,7 @@ fn found(alloc: Global, case: Case, count: usize, lengths: Lengths) -> Result<Zo
 #[derive(Clone, Copy, Debug)]
 enum Case {
     Eps,
+    P,
     /// `p;p`
     Twice,
     /// `p;q`
@@ -106,6 +108,7 @@ enum Case {
 fn expr(alloc: Global, case: Case) -> Result<Expr, Fail> {
     let expr = match case {
         Case::Eps => Expr::Eps,
+        Case::P => p(),
         Case::Twice => sequence(alloc, p(), p())?,
         Case::Follows => sequence(alloc, p(), q())?,
         Case::Either => either(alloc, p(), q())?,
@@ -299,6 +302,161 @@ fn matches_hold_the_pairs(rt: HostRuntime) -> Result<(), Fail> {
     for (case, count, lengths, (a, b, n), want) in table {
         let found = found(rt.alloc(), case, count, lengths)?;
         assert_eq!(rt; n > 0 && found.holds(a, b, n), want, "{case:?} {a} {b}");
+    }
+    Ok(())
+}
+
+// A plain program beside the fast bodies: each operator looks at all zones, and makes its set by
+// adding what it finds one by one.
+
+/// Eight segments that are repeated: stretches of p, of q and of both, with gaps.
+const TURN: [(u64, u64); 8] = [
+    (1, 1),
+    (2, 2),
+    (3, 1),
+    (1, 2),
+    (2, 0),
+    (3, 3),
+    (1, 1),
+    (2, 0),
+];
+
+/// How often they are: 3,000 segments in all.
+const TURNS_MAX: u64 = 375;
+
+/// How many ticks they take.
+const TICKS_MAX: u64 = 15 * TURNS_MAX;
+
+/// More steps of a tick than p has in a row.
+const STEPS_MAX: usize = 5;
+
+/// The same with p and q exchanged.
+const EXCHANGED: [(u64, u64); 8] = [
+    (1, 2),
+    (2, 1),
+    (3, 2),
+    (1, 1),
+    (2, 0),
+    (3, 3),
+    (1, 2),
+    (2, 0),
+];
+
+fn long(alloc: Global, turn: Lengths) -> Result<Vec<(u64, u64)>, AllocError> {
+    let mut lengths = Vec::new(alloc);
+    for _ in 0..TURNS_MAX {
+        lengths.extend_from_slice(turn)?;
+    }
+    Ok(lengths)
+}
+
+/// What two zones give.
+#[derive(Clone, Copy)]
+enum Pairing {
+    Composed,
+    Met,
+}
+
+// Adds what the zone gives with each of the others.
+fn add_pairs(
+    set: &mut ZoneSet,
+    how: Pairing,
+    one: &Zone,
+    others: &[Zone],
+) -> Result<(), AllocError> {
+    for other in others {
+        let found = match how {
+            Pairing::Composed => compose(one, other),
+            Pairing::Met => one.meet(other),
+        };
+        set.add_found(found)?;
+    }
+    Ok(())
+}
+
+fn plain_pairs(
+    alloc: Global,
+    how: Pairing,
+    ones: &ZoneSet,
+    others: &ZoneSet,
+) -> Result<ZoneSet, AllocError> {
+    let mut set = ZoneSet::new(alloc);
+    for one in ones.zones() {
+        add_pairs(&mut set, how, one, others.zones())?;
+    }
+    Ok(set)
+}
+
+fn add_all(set: &mut ZoneSet, zones: &[Zone]) -> Result<(), AllocError> {
+    for zone in zones {
+        set.add(*zone)?;
+    }
+    Ok(())
+}
+
+fn plain_short(alloc: Global, zones: &ZoneSet) -> Result<ZoneSet, Fail> {
+    let interval = Interval::new(1, false, Some(2), false).ok_or("no interval")?;
+    let mut set = ZoneSet::new(alloc);
+    for zone in zones.zones() {
+        set.add_found(zone.within(&interval))?;
+    }
+    Ok(set)
+}
+
+fn plain_ticks(alloc: Global, p: &ZoneSet) -> Result<ZoneSet, Fail> {
+    let tick = Interval::new(1, true, Some(1), true).ok_or("no interval")?;
+    let steps = p.within(&tick)?;
+    let mut set = ZoneSet::new(alloc);
+    set.add(Zone::instants(0, TICKS_MAX))?;
+    for _ in 0..STEPS_MAX {
+        let longer = plain_pairs(alloc, Pairing::Composed, &steps, &set)?;
+        add_all(&mut set, longer.zones())?;
+    }
+    Ok(set)
+}
+
+// What the operator of the case makes of the matches of p and of q.
+fn plain(alloc: Global, case: Case, p: &ZoneSet, q: &ZoneSet) -> Result<ZoneSet, Fail> {
+    match case {
+        Case::Follows => Ok(plain_pairs(alloc, Pairing::Composed, p, q)?),
+        Case::Both => Ok(plain_pairs(alloc, Pairing::Met, p, q)?),
+        Case::Short => plain_short(alloc, p),
+        Case::Ticks => plain_ticks(alloc, p),
+        _ => {
+            let mut set = p.try_clone()?;
+            add_all(&mut set, q.zones())?;
+            Ok(set)
+        }
+    }
+}
+
+fn rows_of(alloc: Global, set: &ZoneSet) -> Result<Vec<Row>, AllocError> {
+    let mut rows = Vec::new(alloc);
+    for zone in set.zones() {
+        rows.push(zone.row())?;
+    }
+    Ok(rows)
+}
+
+#[test]
+fn long_traces_as_by_the_plain_program(rt: HostRuntime) -> Result<(), Fail> {
+    let alloc = rt.alloc();
+    let lengths = long(alloc, &TURN)?;
+    let exchanged = long(alloc, &EXCHANGED)?;
+    let p = found(alloc, Case::P, 1, &lengths)?;
+    let q = found(alloc, Case::P, 1, &exchanged)?;
+    let table = [
+        (Case::Follows, 2, 1_125),
+        (Case::Either, 2, 1_875),
+        (Case::Both, 2, 375),
+        (Case::Short, 1, 750),
+        (Case::Ticks, 1, 3_001),
+    ];
+    for (case, names, count) in table {
+        let found = found(alloc, case, names, &lengths)?;
+        let plain = rows_of(alloc, &plain(alloc, case, &p, &q)?)?;
+        assert_eq!(rt; plain.len(), count, "{case:?}");
+        assert!(rt; is(&found, &plain), "{case:?}");
     }
     Ok(())
 }
