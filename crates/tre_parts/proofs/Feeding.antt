@@ -1,12 +1,12 @@
 -- A piece, part by part.
-use Rattle.std.proofs.Common.{◌≡◌, ℕ, suc, ◌+◌, ◌<◌, ◌≤◌, true, false, List, [], ◌∷◌, ◌++◌, append_assoc, append-nil, length, length-append, take, drop, get_or, refl, sym, ap, subst, ◌∙◌, arith}
+use Rattle.std.proofs.Common.{◌≡◌, ℕ, suc, ◌+◌, ◌<◌, ◌≤◌, true, false, List, [], ◌∷◌, ◌++◌, append_assoc, length, length-append, take, drop, get_or, sym, ap, subst, ◌∙◌, arith}
 use Rattle.tre_parts.proofs.Cuts.{split_around}
 use Rattle.tre_parts.specs.Growing.{reading-grows}
 use Rattle.tre_parts.specs.Format.{Format, reading_of}
 use Rattle.tre_parts.specs.Walk.{IsInside, EndsAt, IsAt}
 use Rattle.tre_parts.specs.declared.spot.Spot.{Spot}
 use Rattle.tre_trace.specs.declared.reader.TheConstants.{FED_MAX}
-use Rattle.tre_trace.proofs.Readings.{Adds-none, Adds-trans, IsRefused-after, IsRefused-grows}
+use Rattle.tre_trace.proofs.Readings.{Adds-trans, IsRefused-after, IsRefused-grows}
 use Rattle.tre_trace.specs.Reading.{Adds, IsRefused}
 use Rattle.tre_trace.specs.declared.segment.Segment.{Segment}
 use Rattle.tre_trace.specs.declared.fault.TraceFault.{TraceFault}

@@ -1,7 +1,6 @@
 -- When blocks begin, with one more block or one more segment.
-use Rattle.std.proofs.Common.{◌≡◌, ℕ, zero, suc, ◌*◌, ◌/◌, ◌≤◌, ◌<◌, inl, inr, List, [], ◌∷◌, ◌++◌, length, take, refl, sym, ap, ◌∙◌, arith}
-use Rattle.std.proofs.lemmas.Bool.{cases_lt}
-use Rattle.std.proofs.lemmas.List.{length-append, get_or_append_left, get_or_push, take-append-le}
+use Rattle.std.proofs.Common.{ℕ, ◌*◌, ◌<◌, List, [], ◌∷◌, ◌++◌, length, sym, ap, ◌∙◌, arith}
+use Rattle.std.proofs.lemmas.List.{length-append, take-append-le}
 use Rattle.tre_trace.specs.declared.segment.Segment.{Segment}
 use Rattle.tre_trace.specs.Starts.{AreStarts}
 use Rattle.tre_trace.specs.Trace.{end_of}

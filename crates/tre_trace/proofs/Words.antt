@@ -1,13 +1,13 @@
 -- The words of one proposition.
-use Rattle.std.proofs.Common.{◌≡◌, ℕ, ◌+◌, ◌*◌, ◌/◌, ◌%◌, ◌≤◌, ◌<◌, inl, inr, List, [], ◌∷◌, ◌++◌, length, take, get_or, refl, sym, ap, ◌∙◌, arith}
-use Rattle.std.proofs.lemmas.Bool.{cases_eq, cases_lt}
-use Rattle.std.proofs.lemmas.List.{length-append, length-set, length-take-le}
+use Rattle.std.proofs.Common.{◌≡◌, ℕ, ◌+◌, ◌/◌, ◌%◌, ◌<◌, inl, inr, List, [], ◌∷◌, ◌++◌, length, get_or, refl, sym, ap, ◌∙◌, arith}
+use Rattle.std.proofs.lemmas.Bool.{cases_eq}
+use Rattle.std.proofs.lemmas.List.{length-append, length-set}
 use Rattle.std.proofs.lemmas.Nat.Bits.{bit_at-lt, bit_at-zero}
 use Rattle.std.specs.Int.{bit_at}
 use Rattle.tre_trace.specs.declared.segment.Segment.{Segment}
-use Rattle.tre_trace.specs.Planes.{IsPlane, bit_in, valuation_at, words_for}
+use Rattle.tre_trace.specs.Planes.{bit_in, valuation_at}
 use Rattle.tre_trace.specs.Words.{AreWordsOf, HasRoom, IsStretched, IsWritten}
-use Rattle.tre_trace.proofs.Bits.{bit_in-past, bit_in-take, bit_in-set, bit_in-set_other, with_bit, valuation_at-before, valuation_at-last, valuation_at-past}
+use Rattle.tre_trace.proofs.Bits.{bit_in-set, bit_in-set_other, with_bit, valuation_at-before, valuation_at-last, valuation_at-past}
 
 pub IsWritten-set : (words : List ℕ) (place bit : ℕ) → place / 64 < length words → bit ≡ 1
     → IsWritten place bit words (with_bit words place)

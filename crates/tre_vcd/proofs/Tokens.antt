@@ -1,10 +1,9 @@
 -- What stands in a token.
-use Rattle.std.proofs.Common.{◌≡◌, ℕ, suc, ◌-◌, ◌==◌, ◌<◌, ◌≤◌, nat_lt, Bool, true, false, ◌&&◌, List, [], ◌∷◌, length, length-take, map, get_or, take, subst, None, Some, codes, Result, Err, refl, sym, ap, ◌∙◌, arith, if◌then◌else◌}
+use Rattle.std.proofs.Common.{◌≡◌, ℕ, suc, ◌-◌, ◌==◌, ◌<◌, ◌≤◌, nat_lt, Bool, true, false, ◌&&◌, List, [], ◌∷◌, length, length-take, map, get_or, take, subst, None, Some, codes, Result, refl, sym, ap, ◌∙◌, arith, if◌then◌else◌}
 use Rattle.std.specs.Str.{bytes_eq}
 use Rattle.std.proofs.lemmas.List.{get_or-map}
 use Rattle.std.proofs.lemmas.Bool.Decides.{nat_tests}
-use Rattle.tre_trace.specs.declared.fault.TraceKind.TheVariants.{BadToken}
-use Rattle.tre_vcd.specs.VcdReading.{Statement, Place, scope, upscope, var, definitions, nothing, path, is_signal, identifier_in, goes_to, scope_says, declaration_says, section_says, ends_true}
+use Rattle.tre_vcd.specs.VcdReading.{Statement, Place, upscope, var, definitions, nothing, path, is_signal, identifier_in, goes_to, scope_says, declaration_says, section_says, ends_true}
 use Rattle.tre_vcd.specs.Sections.{command_of}
 use Rattle.tre_vcd.specs.declared.command.Command.{Command}
 use Rattle.tre_vcd.specs.declared.command.Command.TheVariants.{Scope, Upscope, Var, EndDefinitions, Other}
