@@ -64,12 +64,13 @@ module _ (rows : List (List ℤ)) (key : List ℤ) (from place : ℕ)
     first = joined found next.first;
   }
 
-  module _ (end : ℕ) (end_is : end ≡ min ((place / 8 + 1) * 8) (length rows))
+  -- The rest of the block of the place was looked at, up to where the next block begins.
+  module _ (block end : ℕ) (end_is : end ≡ min (block * 8) (length rows))
       (none : HasNone rows key place end) where
     -- The rows from the place on, up to the block that was found.
-    skipped : (bounds : List (List ℤ)) → IsAbove rows bounds → (to block : ℕ)
-        → HasNone bounds key (place / 8 + 1) block → to ≤ block * 8 → HasNone rows key place to
-    skipped bounds above to block no_bound small = record {
+    skipped : (bounds : List (List ℤ)) → IsAbove rows bounds → (to next : ℕ)
+        → HasNone bounds key block next → to ≤ next * 8 → HasNone rows key place to
+    skipped bounds above to next no_bound small = record {
       none = λ k starts ends within reaches.
           elim (cases_lt k end) [
             | inl early ↦ none.none k starts early within reaches
@@ -79,40 +80,41 @@ module _ (rows : List (List ℤ)) (key : List ℤ) (from place : ℕ)
           ];
     }
 
-    -- The block that was found comes after that of the place.
-    comes_later : (levels : List (List (List ℤ))) (block : ℕ)
-        → FindsBlock levels key (place / 8 + 1) (Some block) → place / 8 + 1 ≤ block
+    -- The block that was found is the one that was asked for, or a later one.
+    comes_later : (levels : List (List (List ℤ))) (next : ℕ)
+        → FindsBlock levels key block (Some next) → block ≤ next
     unfolding FindsBlock
-    comes_later [] block finds = let same : block ≡ place / 8 + 1 = cc in omega arith
-    comes_later (bounds ∷ above) block finds = finds.starts
+    comes_later [] next finds = let same : next ≡ block = cc in omega arith
+    comes_later (bounds ∷ above) next finds = finds.starts
 
-    to_next : (levels : List (List (List ℤ))) (block next : ℕ)
-        → next ≡ min (block * 8) (length rows)
-        → IsUnder rows levels → FindsBlock levels key (place / 8 + 1) (Some block)
-        → HasNone rows key place next
+    to_next : (levels : List (List (List ℤ))) (next start : ℕ)
+        → start ≡ min (next * 8) (length rows)
+        → IsUnder rows levels → FindsBlock levels key block (Some next)
+        → HasNone rows key place start
     unfolding FindsBlock IsUnder
-    to_next [] block next next_is under finds =
-        let same : block ≡ place / 8 + 1 = cc in
-        let ends : end ≡ next = end_is ∙ ap (λ b. min (b * 8) (length rows)) (sym same)
-        ∙ sym next_is in
+    to_next [] next start start_is under finds =
+        let same : next ≡ block = cc in
+        let ends : end ≡ start = end_is ∙ ap (λ b. min (b * 8) (length rows)) (sym same)
+        ∙ sym start_is in
         subst (HasNone rows key place) ends none
-    to_next (bounds ∷ above) block next next_is under finds =
-        skipped bounds under next block finds.first (omega arith)
+    to_next (bounds ∷ above) next start start_is under finds =
+        skipped bounds under start next finds.first (omega arith)
 
-    module _ (levels : List (List (List ℤ))) (block next : ℕ)
-        (finds : FindsBlock levels key (place / 8 + 1) (Some block)) (inside : place < length rows)
-        (next_is : next ≡ min (block * 8) (length rows)) where
-      pub moves_on : place < next
-      moves_on = let later = comes_later levels block finds in omega arith
-
-      pub goes_on : IsUnder rows levels → HasPassed rows key from next
-      goes_on under = record {
-        starts = omega (arith, passed.starts, moves_on);
-        passed = joined next (to_next levels block next next_is under finds);
+    module _ (levels : List (List (List ℤ))) (next start : ℕ)
+        (finds : FindsBlock levels key block (Some next)) (inside : place < length rows)
+        (up : place ≤ block * 8) (start_is : start ≡ min (next * 8) (length rows)) where
+      -- The search has come to the block that was found.
+      pub comes_to : IsUnder rows levels → HasPassed rows key from start
+      comes_to under = record {
+        starts = let later = comes_later levels next finds in omega (arith, passed.starts);
+        passed = joined start (to_next levels next start start_is under finds);
       }
 
+      pub moves_on : (end : ℕ) → end ≡ min (next * 8 + 8) (length rows) → place < end
+      moves_on end end_is = let later = comes_later levels next finds in omega arith
+
     pub found_none : (levels : List (List (List ℤ))) → IsUnder rows levels
-        → FindsBlock levels key (place / 8 + 1) None
+        → FindsBlock levels key block None
         → HasNone rows key from (length rows)
     unfolding FindsBlock IsUnder
     found_none [] under finds = absurd (cc)
@@ -125,6 +127,15 @@ module _ (rows : List (List ℤ)) (key : List ℤ) (from place : ℕ)
               (omega arith) in
               all.none k starts (omega (arith, room)) within reaches;
         })
+
+-- No row of the block that was found reaches the key.
+pub goes_on : (rows : List (List ℤ)) (key : List ℤ) (from start end : ℕ)
+    → HasPassed rows key from start → start ≤ end → HasNone rows key start end
+    → HasPassed rows key from end
+goes_on rows key from start end passed rises none = record {
+  starts = omega (arith, passed.starts, rises);
+  passed = joined rows key from start passed end none;
+}
 
 -- Levels, the rows of the first of them, and the others.
 module _ (levels : List (List (List ℤ))) (first : List (List ℤ)) (above : List (List (List ℤ)))

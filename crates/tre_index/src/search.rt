@@ -1,4 +1,4 @@
-ghost use Rattle.std.specs.Prelude.{◌≡◌, ◌*◌, map, min, MatchOption};
+ghost use Rattle.std.specs.Prelude.{◌≡◌, ◌+◌, ◌*◌, map, min, MatchOption};
 ghost use Rattle.tre_lanes.specs.Rows.{HasNone, IsNext, FindsNext};
 ghost use Rattle.tre_index.specs.Index.{IsUnder, IsIndex, FindsBlock};
 
@@ -6,6 +6,9 @@ use crate::level::{FAN, Level};
 use crate::row::{HasRow, Row, reaches};
 
 /// The first place from `from` on whose item's row reaches the key, by the levels above the items.
+//
+// Where a block begins, the levels above are asked before its items are looked at: so from the
+// first place on a search goes straight to the top, and comes down where it finds something.
 pub(crate) fn next_place<T: HasRow>(
     items: &[T],
     above: &[Level],
@@ -18,13 +21,16 @@ pub(crate) fn next_place<T: HasRow>(
 {
     let mut place = from;
     while place < items.len() {
-        let end = block_start(place / FAN + 1, items.len());
-        if let Some(found) = first_between(items, place, end, key) {
+        let block = place.div_ceil(FAN);
+        if let Some(found) = first_between(items, place, block_start(block, items.len()), key) {
             return Some(found);
         }
-        match next_block(above, place / FAN + 1, key) {
-            Some(block) => place = block_start(block, items.len()),
-            None => return None,
+        let Some(next) = next_block(above, block, key) else {
+            return None;
+        };
+        place = block_end(next, items.len());
+        if let Some(found) = first_between(items, block_start(next, items.len()), place, key) {
+            return Some(found);
         }
     }
     None
@@ -44,13 +50,16 @@ fn next_block(levels: &[Level], from: usize, key: &Row) -> Option<usize>
     let bounds = level.rows();
     let mut place = from;
     while place < bounds.len() {
-        let end = block_start(place / FAN + 1, bounds.len());
-        if let Some(found) = first_between(bounds, place, end, key) {
+        let block = place.div_ceil(FAN);
+        if let Some(found) = first_between(bounds, place, block_start(block, bounds.len()), key) {
             return Some(found);
         }
-        match next_block(above, place / FAN + 1, key) {
-            Some(block) => place = block_start(block, bounds.len()),
-            None => return None,
+        let Some(next) = next_block(above, block, key) else {
+            return None;
+        };
+        place = block_end(next, bounds.len());
+        if let Some(found) = first_between(bounds, block_start(next, bounds.len()), place, key) {
+            return Some(found);
         }
     }
     None
@@ -61,6 +70,17 @@ fn block_start(block: usize, len: usize) -> usize
     ensures { result ≡ min (block * FAN) len }
 {
     if block <= len / FAN { block * FAN } else { len }
+}
+
+/// Where the block ends in a list of this length, or the length where it has no such block.
+fn block_end(block: usize, len: usize) -> usize
+    ensures { result ≡ min (block * FAN + FAN) len }
+{
+    if block < len / FAN {
+        block * FAN + FAN
+    } else {
+        len
+    }
 }
 
 /// The first place from `from` on, and before `to`, whose item's row reaches the key.

@@ -1,15 +1,15 @@
 -- The closure: what holds while it goes on, and at its end.
-use Rattle.std.proofs.Common.{◌≡◌, ℕ, zero, suc, ◌+◌, ◌-◌, ◌*◌, ◌<◌, ◌≤◌, ◌⊎◌, ◌↔◌, List, [], ◌∷◌, ◌++◌, length, length-append, take, get_or, subst, ap, inl, inr, ⊎_elim, arith}
+use Rattle.std.proofs.Common.{◌≡◌, ℕ, zero, suc, ◌+◌, ◌-◌, ◌*◌, ◌<◌, ◌≤◌, ◌⊎◌, ◌↔◌, List, [], ◌∷◌, ◌++◌, length, length-append, take, get_or, refl, subst, ap, inl, inr, ⊎_elim, arith}
 use Rattle.std.proofs.lemmas.List.{take-append-le, take_all}
 use Rattle.std.proofs.Math.Nat.{mul-pos, mul-le-mul_left, le_of_mul-le-mul_left, mul_left_comm}
 use Rattle.tre_pairs.specs.Pairs.{Pairs, Either, Composed, Lasting, LeadTo, Chain}
 use Rattle.tre_pairs.proofs.Laws.{Scales, DurationScales}
 use Rattle.tre_pairs.proofs.Shortening.{IsDownward, finer_duration}
 use Rattle.tre_pairs.proofs.Chains.{Composed-at, Chain-none, Chain-step}
-use Rattle.tre_zone.specs.Zone.{IsInstantBetween, ZoneHolds}
+use Rattle.tre_zone.specs.Zone.{IsInstantBetween, IsCanonical, ZoneHolds}
 use Rattle.tre_zone.specs.ZoneList.{SetHolds, HoldExactly, AreCanonical}
 use Rattle.tre_zone.specs.declared.zone_bounds.ZoneBounds.{ZoneBounds}
-use Rattle.tre_zone.proofs.ZoneListLemmas.{SetHolds-empty}
+use Rattle.tre_zone.proofs.ZoneListLemmas.{SetHolds-empty, AreCanonical-empty}
 use Rattle.tre_zone.proofs.Scaling.{SetHolds-scale, canonical-frame}
 use Rattle.tre_zoneset.proofs.Members.{SetHolds-more}
 use Rattle.tre_star.specs.Growth.{HasGrown}
@@ -71,16 +71,38 @@ SetHolds-rising (zone ∷ zones) all a b n some h =
 pub instants-rising : (from to a b n : ℕ) → IsInstantBetween from to a b n → a ≤ b
 instants-rising from to a b n h = let same = h.same in omega arith
 
--- A set that began empty.
-pub HoldExactly-alone : (zones : List ZoneBounds) (P R : Pairs)
-    → ((a b n : ℕ) → 0 < n → P a b n ↔ R a b n) → HoldExactly zones (Either (SetHolds []) P)
-    → HoldExactly zones R
-HoldExactly-alone zones P R same held = record {
+-- Lists behind one more zone.
+HoldExactly-behind : (zone : ZoneBounds) (old new : List ZoneBounds) (P : Pairs)
+    → HoldExactly new (Either (SetHolds old) P)
+    → HoldExactly (zone ∷ new) (Either (SetHolds (zone ∷ old)) P)
+unfolding SetHolds
+HoldExactly-behind zone old new P held = record {
   exact = λ a b n some le.
       let both = held.exact a b n some le in (
-        (λ h. (same a b n some).0 (⊎_elim (λ x. absurd (SetHolds-empty a b n x)) (λ x. x)
-            (both.0 h))),
-        (λ h. both.1 (inr ((same a b n some).1 h))),
+        (λ h. ⊎_elim (λ x. inl (inl x))
+            (λ x. ⊎_elim (λ y. inl (inr y)) (λ y. inr y) (both.0 x)) h),
+        (λ h. ⊎_elim (λ x. ⊎_elim (λ y. inl y) (λ y. inr (both.1 (inl y))) x)
+            (λ x. inr (both.1 (inr x))) h),
+      );
+}
+
+pub AreCanonical-behind : (zone : ZoneBounds) (zones : List ZoneBounds)
+    → AreCanonical (zone ∷ zones) → AreCanonical zones
+unfolding AreCanonical
+AreCanonical-behind zone zones all = all.1
+
+-- A set of what the zones of a list hold, to which one more was added.
+pub HoldExactly-with : (zone : ZoneBounds) (found set new : List ZoneBounds) (P : Pairs)
+    → HoldExactly (zone ∷ found) P → HoldExactly set (SetHolds found)
+    → HoldExactly new (Either (SetHolds set) (ZoneHolds zone)) → HoldExactly new P
+unfolding SetHolds
+HoldExactly-with zone found set new P whole set_is new_is = record {
+  exact = λ a b n some le.
+      let one = whole.exact a b n some le in
+      let two = set_is.exact a b n some le in
+      let three = new_is.exact a b n some le in (
+        (λ h. one.0 (⊎_elim (λ x. inr (two.0 x)) (λ x. inl x) (three.0 h))),
+        (λ h. three.1 (⊎_elim (λ x. inr x) (λ x. inl (two.1 x)) (one.1 h))),
       );
 }
 
@@ -182,17 +204,18 @@ module _ (D : ℕ → ℕ → Type 0) (x : List ZoneBounds) (E : Pairs) (zones :
   -- What x and the zone at the place compose to was added.
   pub IsClosedTo-next : (reached next : List ZoneBounds) (place : ℕ) (zone : ZoneBounds)
       → place < length reached → zone ≡ get_or reached place zone
-      → IsClosedTo D x E reached place → HasGrown reached next
+      → IsClosedTo D x E reached place → AreCanonical next
+      → (more : List ZoneBounds) → next ≡ reached ++ more
       → HoldExactly next (Either (SetHolds reached)
       (Lasting D (Composed (SetHolds x) (ZoneHolds zone))))
       → IsClosedTo D x E next (place + 1)
-  IsClosedTo-next reached next place zone within is old grown held = record {
-    set = grown.canonical;
+  IsClosedTo-next reached next place zone within is old canonical more behind held = record {
+    set = canonical;
     within =
-        let longer = ap length grown.behind in
-        omega (arith, within, longer, length-append reached grown.more);
+        let longer = ap length behind in
+        omega (arith, within, longer, length-append reached more);
     sound = λ a b n some h.
-        let le = SetHolds-rising next grown.canonical a b n some h in
+        let le = SetHolds-rising next canonical a b n some h in
         ⊎_elim (λ before. old.sound a b n some before)
         (λ new. record {
           related = longer_sound reached place old a b n some
@@ -204,7 +227,7 @@ module _ (D : ℕ → ℕ → Type 0) (x : List ZoneBounds) (E : Pairs) (zones :
     instants = λ a b n some h. (held.exact a b n some (same a b n h)).1
         (inl (old.instants a b n some h));
     closed = λ a b n some admitted h.
-        let whole = composed_rising x next zones grown.canonical a b n some
+        let whole = composed_rising x next zones canonical a b n some
         (Composed-right (SetHolds x) (SetHolds (take (place + 1) next)) (SetHolds next)
         (SetHolds-take next (place + 1)) a b n h) in
         let back = held.exact a b n some whole in
@@ -226,9 +249,53 @@ module _ (D : ℕ → ℕ → Type 0) (x : List ZoneBounds) (E : Pairs) (zones :
           };
           admitted = admitted;
         })))
-        (first_more reached grown.more next place zone grown.behind within is
+        (first_more reached more next place zone behind within is
         h.midpoint (h.factor * b) (h.factor * n) h.right);
   }
+
+  -- The same of lists behind the zone of the instants, of which each step is put before it first.
+  module _ (instants : ZoneBounds) (canonical : IsCanonical instants)
+      (exact : (a b n : ℕ) → 0 < n → ZoneHolds instants a b n ↔ E a b n) where
+    behind_canonical : (list : List ZoneBounds) → AreCanonical list → AreCanonical (instants ∷ list)
+    unfolding AreCanonical
+    behind_canonical list all = (canonical, all)
+
+    instants_alone : HoldExactly (instants ∷ []) E
+    unfolding SetHolds
+    instants_alone = record {
+      exact = λ a b n some le.
+          let both = exact a b n some in (
+            (λ h. ⊎_elim both.0 (λ x. absurd x) h),
+            (λ h. inl (both.1 h)),
+          );
+    }
+
+    pub IsClosedTo-instants : (reached : List ZoneBounds) → HasGrown [] reached
+        → HoldExactly reached (Either (SetHolds [])
+        (Lasting D (Composed (SetHolds x) (ZoneHolds instants))))
+        → ((a b n : ℕ) → E a b n → D (b - a) n)
+        → IsClosedTo D x E (instants ∷ reached) 1
+    IsClosedTo-instants reached grown held short =
+        IsClosedTo-next (instants ∷ []) (instants ∷ reached) 0 instants (omega arith) refl
+        (IsClosedTo-first (instants ∷ []) (behind_canonical [] AreCanonical-empty) instants_alone
+        short)
+        (behind_canonical reached grown.canonical) reached refl
+        (HoldExactly-behind instants [] reached _ held)
+
+    pub IsClosedTo-more : (reached next : List ZoneBounds) (place : ℕ) (zone : ZoneBounds)
+        → place < length reached → zone ≡ get_or reached place zone
+        → IsClosedTo D x E (instants ∷ reached) (suc place) → HasGrown reached next
+        → HoldExactly next (Either (SetHolds reached)
+        (Lasting D (Composed (SetHolds x) (ZoneHolds zone))))
+        → IsClosedTo D x E (instants ∷ next) (suc (place + 1))
+    IsClosedTo-more reached next place zone within is old grown held =
+        let same : suc place + 1 ≡ suc (place + 1) = omega arith in
+        subst (λ (k : ℕ). IsClosedTo D x E (instants ∷ next) k) same
+        (IsClosedTo-next (instants ∷ reached) (instants ∷ next) (suc place) zone
+        (omega (arith, within)) is old
+        (behind_canonical next grown.canonical) grown.more
+        (ap (λ (list : List ZoneBounds). instants ∷ list) grown.behind)
+        (HoldExactly-behind instants reached next _ held))
 
   -- At the end what was reached is every chain of such a duration.
   all_steps : IsDownward D → (reached : List ZoneBounds) (place : ℕ)

@@ -1,7 +1,7 @@
-ghost use Rattle.std.specs.Prelude.{◌≤◌, OnOk, IfOk};
+ghost use Rattle.std.specs.Prelude.{◌≤◌, ◌∷◌, OnOk, IfOk};
 ghost use Rattle.tre_pairs.specs.Pairs.{Either, Composed, Lasting, Chain};
 ghost use Rattle.tre_zone.specs.Longest.{LastsUpTo, IsLongest};
-ghost use Rattle.tre_zone.specs.Zone.{ZoneHolds, IsInstantBetween};
+ghost use Rattle.tre_zone.specs.Zone.{ZoneHolds, IsInstantBetween, instants_of};
 ghost use Rattle.tre_zone.specs.ZoneList.{SetHolds, AreCanonical, HoldExactly};
 ghost use Rattle.tre_zoneset.specs.ZoneSet.{FoundHolds};
 ghost use Rattle.tre_star.specs.Growth.{HasGrown};
@@ -43,12 +43,17 @@ pub fn closure_up_to(
     let index = ZoneIndex::of_list(alloc, steps)?;
     let found = chains_of(alloc, &index, from, to, longest)?;
     drop(index);
-    let chains = ZoneSet::of_zones(alloc, found)?;
+    let mut chains = ZoneSet::of_zones(alloc, found)?;
+    chains.add(Zone::instants(from, to))?;
     Ok(chains)
 }
 
-// The zones of the chains of the steps that last at most `longest`. The list of what was reached is
-// also that of what is still to do: before its zones from `place` on no step has been put yet.
+// The zones of the chains of the steps that last at most `longest`, beside the instants. The list of
+// what was reached is also that of what is still to do: before its zones from `place` on no step has
+// been put yet.
+//
+// The instants may begin and end at any time, so with them in the list each search would come down
+// to them.
 fn chains_of(
     alloc: Global,
     steps: &ZoneIndex,
@@ -60,11 +65,14 @@ fn chains_of(
     requires rising { from ≤ to }
     requires limit { to ≤ TIME_MAX }
     requires longest { IsLongest longest }
-    ensures { IfOk result (λ chains. HoldExactly chains.items (Lasting (LastsUpTo longest)
-        (Chain (SetHolds steps.now) (IsInstantBetween from to)))) }
+    ensures { IfOk result (λ chains. HoldExactly (instants_of from to ∷ chains.items)
+        (Lasting (LastsUpTo longest) (Chain (SetHolds steps.now) (IsInstantBetween from to)))) }
 {
+    let instants = Zone::instants(from, to);
+    // For the proof: the call says that the zone is canonical.
+    let _bounds = instants.bounds();
     let mut reached = ZoneIndex::new(alloc);
-    add_new(&mut reached, &Zone::instants(from, to))?;
+    add_before(&mut reached, &instants, steps, longest)?;
     let mut place = 0;
     while place < reached.items().len() {
         let items = reached.items();

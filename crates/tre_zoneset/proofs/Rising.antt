@@ -1,133 +1,125 @@
 -- Zones of which each rises behind the one before it are apart.
-use Rattle.std.proofs.Common.{◌≡◌, ℕ, ◌+◌, ◌<◌, ◌≤◌, List, [], ◌∷◌, ◌++◌, length, get_or, take, Option, Some, None, subst, ◌∙◌, inl, inr, arith, ℤ, ◌<ℤ◌, ◌≤ℤ◌}
+use Rattle.std.proofs.Common.{◌≡◌, ℕ, ◌+◌, ◌<◌, ◌≤◌, List, [], ◌∷◌, ◌++◌, length, get_or, take, Option, Some, None, subst, ◌∙◌, inl, inr, arith, ℤ, ◌≤ℤ◌}
 use Rattle.std.proofs.lemmas.Int.{ints}
 use Rattle.std.proofs.lemmas.List.{take_more, take_all}
-use Rattle.tre_zone.specs.Zone.{IsCanonical}
+use Rattle.tre_zone.specs.Zone.{Covers, IsCanonical}
 use Rattle.tre_zone.specs.ZoneList.{IsApartFrom, AreApart, AreCanonical}
 use Rattle.tre_zone.specs.declared.zone_bounds.ZoneBounds.{ZoneBounds}
 use Rattle.tre_zone.proofs.Tightness.{Includes-Covers}
-use Rattle.tre_zoneset.specs.Rise.{IsLater, Rises, IsBehind}
+use Rattle.tre_zoneset.specs.Rise.{IsLess, IsHigher, Rises, IsBehind}
+use Rattle.tre_zoneset.specs.declared.rise.High.{High}
+use Rattle.tre_zoneset.specs.declared.rise.High.TheVariants.{Begin, End}
 use Rattle.tre_zoneset.specs.ZoneSet.{IsZoneSet}
 use Rattle.tre_zoneset.proofs.Members.{IsZoneSet-empty, IsZoneSet-push}
 
 -- ---- two zones
 
-not_below : (x y : ℤ) → x <ℤ y → y ≤ℤ x → ⊥
-not_below x y lt le = omega (arith, ints)
+less_trans : (a b c d e f : ℤ) → IsLess a b c d → IsLess c d e f → IsLess a b e f
+unfolding IsLess
+less_trans a b c d e f (inl one) (inl two) = inl (omega (arith, ints, one, two))
+less_trans a b c d e f (inl one) (inr two) = inl (rw two.0 at one)
+less_trans a b c d e f (inr one) (inl two) = inl (rw (← one.0) at two)
+less_trans a b c d e f (inr one) (inr two) =
+    inr (one.0 ∙ two.0, omega (arith, ints, one.1, two.1))
 
-below_trans : (x y z : ℤ) → x <ℤ y → y <ℤ z → x <ℤ z
-below_trans x y z one two = omega (arith, ints)
+not_less : (a b c d : ℤ) → IsLess a b c d → c ≤ℤ a → d ≤ℤ b → ⊥
+unfolding IsLess
+not_less a b c d (inl one) first second = omega (arith, ints, one, first)
+not_less a b c d (inr one) first second = let less = one.1 in omega (arith, ints, less, second)
 
-later_trans : (a b c d e f : ℤ) → IsLater a b c d → IsLater c d e f → IsLater a b e f
-later_trans a b c d e f one two = record {
-  begins = below_trans e c a two.begins one.begins;
-  ends = below_trans b d f one.ends two.ends;
+higher_trans : (high : High) (one two three : ZoneBounds) → IsHigher high one two
+    → IsHigher high two three → IsHigher high one three
+unfolding IsHigher
+higher_trans Begin one two three first second = less_trans _ _ _ _ _ _ first second
+higher_trans End one two three first second = less_trans _ _ _ _ _ _ first second
+
+rises_trans : (high : High) (one two three : ZoneBounds) → Rises high one two
+    → Rises high two three → Rises high one three
+rises_trans high one two three first second = record {
+  later = less_trans _ _ _ _ _ _ second.later first.later;
+  higher = higher_trans high one two three first.higher second.higher;
 }
 
-later_alike : (a b c d e f : ℤ) → a ≡ c → b ≡ d → IsLater c d e f → IsLater a b e f
-later_alike a b c d e f low high later = rw (low, high) later
+not_higher : (high : High) (before zone : ZoneBounds) → IsHigher high before zone
+    → Covers before zone → ⊥
+unfolding IsHigher
+not_higher Begin before zone higher covers =
+    not_less _ _ _ _ higher covers.begin_high covers.end_high
+not_higher End before zone higher covers =
+    not_less _ _ _ _ higher covers.end_high covers.dur_high
 
-alike_later : (a b c d e f : ℤ) → c ≡ e → d ≡ f → IsLater a b c d → IsLater a b e f
-alike_later a b c d e f low high later = rw (← low, ← high) later
+apart : (high : High) (early late : ZoneBounds) → IsCanonical early → IsCanonical late
+    → Rises high early late → AreApart late early
+apart high early late c d rises = record {
+  left = λ h.
+      let covers = Includes-Covers late early c h in
+      not_less _ _ _ _ rises.later covers.begin_low covers.end_low;
+  right = λ h. not_higher high early late rises.higher (Includes-Covers early late d h);
+}
 
-pub Rises-later : (before zone : ZoneBounds)
-    → IsLater before.begin_low before.begin_high zone.begin_low zone.begin_high
-    → Rises before zone
-unfolding Rises
-Rises-later before zone later = inl later
-
-pub Rises-alike : (before zone : ZoneBounds) → before.begin_low ≡ zone.begin_low
-    → before.begin_high ≡ zone.begin_high
-    → IsLater before.end_low before.end_high zone.end_low zone.end_high → Rises before zone
-unfolding Rises
-Rises-alike before zone low high later = inr (low, high, later)
-
-pub IsBehind-some : (before zone : ZoneBounds) → Rises before zone → IsBehind (Some before) zone
+pub IsBehind-some : (high : High) (before zone : ZoneBounds) → Rises high before zone
+    → IsBehind high (Some before) zone
 unfolding IsBehind
-IsBehind-some before zone rises = rises
+IsBehind-some high before zone rises = rises
 
-pub IsBehind-none : (zone : ZoneBounds) → IsBehind None zone
+pub IsBehind-none : (high : High) (zone : ZoneBounds) → IsBehind high None zone
 unfolding IsBehind
-IsBehind-none zone = tt
-
-rises_trans : (one two three : ZoneBounds) → Rises one two → Rises two three → Rises one three
-unfolding Rises
-rises_trans one two three (inl first) (inl second) = inl (later_trans _ _ _ _ _ _ first second)
-rises_trans one two three (inl first) (inr second) =
-    inl (alike_later _ _ _ _ _ _ second.0 second.1 first)
-rises_trans one two three (inr first) (inl second) =
-    inl (later_alike _ _ _ _ _ _ first.0 first.1 second)
-rises_trans one two three (inr first) (inr second) =
-    inr (
-      first.0 ∙ second.0,
-      first.1 ∙ second.1,
-      later_trans _ _ _ _ _ _ first.2 second.2,
-    )
-
-apart : (early late : ZoneBounds) → IsCanonical early → IsCanonical late → Rises early late
-    → AreApart late early
-unfolding Rises
-apart early late c d (inl later) = record {
-  left = λ h. not_below _ _ later.begins (Includes-Covers late early c h).begin_low;
-  right = λ h. not_below _ _ later.ends (Includes-Covers early late d h).begin_high;
-}
-apart early late c d (inr later) = record {
-  left = λ h. not_below _ _ later.2.begins (Includes-Covers late early c h).end_low;
-  right = λ h. not_below _ _ later.2.ends (Includes-Covers early late d h).end_high;
-}
+IsBehind-none high zone = tt
 
 -- ---- one zone behind a list
 
 -- The zone rises behind each of the list.
-unfoldable pub AllBefore : List ZoneBounds → ZoneBounds → Type 0
-AllBefore [] zone = Unit {0}
-AllBefore (other ∷ zones) zone = Rises other zone × AllBefore zones zone
+unfoldable pub AllBefore : High → List ZoneBounds → ZoneBounds → Type 0
+AllBefore high [] zone = Unit {0}
+AllBefore high (other ∷ zones) zone = Rises high other zone × AllBefore high zones zone
 
-before_trans : (zones : List ZoneBounds) (zone next : ZoneBounds) → AllBefore zones zone
-    → Rises zone next → AllBefore (zones ++ zone ∷ []) next
-unfolding AllBefore
-before_trans [] zone next all rises = (rises, tt)
-before_trans (other ∷ zones) zone next all rises =
-    (rises_trans other zone next all.0 rises, before_trans zones zone next all.1 rises)
+module _ (high : High) where
+  before_trans : (zones : List ZoneBounds) (zone next : ZoneBounds) → AllBefore high zones zone
+      → Rises high zone next → AllBefore high (zones ++ zone ∷ []) next
+  unfolding AllBefore
+  before_trans [] zone next all rises = (rises, tt)
+  before_trans (other ∷ zones) zone next all rises =
+      (rises_trans high other zone next all.0 rises, before_trans zones zone next all.1 rises)
 
-apart_from : (zone : ZoneBounds) → IsCanonical zone → (zones : List ZoneBounds)
-    → AreCanonical zones → AllBefore zones zone → IsApartFrom zone zones
-unfolding IsApartFrom AllBefore AreCanonical
-apart_from zone c [] all before = tt
-apart_from zone c (other ∷ zones) all before =
-    (apart other zone all.0 c before.0, apart_from zone c zones all.1 before.1)
+  apart_from : (zone : ZoneBounds) → IsCanonical zone → (zones : List ZoneBounds)
+      → AreCanonical zones → AllBefore high zones zone → IsApartFrom zone zones
+  unfolding IsApartFrom AllBefore AreCanonical
+  apart_from zone c [] all before = tt
+  apart_from zone c (other ∷ zones) all before =
+      (apart high other zone all.0 c before.0, apart_from zone c zones all.1 before.1)
 
 -- ---- the zones that were looked at
 
 -- They are a set, and what rises behind the last of them rises behind all.
-pub record HaveRisen (zones : List ZoneBounds) (before : Option ZoneBounds) : Type 0 where
+pub record HaveRisen (high : High) (zones : List ZoneBounds) (before : Option ZoneBounds)
+    : Type 0 where
   pub set : IsZoneSet zones
-  pub all : (next : ZoneBounds) → IsBehind before next → AllBefore zones next
+  pub all : (next : ZoneBounds) → IsBehind high before next → AllBefore high zones next
 
-pub HaveRisen-empty : HaveRisen [] None
+pub HaveRisen-empty : (high : High) → HaveRisen high [] None
 unfolding AllBefore
-HaveRisen-empty = record { set = IsZoneSet-empty; all = λ next behind. tt }
+HaveRisen-empty high = record { set = IsZoneSet-empty; all = λ next behind. tt }
 
-push : (zones : List ZoneBounds) (before : Option ZoneBounds) (zone : ZoneBounds)
-    → HaveRisen zones before → IsCanonical zone → IsBehind before zone
-    → HaveRisen (zones ++ zone ∷ []) (Some zone)
+push : (high : High) (zones : List ZoneBounds) (before : Option ZoneBounds) (zone : ZoneBounds)
+    → HaveRisen high zones before → IsCanonical zone → IsBehind high before zone
+    → HaveRisen high (zones ++ zone ∷ []) (Some zone)
 unfolding IsBehind
-push zones before zone old c behind = record {
+push high zones before zone old c behind = record {
   set = IsZoneSet-push zones zone old.set
-      (apart_from zone c zones old.set.canonical (old.all zone behind)) c;
-  all = λ next rises. before_trans zones zone next (old.all zone behind) rises;
+      (apart_from high zone c zones old.set.canonical (old.all zone behind)) c;
+  all = λ next rises. before_trans high zones zone next (old.all zone behind) rises;
 }
 
 -- The same for the next zone of a list.
-pub HaveRisen-next : (zones : List ZoneBounds) (i : ℕ) (before : Option ZoneBounds)
+pub HaveRisen-next : (high : High) (zones : List ZoneBounds) (i : ℕ) (before : Option ZoneBounds)
     (zone bounds : ZoneBounds) → i < length zones → zone ≡ get_or zones i zone → bounds ≡ zone
-    → HaveRisen (take i zones) before → IsCanonical zone → IsBehind before bounds
-    → HaveRisen (take (i + 1) zones) (Some bounds)
-HaveRisen-next zones i before zone bounds within is same old c behind =
+    → HaveRisen high (take i zones) before → IsCanonical zone → IsBehind high before bounds
+    → HaveRisen high (take (i + 1) zones) (Some bounds)
+HaveRisen-next high zones i before zone bounds within is same old c behind =
     rw (take_more zones i zone within, ← is, same)
-    (push (take i zones) before zone old c (rw same at behind))
+    (push high (take i zones) before zone old c (rw same at behind))
 
-pub HaveRisen-all : (zones : List ZoneBounds) (i : ℕ) (before : Option ZoneBounds)
-    → length zones ≤ i → HaveRisen (take i zones) before → IsZoneSet zones
-HaveRisen-all zones i before all old =
+pub HaveRisen-all : (high : High) (zones : List ZoneBounds) (i : ℕ) (before : Option ZoneBounds)
+    → length zones ≤ i → HaveRisen high (take i zones) before → IsZoneSet zones
+HaveRisen-all high zones i before all old =
     subst (λ (list : List ZoneBounds). IsZoneSet list) (take_all i zones all) old.set

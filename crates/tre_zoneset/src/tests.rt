@@ -20,6 +20,12 @@ fn tick() -> Option<Zone> {
     Zone::span(0, 1).within(&Interval::new(1, true, Some(1), true)?)
 }
 
+// What lasts for so many ticks within three ticks from the time on.
+fn lasting(begin: u8, ticks: u8) -> Option<Zone> {
+    let (begin, ticks) = (u64::from(begin), u64::from(ticks));
+    Zone::span(begin, begin + 3).within(&Interval::new(ticks, true, Some(ticks), true)?)
+}
+
 fn set(alloc: Global, zones: &[Zone]) -> Result<ZoneSet, AllocError> {
     let mut set = ZoneSet::new(alloc);
     for zone in zones {
@@ -91,6 +97,28 @@ fn gathered(rt: HostRuntime) -> Result<(), Fail> {
         assert!(rt; is(&ZoneSet::of_zones(rt.alloc(), list)?, rows));
     }
     assert!(rt; at_start.meet(&ZoneSet::new(rt.alloc()))?.is_empty());
+    Ok(())
+}
+
+// Zones of like begins, of which each ends alike and lasts longer than the one before it: as they
+// stand, mixed, and with one that another includes.
+#[test]
+fn lasting_longer(rt: HostRuntime) -> Result<(), Fail> {
+    let mut rising = Vec::new(rt.alloc());
+    let mut mixed = Vec::new(rt.alloc());
+    for (begin, other) in [(0, 8), (4, 4), (8, 0)] {
+        for ticks in 1..4 {
+            rising.push(lasting(begin, ticks).ok_or("no zone")?)?;
+            mixed.push(lasting(other, ticks).ok_or("no zone")?)?;
+        }
+    }
+    let plain = ZoneSet::of_zones(rt.alloc(), rising.clone()?)?;
+    let sorted = ZoneSet::of_zones(rt.alloc(), mixed.clone()?)?;
+    mixed.push(tick().ok_or("no zone")?)?;
+    let thinned = ZoneSet::of_zones(rt.alloc(), mixed)?;
+    for set in [plain, sorted, thinned] {
+        assert!(rt; set.zones() == rising.as_slice());
+    }
     Ok(())
 }
 

@@ -1,6 +1,6 @@
-use Rattle.std.proofs.Common.{◌≡◌, ◌<◌, length, map, Some, None, ◌∙◌, arith}
+use Rattle.std.proofs.Common.{◌≡◌, ◌*◌, ◌≤◌, length, map, Some, None, ◌∙◌, arith}
 use Rattle.std.proofs.lemmas.List.{length-map}
-use Rattle.tre_index.proofs.Searching.{passed_all, found_next, moves_on, goes_on, found_none, finds_at, first_under, others_index, finds_any, map-itself}
+use Rattle.tre_index.proofs.Searching.{passed_all, found_next, comes_to, moves_on, goes_on, found_none, finds_at, first_under, others_index, finds_any, map-itself}
 use Rattle.tre_index.proofs.search.+next_block.Goals as goal
 
 pub returns-in_default : goal.returns-in_default
@@ -12,12 +12,8 @@ returns-in-Some-first_between t c =
     let bounds = c.rows-bounds.result.now in
     let rows = map (λ row. row) bounds in
     let same : rows ≡ c.in-Some.level.now = map-itself bounds ∙ c.rows-bounds.ensures in
-    let levels = c.args.levels.now in
-    let first = c.in-Some.level.now in
-    let above = c.in-Some.above.now in
-    let are = c.in-Some.ensures.cases.0 in
-    finds_at levels first above are rows same c.args.key.now c.args.from
-    (Some c.in-Some-first_between.found)
+    finds_at c.args.levels.now c.in-Some.level.now c.in-Some.above.now c.in-Some.ensures.cases.0
+    rows same c.args.key.now c.args.from (Some c.in-Some-first_between.found)
     (found_next rows c.args.key.now c.args.from c.loop-place.place c.loop-place.invariant
     c.in-Some-first_between.found c.in-Some-first_between.ensures)
 
@@ -28,17 +24,55 @@ next_block-requires t c = (
       c.requires,
 )
 
+pub returns-in_default-next_block : goal.returns-in_default-next_block
+returns-in_default-next_block t c =
+    let bounds = c.rows-bounds.result.now in
+    let rows = map (λ row. row) bounds in
+    let long : length rows ≡ length bounds = length-map bounds (λ row. row) in
+    let same : rows ≡ c.in-Some.level.now = map-itself bounds ∙ c.rows-bounds.ensures in
+    let levels = c.args.levels.now in
+    let first = c.in-Some.level.now in
+    let above = c.in-Some.above.now in
+    let are = c.in-Some.ensures.cases.0 in
+    finds_at levels first above are rows same c.args.key.now c.args.from None
+    (found_none rows c.args.key.now c.args.from c.loop-place.place c.loop-place.invariant
+    c.div_ceil-block.result c.block_start.result (omega (arith, long))
+    c.in_default-first_between.ensures above
+    (first_under levels first above are rows same c.requires) c.in_default-next_block.ensures)
+
+pub returns-in-Some-first_between-2 : goal.returns-in-Some-first_between-2
+returns-in-Some-first_between-2 t c =
+    let bounds = c.rows-bounds.result.now in
+    let rows = map (λ row. row) bounds in
+    let long : length rows ≡ length bounds = length-map bounds (λ row. row) in
+    let same : rows ≡ c.in-Some.level.now = map-itself bounds ∙ c.rows-bounds.ensures in
+    let levels = c.args.levels.now in
+    let first = c.in-Some.level.now in
+    let above = c.in-Some.above.now in
+    let are = c.in-Some.ensures.cases.0 in
+    let up : c.loop-place.place ≤ c.div_ceil-block.result * 8 = omega arith in
+    finds_at levels first above are rows same c.args.key.now c.args.from
+    (Some c.in-Some-first_between-2.found)
+    (found_next rows c.args.key.now c.args.from c.block_start-in-loop-place.result
+    (comes_to rows c.args.key.now c.args.from c.loop-place.place c.loop-place.invariant
+    c.div_ceil-block.result c.block_start.result (omega (arith, long))
+    c.in_default-first_between.ensures above c.in-Some-next_block.next
+    c.block_start-in-loop-place.result c.in-Some-next_block.ensures (omega (arith, long)) up
+    (omega (arith, long)) (first_under levels first above are rows same c.requires))
+    c.in-Some-first_between-2.found c.in-Some-first_between-2.ensures)
+
 pub loop-place-smaller : goal.loop-place-smaller
 loop-place-smaller t c =
     let bounds = c.rows-bounds.result.now in
     let rows = map (λ row. row) bounds in
     let long : length rows ≡ length bounds = length-map bounds (λ row. row) in
-    let moved : c.loop-place.place < c.block_start-place.result =
+    let up : c.loop-place.place ≤ c.div_ceil-block.result * 8 = omega arith in
+    let moved =
     moves_on rows c.args.key.now c.args.from c.loop-place.place c.loop-place.invariant
-    c.block_start-end.result (omega (arith, long)) c.in_default-first_between.ensures
-    c.in-Some.above.now
-    c.in-Some-next_block.block c.block_start-place.result c.in-Some-next_block.ensures
-    (omega (arith, long)) (omega (arith, long)) in
+    c.div_ceil-block.result c.block_start.result (omega (arith, long))
+    c.in_default-first_between.ensures c.in-Some.above.now c.in-Some-next_block.next
+    c.block_start-in-loop-place.result c.in-Some-next_block.ensures (omega (arith, long)) up
+    (omega (arith, long)) c.block_end-place.result (omega (arith, long)) in
     omega (arith, moved)
 
 pub loop-place-preserved : goal.loop-place-preserved
@@ -51,26 +85,15 @@ loop-place-preserved t c =
     let first = c.in-Some.level.now in
     let above = c.in-Some.above.now in
     let are = c.in-Some.ensures.cases.0 in
-    goes_on rows c.args.key.now c.args.from c.loop-place.place c.loop-place.invariant
-    c.block_start-end.result (omega (arith, long)) c.in_default-first_between.ensures above
-    c.in-Some-next_block.block c.block_start-place.result c.in-Some-next_block.ensures
-    (omega (arith, long)) (omega (arith, long))
-    (first_under levels first above are rows same c.requires)
-
-pub returns-in-None : goal.returns-in-None
-returns-in-None t c =
-    let bounds = c.rows-bounds.result.now in
-    let rows = map (λ row. row) bounds in
-    let long : length rows ≡ length bounds = length-map bounds (λ row. row) in
-    let same : rows ≡ c.in-Some.level.now = map-itself bounds ∙ c.rows-bounds.ensures in
-    let levels = c.args.levels.now in
-    let first = c.in-Some.level.now in
-    let above = c.in-Some.above.now in
-    let are = c.in-Some.ensures.cases.0 in
-    finds_at levels first above are rows same c.args.key.now c.args.from None
-    (found_none rows c.args.key.now c.args.from c.loop-place.place c.loop-place.invariant
-    c.block_start-end.result (omega (arith, long)) c.in_default-first_between.ensures above
-    (first_under levels first above are rows same c.requires) c.in-None.ensures)
+    let up : c.loop-place.place ≤ c.div_ceil-block.result * 8 = omega arith in
+    goes_on rows c.args.key.now c.args.from c.block_start-in-loop-place.result
+    c.block_end-place.result
+    (comes_to rows c.args.key.now c.args.from c.loop-place.place c.loop-place.invariant
+    c.div_ceil-block.result c.block_start.result (omega (arith, long))
+    c.in_default-first_between.ensures above c.in-Some-next_block.next
+    c.block_start-in-loop-place.result c.in-Some-next_block.ensures (omega (arith, long)) up
+    (omega (arith, long)) (first_under levels first above are rows same c.requires))
+    (omega (arith, long)) c.in_default-first_between-2.ensures
 
 pub returns : goal.returns
 returns t c =
@@ -78,10 +101,7 @@ returns t c =
     let rows = map (λ row. row) bounds in
     let long : length rows ≡ length bounds = length-map bounds (λ row. row) in
     let same : rows ≡ c.in-Some.level.now = map-itself bounds ∙ c.rows-bounds.ensures in
-    let levels = c.args.levels.now in
-    let first = c.in-Some.level.now in
-    let above = c.in-Some.above.now in
-    let are = c.in-Some.ensures.cases.0 in
-    finds_at levels first above are rows same c.args.key.now c.args.from None
+    finds_at c.args.levels.now c.in-Some.level.now c.in-Some.above.now c.in-Some.ensures.cases.0
+    rows same c.args.key.now c.args.from None
     (passed_all rows c.args.key.now c.args.from c.loop-place.place c.loop-place.invariant
     (omega (arith, long)))
