@@ -1,9 +1,14 @@
+ghost use Rattle.std.specs.Prelude.{IfOk};
+ghost use Rattle.tre_state.specs.State.{tree_of};
+ghost use Rattle.tre_state.specs.StateTree.{NumbersBelow};
+ghost use Rattle.tre_state.specs.declared.names.TheConstants.{NAMES_MAX};
+
 use crate::literal::literal;
 use crate::moments::moments;
 use crate::{Piece, fall_in, falls, literal_in, moments_in, rise_in, rises, truth};
 use std::alloc::{AllocError, Global};
 use std::test::Fail;
-use tre_state::State;
+use tre_state::{NAMES_MAX, State};
 use tre_trace::{PushFault, Segment, Trace};
 use tre_zone::Zone;
 use tre_zoneset::ZoneSet;
@@ -69,32 +74,66 @@ fn edges_of_p(rt: HostRuntime) -> Result<(), Fail> {
     Ok(())
 }
 
+/// The states of the rows.
+#[derive(Clone, Copy, Debug)]
+enum Case {
+    /// `p`
+    Proposition,
+    /// `!p`
+    Negation,
+    /// `p && q`
+    Conjunction,
+    /// `p || q`
+    Disjunction,
+    /// `true`
+    Always,
+}
+
+fn state(alloc: Global, case: Case) -> Result<State, AllocError>
+    ensures { IfOk result (λ state. NumbersBelow NAMES_MAX (tree_of state)) }
+{
+    match case {
+        Case::Proposition => Ok(State::Prop(0)),
+        Case::Negation => {
+            let p = Box::new(alloc, State::Prop(0))?;
+            Ok(State::Not(p))
+        }
+        Case::Conjunction => {
+            let p = Box::new(alloc, State::Prop(0))?;
+            let q = Box::new(alloc, State::Prop(1))?;
+            Ok(State::And(p, q))
+        }
+        Case::Disjunction => {
+            let p = Box::new(alloc, State::Prop(0))?;
+            let q = Box::new(alloc, State::Prop(1))?;
+            Ok(State::Or(p, q))
+        }
+        Case::Always => Ok(State::Yes),
+    }
+}
+
+// Whether the state has these bits on the trace, which has few segments.
+fn has_bits(alloc: Global, state: &State, trace: &Trace, bits: u64) -> Result<bool, AllocError>
+    requires { NumbersBelow NAMES_MAX (tree_of state.now) }
+{
+    let words = truth(alloc, state, trace)?;
+    Ok(words.as_slice() == [bits].as_slice())
+}
+
 #[test]
 fn words_of_states(rt: HostRuntime) -> Result<(), Fail> {
-    let alloc = rt.alloc();
-    let trace = trace(alloc, &[(3, P), (2, Q), (4, P | Q)])?;
-    let not_p = State::Not(Box::new(alloc, State::Prop(0))?);
-    let p = Box::new(alloc, State::Prop(0))?;
-    let both = State::And(p, Box::new(alloc, State::Prop(1))?);
-    let p = Box::new(alloc, State::Prop(0))?;
-    let either = State::Or(p, Box::new(alloc, State::Prop(1))?);
-    assert_eq!(rt;
-        truth(alloc, &State::Prop(0), &trace)?.as_slice(),
-        [0b101].as_slice()
-    );
-    assert_eq!(rt;
-        truth(alloc, &not_p, &trace)?.as_slice(),
-        [0b010].as_slice()
-    );
-    assert_eq!(rt; truth(alloc, &both, &trace)?.as_slice(), [0b100].as_slice());
-    assert_eq!(rt;
-        truth(alloc, &either, &trace)?.as_slice(),
-        [0b111].as_slice()
-    );
-    assert_eq!(rt;
-        truth(alloc, &State::Yes, &trace)?.as_slice(),
-        [0b111].as_slice()
-    );
+    let trace = trace(rt.alloc(), &[(3, P), (2, Q), (4, P | Q)])?;
+    let table = [
+        (Case::Proposition, 0b101),
+        (Case::Negation, 0b010),
+        (Case::Conjunction, 0b100),
+        (Case::Disjunction, 0b111),
+        (Case::Always, 0b111),
+    ];
+    for (case, bits) in table {
+        let state = state(rt.alloc(), case)?;
+        assert!(rt; has_bits(rt.alloc(), &state, &trace, bits)?, "{case:?}");
+    }
     Ok(())
 }
 

@@ -7,7 +7,7 @@ use crate::mark::{Instances, Mark};
 use std::alloc::{AllocError, Global};
 use tre_zoneset::ZoneSet;
 
-/// The mark of an intersection with one instance, of which nothing is kept where no pair is there.
+/// The mark of an intersection with one instance.
 pub fn both_at(
     alloc: Global,
     zones: &ZoneSet,
