@@ -93,7 +93,7 @@ pub Adds-now : (old new : List Segment) (before now : Reading) → old ≡ befor
 Adds-now old new before now same adds = adds.new_is ∙ ap (λ front. front ++ adds.added) same
     ∙ sym adds.beyond
 
-same_reading : (reading : Reading) (segments : List Segment) → segments ≡ reading.segments
+pub same_reading : (reading : Reading) (segments : List Segment) → segments ≡ reading.segments
     → reading.fault ≡ None
     → reading ≡ record { segments = segments; fault = None }
 same_reading reading segments same none =

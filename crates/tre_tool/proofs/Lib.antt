@@ -1,6 +1,5 @@
 pub mod CommandLine
 pub mod Cuts
-pub mod Digits
 pub mod Feeding
 pub mod Inputs
 pub mod MadeRuns

@@ -11,7 +11,8 @@ use Rattle.tre_generate.specs.FixedPattern.{fixed_tree}
 use Rattle.tre_generate.specs.Summary.{IsSummary}
 use Rattle.tre_generate.specs.declared.made_run.TheConstants.{SEGMENTS_MAX}
 use Rattle.tre_tool.specs.Devices.{InputTold, OutputTold}
-use Rattle.tre_tool.specs.Job.{GivesWhere, GivesJob, AreTakenWhere, AreTaken, command_line, is_made_run, made_count, made_job, mode_for, is_numeral, number_written, is_given, IsCount}
+use Rattle.tre_parts.specs.Numeral.{is_numeral}
+use Rattle.tre_tool.specs.Job.{GivesWhere, GivesJob, AreTakenWhere, AreTaken, command_line, is_made_run, made_count, made_job, mode_for, number_written, is_given, IsCount}
 use Rattle.tre_tool.specs.Run.{Request, AsksFor, AsksForMadeRun, EndsAs, EndsMadeRun, IsRefused, IsOutcomeIn, IsAnswerIn, StandsAtFault, StandsAtFailedRead, StandsAtFailedWrite, StandsAtMemory}
 use Rattle.tre_tool.specs.declared.job.Job.{Job}
 use Rattle.tre_tool.specs.declared.job.Mode.{Mode}
@@ -151,6 +152,6 @@ module _ (words : List (List ℕ)) (count : ℕ) (asks : AsksForMadeRun words co
         written = here.written;
       }
   EndsMadeRun-ends input output Memory ends =
-      ⊎_elim (λ none. none)
+      ⊎_elim (λ none. none.unwritten)
       (λ some. subst (λ (mode : Mode). StandsAtMemory mode some.request input output)
       (mode_given some.request.job some.asks.gives) some.is_so) ends.stands

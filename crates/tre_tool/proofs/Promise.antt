@@ -1,18 +1,19 @@
 -- What the end of a run says of each part of its promise.
 use Rattle.std.proofs.Common.{◌≡◌, ◌≢◌, ℕ, Bool, true, false, List, Option, None, Some, IfSome, Result, Ok, Err, OnOk, OnErr, refl, sym, ◌∙◌, subst, inl, inr, ⊎_elim, ap, ◌⊎◌, arith}
 use Rattle.std.specs.Io.KnownBytes.{Appends}
-use Rattle.tre_io.specs.Faults.{counted, Rises}
+use Rattle.tre_io.specs.Faults.{counted, Rises, HasCause}
 use Rattle.tre_io.specs.Written.{AppendsPart}
+use Rattle.tre_io.specs.declared.faults.Failed.{Failed}
 use Rattle.tre_parse.specs.Outcome.{Outcome as ParseOutcome, IsOutcome, spelt, refused}
 use Rattle.tre_parse.specs.declared.fault.ParseFault.{ParseFault}
 use Rattle.tre_parse.specs.declared.fault.ParseFault.TheVariants.{TooLong, BadByte, Number, TooDeep, Syntax, EmptyInterval, TooManyNames, TooLarge, Memory as ParseMemory}
 use Rattle.tre_parse.proofs.Outcomes.{outcome_once}
 use Rattle.tre_syntax.specs.PatternTree.{PatternTree}
-use Rattle.tre_tool.specs.Job.{GivesWhere, GivesJob, GivesNoJob, AreTaken, is_made_run}
+use Rattle.tre_tool.specs.Job.{GivesWhere, GivesJob, AreTaken, is_made_run}
 use Rattle.tre_tool.specs.Outcome.{Outcome, completes, refuses, exceeds}
 use Rattle.tre_tool.specs.Answer.{EndsOver, StopsAs, IsFoundFor}
-use Rattle.tre_tool.specs.Devices.{InputTold, OutputTold, NothingWritten, AllReadsGood, AllWritesGood}
-use Rattle.tre_tool.specs.Run.{Request, request_for, IsOutcomeIn, AsksFor, Asks, IsRefused, AsksForNothing, EndsAs, EndsDone, EndsTrace, EndsTooLong, EndsReadFault, EndsWriteFault, StandsAtFault, StandsAtFailedRead, StandsAtFailedWrite, IsAnswerIn, IsAnswerTo, IsOnlineAnswerTo, outcome_for, IsStatusFor, IsStatusIn, ReadsInput, IsUnlessMemory, IsComplete}
+use Rattle.tre_tool.specs.Devices.{InputTold, OutputTold, NothingWritten, NothingDone, AllWritesGood}
+use Rattle.tre_tool.specs.Run.{Request, request_for, IsOutcomeIn, AsksFor, Asks, IsRefused, AsksForNothing, EndsAs, EndsDone, EndsTrace, EndsTooLong, EndsReadFault, EndsWriteFault, StandsAtFault, StandsAtFailedRead, StandsAtFailedWrite, IsAnswerIn, IsAnswerTo, IsOnlineAnswerTo, outcome_for, IsStatusFor, IsStatusIn, ReadsInput, IsUnlessMemory, IsComplete, IsLineTold, IsReadToItsEnd}
 use Rattle.tre_tool.specs.Status.{words_status, parse_status}
 use Rattle.tre_tool.specs.declared.job.WordsFault.{WordsFault}
 use Rattle.tre_tool.specs.declared.job.WordsFault.TheVariants.{Usage as WordsUsage, Memory as WordsMemory}
@@ -326,11 +327,11 @@ faults (TooLarge nodes) = inr (λ e. cc, refl)
 -- the end of a run whose text was refused
 pub EndsAs-refused : (words : List (List ℕ)) (input : InputTold) (output : OutputTold)
     (fault : ParseFault)
-    → (fault ≢ ParseMemory → IsRefused words fault) → AllReadsGood input → NothingWritten output
+    → (fault ≢ ParseMemory → IsRefused words fault) → NothingDone input output
     → EndsAs words input output (parse_status fault)
-EndsAs-refused words input output fault told reads unwritten = elim (faults fault) [
-  | inl memory ↦ rw memory (record { reads = reads; stands = inl unwritten })
-  | inr other ↦ rw other.1 (record { refused = told other.0; reads = reads; unwritten = unwritten })
+EndsAs-refused words input output fault told nothing = elim (faults fault) [
+  | inl memory ↦ rw memory (record { reads = nothing.reads; stands = inl nothing })
+  | inr other ↦ rw other.1 (record { refused = told other.0; nothing = nothing })
 ]
 
 -- a refused text, from what the pattern of a job says
@@ -344,11 +345,14 @@ IsRefused-of words job fault gives told never = record {
   never_memory = never;
 }
 
--- a call did all its work or failed
-pub all_or_part : {T E : Type 0} (result : Result T E) (All Part : Type 0) → OnOk result All
-    → OnErr result Part → All ⊎ Part
-all_or_part (Ok value) All Part all part = inl all
-all_or_part (Err fault) All Part all part = inr part
+-- a call that tells a line, or fails
+pub IsLineTold-of : {T : Type 0} (output : OutputTold) (line : List ℕ) (result : Result T Failed)
+    → HasCause output.faults_before output.faults_now result
+    → OnOk result (Appends output.written_before output.written_now line)
+    → OnErr result (AppendsPart output.written_before output.written_now line)
+    → IsLineTold output line
+IsLineTold-of output line (Ok value) cause all part = inl (cause.ok, all)
+IsLineTold-of output line (Err fault) cause all part = inr (cause.failed, part)
 
 -- what words ask for, from what the pattern of a job says
 pub AsksFor-of : (words : List (List ℕ)) (job : Job) (tree : PatternTree)
@@ -369,21 +373,24 @@ never_refused words request fault asks told = elim (faults fault) [
 -- what stands in the output where the one write of an answer failed
 cut_in : (mode : Mode) (request : Request) (input : InputTold) (output : OutputTold)
     (text : List ℕ) → request.job.mode ≡ mode → (mode ≡ Online → ⊥)
-    → IsAnswerIn mode request input.file text
+    → IsReadToItsEnd mode input → IsAnswerIn mode request input.file text
     → AppendsPart output.written_before output.written_now text
     → StandsAtFailedWrite mode request input output
-cut_in Offline request input output text is once right part = record {
+cut_in Offline request input output text is once all_read right part = record {
+  all_read = rw is all_read;
   text = text;
   right = rw is right;
   written = part;
 }
-cut_in Online request input output text is once right part = absurd (once refl)
-cut_in Show request input output text is once right part = record {
+cut_in Online request input output text is once all_read right part = absurd (once refl)
+cut_in Show request input output text is once all_read right part = record {
+  all_read = rw is all_read;
   text = text;
   right = rw is right;
   written = part;
 }
-cut_in (Generate count) request input output text is once right part = record {
+cut_in (Generate count) request input output text is once all_read right part = record {
+  all_read = rw is all_read;
   text = text;
   right = rw is right;
   written = part;
@@ -404,7 +411,8 @@ pub EndsOver-cut : (request : Request) (input : InputTold) (output : OutputTold)
 EndsOver-cut request input output text once found cause part = record {
   cause = cause;
   reads = found.reads;
-  stands = cut_in request.job.mode request input output text refl once found.right part;
+  stands = cut_in request.job.mode request input output text refl once found.all_read found.right
+      part;
 }
 
 -- a run whose answer was written

@@ -1,20 +1,18 @@
 -- What was read of an input, from no bytes to its end.
-use Rattle.std.proofs.Common.{◌≡◌, ◌∙◌, ◌+◌, ◌≤◌, ℕ, Bool, true, false, List, [], ◌++◌, length, take, Option, refl, sym, arith, length-take}
+use Rattle.std.proofs.Common.{◌≡◌, ◌+◌, ◌≤◌, ℕ, Bool, false, List, [], ◌++◌, length, take, Option, refl, sym, arith, length-take}
 use Rattle.std.specs.Io.KnownBytes.{Keeps}
 use Rattle.std.proofs.KnownBytes.{Consumes-nil}
 use Rattle.tre_parts.specs.Format.{reading_from}
 use Rattle.tre_text.specs.TextReading.{text_reading}
 use Rattle.tre_trace.specs.Reading.{Reading}
-use Rattle.tre_trace.specs.Trace.{IsTrace}
 use Rattle.tre_trace.specs.declared.segment.Segment.{Segment}
 use Rattle.tre_vcd.specs.VcdReading.{vcd_reading}
-use Rattle.tre_tool.specs.Feeding.{IsWhole, IsFed, HasRead, GoesOn, IsEnded}
+use Rattle.tre_tool.specs.Feeding.{IsFed, HasRead}
 use Rattle.tre_tool.specs.Input.{TakesAtMost}
 use Rattle.tre_tool.specs.Outcome.{reading_in}
 use Rattle.tre_tool.specs.declared.job.Format.{Format}
 use Rattle.tre_tool.specs.declared.job.Format.TheVariants.{Text, Vcd}
 use Rattle.tre_tool.proofs.Cuts.{take-over}
-use Rattle.tre_tool.proofs.Feeding.{Adds-now, IsWhole-read}
 use Rattle.tre_tool.proofs.Turns.{Consumes-keeps}
 
 pub text_reading-nothing : (names : List (List ℕ)) → (text_reading names false []).segments ≡ []

@@ -10,20 +10,19 @@ use Rattle.tre_syntax.specs.PatternTree.{PatternTree}
 use Rattle.tre_trace.specs.Reading.{Reading}
 use Rattle.tre_trace.specs.Trace.{IsTrace, end_of}
 use Rattle.tre_trace.specs.declared.segment.Segment.{Segment}
-use Rattle.tre_trace.specs.declared.fault.TraceFault.{TraceFault}
 use Rattle.tre_zone.specs.declared.zone_bounds.ZoneBounds.{ZoneBounds}
 use Rattle.tre_tool.specs.Devices.{InputTold, OutputTold, AllReadsGood, AllWritesGood, WereRead}
 use Rattle.tre_tool.specs.Feeding.{IsFed, HasRead, GoesOn, IsEnded, TellsAll, StopsTurn, StopsReading}
 use Rattle.tre_tool.specs.Input.{HasReadCause}
 use Rattle.tre_tool.specs.Online.{BlocksWritten, AreKnown, FirstBlocksStand, IsOnlineAnswer}
 use Rattle.tre_tool.specs.Outcome.{reading_within}
-use Rattle.tre_tool.specs.Telling.{HasTold, StopsWithin, HasWriteCause, StopsAtEnd, EndsTelling}
+use Rattle.tre_tool.specs.Telling.{CanTell, HasTold, StopsWithin, HasWriteCause, StopsAtEnd, EndsTelling}
 use Rattle.tre_tool.specs.Transcript.{block_texts, online_text, closing_line}
 use Rattle.tre_tool.specs.declared.input.TheConstants.{PIECE}
 use Rattle.tre_tool.specs.declared.status.Status.{Status}
 use Rattle.tre_tool.specs.declared.status.Status.TheVariants.{Done, Usage, Expression, Trace, InputTooLong, ReadFault, WriteFault, Memory}
 use Rattle.tre_tool.proofs.Cuts.{take-over}
-use Rattle.tre_tool.proofs.Feeding.{AllGrow}
+use Rattle.tre_tool.proofs.Feeding.{AllGrow, same_reading}
 use Rattle.tre_tool.proofs.Readings.{IsFed-start}
 use Rattle.tre_tool.proofs.Told.{HasTold-start, IsCutBehind-after, Appends-none}
 use Rattle.tre_tool.proofs.Transcripts.{IsTranscript-none}
@@ -64,6 +63,25 @@ known_with reading limit most input bytes new has opened front rest split = reco
       ∙ (ap (λ added. told ++ (added ++ has.some.left)) has.some.new_is
       ∙ sym has.some.beyond)));
 }
+
+-- what a turn gave can be told
+pub CanTell-read : (reading : Bool → List ℕ → Reading) (limit most : ℕ)
+    (file left : Option (List ℕ)) (bytes : List ℕ) (new : List Segment) (session : Session)
+    → ((closed : Bool) (bytes : List ℕ) → IsTrace (reading closed bytes).segments)
+    → HasRead reading limit most file left bytes [] new
+    → StandsFor session (reading false (take limit bytes)).segments → CanTell session new
+CanTell-read reading limit most file left bytes new session traces has stands =
+    let told = (reading false (take limit bytes)).segments in
+    let all : (reading has.closed (take limit (bytes ++ has.piece))).segments
+    ≡ told ++ (new ++ has.some.left) =
+    has.some.beyond
+    ∙ ap (λ added. told ++ (added ++ has.some.left)) (sym has.some.new_is) in
+    record {
+      front = told;
+      rest = has.some.left;
+      stands = stands;
+      is_trace = subst IsTrace all (traces has.closed (take limit (bytes ++ has.piece)));
+    }
 
 -- without the piece of the turn no segment is known that wasn't told before it
 prompt : (reading : Bool → List ℕ → Reading) → AllGrow reading → (limit most : ℕ)
@@ -161,6 +179,7 @@ EndsTelling-within reading grows limit most tree name input output bytes new Wri
 EndsTelling-within reading grows limit most tree name input output bytes new Memory fed has
     room opened read stops write within =
     let told = (reading false (take limit bytes)).segments in
+    let early = prompt reading grows limit most input.file input.left bytes new has room in
     record {
       reads = reads_good reading limit input.file input.left bytes new tree told _ _ Memory _ _ fed
           read stops within;
@@ -173,6 +192,7 @@ EndsTelling-within reading grows limit most tree name input output bytes new Mem
             (within.segment ∷ within.rest)
             (split_behind told new within.front within.segment within.rest within.split);
         stand = within.stops;
+        prompt = omega (arith, early, length-append told within.front);
       };
     }
 EndsTelling-within reading grows limit most tree name input output bytes new Done fed has room
@@ -203,15 +223,17 @@ all_stand reading limit tree (Some whole) before now bytes new stand all =
     rw same stand
 
 -- the first blocks stand there
-first_stand : (reading : Bool → List ℕ → Reading) (limit most : ℕ) (tree : PatternTree)
-    (input : InputTold) (output : OutputTold) (bytes : List ℕ) (new : List Segment)
-    → HasRead reading limit most input.file input.left bytes [] new
+first_stand : (reading : Bool → List ℕ → Reading) → AllGrow reading → (limit most : ℕ)
+    (tree : PatternTree) (input : InputTold) (output : OutputTold) (bytes : List ℕ)
+    (new : List Segment)
+    → HasRead reading limit most input.file input.left bytes [] new → most ≡ PIECE
     → input.opened ≡ true → AllWritesGood output
     → BlocksWritten tree ((reading false (take limit bytes)).segments ++ new)
     output.written_before output.written_now
     → FirstBlocksStand reading limit tree input output
-first_stand reading limit most tree input output bytes new has opened writes stand =
+first_stand reading grows limit most tree input output bytes new has room opened writes stand =
     let told = (reading false (take limit bytes)).segments in
+    let early = prompt reading grows limit most input.file input.left bytes new has room in
     record {
       writes = writes;
       bytes = bytes ++ has.piece;
@@ -220,13 +242,14 @@ first_stand reading limit most tree input output bytes new has opened writes sta
       known = known_with reading limit most input bytes new has opened (told ++ new) []
           (sym (append-nil (told ++ new)));
       stand = stand;
+      prompt = omega (arith, early, length-append told new);
     }
 
 -- the input stopped, and all that it gave was told
-pub EndsTelling-stopped : (reading : Bool → List ℕ → Reading) (limit most : ℕ)
-    (tree : PatternTree) (name : List ℕ) (input : InputTold) (output : OutputTold)
-    (bytes : List ℕ) (new : List Segment) (status : Status)
-    → HasRead reading limit most input.file input.left bytes [] new
+pub EndsTelling-stopped : (reading : Bool → List ℕ → Reading) → AllGrow reading
+    → (limit most : ℕ) (tree : PatternTree) (name : List ℕ) (input : InputTold)
+    (output : OutputTold) (bytes : List ℕ) (new : List Segment) (status : Status)
+    → HasRead reading limit most input.file input.left bytes [] new → most ≡ PIECE
     → input.opened ≡ true
     → HasReadCause {T = Bool} input.faults_before input.faults_now (Err status)
     → (IsTrue input.sound → input.name ≡ Some name → status ≢ ReadFault)
@@ -236,7 +259,8 @@ pub EndsTelling-stopped : (reading : Bool → List ℕ → Reading) (limit most 
     → BlocksWritten tree ((reading false (take limit bytes)).segments ++ new)
     output.written_before output.written_now
     → EndsTelling reading limit tree name input output status
-EndsTelling-stopped reading limit most tree name input output bytes new (Trace fault) has opened
+EndsTelling-stopped reading grows limit most tree name input output bytes new (Trace fault) has room
+    opened
     read sound cause stops writes stand = record {
       cause = cause;
       reads = read;
@@ -245,7 +269,8 @@ EndsTelling-stopped reading limit most tree name input output bytes new (Trace f
         stand = all_stand reading limit tree input.file _ _ bytes new stand stops;
       };
     }
-EndsTelling-stopped reading limit most tree name input output bytes new InputTooLong has opened
+EndsTelling-stopped reading grows limit most tree name input output bytes new InputTooLong has room
+    opened
     read sound cause stops writes stand = record {
       cause = cause;
       reads = read;
@@ -254,7 +279,8 @@ EndsTelling-stopped reading limit most tree name input output bytes new InputToo
         stand = all_stand reading limit tree input.file _ _ bytes new stand stops;
       };
     }
-EndsTelling-stopped reading limit most tree name input output bytes new ReadFault has opened read
+EndsTelling-stopped reading grows limit most tree name input output bytes new ReadFault has room
+    opened read
     sound cause stops writes stand = record {
       cause = read;
       unsound = λ good named. sound good named refl;
@@ -265,18 +291,24 @@ EndsTelling-stopped reading limit most tree name input output bytes new ReadFaul
         stand = rw (stops.1, append-nil (reading false (take limit bytes)).segments) at stand;
       };
     }
-EndsTelling-stopped reading limit most tree name input output bytes new Memory has opened read
+EndsTelling-stopped reading grows limit most tree name input output bytes new Memory has room
+    opened read
     sound cause stops writes stand = record {
       reads = read;
-      stands = first_stand reading limit most tree input output bytes new has opened writes stand;
+      stands = first_stand reading grows limit most tree input output bytes new has room opened
+          writes stand;
     }
-EndsTelling-stopped reading limit most tree name input output bytes new Done has opened read
+EndsTelling-stopped reading grows limit most tree name input output bytes new Done has room
+    opened read
     sound cause stops writes stand = absurd stops
-EndsTelling-stopped reading limit most tree name input output bytes new Usage has opened read
+EndsTelling-stopped reading grows limit most tree name input output bytes new Usage has room
+    opened read
     sound cause stops writes stand = absurd stops
-EndsTelling-stopped reading limit most tree name input output bytes new (Expression fault) has
+EndsTelling-stopped reading grows limit most tree name input output bytes new (Expression fault)
+    has room
     opened read sound cause stops writes stand = absurd stops
-EndsTelling-stopped reading limit most tree name input output bytes new WriteFault has opened
+EndsTelling-stopped reading grows limit most tree name input output bytes new WriteFault has room
+    opened
     read sound cause stops writes stand = absurd stops
 
 -- the trace of a whole input
@@ -286,13 +318,6 @@ whole_trace : (reading : Bool → List ℕ → Reading) (limit : ℕ) (file left
 whole_trace reading limit file left bytes new ended =
     ended.all.beyond
     ∙ ap (λ added. (reading false (take limit bytes)).segments ++ added) (sym ended.all.new_is)
-
-same_reading : (reading : Reading) → reading.fault ≡ None
-    → reading ≡ record { segments = reading.segments; fault = None }
-same_reading reading none = ap (λ f. reading_for reading.segments f) none
-  where
-    reading_for : List Segment → Option TraceFault → Reading
-    reading_for s f = record { segments = s; fault = f }
 
 -- the text with its last line
 closed_text : (blocks : List (List ZoneBounds)) (trace : List Segment)
@@ -314,7 +339,7 @@ right_answer : (reading : Bool → List ℕ → Reading) (limit : ℕ) (tree : P
 right_answer reading limit tree file left before now bytes new ended trace stand = record {
   within = ended.within;
   trace = (reading true bytes).segments;
-  reads = same_reading (reading true bytes) ended.whole;
+  reads = same_reading (reading true bytes) _ refl ended.whole;
   is_trace = trace;
   blocks = stand.blocks;
   transcript = stand.transcript;
@@ -351,10 +376,10 @@ EndsTelling-done reading limit tree name input output bytes new middle end ended
     }
 
 -- all was told, and the last line wasn't written
-pub EndsTelling-cut : (reading : Bool → List ℕ → Reading) (limit most : ℕ) (tree : PatternTree)
-    (name : List ℕ) (input : InputTold) (output : OutputTold) (bytes : List ℕ)
+pub EndsTelling-cut : (reading : Bool → List ℕ → Reading) → AllGrow reading → (limit most : ℕ)
+    (tree : PatternTree) (name : List ℕ) (input : InputTold) (output : OutputTold) (bytes : List ℕ)
     (new : List Segment) (middle : Option (List ℕ)) (end : ℕ) (status : Status)
-    → HasRead reading limit most input.file input.left bytes [] new
+    → HasRead reading limit most input.file input.left bytes [] new → most ≡ PIECE
     → input.opened ≡ true
     → IsEnded reading limit input.file input.left bytes [] new
     → IsTrace (reading true bytes).segments
@@ -365,8 +390,8 @@ pub EndsTelling-cut : (reading : Bool → List ℕ → Reading) (limit most : �
     → HasWriteCause {T = Unit {0}} output.faults_before output.faults_now (Err status)
     → StopsAtEnd end middle output.written_now status
     → EndsTelling reading limit tree name input output status
-EndsTelling-cut reading limit most tree name input output bytes new middle end WriteFault has
-    opened ended trace reads stand at_end write stops =
+EndsTelling-cut reading grows limit most tree name input output bytes new middle end WriteFault
+    has room opened ended trace reads stand at_end write stops =
     let same = whole_trace reading limit input.file input.left bytes new ended in
     let told : BlocksWritten tree (reading true bytes).segments output.written_before middle =
     rw same stand in
@@ -380,7 +405,7 @@ EndsTelling-cut reading limit most tree name input output bytes new middle end W
           right = record {
             within = ended.within;
             trace = (reading true bytes).segments;
-            reads = same_reading (reading true bytes) ended.whole;
+            reads = same_reading (reading true bytes) _ refl ended.whole;
             is_trace = trace;
             blocks = told.blocks;
             transcript = told.transcript;
@@ -392,24 +417,27 @@ EndsTelling-cut reading limit most tree name input output bytes new middle end W
         });
       });
     }
-EndsTelling-cut reading limit most tree name input output bytes new middle end Memory has opened
+EndsTelling-cut reading grows limit most tree name input output bytes new middle end Memory
+    has room opened
     ended trace reads stand at_end write stops = record {
       reads = reads;
-      stands = first_stand reading limit most tree input output bytes new has opened write
-          (rw stops stand);
+      stands = first_stand reading grows limit most tree input output bytes new has room opened
+          write (rw stops stand);
     }
-EndsTelling-cut reading limit most tree name input output bytes new middle end Done has opened
+EndsTelling-cut reading grows limit most tree name input output bytes new middle end Done
+    has room opened
     ended trace reads stand at_end write stops = absurd stops
-EndsTelling-cut reading limit most tree name input output bytes new middle end Usage has opened
+EndsTelling-cut reading grows limit most tree name input output bytes new middle end Usage
+    has room opened
     ended trace reads stand at_end write stops = absurd stops
-EndsTelling-cut reading limit most tree name input output bytes new middle end (Expression fault)
-    has opened ended trace reads stand at_end write stops = absurd stops
-EndsTelling-cut reading limit most tree name input output bytes new middle end (Trace fault) has
-    opened ended trace reads stand at_end write stops = absurd stops
-EndsTelling-cut reading limit most tree name input output bytes new middle end InputTooLong has
-    opened ended trace reads stand at_end write stops = absurd stops
-EndsTelling-cut reading limit most tree name input output bytes new middle end ReadFault has
-    opened ended trace reads stand at_end write stops = absurd stops
+EndsTelling-cut reading grows limit most tree name input output bytes new middle end
+    (Expression fault) has room opened ended trace reads stand at_end write stops = absurd stops
+EndsTelling-cut reading grows limit most tree name input output bytes new middle end (Trace fault)
+    has room opened ended trace reads stand at_end write stops = absurd stops
+EndsTelling-cut reading grows limit most tree name input output bytes new middle end InputTooLong
+    has room opened ended trace reads stand at_end write stops = absurd stops
+EndsTelling-cut reading grows limit most tree name input output bytes new middle end ReadFault
+    has room opened ended trace reads stand at_end write stops = absurd stops
 
 none_written : (tree : PatternTree) (segments : List Segment) (told : Option (List ℕ))
     → segments ≡ [] → BlocksWritten tree segments told told
@@ -469,6 +497,10 @@ EndsTelling-unread reading limit tree name input output Memory nothing kept read
           known = rw none (sym nothing);
         };
         stand = rw unwritten (none_written tree [] output.written_before refl);
+        prompt =
+            let early : take (0 - PIECE) [] ≡ [] =
+            take-over {X = ℕ} (0 - PIECE) [] (omega arith) in
+            rw (early, nothing) (omega arith);
       };
     }
 EndsTelling-unread reading limit tree name input output Done nothing kept read only sound

@@ -1,25 +1,61 @@
 -- What was told of the segments that a session was given, and what stands where it stopped.
-use Rattle.std.proofs.Common.{◌≡◌, ◌∙◌, ℕ, suc, ◌+◌, false, List, [], ◌∷◌, ◌++◌, length, Option, None, Some, refl, sym, ap, arith, length-append, append-nil}
+use Rattle.std.proofs.Common.{◌≡◌, ◌∙◌, ℕ, suc, ◌+◌, false, List, [], ◌∷◌, ◌++◌, length, Option, None, Some, refl, sym, ap, arith, length-append, append-nil, append_assoc}
 use Rattle.std.specs.Io.KnownBytes.{Appends}
 use Rattle.std.specs.List.Sorted.{IsPermutation}
 use Rattle.std.proofs.KnownBytes.{Appends-trans}
 use Rattle.std.proofs.Math.Seq.{take-append-add, get_or-append_seam}
 use Rattle.std.proofs.lemmas.List.Sorted.{IsPermutation-refl}
 use Rattle.tre_io.specs.Written.{AppendsPart}
+use Rattle.tre_generate.proofs.Refusals.{fits_within}
 use Rattle.tre_online.specs.Session.{pattern_of, at_of, ended_of, StandsFor, TellsNew}
 use Rattle.tre_online.specs.declared.session.Session.{Session}
 use Rattle.tre_syntax.specs.Pattern.{pattern_tree}
 use Rattle.tre_syntax.specs.PatternTree.{PatternTree}
+use Rattle.tre_trace.specs.Trace.{IsRefusedFor}
+use Rattle.tre_trace.specs.declared.fault.PushFault.{PushFault}
+use Rattle.tre_trace.specs.declared.fault.PushFault.TheVariants.{Zero, TooLate, Memory}
 use Rattle.tre_trace.specs.declared.segment.Segment.{Segment}
 use Rattle.tre_zone.specs.declared.zone_bounds.ZoneBounds.{ZoneBounds}
 use Rattle.tre_tool.specs.Online.{BlocksWritten, IsCutBehind, LastBlockIsCut}
-use Rattle.tre_tool.specs.Telling.{HasTold}
+use Rattle.tre_tool.specs.Telling.{CanTell, HasTold}
 use Rattle.tre_tool.specs.Transcript.{block_text, online_text, block_before, IsTranscript}
 use Rattle.tre_tool.proofs.Transcripts.{IsPrinted, IsTranscript-more, IsTranscript-none, online_text-more}
 
 pub Appends-none : (told : Option (List ℕ)) → Appends told told []
 Appends-none None = tt
 Appends-none (Some bytes) = sym (append-nil bytes)
+
+-- the next segment can be told, and then those behind it
+pub CanTell-first : (session : Session) (segment : Segment) (more : List Segment)
+    → CanTell session (segment ∷ more) → CanTell session (segment ∷ [])
+CanTell-first session segment more can = record {
+  front = can.front;
+  rest = more ++ can.rest;
+  stands = can.stands;
+  is_trace = can.is_trace;
+}
+
+pub CanTell-next : (session session' : Session) (segment : Segment) (more : List Segment)
+    → (can : CanTell session (segment ∷ more)) → StandsFor session' (can.front ++ segment ∷ [])
+    → CanTell session' more
+CanTell-next session session' segment more can stands = record {
+  front = can.front ++ segment ∷ [];
+  rest = can.rest;
+  stands = stands;
+  is_trace = rw (append_assoc can.front (segment ∷ []) (more ++ can.rest)) can.is_trace;
+}
+
+-- a segment that can be told is refused for want of memory alone
+pub CanTell-refused : (session : Session) (segment : Segment) (fault : PushFault)
+    → (can : CanTell session (segment ∷ [])) → IsRefusedFor can.front segment fault
+    → fault ≡ Memory
+CanTell-refused session segment Zero can refused =
+    let fits = fits_within can.front segment can.rest can.is_trace in
+    absurd (omega (arith, fits.long, refused))
+CanTell-refused session segment (TooLate end) can refused =
+    let fits = fits_within can.front segment can.rest can.is_trace in
+    absurd (omega (arith, fits.in_time, refused.1, refused.2))
+CanTell-refused session segment Memory can refused = refl
 
 -- a new session has told nothing
 pub HasTold-start : (session : Session) (before : Option (List ℕ)) → StandsFor session []

@@ -54,6 +54,12 @@ pub record NothingWritten (output : OutputTold) : Type 0 where
   pub unwritten : output.written_now ≡ output.written_before
   pub writes : AllWritesGood output
 
+-- The input wasn't opened, no failure was counted, and nothing was written.
+pub record NothingDone (input : InputTold) (output : OutputTold) : Type 0 where
+  pub unopened : input.opened ≡ false
+  pub reads : AllReadsGood input
+  pub unwritten : NothingWritten output
+
 -- These bytes were read: they and what is left are all that the input had, where it tells them. Of
 -- an input that isn't open nothing was read.
 pub record WereRead (input : InputTold) (bytes : List ℕ) : Type 0 where

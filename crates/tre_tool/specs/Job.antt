@@ -1,13 +1,12 @@
 -- What the words of the command line ask for.
-use Rattle.std.specs.Prelude.{◌≡◌, ℕ, ◌≤◌, nat_le, nat_lt, Bool, true, false, ◌&&◌, List, [], ◌∷◌, Option, None, Some, codes, option_and_then, option_map, if◌then◌else◌, length}
-use Rattle.std.specs.List.{list_all}
+use Rattle.std.specs.Prelude.{◌≡◌, ℕ, ◌≤◌, nat_le, nat_lt, Bool, true, false, ◌&&◌, List, [], ◌∷◌, Option, None, Some, codes, option_and_then, option_map, if◌then◌else◌}
 use Rattle.std.specs.Option.{option_map_or}
 use Rattle.std.specs.Str.{bytes_eq}
 use Rattle.std.specs.Str.Parse.{digits_value}
-use Rattle.std.specs.Char.{is_ascii_digit}
 use Rattle.clap.specs.Simple.{on_top}
 use Rattle.clap.specs.Words.{App, Row, Rule, Text, first_of, matches_of, new_app, new_rule, takes, with_rule}
 use Rattle.clap.specs.declared.builder.action.ArgAction.TheVariants.{Set, SetTrue}
+use Rattle.tre_parts.specs.Numeral.{is_numeral}
 use Rattle.tre_generate.specs.declared.made_run.TheConstants.{SEGMENTS_MAX}
 use Rattle.tre_tool.specs.declared.job.TheConstants.{LIMIT_MAX, LIMIT_DEFAULT}
 use Rattle.tre_tool.specs.declared.job.Format.{Format}
@@ -68,10 +67,6 @@ abbrev pub format_named : Text → Option Format
 format_named text =
     if bytes_eq text (codes "text") then Some TextFormat
     else (if bytes_eq text (codes "vcd") then Some Vcd else None)
-
--- one decimal digit or more, and nothing else
-abbrev pub is_numeral : Text → Bool
-is_numeral text = nat_lt 0 (length text) && list_all is_ascii_digit text
 
 -- the number from 1 to `most` that a text writes in decimal digits
 abbrev pub number_written : ℕ → Text → Option ℕ

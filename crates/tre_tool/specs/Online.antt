@@ -49,7 +49,8 @@ pub record AreKnown (reading : Bool → List ℕ → Reading) (limit : ℕ) (inp
   pub within : closed ≡ true → length bytes ≤ limit
   pub known : segments ≡ (reading closed (take limit bytes)).segments
 
--- The blocks of the first of the segments that are known stand there.
+-- The blocks of the first of the segments that are known stand there. None was held back: what was
+-- read, without as many bytes as one read may ask for, completes no other segment.
 pub record FirstBlocksStand (reading : Bool → List ℕ → Reading) (limit : ℕ) (tree : PatternTree)
     (input : InputTold) (output : OutputTold) : Type 0 where
   pub writes : AllWritesGood output
@@ -58,6 +59,7 @@ pub record FirstBlocksStand (reading : Bool → List ℕ → Reading) (limit : �
   pub rest : List Segment
   pub known : AreKnown reading limit input bytes (front ++ rest)
   pub stand : BlocksWritten tree front output.written_before output.written_now
+  pub prompt : length (reading false (take (length bytes - PIECE) bytes)).segments ≤ length front
 
 -- A first part of the text was written, with all of its front in it.
 pub record IsCutBehind (front text : List ℕ) (before now : Option (List ℕ)) : Type 0 where

@@ -13,7 +13,7 @@ use Rattle.tre_generate.specs.Summary.{IsSummary}
 use Rattle.tre_tool.specs.Job.{GivesJob, GivesNoJob, AreTaken, is_made_run, made_count}
 use Rattle.tre_show.specs.PatternText.{expression_text}
 use Rattle.tre_trace.specs.Reading.{Reading}
-use Rattle.tre_tool.specs.Devices.{InputTold, OutputTold, AllReadsGood, AllWritesGood, NothingWritten}
+use Rattle.tre_tool.specs.Devices.{InputTold, OutputTold, AllReadsGood, AllWritesGood, NothingWritten, NothingDone}
 use Rattle.tre_tool.specs.Online.{AllBlocksStand, BlocksSoFarStand, FirstBlocksStand, BlockIsCut, IsOnlineAnswer, EndIsCut}
 use Rattle.tre_tool.specs.Outcome.{Outcome, completes, refuses, exceeds, reading_in, outcome_of, IsInputKind, IsAnswer}
 use Rattle.tre_tool.specs.declared.job.Job.{Job}
@@ -98,9 +98,10 @@ IsReadToItsEnd Online input = IsAtEnd input.left
 IsReadToItsEnd Show input = Unit {0}
 IsReadToItsEnd (Generate count) input = Unit {0}
 
--- A first part of a right answer was written.
+-- A first part of a right answer was written, once all that is read was.
 pub record PartIsWritten (request : Request)
     (input : InputTold) (output : OutputTold) : Type 0 where
+  pub all_read : IsReadToItsEnd request.job.mode input
   pub text : List ℕ
   pub right : IsAnswerIn request.job.mode request input.file text
   pub written : AppendsPart output.written_before output.written_now text
@@ -137,7 +138,8 @@ StandsAtFailedRead Show request input output = ⊥
 StandsAtFailedRead (Generate count) request input output = ⊥
 
 -- What stands in the output where memory was wanting: in an online run the blocks of some first
--- segments of those read, which may be all of them, and no end.
+-- segments of those read, which may be all of them and are at least those that were complete before
+-- the last read, and no end.
 abbrev pub StandsAtMemory : Mode → Request → InputTold → OutputTold → Type 0
 StandsAtMemory Offline request input output = NothingWritten output
 StandsAtMemory Online request input output =
@@ -158,15 +160,13 @@ pub record EndsDone (request : Request) (input : InputTold) (output : OutputTold
 pub record EndsUsage (words : List (List ℕ))
     (input : InputTold) (output : OutputTold) : Type 0 where
   pub no_job : AreTaken words → GivesNoJob words
-  pub reads : AllReadsGood input
-  pub unwritten : NothingWritten output
+  pub nothing : NothingDone input output
 
 -- `Expression`: the words give a job, and its text is refused with this fault.
 pub record EndsExpression (words : List (List ℕ)) (input : InputTold) (output : OutputTold)
     (fault : ParseFault) : Type 0 where
   pub refused : IsRefused words fault
-  pub reads : AllReadsGood input
-  pub unwritten : NothingWritten output
+  pub nothing : NothingDone input output
 
 -- `Trace`: this is the first fault of the bytes within the limit.
 pub record EndsTrace (request : Request) (input : InputTold) (output : OutputTold)
@@ -197,13 +197,20 @@ pub record EndsWriteFault (request : Request)
   pub reads : AllReadsGood input
   pub stands : StandsAtFailedWrite request.job.mode request input output
 
--- `Memory`: it may come at any time. No failure was counted, and nothing was written, or what
--- stands in the output in the mode that the words ask for.
+-- `Memory`: it may come at any time. No failure was counted, and either the input wasn't open yet,
+-- or in the output stands what stands there in the mode that the words ask for.
 pub record EndsMemory (words : List (List ℕ))
     (input : InputTold) (output : OutputTold) : Type 0 where
   pub reads : AllReadsGood input
-  pub stands : NothingWritten output
+  pub stands : NothingDone input output
       ⊎ Asks words (λ request. StandsAtMemory request.job.mode request input output)
+
+-- A line was told whole, or one failure to tell it was counted, and a first part of it was told.
+abbrev pub IsLineTold : OutputTold → List ℕ → Type 0
+IsLineTold output line =
+    (AllWritesGood output × Appends output.written_before output.written_now line)
+    ⊎ ((output.faults_now ≡ counted output.faults_before)
+    × AppendsPart output.written_before output.written_now line)
 
 -- The end of a run, status by status.
 abbrev pub EndsAs : List (List ℕ) → InputTold → OutputTold → Status → Type 0

@@ -8,6 +8,7 @@ use Rattle.tre_online.specs.declared.session.Session.{Session}
 use Rattle.tre_syntax.specs.Pattern.{pattern_tree}
 use Rattle.tre_syntax.specs.PatternTree.{PatternTree}
 use Rattle.tre_trace.specs.Reading.{Reading}
+use Rattle.tre_trace.specs.Trace.{IsTrace}
 use Rattle.tre_trace.specs.declared.segment.Segment.{Segment}
 use Rattle.tre_zone.specs.declared.zone_bounds.ZoneBounds.{ZoneBounds}
 use Rattle.tre_tool.specs.Devices.{InputTold, OutputTold, AllReadsGood, AllWritesGood}
@@ -16,6 +17,13 @@ use Rattle.tre_tool.specs.Online.{BlocksWritten, AllBlocksStand, BlocksSoFarStan
 use Rattle.tre_tool.specs.Transcript.{IsTranscript, block_before, closing_line, online_text}
 use Rattle.tre_tool.specs.declared.status.Status.{Status}
 use Rattle.tre_tool.specs.declared.status.Status.TheVariants.{Done, Trace, InputTooLong, ReadFault, WriteFault, Memory}
+
+-- The session has read the first segments of a trace, and these come next in it.
+pub record CanTell (session : Session) (segments : List Segment) : Type 0 where
+  pub front : List Segment
+  pub rest : List Segment
+  pub stands : StandsFor session front
+  pub is_trace : IsTrace (front ++ (segments ++ rest))
 
 -- The session was given these segments, and the block of each was written.
 pub record HasTold (session : Session) (tree : PatternTree) (segments : List Segment)

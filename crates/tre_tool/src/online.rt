@@ -9,7 +9,7 @@ ghost use Rattle.tre_tool.specs.Answer.{status_of};
 ghost use Rattle.tre_tool.specs.Devices.{input_told, output_told};
 ghost use Rattle.tre_tool.specs.Input.{TakesAtMost};
 ghost use Rattle.tre_tool.specs.Outcome.{reading_in};
-ghost use Rattle.tre_tool.specs.Telling.{HasTold, StopsAtSegment, StopsWithin, HasWriteCause, StopsAtEnd, EndsTelling};
+ghost use Rattle.tre_tool.specs.Telling.{CanTell, HasTold, StopsAtSegment, StopsWithin, HasWriteCause, StopsAtEnd, EndsTelling};
 ghost use Rattle.tre_tool.specs.Transcript.{block_text, closing_line};
 ghost use Rattle.tre_tool.specs.declared.job.TheConstants.{LIMIT_MAX};
 
@@ -17,14 +17,13 @@ use crate::input::Feed;
 use crate::job::{Format, Job};
 use crate::output::write_text;
 use crate::status::Status;
-use itoa::Buffer;
 use std::alloc::{AllocError, Global};
 use tre_io::{Sink, Source};
 use tre_online::Session;
-use tre_show::{offline_text, printed_order, zone_line};
+use tre_show::{number, offline_text, printed_order, zone_line};
 use tre_syntax::Pattern;
 use tre_text::TextReader;
-use tre_trace::{Segment, TraceReader};
+use tre_trace::{PushFault, Segment, TraceReader};
 use tre_vcd::VcdReader;
 use tre_zone::Zone;
 use tre_zoneset::ZoneSet;
@@ -37,16 +36,26 @@ fn block_text(alloc: Global, zones: &[Zone], at: u64) -> Result<String, AllocErr
     for zone in zones {
         zone_line(zone, &mut text)?;
     }
-    let mut buffer = Buffer::new();
     text.push_str("at ")?;
-    text.push_str(buffer.format(at))?;
+    number(at, &mut text)?;
     text.push_str("\n")?;
     Ok(text)
 }
 
-// What the session tells of the segment. Segments that a reader gives are a trace, so it refuses
-// none but for want of memory.
+// The end of a run at the refusal of a segment that fits.
+fn want_of_memory(fault: PushFault) -> Status
+    requires { fault ≡ PushFault.Memory }
+    ensures { result ≡ Status.Memory }
+{
+    match fault {
+        PushFault::Memory => Status::Memory,
+        PushFault::Zero | PushFault::TooLate { .. } => unreachable!(),
+    }
+}
+
+// What the session tells of the next segment of a trace, which only want of memory can refuse.
 fn told_of(segment: Segment, session: &mut Session) -> Result<ZoneSet, Status>
+    requires { CanTell session.old (segment ∷ []) }
     ensures stands { (segments : List Segment) → StandsFor session.old segments →
         OnOk result (StandsFor session.new (segments ++ segment ∷ [])) }
     ensures tells { (segments : List Segment) → StandsFor session.old segments →
@@ -59,7 +68,7 @@ fn told_of(segment: Segment, session: &mut Session) -> Result<ZoneSet, Status>
 {
     match session.segment(segment) {
         Ok(told) => Ok(told),
-        Err(_) => Err(Status::Memory),
+        Err(fault) => Err(want_of_memory(fault)),
     }
 }
 
@@ -70,6 +79,9 @@ fn tell_block<O: Sink>(
     session: &mut Session,
     out: &mut O,
 ) -> Result<(), Status>
+    requires { CanTell session.old (segment ∷ []) }
+    ensures stands { (segments : List Segment) → StandsFor session.old segments →
+        OnOk result (StandsFor session.new (segments ++ segment ∷ [])) }
     ensures told { (tree : PatternTree) (segments : List Segment) (before : Option (List ℕ)) →
         HasTold session.old tree segments before (O.written out.old) →
         OnOk result (HasTold session.new tree (segments ++ segment ∷ []) before
@@ -93,6 +105,7 @@ fn tell_blocks<O: Sink>(
     session: &mut Session,
     out: &mut O,
 ) -> Result<(), Status>
+    requires { CanTell session.old segments.now }
     ensures told { (tree : PatternTree) (front : List Segment) (before : Option (List ℕ)) →
         HasTold session.old tree front before (O.written out.old) →
         OnOk result (HasTold session.new tree (front ++ segments.now) before

@@ -1,14 +1,13 @@
-ghost use Rattle.std.specs.Prelude.{◌≡◌, ◌≢◌, ◌⊎◌, ◌+◌, ℕ, IsTrue, IfSome, IfOk, IfErr, false, map, string_bytes};
+ghost use Rattle.std.specs.Prelude.{◌≡◌, ◌≢◌, ◌+◌, ℕ, IsTrue, IfSome, IfOk, IfErr, false, map, string_bytes};
 ghost use Rattle.std.specs.Io.KnownBytes.{Appends};
 ghost use Rattle.tre_io.specs.Faults.{Rises};
-ghost use Rattle.tre_io.specs.Written.{AppendsPart};
 ghost use Rattle.tre_parse.specs.Outcome.{spelt, refused};
 ghost use Rattle.tre_syntax.specs.Pattern.{pattern_tree, names_of};
 ghost use Rattle.tre_tool.specs.Answer.{status_of};
 ghost use Rattle.tre_tool.specs.Input.{TakesAtMost};
 ghost use Rattle.tre_tool.specs.Job.{GivesJob};
 ghost use Rattle.tre_tool.specs.Devices.{input_told, output_told};
-ghost use Rattle.tre_tool.specs.Run.{Request, IsOutcomeIn, AsksFor, AsksForNothing, AsksForMadeRun, ReadsInput, EndsAs, EndsMadeRun, IsComplete};
+ghost use Rattle.tre_tool.specs.Run.{Request, IsOutcomeIn, AsksFor, AsksForNothing, AsksForMadeRun, ReadsInput, EndsAs, EndsMadeRun, IsComplete, IsLineTold};
 ghost use Rattle.tre_tool.specs.Status.{error_line};
 ghost use Rattle.tre_tool.specs.declared.job.Job.{Job};
 
@@ -122,11 +121,12 @@ pub fn run<S: Source, O: Sink, E: Sink>(
         EndsMadeRun count (output_told O.written O.faults out.old out.new) result
         × (input.new ≡ input.old) }
 
-    // Standard error is told the status, and a failure to tell it leaves a first part of the line.
+    // Standard error is told the status. A failure to tell it is one, counted once, and leaves a
+    // first part of the line.
     ensures error_line { ¬ Rises (E.faults err.old) (E.faults err.new) →
         Appends (E.written err.old) (E.written err.new) (error_line result) }
-    ensures error_part { Appends (E.written err.old) (E.written err.new) (error_line result)
-        ⊎ AppendsPart (E.written err.old) (E.written err.new) (error_line result) }
+    ensures error_part { IsLineTold (output_told E.written E.faults err.old err.new)
+        (error_line result) }
 
     // The input is read to its end, or to one byte past the limit, and the words name it.
     ensures reads_at_most { (job : Job) → GivesJob (map string_bytes words.now) job →

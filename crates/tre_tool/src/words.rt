@@ -1,8 +1,7 @@
 // The words of the command line.
-ghost use Rattle.std.specs.Prelude.{◌≡◌, ℕ, ◌≤◌, ◌<◌, ◌^◌, ◌-◌, min, map, string_bytes, IfOk, IsErrOf, IfSome, IfNone, Some, None, true, false, codes, option_and_then, option_map};
-ghost use Rattle.std.specs.Str.Parse.{digits_value};
+ghost use Rattle.std.specs.Prelude.{◌≡◌, ◌≢◌, ℕ, ◌≤◌, ◌<◌, ◌^◌, ◌-◌, map, string_bytes, IfOk, IsErrOf, IfSome, IfNone, Some, None, true, false, codes, option_and_then, option_map};
 ghost use Rattle.clap.specs.Words.{app_of, rule_of, found_of, rows_of, matches_of, first_of, takes};
-ghost use Rattle.tre_tool.specs.Job.{flag_rule, option_rule, operand_rule, command_line, is_given, mode_for, mode_in, format_named, is_numeral, number_written, is_made_run, made_count, made_job, IsCount, GivesFrom, GivesJob, GivesNoJob, AreTaken};
+ghost use Rattle.tre_tool.specs.Job.{flag_rule, option_rule, operand_rule, command_line, is_given, mode_for, mode_in, format_named, number_written, is_made_run, made_count, made_job, IsCount, GivesFrom, GivesJob, GivesNoJob, AreTaken};
 ghost use Rattle.tre_tool.specs.declared.job.Job.{Job};
 
 use crate::job::{Format, Job, LIMIT_DEFAULT, LIMIT_MAX, Mode, Word, WordsFault};
@@ -10,6 +9,7 @@ use clap::error::ErrorKind;
 use clap::{Arg, ArgAction, ArgMatches, Command};
 use std::alloc::{AllocError, Global};
 use tre_generate::SEGMENTS_MAX;
+use tre_parts::read_numeral;
 
 fn flag<'a>(alloc: Global, name: &'a str) -> Arg<'a>
     ensures rule { rule_of result ≡ flag_rule name.entry.now }
@@ -53,7 +53,8 @@ fn command_line<'a>(alloc: Global) -> Result<Command<'a>, AllocError>
 
 // What `clap` answers to words that it didn't take.
 fn words_fault(kind: ErrorKind) -> WordsFault
-    ensures { kind ≡ ErrorKind.OutOfMemory → result ≡ WordsFault.Memory }
+    ensures memory { kind ≡ ErrorKind.OutOfMemory → result ≡ WordsFault.Memory }
+    ensures others { kind ≢ ErrorKind.OutOfMemory → result ≡ WordsFault.Usage }
 {
     match kind {
         ErrorKind::OutOfMemory => WordsFault::Memory,
@@ -116,33 +117,12 @@ fn format_named(text: &str) -> Option<Format>
     None
 }
 
-// The number that the digits write; past 2^64 - 1 it stays there. None where the text isn't digits.
-fn read_number(text: &[u8]) -> Option<u64>
-    ensures digits { IfSome result (λ _. is_numeral text.now ≡ true) }
-    ensures value { IfSome result (λ number. number ≡ min (digits_value 10 text.now) (2 ^ 64 - 1)) }
-    ensures none { IfNone result (is_numeral text.now ≡ false) }
-{
-    if text.is_empty() {
-        return None;
-    }
-    let mut number = 0u64;
-    for byte in text {
-        if !byte.is_ascii_digit() {
-            return None;
-        }
-        number = number
-            .saturating_mul(10)
-            .saturating_add(u64::from(*byte - b'0'));
-    }
-    Some(number)
-}
-
 // The number from 1 to `most` that the text writes.
 fn number_written(most: u64, text: &str) -> Option<u64>
     requires { most < 2 ^ 64 - 1 }
     ensures { result ≡ number_written most text.now }
 {
-    let number = read_number(text.as_bytes())?;
+    let number = read_numeral(text.as_bytes())?;
     if number == 0 || number > most {
         return None;
     }

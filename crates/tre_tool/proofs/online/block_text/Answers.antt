@@ -10,9 +10,8 @@ returns c =
     let all : take c.loop-zone.zone-index c.args.zones.now ≡ c.args.zones.now =
     take-over c.loop-zone.zone-index c.args.zones.now c.loop-zone-test.false in
     rw (
-      c.in_ok-push_str-3.ensures.bytes,
       c.in_ok-push_str-2.ensures.bytes,
-      c.format.ensures.text,
+      c.in_ok-number.ensures.text,
       c.in_ok-push_str.ensures.bytes,
       c.loop-zone.invariant,
       all,

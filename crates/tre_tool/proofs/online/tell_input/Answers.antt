@@ -4,7 +4,7 @@ use Rattle.tre_online.specs.Session.{pattern_of}
 use Rattle.tre_syntax.specs.Pattern.{pattern_tree}
 use Rattle.tre_tool.specs.Devices.{input_told, output_told}
 use Rattle.tre_tool.proofs.Readings.{fed_within, HasRead-bounded}
-use Rattle.tre_tool.proofs.Tellings.{IsTelling-start, IsTelling-more, EndsTelling-unread, EndsTelling-within, EndsTelling-stopped, EndsTelling-done, EndsTelling-cut, HasReadCause-from, HasWriteCause-from}
+use Rattle.tre_tool.proofs.Tellings.{CanTell-read, IsTelling-start, IsTelling-more, EndsTelling-unread, EndsTelling-within, EndsTelling-stopped, EndsTelling-done, EndsTelling-cut, HasReadCause-from, HasWriteCause-from}
 use Rattle.tre_tool.proofs.Told.{HasTold-written}
 use Rattle.tre_tool.proofs.online.tell_input.Goals as goal
 
@@ -58,6 +58,20 @@ pub next-fed-requires-clause-few : goal.next-fed-requires-clause-few
 next-fed-requires-clause-few g c =
     let tel = c.loop-segments.invariant.telling in
     rw c.loop-segments.invariant.limit tel.fed.few
+
+pub tell_blocks-requires : goal.tell_blocks-requires
+tell_blocks-requires g c =
+    let inv = c.loop-segments.invariant in
+    let tel = inv.telling in
+    let names = g.R.TraceReader.names c.args.reader.now in
+    rw c.deref.ensures.value (CanTell-read (g.R.TraceReader.reading names)
+    c.args.job.now.max_bytes (length c.loop-segments.feed.buffer.items)
+    (g.S.Source.file c.args.input.now) (g.S.Source.left c.next-fed.new.input) tel.bytes
+    c.next-fed.new.segments.items c.loop-segments.session
+    (λ closed bytes. g.met.R.TraceReader.is_trace names closed bytes)
+    (rw (inv.names, inv.limit, inv.empty) at
+    c.next-fed.ensures.read (g.S.Source.file c.args.input.now) tel.bytes tel.fed)
+    tel.told.stands)
 
 pub returns-in_err-tell_blocks-clause-ends : goal.returns-in_err-tell_blocks-clause-ends
 returns-in_err-tell_blocks-clause-ends g c =
@@ -118,8 +132,11 @@ returns-in_err-fed-clause-ends g c =
     c.in_err-fed.ensures.stops file tel.bytes tel.fed in
     let cause = rw (inv.names, inv.limit) at
     c.in_err-fed.ensures.cause_told file tel.bytes tel.fed in
-    rw (p.1, p.2) (EndsTelling-stopped reading limit (length c.loop-segments.feed.buffer.items)
-    tree c.args.job.now.input input output tel.bytes new c.in_err-fed.field-0.0 has (c.next-fed.ensures.same_opened ∙ inv.opened)
+    rw (p.1, p.2) (EndsTelling-stopped reading
+    (λ closed first more. g.met.R.TraceReader.grows (g.R.TraceReader.names c.args.reader.now)
+    closed first more) limit (length c.loop-segments.feed.buffer.items)
+    tree c.args.job.now.input input output tel.bytes new c.in_err-fed.field-0.0 has inv.room
+    (c.next-fed.ensures.same_opened ∙ inv.opened)
     (HasReadCause-from {T = Bool} _ _ input.faults_now (Err c.in_err-fed.field-0.0) inv.no_fault
     c.in_err-fed.ensures.cause)
     (λ good named is. c.in_err-fed.ensures.sound (rw inv.sound good) (ap Err is))
@@ -183,9 +200,12 @@ returns-in_err-tell_end-clause-ends g c =
     c.in_ok-fed.ensures.ended file tel.bytes tel.fed c.if-not-branch.true in
     let trace = g.met.R.TraceReader.is_trace (g.R.TraceReader.names c.args.reader.now) true
     tel.bytes in
-    rw (p.1, p.2) (EndsTelling-cut reading limit (length c.loop-segments.feed.buffer.items) tree
+    rw (p.1, p.2) (EndsTelling-cut reading
+    (λ closed first more. g.met.R.TraceReader.grows (g.R.TraceReader.names c.args.reader.now)
+    closed first more) limit (length c.loop-segments.feed.buffer.items) tree
     c.args.job.now.input input output tel.bytes new (g.O.Sink.written c.tell_blocks.new.out)
-    c.at.result c.in_err-tell_end.field-0.0 has (c.next-fed.ensures.same_opened ∙ inv.opened) ended trace
+    c.at.result c.in_err-tell_end.field-0.0 has inv.room
+    (c.next-fed.ensures.same_opened ∙ inv.opened) ended trace
     (c.in_ok-fed.ensures.cause ∙ inv.no_fault) (HasTold-written told)
     (c.at.ensures ∙ told.stands.at)
     (HasWriteCause-from {T = Unit {0}} _ _ output.faults_now (Err c.in_err-tell_end.field-0.0)

@@ -13,7 +13,11 @@ returns-in_err-pattern-clause-ends g c =
     c.from_residual-in_err-pattern.ensures.1 in
     rw (p.1, p.2) (EndsAs-refused _ _ _ c.in_err-pattern.field-0.0
     (IsRefused-of _ _ _ c.in_ok-job.ensures.ok c.in_err-pattern.ensures.refuses)
-    refl (record { unwritten = refl; writes = refl }))
+    (record {
+      unopened = c.requires;
+      reads = refl;
+      unwritten = record { unwritten = refl; writes = refl };
+    }))
 
 pub returns-in_err-pattern-clause-by_name : goal.returns-in_err-pattern-clause-by_name
 returns-in_err-pattern-clause-by_name g c =
