@@ -1,7 +1,6 @@
 -- How many nodes joined trees have.
-use Rattle.std.proofs.Common.{◌≡◌, ℕ, ◌+◌, zero, suc, Bool, true, false, Option, Some, None, inl, inr, refl, sym, ◌∙◌, ap, add-one, arith, subst}
+use Rattle.std.proofs.Common.{◌≡◌, ℕ, ◌+◌, zero, suc, Bool, true, false, Option, Some, None, inl, inr, refl, sym, ◌∙◌, add-one, arith, subst}
 use Rattle.std.specs.Prelude.{IfSome, IsSome}
-use Rattle.std.specs.Option.{option_zip}
 use Rattle.std.proofs.lemmas.Bool.{cases_lt}
 use Rattle.tre_syntax.specs.declared.pattern.TheConstants.{NODES_MAX}
 use Rattle.tre_state.specs.StateTree as state
@@ -39,14 +38,6 @@ negated_more n s = rw add-one refl
 pub negated_count : (n : ℕ) (s : StateTree) → state.node_count (negated n s) ≡ n + state.node_count s
 negated_count zero s = omega arith
 negated_count (suc n) s = omega (arith, negated_count n s)
-
--- Two that are kept, and what they are.
-pub zip_some : {A B : Type 0} (a : Option A) (b : Option B) (x : A) (y : B) → option_zip a b ≡ Some (x, y) → (a ≡ Some x) × (b ≡ Some y)
-zip_some None b x y e = absurd (cc)
-zip_some (Some p) None x y e = absurd (cc)
-zip_some {A = A} {B = B} (Some p) (Some q) x y e =
-    let pair : (p, q) ≡ (x, y) = cc in
-    (ap (λ (w : A × B). Some w.0) pair, ap (λ (w : A × B). Some w.1) pair)
 
 whole_is : {T : Type 0} (whole : Option T) (x : T) (IsIt : T → Type 0) → whole ≡ Some x → IfSome whole IsIt → IsIt x
 whole_is {T = T} whole x IsIt e h = let P = λ (o : Option T). IfSome o IsIt in subst P e h

@@ -10,7 +10,8 @@ use Rattle.tre_parse.specs.declared.token.Token.TheVariants.{Percent}
 use Rattle.tre_parse.proofs.Machine.{Part, Opening}
 use Rattle.tre_parse.specs.Grammar.{SpellsInterval, with_high, without_high}
 use Rattle.tre_parse.proofs.Machine.{PartStep, wrong, going, whole, part_step}
-use Rattle.tre_parse.specs.Parts.{IsEmptyInterval, IsFineInterval, BeginsUnkept, BeginsWithNone}
+use Rattle.tre_parse.specs.Parts.{IsEmptyInterval, IsFineInterval, BeginsWithNone}
+use Rattle.tre_parse.specs.Front.{front}
 use Rattle.tre_parse.specs.Reading.{ParsesInterval}
 use Rattle.tre_parse.specs.Outcome.{is_big, IsIntervalAt, HasEmptyAt, NoneEmptyBefore, NoneEmpty}
 use Rattle.tre_parse.proofs.Fine.{none_big, ends_within}
@@ -101,6 +102,15 @@ none_empty tokens place le none = λ k ends s h. none k ends (omega (arith, (pla
 unkept_empty : (ends : IntervalEnds) → IsIntervalWithin TIME_MAX ends → (IsFineInterval ends → ⊥) → IsEmptyInterval ends
 unkept_empty ends w h = λ d n some within. h (record { lasts = λ empty. empty d n some within; within = w })
 
+-- The tokens begin with an interval that can't be kept.
+pub record BeginsUnkept (tokens : List Token) : Type 0 where
+  pub ends : IntervalEnds
+  pub body : List Token
+  pub rest : List Token
+  pub split : tokens ≡ body ++ rest
+  pub spells : SpellsInterval body ends
+  pub unkept : IsFineInterval ends → ⊥
+
 -- The tests say whether an empty interval stands after a place.
 pub decides_here : (tokens rest : List Token) (place : ℕ) (d : Token) (r : Bool) → place < length tokens → get_or tokens place d ≡ Percent → rest ≡ drop (place + 1) tokens →
     position is_big tokens ≡ None → IsTrue r ↔ BeginsUnkept rest → IsTrue r ↔ HasEmptyAt tokens (place + 1)
@@ -144,3 +154,16 @@ kept_decides (Some kept) r tokens new e h = (
 
 pub none_decides : (tokens : List Token) → BeginsWithNone tokens → IsTrue false ↔ BeginsUnkept tokens
 none_decides tokens none = ((λ k. absurd (cc)), (λ k. absurd (none k.body k.rest k.ends k.split k.spells)))
+
+-- What stands at a place, and what follows it.
+pub percent_at : (tokens front rest : List Token) (place : ℕ) (d : Token) → place < length tokens → front ≡ drop place tokens → front ≡ Percent ∷ rest →
+    (get_or tokens place d ≡ Percent) × (rest ≡ drop (place + 1) tokens)
+percent_at tokens front rest place d h e f =
+    let other = rw (← add-one) at (drop-cons tokens place d h) in
+    let both : Percent ∷ rest ≡ get_or tokens place d ∷ drop (place + 1) tokens = sym f ∙ e ∙ other in
+    (cc, cc)
+
+pub no_percent : (tokens : List Token) (place : ℕ) (d : Token) → place < length tokens → get_or tokens place d ≡ Percent → front (drop place tokens) ≡ Percent
+no_percent tokens place d h e =
+    let other = rw (← add-one) at (drop-cons tokens place d h) in
+    ap front other ∙ e

@@ -1,108 +1,52 @@
 -- Expressions: what each function takes, and where it stops.
-use Rattle.std.proofs.Common.{◌≡◌, ◌≢◌, Bool, true, false, Option, Ok, List, [], ◌∷◌, ◌++◌, length, refl, sym, ◌∙◌, ap, subst, append_assoc}
+use Rattle.std.proofs.Common.{◌≡◌, ◌≢◌, ◌⊎◌, inl, inr, Bool, true, false, Option, Ok, List, [], ◌∷◌, ◌++◌, length, refl, sym, ◌∙◌, ap, subst, append_assoc}
 use Rattle.std.proofs.lemmas.List.{append-nil}
 use Rattle.tre_state.specs.StateTree.{StateTree}
 use Rattle.tre_zone.specs.Interval.{IntervalEnds}
 use Rattle.tre_syntax.specs.PatternTree.{PatternTree, empty, rise, fall, atom, sequence, alternation, intersection, repetition, restriction}
 use Rattle.tre_parse.specs.declared.token.Token.{Token}
-use Rattle.tre_parse.specs.declared.token.Token.TheVariants.{LeftParen, RightParen, Semicolon, Bar, DoubleBar, Ampersand, DoubleAmpersand, Star, Plus, Question, Percent, Begins, Ends, Eps, EndOfText}
+use Rattle.tre_parse.specs.declared.token.Token.TheVariants.{LeftParen, RightParen, LeftBracket, LeftBrace, Semicolon, Bar, DoubleBar, Ampersand, DoubleAmpersand, Star, Plus, Question, Percent, Begins, Ends, Eps, EndOfText}
+use Rattle.tre_parse.specs.declared.connective.Join.{Join}
+use Rattle.tre_parse.specs.declared.connective.Join.TheVariants.{Sequence, Intersection, Alternation}
 use Rattle.tre_parse.specs.declared.cursor.Stop.{Stop}
 use Rattle.tre_parse.specs.declared.cursor.Stop.TheVariants.{Syntax}
 use Rattle.tre_parse.specs.Operands.{Formula, Operand, RepresentsState, Represents}
-use Rattle.tre_parse.specs.Grammar.{lit, state, SpellsState, expr, meet, seq, post, primary, Spells, expr_meet, expr_bar, meet_seq, meet_ampersand, seq_post, seq_semicolon, post_primary, post_star, post_plus, post_question, post_percent, primary_eps, primary_parens, primary_rise, primary_fall, primary_lit, primary_begins, primary_ends, primary_begins_ends}
-use Rattle.tre_parse.specs.Joins.{edge_of, plain_literal, ended_literal}
+use Rattle.tre_parse.specs.Grammar.{lit, state, SpellsState, expr, post, primary, Spells, expr_meet, expr_bar, meet_seq, meet_ampersand, seq_post, seq_semicolon, post_primary, post_star, post_plus, post_question, post_percent, primary_eps, primary_parens, primary_rise, primary_fall, primary_lit, primary_begins, primary_ends, primary_begins_ends}
+use Rattle.tre_parse.specs.Joins.{edge_of, plain_literal, edged_literal, joined_by, join_sign, joined_rule, joined_part}
 use Rattle.tre_parse.specs.Parts.{IsMadeOf}
 use Rattle.tre_parse.specs.Front.{front}
-use Rattle.tre_parse.specs.Reading.{IsSignAfter, IsPastState, IsPastOperand, IsPastSequence, IsPastIntersection, IsPastExpression, Expects, at_start, in_parens, first_meet, after_bar, first_seq, after_ampersand, first_post, after_semicolon, the_primary, ExpectsSign, ExpectsInterval, BeginsLiteral, BeginsTaken, ExpectsLiteral, the_literal, after_begins, edge_sign, ExpectsState, in_edge, Takes, Stops, ParsesBy, ParsesState, ParsesLiteral, ParsesInterval, ParsesSign, RefusesEnds, SignRefusesEnds}
-use Rattle.tre_parse.proofs.Machine.{Level, StateLevel, Edge, kept, before, after, in_literal, after_edge, before_operand, after_operand, fresh_level, fresh_state_level, start}
+use Rattle.tre_parse.specs.Reading.{IsPast, IsPastState, MayCome, OperandMayCome, StateMayCome, StateOperandMayCome, BeginsLiteral, Accepts, edge_sign, Takes, Stops, ParsesBy, ParsesState, ParsesStateOperand, ParsesInterval, RefusesEnds}
+use Rattle.tre_parse.proofs.Machine.{Level, StateLevel, Edge, Low, Opening, kept, before, after, in_interval, in_literal, after_edge, before_operand, after_operand, fresh_level, fresh_state_level, start}
 use Rattle.tre_parse.proofs.ReadFrom.{read_from}
 use Rattle.tre_parse.proofs.Completeness.{BeginsWithoutEnds, regrouped, interval_reads, reaches, state_reaches, literal_begins, read_spelt}
-use Rattle.tre_parse.proofs.Contexts.{place, framed, edge_opens}
+use Rattle.tre_parse.proofs.Contexts.{IsSignAfter, brings_on, operand_place, sign_place, may_come, operand_may_come, sign_may_come, next_may_come, literal_may_come}
 use Rattle.tre_parse.proofs.SyntaxFaults.{Stuck, after_completes}
-use Rattle.tre_parse.proofs.Steps.{takes_as, takes_one, takes_after, takes_closed, takes_more, IsFault, fault_along, fails_as, fails_after, fails_more, on_stop, stops_here, end_none, fault_behind, fault_past}
-use Rattle.tre_parse.proofs.StateSteps.{past_state}
+use Rattle.tre_parse.proofs.Steps.{takes_as, takes_one, takes_after, takes_closed, takes_more, IsFault, fails_after, fails_more, on_stop, stops_here, end_none, fault_behind, fault_past}
+use Rattle.tre_parse.proofs.StateSteps.{InBrackets, framed, brackets_may_come, brackets_open}
 
--- A stop in a sign, behind any tokens that spell the operand.
-abbrev pub StopsSign : Operand → Stop → List Token → Type 0
-StopsSign x stop old = (xs : List Token) (e : PatternTree) → Spells post xs e → Represents x e → Stops (ExpectsSign xs) stop old
+-- ---- one operand behind the other
 
--- ---- the levels of operands: one begins, goes on after its sign, and stops in the operand after it
+pub first_part : (how : Join) (x : Operand) (old new : List Token) → ParsesBy (joined_part how) (Ok x) old new → Takes (Spells (joined_rule how)) Represents x old new
+first_part Sequence x old new h = takes_as x old new seq_post h
+first_part Intersection x old new h = takes_as x old new meet_seq h
+first_part Alternation x old new h = takes_as x old new expr_meet h
 
-pub first_sequence : (x : Operand) (old new : List Token) → ParsesBy post (Ok x) old new → Takes (Spells seq) Represents x old new
-first_sequence x old new h = takes_as x old new seq_post h
+pub more_parts : (how : Join) (x y z : Operand) (old ts rest new : List Token) → Takes (Spells (joined_rule how)) Represents x old ts → ts ≡ join_sign how ∷ rest →
+    ParsesBy (joined_part how) (Ok y) rest new → ((e f : PatternTree) → Represents x e → Represents y f → Represents z (joined_by how e f)) →
+    Takes (Spells (joined_rule how)) Represents z old new
+more_parts Sequence x y z old ts rest new h f next join = takes_more x y z old ts rest new Semicolon sequence seq_semicolon join h f next
+more_parts Intersection x y z old ts rest new h f next join = takes_more x y z old ts rest new Ampersand intersection meet_ampersand join h f next
+more_parts Alternation x y z old ts rest new h f next join = takes_more x y z old ts rest new Bar alternation expr_bar join h f next
 
-pub more_sequence : (x y z : Operand) (old ts rest new : List Token) → Takes (Spells seq) Represents x old ts → ts ≡ Semicolon ∷ rest → ParsesBy post (Ok y) rest new →
-    ((e f : PatternTree) → Represents x e → Represents y f → Represents z (sequence e f)) → Takes (Spells seq) Represents z old new
-more_sequence x y z old ts rest new h f next join = takes_more x y z old ts rest new Semicolon sequence seq_semicolon join h f next
+pub stop_parts : (how : Join) (stop : Stop) (x : Operand) (old ts rest : List Token) → Takes (Spells (joined_rule how)) Represents x old ts → ts ≡ join_sign how ∷ rest →
+    Stops OperandMayCome stop rest → Stops OperandMayCome stop old
+stop_parts how stop x old ts rest h f next =
+    on_stop stop old rest (λ left. fails_more left x old ts rest (join_sign how) (λ prior xs e k s. next_may_come how prior xs e k s) h f) next
 
-pub stop_sequence : (stop : Stop) (x : Operand) (old ts rest : List Token) → Takes (Spells seq) Represents x old ts → ts ≡ Semicolon ∷ rest →
-    Stops (Expects post) stop rest → Stops (Expects seq) stop old
-stop_sequence stop x old ts rest h f next =
-    on_stop stop old rest (λ left. fails_more left x old ts rest Semicolon (λ prior xs e k s. after_semicolon prior xs e k s) h f) next
-
-pub stop_first_sequence : (stop : Stop) (old : List Token) → Stops (Expects post) stop old → Stops (Expects seq) stop old
-stop_first_sequence stop old h = on_stop stop old old (λ left. fails_as left old first_post) h
-
-pub first_intersection : (x : Operand) (old new : List Token) → ParsesBy seq (Ok x) old new → Takes (Spells meet) Represents x old new
-first_intersection x old new h = takes_as x old new meet_seq h
-
-pub more_intersection : (x y z : Operand) (old ts rest new : List Token) → Takes (Spells meet) Represents x old ts → ts ≡ Ampersand ∷ rest → ParsesBy seq (Ok y) rest new →
-    ((e f : PatternTree) → Represents x e → Represents y f → Represents z (intersection e f)) → Takes (Spells meet) Represents z old new
-more_intersection x y z old ts rest new h f next join = takes_more x y z old ts rest new Ampersand intersection meet_ampersand join h f next
-
-pub stop_intersection : (stop : Stop) (x : Operand) (old ts rest : List Token) → Takes (Spells meet) Represents x old ts → ts ≡ Ampersand ∷ rest →
-    Stops (Expects seq) stop rest → Stops (Expects meet) stop old
-stop_intersection stop x old ts rest h f next =
-    on_stop stop old rest (λ left. fails_more left x old ts rest Ampersand (λ prior xs e k s. after_ampersand prior xs e k s) h f) next
-
-pub stop_first_intersection : (stop : Stop) (old : List Token) → Stops (Expects seq) stop old → Stops (Expects meet) stop old
-stop_first_intersection stop old h = on_stop stop old old (λ left. fails_as left old first_seq) h
-
-pub first_expression : (x : Operand) (old new : List Token) → ParsesBy meet (Ok x) old new → Takes (Spells expr) Represents x old new
-first_expression x old new h = takes_as x old new expr_meet h
-
-pub more_expression : (x y z : Operand) (old ts rest new : List Token) → Takes (Spells expr) Represents x old ts → ts ≡ Bar ∷ rest → ParsesBy meet (Ok y) rest new →
-    ((e f : PatternTree) → Represents x e → Represents y f → Represents z (alternation e f)) → Takes (Spells expr) Represents z old new
-more_expression x y z old ts rest new h f next join = takes_more x y z old ts rest new Bar alternation expr_bar join h f next
-
-pub stop_expression : (stop : Stop) (x : Operand) (old ts rest : List Token) → Takes (Spells expr) Represents x old ts → ts ≡ Bar ∷ rest →
-    Stops (Expects meet) stop rest → Stops (Expects expr) stop old
-stop_expression stop x old ts rest h f next =
-    on_stop stop old rest (λ left. fails_more left x old ts rest Bar (λ prior xs e k s. after_bar prior xs e k s) h f) next
-
-pub stop_first_expression : (stop : Stop) (old : List Token) → Stops (Expects meet) stop old → Stops (Expects expr) stop old
-stop_first_expression stop old h = on_stop stop old old (λ left. fails_as left old first_meet) h
-
--- What ends a level.
-pub ends_sequence : (t : Token) → IsPastOperand t → t ≢ Semicolon → IsPastSequence t
-ends_sequence Semicolon h n = n refl
-ends_sequence Star h n = h
-ends_sequence Plus h n = h
-ends_sequence Question h n = h
-ends_sequence Percent h n = h
-ends_sequence Ends h n = h
-ends_sequence _ h n = tt
-
-pub ends_intersection : (t : Token) → IsPastSequence t → t ≢ Ampersand → IsPastIntersection t
-ends_intersection Ampersand h n = n refl
-ends_intersection Semicolon h n = h
-ends_intersection Star h n = h
-ends_intersection Plus h n = h
-ends_intersection Question h n = h
-ends_intersection Percent h n = h
-ends_intersection Ends h n = h
-ends_intersection _ h n = tt
-
-pub ends_expression : (t : Token) → IsPastIntersection t → t ≢ Bar → IsPastExpression t
-ends_expression Bar h n = n refl
-ends_expression Ampersand h n = h
-ends_expression Semicolon h n = h
-ends_expression Star h n = h
-ends_expression Plus h n = h
-ends_expression Question h n = h
-ends_expression Percent h n = h
-ends_expression Ends h n = h
-ends_expression _ h n = tt
+pub ends_parts : (how : Join) (t : Token) → t ≢ join_sign how → IsPast (joined_part how) t → IsPast (joined_rule how) t
+ends_parts Sequence t n h = (n, h)
+ends_parts Intersection t n h = (n, h.0, h.1)
+ends_parts Alternation t n h = (n, h.0, h.1, h.2)
 
 -- ---- `:>` behind what is no bare literal
 
@@ -115,15 +59,15 @@ ends_stuck : (ts : List Token) (level : Level) (below : List Level) (e : Pattern
 ends_stuck [] level below e h = absurd (cc)
 ends_stuck (t ∷ ts) level below e h = λ more. ap (λ u. read_from (u ∷ more) (kept level below (after e))) h
 
-closed_refuses : (old xs new : List Token) (e : PatternTree) → old ≡ xs ++ new → IsClosed xs e → RefusesEnds (Expects primary) old new
+closed_refuses : (old xs new : List Token) (e : PatternTree) → old ≡ xs ++ new → IsClosed xs e → RefusesEnds OperandMayCome old new
 closed_refuses old xs new e split closed q prior h =
-    let p = place primary prior h in
+    let p = operand_place prior h in
     fault_past prior xs new old (kept p.0 p.1 before) p.0 p.1 (after e) p.2 split (closed p.0 p.1) (ends_stuck new p.0 p.1 e q)
 
-pub eps_refuses : (old new : List Token) → old ≡ Eps ∷ new → RefusesEnds (Expects primary) old new
+pub eps_refuses : (old new : List Token) → old ≡ Eps ∷ new → RefusesEnds OperandMayCome old new
 eps_refuses old new split = closed_refuses old (Eps ∷ []) new (atom empty) split (λ level below rest. refl)
 
-pub parens_refuse : (x : Operand) (old rest ts new : List Token) → old ≡ LeftParen ∷ rest → ParsesBy expr (Ok x) rest ts → ts ≡ RightParen ∷ new → RefusesEnds (Expects primary) old new
+pub parens_refuse : (x : Operand) (old rest ts new : List Token) → old ≡ LeftParen ∷ rest → ParsesBy expr (Ok x) rest ts → ts ≡ RightParen ∷ new → RefusesEnds OperandMayCome old new
 parens_refuse x old rest ts new f h e =
     closed_refuses old (LeftParen ∷ (h.taken ++ RightParen ∷ [])) new h.tree
     (f ∙ ap (λ l. LeftParen ∷ l) (h.split ∙ ap (λ l. h.taken ++ l) e ∙ sym (append_assoc h.taken (RightParen ∷ []) new)))
@@ -131,51 +75,42 @@ parens_refuse x old rest ts new f h e =
     let r = reaches expr h.taken h.tree h.spells (level ∷ below) (RightParen ∷ more) tt in
     regrouped h.taken RightParen more (kept fresh_level (level ∷ below) before) ∙ r.reads ∙ ap (λ u. read_from more (kept level below (after u))) r.joins)
 
-sign_refuses : (x : Operand) (old ys new : List Token) → old ≡ ys ++ new →
-    ((xs : List Token) (e : PatternTree) → Spells post xs e → (f : PatternTree) × IsClosed (xs ++ ys) f) → SignRefusesEnds x old new
-sign_refuses x old ys new split closed xs e k q whole h =
-    let p = place post h.prior h.expects in
-    let c = closed xs e k in
-    subst (IsFault (length new)) (sym (append_assoc h.prior xs old) ∙ ap (λ l. l ++ old) (sym h.split))
-    (fault_past h.prior (xs ++ ys) new (xs ++ old) (kept p.0 p.1 before) p.0 p.1 (after c.0) p.2
-    (ap (λ l. xs ++ l) split ∙ sym (append_assoc xs ys new)) (c.1 p.0 p.1) (ends_stuck new p.0 p.1 c.0 q))
+-- Behind a sign too.
+pub sign_refuses : (old ys new : List Token) (make : PatternTree → PatternTree) (sign : Token) (tail : List Token) → IsSignAfter sign → ys ≡ sign ∷ tail → old ≡ ys ++ new →
+    ((level : Level) (below : List Level) (x : PatternTree) (more : List Token) → read_from (ys ++ more) (kept level below (after x)) ≡ read_from more (kept level below (after (make x)))) →
+    RefusesEnds (MayCome (Star ∷ [])) old new
+sign_refuses old ys new make sign tail i first split leads q prior h =
+    let p = sign_place prior h in
+    let same : (more : List Token) → read_from (ys ++ more) (kept p.level p.below p.there) ≡ read_from (ys ++ more) (kept p.level p.below (after p.operand)) =
+    λ more. rw first (p.same sign i (tail ++ more)) in
+    fault_past prior ys new old (kept p.level p.below p.there) p.level p.below (after (make p.operand)) p.brings split
+    (λ more. same more ∙ leads p.level p.below p.operand more) (ends_stuck new p.level p.below (make p.operand) q)
 
-pub star_refuses : (x : Operand) (old new : List Token) → old ≡ Star ∷ new → SignRefusesEnds x old new
-star_refuses x old new f =
-    sign_refuses x old (Star ∷ []) new f (λ xs e k. (repetition e, λ level below rest. regrouped xs Star rest (kept level below before) ∙ reaches post xs e k level below (Star ∷ rest) tt))
+pub star_refuses : (old new : List Token) → old ≡ Star ∷ new → RefusesEnds (MayCome (Star ∷ [])) old new
+star_refuses old new f = sign_refuses old (Star ∷ []) new (λ x. repetition x) Star [] tt refl f (λ level below x more. refl)
 
-pub plus_refuses : (x : Operand) (old new : List Token) → old ≡ Plus ∷ new → SignRefusesEnds x old new
-plus_refuses x old new f =
-    sign_refuses x old (Plus ∷ []) new f
-    (λ xs e k. (sequence e (repetition e), λ level below rest. regrouped xs Plus rest (kept level below before) ∙ reaches post xs e k level below (Plus ∷ rest) tt))
+pub plus_refuses : (old new : List Token) → old ≡ Plus ∷ new → RefusesEnds (MayCome (Star ∷ [])) old new
+plus_refuses old new f = sign_refuses old (Plus ∷ []) new (λ x. sequence x (repetition x)) Plus [] tt refl f (λ level below x more. refl)
 
-pub question_refuses : (x : Operand) (old new : List Token) → old ≡ Question ∷ new → SignRefusesEnds x old new
-question_refuses x old new f =
-    sign_refuses x old (Question ∷ []) new f
-    (λ xs e k. (alternation e (atom empty), λ level below rest. regrouped xs Question rest (kept level below before) ∙ reaches post xs e k level below (Question ∷ rest) tt))
+pub question_refuses : (old new : List Token) → old ≡ Question ∷ new → RefusesEnds (MayCome (Star ∷ [])) old new
+question_refuses old new f = sign_refuses old (Question ∷ []) new (λ x. alternation x (atom empty)) Question [] tt refl f (λ level below x more. refl)
 
-pub percent_refuses : (x : Operand) (interval : Option IntervalEnds) (old rest new : List Token) → old ≡ Percent ∷ rest → ParsesInterval (Ok interval) rest new → SignRefusesEnds x old new
-percent_refuses x interval old rest new f h =
-    sign_refuses x old (Percent ∷ h.taken) new (f ∙ ap (λ l. Percent ∷ l) h.split)
-    (λ xs e k. (
-      restriction e h.tree,
-      λ level below more.
-          ap (λ l. read_from l (kept level below before)) (append_assoc xs (Percent ∷ h.taken) more)
-          ∙ reaches post xs e k level below (Percent ∷ (h.taken ++ more)) tt ∙ interval_reads h.taken h.tree h.spells level below e more,
-    ))
+pub percent_refuses : (interval : Option IntervalEnds) (old rest new : List Token) → old ≡ Percent ∷ rest → ParsesInterval (Ok interval) rest new → RefusesEnds (MayCome (Star ∷ [])) old new
+percent_refuses interval old rest new f h =
+    sign_refuses old (Percent ∷ h.taken) new (λ x. restriction x h.tree) Percent h.taken tt refl (f ∙ ap (λ l. Percent ∷ l) h.split)
+    (λ level below x more. interval_reads h.taken h.tree h.spells level below x more)
 
 -- ---- a primary and the signs behind it
 
 pub first_operand : (x : Operand) (old new : List Token) → ParsesBy primary (Ok x) old new → Takes (Spells post) Represents x old new
 first_operand x old new h = takes_as x old new post_primary h
 
-pub stop_first_operand : (stop : Stop) (old : List Token) → Stops (Expects primary) stop old → Stops (Expects post) stop old
-stop_first_operand stop old h = on_stop stop old old (λ left. fails_as left old the_primary) h
+-- One sign more, behind tokens that spell the operand.
+abbrev TakesSign : Operand → Operand → List Token → List Token → Type 0
+TakesSign x y old new =
+    (xs : List Token) (e : PatternTree) → Spells post xs e → Represents x e → Takes (λ ys f. Spells post (xs ++ ys) f) Represents y old new
 
-pub first_refuses : (old new : List Token) → RefusesEnds (Expects primary) old new → RefusesEnds (Expects post) old new
-first_refuses old new h q = fails_as (length new) old the_primary (h q)
-
-pub more_operand : (x y : Operand) (old ts new : List Token) → Takes (Spells post) Represents x old ts → ParsesSign x (Ok y) ts new → Takes (Spells post) Represents y old new
+pub more_operand : (x y : Operand) (old ts new : List Token) → Takes (Spells post) Represents x old ts → TakesSign x y ts new → Takes (Spells post) Represents y old new
 more_operand x y old ts new h next =
     let s = next h.taken h.tree h.spells h.stands in
     record {
@@ -186,48 +121,37 @@ more_operand x y old ts new h next =
       stands = s.stands;
     }
 
-pub stop_operand : (stop : Stop) (x : Operand) (old ts : List Token) → Takes (Spells post) Represents x old ts → StopsSign x stop ts → Stops (Expects post) stop old
-stop_operand stop x old ts h next =
-    on_stop stop old ts (λ left. fails_after left old h.taken ts h.split (λ prior k. record { prior = prior; expects = k; split = refl })) (next h.taken h.tree h.spells h.stands)
+pub stop_operand : (stop : Stop) (x : Operand) (old ts : List Token) → Takes (Spells post) Represents x old ts → Stops (MayCome (Star ∷ [])) stop ts → Stops OperandMayCome stop old
+stop_operand stop x old ts h next = on_stop stop old ts (λ left. fails_after left old h.taken ts h.split (λ prior k. sign_may_come prior h.taken h.tree k h.spells)) next
 
-pub more_refuses : (x : Operand) (old ts new : List Token) → Takes (Spells post) Represents x old ts → SignRefusesEnds x ts new → RefusesEnds (Expects post) old new
-more_refuses x old ts new h next q =
-    fails_after (length new) old h.taken ts h.split (λ prior k. record { prior = prior; expects = k; split = refl }) (next h.taken h.tree h.spells q)
+pub more_refuses : (x : Operand) (old ts new : List Token) → Takes (Spells post) Represents x old ts → RefusesEnds (MayCome (Star ∷ [])) ts new → RefusesEnds OperandMayCome old new
+more_refuses x old ts new h next q = fails_after (length new) old h.taken ts h.split (λ prior k. sign_may_come prior h.taken h.tree k h.spells) (next q)
 
 -- ---- signs
 
-pub percent_left : (t : Token) → IsSignAfter t → t ≢ Star → t ≢ Plus → t ≢ Question → t ≡ Percent
-percent_left Star h a b c = absurd (a refl)
-percent_left Plus h a b c = absurd (b refl)
-percent_left Question h a b c = absurd (c refl)
-percent_left Percent h a b c = refl
-percent_left _ h a b c = absurd h
-
-pub star_sign : (x y : Operand) (old rest : List Token) → old ≡ Star ∷ rest → ((e : PatternTree) → Represents x e → Represents y (repetition e)) → ParsesSign x (Ok y) old rest
+pub star_sign : (x y : Operand) (old rest : List Token) → old ≡ Star ∷ rest → ((e : PatternTree) → Represents x e → Represents y (repetition e)) → TakesSign x y old rest
 star_sign x y old rest f make xs e k h = takes_one y old rest Star (repetition e) f (post_star xs e k) (make e h)
 
-pub plus_sign : (x y : Operand) (old rest : List Token) → old ≡ Plus ∷ rest → ((e : PatternTree) → Represents x e → Represents y (sequence e (repetition e))) → ParsesSign x (Ok y) old rest
+pub plus_sign : (x y : Operand) (old rest : List Token) → old ≡ Plus ∷ rest → ((e : PatternTree) → Represents x e → Represents y (sequence e (repetition e))) → TakesSign x y old rest
 plus_sign x y old rest f make xs e k h = takes_one y old rest Plus (sequence e (repetition e)) f (post_plus xs e k) (make e h)
 
 pub question_sign : (x y : Operand) (old rest : List Token) → old ≡ Question ∷ rest → ((e : PatternTree) → Represents x e → Represents y (alternation e (atom empty))) →
-    ParsesSign x (Ok y) old rest
+    TakesSign x y old rest
 question_sign x y old rest f make xs e k h = takes_one y old rest Question (alternation e (atom empty)) f (post_question xs e k) (make e h)
 
 pub percent_sign : (x y : Operand) (interval : Option IntervalEnds) (old rest new : List Token) → old ≡ Percent ∷ rest → ParsesInterval (Ok interval) rest new →
-    ((e : PatternTree) (ends : IntervalEnds) → IsMadeOf interval ends → Represents x e → Represents y (restriction e ends)) → ParsesSign x (Ok y) old new
+    ((e : PatternTree) (ends : IntervalEnds) → IsMadeOf interval ends → Represents x e → Represents y (restriction e ends)) → TakesSign x y old new
 percent_sign x y interval old rest new f i make xs e k h =
     takes_after interval y (Percent ∷ []) old rest new (restriction e) f (λ ys ends s. post_percent xs ys e ends k s) (λ ends m. make e ends m h) i
 
-pub percent_stop : (stop : Stop) (x : Operand) (old rest : List Token) → old ≡ Percent ∷ rest → Stops ExpectsInterval stop rest → StopsSign x stop old
-percent_stop stop x old rest f i xs e k h =
+pub percent_stop : (stop : Stop) (old rest : List Token) → old ≡ Percent ∷ rest → Stops (MayCome (LeftBracket ∷ [])) stop rest → Stops (MayCome (Star ∷ [])) stop old
+percent_stop stop old rest f i =
     on_stop stop old rest
     (λ left. fails_after left old (Percent ∷ []) rest f
-    (λ prior s. record {
-      xs = xs;
-      operand = e;
-      spells = k;
-      expects = record { prior = s.prior; expects = s.expects; split = ap (λ l. l ++ Percent ∷ []) s.split ∙ append_assoc s.prior xs (Percent ∷ []) };
-    })) i
+    (λ prior k.
+    let p = sign_place prior k in
+    may_come (prior ++ Percent ∷ []) (LeftBracket ∷ []) (kept p.level p.below (in_interval p.operand Opening)) p.level p.below (in_interval p.operand (Low true))
+    (brings_on prior (Percent ∷ []) (kept p.level p.below p.there) (kept p.level p.below (in_interval p.operand Opening)) p.brings (p.same Percent tt)) (λ rest. refl))) i
 
 -- ---- primaries
 
@@ -237,51 +161,59 @@ eps_reads x old rest f h = takes_one x old rest Eps (atom empty) f primary_eps h
 pub parens_read : (x : Operand) (old rest ts new : List Token) → old ≡ LeftParen ∷ rest → ParsesBy expr (Ok x) rest ts → ts ≡ RightParen ∷ new → ParsesBy primary (Ok x) old new
 parens_read x old rest ts new f h e = takes_closed x x (LeftParen ∷ []) old rest ts new RightParen (λ t. t) f e primary_parens (λ t k. k) h
 
-pub parens_stop : (stop : Stop) (old rest : List Token) → old ≡ LeftParen ∷ rest → Stops (Expects expr) stop rest → Stops (Expects primary) stop old
-parens_stop stop old rest f h = on_stop stop old rest (λ left. fails_after left old (LeftParen ∷ []) rest f in_parens) h
+pub parens_stop : (stop : Stop) (old rest : List Token) → old ≡ LeftParen ∷ rest → Stops OperandMayCome stop rest → Stops OperandMayCome stop old
+parens_stop stop old rest f h =
+    on_stop stop old rest
+    (λ left. fails_after left old (LeftParen ∷ []) rest f
+    (λ prior k.
+    let p = operand_place prior k in
+    operand_may_come (prior ++ LeftParen ∷ []) fresh_level (p.0 ∷ p.1) (brings_on prior (LeftParen ∷ []) (kept p.0 p.1 before) _ p.2 (λ rest. refl)))) h
 
 -- What doesn't go on with an expression isn't `:>`.
-no_ends : (t : Token) (more : List Token) → IsPastExpression t → BeginsWithoutEnds (t ∷ more)
-no_ends Ends more h = h
+no_ends : (t : Token) (more : List Token) → IsPast expr t → BeginsWithoutEnds (t ∷ more)
+no_ends Ends more h = h.3.4 refl
 no_ends _ more h = tt
 
 -- An expression is read to its end, and the next token stands nowhere behind it.
-past_expression : (xs ts : List Token) (below : List Level) (e : PatternTree) → Spells expr xs e → IsPastExpression (front ts) →
+past_expression : (xs ts : List Token) (below : List Level) (e : PatternTree) → Spells expr xs e → IsPast expr (front ts) →
     ((level : Level) (last : PatternTree) → Stuck [] ts (kept level below (after last))) → Stuck xs ts (kept fresh_level below before)
 past_expression xs [] below e k ends stuck = let r = reaches expr xs e k below [] tt in r.reads ∙ stuck r.level r.operand
 past_expression xs (t ∷ others) below e k ends stuck = λ more.
     let r = reaches expr xs e k below (t ∷ more) (no_ends t more ends) in
     r.reads ∙ stuck r.level r.operand more
 
-open_stuck : (ts : List Token) (outer : Level) (below : List Level) (level : Level) (e : PatternTree) → IsPastExpression (front ts) → front ts ≢ RightParen →
-    Stuck [] ts (kept level (outer ∷ below) (after e))
-open_stuck [] outer below level e h n = refl
-open_stuck (Bar ∷ ts) outer below level e h n = absurd h
-open_stuck (Ampersand ∷ ts) outer below level e h n = absurd h
-open_stuck (Semicolon ∷ ts) outer below level e h n = absurd h
-open_stuck (Star ∷ ts) outer below level e h n = absurd h
-open_stuck (Plus ∷ ts) outer below level e h n = absurd h
-open_stuck (Question ∷ ts) outer below level e h n = absurd h
-open_stuck (Percent ∷ ts) outer below level e h n = absurd h
-open_stuck (Ends ∷ ts) outer below level e h n = absurd h
-open_stuck (RightParen ∷ ts) outer below level e h n = absurd (n refl)
-open_stuck (_ ∷ ts) outer below level e h n = λ more. refl
+-- Behind an expression a token that doesn't go on with it stands only if it closes a parenthesis.
+past_stuck : (ts : List Token) (level : Level) (below : List Level) (e : PatternTree) → IsPast expr (front ts) → Stuck [] (RightParen ∷ []) (kept level below (after e)) ⊎ (front ts ≢ RightParen) →
+    (ts ≡ [] → Stuck [] [] (kept level below (after e))) → Stuck [] ts (kept level below (after e))
+past_stuck [] level below e h n end = end refl
+past_stuck (Bar ∷ ts) level below e h n end = absurd (h.0 refl)
+past_stuck (Ampersand ∷ ts) level below e h n end = absurd (h.1 refl)
+past_stuck (Semicolon ∷ ts) level below e h n end = absurd (h.2 refl)
+past_stuck (Star ∷ ts) level below e h n end = absurd (h.3.0 refl)
+past_stuck (Plus ∷ ts) level below e h n end = absurd (h.3.1 refl)
+past_stuck (Question ∷ ts) level below e h n end = absurd (h.3.2 refl)
+past_stuck (Percent ∷ ts) level below e h n end = absurd (h.3.3 refl)
+past_stuck (Ends ∷ ts) level below e h n end = absurd (h.3.4 refl)
+past_stuck (RightParen ∷ ts) level below e h (inl k) end = k
+past_stuck (RightParen ∷ ts) level below e h (inr n) end = absurd (n refl)
+past_stuck (_ ∷ ts) level below e h n end = λ more. refl
 
 opened : (xs ts : List Token) (level : Level) (below : List Level) → Stuck xs ts (kept fresh_level (level ∷ below) before) → Stuck (LeftParen ∷ xs) ts (kept level below before)
 opened xs [] level below k = k
 opened xs (t ∷ others) level below k = k
 
-pub parens_open : (stop : Stop) (x : Operand) (old rest ts : List Token) → old ≡ LeftParen ∷ rest → ParsesBy expr (Ok x) rest ts → IsPastExpression (front ts) →
-    (stop ≡ Syntax (length ts)) × (front ts ≢ RightParen) → Stops (Expects primary) stop old
+pub parens_open : (stop : Stop) (x : Operand) (old rest ts : List Token) → old ≡ LeftParen ∷ rest → ParsesBy expr (Ok x) rest ts → IsPast expr (front ts) →
+    (stop ≡ Syntax (length ts)) × (front ts ≢ RightParen) → Stops OperandMayCome stop old
 parens_open stop x old rest ts f h ends c =
     stops_here stop (length ts) old c.0
     (λ prior k.
-    let p = place primary prior k in
+    let p = operand_place prior k in
     let done = after_completes p.1 p.0 h.tree in
     let r = reaches expr h.taken h.tree h.spells (p.0 ∷ p.1) (RightParen ∷ done.rest) tt in
     fault_behind prior (LeftParen ∷ h.taken) ts old (RightParen ∷ done.rest) (kept p.0 p.1 before) done.tree p.2 (f ∙ ap (λ l. LeftParen ∷ l) h.split)
     (r.reads ∙ ap (λ u. read_from done.rest (kept p.0 p.1 (after u))) r.joins ∙ done.reads)
-    (opened h.taken ts p.0 p.1 (past_expression h.taken ts (p.0 ∷ p.1) h.tree h.spells ends (λ level last. open_stuck ts p.0 p.1 level last ends c.1))))
+    (opened h.taken ts p.0 p.1
+    (past_expression h.taken ts (p.0 ∷ p.1) h.tree h.spells ends (λ level last. past_stuck ts level (p.0 ∷ p.1) last ends (inr c.1) (λ e. refl)))))
 
 -- ---- edges
 
@@ -302,7 +234,7 @@ edge_reads x y rises old us ts new f h e make =
     takes_closed x y (edge_sign rises ∷ LeftParen ∷ []) old us ts new RightParen (edge_of rises) f e (edge_spelt rises) make h
 
 pub edge_refuses : (x : Formula) (rises : Bool) (old us ts new : List Token) → old ≡ (edge_sign rises ∷ LeftParen ∷ []) ++ us → ParsesState state (Ok x) us ts →
-    ts ≡ RightParen ∷ new → RefusesEnds (Expects primary) old new
+    ts ≡ RightParen ∷ new → RefusesEnds OperandMayCome old new
 edge_refuses x rises old us ts new f h e =
     closed_refuses old (edge_sign rises ∷ LeftParen ∷ (h.taken ++ RightParen ∷ [])) new (edge_of rises h.tree)
     (f ∙ ap (λ l. edge_sign rises ∷ LeftParen ∷ l) (h.split ∙ ap (λ l. h.taken ++ l) e ∙ sym (append_assoc h.taken (RightParen ∷ []) new)))
@@ -318,38 +250,46 @@ edge_refuses x rises old us ts new f h e =
         regrouped h.taken RightParen more (before_operand (framed level below (Edge false)) (fresh_state_level 0) 0) ∙ r.reads
         ∙ ap (λ u. read_from more (kept level below (after (atom (fall u))))) r.joins
 
-pub edge_stop : (stop : Stop) (rises : Bool) (old us : List Token) → old ≡ (edge_sign rises ∷ LeftParen ∷ []) ++ us → Stops (ExpectsState state) stop us →
-    Stops (Expects primary) stop old
-edge_stop stop rises old us f h = on_stop stop old us (λ left. fails_after left old (edge_sign rises ∷ LeftParen ∷ []) us f (λ prior k. in_edge prior rises k)) h
+edge_inside : (rises : Bool) (prior : List Token) → OperandMayCome prior → InBrackets (edge_sign rises ∷ LeftParen ∷ []) RightParen prior
+edge_inside rises prior h =
+    let p = operand_place prior h in
+    record {
+      around = framed p.0 p.1 (Edge rises);
+      bangs = 0;
+      opens = brings_on prior (edge_sign rises ∷ LeftParen ∷ []) (kept p.0 p.1 before) _ p.2 (opens rises p.0 p.1);
+      closes = λ s.
+          let done = after_completes p.1 p.0 (edge_of rises s) in
+          (done.rest, done.tree, λ bars waiting operand e. ap (λ u. read_from done.rest (kept p.0 p.1 (after (edge_of rises u)))) e ∙ done.reads);
+      stuck = stuck p.0 p.1;
+    }
+  where
+    opens : (r : Bool) (level : Level) (below : List Level) (rest : List Token) →
+        read_from (edge_sign r ∷ LeftParen ∷ rest) (kept level below before) ≡ read_from rest (before_operand (framed level below (Edge r)) (fresh_state_level 0) 0)
+    opens true level below rest = refl
+    opens false level below rest = refl
 
-edge_stuck : (ts : List Token) (level : Level) (below : List Level) (rises : Bool) (inner : StateLevel) (last : StateTree) → IsPastState (front ts) → front ts ≢ RightParen →
-    Stuck [] ts (after_operand (framed level below (Edge rises)) inner last)
-edge_stuck [] level below rises inner last h n = end_none level below _ refl
-edge_stuck (DoubleBar ∷ ts) level below rises inner last h n = absurd h
-edge_stuck (DoubleAmpersand ∷ ts) level below rises inner last h n = absurd h
-edge_stuck (RightParen ∷ ts) level below rises inner last h n = absurd (n refl)
-edge_stuck (_ ∷ ts) level below rises inner last h n = λ more. refl
+    stuck : (level : Level) (below : List Level) (ts : List Token) (inner : StateLevel) (last : StateTree) → IsPastState state (front ts) → front ts ≢ RightParen →
+        Stuck [] ts (after_operand (framed level below (Edge rises)) inner last)
+    stuck level below [] inner last h n = end_none level below _ refl
+    stuck level below (DoubleBar ∷ ts) inner last h n = absurd (h.0 refl)
+    stuck level below (DoubleAmpersand ∷ ts) inner last h n = absurd (h.1 refl)
+    stuck level below (RightParen ∷ ts) inner last h n = absurd (n refl)
+    stuck level below (_ ∷ ts) inner last h n = λ more. refl
+
+pub edge_stop : (stop : Stop) (rises : Bool) (old us : List Token) → old ≡ (edge_sign rises ∷ LeftParen ∷ []) ++ us → Stops StateMayCome stop us → Stops OperandMayCome stop old
+edge_stop stop rises old us f h =
+    on_stop stop old us
+    (λ left. fails_after left old (edge_sign rises ∷ LeftParen ∷ []) us f (λ prior k. brackets_may_come (edge_sign rises ∷ LeftParen ∷ []) RightParen prior (edge_inside rises prior k))) h
 
 pub edge_open : (stop : Stop) (x : Formula) (rises : Bool) (old us ts : List Token) → old ≡ (edge_sign rises ∷ LeftParen ∷ []) ++ us → ParsesState state (Ok x) us ts →
-    IsPastState (front ts) → (stop ≡ Syntax (length ts)) × (front ts ≢ RightParen) → Stops (Expects primary) stop old
-edge_open stop x rises old us ts f h ends c =
-    stops_here stop (length ts) old c.0
-    (λ prior k.
-    let p = place primary prior k in
-    let s = framed p.0 p.1 (Edge rises) in
-    let done = after_completes p.1 p.0 (edge_of rises h.tree) in
-    let r = state_reaches state h.taken h.tree h.spells p.0 p.1 (Edge rises) [] 0 (RightParen ∷ done.rest) in
-    fault_along (length ts) prior (edge_sign rises ∷ LeftParen ∷ []) us old f
-    (fault_behind (prior ++ edge_sign rises ∷ LeftParen ∷ []) h.taken ts us (RightParen ∷ done.rest) (before_operand s (fresh_state_level 0) 0) done.tree
-    (edge_opens prior rises p.0 p.1 p.2) h.split
-    (r.reads ∙ ap (λ u. read_from done.rest (kept p.0 p.1 (after (edge_of rises u)))) r.joins ∙ done.reads)
-    (past_state h.taken ts s 0 h.tree h.spells (λ inner last. edge_stuck ts p.0 p.1 rises inner last ends c.1))))
+    IsPastState state (front ts) → (stop ≡ Syntax (length ts)) × (front ts ≢ RightParen) → Stops OperandMayCome stop old
+edge_open stop x rises old us ts f h ends c = brackets_open (edge_sign rises ∷ LeftParen ∷ []) RightParen stop x old us ts (edge_inside rises) f h ends c
 
-pub edge_unopened : (stop : Stop) (rises : Bool) (old rest : List Token) → old ≡ edge_sign rises ∷ rest → (stop ≡ Syntax (length rest)) × (front rest ≢ LeftParen) → Stops (Expects primary) stop old
+pub edge_unopened : (stop : Stop) (rises : Bool) (old rest : List Token) → old ≡ edge_sign rises ∷ rest → (stop ≡ Syntax (length rest)) × (front rest ≢ LeftParen) → Stops OperandMayCome stop old
 edge_unopened stop rises old rest f c =
     stops_here stop (length rest) old c.0
     (λ prior k.
-    let p = place primary prior k in
+    let p = operand_place prior k in
     fault_past prior (edge_sign rises ∷ []) rest old (kept p.0 p.1 before) p.0 p.1 (after_edge rises) p.2 f (leads rises p.0 p.1) (unopened rest p.0 p.1 c.1))
   where
     leads : (r : Bool) (level : Level) (below : List Level) (more : List Token) → read_from (edge_sign r ∷ more) (kept level below before) ≡ read_from more (kept level below (after_edge r))
@@ -363,61 +303,54 @@ edge_unopened stop rises old rest f c =
 
 -- ---- literals
 
-pub literal_stop : (stop : Stop) (begins : Bool) (old ts : List Token) → BeginsLiteral (front old) → BeginsTaken begins old ts → Stops (λ prior. ExpectsLiteral prior (front ts)) stop ts →
-    Stops (Expects primary) stop old
+pub literal_stop : (stop : Stop) (begins : Bool) (old ts : List Token) → BeginsLiteral (front old) → Accepts Begins begins old ts → Stops (StateOperandMayCome true (front ts)) stop ts →
+    Stops OperandMayCome stop old
 literal_stop stop true old ts first b h =
-    on_stop stop old ts (λ left. fails_after left old (Begins ∷ []) ts b (λ prior k. after_begins prior (front ts) k)) h
+    on_stop stop old ts
+    (λ left. fails_after left old (Begins ∷ []) ts b
+    (λ prior k.
+    let p = operand_place prior k in
+    literal_may_come (prior ++ Begins ∷ []) p.0 p.1 true 0 (brings_on prior (Begins ∷ []) (kept p.0 p.1 before) _ p.2 (λ rest. refl)) (front ts))) h
 literal_stop stop false old ts first b h =
     on_stop stop old ts
-    (λ left. fails_after left old [] ts (sym b.0)
-    (λ prior k.
-    let P = λ (l : List Token). ExpectsLiteral l (front ts) in
-    let Q = λ (t : Token). ExpectsLiteral prior t in
-    subst P (sym (append-nil prior)) (subst Q (ap front (sym b.0)) (the_literal prior (front old) k first b.1)))) h
+    (λ left k prior m.
+    let p = operand_place prior m in
+    let brace = may_come prior (LeftBrace ∷ []) (kept p.0 p.1 before) p.0 p.1 _ p.2 (λ rest. refl) in
+    let next : BeginsLiteral (front ts) × (front ts ≢ Begins) = rw b.0 (first, b.1) in
+    let P = λ (l : List Token). IsFault left (prior ++ l) in
+    subst P b.0 (k prior (brace, λ q. next))) h
 
-pub literal_ended : (x : Formula) (y : Operand) (begins : Bool) (old ts us new : List Token) → BeginsTaken begins old ts → ParsesLiteral (Ok x) ts us → us ≡ Ends ∷ new →
-    ((s : StateTree) → RepresentsState x s → Represents y (ended_literal begins s)) → ParsesBy primary (Ok y) old new
-literal_ended x y true old ts us new b h e make = takes_closed x y (Begins ∷ []) old ts us new Ends (ended_literal true) b e primary_begins_ends make h
-literal_ended x y false old ts us new b h e make = takes_closed x y [] old ts us new Ends (ended_literal false) (sym b.0) e primary_ends make h
+ends_there : (x : Formula) (ts us new : List Token) → new ≡ us → ParsesStateOperand true (Ok x) ts us → ParsesStateOperand true (Ok x) ts new
+ends_there x ts us new e h = let P = λ (l : List Token). ParsesStateOperand true (Ok x) ts l in subst P (sym e) h
 
-pub literal_plain : (x : Formula) (y : Operand) (begins : Bool) (old ts new : List Token) → BeginsTaken begins old ts → ParsesLiteral (Ok x) ts new →
-    ((s : StateTree) → RepresentsState x s → Represents y (plain_literal begins s)) → ParsesBy primary (Ok y) old new
-literal_plain x y true old ts new b h make = takes_after x y (Begins ∷ []) old ts new (plain_literal true) b primary_begins make h
-literal_plain x y false old ts new b h make = takes_after x y [] old ts new (plain_literal false) (sym b.0) primary_lit make h
+pub literal_reads : (x : Formula) (y : Operand) (begins ends : Bool) (old ts us new : List Token) → Accepts Begins begins old ts → ParsesStateOperand true (Ok x) ts us → Accepts Ends ends us new →
+    ((s : StateTree) → RepresentsState x s → Represents y (edged_literal begins ends s)) → ParsesBy primary (Ok y) old new
+literal_reads x y true true old ts us new b h e make = takes_closed x y (Begins ∷ []) old ts us new Ends (λ s. edged_literal true true s) b e primary_begins_ends make h
+literal_reads x y false true old ts us new b h e make = takes_closed x y [] old ts us new Ends (λ s. edged_literal false true s) (sym b.0) e primary_ends make h
+literal_reads x y true false old ts us new b h e make = takes_after x y (Begins ∷ []) old ts new (plain_literal true) b primary_begins make (ends_there x ts us new e.0 h)
+literal_reads x y false false old ts us new b h e make = takes_after x y [] old ts new (plain_literal false) (sym b.0) primary_lit make (ends_there x ts us new e.0 h)
 
-pub ended_refuses : (x : Formula) (begins : Bool) (old ts us new : List Token) → BeginsTaken begins old ts → ParsesLiteral (Ok x) ts us → us ≡ Ends ∷ new → RefusesEnds (Expects primary) old new
-ended_refuses x true old ts us new b h e =
-    closed_refuses old (Begins ∷ (h.taken ++ Ends ∷ [])) new (ended_literal true h.tree)
+pub literal_refuses : (x : Formula) (begins ends : Bool) (old ts us new : List Token) → Accepts Begins begins old ts → ParsesStateOperand true (Ok x) ts us → Accepts Ends ends us new →
+    RefusesEnds OperandMayCome old new
+literal_refuses x true true old ts us new b h e =
+    closed_refuses old (Begins ∷ (h.taken ++ Ends ∷ [])) new (edged_literal true true h.tree)
     (b ∙ ap (λ l. Begins ∷ l) (h.split ∙ ap (λ l. h.taken ++ l) e ∙ sym (append_assoc h.taken (Ends ∷ []) new)))
     (λ level below more. regrouped h.taken Ends more (kept level below (in_literal true 0)) ∙ state_reaches lit h.taken h.tree h.spells level below true 0 (Ends ∷ more))
-ended_refuses x false old ts us new b h e =
-    closed_refuses old (h.taken ++ Ends ∷ []) new (ended_literal false h.tree)
+literal_refuses x false true old ts us new b h e =
+    closed_refuses old (h.taken ++ Ends ∷ []) new (edged_literal false true h.tree)
     (sym b.0 ∙ h.split ∙ ap (λ l. h.taken ++ l) e ∙ sym (append_assoc h.taken (Ends ∷ []) new))
     (λ level below more.
     regrouped h.taken Ends more (kept level below before) ∙ literal_begins lit h.taken h.tree h.spells refl level below (Ends ∷ more)
     ∙ state_reaches lit h.taken h.tree h.spells level below false 0 (Ends ∷ more))
-
-pub plain_refuses : (old new : List Token) → front new ≢ Ends → RefusesEnds (Expects primary) old new
-plain_refuses old new n q = absurd (n q)
+literal_refuses x begins false old ts us new b h e = λ q. absurd (e.1 (ap front (sym e.0) ∙ q))
 
 -- ---- all the tokens
 
-pub whole_stop : (stop : Stop) (old : List Token) → Stops (Expects expr) stop old → Stops (λ prior. prior ≡ []) stop old
-whole_stop stop old h = on_stop stop old old (λ left k prior e. k prior (subst (Expects expr) (sym e) at_start)) h
+pub whole_stop : (stop : Stop) (old : List Token) → Stops OperandMayCome stop old → Stops (λ prior. prior ≡ []) stop old
+whole_stop stop old h =
+    on_stop stop old old (λ left k prior e. k prior (subst (λ l. OperandMayCome l) (sym e) (operand_may_come [] fresh_level [] (λ rest. refl)))) h
 
-rest_stuck : (ts : List Token) (level : Level) (e : PatternTree) → IsPastExpression (front ts) → (ts ≡ [] → ⊥) → Stuck [] ts (kept level [] (after e))
-rest_stuck [] level e h n = absurd (n refl)
-rest_stuck (Bar ∷ ts) level e h n = absurd h
-rest_stuck (Ampersand ∷ ts) level e h n = absurd h
-rest_stuck (Semicolon ∷ ts) level e h n = absurd h
-rest_stuck (Star ∷ ts) level e h n = absurd h
-rest_stuck (Plus ∷ ts) level e h n = absurd h
-rest_stuck (Question ∷ ts) level e h n = absurd h
-rest_stuck (Percent ∷ ts) level e h n = absurd h
-rest_stuck (Ends ∷ ts) level e h n = absurd h
-rest_stuck (_ ∷ ts) level e h n = λ more. refl
-
-pub whole_rest : (stop : Stop) (x : Operand) (old ts : List Token) → ParsesBy expr (Ok x) old ts → IsPastExpression (front ts) → (ts ≡ [] → ⊥) → stop ≡ Syntax (length ts) →
+pub whole_rest : (stop : Stop) (x : Operand) (old ts : List Token) → ParsesBy expr (Ok x) old ts → IsPast expr (front ts) → (ts ≡ [] → ⊥) → stop ≡ Syntax (length ts) →
     Stops (λ prior. prior ≡ []) stop old
 whole_rest stop x old ts h ends n e =
     stops_here stop (length ts) old e
@@ -426,4 +359,4 @@ whole_rest stop x old ts h ends n e =
     let whole = ap (λ l. read_from l start) (append-nil h.taken) ∙ read_spelt h.taken h.tree h.spells in
     subst P (sym q)
     (fault_behind [] h.taken ts old [] start h.tree (λ rest. refl) h.split whole
-    (past_expression h.taken ts [] h.tree h.spells ends (λ level last. rest_stuck ts level last ends n))))
+    (past_expression h.taken ts [] h.tree h.spells ends (λ level last. past_stuck ts level [] last ends (inl (λ more. refl)) (λ e. absurd (n e))))))

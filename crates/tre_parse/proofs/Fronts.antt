@@ -10,7 +10,7 @@ use Rattle.tre_state.specs.Name.{starts_name, continues_name}
 use Rattle.tre_parse.specs.declared.token.Token.{Token}
 use Rattle.tre_parse.specs.declared.token.Token.TheVariants.{Number}
 use Rattle.tre_parse.specs.declared.lexeme.Lexeme.{Lexeme}
-use Rattle.tre_parse.specs.declared.lexeme.Lexeme.TheVariants.{Blank, Name, Sign}
+use Rattle.tre_parse.specs.declared.lexeme.Lexeme.TheVariants.{Blank, Sign}
 use Rattle.tre_parse.specs.Lexeme.{is_blank, reserved, named, first_sign, word_lexeme, decimal, number_lexeme, sign_lexeme, lexeme_of, FitsIn}
 use Rattle.tre_parse.specs.declared.lexeme.TheConstants.{SIGNS}
 use Rattle.tre_parse.proofs.Table.{Each}

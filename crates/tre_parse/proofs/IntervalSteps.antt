@@ -1,15 +1,15 @@
 -- Intervals: their parts, and where one stops.
-use Rattle.std.proofs.Common.{◌≡◌, ◌≢◌, ℕ, Bool, true, false, Option, Some, None, Ok, List, [], ◌∷◌, ◌++◌, length, refl, sym, ◌∙◌, ap, subst, option_and_then}
+use Rattle.std.proofs.Common.{◌≡◌, ◌≢◌, ℕ, Bool, true, false, Option, Some, None, Ok, List, [], ◌∷◌, ◌++◌, length, refl, sym, ◌∙◌, ap, option_and_then}
 use Rattle.tre_zone.specs.Interval.{IntervalEnds, kept_weak}
 use Rattle.tre_syntax.specs.PatternTree.{PatternTree}
 use Rattle.tre_parse.specs.declared.token.Token.{Token}
 use Rattle.tre_parse.specs.declared.token.Token.TheVariants.{Number, LeftParen, RightParen, LeftBracket, RightBracket, Comma, Inf}
 use Rattle.tre_parse.specs.declared.cursor.Stop.{Stop}
 use Rattle.tre_parse.specs.declared.cursor.Stop.TheVariants.{Syntax}
-use Rattle.tre_parse.specs.Grammar.{opening, closing, SpellsInterval, with_high, without_high}
+use Rattle.tre_parse.specs.Grammar.{opening, SpellsInterval, with_high, without_high}
 use Rattle.tre_parse.specs.Front.{front, tail}
-use Rattle.tre_parse.specs.Parts.{IsMadeOf, high_token, BeginsWithNone}
-use Rattle.tre_parse.specs.Reading.{Stops, ExpectsInterval, ParsesInterval}
+use Rattle.tre_parse.specs.Parts.{IsMadeOf, high_token, closing_after, BeginsWithNone}
+use Rattle.tre_parse.specs.Reading.{MayCome, Stops, ParsesInterval}
 use Rattle.tre_parse.proofs.Machine.{Level, Part, Opening, Low, AfterLow, High, Closing, wrong, part_step, after_part, kept, in_interval}
 use Rattle.tre_parse.proofs.ReadFrom.{read_from}
 use Rattle.tre_parse.proofs.Contexts.{interval_place}
@@ -59,10 +59,10 @@ no_high weak low (Number n) h = absurd (h (Some n) refl)
 no_high weak low Inf h = absurd (h None refl)
 no_high weak low _ h = refl
 
-no_closing : (weak : Bool) (low : ℕ) (high : Option ℕ) (t : Token) → ((is : Bool) → kept_weak high is ≡ is → t ≢ closing is) → part_step (Closing weak low high) t ≡ wrong
-no_closing weak low (Some high) RightBracket h = absurd (h true refl refl)
-no_closing weak low (Some high) RightParen h = absurd (h false refl refl)
-no_closing weak low None RightParen h = absurd (h false refl refl)
+no_closing : (weak : Bool) (low : ℕ) (high : Option ℕ) (t : Token) → ((is : Bool) → t ≢ closing_after high is) → part_step (Closing weak low high) t ≡ wrong
+no_closing weak low (Some high) RightBracket h = absurd (h true refl)
+no_closing weak low (Some high) RightParen h = absurd (h false refl)
+no_closing weak low None RightParen h = absurd (h false refl)
 no_closing weak low (Some high) _ h = refl
 no_closing weak low None _ h = refl
 
@@ -71,17 +71,16 @@ part_stuck [] level below e part h = end_none level below _ refl
 part_stuck (t ∷ ts) level below e part h = λ more. ap (λ m. option_and_then (λ next. read_from more next) (after_part level below e m)) h
 
 stops_in : (stop : Stop) (old xs ts : List Token) (part : Part) → stop ≡ Syntax (length ts) → old ≡ xs ++ ts → Leads xs part → part_step part (front ts) ≡ wrong →
-    Stops ExpectsInterval stop old
+    Stops (MayCome (LeftBracket ∷ [])) stop old
 stops_in stop old xs ts part e split leads h =
     stops_here stop (length ts) old e
     (λ prior k.
     let p = interval_place prior k in
-    fault_past prior xs ts old (kept p.level p.below (in_interval p.operand Opening)) p.level p.below (in_interval p.operand part) p.brings split
-    (leads p.level p.below p.operand) (part_stuck ts p.level p.below p.operand part h))
+    fault_past prior xs ts old (kept p.0 p.1 (in_interval p.2 Opening)) p.0 p.1 (in_interval p.2 part) p.3 split (leads p.0 p.1 p.2) (part_stuck ts p.0 p.1 p.2 part h))
 
 -- ---- each part of an interval
 
-pub stops_opening : (stop : Stop) (old : List Token) → stop ≡ Syntax (length old) → ((weak : Bool) → front old ≢ opening weak) → Stops ExpectsInterval stop old
+pub stops_opening : (stop : Stop) (old : List Token) → stop ≡ Syntax (length old) → ((weak : Bool) → front old ≢ opening weak) → Stops (MayCome (LeftBracket ∷ [])) stop old
 stops_opening stop old e h = stops_in stop old [] old Opening e refl (λ level below x rest. refl) (no_opening (front old) h)
 
 pub none_opening : (old : List Token) → ((weak : Bool) → front old ≢ opening weak) → BeginsWithNone old
@@ -99,7 +98,7 @@ pub past_high : (old vs ws : List Token) (weak : Bool) (low : ℕ) (high : Optio
 past_high old vs ws weak low high e f = e ∙ ap (λ l. opening weak ∷ Number low ∷ Comma ∷ l) f
 
 pub stops_low : (stop : Stop) (old ts : List Token) (weak : Bool) → old ≡ opening weak ∷ ts → stop ≡ Syntax (length ts) → ((low : ℕ) → front ts ≢ Number low) →
-    Stops ExpectsInterval stop old
+    Stops (MayCome (LeftBracket ∷ [])) stop old
 stops_low stop old ts weak split e h = stops_in stop old (opening weak ∷ []) ts (Low weak) e split (to_low weak) (no_low weak (front ts) h)
 
 pub none_low : (old ts : List Token) (weak : Bool) → old ≡ opening weak ∷ ts → ((low : ℕ) → front ts ≢ Number low) → BeginsWithNone old
@@ -107,7 +106,7 @@ none_low old ts weak split h xs rest ends e (with_high low high low_weak high_we
 none_low old ts weak split h xs rest ends e (without_high low low_weak) = h low (ap (λ l. front (tail l)) (sym split ∙ e))
 
 pub stops_comma : (stop : Stop) (old us : List Token) (weak : Bool) (low : ℕ) → old ≡ opening weak ∷ Number low ∷ us → stop ≡ Syntax (length us) → front us ≢ Comma →
-    Stops ExpectsInterval stop old
+    Stops (MayCome (LeftBracket ∷ [])) stop old
 stops_comma stop old us weak low split e h =
     stops_in stop old (opening weak ∷ Number low ∷ []) us (AfterLow weak low) e split (to_comma weak low) (no_comma weak low (front us) h)
 
@@ -116,7 +115,7 @@ none_comma old us weak low split h xs rest ends e (with_high l high low_weak hig
 none_comma old us weak low split h xs rest ends e (without_high l low_weak) = h (ap (λ l. front (tail (tail l))) (sym split ∙ e))
 
 pub stops_high : (stop : Stop) (old vs : List Token) (weak : Bool) (low : ℕ) → old ≡ opening weak ∷ Number low ∷ Comma ∷ vs → stop ≡ Syntax (length vs) →
-    ((high : Option ℕ) → front vs ≢ high_token high) → Stops ExpectsInterval stop old
+    ((high : Option ℕ) → front vs ≢ high_token high) → Stops (MayCome (LeftBracket ∷ [])) stop old
 stops_high stop old vs weak low split e h =
     stops_in stop old (opening weak ∷ Number low ∷ Comma ∷ []) vs (High weak low) e split (to_high weak low) (no_high weak low (front vs) h)
 
@@ -125,43 +124,40 @@ none_high old vs weak low split h xs rest ends e (with_high l high low_weak high
 none_high old vs weak low split h xs rest ends e (without_high l low_weak) = h None (ap (λ l. front (tail (tail (tail l)))) (sym split ∙ e))
 
 pub stops_closing : (stop : Stop) (old ws : List Token) (weak : Bool) (low : ℕ) (high : Option ℕ) → old ≡ opening weak ∷ Number low ∷ Comma ∷ high_token high ∷ ws →
-    stop ≡ Syntax (length ws) → ((is : Bool) → kept_weak high is ≡ is → front ws ≢ closing is) → Stops ExpectsInterval stop old
+    stop ≡ Syntax (length ws) → ((is : Bool) → front ws ≢ closing_after high is) → Stops (MayCome (LeftBracket ∷ [])) stop old
 stops_closing stop old ws weak low high split e h =
     stops_in stop old (opening weak ∷ Number low ∷ Comma ∷ high_token high ∷ []) ws (Closing weak low high) e split (to_closing weak low high)
     (no_closing weak low high (front ws) h)
 
-kept_number : (high : Option ℕ) (n : ℕ) (is : Bool) → high_token high ≡ Number n → kept_weak high is ≡ is
-kept_number (Some high) n is e = refl
-kept_number None n is e = absurd (cc)
-
-kept_inf : (high : Option ℕ) → kept_weak high false ≡ false
-kept_inf (Some high) = refl
-kept_inf None = refl
-
 pub none_closing : (old ws : List Token) (weak : Bool) (low : ℕ) (high : Option ℕ) → old ≡ opening weak ∷ Number low ∷ Comma ∷ high_token high ∷ ws →
-    ((is : Bool) → kept_weak high is ≡ is → front ws ≢ closing is) → BeginsWithNone old
-none_closing old ws weak low high split h xs rest ends e (with_high l n low_weak high_weak) =
-    h high_weak (kept_number high n high_weak (ap (λ l. front (tail (tail (tail l)))) (sym split ∙ e))) (ap (λ l. front (tail (tail (tail (tail l))))) (sym split ∙ e))
-none_closing old ws weak low high split h xs rest ends e (without_high l low_weak) =
-    h false (kept_inf high) (ap (λ l. front (tail (tail (tail (tail l))))) (sym split ∙ e))
+    ((is : Bool) → front ws ≢ closing_after high is) → BeginsWithNone old
+none_closing old ws weak low (Some m) split h xs rest ends e (with_high l n low_weak high_weak) = h high_weak (ap (λ l. front (tail (tail (tail (tail l))))) (sym split ∙ e))
+none_closing old ws weak low None split h xs rest ends e (with_high l n low_weak high_weak) = no_number n (ap (λ l. front (tail (tail (tail l)))) (sym split ∙ e))
+  where
+    no_number : (n : ℕ) → Inf ≡ Number n → ⊥
+    no_number n q = cc
+none_closing old ws weak low (Some m) split h xs rest ends e (without_high l low_weak) = no_inf (ap (λ l. front (tail (tail (tail l)))) (sym split ∙ e))
+  where
+    no_inf : Number m ≡ Inf → ⊥
+    no_inf q = cc
+none_closing old ws weak low None split h xs rest ends e (without_high l low_weak) = h false (ap (λ l. front (tail (tail (tail (tail l))))) (sym split ∙ e))
 
 -- ---- the whole interval
 
-spelt : (weak : Bool) (low : ℕ) (high : Option ℕ) (high_weak : Bool) → kept_weak high high_weak ≡ high_weak →
-    SpellsInterval (opening weak ∷ Number low ∷ Comma ∷ high_token high ∷ closing high_weak ∷ []) (record { low = low; low_weak = weak; high = high; high_weak = high_weak })
-spelt weak low (Some high) high_weak e = with_high low high weak high_weak
-spelt weak low None false e = without_high low weak
-spelt weak low None true e = absurd (cc)
+spelt : (weak : Bool) (low : ℕ) (high : Option ℕ) (high_weak : Bool) →
+    SpellsInterval (opening weak ∷ Number low ∷ Comma ∷ high_token high ∷ closing_after high high_weak ∷ [])
+    (record { low = low; low_weak = weak; high = high; high_weak = kept_weak high high_weak })
+spelt weak low (Some high) high_weak = with_high low high weak high_weak
+spelt weak low None high_weak = without_high low weak
 
 pub interval_whole : (interval : Option IntervalEnds) (old ws new : List Token) (weak : Bool) (low : ℕ) (high : Option ℕ) (high_weak : Bool) →
-    old ≡ opening weak ∷ Number low ∷ Comma ∷ high_token high ∷ ws → ws ≡ closing high_weak ∷ new → kept_weak high high_weak ≡ high_weak →
+    old ≡ opening weak ∷ Number low ∷ Comma ∷ high_token high ∷ ws → ws ≡ closing_after high high_weak ∷ new →
     IsMadeOf interval (record { low = low; low_weak = weak; high = high; high_weak = kept_weak high high_weak }) → ParsesInterval (Ok interval) old new
-interval_whole interval old ws new weak low high high_weak split e w m =
-    let P = λ (kept : Bool). IsMadeOf interval (record { low = low; low_weak = weak; high = high; high_weak = kept }) in
+interval_whole interval old ws new weak low high high_weak split e m =
     record {
-      taken = opening weak ∷ Number low ∷ Comma ∷ high_token high ∷ closing high_weak ∷ [];
-      tree = record { low = low; low_weak = weak; high = high; high_weak = high_weak };
+      taken = opening weak ∷ Number low ∷ Comma ∷ high_token high ∷ closing_after high high_weak ∷ [];
+      tree = record { low = low; low_weak = weak; high = high; high_weak = kept_weak high high_weak };
       split = split ∙ ap (λ l. opening weak ∷ Number low ∷ Comma ∷ high_token high ∷ l) e;
-      spells = spelt weak low high high_weak w;
-      stands = subst P w m;
+      spells = spelt weak low high high_weak;
+      stands = m;
     }

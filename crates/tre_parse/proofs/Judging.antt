@@ -1,6 +1,6 @@
 -- Which outcome each step of parsing comes to.
 use Rattle.std.proofs.Common.{◌≡◌, ℕ, ◌<◌, ◌≤◌, ◌-◌, Bool, true, false, Option, Some, None, Ok, Err, List, [], length, ◌⊎◌, inl, inr, refl, sym, ◌∙◌, ap, subst, arith}
-use Rattle.std.specs.Prelude.{Result, MatchOption, position, nat_lt, min, if◌then◌else◌}
+use Rattle.std.specs.Prelude.{IsSome, Result, MatchOption, position, nat_lt, min, if◌then◌else◌}
 use Rattle.std.specs.Option.{option_map}
 use Rattle.std.proofs.lemmas.Bool.Decides.{nat_tests}
 use Rattle.std.proofs.lemmas.List.{append-nil}
@@ -8,25 +8,35 @@ use Rattle.tre_syntax.specs.declared.pattern.TheConstants.{NODES_MAX}
 use Rattle.tre_syntax.specs.declared.pattern.Pattern.{Pattern}
 use Rattle.tre_parse.specs.declared.limits.TheConstants.{TEXT_MAX, COUNT_MAX}
 use Rattle.tre_syntax.specs.Pattern.{pattern_tree, names_of}
-use Rattle.tre_syntax.specs.PatternTree.{PatternTree, node_count}
+use Rattle.tre_syntax.specs.PatternTree.{PatternTree, node_count, IsNumbered}
 use Rattle.tre_parse.specs.declared.fault.ParseFault.{ParseFault}
-use Rattle.tre_parse.specs.declared.fault.ParseFault.TheVariants.{TooLong, BadByte, Number, TooManyNames, TooLarge, Memory}
-use Rattle.tre_parse.specs.Operands.{Operand}
+use Rattle.tre_parse.specs.declared.fault.ParseFault.TheVariants.{TooLong, BadByte, TooDeep, Number, TooManyNames, TooLarge, Memory}
+use Rattle.tre_parse.specs.Operands.{Operand, Represents, HasFineIntervals}
 use Rattle.tre_parse.specs.declared.token.Token.{Token}
 use Rattle.tre_parse.specs.declared.scan.Scan.{Scan}
 use Rattle.tre_parse.specs.Grammar.{expr, Spells}
-use Rattle.tre_parse.specs.Reading.{ParsesWhole}
+use Rattle.tre_parse.specs.Reading.{Stops, ParsesBy}
 use Rattle.tre_parse.specs.declared.cursor.Stop.{Stop}
 use Rattle.tre_parse.specs.declared.cursor.Stop.TheVariants.{Syntax as Stuck, Memory as Lacking}
 use Rattle.tre_parse.specs.Tokens.{earlier, bad_byte}
+use Rattle.tre_syntax.specs.Expr.{tree_of}
+use Rattle.tre_syntax.specs.declared.expr.Expr.{Expr}
+use Rattle.tre_parse.specs.Joins.{Keeps}
+use Rattle.tre_parse.proofs.Counts.{kept_is}
 use Rattle.tre_parse.specs.Scan.{IsScan}
 use Rattle.tre_parse.specs.Numbering.{IsNumberedByUse}
-use Rattle.tre_parse.specs.Outcome.{Outcome, spelt, refused, TextTokens, text_tokens_of, offset_of, is_big, byte_fault, limit_fault, NoneEmpty, past_or, limited_outcome, IsOutcomeOfTokens, IsOutcomeWithin, IsOutcome}
-use Rattle.tre_parse.specs.Answers.{Answers, text_tokens_in, IsFaultOf, IsRepresented, IsBuildable}
+use Rattle.tre_parse.specs.Outcome.{Outcome, spelt, refused, TextTokens, text_tokens_of, offset_of, is_big, deep_place, byte_fault, limit_fault, NoneEmpty, past_or, limited_outcome, IsOutcomeOfTokens, IsOutcomeWithin, IsOutcome}
+use Rattle.tre_parse.specs.Answers.{Answers, text_tokens_in, IsFaultOf}
 use Rattle.tre_parse.proofs.Numbers.{counts_alike}
 use Rattle.tre_parse.proofs.NumberedWords.{text_numbered}
 use Rattle.tre_parse.proofs.Fine.{none_big, stand_fine, fine_intervals}
 use Rattle.tre_parse.proofs.Outcomes.{outcome_once}
+
+-- What was read stands for the expression that the tokens spell.
+pub record IsRepresented (words : TextTokens) (operand : Operand) : Type 0 where
+  pub tree : PatternTree
+  pub spells : Spells expr words.tokens tree
+  pub represents : Represents operand tree
 
 along_none : (made : Option ParseFault) (P : Type 0) (Q : ParseFault → Type 0) → made ≡ None → P → MatchOption made P Q
 along_none made P Q e h = let R = λ (m : Option ParseFault). MatchOption m P Q in subst R (sym e) h
@@ -35,14 +45,14 @@ pub read_outcome : (words : TextTokens) (outcome : Outcome) → limit_fault word
 read_outcome words outcome e h = along_none (limit_fault words) _ _ e h
 
 -- Tokens that are not read to an end have their fault where the reading stops.
-pub stop_outcome : (words : TextTokens) (stop : Stop) (fault : ParseFault) → limit_fault words ≡ None → ParsesWhole (Err stop) words.tokens → IsFaultOf words stop fault →
+pub stop_outcome : (words : TextTokens) (stop : Stop) (fault : ParseFault) → limit_fault words ≡ None → Stops (λ prior. prior ≡ []) stop words.tokens → IsFaultOf words stop fault →
     (fault ≡ Memory) ⊎ IsOutcomeWithin words (refused fault)
 stop_outcome words Lacking fault e h f = inl f
 stop_outcome words (Stuck left) fault e h f =
     let P = λ (g : ParseFault). IsOutcomeWithin words (refused g) in
     inr (subst P (sym f) (read_outcome words _ e (inl (length words.tokens - left, h [] refl, refl))))
 
-pub is_whole : (words : TextTokens) (operand : Operand) → ParsesWhole (Ok operand) words.tokens → IsRepresented words operand
+pub is_whole : (words : TextTokens) (operand : Operand) → ParsesBy expr (Ok operand) words.tokens [] → IsRepresented words operand
 is_whole words operand h =
     let P = λ (ts : List Token). Spells expr ts h.tree in
     record { tree = h.tree; spells = subst P (sym (h.split ∙ append-nil h.taken)) h.spells; represents = h.stands }
@@ -82,18 +92,42 @@ large_outcome words operand nodes e w h q same lt =
     ∙ sym (size_large (nat_lt NODES_MAX (node_count w.tree)) (node_count w.tree) (spelt w.tree words.names) refl (omega (arith, count)))
     ∙ sym (ap (λ past. past_or past (if nat_lt NODES_MAX (node_count w.tree) then refused (TooLarge (min (node_count w.tree) COUNT_MAX)) else spelt w.tree words.names)) q))
 
+-- What was read is a pattern with these names.
+pub record IsBuildable (names : List (List ℕ)) (operand : Operand) (tree : PatternTree) : Type 0 where
+  pub represents : Represents operand tree
+  pub small : node_count tree ≤ NODES_MAX
+  pub fine : HasFineIntervals tree
+  pub numbered : IsNumbered tree (length names)
+
 -- What is within all limits can be built, and is the pattern.
 pub is_buildable : (words : TextTokens) (operand : Operand) → limit_fault words ≡ None → (w : IsRepresented words operand) → NoneEmpty words.tokens → words.past ≡ None → operand.nodes ≤ NODES_MAX → IsNumberedByUse words →
-    IsBuildable words.names operand
+    IsBuildable words.names operand w.tree
 is_buildable words operand e w h q le n =
     let count = w.represents.nodes in
     record {
-      tree = w.tree;
       represents = w.represents;
       small = omega (arith, count);
       fine = fine_intervals expr words.tokens w.tree w.spells (stand_fine words.tokens (none_big words.tokens (no_big words e)) h);
       numbered = (counts_alike expr words.tokens w.tree w.spells).alike 0 (length words.names) (n q);
     }
+
+pub expr_is : (names : List (List ℕ)) (operand : Operand) (tree : PatternTree) (kept : Option Expr) (built : Expr) → IsBuildable names operand tree → Keeps operand.nodes operand.tree kept →
+    kept ≡ Some built → tree_of built ≡ tree
+expr_is names operand tree kept built b k e = kept_is operand.nodes operand.tree kept built (λ x. tree_of x ≡ tree) k e b.represents.same
+
+pub expr_some : (names : List (List ℕ)) (operand : Operand) (tree : PatternTree) (kept : Option Expr) → IsBuildable names operand tree → Keeps operand.nodes operand.tree kept →
+    operand.nodes ≤ NODES_MAX → kept ≡ None → ⊥
+expr_some names operand tree kept b k le e = no_none operand.tree (b.represents.built b.small b.fine) (sym (k.small le) ∙ e)
+  where
+    no_none : (whole : Option Expr) → IsSome whole → whole ≡ None → ⊥
+    no_none None h e = cc
+    no_none (Some x) h e = cc
+
+pub pattern_some : (names : List (List ℕ)) (operand : Operand) (tree : PatternTree) (built : Expr) → IsBuildable names operand tree → tree_of built ≡ tree →
+    (node_count (tree_of built) ≤ NODES_MAX) × IsNumbered (tree_of built) (length names)
+pattern_some names operand tree built b e =
+    let P = λ (t : PatternTree). (node_count t ≤ NODES_MAX) × IsNumbered t (length names) in
+    subst P (sym e) (b.small, b.numbered)
 
 pub spelt_outcome : (words : TextTokens) (operand : Operand) (tree : PatternTree) (names : List (List ℕ)) → limit_fault words ≡ None → (w : IsRepresented words operand) → NoneEmpty words.tokens → words.past ≡ None → operand.nodes ≤ NODES_MAX →
     tree ≡ w.tree → names ≡ words.names → IsOutcomeWithin words (spelt tree names)
@@ -136,3 +170,7 @@ pub answered : (text : List ℕ) (outcome : Outcome) (result : Result Pattern Pa
 answered text outcome (Ok pattern) h k = outcome_once text outcome _ k h
 answered text outcome (Err fault) (inl h) k = inl h
 answered text outcome (Err fault) (inr h) k = inr (outcome_once text outcome _ k h)
+
+pub limits_met : (words : TextTokens) → position is_big words.tokens ≡ None → deep_place 0 0 words.tokens ≡ None → limit_fault words ≡ None
+limits_met words p q = ap (λ big. earlier (option_map (λ at. Number (offset_of words at)) big) (option_map (λ at. TooDeep (offset_of words at)) (deep_place 0 0 words.tokens))) p
+    ∙ ap (λ deep. earlier None (option_map (λ at. TooDeep (offset_of words at)) deep)) q

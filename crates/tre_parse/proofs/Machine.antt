@@ -6,7 +6,7 @@ use Rattle.tre_state.specs.StateTree.{StateTree, always, proposition, conjunctio
 use Rattle.tre_zone.specs.Interval.{IntervalEnds}
 use Rattle.tre_syntax.specs.PatternTree.{PatternTree, empty, atom, sequence, alternation, intersection, repetition, restriction}
 use Rattle.tre_parse.specs.declared.token.Token.{Token}
-use Rattle.tre_parse.specs.Joins.{negated, edge_of, plain_literal, ended_literal}
+use Rattle.tre_parse.specs.Joins.{negated, edge_of, plain_literal, edged_literal}
 use Rattle.tre_parse.specs.declared.token.Token.TheVariants.{Name, Number, LeftParen, RightParen, LeftBracket, RightBracket, LeftBrace, RightBrace, Comma, Semicolon, Bar, DoubleBar, Ampersand, DoubleAmpersand, Bang, Star, Plus, Question, Percent, Begins, Ends, Eps, Rise, Fall, Inf, True}
 
 -- How far an interval was read: nothing of it, its bracket, its low end, the comma, its high end or
@@ -195,7 +195,7 @@ after_step level below x RightParen = leave below (as_expression level x)
 after_step level below x _ = None
 
 abbrev pub after_literal_step : Level → List Level → Bool → StateTree → Token → Option Config
-after_literal_step level below begins s Ends = moved level below (after (ended_literal begins s))
+after_literal_step level below begins s Ends = moved level below (after (edged_literal begins true s))
 after_literal_step level below begins s token =
     after_step level below (plain_literal begins s) token
 
@@ -313,7 +313,3 @@ after_operand s inner state = kept s.level s.below (after_state s.frame inner s.
 abbrev pub state_level : ℕ → Option StateTree → Option StateTree → StateLevel
 state_level bangs bars ampersands =
     record { bangs = bangs; before_bars = bars; before_ampersands = ampersands }
-
-abbrev pub level_of : Option PatternTree → Option PatternTree → Option PatternTree → Level
-level_of bar ampersand semicolon =
-    record { before_bar = bar; before_ampersand = ampersand; before_semicolon = semicolon }

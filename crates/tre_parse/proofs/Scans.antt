@@ -58,7 +58,7 @@ earlier_first None later true at = refl
 earlier_first None later false at = refl
 
 -- A word that the scan takes leads to what follows it.
-pub leads_word : (bytes : List ℕ) (old new : Scan) (at next : ℕ) (word : RawToken) → TakesToken old new (record { at = at; word = word }) →
+pub leads_word : (bytes : List ℕ) (old new : Scan) (at next : ℕ) (word : RawToken) → TakesToken old new at word →
     rest_from bytes at ≡ with_raw_token at word (rest_from bytes next) → LeadsTo bytes old at new next
 leads_word bytes old new at next word t e =
     let rest = (rest_from bytes next).raw_tokens in
@@ -74,8 +74,8 @@ leads_word bytes old new at next word t e =
       size = t.size;
     }
 
-pub same_bytes : (bytes : List ℕ) (old new : Scan) (at : ℕ) (xs ys : List ℕ) → xs ≡ ys → TakesToken old new (record { at = at; word = name ys }) → TakesToken old new (record { at = at; word = name xs })
-same_bytes bytes old new at xs ys e t = let P = λ (zs : List ℕ). TakesToken old new (record { at = at; word = name zs }) in subst P (sym e) t
+pub same_bytes : (bytes : List ℕ) (old new : Scan) (at : ℕ) (xs ys : List ℕ) → xs ≡ ys → TakesToken old new at (name ys) → TakesToken old new at (name xs)
+same_bytes bytes old new at xs ys e t = let P = λ (zs : List ℕ). TakesToken old new at (name zs) in subst P (sym e) t
 
 pub leads_same : (bytes : List ℕ) (scan : Scan) (at next : ℕ) → rest_from bytes at ≡ rest_from bytes next → LeadsTo bytes scan at scan next
 leads_same bytes scan at next e =

@@ -7,7 +7,7 @@ use Rattle.tre_parse.specs.declared.token.Token.{Token}
 use Rattle.tre_parse.specs.declared.token.Token.TheVariants.{Name, Number, LeftParen, RightParen, LeftBracket, RightBracket, LeftBrace, RightBrace, Comma, Semicolon, Bar, DoubleBar, Ampersand, DoubleAmpersand, Bang, Star, Plus, Question, Percent, Begins, Ends, Eps, Rise, Fall, Inf, True}
 use Rattle.tre_parse.proofs.Machine.{Part, Opening, Low, AfterLow, High, Closing, Frame, Braces, Edge}
 use Rattle.tre_parse.specs.Grammar.{lit, state, neg, SpellsState, lit_name, lit_true, lit_braces, lit_bang, neg_name, neg_true, neg_parens, neg_bang, opening, SpellsInterval, with_high, without_high, expr, post, Spells, post_primary, post_star, post_plus, post_question, post_percent, primary_eps, primary_parens, primary_rise, primary_fall, primary_lit, primary_begins, primary_ends, primary_begins_ends}
-use Rattle.tre_parse.specs.Joins.{negated, plain_literal, ended_literal, edge_of}
+use Rattle.tre_parse.specs.Joins.{negated, plain_literal, edged_literal, edge_of}
 use Rattle.tre_parse.proofs.Machine.{Level, StateLevel, Place, before, after, in_literal, after_literal, after_edge, before_state, after_state, in_interval, Config, fresh_state_level, after_semicolon, after_ampersand, after_bar, as_expression, as_state, after_ampersands, after_bars, PartStep, wrong, going, whole, part_step, literal_step, before_step, leave, after_step, after_literal_step, edge_step, before_state_step, leave_parens, leave_braces, after_state_step, after_part, kept, step, start}
 use Rattle.tre_parse.proofs.ReadFrom.{read_from}
 use Rattle.tre_parse.proofs.LevelSpelling.{StateLevelReads, fresh, ampersands, bars, closed_state, LevelReads, fresh_expression, semicolon, ampersand, bar, closed_expression}
@@ -181,7 +181,7 @@ plain_spelt : (begins : Bool) (ys : List Token) (s : StateTree) → SpellsState 
 plain_spelt true ys s h = post_primary _ _ (primary_begins ys s h)
 plain_spelt false ys s h = post_primary _ _ (primary_lit ys s h)
 
-ended_spelt : (begins : Bool) (ys : List Token) (s : StateTree) → SpellsState lit ys s → Spells post ((begun begins ++ ys) ++ Ends ∷ []) (ended_literal begins s)
+ended_spelt : (begins : Bool) (ys : List Token) (s : StateTree) → SpellsState lit ys s → Spells post ((begun begins ++ ys) ++ Ends ∷ []) (edged_literal begins true s)
 ended_spelt true ys s h = post_primary _ _ (primary_begins_ends ys s h)
 ended_spelt false ys s h = post_primary _ _ (primary_ends ys s h)
 

@@ -86,9 +86,6 @@ IsFault left tokens = IsSyntaxFaultAt tokens (length tokens - left)
 pub fault_along : (left : ℕ) (prior xs rest old : List Token) → old ≡ xs ++ rest → IsFault left ((prior ++ xs) ++ rest) → IsFault left (prior ++ old)
 fault_along left prior xs rest old e h = subst (IsFault left) (append_assoc prior xs rest ∙ ap (λ l. prior ++ l) (sym e)) h
 
-pub fails_as : {E F : List Token → Type 0} (left : ℕ) (old : List Token) → ((prior : List Token) → E prior → F prior) → Fails F left old → Fails E left old
-fails_as left old to h prior e = h prior (to prior e)
-
 pub fails_after : {E F : List Token → Type 0} (left : ℕ) (old xs rest : List Token) → old ≡ xs ++ rest →
     ((prior : List Token) → E prior → F (prior ++ xs)) → Fails F left rest → Fails E left old
 fails_after left old xs rest split to h prior e = fault_along left prior xs rest old split (h (prior ++ xs) (to prior e))

@@ -7,7 +7,6 @@ use Rattle.std.specs.Cmp.Lexicographic.{same_text}
 use Rattle.std.proofs.lemmas.Bool.Decides.{nat_tests}
 use Rattle.tre_parse.specs.declared.token.Token.{Token}
 use Rattle.tre_parse.specs.declared.token.Token.TheVariants.{Bar, DoubleBar, Ampersand, DoubleAmpersand}
-use Rattle.tre_parse.specs.declared.lexeme.Lexeme.{Lexeme}
 use Rattle.tre_parse.specs.declared.lexeme.Lexeme.TheVariants.{Sign}
 use Rattle.tre_parse.specs.Lexeme.{lexeme_of, first_sign, sign_lexeme}
 use Rattle.tre_parse.specs.Signs.{IsSign, left_paren, right_paren, left_bracket, right_bracket, left_brace, right_brace, comma, semicolon, bar, double_bar, ampersand, double_ampersand, bang, star, plus, question, percent, begins, ends, TakesSign}

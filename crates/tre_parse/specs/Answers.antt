@@ -1,16 +1,12 @@
 -- What `parse` answers, against the outcome of the text.
-use Rattle.std.specs.Prelude.{◌≡◌, ℕ, ◌≤◌, ◌-◌, ◌⊎◌, Result, Ok, Err, List, length}
+use Rattle.std.specs.Prelude.{◌≡◌, ◌-◌, ◌⊎◌, Result, Ok, Err, length}
 use Rattle.tre_syntax.specs.declared.pattern.Pattern.{Pattern}
-use Rattle.tre_syntax.specs.declared.pattern.TheConstants.{NODES_MAX}
 use Rattle.tre_syntax.specs.Pattern.{pattern_tree, names_of}
-use Rattle.tre_syntax.specs.PatternTree.{PatternTree, node_count, IsNumbered}
 use Rattle.tre_parse.specs.declared.fault.ParseFault.{ParseFault}
 use Rattle.tre_parse.specs.declared.fault.ParseFault.TheVariants.{Syntax, Memory}
 use Rattle.tre_parse.specs.declared.cursor.Stop.{Stop}
 use Rattle.tre_parse.specs.declared.cursor.Stop.TheVariants.{Syntax as Stuck, Memory as Lacking}
-use Rattle.tre_parse.specs.Operands.{Operand, Represents, HasFineIntervals}
 use Rattle.tre_parse.specs.declared.scan.Scan.{Scan}
-use Rattle.tre_parse.specs.Grammar.{expr, Spells}
 use Rattle.tre_parse.specs.Outcome.{Outcome, spelt, refused, TextTokens, offset_of}
 
 -- The answer is an outcome of which this is so, or want of memory.
@@ -33,17 +29,3 @@ text_tokens_in scan =
 abbrev pub IsFaultOf : TextTokens → Stop → ParseFault → Type 0
 IsFaultOf words Lacking fault = fault ≡ Memory
 IsFaultOf words (Stuck left) fault = fault ≡ Syntax (offset_of words (length words.tokens - left))
-
--- What was read stands for the expression that the tokens spell.
-pub record IsRepresented (words : TextTokens) (operand : Operand) : Type 0 where
-  pub tree : PatternTree
-  pub spells : Spells expr words.tokens tree
-  pub represents : Represents operand tree
-
--- What was read is a pattern with these names.
-pub record IsBuildable (names : List (List ℕ)) (operand : Operand) : Type 0 where
-  pub tree : PatternTree
-  pub represents : Represents operand tree
-  pub small : node_count tree ≤ NODES_MAX
-  pub fine : HasFineIntervals tree
-  pub numbered : IsNumbered tree (length names)

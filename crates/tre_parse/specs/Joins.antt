@@ -3,6 +3,9 @@ use Rattle.std.specs.Prelude.{◌≡◌, ℕ, ◌≤◌, ◌<◌, zero, suc, Boo
 use Rattle.tre_state.specs.StateTree.{StateTree, negation, conjunction, disjunction}
 use Rattle.tre_syntax.specs.PatternTree.{PatternTree, literal, rise, fall, atom, sequence, alternation, intersection}
 use Rattle.tre_syntax.specs.declared.pattern.TheConstants.{NODES_MAX}
+use Rattle.tre_parse.specs.declared.token.Token.{Token}
+use Rattle.tre_parse.specs.declared.token.Token.TheVariants.{Semicolon, Bar, DoubleBar, Ampersand, DoubleAmpersand}
+use Rattle.tre_parse.specs.Grammar.{StateRule, state, conj, neg, Rule, expr, meet, seq, post}
 use Rattle.tre_parse.specs.declared.connective.Connective.{Connective}
 use Rattle.tre_parse.specs.declared.connective.Connective.TheVariants.{And, Or}
 use Rattle.tre_parse.specs.declared.connective.Join.{Join}
@@ -12,10 +15,39 @@ abbrev pub connected : Connective → StateTree → StateTree → StateTree
 connected And s t = conjunction s t
 connected Or s t = disjunction s t
 
+-- The sign between two states that are joined so, the rule for both together, and that for each.
+abbrev pub connective_sign : Connective → Token
+connective_sign And = DoubleAmpersand
+connective_sign Or = DoubleBar
+
+abbrev pub connected_rule : Connective → StateRule
+connected_rule And = conj
+connected_rule Or = state
+
+abbrev pub connected_part : Connective → StateRule
+connected_part And = neg
+connected_part Or = conj
+
 abbrev pub joined_by : Join → PatternTree → PatternTree → PatternTree
 joined_by Sequence e f = sequence e f
 joined_by Intersection e f = intersection e f
 joined_by Alternation e f = alternation e f
+
+-- The same of two expressions.
+abbrev pub join_sign : Join → Token
+join_sign Sequence = Semicolon
+join_sign Intersection = Ampersand
+join_sign Alternation = Bar
+
+abbrev pub joined_rule : Join → Rule
+joined_rule Sequence = seq
+joined_rule Intersection = meet
+joined_rule Alternation = expr
+
+abbrev pub joined_part : Join → Rule
+joined_part Sequence = post
+joined_part Intersection = seq
+joined_part Alternation = meet
 
 -- So many negations of the state.
 abbrev pub negated : ℕ → StateTree → StateTree
@@ -26,14 +58,14 @@ abbrev pub edge_of : Bool → StateTree → PatternTree
 edge_of true s = atom (rise s)
 edge_of false s = atom (fall s)
 
--- A literal that no `:>` follows, after `<:` or not.
+-- A literal, after `<:` or not, and `:>` after it or not.
 abbrev pub plain_literal : Bool → StateTree → PatternTree
 plain_literal true s = sequence (atom (rise s)) (atom (literal s))
 plain_literal false s = atom (literal s)
 
--- A literal that `:>` follows.
-abbrev pub ended_literal : Bool → StateTree → PatternTree
-ended_literal begins s = sequence (plain_literal begins s) (atom (fall s))
+abbrev pub edged_literal : Bool → Bool → StateTree → PatternTree
+edged_literal begins true s = sequence (plain_literal begins s) (atom (fall s))
+edged_literal begins false s = plain_literal begins s
 
 -- What was built is kept where it has no more than so many nodes as a pattern may have, and let go
 -- elsewhere.

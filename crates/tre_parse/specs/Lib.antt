@@ -9,6 +9,7 @@ pub mod Outcome
 pub mod Signs
 pub mod Numbering
 pub mod Strength
+pub mod Depth
 pub mod Blanks
 -- What the functions inside promise each other.
 pub mod Front

@@ -43,3 +43,9 @@ RepresentsState formula s =
 -- The same of an expression, which is fine where its intervals are.
 abbrev pub Represents : Operand → PatternTree → Type 0
 Represents operand e = Counts operand (node_count e) (λ x. tree_of x ≡ e) (HasFineIntervals e)
+
+-- What stands for a tree is turned into what stands for the tree that is made of it.
+abbrev pub Turns : {A B Tree Made : Type 0} → (A → Tree → Type 0) → (B → Made → Type 0) →
+    (Tree → Made) → A → B → Type 0
+Turns {Tree = Tree} StandsFor StandsForMade make x made =
+    (tree : Tree) → StandsFor x tree → StandsForMade made (make tree)

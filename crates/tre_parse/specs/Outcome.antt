@@ -72,17 +72,6 @@ deep_place depth place (token ∷ rest) =
     if nat_lt DEPTH_MAX (open_after depth token) then Some place
     else deep_place (open_after depth token) (place + 1) rest
 
--- How many brackets are open after the tokens.
-abbrev pub open_from : ℕ → List Token → ℕ
-open_from depth [] = depth
-open_from depth (token ∷ rest) = open_from (open_after depth token) rest
-
--- At this token more than DEPTH_MAX brackets are open, and before it never.
-pub record IsDeepAt (tokens : List Token) (place : ℕ) : Type 0 where
-  pub within : place < length tokens
-  pub deep : DEPTH_MAX < open_from 0 (take (place + 1) tokens)
-  pub first : (n : ℕ) → n ≤ place → open_from 0 (take n tokens) ≤ DEPTH_MAX
-
 -- A text that is too long, or has a byte at which no token begins.
 abbrev pub byte_fault : List ℕ → Option ParseFault
 byte_fault text =

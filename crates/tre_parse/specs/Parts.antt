@@ -1,9 +1,9 @@
 -- Intervals: which of them can be kept, and their parts as they are read.
 use Rattle.std.specs.Prelude.{◌≡◌, ◌≢◌, ℕ, ◌<◌, Bool, Option, Some, None, Result, Ok, Err, IsSome, IfSome, List, ◌∷◌, ◌++◌, length}
-use Rattle.tre_zone.specs.Interval.{IntervalEnds, LastsWithin, kept_weak, IsIntervalWithin}
+use Rattle.tre_zone.specs.Interval.{IntervalEnds, LastsWithin, IsIntervalWithin}
 use Rattle.tre_pairs.specs.declared.TheConstants.{TIME_MAX}
 use Rattle.tre_parse.specs.declared.token.Token.{Token}
-use Rattle.tre_parse.specs.declared.token.Token.TheVariants.{Number, Inf}
+use Rattle.tre_parse.specs.declared.token.Token.TheVariants.{Number, Inf, RightParen}
 use Rattle.tre_parse.specs.declared.cursor.Stop.{Stop}
 use Rattle.tre_parse.specs.declared.cursor.Stop.TheVariants.{Syntax}
 use Rattle.tre_parse.specs.Grammar.{closing, SpellsInterval}
@@ -36,22 +36,11 @@ abbrev pub high_token : Option ℕ → Token
 high_token (Some high) = Number high
 high_token None = Inf
 
-abbrev pub ClosingParses : Option ℕ → Result Bool Stop → List Token → List Token → Type 0
-ClosingParses high (Ok weak) old new = (old ≡ closing weak ∷ new) × (kept_weak high weak ≡ weak)
-ClosingParses high (Err stop) old new =
-    (stop ≡ Syntax (length old))
-    × ((weak : Bool) → kept_weak high weak ≡ weak → front old ≢ closing weak)
+abbrev pub closing_after : Option ℕ → Bool → Token
+closing_after (Some high) weak = closing weak
+closing_after None weak = RightParen
 
 -- No interval stands at the front of the tokens.
 abbrev pub BeginsWithNone : List Token → Type 0
 BeginsWithNone tokens =
     (xs rest : List Token) (ends : IntervalEnds) → tokens ≡ xs ++ rest → SpellsInterval xs ends → ⊥
-
--- The tokens begin with an interval that can't be kept.
-pub record BeginsUnkept (tokens : List Token) : Type 0 where
-  pub ends : IntervalEnds
-  pub body : List Token
-  pub rest : List Token
-  pub split : tokens ≡ body ++ rest
-  pub spells : SpellsInterval body ends
-  pub unkept : IsFineInterval ends → ⊥

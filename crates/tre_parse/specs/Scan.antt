@@ -3,19 +3,18 @@ use Rattle.std.specs.Prelude.{◌≡◌, ℕ, ◌≤◌, ◌<◌, ◌⊎◌, if�
 use Rattle.tre_parse.specs.declared.fault.ParseFault.{ParseFault}
 use Rattle.tre_parse.specs.declared.fault.ParseFault.TheVariants.{BadByte, Memory}
 use Rattle.tre_parse.specs.declared.scan.Scan.{Scan}
-use Rattle.tre_parse.specs.Tokens.{RawTokenAt, RawTokens, raw_tokens_from, token_of, known_after, tokens_from, names_from, past_from, is_past, offsets_of, tokens_of, names_of, raw_tokens_of, bad_byte, earlier}
+use Rattle.tre_parse.specs.Tokens.{RawToken, RawTokens, raw_tokens_from, token_of, known_after, tokens_from, names_from, past_from, is_past, offsets_of, tokens_of, names_of, raw_tokens_of, bad_byte, earlier}
 
 -- The words from an offset on.
 abbrev pub rest_from : List ℕ → ℕ → RawTokens
 rest_from bytes at = raw_tokens_from 0 at (drop at bytes)
 
 -- The scan after one more word.
-pub record TakesToken (old new : Scan) (raw : RawTokenAt) : Type 0 where
-  pub tokens : new.tokens.items ≡ old.tokens.items ++ token_of old.names raw.word ∷ []
-  pub offsets : new.offsets.items ≡ old.offsets.items ++ raw.at ∷ []
-  pub names : new.names ≡ known_after old.names raw.word
-  pub past : new.past ≡ earlier old.past
-      (if is_past old.names raw.word then Some raw.at else None)
+pub record TakesToken (old new : Scan) (at : ℕ) (word : RawToken) : Type 0 where
+  pub tokens : new.tokens.items ≡ old.tokens.items ++ token_of old.names word ∷ []
+  pub offsets : new.offsets.items ≡ old.offsets.items ++ at ∷ []
+  pub names : new.names ≡ known_after old.names word
+  pub past : new.past ≡ earlier old.past (if is_past old.names word then Some at else None)
   pub size : new.size ≡ old.size
 
 -- From one offset the scan comes to the same in the end as from a later one.

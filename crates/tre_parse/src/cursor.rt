@@ -1,7 +1,7 @@
 ghost use Rattle.std.specs.Prelude.{◌≡◌, ◌≢◌, ℕ, List, length};
 ghost use Rattle.tre_parse.specs.declared.token.Token.{Token};
 ghost use Rattle.tre_parse.specs.Front.{front, tail};
-ghost use Rattle.tre_parse.specs.Reading.{Passes};
+ghost use Rattle.tre_parse.specs.Reading.{Accepts, Passes};
 
 use crate::token::Token;
 use std::alloc::AllocError;
@@ -37,10 +37,7 @@ impl<'a> Cursor<'a> {
     pub(crate) fn peek(&self) -> Token
         ensures { result ≡ front self.now }
     {
-        match self.tokens.first() {
-            Some(token) => *token,
-            None => Token::EndOfText,
-        }
+        self.tokens.first().copied().unwrap_or(Token::EndOfText)
     }
 
     /// Goes past the next token.
@@ -52,13 +49,24 @@ impl<'a> Cursor<'a> {
         }
     }
 
-    /// Goes past the token, if it is the next.
+    /// Goes past the token, if it is the next, and says whether it was.
+    pub(crate) fn accept(&mut self, token: Token) -> bool
+        requires { token ≢ Token.EndOfText }
+        ensures { Accepts token result self.old self.new }
+    {
+        let next = self.peek() == token;
+        if next {
+            self.advance();
+        }
+        next
+    }
+
+    /// Goes past the token, which has to be the next.
     pub(crate) fn expect(&mut self, token: Token) -> Result<(), Stop>
         requires { token ≢ Token.EndOfText }
         ensures { Passes token result self.old self.new }
     {
-        if self.peek() == token {
-            self.advance();
+        if self.accept(token) {
             return Ok(());
         }
         Err(self.refused())

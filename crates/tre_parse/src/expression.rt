@@ -1,69 +1,51 @@
-//! Expressions, one function for each rule.
-ghost use Rattle.std.specs.Prelude.{◌≡◌, ◌≤◌, ◌<◌, ◌↔◌, length, IfOk, IsTrue};
+//! Expressions, one function for each kind of rule.
+ghost use Rattle.std.specs.Prelude.{◌≡◌, ◌≤◌, length, IfOk};
 ghost use Rattle.tre_state.specs.StateTree.{StateTree};
-ghost use Rattle.tre_parse.specs.Grammar.{Rule, expr, meet, seq, post};
-ghost use Rattle.tre_parse.specs.Joins.{plain_literal, ended_literal};
-ghost use Rattle.tre_parse.specs.Operands.{RepresentsState, Represents};
+ghost use Rattle.tre_parse.specs.Grammar.{Rule, post};
+ghost use Rattle.tre_parse.specs.Joins.{joined_rule, joined_part, plain_literal, edged_literal};
+ghost use Rattle.tre_parse.specs.Operands.{RepresentsState, Represents, Turns};
 ghost use Rattle.tre_parse.specs.Front.{front};
-ghost use Rattle.tre_parse.specs.Reading.{IsSignAfter, IsPastOperand, IsPastSequence, IsPastIntersection, IsPastExpression, BeginsLiteral, BeginsTaken, edge_sign, Expects, ParsesBy, ParsesSign, RefusesEnds, SignRefusesEnds};
+ghost use Rattle.tre_parse.specs.Reading.{IsPast, OperandMayCome, BeginsLiteral, edge_sign, ParsesBy, RefusesEnds};
 
-use crate::connective::Join;
+use crate::connective::{Connective, Join};
 use crate::counted::Counted;
 use crate::cursor::{Cursor, Stop};
 use crate::formula::{Formula, copied};
 use crate::interval::interval;
-use crate::operand::{self, Operand, at_least_once, joined, optional, repeated, restricted};
-use crate::states::{literal, state};
+use crate::operand::{self, Operand, at_least_once, joined, repeated, restricted};
+use crate::states::{self, state};
 use crate::token::Token;
 use std::alloc::{AllocError, Global};
 use tre_syntax::Expr;
 
-/// An expression: intersections with `|` between them.
+/// Expressions that are joined in one way, which are grouped to the left. With `|`, which binds
+/// least, between them they are a whole expression.
 #[cycle(expression)]
-pub(crate) fn expression(alloc: Global, tokens: &mut Cursor) -> Result<Operand, Stop>
-    ensures reads { ParsesBy expr result tokens.old tokens.new }
+pub(crate) fn expression(alloc: Global, how: Join, tokens: &mut Cursor) -> Result<Operand, Stop>
+    ensures reads { ParsesBy (joined_rule how) result tokens.old tokens.new }
     ensures shorter { IfOk result (λ _. length tokens.new ≤ length tokens.old) }
-    ensures ends { IfOk result (λ _. IsPastExpression (front tokens.new)) }
+    ensures ends { IfOk result (λ _. IsPast (joined_rule how) (front tokens.new)) }
 {
-    let mut whole = intersection(alloc, tokens)?;
-    while let Token::Bar = tokens.peek() {
-        tokens.advance();
-        let next = intersection(alloc, tokens)?;
-        whole = joined(alloc, Join::Alternation, whole, next)?;
+    let mut whole = part(alloc, how, tokens)?;
+    while tokens.accept(how.sign()) {
+        let next = part(alloc, how, tokens)?;
+        whole = joined(alloc, how, whole, next)?;
     }
     Ok(whole)
 }
 
-// Sequences with `&` between them.
+// What stands between those signs.
 #[cycle(expression)]
-fn intersection(alloc: Global, tokens: &mut Cursor) -> Result<Operand, Stop>
-    ensures reads { ParsesBy meet result tokens.old tokens.new }
+fn part(alloc: Global, how: Join, tokens: &mut Cursor) -> Result<Operand, Stop>
+    ensures reads { ParsesBy (joined_part how) result tokens.old tokens.new }
     ensures shorter { IfOk result (λ _. length tokens.new ≤ length tokens.old) }
-    ensures ends { IfOk result (λ _. IsPastIntersection (front tokens.new)) }
+    ensures ends { IfOk result (λ _. IsPast (joined_part how) (front tokens.new)) }
 {
-    let mut whole = sequence(alloc, tokens)?;
-    while let Token::Ampersand = tokens.peek() {
-        tokens.advance();
-        let next = sequence(alloc, tokens)?;
-        whole = joined(alloc, Join::Intersection, whole, next)?;
+    match how {
+        Join::Alternation => expression(alloc, Join::Intersection, tokens),
+        Join::Intersection => expression(alloc, Join::Sequence, tokens),
+        Join::Sequence => operand(alloc, tokens),
     }
-    Ok(whole)
-}
-
-// Operands with `;` between them.
-#[cycle(expression)]
-fn sequence(alloc: Global, tokens: &mut Cursor) -> Result<Operand, Stop>
-    ensures reads { ParsesBy seq result tokens.old tokens.new }
-    ensures shorter { IfOk result (λ _. length tokens.new ≤ length tokens.old) }
-    ensures ends { IfOk result (λ _. IsPastSequence (front tokens.new)) }
-{
-    let mut whole = operand(alloc, tokens)?;
-    while let Token::Semicolon = tokens.peek() {
-        tokens.advance();
-        let next = operand(alloc, tokens)?;
-        whole = joined(alloc, Join::Sequence, whole, next)?;
-    }
-    Ok(whole)
 }
 
 // A primary, and any number of signs after it. No `:>` stands behind it: that of a literal is a
@@ -72,43 +54,31 @@ fn sequence(alloc: Global, tokens: &mut Cursor) -> Result<Operand, Stop>
 fn operand(alloc: Global, tokens: &mut Cursor) -> Result<Operand, Stop>
     ensures reads { ParsesBy post result tokens.old tokens.new }
     ensures shorter { IfOk result (λ _. length tokens.new ≤ length tokens.old) }
-    ensures ends { IfOk result (λ _. IsPastOperand (front tokens.new)) }
+    ensures ends { IfOk result (λ _. IsPast post (front tokens.new)) }
 {
     let mut whole = primary(alloc, tokens)?;
-    while is_sign(tokens.peek()) {
-        whole = with_sign(alloc, whole, tokens)?;
-    }
-    match tokens.peek() {
-        Token::Ends => Err(tokens.refused()),
-        _ => Ok(whole),
-    }
-}
-
-fn is_sign(token: Token) -> bool
-    ensures { IsTrue result ↔ IsSignAfter token }
-{
-    match token {
-        Token::Star | Token::Plus | Token::Question | Token::Percent => true,
-        _ => false,
-    }
-}
-
-// The operand with the sign that stands after it.
-fn with_sign(alloc: Global, whole: Operand, tokens: &mut Cursor) -> Result<Operand, Stop>
-    requires { IsSignAfter (front tokens.old) }
-    ensures reads { ParsesSign whole result tokens.old tokens.new }
-    ensures shorter { IfOk result (λ _. length tokens.new < length tokens.old) }
-    ensures ends { IfOk result (λ _. SignRefusesEnds whole tokens.old tokens.new) }
-{
-    let sign = tokens.peek();
-    tokens.advance();
-    match sign {
-        Token::Star => Ok(repeated(alloc, whole)?),
-        Token::Plus => Ok(at_least_once(alloc, whole)?),
-        Token::Question => Ok(optional(alloc, whole)?),
-        _ => {
-            let within = interval(tokens)?;
-            Ok(restricted(alloc, whole, within)?)
+    loop {
+        match tokens.peek() {
+            Token::Star => {
+                tokens.advance();
+                whole = repeated(alloc, whole)?;
+            }
+            Token::Plus => {
+                tokens.advance();
+                whole = at_least_once(alloc, whole)?;
+            }
+            Token::Question => {
+                tokens.advance();
+                let empty = Counted::leaf(Expr::Eps);
+                whole = joined(alloc, Join::Alternation, whole, empty)?;
+            }
+            Token::Percent => {
+                tokens.advance();
+                let within = interval(tokens)?;
+                whole = restricted(alloc, whole, within)?;
+            }
+            Token::Ends => return Err(tokens.refused()),
+            _ => return Ok(whole),
         }
     }
 }
@@ -118,7 +88,7 @@ fn with_sign(alloc: Global, whole: Operand, tokens: &mut Cursor) -> Result<Opera
 fn primary(alloc: Global, tokens: &mut Cursor) -> Result<Operand, Stop>
     ensures reads { ParsesBy Rule.primary result tokens.old tokens.new }
     ensures shorter { IfOk result (λ _. length tokens.new ≤ length tokens.old) }
-    ensures ends { IfOk result (λ _. RefusesEnds (Expects Rule.primary) tokens.old tokens.new) }
+    ensures ends { IfOk result (λ _. RefusesEnds OperandMayCome tokens.old tokens.new) }
 {
     match tokens.peek() {
         Token::Eps => {
@@ -127,13 +97,13 @@ fn primary(alloc: Global, tokens: &mut Cursor) -> Result<Operand, Stop>
         }
         Token::LeftParen => {
             tokens.advance();
-            let inside = expression(alloc, tokens)?;
+            let inside = expression(alloc, Join::Alternation, tokens)?;
             tokens.expect(Token::RightParen)?;
             Ok(inside)
         }
         Token::Rise => edge(alloc, true, tokens),
         Token::Fall => edge(alloc, false, tokens),
-        _ => literal_operand(alloc, tokens),
+        _ => literal(alloc, tokens),
     }
 }
 
@@ -142,69 +112,51 @@ fn edge(alloc: Global, rises: bool, tokens: &mut Cursor) -> Result<Operand, Stop
     requires { front tokens.old ≡ edge_sign rises }
     ensures reads { ParsesBy Rule.primary result tokens.old tokens.new }
     ensures shorter { IfOk result (λ _. length tokens.new ≤ length tokens.old) }
-    ensures ends { IfOk result (λ _. RefusesEnds (Expects Rule.primary) tokens.old tokens.new) }
+    ensures ends { IfOk result (λ _. RefusesEnds OperandMayCome tokens.old tokens.new) }
 {
     tokens.advance();
     tokens.expect(Token::LeftParen)?;
-    let inside = state(alloc, tokens)?;
+    let inside = state(alloc, Connective::Or, tokens)?;
     tokens.expect(Token::RightParen)?;
     Ok(operand::edge(rises, inside))
 }
 
 // A literal, after `<:` or not, and `:>` after it or not.
-fn literal_operand(alloc: Global, tokens: &mut Cursor) -> Result<Operand, Stop>
+fn literal(alloc: Global, tokens: &mut Cursor) -> Result<Operand, Stop>
     requires { BeginsLiteral (front tokens.old) }
     ensures reads { ParsesBy Rule.primary result tokens.old tokens.new }
     ensures shorter { IfOk result (λ _. length tokens.new ≤ length tokens.old) }
-    ensures ends { IfOk result (λ _. RefusesEnds (Expects Rule.primary) tokens.old tokens.new) }
+    ensures ends { IfOk result (λ _. RefusesEnds OperandMayCome tokens.old tokens.new) }
 {
-    let begins = begins(tokens);
-    let formula = literal(alloc, tokens)?;
-    match tokens.peek() {
-        Token::Ends => {
-            tokens.advance();
-            Ok(ended(alloc, begins, formula)?)
-        }
-        _ => Ok(plain(alloc, begins, formula)?),
-    }
+    let begins = tokens.accept(Token::Begins);
+    let formula = states::operand(alloc, true, tokens)?;
+    let ends = tokens.accept(Token::Ends);
+    let whole = edged(alloc, begins, formula, ends)?;
+    Ok(whole)
 }
 
-// Goes past a `<:`, if it is next.
-fn begins(tokens: &mut Cursor) -> bool
-    ensures taken { BeginsTaken result tokens.old tokens.new }
-    ensures shorter { length tokens.new ≤ length tokens.old }
+// A literal with its edges: the rise before it, and the fall after it.
+fn edged(alloc: Global, begins: bool, formula: Formula, ends: bool) -> Result<Operand, AllocError>
+    ensures { IfOk result (Turns RepresentsState Represents (edged_literal begins ends) formula) }
 {
-    match tokens.peek() {
-        Token::Begins => {
-            tokens.advance();
-            true
-        }
-        _ => false,
+    if ends {
+        let again = copied(alloc, &formula)?;
+        let body = plain(alloc, begins, formula)?;
+        let both = joined(alloc, Join::Sequence, body, operand::edge(false, again))?;
+        return Ok(both);
     }
+    let body = plain(alloc, begins, formula)?;
+    Ok(body)
 }
 
-// A literal that no `:>` follows, after `<:` or not.
 fn plain(alloc: Global, begins: bool, formula: Formula) -> Result<Operand, AllocError>
-    ensures { IfOk result (λ r. (s : StateTree) → RepresentsState formula s →
-        Represents r (plain_literal begins s)) }
+    ensures { IfOk result (Turns RepresentsState Represents (plain_literal begins) formula) }
 {
     if begins {
         let again = copied(alloc, &formula)?;
-        let begun = operand::edge(true, again);
-        let both = joined(alloc, Join::Sequence, begun, operand::literal(formula))?;
-        Ok(both)
-    } else {
-        Ok(operand::literal(formula))
+        let rise = operand::edge(true, again);
+        let both = joined(alloc, Join::Sequence, rise, operand::literal(formula))?;
+        return Ok(both);
     }
-}
-
-// A literal that `:>` follows, after `<:` or not.
-fn ended(alloc: Global, begins: bool, formula: Formula) -> Result<Operand, AllocError>
-    ensures { IfOk result (λ r. (s : StateTree) → RepresentsState formula s →
-        Represents r (ended_literal begins s)) }
-{
-    let again = copied(alloc, &formula)?;
-    let body = plain(alloc, begins, formula)?;
-    let both = joined(alloc, Join::Sequence, body, operand::edge(false, again))?;
-    Ok(both)
+    Ok(operand::literal(formula))
 }

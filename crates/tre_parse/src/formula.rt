@@ -1,8 +1,8 @@
 ghost use Rattle.std.specs.Prelude.{◌≡◌, IfOk};
 ghost use Rattle.tre_state.specs.State.{tree_of};
-ghost use Rattle.tre_state.specs.StateTree.{StateTree};
-ghost use Rattle.tre_parse.specs.Joins.{negated, connected};
-ghost use Rattle.tre_parse.specs.Operands.{RepresentsState};
+ghost use Rattle.tre_state.specs.StateTree.{StateTree, negation};
+ghost use Rattle.tre_parse.specs.Joins.{connected};
+ghost use Rattle.tre_parse.specs.Operands.{RepresentsState, Turns};
 
 use crate::connective::Connective;
 use crate::counted::Counted;
@@ -13,31 +13,16 @@ use tre_state::State;
 /// A state as it is read.
 pub(crate) type Formula = Counted<State>;
 
-/// So many negations of the state.
-#[tactic(auto, using(crate::proofs::Counts::negated_count))]
-pub(crate) fn negated(alloc: Global, formula: Formula, bangs: u64) -> Result<Formula, AllocError>
-    ensures { IfOk result (λ r. (s : StateTree) → RepresentsState formula s →
-        RepresentsState r (negated bangs s)) }
+/// The negation of the state.
+pub(crate) fn negated(alloc: Global, formula: Formula) -> Result<Formula, AllocError>
+    ensures { IfOk result (Turns RepresentsState RepresentsState negation formula) }
 {
-    let nodes = formula.nodes.saturating_add(bangs).min(COUNT_MAX);
-    match formula.into_tree(nodes) {
-        None => Ok(Counted { nodes, tree: None }),
-        Some(state) => {
-            let tree = Some(negation(alloc, state, bangs)?);
-            Ok(Counted { nodes, tree })
-        }
-    }
-}
-
-#[tactic(auto, using(crate::proofs::Counts::negated_more))]
-fn negation(alloc: Global, state: State, bangs: u64) -> Result<State, AllocError>
-    ensures { IfOk result (λ r. tree_of r ≡ negated bangs (tree_of state)) }
-{
-    let mut state = state;
-    for _ in 0..bangs {
-        state = State::Not(Box::new(alloc, state)?);
-    }
-    Ok(state)
+    let nodes = (formula.nodes + 1).min(COUNT_MAX);
+    let tree = match formula.into_tree(nodes) {
+        None => None,
+        Some(state) => Some(State::Not(Box::new(alloc, state)?)),
+    };
+    Ok(Counted { nodes, tree })
 }
 
 /// The two states joined.
@@ -56,34 +41,25 @@ pub(crate) fn connected(
     match left.into_tree(nodes).zip(second) {
         None => Ok(Counted { nodes, tree: None }),
         Some((first, second)) => {
-            let tree = Some(connect(alloc, how, first, second)?);
+            let left = Box::new(alloc, first)?;
+            let right = Box::new(alloc, second)?;
+            let tree = Some(match how {
+                Connective::And => State::And(left, right),
+                Connective::Or => State::Or(left, right),
+            });
             Ok(Counted { nodes, tree })
         }
-    }
-}
-
-fn connect(alloc: Global, how: Connective, left: State, right: State) -> Result<State, AllocError>
-    ensures { IfOk result (λ r. tree_of r ≡ connected how (tree_of left) (tree_of right)) }
-{
-    let left = Box::new(alloc, left)?;
-    let right = Box::new(alloc, right)?;
-    match how {
-        Connective::And => Ok(State::And(left, right)),
-        Connective::Or => Ok(State::Or(left, right)),
     }
 }
 
 /// The same once more.
 pub(crate) fn copied(alloc: Global, formula: &Formula) -> Result<Formula, AllocError>
-    ensures { IfOk result (λ r. (s : StateTree) → RepresentsState formula.now s →
-        RepresentsState r s) }
+    ensures { IfOk result (Turns RepresentsState RepresentsState (λ s. s) formula.now) }
 {
     let nodes = formula.nodes;
-    match &formula.tree {
-        None => Ok(Counted { nodes, tree: None }),
-        Some(state) => {
-            let tree = Some(state.try_clone(alloc)?);
-            Ok(Counted { nodes, tree })
-        }
-    }
+    let tree = match &formula.tree {
+        None => None,
+        Some(state) => Some(state.try_clone(alloc)?),
+    };
+    Ok(Counted { nodes, tree })
 }

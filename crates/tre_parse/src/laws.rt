@@ -8,6 +8,7 @@ ghost use Rattle.tre_syntax.specs.PatternTree.{PatternTree, sequence, alternatio
 ghost use Rattle.tre_parse.specs.declared.token.Token.TheVariants.{Name, Semicolon, Bar, DoubleBar, Ampersand, DoubleAmpersand};
 ghost use Rattle.tre_parse.specs.Grammar.{StateRule, SpellsState, Rule, Spells};
 ghost use Rattle.tre_parse.specs.Begins.{BeginsState, Begins, IsCompletable};
+ghost use Rattle.tre_parse.specs.Depth.{open_from, IsDeepAt};
 ghost use Rattle.tre_parse.specs.Strength.{Groups, StateGroups};
 ghost use Rattle.tre_parse.specs.Lexeme.{is_blank, sign_lexeme};
 ghost use Rattle.tre_parse.specs.Signs.{IsSign, TakesSign};
@@ -17,7 +18,7 @@ ghost use Rattle.tre_parse.specs.Numbering.{HasTokenAt, IsNumberedByUse};
 ghost use Rattle.tre_parse.specs.Tokens.{RawTokenAt, name, raw_tokens_of, bad_byte, tokens_of, names_of};
 ghost use Rattle.tre_parse.specs.Blanks.{counted_on, SaysAs};
 ghost use Rattle.tre_parse.specs.declared.token.Token.{Token};
-ghost use Rattle.tre_parse.specs.Outcome.{text_tokens_of, open_from, deep_place, IsDeepAt, IsSpelling, Outcome, spelt, IsOutcome};
+ghost use Rattle.tre_parse.specs.Outcome.{text_tokens_of, deep_place, IsSpelling, Outcome, spelt, IsOutcome};
 
 /// A text spells at most one pattern.
 pub fn one_spelling()

@@ -1,6 +1,5 @@
-ghost use Rattle.std.specs.Prelude.{◌≡◌, ◌≤◌, ◌↔◌, IsTrue, ◌<◌, ◌+◌, length, None, MatchOption, position};
-ghost use Rattle.tre_parse.specs.Outcome.{is_big, open_after, deep_place, HasEmptyAt, IsFirstEmpty, NoneEmpty};
-ghost use Rattle.tre_parse.specs.Parts.{BeginsUnkept};
+ghost use Rattle.std.specs.Prelude.{◌≡◌, ◌≤◌, None, MatchOption, position};
+ghost use Rattle.tre_parse.specs.Outcome.{is_big, open_after, deep_place, IsFirstEmpty, NoneEmpty};
 
 use crate::cursor::Cursor;
 use crate::interval::interval;
@@ -20,16 +19,10 @@ pub(crate) const COUNT_MAX: u64 = 1_000_000_000;
 pub(crate) fn first_big(tokens: &[Token]) -> Option<usize>
     ensures { result ≡ position is_big tokens.now }
 {
-    tokens.iter().position(|token| is_big(*token))
-}
-
-fn is_big(token: Token) -> bool
-    ensures { result ≡ is_big token }
-{
-    match token {
-        Token::Number(number) => number > TIME_MAX,
+    tokens.iter().position(|token| match token {
+        Token::Number(number) => *number > TIME_MAX,
         _ => false,
-    }
+    })
 }
 
 /// The place of the first bracket at which more than `DEPTH_MAX` are open.
@@ -64,32 +57,16 @@ pub(crate) fn first_empty(tokens: &[Token]) -> Option<usize>
     ensures { MatchOption result (NoneEmpty tokens.now) (IsFirstEmpty tokens.now) }
 {
     for place in 0..tokens.len() {
-        if is_empty_after(tokens, place) {
+        let mut rest = Cursor::new(&tokens[place..]);
+        if !rest.accept(Token::Percent) {
+            continue;
+        }
+        let Ok(kept) = interval(&mut rest) else {
+            continue;
+        };
+        if kept.is_none() {
             return Some(place + 1);
         }
     }
     None
-}
-
-// Whether a `%` stands at the place, and after it an interval that no duration is in.
-fn is_empty_after(tokens: &[Token], place: usize) -> bool
-    requires here { place < length tokens.now }
-    requires small { position is_big tokens.now ≡ None }
-    ensures { IsTrue result ↔ HasEmptyAt tokens.now (place + 1) }
-{
-    match tokens[place] {
-        Token::Percent => begins_empty(&tokens[place + 1..]),
-        _ => false,
-    }
-}
-
-// Whether the tokens begin with an interval that can't be kept.
-fn begins_empty(tokens: &[Token]) -> bool
-    ensures { IsTrue result ↔ BeginsUnkept tokens.now }
-{
-    let mut rest = Cursor::new(tokens);
-    match interval(&mut rest) {
-        Ok(kept) => kept.is_none(),
-        Err(_) => false,
-    }
 }

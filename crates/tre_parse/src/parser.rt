@@ -1,21 +1,19 @@
-ghost use Rattle.std.specs.Prelude.{◌≡◌, Some, None, IfOk, MatchResult};
-ghost use Rattle.tre_syntax.specs.PatternTree.{PatternTree};
+ghost use Rattle.std.specs.Prelude.{◌≡◌, [], Ok, Some, None, IfOk, MatchResult};
 ghost use Rattle.tre_syntax.specs.Pattern.{pattern_tree, names_of};
-ghost use Rattle.tre_parse.specs.Reading.{ParsesWhole};
+ghost use Rattle.tre_parse.specs.Grammar.{expr};
+ghost use Rattle.tre_parse.specs.Reading.{ParsesBy};
 ghost use Rattle.tre_parse.specs.Numbering.{IsNumberedByUse};
-ghost use Rattle.tre_parse.specs.Operands.{Represents};
 ghost use Rattle.tre_parse.specs.Outcome.{IsSpelling, Outcome, limit_fault, IsOutcomeWithin, IsOutcome};
-ghost use Rattle.tre_parse.specs.Answers.{text_tokens_in, IsFaultOf, IsRepresented, IsBuildable, Answers};
+ghost use Rattle.tre_parse.specs.Answers.{text_tokens_in, IsFaultOf, Answers};
 
+use crate::connective::Join;
 use crate::cursor::{Cursor, Stop};
 use crate::expression::expression;
 use crate::fault::ParseFault;
 use crate::limits::{TEXT_MAX, first_big, first_deep, first_empty};
 use crate::operand::Operand;
 use crate::scan::{Scan, scan_text};
-use crate::token::Token;
 use std::alloc::Global;
-use tre_state::Names;
 use tre_syntax::{NODES_MAX, Pattern};
 
 /// The pattern that the text spells.
@@ -28,12 +26,6 @@ pub fn parse(alloc: Global, text: &str) -> Result<Pattern, ParseFault>
     ensures outcome { Answers (IsOutcome text.now) result }
     ensures only { (outcome : Outcome) → IsOutcome text.now outcome →
         Answers (λ answer. outcome ≡ answer) result }
-{
-    parse_text(alloc, text)
-}
-
-fn parse_text(alloc: Global, text: &str) -> Result<Pattern, ParseFault>
-    ensures { Answers (IsOutcome text.now) result }
 {
     if text.len() > TEXT_MAX {
         return Err(ParseFault::TooLong);
@@ -48,9 +40,22 @@ fn parse_words(alloc: Global, scan: Scan) -> Result<Pattern, ParseFault>
     requires { IsNumberedByUse (text_tokens_in scan) }
     ensures { Answers (IsOutcomeWithin (text_tokens_in scan)) result }
 {
-    check_limits(&scan)?;
-    match whole_expression(alloc, &scan.tokens) {
-        Ok(whole) => judge(scan, whole),
+    if let Some(place) = first_big(&scan.tokens) {
+        let at = scan.offset(place);
+        return Err(ParseFault::Number { at });
+    }
+    if let Some(place) = first_deep(&scan.tokens) {
+        let at = scan.offset(place);
+        return Err(ParseFault::TooDeep { at });
+    }
+    let mut rest = Cursor::new(&scan.tokens);
+    match expression(alloc, Join::Alternation, &mut rest) {
+        Ok(whole) => {
+            if rest.left() > 0 {
+                return Err(fault_of(&scan, rest.refused()));
+            }
+            judge(scan, whole)
+        }
         Err(stop) => Err(fault_of(&scan, stop)),
     }
 }
@@ -67,47 +72,16 @@ fn fault_of(scan: &Scan, stop: Stop) -> ParseFault
     }
 }
 
-// The expression that all the tokens spell.
-fn whole_expression(alloc: Global, tokens: &[Token]) -> Result<Operand, Stop>
-    ensures { ParsesWhole result tokens.now }
-{
-    let mut rest = Cursor::new(tokens);
-    let whole = expression(alloc, &mut rest)?;
-    if rest.left() > 0 {
-        return Err(rest.refused());
-    }
-    Ok(whole)
-}
-
-// The limits on numbers and on open brackets.
-fn check_limits(scan: &Scan) -> Result<(), ParseFault>
-    ensures { MatchResult result (λ _. limit_fault (text_tokens_in scan.now) ≡ None)
-        (λ fault. limit_fault (text_tokens_in scan.now) ≡ Some fault) }
-{
-    if let Some(place) = first_big(&scan.tokens) {
-        return Err(ParseFault::Number {
-            at: scan.offset(place),
-        });
-    }
-    if let Some(place) = first_deep(&scan.tokens) {
-        return Err(ParseFault::TooDeep {
-            at: scan.offset(place),
-        });
-    }
-    Ok(())
-}
-
 // What becomes of an expression that is spelt: the limits on its intervals, its names and its size.
 fn judge(scan: Scan, whole: Operand) -> Result<Pattern, ParseFault>
     requires numbered { IsNumberedByUse (text_tokens_in scan) }
     requires small { limit_fault (text_tokens_in scan) ≡ None }
-    requires whole { IsRepresented (text_tokens_in scan) whole }
+    requires whole { ParsesBy expr (Ok whole) scan.tokens.items [] }
     ensures { Answers (IsOutcomeWithin (text_tokens_in scan)) result }
 {
     if let Some(place) = first_empty(&scan.tokens) {
-        return Err(ParseFault::EmptyInterval {
-            at: scan.offset(place),
-        });
+        let at = scan.offset(place);
+        return Err(ParseFault::EmptyInterval { at });
     }
     if let Some(at) = scan.past {
         return Err(ParseFault::TooManyNames { at });
@@ -116,22 +90,12 @@ fn judge(scan: Scan, whole: Operand) -> Result<Pattern, ParseFault>
     if nodes > NODES_MAX {
         return Err(ParseFault::TooLarge { nodes });
     }
-    let names = scan.into_names();
-    Ok(build(names, whole))
-}
-
-// The pattern of an expression that is within all limits.
-fn build(names: Names, whole: Operand) -> Pattern
-    requires { IsBuildable names whole }
-    ensures tree { (tree : PatternTree) → Represents whole tree → pattern_tree result ≡ tree }
-    ensures names { names_of result ≡ names }
-{
-    let nodes = whole.nodes;
+    let Scan { names, .. } = scan;
     let Some(expr) = whole.into_tree(nodes) else {
         unreachable!()
     };
     let Some(pattern) = Pattern::new(expr, names) else {
         unreachable!()
     };
-    pattern
+    Ok(pattern)
 }

@@ -26,22 +26,6 @@ pub(crate) struct Scan {
 }
 
 impl Scan {
-    fn new(alloc: Global, size: u64) -> Scan
-        ensures tokens { result.tokens.items ≡ [] }
-        ensures offsets { result.offsets.items ≡ [] }
-        ensures names { result.names ≡ [] }
-        ensures past { result.past ≡ None }
-        ensures size { result.size ≡ size }
-    {
-        Scan {
-            tokens: Vec::new(alloc),
-            offsets: Vec::new(alloc),
-            names: Names::new(alloc),
-            past: None,
-            size,
-        }
-    }
-
     /// The offset of the token at a place, the length of the text where there is none.
     pub(crate) fn offset(&self, place: usize) -> u64
         ensures { result ≡ slice_index_or self.now.offsets.items place self.now.size }
@@ -49,20 +33,9 @@ impl Scan {
         self.offsets.get(place).copied().unwrap_or(self.size)
     }
 
-    /// The names alone.
-    pub(crate) fn into_names(self) -> Names
-        ensures { result ≡ self.names }
-    {
-        let Scan { names, .. } = self;
-        names
-    }
-
     // A token that is no name.
     fn put(&mut self, token: Token, at: usize) -> Result<(), AllocError>
-        ensures { OnOk result (TakesToken self.old self.new (record {
-          at = at;
-          word = sign token;
-        })) }
+        ensures { OnOk result (TakesToken self.old self.new at (sign token)) }
     {
         self.tokens.push(token)?;
         self.offsets.push(at as u64)?;
@@ -72,18 +45,21 @@ impl Scan {
     // A name, which is numbered.
     fn put_name(&mut self, word: &[u8], at: usize) -> Result<(), ParseFault>
         requires { IsName word.now }
-        ensures ok { OnOk result (TakesToken self.old self.new (record {
-          at = at;
-          word = name word.now;
-        })) }
+        ensures ok { OnOk result (TakesToken self.old self.new at (name word.now)) }
         ensures err { IfErr result (λ fault. fault ≡ ParseFault.Memory) }
     {
-        let number = number(&mut self.names, word)?;
-        self.put(Token::Name(number.unwrap_or(PAST)), at)?;
-        if number.is_none() && self.past.is_none() {
-            self.past = Some(at as u64);
+        let Ok(text) = str::from_utf8(word) else {
+            unreachable!()
+        };
+        match self.names.number(text) {
+            Ok(number) => Ok(self.put(Token::Name(number), at)?),
+            Err(NameFault::TooMany) => {
+                self.put(Token::Name(PAST), at)?;
+                self.past = self.past.or(Some(at as u64));
+                Ok(())
+            }
+            Err(NameFault::Memory) => Err(ParseFault::Memory),
         }
-        Ok(())
     }
 
     // What stands at an offset; answers the offset after it.
@@ -107,31 +83,19 @@ impl Scan {
     }
 }
 
-// The number of a name, None where the most are held.
-fn number(names: &mut Names, word: &[u8]) -> Result<Option<u8>, ParseFault>
-    requires { IsName word.now }
-    ensures number { IfOk result (λ number. number ≡ place_of
-        (names_with names.old word.now) word.now) }
-    ensures names { OnOk result (names.new ≡ names_with names.old word.now) }
-    ensures err { IfErr result (λ fault. fault ≡ ParseFault.Memory) }
-{
-    let Ok(text) = str::from_utf8(word) else {
-        unreachable!()
-    };
-    match names.number(text) {
-        Ok(number) => Ok(Some(number)),
-        Err(NameFault::TooMany) => Ok(None),
-        Err(NameFault::Memory) => Err(ParseFault::Memory),
-    }
-}
-
 /// The tokens of a text. Refuses the first byte at which no token begins.
 pub(crate) fn scan_text(alloc: Global, text: &str) -> Result<Scan, ParseFault>
     ensures ok { IfOk result (IsScan text.now) }
     ensures err { IfErr result (IsBadByte text.now 0) }
 {
     let bytes = text.as_bytes();
-    let mut scan = Scan::new(alloc, bytes.len() as u64);
+    let mut scan = Scan {
+        tokens: Vec::new(alloc),
+        offsets: Vec::new(alloc),
+        names: Names::new(alloc),
+        past: None,
+        size: bytes.len() as u64,
+    };
     let mut at = 0;
     while at < bytes.len() {
         at = scan.step(bytes, at)?;

@@ -1,8 +1,8 @@
-//! States, one function for each rule.
+//! States, one function for each kind of rule.
 ghost use Rattle.std.specs.Prelude.{◌≡◌, ◌≢◌, ◌≤◌, ◌++◌, length, replicate, IfOk};
-ghost use Rattle.tre_parse.specs.Grammar.{state, conj, neg};
 ghost use Rattle.tre_parse.specs.Front.{front};
-ghost use Rattle.tre_parse.specs.Reading.{IsPastConjunction, IsPastState, ParsesState, ParsesLiteral};
+ghost use Rattle.tre_parse.specs.Joins.{connected_rule, connected_part};
+ghost use Rattle.tre_parse.specs.Reading.{IsPastState, ParsesState, ParsesStateOperand, brackets_of};
 
 use crate::connective::Connective;
 use crate::counted::Counted;
@@ -12,57 +12,62 @@ use crate::token::Token;
 use std::alloc::Global;
 use tre_state::State;
 
-/// A state: conjunctions with `||` between them.
+/// States that are joined in one way, which are grouped to the left. With `||`, which binds least,
+/// between them they are a whole state.
 #[cycle(state)]
-pub(crate) fn state(alloc: Global, tokens: &mut Cursor) -> Result<Formula, Stop>
-    ensures reads { ParsesState state result tokens.old tokens.new }
+pub(crate) fn state(alloc: Global, how: Connective, tokens: &mut Cursor) -> Result<Formula, Stop>
+    ensures reads { ParsesState (connected_rule how) result tokens.old tokens.new }
     ensures shorter { IfOk result (λ _. length tokens.new ≤ length tokens.old) }
-    ensures ends { IfOk result (λ _. IsPastState (front tokens.new)) }
+    ensures ends { IfOk result (λ _. IsPastState (connected_rule how) (front tokens.new)) }
 {
-    let mut whole = conjunction(alloc, tokens)?;
-    while let Token::DoubleBar = tokens.peek() {
-        tokens.advance();
-        let next = conjunction(alloc, tokens)?;
-        whole = connected(alloc, Connective::Or, whole, next)?;
+    let mut whole = part(alloc, how, tokens)?;
+    while tokens.accept(how.sign()) {
+        let next = part(alloc, how, tokens)?;
+        whole = connected(alloc, how, whole, next)?;
     }
     Ok(whole)
 }
 
-// Operands with `&&` between them.
+// What stands between those signs.
 #[cycle(state)]
-fn conjunction(alloc: Global, tokens: &mut Cursor) -> Result<Formula, Stop>
-    ensures reads { ParsesState conj result tokens.old tokens.new }
+fn part(alloc: Global, how: Connective, tokens: &mut Cursor) -> Result<Formula, Stop>
+    ensures reads { ParsesState (connected_part how) result tokens.old tokens.new }
     ensures shorter { IfOk result (λ _. length tokens.new ≤ length tokens.old) }
-    ensures ends { IfOk result (λ _. IsPastConjunction (front tokens.new)) }
+    ensures ends { IfOk result (λ _. IsPastState (connected_part how) (front tokens.new)) }
 {
-    let mut whole = negation(alloc, tokens)?;
-    while let Token::DoubleAmpersand = tokens.peek() {
-        tokens.advance();
-        let next = negation(alloc, tokens)?;
-        whole = connected(alloc, Connective::And, whole, next)?;
+    match how {
+        Connective::Or => state(alloc, Connective::And, tokens),
+        Connective::And => operand(alloc, false, tokens),
     }
-    Ok(whole)
 }
 
-// Any number of `!`, and then an operand.
+/// Any number of `!`, and then a name, `true` or a state: in braces, as in a literal, or in
+/// parentheses.
 #[cycle(state)]
-fn negation(alloc: Global, tokens: &mut Cursor) -> Result<Formula, Stop>
-    ensures reads { ParsesState neg result tokens.old tokens.new }
+pub(crate) fn operand(alloc: Global, braces: bool, tokens: &mut Cursor) -> Result<Formula, Stop>
+    ensures reads { ParsesStateOperand braces result tokens.old tokens.new }
     ensures shorter { IfOk result (λ _. length tokens.new ≤ length tokens.old) }
 {
     let bangs = bangs(tokens);
-    let inside = operand(alloc, tokens)?;
-    let whole = negated(alloc, inside, bangs)?;
+    let mut whole = without_bangs(alloc, braces, tokens)?;
+    for _ in 0..bangs {
+        whole = negated(alloc, whole)?;
+    }
     Ok(whole)
 }
 
-// A name, `true` or a state in parentheses.
 #[cycle(state)]
-fn operand(alloc: Global, tokens: &mut Cursor) -> Result<Formula, Stop>
+fn without_bangs(alloc: Global, braces: bool, tokens: &mut Cursor) -> Result<Formula, Stop>
     requires { front tokens.old ≢ Token.Bang }
-    ensures reads { ParsesState neg result tokens.old tokens.new }
+    ensures reads { ParsesStateOperand braces result tokens.old tokens.new }
     ensures shorter { IfOk result (λ _. length tokens.new ≤ length tokens.old) }
 {
+    let (opening, closing) = brackets(braces);
+    if tokens.accept(opening) {
+        let inside = state(alloc, Connective::Or, tokens)?;
+        tokens.expect(closing)?;
+        return Ok(inside);
+    }
     match tokens.peek() {
         Token::Name(number) => {
             tokens.advance();
@@ -72,61 +77,27 @@ fn operand(alloc: Global, tokens: &mut Cursor) -> Result<Formula, Stop>
             tokens.advance();
             Ok(Counted::leaf(State::Yes))
         }
-        Token::LeftParen => {
-            tokens.advance();
-            let inside = state(alloc, tokens)?;
-            tokens.expect(Token::RightParen)?;
-            Ok(inside)
-        }
         _ => Err(tokens.refused()),
     }
 }
 
-/// Goes past as many `!` as there are, and counts them.
-pub(crate) fn bangs(tokens: &mut Cursor) -> u64
+fn brackets(braces: bool) -> (Token, Token)
+    ensures { result ≡ brackets_of braces }
+{
+    if braces {
+        (Token::LeftBrace, Token::RightBrace)
+    } else {
+        (Token::LeftParen, Token::RightParen)
+    }
+}
+
+// Goes past as many `!` as there are, and counts them.
+fn bangs(tokens: &mut Cursor) -> u64
     ensures bangs { tokens.old ≡ replicate result Token.Bang ++ tokens.new }
     ensures ends { front tokens.new ≢ Token.Bang }
     ensures shorter { length tokens.new ≤ length tokens.old }
 {
     let before = tokens.left();
-    while let Token::Bang = tokens.peek() {
-        tokens.advance();
-    }
+    while tokens.accept(Token::Bang) {}
     (before - tokens.left()) as u64
-}
-
-/// A literal: any number of `!`, and then a name, `true` or a state in braces.
-pub(crate) fn literal(alloc: Global, tokens: &mut Cursor) -> Result<Formula, Stop>
-    ensures reads { ParsesLiteral result tokens.old tokens.new }
-    ensures shorter { IfOk result (λ _. length tokens.new ≤ length tokens.old) }
-{
-    let bangs = bangs(tokens);
-    let inside = operand_of_literal(alloc, tokens)?;
-    let whole = negated(alloc, inside, bangs)?;
-    Ok(whole)
-}
-
-// A name, `true` or a state in braces.
-fn operand_of_literal(alloc: Global, tokens: &mut Cursor) -> Result<Formula, Stop>
-    requires { front tokens.old ≢ Token.Bang }
-    ensures reads { ParsesLiteral result tokens.old tokens.new }
-    ensures shorter { IfOk result (λ _. length tokens.new ≤ length tokens.old) }
-{
-    match tokens.peek() {
-        Token::Name(number) => {
-            tokens.advance();
-            Ok(Counted::leaf(State::Prop(number)))
-        }
-        Token::True => {
-            tokens.advance();
-            Ok(Counted::leaf(State::Yes))
-        }
-        Token::LeftBrace => {
-            tokens.advance();
-            let inside = state(alloc, tokens)?;
-            tokens.expect(Token::RightBrace)?;
-            Ok(inside)
-        }
-        _ => Err(tokens.refused()),
-    }
 }

@@ -1,173 +1,31 @@
-use Rattle.std.proofs.Common.{arith, ◌∙◌, refl}
+use Rattle.std.proofs.Common.{arith, ◌∙◌, ◌∷◌, refl, ap}
 use Rattle.std.proofs.lemmas.Result.{err_from_is_err_and}
-use Rattle.tre_parse.specs.declared.token.Token.TheVariants.{Eps, LeftParen, RightParen, Semicolon, Bar, Ampersand}
+use Rattle.tre_syntax.specs.PatternTree.{atom, empty}
+use Rattle.tre_parse.specs.declared.token.Token.TheVariants.{Eps, LeftParen, RightParen, Star, Plus, Question, Percent}
+use Rattle.tre_parse.specs.Joins.{join_sign}
 use Rattle.tre_parse.proofs.Counts.{leaf_counts}
 use Rattle.tre_parse.proofs.Steps.{goes_past, one_shorter}
-use Rattle.tre_parse.proofs.ExpressionSteps.{first_sequence, stop_first_sequence, more_sequence, stop_sequence, ends_sequence, first_intersection, stop_first_intersection, more_intersection, stop_intersection, ends_intersection, first_expression, stop_first_expression, more_expression, stop_expression, ends_expression, first_operand, stop_first_operand, first_refuses, more_operand, stop_operand, more_refuses, parens_read, parens_stop, parens_open, parens_refuse, eps_reads, eps_refuses}
+use Rattle.tre_parse.proofs.ExpressionSteps.{star_sign, plus_sign, question_sign, percent_sign, star_refuses, plus_refuses, question_refuses, percent_refuses, percent_stop, first_part, more_parts, stop_parts, first_operand, more_operand, stop_operand, more_refuses, parens_read, parens_stop, parens_open, parens_refuse, eps_reads, eps_refuses}
 use Rattle.tre_parse.proofs.expression.+expression.Goals as goal
 
-pub sequence-returns-in_err-whole-clause-reads : goal.sequence-returns-in_err-whole-clause-reads
-sequence-returns-in_err-whole-clause-reads t c =
-    let p = err_from_is_err_and c.from_residual.result c.from_residual.ensures.1 in
-    rw (p.1, p.2) (stop_first_sequence c.in_err-whole.field-0.0 c.args.tokens.now c.in_err-whole.ensures.reads)
-
-pub sequence-loop-tokens-init : goal.sequence-loop-tokens-init
-sequence-loop-tokens-init t c =
-    record { reads = first_sequence c.in_ok-whole.whole c.args.tokens.now c.operand.new.tokens c.in_ok-whole.ensures.reads; shorter = c.in_ok-whole.ensures.shorter; ends = c.in_ok-whole.ensures.ends }
-
-pub sequence-operand-requires-in-Semicolon : goal.sequence-operand-requires-in-Semicolon
-sequence-operand-requires-in-Semicolon t c =
-    let e = goes_past c.loop-tokens.tokens c.advance.new.self Semicolon c.in-Semicolon.ensures (λ q. cc) c.advance.ensures in
-    let n = one_shorter c.loop-tokens.tokens c.advance.new.self Semicolon e in
-    (omega (arith, n, c.loop-tokens.invariant.shorter), tt)
-
-pub sequence-returns-in_err-next-clause-reads : goal.sequence-returns-in_err-next-clause-reads
-sequence-returns-in_err-next-clause-reads t c =
-    let e = goes_past c.loop-tokens.tokens c.advance.new.self Semicolon c.in-Semicolon.ensures (λ q. cc) c.advance.ensures in
-    let p = err_from_is_err_and c.from_residual-in_err-next.result c.from_residual-in_err-next.ensures.1 in
-    rw (p.1, p.2) (stop_sequence c.in_err-next.field-0.0 c.loop-tokens.whole c.args.tokens.now c.loop-tokens.tokens c.advance.new.self c.loop-tokens.invariant.reads e c.in_err-next.ensures.reads)
-
-pub sequence-returns-in_err-whole-2-clause-reads : goal.sequence-returns-in_err-whole-2-clause-reads
-sequence-returns-in_err-whole-2-clause-reads t c =
-    let p = err_from_is_err_and c.from_residual-in_err-whole-2.result c.from_residual-in_err-whole-2.ensures.1 in
-    rw (p.1, p.2) tt
-
-pub sequence-loop-tokens-smaller : goal.sequence-loop-tokens-smaller
-sequence-loop-tokens-smaller t c =
-    let e = goes_past c.loop-tokens.tokens c.advance.new.self Semicolon c.in-Semicolon.ensures (λ q. cc) c.advance.ensures in
-    let n = one_shorter c.loop-tokens.tokens c.advance.new.self Semicolon e in
-    omega (arith, n, c.in_ok-next.ensures.shorter)
-
-pub sequence-loop-tokens-preserved : goal.sequence-loop-tokens-preserved
-sequence-loop-tokens-preserved t c =
-    let e = goes_past c.loop-tokens.tokens c.advance.new.self Semicolon c.in-Semicolon.ensures (λ q. cc) c.advance.ensures in
-    let n = one_shorter c.loop-tokens.tokens c.advance.new.self Semicolon e in
-    record {
-      reads = more_sequence c.loop-tokens.whole c.in_ok-next.next c.in_ok-whole-2.whole c.args.tokens.now c.loop-tokens.tokens c.advance.new.self c.operand-in-Semicolon.new.tokens c.loop-tokens.invariant.reads e c.in_ok-next.ensures.reads c.in_ok-whole-2.ensures;
-      shorter = omega (arith, n, c.in_ok-next.ensures.shorter, c.loop-tokens.invariant.shorter);
-      ends = c.in_ok-next.ensures.ends;
-    }
-
-pub sequence-returns : goal.sequence-returns
-sequence-returns t c =
-    record { reads = c.loop-tokens.invariant.reads; shorter = c.loop-tokens.invariant.shorter; ends = ends_sequence _ c.loop-tokens.invariant.ends (λ q. c.in_default.not-Semicolon (c.peek.ensures ∙ q)) }
-
-pub intersection-returns-in_err-whole-clause-reads : goal.intersection-returns-in_err-whole-clause-reads
-intersection-returns-in_err-whole-clause-reads t c =
-    let p = err_from_is_err_and c.from_residual.result c.from_residual.ensures.1 in
-    rw (p.1, p.2) (stop_first_intersection c.in_err-whole.field-0.0 c.args.tokens.now c.in_err-whole.ensures.reads)
-
-pub intersection-loop-tokens-init : goal.intersection-loop-tokens-init
-intersection-loop-tokens-init t c =
-    record { reads = first_intersection c.in_ok-whole.whole c.args.tokens.now c.sequence.new.tokens c.in_ok-whole.ensures.reads; shorter = c.in_ok-whole.ensures.shorter; ends = c.in_ok-whole.ensures.ends }
-
-pub intersection-sequence-requires-in-Ampersand : goal.intersection-sequence-requires-in-Ampersand
-intersection-sequence-requires-in-Ampersand t c =
-    let e = goes_past c.loop-tokens.tokens c.advance.new.self Ampersand c.in-Ampersand.ensures (λ q. cc) c.advance.ensures in
-    let n = one_shorter c.loop-tokens.tokens c.advance.new.self Ampersand e in
-    (omega (arith, n, c.loop-tokens.invariant.shorter), tt)
-
-pub intersection-returns-in_err-next-clause-reads : goal.intersection-returns-in_err-next-clause-reads
-intersection-returns-in_err-next-clause-reads t c =
-    let e = goes_past c.loop-tokens.tokens c.advance.new.self Ampersand c.in-Ampersand.ensures (λ q. cc) c.advance.ensures in
-    let p = err_from_is_err_and c.from_residual-in_err-next.result c.from_residual-in_err-next.ensures.1 in
-    rw (p.1, p.2) (stop_intersection c.in_err-next.field-0.0 c.loop-tokens.whole c.args.tokens.now c.loop-tokens.tokens c.advance.new.self c.loop-tokens.invariant.reads e c.in_err-next.ensures.reads)
-
-pub intersection-returns-in_err-whole-2-clause-reads : goal.intersection-returns-in_err-whole-2-clause-reads
-intersection-returns-in_err-whole-2-clause-reads t c =
-    let p = err_from_is_err_and c.from_residual-in_err-whole-2.result c.from_residual-in_err-whole-2.ensures.1 in
-    rw (p.1, p.2) tt
-
-pub intersection-loop-tokens-smaller : goal.intersection-loop-tokens-smaller
-intersection-loop-tokens-smaller t c =
-    let e = goes_past c.loop-tokens.tokens c.advance.new.self Ampersand c.in-Ampersand.ensures (λ q. cc) c.advance.ensures in
-    let n = one_shorter c.loop-tokens.tokens c.advance.new.self Ampersand e in
-    omega (arith, n, c.in_ok-next.ensures.shorter)
-
-pub intersection-loop-tokens-preserved : goal.intersection-loop-tokens-preserved
-intersection-loop-tokens-preserved t c =
-    let e = goes_past c.loop-tokens.tokens c.advance.new.self Ampersand c.in-Ampersand.ensures (λ q. cc) c.advance.ensures in
-    let n = one_shorter c.loop-tokens.tokens c.advance.new.self Ampersand e in
-    record {
-      reads = more_intersection c.loop-tokens.whole c.in_ok-next.next c.in_ok-whole-2.whole c.args.tokens.now c.loop-tokens.tokens c.advance.new.self c.sequence-in-Ampersand.new.tokens c.loop-tokens.invariant.reads e c.in_ok-next.ensures.reads c.in_ok-whole-2.ensures;
-      shorter = omega (arith, n, c.in_ok-next.ensures.shorter, c.loop-tokens.invariant.shorter);
-      ends = c.in_ok-next.ensures.ends;
-    }
-
-pub intersection-returns : goal.intersection-returns
-intersection-returns t c =
-    record { reads = c.loop-tokens.invariant.reads; shorter = c.loop-tokens.invariant.shorter; ends = ends_intersection _ c.loop-tokens.invariant.ends (λ q. c.in_default.not-Ampersand (c.peek.ensures ∙ q)) }
-
-pub expression-returns-in_err-whole-clause-reads : goal.expression-returns-in_err-whole-clause-reads
-expression-returns-in_err-whole-clause-reads t c =
-    let p = err_from_is_err_and c.from_residual.result c.from_residual.ensures.1 in
-    rw (p.1, p.2) (stop_first_expression c.in_err-whole.field-0.0 c.args.tokens.now c.in_err-whole.ensures.reads)
-
-pub expression-loop-tokens-init : goal.expression-loop-tokens-init
-expression-loop-tokens-init t c =
-    record { reads = first_expression c.in_ok-whole.whole c.args.tokens.now c.intersection.new.tokens c.in_ok-whole.ensures.reads; shorter = c.in_ok-whole.ensures.shorter; ends = c.in_ok-whole.ensures.ends }
-
-pub expression-intersection-requires-in-Bar : goal.expression-intersection-requires-in-Bar
-expression-intersection-requires-in-Bar t c =
-    let e = goes_past c.loop-tokens.tokens c.advance.new.self Bar c.in-Bar.ensures (λ q. cc) c.advance.ensures in
-    let n = one_shorter c.loop-tokens.tokens c.advance.new.self Bar e in
-    (omega (arith, n, c.loop-tokens.invariant.shorter), tt)
+pub expression-loop-alloc-init : goal.expression-loop-alloc-init
+expression-loop-alloc-init t c =
+    record { reads = first_part c.args.how c.in_ok-whole.whole c.args.tokens.now c.part.new.tokens c.in_ok-whole.ensures.reads; shorter = c.in_ok-whole.ensures.shorter; ends = c.in_ok-whole.ensures.ends }
 
 pub expression-returns-in_err-next-clause-reads : goal.expression-returns-in_err-next-clause-reads
 expression-returns-in_err-next-clause-reads t c =
-    let e = goes_past c.loop-tokens.tokens c.advance.new.self Bar c.in-Bar.ensures (λ q. cc) c.advance.ensures in
+    let e = c.loop-alloc-test.ensures ∙ ap (λ s. s ∷ c.accept.new.self) c.sign.ensures in
     let p = err_from_is_err_and c.from_residual-in_err-next.result c.from_residual-in_err-next.ensures.1 in
-    rw (p.1, p.2) (stop_expression c.in_err-next.field-0.0 c.loop-tokens.whole c.args.tokens.now c.loop-tokens.tokens c.advance.new.self c.loop-tokens.invariant.reads e c.in_err-next.ensures.reads)
+    rw (p.1, p.2) (stop_parts c.args.how c.in_err-next.field-0.0 c.loop-alloc.whole c.args.tokens.now c.loop-alloc.tokens c.accept.new.self c.loop-alloc.invariant.reads e c.in_err-next.ensures.reads)
 
-pub expression-returns-in_err-whole-2-clause-reads : goal.expression-returns-in_err-whole-2-clause-reads
-expression-returns-in_err-whole-2-clause-reads t c =
-    let p = err_from_is_err_and c.from_residual-in_err-whole-2.result c.from_residual-in_err-whole-2.ensures.1 in
-    rw (p.1, p.2) tt
-
-pub expression-loop-tokens-smaller : goal.expression-loop-tokens-smaller
-expression-loop-tokens-smaller t c =
-    let e = goes_past c.loop-tokens.tokens c.advance.new.self Bar c.in-Bar.ensures (λ q. cc) c.advance.ensures in
-    let n = one_shorter c.loop-tokens.tokens c.advance.new.self Bar e in
-    omega (arith, n, c.in_ok-next.ensures.shorter)
-
-pub expression-loop-tokens-preserved : goal.expression-loop-tokens-preserved
-expression-loop-tokens-preserved t c =
-    let e = goes_past c.loop-tokens.tokens c.advance.new.self Bar c.in-Bar.ensures (λ q. cc) c.advance.ensures in
-    let n = one_shorter c.loop-tokens.tokens c.advance.new.self Bar e in
+pub expression-loop-alloc-preserved : goal.expression-loop-alloc-preserved
+expression-loop-alloc-preserved t c =
+    let e = c.loop-alloc-test.ensures ∙ ap (λ s. s ∷ c.accept.new.self) c.sign.ensures in
+    let n = one_shorter c.loop-alloc.tokens c.accept.new.self (join_sign c.args.how) e in
     record {
-      reads = more_expression c.loop-tokens.whole c.in_ok-next.next c.in_ok-whole-2.whole c.args.tokens.now c.loop-tokens.tokens c.advance.new.self c.intersection-in-Bar.new.tokens c.loop-tokens.invariant.reads e c.in_ok-next.ensures.reads c.in_ok-whole-2.ensures;
-      shorter = omega (arith, n, c.in_ok-next.ensures.shorter, c.loop-tokens.invariant.shorter);
+      reads = more_parts c.args.how c.loop-alloc.whole c.in_ok-next.next c.in_ok-whole-2.whole c.args.tokens.now c.loop-alloc.tokens c.accept.new.self c.part-in-loop-alloc.new.tokens c.loop-alloc.invariant.reads e c.in_ok-next.ensures.reads c.in_ok-whole-2.ensures;
+      shorter = omega (arith, n, c.in_ok-next.ensures.shorter, c.loop-alloc.invariant.shorter);
       ends = c.in_ok-next.ensures.ends;
-    }
-
-pub expression-returns : goal.expression-returns
-expression-returns t c =
-    record { reads = c.loop-tokens.invariant.reads; shorter = c.loop-tokens.invariant.shorter; ends = ends_expression _ c.loop-tokens.invariant.ends (λ q. c.in_default.not-Bar (c.peek.ensures ∙ q)) }
-
-pub operand-returns-in_err-whole-clause-reads : goal.operand-returns-in_err-whole-clause-reads
-operand-returns-in_err-whole-clause-reads t c =
-    let p = err_from_is_err_and c.from_residual.result c.from_residual.ensures.1 in
-    rw (p.1, p.2) (stop_first_operand c.in_err-whole.field-0.0 c.args.tokens.now c.in_err-whole.ensures.reads)
-
-pub operand-loop-alloc-init : goal.operand-loop-alloc-init
-operand-loop-alloc-init t c =
-    record {
-      reads = first_operand c.in_ok-whole.whole c.args.tokens.now c.primary.new.tokens c.in_ok-whole.ensures.reads;
-      shorter = c.in_ok-whole.ensures.shorter;
-      ends = first_refuses c.args.tokens.now c.primary.new.tokens c.in_ok-whole.ensures.ends;
-    }
-
-pub operand-returns-in_err-whole-2-clause-reads : goal.operand-returns-in_err-whole-2-clause-reads
-operand-returns-in_err-whole-2-clause-reads t c =
-    let p = err_from_is_err_and c.from_residual-in_err-whole-2.result c.from_residual-in_err-whole-2.ensures.1 in
-    rw (p.1, p.2) (stop_operand c.in_err-whole-2.field-0.0 c.loop-alloc.whole c.args.tokens.now c.loop-alloc.tokens c.loop-alloc.invariant.reads c.in_err-whole-2.ensures.reads)
-
-pub operand-loop-alloc-preserved : goal.operand-loop-alloc-preserved
-operand-loop-alloc-preserved t c =
-    record {
-      reads = more_operand c.loop-alloc.whole c.in_ok-whole-2.whole c.args.tokens.now c.loop-alloc.tokens c.with_sign.new.tokens c.loop-alloc.invariant.reads c.in_ok-whole-2.ensures.reads;
-      shorter = omega (arith, c.in_ok-whole-2.ensures.shorter, c.loop-alloc.invariant.shorter);
-      ends = more_refuses c.loop-alloc.whole c.args.tokens.now c.loop-alloc.tokens c.with_sign.new.tokens c.loop-alloc.invariant.reads c.in_ok-whole-2.ensures.ends;
     }
 
 pub primary-expression-requires : goal.primary-expression-requires
@@ -214,3 +72,61 @@ pub primary-returns-in-Eps-clause-ends : goal.primary-returns-in-Eps-clause-ends
 primary-returns-in-Eps-clause-ends t c =
     let e = goes_past c.args.tokens.now c.advance.new.self Eps c.in-Eps.ensures (λ q. cc) c.advance.ensures in
     eps_refuses c.args.tokens.now c.advance.new.self e
+
+pub operand-loop-tokens-init : goal.operand-loop-tokens-init
+operand-loop-tokens-init t c =
+    record { reads = first_operand c.in_ok-whole.whole c.args.tokens.now c.primary.new.tokens c.in_ok-whole.ensures.reads; shorter = c.in_ok-whole.ensures.shorter; ends = c.in_ok-whole.ensures.ends }
+
+pub operand-loop-tokens-preserved-in-Star : goal.operand-loop-tokens-preserved-in-Star
+operand-loop-tokens-preserved-in-Star t c =
+    let e = goes_past c.loop-tokens.tokens c.advance.new.self Star c.in-Star.ensures (λ q. cc) c.advance.ensures in
+    let n = one_shorter c.loop-tokens.tokens c.advance.new.self Star e in
+    let made = star_sign c.loop-tokens.whole c.in_ok-whole-in-Star.whole c.loop-tokens.tokens c.advance.new.self e c.in_ok-whole-in-Star.ensures in
+    record {
+      reads = more_operand c.loop-tokens.whole c.in_ok-whole-in-Star.whole c.args.tokens.now c.loop-tokens.tokens c.advance.new.self c.loop-tokens.invariant.reads made;
+      shorter = omega (arith, n, c.loop-tokens.invariant.shorter);
+      ends = more_refuses c.loop-tokens.whole c.args.tokens.now c.loop-tokens.tokens c.advance.new.self c.loop-tokens.invariant.reads (star_refuses c.loop-tokens.tokens c.advance.new.self e);
+    }
+
+pub operand-loop-tokens-preserved-in-Plus : goal.operand-loop-tokens-preserved-in-Plus
+operand-loop-tokens-preserved-in-Plus t c =
+    let e = goes_past c.loop-tokens.tokens c.advance-in-Plus.new.self Plus c.in-Plus.ensures (λ q. cc) c.advance-in-Plus.ensures in
+    let n = one_shorter c.loop-tokens.tokens c.advance-in-Plus.new.self Plus e in
+    let made = plus_sign c.loop-tokens.whole c.in_ok-whole-in-Plus.whole c.loop-tokens.tokens c.advance-in-Plus.new.self e c.in_ok-whole-in-Plus.ensures in
+    record {
+      reads = more_operand c.loop-tokens.whole c.in_ok-whole-in-Plus.whole c.args.tokens.now c.loop-tokens.tokens c.advance-in-Plus.new.self c.loop-tokens.invariant.reads made;
+      shorter = omega (arith, n, c.loop-tokens.invariant.shorter);
+      ends = more_refuses c.loop-tokens.whole c.args.tokens.now c.loop-tokens.tokens c.advance-in-Plus.new.self c.loop-tokens.invariant.reads (plus_refuses c.loop-tokens.tokens c.advance-in-Plus.new.self e);
+    }
+
+pub operand-loop-tokens-preserved-in-Question : goal.operand-loop-tokens-preserved-in-Question
+operand-loop-tokens-preserved-in-Question t c =
+    let e = goes_past c.loop-tokens.tokens c.advance-in-Question.new.self Question c.in-Question.ensures (λ q. cc) c.advance-in-Question.ensures in
+    let n = one_shorter c.loop-tokens.tokens c.advance-in-Question.new.self Question e in
+    let made = question_sign c.loop-tokens.whole c.in_ok-whole-in-Question.whole c.loop-tokens.tokens c.advance-in-Question.new.self e
+    (λ x h. c.in_ok-whole-in-Question.ensures x (atom empty) h (leaf_counts c.leaf-empty.result _ c.leaf-empty.ensures.nodes c.leaf-empty.ensures.tree refl)) in
+    record {
+      reads = more_operand c.loop-tokens.whole c.in_ok-whole-in-Question.whole c.args.tokens.now c.loop-tokens.tokens c.advance-in-Question.new.self c.loop-tokens.invariant.reads made;
+      shorter = omega (arith, n, c.loop-tokens.invariant.shorter);
+      ends = more_refuses c.loop-tokens.whole c.args.tokens.now c.loop-tokens.tokens c.advance-in-Question.new.self c.loop-tokens.invariant.reads (question_refuses c.loop-tokens.tokens c.advance-in-Question.new.self e);
+    }
+
+pub operand-returns-in_err-within-in-Percent-clause-reads : goal.operand-returns-in_err-within-in-Percent-clause-reads
+operand-returns-in_err-within-in-Percent-clause-reads t c =
+    let e = goes_past c.loop-tokens.tokens c.advance-in-Percent.new.self Percent c.in-Percent.ensures (λ q. cc) c.advance-in-Percent.ensures in
+    let p = err_from_is_err_and c.from_residual-in_err-within-in-Percent.result c.from_residual-in_err-within-in-Percent.ensures.1 in
+    let stop = percent_stop c.in_err-within-in-Percent.field-0.0 c.loop-tokens.tokens c.advance-in-Percent.new.self e c.in_err-within-in-Percent.ensures.reads in
+    rw (p.1, p.2) (stop_operand c.in_err-within-in-Percent.field-0.0 c.loop-tokens.whole c.args.tokens.now c.loop-tokens.tokens c.loop-tokens.invariant.reads stop)
+
+pub operand-loop-tokens-preserved : goal.operand-loop-tokens-preserved
+operand-loop-tokens-preserved t c =
+    let e = goes_past c.loop-tokens.tokens c.advance-in-Percent.new.self Percent c.in-Percent.ensures (λ q. cc) c.advance-in-Percent.ensures in
+    let n = one_shorter c.loop-tokens.tokens c.advance-in-Percent.new.self Percent e in
+    let made = percent_sign c.loop-tokens.whole c.in_ok-whole-in-Percent.whole c.in_ok-within-in-Percent.within c.loop-tokens.tokens c.advance-in-Percent.new.self c.interval.new.tokens e c.in_ok-within-in-Percent.ensures.reads
+    (λ x ends m h. c.in_ok-whole-in-Percent.ensures x ends m h) in
+    record {
+      reads = more_operand c.loop-tokens.whole c.in_ok-whole-in-Percent.whole c.args.tokens.now c.loop-tokens.tokens c.interval.new.tokens c.loop-tokens.invariant.reads made;
+      shorter = omega (arith, n, c.in_ok-within-in-Percent.ensures.shorter, c.loop-tokens.invariant.shorter);
+      ends = more_refuses c.loop-tokens.whole c.args.tokens.now c.loop-tokens.tokens c.interval.new.tokens c.loop-tokens.invariant.reads
+          (percent_refuses c.in_ok-within-in-Percent.within c.loop-tokens.tokens c.advance-in-Percent.new.self c.interval.new.tokens e c.in_ok-within-in-Percent.ensures.reads);
+    }

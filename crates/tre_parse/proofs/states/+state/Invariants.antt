@@ -1,37 +1,40 @@
-use Rattle.std.proofs.Common.{◌≤◌, ◌+◌, ◌*◌, length}
-use Rattle.tre_parse.specs.Grammar.{state, conj, SpellsState}
+use Rattle.std.proofs.Common.{ℕ, ◌≤◌, ◌+◌, ◌*◌, length}
+use Rattle.tre_state.specs.StateTree.{StateTree}
+use Rattle.tre_parse.specs.declared.connective.Connective.{Connective}
+use Rattle.tre_parse.specs.declared.connective.Connective.TheVariants.{And, Or}
+use Rattle.tre_parse.specs.Grammar.{SpellsState}
+use Rattle.tre_parse.specs.Joins.{negated, connected_rule, connected_part}
 use Rattle.tre_parse.specs.Operands.{RepresentsState}
 use Rattle.tre_parse.specs.Front.{front}
-use Rattle.tre_parse.specs.Reading.{IsPastConjunction, Takes}
+use Rattle.tre_parse.specs.Reading.{IsPastState, Takes}
 use Rattle.tre_parse.proofs.states.+state.Given as goal
 
+-- How far a function is from the innermost.
+abbrev rank : Connective → ℕ
+rank And = 0
+rank Or = 2
+
+abbrev pub decreases-without_bangs : goal.decreases-without_bangs
+decreases-without_bangs l = 6 * length l.tokens.now
+
 abbrev pub decreases-operand : goal.decreases-operand
-decreases-operand l = 4 * length l.tokens.now
+decreases-operand l = 6 * length l.tokens.now + 1
 
-abbrev pub decreases-negation : goal.decreases-negation
-decreases-negation l = 4 * length l.tokens.now + 1
-
-abbrev pub decreases-conjunction : goal.decreases-conjunction
-decreases-conjunction l = 4 * length l.tokens.now + 2
+abbrev pub decreases-part : goal.decreases-part
+decreases-part l = 6 * length l.tokens.now + 2 + rank l.how
 
 abbrev pub decreases-state : goal.decreases-state
-decreases-state l = 4 * length l.tokens.now + 3
+decreases-state l = 6 * length l.tokens.now + 3 + rank l.how
 
-abbrev pub invariant-conjunction-loop-tokens : goal.invariant-conjunction-loop-tokens
-invariant-conjunction-loop-tokens l = record {
-  reads : Takes (SpellsState conj) RepresentsState l.whole l.fn.tokens l.tokens;
+abbrev pub invariant-state-loop-alloc : goal.invariant-state-loop-alloc
+invariant-state-loop-alloc l = record {
+  reads : Takes (SpellsState (connected_rule l.how)) RepresentsState l.whole l.fn.tokens l.tokens;
   shorter : length l.tokens ≤ length l.fn.tokens;
+  ends : IsPastState (connected_part l.how) (front l.tokens);
 }
 
-abbrev pub decreases-conjunction-loop-tokens : goal.decreases-conjunction-loop-tokens
-decreases-conjunction-loop-tokens l = length l.tokens
+abbrev pub decreases-state-loop-alloc : goal.decreases-state-loop-alloc
+decreases-state-loop-alloc l = length l.tokens
 
-abbrev pub invariant-state-loop-tokens : goal.invariant-state-loop-tokens
-invariant-state-loop-tokens l = record {
-  reads : Takes (SpellsState state) RepresentsState l.whole l.fn.tokens l.tokens;
-  shorter : length l.tokens ≤ length l.fn.tokens;
-  ends : IsPastConjunction (front l.tokens);
-}
-
-abbrev pub decreases-state-loop-tokens : goal.decreases-state-loop-tokens
-decreases-state-loop-tokens l = length l.tokens
+abbrev pub invariant-operand-loop : goal.invariant-operand-loop
+invariant-operand-loop l = (s : StateTree) → RepresentsState l.initial.whole s → RepresentsState l.whole (negated l.counter s)
