@@ -106,8 +106,8 @@ brackets_of false = (LeftParen, RightParen)
 
 abbrev pub ParsesStateOperand : Bool → Result Formula Stop → List Token → List Token → Type 0
 ParsesStateOperand braces result old new =
-    Parses (SpellsState (operand_in braces)) RepresentsState (StateOperandMayCome braces (front old))
-    result old new
+    Parses (SpellsState (operand_in braces)) RepresentsState
+    (StateOperandMayCome braces (front old)) result old new
 
 abbrev pub ParsesInterval : Result (Option IntervalEnds) Stop → List Token → List Token → Type 0
 ParsesInterval result old new =

@@ -48,9 +48,9 @@ pub fn closure_up_to(
     Ok(chains)
 }
 
-// The zones of the chains of the steps that last at most `longest`, beside the instants. The list of
-// what was reached is also that of what is still to do: before its zones from `place` on no step has
-// been put yet.
+// The zones of the chains of the steps that last at most `longest`, beside the instants. The list
+// of what was reached is also that of what is still to do: before its zones from `place` on no step
+// has been put yet.
 //
 // The instants may begin and end at any time, so with them in the list each search would come down
 // to them.
