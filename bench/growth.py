@@ -10,7 +10,7 @@ import os
 import sys
 import tempfile
 
-from measure import adopt_orphans, cell, count_lines, measure, print_head, print_row, ratio
+from measure import adopt_orphans, cell, count_lines, measure_by_turns, print_head, print_row, ratio
 
 SIZES = [10**4, 10**5, 10**6]
 PATTERNS = [
@@ -45,20 +45,30 @@ def write_trace(folder, size):
     return path
 
 
-def print_rows(montre, folder, sizes, pattern, of_p):
-    """A row for each size; `of_p` keeps the seconds of `p` by size."""
-    output = os.path.join(folder, "output")
+def runs_of(montre, folder, sizes, patterns):
+    """What each pattern takes at each size, and where its output is. So many runs are one that
+    all sizes take as long, and none is told by a moment in which the machine is fast."""
+    keys = [(pattern, size) for pattern in patterns for size in sizes]
+    outputs = [os.path.join(folder, "output%d" % place) for place in range(len(keys))]
+    jobs = [([montre, pattern], write_trace(folder, size), output, sizes[-1] // size)
+            for (pattern, size), output in zip(keys, outputs)]
+    return dict(zip(keys, zip(measure_by_turns(jobs), outputs)))
+
+
+def print_rows(montre, folder, sizes, pattern):
+    """A row for each size, beside `p` by turns."""
+    runs = runs_of(montre, folder, sizes, sorted({PATTERNS[0], pattern}))
     before = None
     for size in sizes:
-        run = measure([montre, pattern], write_trace(folder, size), output)
+        run, output = runs[pattern, size]
         if run.stopped is not None:
             print_row([cell(pattern), str(size), "-", run.stopped] + ["-"] * 6)
             return
         zones = count_lines(output) - 1
-        of_p.setdefault(size, run.seconds)
+        of_p = runs[PATTERNS[0], size][0]
         growth = ratio(run.seconds, before[0] * size / before[1]) if before else "-"
         print_row([cell(pattern), str(size), str(zones), "%.4f" % run.seconds,
-                   ratio(run.seconds, of_p[size]), growth,
+                   ratio(run.seconds, of_p.seconds), growth,
                    "%.1f" % (run.peak / 1024),
                    "%d" % (run.peak * 1024 / size),
                    ratio(run.peak * 1024, zones),
@@ -72,14 +82,13 @@ def main():
     montre = os.path.abspath(sys.argv[1])
     most = int(sys.argv[2]) if len(sys.argv) == 3 else SIZES[-1]
     adopt_orphans()
-    of_p = {}
     with tempfile.TemporaryDirectory() as folder:
         print_head(["pattern", "segments", "zones", "seconds", "times `p`",
                     "growth", "MB", "bytes a segment", "bytes a zone",
                     "microseconds a zone"])
         for pattern in PATTERNS:
             print_rows(montre, folder, [size for size in SIZES if size <= most],
-                       pattern, of_p)
+                       pattern)
 
 
 if __name__ == "__main__":

@@ -9,6 +9,7 @@ import sys
 SECONDS = 20         # processor time that one run may take
 KILOBYTES = 3000000  # memory that one run may take
 ONCE = 5             # a run that takes more seconds than this isn't repeated
+ROUNDS = 5           # how many turns any other has
 
 # The shell ends at once, and what it started becomes a child of this script.
 # A child that this script started itself would be told as no smaller than
@@ -18,7 +19,7 @@ START = ('ulimit -c 0; ulimit -t "$1"; ulimit -v "$2"; input=$3; output=$4; '
 
 
 class Run:
-    """Why it was stopped or None, and of the best of three the seconds and the kilobytes."""
+    """Why it was stopped or None, and of the best run the seconds and the kilobytes."""
 
     def __init__(self, stopped, user=0.0, system=0.0, peak=0):
         self.stopped = stopped
@@ -55,20 +56,45 @@ def why_stopped(status):
     return None
 
 
-def measure(words, trace, output):
-    best = None
-    for _ in range(3):
+def measured(words, trace, output, times):
+    """The mean of so many runs, one after another."""
+    user = system = peak = 0
+    for _ in range(times):
         status, usage = run_once(words, trace, output)
         stopped = why_stopped(status)
         if stopped is not None:
             return Run(stopped)
-        run = Run(None, usage.ru_utime, usage.ru_stime, usage.ru_maxrss)
-        if best is None or run.seconds < best.seconds:
-            run.peak = min(run.peak, best.peak) if best else run.peak
-            best = run
-        if run.seconds > ONCE:
-            break
+        user += usage.ru_utime / times
+        system += usage.ru_stime / times
+        peak = max(peak, usage.ru_maxrss)
+    return Run(None, user, system, peak)
+
+
+def better(best, run):
+    if best is None or run.stopped is not None:
+        return run
+    peak = min(best.peak, run.peak)
+    faster = run if run.seconds < best.seconds else best
+    return Run(None, faster.user, faster.seconds - faster.user, peak)
+
+
+def is_enough(run):
+    return run is not None and (run.stopped is not None or run.seconds > ONCE)
+
+
+def measure_by_turns(jobs):
+    """The best of each job: words, a trace, an output, and how many runs are one. All have a turn
+    before any has another, so a machine that gets slower or faster disturbs their ratios less."""
+    best = [None] * len(jobs)
+    for _ in range(ROUNDS):
+        for place, job in enumerate(jobs):
+            if not is_enough(best[place]):
+                best[place] = better(best[place], measured(*job))
     return best
+
+
+def measure(words, trace, output):
+    return measure_by_turns([(words, trace, output, 1)])[0]
 
 
 def count_lines(path):
