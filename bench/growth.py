@@ -9,6 +9,7 @@ For Linux. Standard library alone.
 import os
 import sys
 import tempfile
+from statistics import median
 
 from measure import adopt_orphans, cell, count_lines, measure_by_turns, print_head, print_row, ratio
 
@@ -45,35 +46,39 @@ def write_trace(folder, size):
     return path
 
 
-def runs_of(montre, folder, sizes, patterns):
-    """What each pattern takes at each size, and where its output is. So many runs are one that
-    all sizes take as long, and none is told by a moment in which the machine is fast."""
-    keys = [(pattern, size) for pattern in patterns for size in sizes]
+def turns_of(montre, folder, sizes, patterns):
+    """The turns of each pattern at each size, and where the last output is. So many runs are one
+    turn that all sizes take as long, and none is told by a moment in which the machine is fast."""
+    keys = [(pattern, size) for size in sizes for pattern in patterns]
     outputs = [os.path.join(folder, "output%d" % place) for place in range(len(keys))]
     jobs = [([montre, pattern], write_trace(folder, size), output, sizes[-1] // size)
             for (pattern, size), output in zip(keys, outputs)]
     return dict(zip(keys, zip(measure_by_turns(jobs), outputs)))
 
 
+def middle_ratio(runs, others, scale=1):
+    """The middle of the ratios of two jobs, turn by turn."""
+    return median(run.seconds / (scale * other.seconds) for run, other in zip(runs, others))
+
+
 def print_rows(montre, folder, sizes, pattern):
     """A row for each size, beside `p` by turns."""
-    runs = runs_of(montre, folder, sizes, sorted({PATTERNS[0], pattern}))
+    turns = turns_of(montre, folder, sizes, sorted({PATTERNS[0], pattern}))
     before = None
     for size in sizes:
-        run, output = runs[pattern, size]
-        if run.stopped is not None:
-            print_row([cell(pattern), str(size), "-", run.stopped] + ["-"] * 6)
+        runs, output = turns[pattern, size]
+        if runs[-1].stopped is not None:
+            print_row([cell(pattern), str(size), "-", runs[-1].stopped] + ["-"] * 6)
             return
         zones = count_lines(output) - 1
-        of_p = runs[PATTERNS[0], size][0]
-        growth = ratio(run.seconds, before[0] * size / before[1]) if before else "-"
-        print_row([cell(pattern), str(size), str(zones), "%.4f" % run.seconds,
-                   ratio(run.seconds, of_p.seconds), growth,
-                   "%.1f" % (run.peak / 1024),
-                   "%d" % (run.peak * 1024 / size),
-                   ratio(run.peak * 1024, zones),
-                   ratio(1e6 * run.seconds, zones)])
-        before = run.seconds, size
+        seconds = median(run.seconds for run in runs)
+        peak = min(run.peak for run in runs)
+        growth = "%.3g" % middle_ratio(runs, before[0], size / before[1]) if before else "-"
+        print_row([cell(pattern), str(size), str(zones), "%.4f" % seconds,
+                   "%.3g" % middle_ratio(runs, turns[PATTERNS[0], size][0]), growth,
+                   "%.1f" % (peak / 1024), "%d" % (peak * 1024 / size),
+                   ratio(peak * 1024, zones), ratio(1e6 * seconds, zones)])
+        before = runs, size
 
 
 def main():

@@ -19,7 +19,7 @@ START = ('ulimit -c 0; ulimit -t "$1"; ulimit -v "$2"; input=$3; output=$4; '
 
 
 class Run:
-    """Why it was stopped or None, and of the best run the seconds and the kilobytes."""
+    """Why it was stopped or None, and otherwise the seconds and the kilobytes."""
 
     def __init__(self, stopped, user=0.0, system=0.0, peak=0):
         self.stopped = stopped
@@ -70,31 +70,29 @@ def measured(words, trace, output, times):
     return Run(None, user, system, peak)
 
 
-def better(best, run):
-    if best is None or run.stopped is not None:
-        return run
-    peak = min(best.peak, run.peak)
-    faster = run if run.seconds < best.seconds else best
-    return Run(None, faster.user, faster.seconds - faster.user, peak)
-
-
-def is_enough(run):
-    return run is not None and (run.stopped is not None or run.seconds > ONCE)
+def is_enough(runs):
+    return bool(runs) and (runs[-1].stopped is not None or runs[-1].seconds > ONCE)
 
 
 def measure_by_turns(jobs):
-    """The best of each job: words, a trace, an output, and how many runs are one. All have a turn
-    before any has another, so a machine that gets slower or faster disturbs their ratios less."""
-    best = [None] * len(jobs)
+    """The turns of each job: words, a trace, an output, and how many runs are one turn.
+
+    All have a turn before any has another, so a machine that gets slower or faster disturbs their
+    ratios less."""
+    turns = [[] for _ in jobs]
     for _ in range(ROUNDS):
-        for place, job in enumerate(jobs):
-            if not is_enough(best[place]):
-                best[place] = better(best[place], measured(*job))
-    return best
+        for runs, job in zip(turns, jobs):
+            if not is_enough(runs):
+                runs.append(measured(*job))
+    return turns
 
 
 def measure(words, trace, output):
-    return measure_by_turns([(words, trace, output, 1)])[0]
+    runs = measure_by_turns([(words, trace, output, 1)])[0]
+    if runs[-1].stopped is not None:
+        return runs[-1]
+    best = min(runs, key=lambda run: run.seconds)
+    return Run(None, best.user, best.seconds - best.user, min(run.peak for run in runs))
 
 
 def count_lines(path):
