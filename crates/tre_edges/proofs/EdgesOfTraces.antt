@@ -18,7 +18,8 @@ before_at segments (suc place) = Some (valuation_at segments place)
 -- the edges at the place and later
 abbrev pub EdgesFrom : (ℕ → Type 0) → (ℕ → Type 0) → List Segment → ℕ → Pairs
 EdgesFrom P Q segments place =
-    EdgeMatches P Q (rest_of (time_of segments place) (before_at segments place) (drop place segments))
+    EdgeMatches P Q (rest_of (time_of segments place) (before_at segments place)
+    (drop place segments))
 
 module _ (P Q : ℕ → Type 0) (segments : List Segment) (a b n : ℕ) where
   -- the edge at one place, and the later ones

@@ -74,7 +74,8 @@ module _ (state : StateTree) (segments : List Segment) (words : List ℕ)
           moved early,
           has_truth state segments words truth turn early becomes (last.there early),
         )) where
-          twice : (value : Bool) (v : ℕ) → HasTruth (not (not value)) state v → HasTruth value state v
+          twice : (value : Bool) (v : ℕ) → HasTruth (not (not value)) state v
+              → HasTruth value state v
           twice true v h = h
           twice false v h = h
 

@@ -22,7 +22,8 @@ long_at : (segments : List Segment) (place : ℕ) (d : Segment) → AreLong segm
     → place < length segments → 1 ≤ (get_or segments place d).len
 long_at [] place d long within = absurd (omega arith)
 long_at (segment ∷ rest) zero d long within = long.0
-long_at (segment ∷ rest) (suc place) d long within = long_at rest place d long.1 (omega (arith, within))
+long_at (segment ∷ rest) (suc place) d long within =
+    long_at rest place d long.1 (omega (arith, within))
 
 pub time_of-mono : (segments : List Segment) (from to : ℕ) → from ≤ to
     → time_of segments from ≤ time_of segments to

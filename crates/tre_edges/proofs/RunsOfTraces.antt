@@ -46,7 +46,8 @@ module _ (P : ℕ → Type 0) (segments : List Segment) (a b n : ℕ) where
       (λ to. FromPlace P segments begin place a b n ↔ FromPlace P segments begin to a b n)
       (omega arith) ((λ h. h), (λ h. h))
   run_true begin place (suc count) within holds =
-      let first = one_true begin place (omega (arith, within)) (holds place (omega arith) (omega arith)) in
+      let first = one_true begin place (omega (arith, within))
+      (holds place (omega arith) (omega arith)) in
       let back : place + 1 + count ≡ place + suc count = omega arith in
       let more =
       subst
@@ -110,7 +111,8 @@ module _ (P : ℕ → Type 0) (segments : List Segment) (a b n : ℕ) where
       rw to_begin at (skip_false at (begin - at) (omega (arith, order, lasts, within))
       (λ k late early. outside k late (omega (arith, early, order)))) in
       let run =
-      rw to_end at (run_true (time_of segments begin) begin (end - begin) (omega (arith, lasts, within))
+      rw to_end at (run_true (time_of segments begin) begin (end - begin)
+      (omega (arith, lasts, within))
       (λ k late early. inside k late (omega (arith, early, lasts)))) in
       elim (cases_lt end (length segments)) [
         | inl early ↦

@@ -64,7 +64,11 @@ module _ (segments : List Segment) where
           let bit = bit_in-and a b same place in
           let small = bit_in-lt a place in
           let small' = bit_in-lt b place in (
-            λ both. (one.0 (omega (arith, bit, both, small, small')), other.0 (omega (arith, bit, both, small, small'))),
+            λ both. (
+              one.0 (omega (arith, bit, both, small, small')),
+              other.0
+                  (omega (arith, bit, both, small, small')),
+            ),
             λ holds. omega (arith, bit, one.1 holds.0, other.1 holds.1),
           );
       past = λ place late.

@@ -56,7 +56,8 @@ bit_in-not words place within fits =
 module _ (word low : ℕ) (small : low < 64) where
   mask_is : 1 * 2 ^ low % 2 ^ 64 - 1 ≡ 2 ^ low - 1
   mask_is =
-      ap (λ n. n - 1) (ap (λ n. n % 2 ^ 64) (one-mul (2 ^ low)) ∙ mod-eq_of_lt (pow_below low 64 small))
+      ap (λ n. n - 1) (ap (λ n. n % 2 ^ 64) (one-mul (2 ^ low))
+      ∙ mod-eq_of_lt (pow_below low 64 small))
 
   below : (i : ℕ) → i < low → bit_at (bit_and word (1 * 2 ^ low % 2 ^ 64 - 1)) i ≡ bit_at word i
   below i early =

@@ -1,27 +1,18 @@
 -- Sets that hold exactly a relation, and relations that hold of the same pairs.
-use Rattle.std.proofs.Common.{ℕ, ◌<◌, ◌≤◌, List, [], ◌∷◌, ⊎_elim}
+use Rattle.std.proofs.Common.{List}
 use Rattle.tre_pairs.specs.Pairs.{Pairs}
 use Rattle.tre_pairs.proofs.Laws.{IsOrdered, Agree}
-use Rattle.tre_zone.specs.ZoneList.{SetHolds, AreCanonical, HoldExactly}
+use Rattle.tre_zone.specs.ZoneList.{SetHolds, HoldExactly}
 use Rattle.tre_zone.specs.declared.zone_bounds.ZoneBounds.{ZoneBounds}
-use Rattle.tre_zone.proofs.Scaling.{canonical-frame}
+use Rattle.tre_zone.proofs.Scaling.{SetHolds-rising}
 use Rattle.tre_zoneset.specs.ZoneSet.{IsZoneSet}
 
--- The pairs of a set of zones are ordered.
-SetHolds-le : (zones : List ZoneBounds) → AreCanonical zones → (a b n : ℕ) → 0 < n
-    → SetHolds zones a b n → a ≤ b
-unfolding SetHolds AreCanonical
-SetHolds-le [] all a b n some h = absurd h
-SetHolds-le (zone ∷ zones) all a b n some h =
-    ⊎_elim (λ x. (canonical-frame zone all.0 a b n some x).rising)
-    (λ x. SetHolds-le zones all.1 a b n some x) h
-
--- So a set that holds exactly an ordered relation agrees with it, also where no order is asked.
+-- A set that holds exactly an ordered relation agrees with it, also where no order is asked.
 pub Agree-held : (zones : List ZoneBounds) (R : Pairs) → IsZoneSet zones → IsOrdered R
     → HoldExactly zones R → Agree (SetHolds zones) R
 Agree-held zones R set ordered held = record {
   at = λ a b n some. (
-    (λ h. (held.exact a b n some (SetHolds-le zones set.canonical a b n some h)).0 h),
+    (λ h. (held.exact a b n some (SetHolds-rising zones set.canonical a b n some h)).0 h),
     (λ h. (held.exact a b n some (ordered.le a b n h)).1 h),
   );
 }

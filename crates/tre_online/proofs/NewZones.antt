@@ -4,8 +4,9 @@ use Rattle.std.proofs.lemmas.List.{take_more}
 use Rattle.tre_zone.specs.Zone.{ZoneHolds}
 use Rattle.tre_zone.specs.ZoneList.{SetHolds, AreApart, IsApartFrom, IsApart}
 use Rattle.tre_zone.specs.declared.zone_bounds.ZoneBounds.{ZoneBounds}
-use Rattle.tre_zone.proofs.ZoneListLemmas.{AreApart-swap}
+use Rattle.tre_zone.proofs.ZoneListLemmas.{AreApart-swap, IsApartFrom-at}
 use Rattle.tre_zoneset.specs.ZoneSet.{Without}
+use Rattle.tre_zoneset.proofs.Kept.{IsApartFrom-fewer}
 use Rattle.tre_zoneset.proofs.Unions.{SetHolds-included}
 use Rattle.tre_online.specs.Told.{WasTold, IsKeptNew}
 
@@ -32,14 +33,6 @@ module _ (P : ZoneBounds → Type 0) where
       added old rest zone w stays,
     ),
   )
-
-  apart_from : (zone : ZoneBounds) (old kept : List ZoneBounds) → Without P old kept
-      → IsApartFrom zone old → IsApartFrom zone kept
-  unfolding Without IsApartFrom
-  apart_from zone [] kept is apart = subst (IsApartFrom zone) (sym is) tt
-  apart_from zone (other ∷ old) kept (inl gone) apart = apart_from zone old kept gone.1 apart.1
-  apart_from zone (other ∷ old) kept (inr (stays, (rest, is, without))) apart =
-      subst (IsApartFrom zone) (sym is) (apart.0, apart_from zone old rest without apart.1)
 
   -- P holds of none that stays.
   pub never_kept : (old kept : List ZoneBounds) → Without P old kept → (k : ℕ) (d : ZoneBounds)
@@ -80,14 +73,6 @@ held_or_told earlier found told without a b n some le h =
     (held_or_gone (WasTold earlier) found told without a b n h)
 
 -- A member is apart from those before it.
-apart_get : (zone : ZoneBounds) (zones : List ZoneBounds) (i : ℕ) (d : ZoneBounds)
-    → IsApartFrom zone zones → i < length zones → AreApart zone (get_or zones i d)
-unfolding IsApartFrom
-apart_get zone [] i d apart below = absurd (omega (arith, below))
-apart_get zone (other ∷ zones) zero d apart below = apart.0
-apart_get zone (other ∷ zones) (suc i) d apart below =
-    apart_get zone zones i d apart.1 (omega (arith, below))
-
 apart_before : (zones : List ZoneBounds) (i : ℕ) (d : ZoneBounds) → IsApart zones
     → i < length zones → IsApartFrom (get_or zones i d) (take i zones)
 unfolding IsApart IsApartFrom
@@ -95,7 +80,7 @@ apart_before [] i d apart below = absurd (omega (arith, below))
 apart_before (first ∷ zones) zero d apart below = tt
 apart_before (first ∷ zones) (suc i) d apart below = (
   AreApart-swap first (get_or zones i d)
-      (apart_get first zones i d apart.0 (omega (arith, below))),
+      (IsApartFrom-at first zones i d apart.0 (omega (arith, below))),
   apart_before zones i d apart.1 (omega (arith, below)),
 )
 
@@ -104,7 +89,7 @@ module _ (zones told : List ZoneBounds) (i : ℕ) (zone : ZoneBounds) (below : i
   pub apart_next : (P : ZoneBounds → Type 0) → IsApart zones → Without P (take i zones) told
       → IsApartFrom zone told
   apart_next P apart without =
-      apart_from P zone (take i zones) told without
+      IsApartFrom-fewer P zone (take i zones) told without
       (subst (λ (z : ZoneBounds). IsApartFrom z (take i zones)) (sym is)
       (apart_before zones i zone apart below))
 

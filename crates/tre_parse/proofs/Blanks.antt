@@ -14,21 +14,30 @@ use Rattle.tre_parse.specs.Outcome.{IsSpelling}
 use Rattle.tre_parse.specs.Blanks.{counted_on, SaysAs}
 use Rattle.tre_parse.proofs.Fronts.{take_front, lexeme_front, lexeme_fits}
 
--- The words of two texts, one after the other: where the first has a bad byte, the second isn't reached.
+-- The words of two texts, one after the other: where the first has a bad byte, the second isn't
+-- reached.
 abbrev joined_at : List RawTokenAt → Option ℕ → RawTokens → RawTokens
 joined_at raw_tokens (Some at) second = record { raw_tokens = raw_tokens; bad = Some at }
-joined_at raw_tokens None second = record { raw_tokens = raw_tokens ++ second.raw_tokens; bad = second.bad }
+joined_at raw_tokens None second = record {
+  raw_tokens = raw_tokens ++ second.raw_tokens;
+  bad =
+      second.bad;
+}
 
 abbrev joined : RawTokens → RawTokens → RawTokens
 joined first second = joined_at first.raw_tokens first.bad second
 
-joined_word : (at : ℕ) (word : RawToken) (raw_tokens : List RawTokenAt) (bad : Option ℕ) (second : RawTokens) →
-    with_raw_token at word (joined_at raw_tokens bad second) ≡ joined_at (record { at = at; word = word } ∷ raw_tokens) bad second
+joined_word : (at : ℕ) (word : RawToken) (raw_tokens : List RawTokenAt) (bad : Option ℕ)
+    (second : RawTokens) →
+    with_raw_token at word (joined_at raw_tokens bad second)
+    ≡ joined_at (record { at = at; word = word } ∷ raw_tokens) bad second
 joined_word at word raw_tokens (Some b) second = refl
 joined_word at word raw_tokens None second = refl
 
-joined_scan : (lexeme : Lexeme) (at : ℕ) (xs rest : List ℕ) (long short : ℕ → RawTokens) (second : RawTokens) → 1 ≤ length xs → FitsIn (length xs) lexeme →
-    ((k : ℕ) → k + 1 ≤ length xs → long k ≡ joined (short k) second) → scanned lexeme at (xs ++ rest) long ≡ joined (scanned lexeme at xs short) second
+joined_scan : (lexeme : Lexeme) (at : ℕ) (xs rest : List ℕ) (long short : ℕ → RawTokens)
+    (second : RawTokens) → 1 ≤ length xs → FitsIn (length xs) lexeme →
+    ((k : ℕ) → k + 1 ≤ length xs → long k ≡ joined (short k) second)
+    → scanned lexeme at (xs ++ rest) long ≡ joined (scanned lexeme at xs short) second
 joined_scan Blank at xs rest long short second some h go = go 0 some
 joined_scan Wrong at xs rest long short second some h go = refl
 joined_scan (Name len) at xs rest long short second some h go =
@@ -39,145 +48,206 @@ joined_scan (Sign token len) at xs rest long short second some h go =
     ap (with_raw_token at (sign token)) (go (len - 1) (omega (arith, h.0, h.1)))
     ∙ joined_word at (sign token) (short (len - 1)).raw_tokens (short (len - 1)).bad second
 
-lexed_blank : (at : ℕ) (c : ℕ) (ys : List ℕ) → is_blank c ≡ true → raw_tokens_from 0 at (c ∷ ys) ≡ raw_tokens_from 0 (at + 1) ys
+lexed_blank : (at : ℕ) (c : ℕ) (ys : List ℕ) → is_blank c ≡ true → raw_tokens_from 0 at (c ∷ ys)
+    ≡ raw_tokens_from 0 (at + 1) ys
 lexed_blank at c ys h =
-    ap (λ t. scanned (if t then Blank else (if starts_name c then word_lexeme (c ∷ ys) else (if is_ascii_digit c then number_lexeme (c ∷ ys) else sign_lexeme (c ∷ ys)))) at (c ∷ ys) (λ skip. raw_tokens_from skip (at + 1) ys)) h
+    ap (λ t. scanned (if t then Blank else (if starts_name c then word_lexeme (c ∷ ys) else
+    (if is_ascii_digit c then number_lexeme (c ∷ ys) else sign_lexeme (c ∷ ys)))) at (c ∷ ys)
+    (λ skip. raw_tokens_from skip (at + 1) ys)) h
 
 -- The words before a blank, and then those after it.
-lexed_parts : (skip at : ℕ) (xs : List ℕ) (c : ℕ) (ys : List ℕ) → is_blank c ≡ true → skip ≤ length xs →
-    raw_tokens_from skip at (xs ++ c ∷ ys) ≡ joined (raw_tokens_from skip at xs) (raw_tokens_from 0 (at + (length xs + 1)) ys)
+lexed_parts : (skip at : ℕ) (xs : List ℕ) (c : ℕ) (ys : List ℕ) → is_blank c ≡ true
+    → skip ≤ length xs →
+    raw_tokens_from skip at (xs ++ c ∷ ys) ≡ joined (raw_tokens_from skip at xs)
+    (raw_tokens_from 0 (at + (length xs + 1)) ys)
 lexed_parts zero at [] c ys h le = lexed_blank at c ys h
 lexed_parts (suc skip) at [] c ys h le = absurd (omega arith)
 lexed_parts (suc skip) at (x ∷ xs) c ys h le =
     let e : at + 1 + (length xs + 1) ≡ at + (length (x ∷ xs) + 1) = omega arith in
-    lexed_parts skip (at + 1) xs c ys h (omega arith) ∙ ap (λ n. joined (raw_tokens_from skip (at + 1) xs) (raw_tokens_from 0 n ys)) e
+    lexed_parts skip (at + 1) xs c ys h (omega arith)
+    ∙ ap (λ n. joined (raw_tokens_from skip (at + 1) xs) (raw_tokens_from 0 n ys)) e
 lexed_parts zero at (x ∷ xs) c ys h le =
     let e : at + 1 + (length xs + 1) ≡ at + (length (x ∷ xs) + 1) = omega arith in
     let second = raw_tokens_from 0 (at + (length (x ∷ xs) + 1)) ys in
-    ap (λ l. scanned l at (x ∷ (xs ++ c ∷ ys)) (λ skip. raw_tokens_from skip (at + 1) (xs ++ c ∷ ys))) (lexeme_front x xs c ys h)
-    ∙ joined_scan (lexeme_of (x ∷ xs)) at (x ∷ xs) (c ∷ ys) (λ skip. raw_tokens_from skip (at + 1) (xs ++ c ∷ ys)) (λ skip. raw_tokens_from skip (at + 1) xs) second
+    ap (λ l. scanned l at (x ∷ (xs ++ c ∷ ys)) (λ skip. raw_tokens_from skip (at + 1)
+    (xs ++ c ∷ ys))) (lexeme_front x xs c ys h)
+    ∙ joined_scan (lexeme_of (x ∷ xs)) at (x ∷ xs) (c ∷ ys)
+    (λ skip. raw_tokens_from skip (at + 1) (xs ++ c ∷ ys))
+    (λ skip. raw_tokens_from skip (at + 1) xs) second
     (omega arith) (lexeme_fits (x ∷ xs) (omega arith))
-    (λ k le. lexed_parts k (at + 1) xs c ys h (omega arith) ∙ ap (λ n. joined (raw_tokens_from k (at + 1) xs) (raw_tokens_from 0 n ys)) e)
+    (λ k le. lexed_parts k (at + 1) xs c ys h (omega arith)
+    ∙ ap (λ n. joined (raw_tokens_from k (at + 1) xs) (raw_tokens_from 0 n ys)) e)
 
 -- The words of a text that begins so many bytes further on.
 abbrev further : ℕ → RawTokens → RawTokens
-further n words = record { raw_tokens = counted_on n words.raw_tokens; bad = option_map (λ at. at + n) words.bad }
+further n words = record {
+  raw_tokens = counted_on n words.raw_tokens;
+  bad =
+      option_map (λ at. at + n) words.bad;
+}
 
-further_scan : (lexeme : Lexeme) (at n : ℕ) (bytes : List ℕ) (moved here : ℕ → RawTokens) → ((k : ℕ) → moved k ≡ further n (here k)) →
+further_scan : (lexeme : Lexeme) (at n : ℕ) (bytes : List ℕ) (moved here : ℕ → RawTokens)
+    → ((k : ℕ) → moved k ≡ further n (here k)) →
     scanned lexeme (at + n) bytes moved ≡ further n (scanned lexeme at bytes here)
 further_scan Blank at n bytes moved here go = go 0
 further_scan Wrong at n bytes moved here go = refl
-further_scan (Name len) at n bytes moved here go = ap (with_raw_token (at + n) (name (take len bytes))) (go (len - 1))
-further_scan (Sign token len) at n bytes moved here go = ap (with_raw_token (at + n) (sign token)) (go (len - 1))
+further_scan (Name len) at n bytes moved here go =
+    ap (with_raw_token (at + n) (name (take len bytes))) (go (len - 1))
+further_scan (Sign token len) at n bytes moved here go =
+    ap (with_raw_token (at + n) (sign token)) (go (len - 1))
 
-lexed_further : (skip at n : ℕ) (bytes : List ℕ) → raw_tokens_from skip (at + n) bytes ≡ further n (raw_tokens_from skip at bytes)
+lexed_further : (skip at n : ℕ) (bytes : List ℕ) → raw_tokens_from skip (at + n) bytes
+    ≡ further n (raw_tokens_from skip at bytes)
 lexed_further skip at n [] = refl
 lexed_further (suc skip) at n (b ∷ bs) =
     let e : at + n + 1 ≡ at + 1 + n = omega arith in
     ap (λ m. raw_tokens_from skip m bs) e ∙ lexed_further skip (at + 1) n bs
 lexed_further zero at n (b ∷ bs) =
     let e : at + n + 1 ≡ at + 1 + n = omega arith in
-    further_scan (lexeme_of (b ∷ bs)) at n (b ∷ bs) (λ skip. raw_tokens_from skip (at + n + 1) bs) (λ skip. raw_tokens_from skip (at + 1) bs)
+    further_scan (lexeme_of (b ∷ bs)) at n (b ∷ bs) (λ skip. raw_tokens_from skip (at + n + 1) bs)
+    (λ skip. raw_tokens_from skip (at + 1) bs)
     (λ k. ap (λ m. raw_tokens_from k m bs) e ∙ lexed_further k (at + 1) n bs)
 
 text_parts : (front rest : List ℕ) (blank : ℕ) → is_blank blank ≡ true →
-    raw_tokens_from 0 0 (front ++ blank ∷ rest) ≡ joined (raw_tokens_from 0 0 front) (further (length front + 1) (raw_tokens_from 0 0 rest))
+    raw_tokens_from 0 0 (front ++ blank ∷ rest) ≡ joined (raw_tokens_from 0 0 front)
+    (further (length front + 1) (raw_tokens_from 0 0 rest))
 text_parts front rest blank h =
-    lexed_parts 0 0 front blank rest h (omega arith) ∙ ap (joined (raw_tokens_from 0 0 front)) (lexed_further 0 0 (length front + 1) rest)
+    lexed_parts 0 0 front blank rest h (omega arith)
+    ∙ ap (joined (raw_tokens_from 0 0 front)) (lexed_further 0 0 (length front + 1) rest)
 
-pub words_after : (front rest : List ℕ) (blank : ℕ) → is_blank blank ≡ true → bad_byte front ≡ None →
-    raw_tokens_of (front ++ blank ∷ rest) ≡ raw_tokens_of front ++ counted_on (length front + 1) (raw_tokens_of rest)
+pub words_after : (front rest : List ℕ) (blank : ℕ) → is_blank blank ≡ true → bad_byte front ≡ None
+    →
+    raw_tokens_of (front ++ blank ∷ rest) ≡ raw_tokens_of front ++ counted_on (length front + 1)
+    (raw_tokens_of rest)
 words_after front rest blank h good =
     ap (λ (l : RawTokens). l.raw_tokens) (text_parts front rest blank h)
-    ∙ ap (λ b. (joined_at (raw_tokens_of front) b (further (length front + 1) (raw_tokens_from 0 0 rest))).raw_tokens) good
+    ∙ ap (λ b. (joined_at (raw_tokens_of front) b (further (length front + 1)
+    (raw_tokens_from 0 0 rest))).raw_tokens) good
 
 pub bad_after : (front rest : List ℕ) (blank : ℕ) → is_blank blank ≡ true → bad_byte front ≡ None →
     bad_byte (front ++ blank ∷ rest) ≡ option_map (λ at. at + (length front + 1)) (bad_byte rest)
 bad_after front rest blank h good =
     ap (λ (l : RawTokens). l.bad) (text_parts front rest blank h)
-    ∙ ap (λ b. (joined_at (raw_tokens_of front) b (further (length front + 1) (raw_tokens_from 0 0 rest))).bad) good
+    ∙ ap (λ b. (joined_at (raw_tokens_of front) b (further (length front + 1)
+    (raw_tokens_from 0 0 rest))).bad) good
 
-pub bad_before : (front rest : List ℕ) (blank at : ℕ) → is_blank blank ≡ true → bad_byte front ≡ Some at → bad_byte (front ++ blank ∷ rest) ≡ Some at
+pub bad_before : (front rest : List ℕ) (blank at : ℕ) → is_blank blank ≡ true → bad_byte front
+    ≡ Some at → bad_byte (front ++ blank ∷ rest) ≡ Some at
 bad_before front rest blank at h bad =
     ap (λ (l : RawTokens). l.bad) (text_parts front rest blank h)
-    ∙ ap (λ b. (joined_at (raw_tokens_of front) b (further (length front + 1) (raw_tokens_from 0 0 rest))).bad) bad
+    ∙ ap (λ b. (joined_at (raw_tokens_of front) b (further (length front + 1)
+    (raw_tokens_from 0 0 rest))).bad) bad
 
 -- What words say, wherever they stand.
 record SaySame (words other : RawTokens) : Type 0 where
-  tokens : (known : List (List ℕ)) → tokens_from known words.raw_tokens ≡ tokens_from known other.raw_tokens
-  names : (known : List (List ℕ)) → names_from known words.raw_tokens ≡ names_from known other.raw_tokens
+  tokens : (known : List (List ℕ)) → tokens_from known words.raw_tokens
+      ≡ tokens_from known other.raw_tokens
+  names : (known : List (List ℕ)) → names_from known words.raw_tokens
+      ≡ names_from known other.raw_tokens
   bad : is_none words.bad ≡ is_none other.bad
 
-same_text : (text other : List ℕ) (words others : RawTokens) → raw_tokens_from 0 0 text ≡ words → raw_tokens_from 0 0 other ≡ others → SaySame words others → SaysAs text other
+same_text : (text other : List ℕ) (words others : RawTokens) → raw_tokens_from 0 0 text ≡ words
+    → raw_tokens_from 0 0 other ≡ others → SaySame words others → SaysAs text other
 same_text text other words others e f same = record {
-  tokens = ap (λ (l : RawTokens). tokens_from [] l.raw_tokens) e ∙ same.tokens [] ∙ ap (λ (l : RawTokens). tokens_from [] l.raw_tokens) (sym f);
-  names = ap (λ (l : RawTokens). names_from [] l.raw_tokens) e ∙ same.names [] ∙ ap (λ (l : RawTokens). names_from [] l.raw_tokens) (sym f);
-  bad = ap (λ (l : RawTokens). is_none l.bad) e ∙ same.bad ∙ ap (λ (l : RawTokens). is_none l.bad) (sym f);
+  tokens = ap (λ (l : RawTokens). tokens_from [] l.raw_tokens) e ∙ same.tokens []
+      ∙ ap (λ (l : RawTokens). tokens_from [] l.raw_tokens) (sym f);
+  names = ap (λ (l : RawTokens). names_from [] l.raw_tokens) e ∙ same.names []
+      ∙ ap (λ (l : RawTokens). names_from [] l.raw_tokens) (sym f);
+  bad = ap (λ (l : RawTokens). is_none l.bad) e ∙ same.bad
+      ∙ ap (λ (l : RawTokens). is_none l.bad) (sym f);
 }
 
 none_moved : (n : ℕ) (bad : Option ℕ) → is_none (option_map (λ at. at + n) bad) ≡ is_none bad
 none_moved n None = refl
 none_moved n (Some at) = refl
 
-tokens_moved : (n : ℕ) (raw_tokens : List RawTokenAt) (known : List (List ℕ)) → tokens_from known (counted_on n raw_tokens) ≡ tokens_from known raw_tokens
+tokens_moved : (n : ℕ) (raw_tokens : List RawTokenAt) (known : List (List ℕ))
+    → tokens_from known (counted_on n raw_tokens) ≡ tokens_from known raw_tokens
 tokens_moved n [] known = refl
-tokens_moved n (raw ∷ rest) known = ap (λ l. token_of known raw.word ∷ l) (tokens_moved n rest (known_after known raw.word))
+tokens_moved n (raw ∷ rest) known = ap (λ l. token_of known raw.word ∷ l)
+    (tokens_moved n rest (known_after known raw.word))
 
-names_moved : (n : ℕ) (raw_tokens : List RawTokenAt) (known : List (List ℕ)) → names_from known (counted_on n raw_tokens) ≡ names_from known raw_tokens
+names_moved : (n : ℕ) (raw_tokens : List RawTokenAt) (known : List (List ℕ))
+    → names_from known (counted_on n raw_tokens) ≡ names_from known raw_tokens
 names_moved n [] known = refl
 names_moved n (raw ∷ rest) known = names_moved n rest (known_after known raw.word)
 
 same_moved : (n m : ℕ) (words : RawTokens) → SaySame (further n words) (further m words)
 same_moved n m words = record {
-  tokens = λ known. tokens_moved n words.raw_tokens known ∙ sym (tokens_moved m words.raw_tokens known);
-  names = λ known. names_moved n words.raw_tokens known ∙ sym (names_moved m words.raw_tokens known);
+  tokens = λ known. tokens_moved n words.raw_tokens known
+      ∙ sym (tokens_moved m words.raw_tokens known);
+  names = λ known. names_moved n words.raw_tokens known
+      ∙ sym (names_moved m words.raw_tokens known);
   bad = none_moved n words.bad ∙ sym (none_moved m words.bad);
 }
 
-tokens_behind : (front raw_tokens others : List RawTokenAt) → ((known : List (List ℕ)) → tokens_from known raw_tokens ≡ tokens_from known others) → (known : List (List ℕ)) →
+tokens_behind : (front raw_tokens others : List RawTokenAt)
+    → ((known : List (List ℕ)) → tokens_from known raw_tokens ≡ tokens_from known others)
+    → (known : List (List ℕ)) →
     tokens_from known (front ++ raw_tokens) ≡ tokens_from known (front ++ others)
 tokens_behind [] raw_tokens others same known = same known
-tokens_behind (raw ∷ rest) raw_tokens others same known = ap (λ l. token_of known raw.word ∷ l) (tokens_behind rest raw_tokens others same (known_after known raw.word))
+tokens_behind (raw ∷ rest) raw_tokens others same known =
+    ap (λ l. token_of known raw.word ∷ l) (tokens_behind rest raw_tokens others same
+    (known_after known raw.word))
 
-names_behind : (front raw_tokens others : List RawTokenAt) → ((known : List (List ℕ)) → names_from known raw_tokens ≡ names_from known others) → (known : List (List ℕ)) →
+names_behind : (front raw_tokens others : List RawTokenAt)
+    → ((known : List (List ℕ)) → names_from known raw_tokens ≡ names_from known others)
+    → (known : List (List ℕ)) →
     names_from known (front ++ raw_tokens) ≡ names_from known (front ++ others)
 names_behind [] raw_tokens others same known = same known
-names_behind (raw ∷ rest) raw_tokens others same known = names_behind rest raw_tokens others same (known_after known raw.word)
+names_behind (raw ∷ rest) raw_tokens others same known =
+    names_behind rest raw_tokens others same (known_after known raw.word)
 
-same_behind : (front : List RawTokenAt) (bad : Option ℕ) (words others : RawTokens) → SaySame words others → SaySame (joined_at front bad words) (joined_at front bad others)
-same_behind front (Some at) words others same = record { tokens = λ known. refl; names = λ known. refl; bad = refl }
+same_behind : (front : List RawTokenAt) (bad : Option ℕ) (words others : RawTokens)
+    → SaySame words others → SaySame (joined_at front bad words) (joined_at front bad others)
+same_behind front (Some at) words others same = record
+    { tokens = λ known. refl; names = λ known. refl; bad = refl }
 same_behind front None words others same = record {
   tokens = tokens_behind front words.raw_tokens others.raw_tokens same.tokens;
   names = names_behind front words.raw_tokens others.raw_tokens same.names;
   bad = same.bad;
 }
 
-lexed_moved : (n : ℕ) (bytes : List ℕ) → raw_tokens_from 0 n bytes ≡ further n (raw_tokens_from 0 0 bytes)
-lexed_moved n bytes = let e : n ≡ 0 + n = omega arith in ap (λ m. raw_tokens_from 0 m bytes) e ∙ lexed_further 0 0 n bytes
+lexed_moved : (n : ℕ) (bytes : List ℕ) → raw_tokens_from 0 n bytes
+    ≡ further n (raw_tokens_from 0 0 bytes)
+lexed_moved n bytes = let e : n ≡ 0 + n = omega arith in
+    ap (λ m. raw_tokens_from 0 m bytes) e ∙ lexed_further 0 0 n bytes
 
-joined_none : (front : List RawTokenAt) (bad : Option ℕ) → joined_at front bad nothing_left ≡ record { raw_tokens = front; bad = bad }
+joined_none : (front : List RawTokenAt) (bad : Option ℕ) → joined_at front bad nothing_left
+    ≡ record { raw_tokens = front; bad = bad }
 joined_none front (Some at) = refl
-joined_none front None = ap (λ (raw_tokens : List RawTokenAt). record { raw_tokens = raw_tokens; bad = None }) (append-nil front)
+joined_none front None = ap (λ (raw_tokens : List RawTokenAt). record
+    { raw_tokens = raw_tokens; bad = None }) (append-nil front)
 
-pub another : (front rest : List ℕ) (blank other : ℕ) → is_blank blank ≡ true → is_blank other ≡ true → SaysAs (front ++ other ∷ rest) (front ++ blank ∷ rest)
+pub another : (front rest : List ℕ) (blank other : ℕ) → is_blank blank ≡ true → is_blank other
+    ≡ true → SaysAs (front ++ other ∷ rest) (front ++ blank ∷ rest)
 another front rest blank other h k =
-    same_text (front ++ other ∷ rest) (front ++ blank ∷ rest) _ _ (text_parts front rest other k) (text_parts front rest blank h)
-    (same_behind (raw_tokens_of front) (bad_byte front) _ _ (same_moved (length front + 1) (length front + 1) (raw_tokens_from 0 0 rest)))
+    same_text (front ++ other ∷ rest) (front ++ blank ∷ rest) _ _ (text_parts front rest other k)
+    (text_parts front rest blank h)
+    (same_behind (raw_tokens_of front) (bad_byte front) _ _
+    (same_moved (length front + 1) (length front + 1) (raw_tokens_from 0 0 rest)))
 
-pub more : (front rest : List ℕ) (blank other : ℕ) → is_blank blank ≡ true → is_blank other ≡ true → SaysAs (front ++ blank ∷ other ∷ rest) (front ++ blank ∷ rest)
+pub more : (front rest : List ℕ) (blank other : ℕ) → is_blank blank ≡ true → is_blank other ≡ true
+    → SaysAs (front ++ blank ∷ other ∷ rest) (front ++ blank ∷ rest)
 more front rest blank other h k =
     let n = length front + 1 in
-    let twice = lexed_parts 0 0 front blank (other ∷ rest) h (omega arith) ∙ ap (joined (raw_tokens_from 0 0 front)) (lexed_blank (0 + n) other rest k ∙ lexed_moved (0 + n + 1) rest) in
-    same_text (front ++ blank ∷ other ∷ rest) (front ++ blank ∷ rest) _ _ twice (text_parts front rest blank h)
-    (same_behind (raw_tokens_of front) (bad_byte front) _ _ (same_moved (0 + n + 1) n (raw_tokens_from 0 0 rest)))
+    let twice = lexed_parts 0 0 front blank (other ∷ rest) h (omega arith)
+    ∙ ap (joined (raw_tokens_from 0 0 front)) (lexed_blank (0 + n) other rest k
+    ∙ lexed_moved (0 + n + 1) rest) in
+    same_text (front ++ blank ∷ other ∷ rest) (front ++ blank ∷ rest) _ _ twice
+    (text_parts front rest blank h)
+    (same_behind (raw_tokens_of front) (bad_byte front) _ _
+    (same_moved (0 + n + 1) n (raw_tokens_from 0 0 rest)))
 
 pub in_front : (text : List ℕ) (blank : ℕ) → is_blank blank ≡ true → SaysAs (blank ∷ text) text
 in_front text blank h =
-    same_text (blank ∷ text) text _ _ (lexed_blank 0 blank text h ∙ lexed_moved (0 + 1) text) (lexed_moved 0 text) (same_moved (0 + 1) 0 (raw_tokens_from 0 0 text))
+    same_text (blank ∷ text) text _ _ (lexed_blank 0 blank text h ∙ lexed_moved (0 + 1) text)
+    (lexed_moved 0 text) (same_moved (0 + 1) 0 (raw_tokens_from 0 0 text))
 
 pub at_end : (text : List ℕ) (blank : ℕ) → is_blank blank ≡ true → SaysAs (text ++ blank ∷ []) text
 at_end text blank h =
-    same_text (text ++ blank ∷ []) text _ _ (text_parts text [] blank h ∙ joined_none (raw_tokens_of text) (bad_byte text)) refl
+    same_text (text ++ blank ∷ []) text _ _ (text_parts text [] blank h
+    ∙ joined_none (raw_tokens_of text) (bad_byte text)) refl
     (record { tokens = λ known. refl; names = λ known. refl; bad = refl })
 
 none_same : (bad other : Option ℕ) → is_none bad ≡ is_none other → bad ≡ None → other ≡ None
@@ -185,7 +255,8 @@ none_same bad None e h = refl
 none_same None (Some at) e h = absurd (cc)
 none_same (Some b) (Some at) e h = absurd (cc)
 
-same_spelling : (text other : List ℕ) (tree : PatternTree) (names : List (List ℕ)) → SaysAs text other → IsSpelling text tree names → IsSpelling other tree names
+same_spelling : (text other : List ℕ) (tree : PatternTree) (names : List (List ℕ))
+    → SaysAs text other → IsSpelling text tree names → IsSpelling other tree names
 same_spelling text other tree names same spelling = record {
   tokens_alone = none_same (bad_byte text) (bad_byte other) same.bad spelling.tokens_alone;
   spells = subst (λ tokens. Spells expr tokens tree) same.tokens spelling.spells;
@@ -193,9 +264,16 @@ same_spelling text other tree names same spelling = record {
 }
 
 -- Texts that say the same spell the same.
-pub spell_same : (text other : List ℕ) (tree : PatternTree) (names : List (List ℕ)) → SaysAs text other →
-    (IsSpelling text tree names → IsSpelling other tree names) × (IsSpelling other tree names → IsSpelling text tree names)
+pub spell_same : (text other : List ℕ) (tree : PatternTree) (names : List (List ℕ))
+    → SaysAs text other →
+    (IsSpelling text tree names → IsSpelling other tree names)
+    × (IsSpelling other tree names → IsSpelling text tree names)
 spell_same text other tree names same = (
   same_spelling text other tree names same,
-  same_spelling other text tree names (record { tokens = sym same.tokens; names = sym same.names; bad = sym same.bad }),
+  same_spelling other text tree names (record {
+    tokens = sym same.tokens;
+    names =
+        sym same.names;
+    bad = sym same.bad;
+  }),
 )

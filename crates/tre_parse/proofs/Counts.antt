@@ -16,33 +16,45 @@ use Rattle.tre_parse.specs.Joins.{negated, edge_of}
 use Rattle.tre_parse.specs.Joins.{connected, joined_by, Keeps}
 
 -- A tree of one node.
-pub leaf_counts : {T : Type 0} {P : T → Type 0} {F : Type 0} (counted : Counted T) (x : T) → counted.nodes ≡ 1 → counted.tree ≡ Some x → P x → Counts counted 1 P F
-leaf_counts {P = P} counted x n t h = record { nodes = n; same = subst (λ o. IfSome o P) (sym t) h; built = λ small fine. subst IsSome (sym t) refl }
+pub leaf_counts : {T : Type 0} {P : T → Type 0} {F : Type 0} (counted : Counted T) (x : T)
+    → counted.nodes ≡ 1 → counted.tree ≡ Some x → P x → Counts counted 1 P F
+leaf_counts {P = P} counted x n t h = record {
+  nodes = n;
+  same =
+      subst (λ o. IfSome o P) (sym t) h;
+  built = λ small fine. subst IsSome (sym t) refl;
+}
 
-pub connected_count : (how : Connective) (s t : StateTree) → state.node_count (connected how s t) ≡ 1 + state.node_count s + state.node_count t
+pub connected_count : (how : Connective) (s t : StateTree) → state.node_count (connected how s t)
+    ≡ 1 + state.node_count s + state.node_count t
 connected_count And s t = refl
 connected_count Or s t = refl
 
-pub joined_count : (how : Join) (e f : PatternTree) → node_count (joined_by how e f) ≡ 1 + node_count e + node_count f
+pub joined_count : (how : Join) (e f : PatternTree) → node_count (joined_by how e f)
+    ≡ 1 + node_count e + node_count f
 joined_count Sequence e f = refl
 joined_count Intersection e f = refl
 joined_count Alternation e f = refl
 
-pub edge_count : (rises : Bool) (s : StateTree) → node_count (edge_of rises s) ≡ 1 + state.node_count s
+pub edge_count : (rises : Bool) (s : StateTree) → node_count (edge_of rises s)
+    ≡ 1 + state.node_count s
 edge_count true s = refl
 edge_count false s = refl
 
 pub negated_more : (n : ℕ) (s : StateTree) → negated (n + 1) s ≡ negation (negated n s)
 negated_more n s = rw add-one refl
 
-pub negated_count : (n : ℕ) (s : StateTree) → state.node_count (negated n s) ≡ n + state.node_count s
+pub negated_count : (n : ℕ) (s : StateTree) → state.node_count (negated n s)
+    ≡ n + state.node_count s
 negated_count zero s = omega arith
 negated_count (suc n) s = omega (arith, negated_count n s)
 
-whole_is : {T : Type 0} (whole : Option T) (x : T) (IsIt : T → Type 0) → whole ≡ Some x → IfSome whole IsIt → IsIt x
+whole_is : {T : Type 0} (whole : Option T) (x : T) (IsIt : T → Type 0) → whole ≡ Some x
+    → IfSome whole IsIt → IsIt x
 whole_is {T = T} whole x IsIt e h = let P = λ (o : Option T). IfSome o IsIt in subst P e h
 
-pub kept_is : {T : Type 0} (nodes : ℕ) (whole kept : Option T) (x : T) (IsIt : T → Type 0) → Keeps nodes whole kept → kept ≡ Some x → IfSome whole IsIt → IsIt x
+pub kept_is : {T : Type 0} (nodes : ℕ) (whole kept : Option T) (x : T) (IsIt : T → Type 0)
+    → Keeps nodes whole kept → kept ≡ Some x → IfSome whole IsIt → IsIt x
 kept_is {T = T} nodes whole kept x IsIt k e h =
     elim (cases_lt NODES_MAX nodes) [
       | inl lt ↦ (let none = k.large lt in absurd (no_some (sym none ∙ e)))

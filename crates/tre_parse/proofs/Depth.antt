@@ -19,19 +19,24 @@ record Further (depth base : ℕ) (tokens : List Token) (place : ℕ) : Type 0 w
   is : DeepFrom depth tokens k
 
 abbrev Told : ℕ → ℕ → List Token → Option ℕ → Type 0
-Told depth base tokens found = MatchOption found ((n : ℕ) → open_from depth (take n tokens) ≤ DEPTH_MAX) (Further depth base tokens)
+Told depth base tokens found = MatchOption found ((n : ℕ)
+    → open_from depth (take n tokens) ≤ DEPTH_MAX) (Further depth base tokens)
 
-past_none : (depth : ℕ) (token : Token) (tokens : List Token) → depth ≤ DEPTH_MAX → ((n : ℕ) → open_from (open_after depth token) (take n tokens) ≤ DEPTH_MAX) →
+past_none : (depth : ℕ) (token : Token) (tokens : List Token) → depth ≤ DEPTH_MAX
+    → ((n : ℕ) → open_from (open_after depth token) (take n tokens) ≤ DEPTH_MAX) →
     (n : ℕ) → open_from depth (take n (token ∷ tokens)) ≤ DEPTH_MAX
 past_none depth token tokens le h zero = le
 past_none depth token tokens le h (suc n) = h n
 
-past_first : (depth : ℕ) (token : Token) (tokens : List Token) (k : ℕ) → depth ≤ DEPTH_MAX → ((n : ℕ) → n ≤ k → open_from (open_after depth token) (take n tokens) ≤ DEPTH_MAX) →
+past_first : (depth : ℕ) (token : Token) (tokens : List Token) (k : ℕ) → depth ≤ DEPTH_MAX
+    → ((n : ℕ) → n ≤ k → open_from (open_after depth token) (take n tokens) ≤ DEPTH_MAX) →
     (n : ℕ) → n ≤ suc k → open_from depth (take n (token ∷ tokens)) ≤ DEPTH_MAX
 past_first depth token tokens k le h zero b = le
 past_first depth token tokens k le h (suc n) b = h n (omega arith)
 
-told_past : (depth base : ℕ) (token : Token) (tokens : List Token) (found : Option ℕ) → depth ≤ DEPTH_MAX → Told (open_after depth token) (base + 1) tokens found → Told depth base (token ∷ tokens) found
+told_past : (depth base : ℕ) (token : Token) (tokens : List Token) (found : Option ℕ)
+    → depth ≤ DEPTH_MAX → Told (open_after depth token) (base + 1) tokens found
+    → Told depth base (token ∷ tokens) found
 told_past depth base token tokens None le h = past_none depth token tokens le h
 told_past depth base token tokens (Some place) le h =
     let e = h.here in
@@ -39,35 +44,58 @@ told_past depth base token tokens (Some place) le h =
     record {
       k = suc h.k;
       here = omega (arith, e);
-      is = record { within = omega (arith, w); deep = h.is.deep; first = past_first depth token tokens h.k le h.is.first };
+      is = record {
+        within = omega (arith, w);
+        deep = h.is.deep;
+        first =
+            past_first depth token tokens h.k le h.is.first;
+      };
     }
 
-first_only : (depth : ℕ) (tokens : List Token) (n : ℕ) → depth ≤ DEPTH_MAX → n ≤ 0 → open_from depth (take n tokens) ≤ DEPTH_MAX
+first_only : (depth : ℕ) (tokens : List Token) (n : ℕ) → depth ≤ DEPTH_MAX → n ≤ 0
+    → open_from depth (take n tokens) ≤ DEPTH_MAX
 first_only depth tokens zero le b = le
 first_only depth tokens (suc n) le b = absurd (omega arith)
 
-told_step : (depth base : ℕ) (token : Token) (tokens : List Token) (is : Bool) → nat_lt DEPTH_MAX (open_after depth token) ≡ is → depth ≤ DEPTH_MAX →
-    (open_after depth token ≤ DEPTH_MAX → Told (open_after depth token) (base + 1) tokens (deep_place (open_after depth token) (base + 1) tokens)) →
-    Told depth base (token ∷ tokens) (if is then Some base else deep_place (open_after depth token) (base + 1) tokens)
+told_step : (depth base : ℕ) (token : Token) (tokens : List Token) (is : Bool)
+    → nat_lt DEPTH_MAX (open_after depth token) ≡ is → depth ≤ DEPTH_MAX →
+    (open_after depth token ≤ DEPTH_MAX → Told (open_after depth token) (base + 1) tokens
+    (deep_place (open_after depth token) (base + 1) tokens)) →
+    Told depth base (token ∷ tokens) (if is then Some base else deep_place (open_after depth token)
+    (base + 1) tokens)
 told_step depth base token tokens true e le go =
-    record { k = 0; here = omega arith; is = record { within = omega arith; deep = grind (arith, nat_tests); first = λ n b. first_only depth (token ∷ tokens) n le b } }
-told_step depth base token tokens false e le go = told_past depth base token tokens _ le (go (grind (arith, nat_tests)))
+    record {
+      k = 0;
+      here = omega arith;
+      is = record {
+        within = omega arith;
+        deep =
+            grind (arith, nat_tests);
+        first = λ n b. first_only depth (token ∷ tokens) n le b;
+      };
+    }
+told_step depth base token tokens false e le go = told_past depth base token tokens _ le
+    (go (grind (arith, nat_tests)))
 
 nothing_opened : (depth : ℕ) → depth ≤ DEPTH_MAX → (n : ℕ) → open_from depth (take n []) ≤ DEPTH_MAX
 nothing_opened depth le zero = le
 nothing_opened depth le (suc n) = le
 
-told : (tokens : List Token) (depth base : ℕ) → depth ≤ DEPTH_MAX → Told depth base tokens (deep_place depth base tokens)
+told : (tokens : List Token) (depth base : ℕ) → depth ≤ DEPTH_MAX
+    → Told depth base tokens (deep_place depth base tokens)
 told [] depth base le = nothing_opened depth le
 told (token ∷ tokens) depth base le =
-    told_step depth base token tokens (nat_lt DEPTH_MAX (open_after depth token)) refl le (λ fewer. told tokens (open_after depth token) (base + 1) fewer)
+    told_step depth base token tokens (nat_lt DEPTH_MAX (open_after depth token)) refl le
+    (λ fewer. told tokens (open_after depth token) (base + 1) fewer)
 
-at_place : (tokens : List Token) (found : Option ℕ) → Told 0 0 tokens found → MatchOption found ((n : ℕ) → open_from 0 (take n tokens) ≤ DEPTH_MAX) (IsDeepAt tokens)
+at_place : (tokens : List Token) (found : Option ℕ) → Told 0 0 tokens found
+    → MatchOption found ((n : ℕ) → open_from 0 (take n tokens) ≤ DEPTH_MAX) (IsDeepAt tokens)
 at_place tokens None h = h
 at_place tokens (Some place) h =
     let same : h.k ≡ place = omega (arith, h.here) in
     let P = λ (n : ℕ). IsDeepAt tokens n in
     subst P same (record { within = h.is.within; deep = rw add-one h.is.deep; first = h.is.first })
 
-pub deep_law : (tokens : List Token) → MatchOption (deep_place 0 0 tokens) ((n : ℕ) → open_from 0 (take n tokens) ≤ DEPTH_MAX) (IsDeepAt tokens)
+pub deep_law : (tokens : List Token) → MatchOption (deep_place 0 0 tokens)
+    ((n : ℕ) → open_from 0 (take n tokens) ≤ DEPTH_MAX) (IsDeepAt tokens)
 deep_law tokens = at_place tokens (deep_place 0 0 tokens) (told tokens 0 0 (omega arith))

@@ -30,7 +30,8 @@ less : (a b : ℕ) → (a < b) ⊎ (b ≤ a) → Decided (a < b)
 less a b (inl lt) = inl lt
 less a b (inr le) = inr (λ lt. omega arith)
 
-room_or : (low : ℕ) (low_weak : Bool) (high : ℕ) (high_weak : Bool) → Decided (HasRoom low low_weak high high_weak)
+room_or : (low : ℕ) (low_weak : Bool) (high : ℕ) (high_weak : Bool)
+    → Decided (HasRoom low low_weak high high_weak)
 room_or low true high true = at_most low high (cases_lt high low)
 room_or low true high false = less low high (cases_lt low high)
 room_or low false high true = less low high (cases_lt low high)
@@ -39,14 +40,29 @@ room_or low false high false = less low high (cases_lt low high)
 lasting : (ends : IntervalEnds) → Lasts ends → Decided (IsEmptyInterval ends)
 lasting ends l = inr (λ h. h l.d l.n l.some l.within)
 
-with_room : (low : ℕ) (low_weak : Bool) (high : ℕ) (high_weak : Bool) → Decided (HasRoom low low_weak high high_weak)
-    → Decided (IsEmptyInterval (record { low = low; low_weak = low_weak; high = Some high; high_weak = high_weak }))
+with_room : (low : ℕ) (low_weak : Bool) (high : ℕ) (high_weak : Bool)
+    → Decided (HasRoom low low_weak high high_weak)
+    → Decided (IsEmptyInterval (record {
+      low = low;
+      low_weak = low_weak;
+      high =
+          Some high;
+      high_weak = high_weak;
+    }))
 with_room low low_weak high high_weak (inl h) = lasting _ (room low low_weak high high_weak h)
 with_room low low_weak high high_weak (inr h) = inl (no_room low low_weak high high_weak h)
 
-ends_or : (low : ℕ) (low_weak : Bool) (high : Option ℕ) (high_weak : Bool) → Decided (IsEmptyInterval (record { low = low; low_weak = low_weak; high = high; high_weak = high_weak }))
+ends_or : (low : ℕ) (low_weak : Bool) (high : Option ℕ) (high_weak : Bool)
+    → Decided (IsEmptyInterval (record {
+      low = low;
+      low_weak = low_weak;
+      high = high;
+      high_weak =
+          high_weak;
+    }))
 ends_or low low_weak None high_weak = lasting _ (no_end low low_weak high_weak)
-ends_or low low_weak (Some high) high_weak = with_room low low_weak high high_weak (room_or low low_weak high high_weak)
+ends_or low low_weak (Some high) high_weak = with_room low low_weak high high_weak
+    (room_or low low_weak high high_weak)
 
 empty_or : (ends : IntervalEnds) → Decided (IsEmptyInterval ends)
 empty_or ends = ends_or ends.low ends.low_weak ends.high ends.high_weak
@@ -56,11 +72,19 @@ percent_or Percent = inl refl
 percent_or _ = inr (λ e. (cc))
 
 -- Whether an empty interval stands right after a place.
-here_or : (tokens : List Token) (place : ℕ) → place < length tokens → Decided (HasEmptyAt tokens (place + 1))
+here_or : (tokens : List Token) (place : ℕ) → place < length tokens
+    → Decided (HasEmptyAt tokens (place + 1))
 here_or tokens place lt = after (percent_or (get_or tokens place Percent))
   where
-    judge : get_or tokens place Percent ≡ Percent → (ends : IntervalEnds) → interval_from (drop (place + 1) tokens) Opening ≡ Some ends → Decided (IsEmptyInterval ends) → Decided (HasEmptyAt tokens (place + 1))
-    judge e ends q (inl empty) = inl (record { ends = ends; stands = read_stands tokens place ends Percent lt e q; empty = empty })
+    judge : get_or tokens place Percent ≡ Percent → (ends : IntervalEnds)
+        → interval_from (drop (place + 1) tokens) Opening ≡ Some ends
+        → Decided (IsEmptyInterval ends) → Decided (HasEmptyAt tokens (place + 1))
+    judge e ends q (inl empty) = inl (record {
+      ends = ends;
+      stands =
+          read_stands tokens place ends Percent lt e q;
+      empty = empty;
+    })
     judge e ends q (inr lasts) =
         inr (λ k.
         let s = (stands_read tokens place k.ends Percent lt k.stands).1 in
@@ -68,11 +92,15 @@ here_or tokens place lt = after (percent_or (get_or tokens place Percent))
         let P = λ (i : IntervalEnds). IsEmptyInterval i in
         lasts (subst P same k.empty))
 
-    read : get_or tokens place Percent ≡ Percent → (made : Option IntervalEnds) → interval_from (drop (place + 1) tokens) Opening ≡ made → Decided (HasEmptyAt tokens (place + 1))
-    read e None q = inr (λ k. let s = (stands_read tokens place k.ends Percent lt k.stands).1 in (cc))
+    read : get_or tokens place Percent ≡ Percent → (made : Option IntervalEnds)
+        → interval_from (drop (place + 1) tokens) Opening ≡ made
+        → Decided (HasEmptyAt tokens (place + 1))
+    read e None q = inr (λ k. let s = (stands_read tokens place k.ends Percent lt k.stands).1 in
+        (cc))
     read e (Some ends) q = judge e ends q (empty_or ends)
 
-    after : Decided (get_or tokens place Percent ≡ Percent) → Decided (HasEmptyAt tokens (place + 1))
+    after : Decided (get_or tokens place Percent ≡ Percent)
+        → Decided (HasEmptyAt tokens (place + 1))
     after (inl e) = read e (interval_from (drop (place + 1) tokens) Opening) refl
     after (inr never) = inr (λ k. never (stands_read tokens place k.ends Percent lt k.stands).0)
 
@@ -80,7 +108,8 @@ here_or tokens place lt = after (percent_or (get_or tokens place Percent))
 abbrev FirstOr : List Token → ℕ → Type 0
 FirstOr tokens n = ((place : ℕ) × IsFirstEmpty tokens place) ⊎ NoneEmptyBefore tokens (n + 1)
 
-further : (tokens : List Token) (n : ℕ) → n < length tokens → FirstOr tokens n → Decided (HasEmptyAt tokens (n + 1)) → FirstOr tokens (suc n)
+further : (tokens : List Token) (n : ℕ) → n < length tokens → FirstOr tokens n
+    → Decided (HasEmptyAt tokens (n + 1)) → FirstOr tokens (suc n)
 further tokens n lt (inl k) here = inl k
 further tokens n lt (inr none) (inl k) = inl (n + 1, record { here = k; first = none })
 further tokens n lt (inr none) (inr never) =
@@ -94,22 +123,40 @@ first_or tokens (suc n) le =
     let lt : n < length tokens = omega arith in
     further tokens n lt (first_or tokens n (omega arith)) (here_or tokens n lt)
 
-judged_as : (words : TextTokens) (tree : PatternTree) → FirstOr words.tokens (length words.tokens) → (outcome : Outcome) × IsOutcomeOfTree words tree outcome
+judged_as : (words : TextTokens) (tree : PatternTree) → FirstOr words.tokens (length words.tokens)
+    → (outcome : Outcome) × IsOutcomeOfTree words tree outcome
 judged_as words tree (inl k) = (refused (EmptyInterval (offset_of words k.0)), inl (k.0, k.1, refl))
-judged_as words tree (inr none) = (limited_outcome words tree, inr (none_empty words.tokens (length words.tokens) (omega arith) none, refl))
+judged_as words tree (inr none) = (
+  limited_outcome words tree,
+  inr
+      (none_empty words.tokens (length words.tokens) (omega arith) none, refl),
+)
 
-read_as : (words : TextTokens) (made : Result PatternTree ℕ) → read words.tokens start ≡ made → (outcome : Outcome) × IsOutcomeOfTokens words outcome
-read_as words (Err left) e =
-    (refused (Syntax (offset_of words (length words.tokens - left))), inl (length words.tokens - left, fault_at words.tokens left e, refl))
+read_as : (words : TextTokens) (made : Result PatternTree ℕ) → read words.tokens start ≡ made
+    → (outcome : Outcome) × IsOutcomeOfTokens words outcome
+read_as words (Err left) e = (
+  refused (Syntax (offset_of words (length words.tokens - left))),
+  inl
+      (length words.tokens - left, fault_at words.tokens left e, refl),
+)
 read_as words (Ok tree) e =
-    let judged = judged_as words tree (first_or words.tokens (length words.tokens) (omega arith)) in
-    (judged.0, inr (tree, spelt_read words.tokens tree (read_ok words.tokens start tree e), judged.1))
+    let judged = judged_as words tree (first_or words.tokens (length words.tokens) (omega arith)) in (
+      judged.0,
+      inr (
+        tree,
+        spelt_read words.tokens tree (read_ok words.tokens start tree e),
+        judged.1,
+      ),
+    )
 
-fault_or : (made : Option ParseFault) (Rest : Outcome → Type 0) → (outcome : Outcome) × Rest outcome → (outcome : Outcome) × MatchOption made (Rest outcome) (λ fault. outcome ≡ refused fault)
+fault_or : (made : Option ParseFault) (Rest : Outcome → Type 0) → (outcome : Outcome) × Rest outcome
+    → (outcome : Outcome) × MatchOption made (Rest outcome) (λ fault. outcome ≡ refused fault)
 fault_or None Rest rest = rest
 fault_or (Some fault) Rest rest = (refused fault, refl)
 
 pub outcome_is : (text : List ℕ) → (outcome : Outcome) × IsOutcome text outcome
 outcome_is text =
     let read = read_as (text_tokens_of text) (read (text_tokens_of text).tokens start) refl in
-    fault_or (byte_fault text) (IsOutcomeWithin (text_tokens_of text)) (fault_or (limit_fault (text_tokens_of text)) (IsOutcomeOfTokens (text_tokens_of text)) read)
+    fault_or (byte_fault text) (IsOutcomeWithin (text_tokens_of text))
+    (fault_or (limit_fault (text_tokens_of text)) (IsOutcomeOfTokens (text_tokens_of text))
+    read)

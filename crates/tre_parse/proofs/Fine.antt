@@ -16,46 +16,69 @@ use Rattle.tre_parse.specs.Outcome.{is_big, NoneEmpty}
 
 -- Each interval that stands among the tokens is fine.
 pub record StandFine (tokens : List Token) : Type 0 where
-  pub fine : (front body rest : List Token) (ends : IntervalEnds) → tokens ≡ front ++ Percent ∷ (body ++ rest) → SpellsInterval body ends → IsFineInterval ends
+  pub fine : (front body rest : List Token) (ends : IntervalEnds) → tokens
+      ≡ front ++ Percent ∷ (body ++ rest) → SpellsInterval body ends → IsFineInterval ends
 
 left_fine : (xs ys : List Token) → StandFine (xs ++ ys) → StandFine xs
 left_fine xs ys h = record {
   fine = λ front body rest ends e s.
-      h.fine front body (rest ++ ys) ends (ap (λ t. t ++ ys) e ∙ append_assoc front (Percent ∷ (body ++ rest)) ys ∙ ap (λ t. front ++ Percent ∷ t) (append_assoc body rest ys)) s;
+      h.fine front body (rest ++ ys) ends (ap (λ t. t ++ ys) e
+      ∙ append_assoc front (Percent ∷ (body ++ rest)) ys
+      ∙ ap (λ t. front ++ Percent ∷ t) (append_assoc body rest ys)) s;
 }
 
 right_fine : (xs ys : List Token) → StandFine (xs ++ ys) → StandFine ys
 right_fine xs ys h = record {
   fine = λ front body rest ends e s.
-      h.fine (xs ++ front) body rest ends (ap (λ t. xs ++ t) e ∙ sym (append_assoc xs front (Percent ∷ (body ++ rest)))) s;
+      h.fine (xs ++ front) body rest ends (ap (λ t. xs ++ t) e
+      ∙ sym (append_assoc xs front (Percent ∷ (body ++ rest)))) s;
 }
 
 -- Inside two tokens, or after one.
 after_fine : (t : Token) (xs : List Token) → StandFine (t ∷ xs) → StandFine xs
 after_fine t xs h = right_fine (t ∷ []) xs h
 
-inside_fine : (t : Token) (xs : List Token) (u : Token) → StandFine (t ∷ xs ++ u ∷ []) → StandFine xs
+inside_fine : (t : Token) (xs : List Token) (u : Token) → StandFine (t ∷ xs ++ u ∷ [])
+    → StandFine xs
 inside_fine t xs u h = left_fine xs (u ∷ []) (after_fine t (xs ++ u ∷ []) h)
 
-pub fine_intervals : (r : Rule) (xs : List Token) (e : PatternTree) → Spells r xs e → StandFine xs → HasFineIntervals e
+pub fine_intervals : (r : Rule) (xs : List Token) (e : PatternTree) → Spells r xs e → StandFine xs
+    → HasFineIntervals e
 fine_intervals _ _ _ (expr_meet xs e h) f = fine_intervals meet xs e h f
-fine_intervals _ _ _ (expr_bar xs ys e g h k) f =
-    (fine_intervals expr xs e h (left_fine xs (Bar ∷ ys) f), fine_intervals meet ys g k (after_fine Bar ys (right_fine xs (Bar ∷ ys) f)))
+fine_intervals _ _ _ (expr_bar xs ys e g h k) f = (
+  fine_intervals expr xs e h (left_fine xs (Bar ∷ ys) f),
+  fine_intervals meet ys g k
+      (after_fine Bar ys (right_fine xs (Bar ∷ ys) f)),
+)
 fine_intervals _ _ _ (meet_seq xs e h) f = fine_intervals seq xs e h f
-fine_intervals _ _ _ (meet_ampersand xs ys e g h k) f =
-    (fine_intervals meet xs e h (left_fine xs (Ampersand ∷ ys) f), fine_intervals seq ys g k (after_fine Ampersand ys (right_fine xs (Ampersand ∷ ys) f)))
+fine_intervals _ _ _ (meet_ampersand xs ys e g h k) f = (
+  fine_intervals meet xs e h (left_fine xs (Ampersand ∷ ys) f),
+  fine_intervals seq ys g k
+      (after_fine Ampersand ys (right_fine xs (Ampersand ∷ ys) f)),
+)
 fine_intervals _ _ _ (seq_post xs e h) f = fine_intervals post xs e h f
-fine_intervals _ _ _ (seq_semicolon xs ys e g h k) f =
-    (fine_intervals seq xs e h (left_fine xs (Semicolon ∷ ys) f), fine_intervals post ys g k (after_fine Semicolon ys (right_fine xs (Semicolon ∷ ys) f)))
+fine_intervals _ _ _ (seq_semicolon xs ys e g h k) f = (
+  fine_intervals seq xs e h (left_fine xs (Semicolon ∷ ys) f),
+  fine_intervals post ys g k
+      (after_fine Semicolon ys (right_fine xs (Semicolon ∷ ys) f)),
+)
 fine_intervals _ _ _ (post_primary xs e h) f = fine_intervals primary xs e h f
 fine_intervals _ _ _ (post_star xs e h) f = fine_intervals post xs e h (left_fine xs (Star ∷ []) f)
 fine_intervals _ _ _ (post_plus xs e h) f =
     let whole = fine_intervals post xs e h (left_fine xs (Plus ∷ []) f) in (whole, whole)
-fine_intervals _ _ _ (post_question xs e h) f = (fine_intervals post xs e h (left_fine xs (Question ∷ []) f), tt)
-fine_intervals _ _ _ (post_percent xs ys e i h k) f =
-    (fine_intervals post xs e h (left_fine xs (Percent ∷ ys) f), f.fine xs ys [] i (ap (λ t. xs ++ Percent ∷ t) (sym (append-nil ys))) k)
+fine_intervals _ _ _ (post_question xs e h) f = (
+  fine_intervals post xs e h
+      (left_fine xs (Question ∷ []) f),
+  tt,
+)
+fine_intervals _ _ _ (post_percent xs ys e i h k) f = (
+  fine_intervals post xs e h (left_fine xs (Percent ∷ ys) f),
+  f.fine xs ys [] i
+      (ap (λ t. xs ++ Percent ∷ t) (sym (append-nil ys))) k,
+)
 fine_intervals _ _ _ primary_eps f = tt
-fine_intervals _ _ _ (primary_parens xs e h) f = fine_intervals expr xs e h (inside_fine LeftParen xs RightParen f)
+fine_intervals _ _ _ (primary_parens xs e h) f = fine_intervals expr xs e h
+    (inside_fine LeftParen xs RightParen f)
 fine_intervals _ _ _ (primary_rise xs s h) f = tt
 fine_intervals _ _ _ (primary_fall xs s h) f = tt
 fine_intervals _ _ _ (primary_lit xs s h) f = tt
@@ -76,24 +99,43 @@ none_big tokens e =
     let fails = len_fails is_big tokens (none_len is_big tokens e) in
     record {
       small = λ front rest n q.
-          let P = λ (ts : List Token). (k : ℕ) (d : Token) → k < length ts → is_big (get_or ts k d) ≡ false in
+          let P = λ (ts : List Token). (k : ℕ) (d : Token) → k < length ts → is_big (get_or ts k d)
+          ≡ false in
           small_at front rest n (subst P q fails);
     }
   where
-    small_at : (front rest : List Token) (n : ℕ) → ((k : ℕ) (d : Token) → k < length (front ++ Number n ∷ rest) → is_big (get_or (front ++ Number n ∷ rest) k d) ≡ false) → n ≤ TIME_MAX
+    small_at : (front rest : List Token) (n : ℕ) → ((k : ℕ) (d : Token)
+        → k < length (front ++ Number n ∷ rest) → is_big (get_or (front ++ Number n ∷ rest) k d)
+        ≡ false) → n ≤ TIME_MAX
     small_at [] rest n h = small_here n false (h 0 (Number n) (omega arith)) refl
     small_at (t ∷ front) rest n h = small_at front rest n (λ k d lt. h (suc k) d (omega arith))
 
-pub ends_within : (tokens front body rest : List Token) (ends : IntervalEnds) → NoneBig tokens → tokens ≡ front ++ Percent ∷ (body ++ rest) → SpellsInterval body ends → IsIntervalWithin TIME_MAX ends
+pub ends_within : (tokens front body rest : List Token) (ends : IntervalEnds) → NoneBig tokens
+    → tokens ≡ front ++ Percent ∷ (body ++ rest) → SpellsInterval body ends
+    → IsIntervalWithin TIME_MAX ends
 ends_within tokens front _ rest _ b e (with_high low high low_weak high_weak) =
-    let open_low = b.small (front ++ Percent ∷ opening low_weak ∷ []) (Comma ∷ Number high ∷ closing high_weak ∷ rest) low (e ∙ sym (append_assoc front (Percent ∷ opening low_weak ∷ []) _)) in
-    let open_high = b.small (front ++ Percent ∷ opening low_weak ∷ Number low ∷ Comma ∷ []) (closing high_weak ∷ rest) high (e ∙ sym (append_assoc front (Percent ∷ opening low_weak ∷ Number low ∷ Comma ∷ []) _)) in
+    let open_low = b.small (front ++ Percent ∷ opening low_weak ∷ [])
+    (Comma ∷ Number high ∷ closing high_weak ∷ rest) low
+    (e ∙ sym (append_assoc front (Percent ∷ opening low_weak ∷ []) _)) in
+    let open_high = b.small (front ++ Percent ∷ opening low_weak ∷ Number low ∷ Comma ∷ [])
+    (closing high_weak ∷ rest) high (e ∙ sym (append_assoc front
+    (Percent ∷ opening low_weak ∷ Number low ∷ Comma ∷ []) _)) in
     record { low = open_low; high = open_high }
 ends_within tokens front _ rest _ b e (without_high low low_weak) =
-    record { low = b.small (front ++ Percent ∷ opening low_weak ∷ []) (Comma ∷ Inf ∷ RightParen ∷ rest) low (e ∙ sym (append_assoc front (Percent ∷ opening low_weak ∷ []) _)); high = tt }
+    record {
+      low = b.small (front ++ Percent ∷ opening low_weak ∷ [])
+          (Comma ∷ Inf ∷ RightParen ∷ rest) low (e ∙ sym
+          (append_assoc front (Percent ∷ opening low_weak ∷ []) _));
+      high = tt;
+    }
 
 pub stand_fine : (tokens : List Token) → NoneBig tokens → NoneEmpty tokens → StandFine tokens
 stand_fine tokens b h = record {
   fine = λ front body rest ends e s.
-      record { lasts = λ k. h (length front + 1) ends (record { front = front; body = body; rest = rest; split = e; spelt = s; here = refl }) k; within = ends_within tokens front body rest ends b e s };
+      record {
+        lasts = λ k. h (length front + 1) ends
+            (record { front = front; body = body; rest = rest; split = e; spelt = s; here = refl })
+            k;
+        within = ends_within tokens front body rest ends b e s;
+      };
 }

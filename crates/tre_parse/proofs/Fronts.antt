@@ -23,7 +23,8 @@ blank_ends_number : (c : ℕ) → is_blank c ≡ true → is_ascii_digit c ≡ f
 blank_ends_number c h = grind (arith, nat_tests)
 
 -- What begins before a blank doesn't depend on what follows.
-prefix_ends : (p : ℕ → Bool) (xs : List ℕ) (c : ℕ) (ys : List ℕ) → p c ≡ false → prefix_len p (xs ++ c ∷ ys) ≡ prefix_len p xs
+prefix_ends : (p : ℕ → Bool) (xs : List ℕ) (c : ℕ) (ys : List ℕ) → p c ≡ false
+    → prefix_len p (xs ++ c ∷ ys) ≡ prefix_len p xs
 prefix_ends p [] c ys h = ap (λ t. cond t (1 + prefix_len p ys) 0) h
 prefix_ends p (x ∷ xs) c ys h = ap (λ n. cond (p x) (1 + n) 0) (prefix_ends p xs c ys h)
 
@@ -32,21 +33,29 @@ take_front zero xs ys h = refl
 take_front (suc n) [] ys h = absurd (omega arith)
 take_front (suc n) (x ∷ xs) ys h = ap (λ l. x ∷ l) (take_front n xs ys (omega arith))
 
-take_while_ends : (p : ℕ → Bool) (xs : List ℕ) (c : ℕ) (ys : List ℕ) → p c ≡ false → take_while p (xs ++ c ∷ ys) ≡ take_while p xs
+take_while_ends : (p : ℕ → Bool) (xs : List ℕ) (c : ℕ) (ys : List ℕ) → p c ≡ false
+    → take_while p (xs ++ c ∷ ys) ≡ take_while p xs
 take_while_ends p xs c ys h =
-    ap (λ n. take n (xs ++ c ∷ ys)) (prefix_ends p xs c ys h) ∙ take_front (prefix_len p xs) xs (c ∷ ys) (prefix_len-le-length p xs)
+    ap (λ n. take n (xs ++ c ∷ ys)) (prefix_ends p xs c ys h)
+    ∙ take_front (prefix_len p xs) xs (c ∷ ys) (prefix_len-le-length p xs)
 
-word_front : (xs : List ℕ) (c : ℕ) (ys : List ℕ) → is_blank c ≡ true → word_lexeme (xs ++ c ∷ ys) ≡ word_lexeme xs
+word_front : (xs : List ℕ) (c : ℕ) (ys : List ℕ) → is_blank c ≡ true → word_lexeme (xs ++ c ∷ ys)
+    ≡ word_lexeme xs
 word_front xs c ys h =
     let ends = blank_ends_word c h in
-    ap (λ n. named n (reserved (take_while continues_name (xs ++ c ∷ ys)))) (prefix_ends continues_name xs c ys ends)
-    ∙ ap (λ w. named (prefix_len continues_name xs) (reserved w)) (take_while_ends continues_name xs c ys ends)
+    ap (λ n. named n (reserved (take_while continues_name (xs ++ c ∷ ys))))
+    (prefix_ends continues_name xs c ys ends)
+    ∙ ap (λ w. named (prefix_len continues_name xs) (reserved w))
+    (take_while_ends continues_name xs c ys ends)
 
-number_front : (xs : List ℕ) (c : ℕ) (ys : List ℕ) → is_blank c ≡ true → number_lexeme (xs ++ c ∷ ys) ≡ number_lexeme xs
+number_front : (xs : List ℕ) (c : ℕ) (ys : List ℕ) → is_blank c ≡ true
+    → number_lexeme (xs ++ c ∷ ys) ≡ number_lexeme xs
 number_front xs c ys h =
     let ends = blank_ends_number c h in
-    ap (λ n. Sign (Number (min (decimal (take_while is_ascii_digit (xs ++ c ∷ ys))) (TIME_MAX + 1))) n) (prefix_ends is_ascii_digit xs c ys ends)
-    ∙ ap (λ w. Sign (Number (min (decimal w) (TIME_MAX + 1))) (prefix_len is_ascii_digit xs)) (take_while_ends is_ascii_digit xs c ys ends)
+    ap (λ n. Sign (Number (min (decimal (take_while is_ascii_digit (xs ++ c ∷ ys))) (TIME_MAX + 1)))
+    n) (prefix_ends is_ascii_digit xs c ys ends)
+    ∙ ap (λ w. Sign (Number (min (decimal w) (TIME_MAX + 1))) (prefix_len is_ascii_digit xs))
+    (take_while_ends is_ascii_digit xs c ys ends)
 
 -- The text of a sign has no blank.
 abbrev no_blank : List ℕ → Bool
@@ -56,37 +65,94 @@ no_blank (b ∷ bs) = cond (is_blank b) false (no_blank bs)
 other_byte : (b c : ℕ) → is_blank b ≡ false → is_blank c ≡ true → nat_eq b c ≡ false
 other_byte b c h k = grind (arith, nat_tests)
 
-past_blank : (b : ℕ) (more : Bool) → cond (is_blank b) false more ≡ true → (is_blank b ≡ false) × (more ≡ true)
+past_blank : (b : ℕ) (more : Bool) → cond (is_blank b) false more ≡ true → (is_blank b ≡ false)
+    × (more ≡ true)
 past_blank b more e = by (is_blank b) more refl e
   where
-    by : (is more : Bool) → is ≡ is_blank b → cond is false more ≡ true → (is_blank b ≡ false) × (more ≡ true)
+    by : (is more : Bool) → is ≡ is_blank b → cond is false more ≡ true → (is_blank b ≡ false)
+        × (more ≡ true)
     by true more q e = absurd (cc)
     by false more q e = (sym q, e)
 
-text_front : (sign xs : List ℕ) (c : ℕ) (ys : List ℕ) → is_blank c ≡ true → no_blank sign ≡ true → starts_with nat_eq (xs ++ c ∷ ys) sign ≡ starts_with nat_eq xs sign
+text_front : (sign xs : List ℕ) (c : ℕ) (ys : List ℕ) → is_blank c ≡ true → no_blank sign ≡ true
+    → starts_with nat_eq (xs ++ c ∷ ys) sign ≡ starts_with nat_eq xs sign
 text_front [] xs c ys h e = refl
-text_front (b ∷ bs) [] c ys h e = ap (λ t. t && starts_with nat_eq ys bs) (other_byte b c (past_blank b (no_blank bs) e).0 h)
-text_front (b ∷ bs) (x ∷ xs) c ys h e = ap (λ t. nat_eq b x && t) (text_front bs xs c ys h (past_blank b (no_blank bs) e).1)
+text_front (b ∷ bs) [] c ys h e = ap (λ t. t && starts_with nat_eq ys bs)
+    (other_byte b c (past_blank b (no_blank bs) e).0 h)
+text_front (b ∷ bs) (x ∷ xs) c ys h e = ap (λ t. nat_eq b x && t)
+    (text_front bs xs c ys h (past_blank b (no_blank bs) e).1)
 
-sign_front : {A : Type 0} (text : A → List ℕ) (token : A → Token) (signs : List A) (xs : List ℕ) (c : ℕ) (ys : List ℕ) → is_blank c ≡ true → Each (λ s. no_blank (text s) ≡ true) signs →
+sign_front : {A : Type 0} (text : A → List ℕ) (token : A → Token) (signs : List A) (xs : List ℕ)
+    (c : ℕ) (ys : List ℕ) → is_blank c ≡ true → Each (λ s. no_blank (text s) ≡ true) signs →
     first_sign text token signs (xs ++ c ∷ ys) ≡ first_sign text token signs xs
 sign_front text token [] xs c ys h e = refl
 sign_front text token (s ∷ more) xs c ys h e =
-    ap (λ t. cond t (Sign (token s) (length (text s))) (first_sign text token more (xs ++ c ∷ ys))) (text_front (text s) xs c ys h e.0)
-    ∙ ap (λ l. cond (starts_with nat_eq xs (text s)) (Sign (token s) (length (text s))) l) (sign_front text token more xs c ys h e.1)
+    ap (λ t. cond t (Sign (token s) (length (text s))) (first_sign text token more (xs ++ c ∷ ys)))
+    (text_front (text s) xs c ys h e.0)
+    ∙ ap (λ l. cond (starts_with nat_eq xs (text s)) (Sign (token s) (length (text s))) l)
+    (sign_front text token more xs c ys h e.1)
 
-signs_front : (xs : List ℕ) (c : ℕ) (ys : List ℕ) → is_blank c ≡ true → sign_lexeme (xs ++ c ∷ ys) ≡ sign_lexeme xs
-signs_front xs c ys h = sign_front (λ sign. sign.0.now) (λ sign. sign.1) SIGNS xs c ys h (refl, (refl, (refl, (refl, (refl, (refl, (refl, (refl, (refl, (refl, (refl, (refl, (refl, (refl, (refl, (refl, (refl, (refl, (refl, tt)))))))))))))))))))
+signs_front : (xs : List ℕ) (c : ℕ) (ys : List ℕ) → is_blank c ≡ true → sign_lexeme (xs ++ c ∷ ys)
+    ≡ sign_lexeme xs
+signs_front xs c ys h = sign_front (λ sign. sign.0.now) (λ sign. sign.1) SIGNS xs c ys h (
+  refl,
+  (
+    refl,
+    (
+      refl,
+      (
+        refl,
+        (
+          refl,
+          (
+            refl,
+            (
+              refl,
+              (
+                refl,
+                (
+                  refl,
+                  (
+                    refl,
+                    (
+                      refl,
+                      (
+                        refl,
+                        (
+                          refl,
+                          (
+                            refl,
+                            (refl, (refl, (refl, (refl, (refl, tt))))),
+                          ),
+                        ),
+                      ),
+                    ),
+                  ),
+                ),
+              ),
+            ),
+          ),
+        ),
+      ),
+    ),
+  ),
+)
 
-pub lexeme_front : (z : ℕ) (xs : List ℕ) (c : ℕ) (ys : List ℕ) → is_blank c ≡ true → lexeme_of (z ∷ (xs ++ c ∷ ys)) ≡ lexeme_of (z ∷ xs)
+pub lexeme_front : (z : ℕ) (xs : List ℕ) (c : ℕ) (ys : List ℕ) → is_blank c ≡ true
+    → lexeme_of (z ∷ (xs ++ c ∷ ys)) ≡ lexeme_of (z ∷ xs)
 lexeme_front z xs c ys h =
     let long = z ∷ (xs ++ c ∷ ys) in
-    ap (λ l. if is_blank z then Blank else (if starts_name z then l else (if is_ascii_digit z then number_lexeme long else sign_lexeme long))) (word_front (z ∷ xs) c ys h)
-    ∙ ap (λ l. if is_blank z then Blank else (if starts_name z then word_lexeme (z ∷ xs) else (if is_ascii_digit z then l else sign_lexeme long))) (number_front (z ∷ xs) c ys h)
-    ∙ ap (λ l. if is_blank z then Blank else (if starts_name z then word_lexeme (z ∷ xs) else (if is_ascii_digit z then number_lexeme (z ∷ xs) else l))) (signs_front (z ∷ xs) c ys h)
+    ap (λ l. if is_blank z then Blank else (if starts_name z then l else
+    (if is_ascii_digit z then number_lexeme long else sign_lexeme long)))
+    (word_front (z ∷ xs) c ys h)
+    ∙ ap (λ l. if is_blank z then Blank else (if starts_name z then word_lexeme (z ∷ xs) else
+    (if is_ascii_digit z then l else sign_lexeme long))) (number_front (z ∷ xs) c ys h)
+    ∙ ap (λ l. if is_blank z then Blank else (if starts_name z then word_lexeme (z ∷ xs) else
+    (if is_ascii_digit z then number_lexeme (z ∷ xs) else l))) (signs_front (z ∷ xs) c ys h)
 
 -- A lexeme takes at least one byte, and never goes past the end.
-named_fits : (available n : ℕ) (o : Option Token) → 0 < n → n ≤ available → FitsIn available (named n o)
+named_fits : (available n : ℕ) (o : Option Token) → 0 < n → n ≤ available
+    → FitsIn available (named n o)
 named_fits available n None some h = (some, h)
 named_fits available n (Some t) some h = (some, h)
 
@@ -99,24 +165,79 @@ text_within (b ∷ bs) (x ∷ xs) e = omega (arith, text_within bs xs (second (n
     second true b e = e
     second false b e = absurd (cc)
 
-first_fits : {A : Type 0} (text : A → List ℕ) (token : A → Token) (signs : List A) (xs : List ℕ) → 1 ≤ length xs → Each (λ s. 0 < length (text s)) signs →
+first_fits : {A : Type 0} (text : A → List ℕ) (token : A → Token) (signs : List A) (xs : List ℕ)
+    → 1 ≤ length xs → Each (λ s. 0 < length (text s)) signs →
     FitsIn (length xs) (first_sign text token signs xs)
 first_fits text token [] xs some h = some
-first_fits text token (s ∷ more) xs some h = by (first_fits text token more xs some h.1) (starts_with nat_eq xs (text s)) refl
+first_fits text token (s ∷ more) xs some h = by (first_fits text token more xs some h.1)
+    (starts_with nat_eq xs (text s)) refl
   where
-    by : FitsIn (length xs) (first_sign text token more xs) → (is : Bool) → is ≡ starts_with nat_eq xs (text s) →
-        FitsIn (length xs) (cond is (Sign (token s) (length (text s))) (first_sign text token more xs))
+    by : FitsIn (length xs) (first_sign text token more xs) → (is : Bool) → is
+        ≡ starts_with nat_eq xs (text s) →
+        FitsIn (length xs) (cond is (Sign (token s) (length (text s)))
+        (first_sign text token more xs))
     by next true q = (h.0, text_within (text s) xs (sym q))
     by next false q = next
 
 pub sign_fits : (xs : List ℕ) → 1 ≤ length xs → FitsIn (length xs) (sign_lexeme xs)
-sign_fits xs some = first_fits (λ sign. sign.0.now) (λ sign. sign.1) SIGNS xs some ((omega arith, (omega arith, (omega arith, (omega arith, (omega arith, (omega arith, (omega arith, (omega arith, (omega arith, (omega arith, (omega arith, (omega arith, (omega arith, (omega arith, (omega arith, (omega arith, (omega arith, (omega arith, (omega arith, tt))))))))))))))))))))
+sign_fits xs some = first_fits (λ sign. sign.0.now) (λ sign. sign.1) SIGNS xs some
+    ((
+      omega arith,
+      (
+        omega arith,
+        (
+          omega arith,
+          (
+            omega arith,
+            (
+              omega arith,
+              (
+                omega arith,
+                (
+                  omega arith,
+                  (
+                    omega arith,
+                    (
+                      omega arith,
+                      (
+                        omega arith,
+                        (
+                          omega arith,
+                          (
+                            omega arith,
+                            (
+                              omega arith,
+                              (
+                                omega arith,
+                                (
+                                  omega arith,
+                                  (
+                                    omega arith,
+                                    (omega arith, (omega arith, (omega arith, tt))),
+                                  ),
+                                ),
+                              ),
+                            ),
+                          ),
+                        ),
+                      ),
+                    ),
+                  ),
+                ),
+              ),
+            ),
+          ),
+        ),
+      ),
+    ))
 
 first_passes : (p : ℕ → Bool) (x : ℕ) (xs : List ℕ) → p x ≡ true → 0 < prefix_len p (x ∷ xs)
 first_passes p x xs h = let n = ap (λ t. cond t (1 + prefix_len p xs) 0) h in omega (arith, n)
 
-fits_by : (available : ℕ) (blank starts digit : Bool) (word number other : Lexeme) → 1 ≤ available → (starts ≡ true → FitsIn available word) → (digit ≡ true → FitsIn available number) →
-    FitsIn available other → FitsIn available (if blank then Blank else (if starts then word else (if digit then number else other)))
+fits_by : (available : ℕ) (blank starts digit : Bool) (word number other : Lexeme) → 1 ≤ available
+    → (starts ≡ true → FitsIn available word) → (digit ≡ true → FitsIn available number) →
+    FitsIn available other → FitsIn available (if blank then Blank else
+    (if starts then word else (if digit then number else other)))
 fits_by available true starts digit word number other some h k m = some
 fits_by available false true digit word number other some h k m = h refl
 fits_by available false false true word number other some h k m = k refl
@@ -129,6 +250,10 @@ pub lexeme_fits : (xs : List ℕ) → 0 < length xs → FitsIn (length xs) (lexe
 lexeme_fits [] some = absurd (omega arith)
 lexeme_fits (z ∷ zs) some =
     let xs = z ∷ zs in
-    fits_by (length xs) (is_blank z) (starts_name z) (is_ascii_digit z) (word_lexeme xs) (number_lexeme xs) (sign_lexeme xs) (omega arith)
-    (λ q. named_fits (length xs) (prefix_len continues_name xs) (reserved (take_while continues_name xs)) (first_passes continues_name z zs (starts_continues z q)) (prefix_len-le-length continues_name xs))
-    (λ q. (first_passes is_ascii_digit z zs q, prefix_len-le-length is_ascii_digit xs)) (sign_fits xs (omega arith))
+    fits_by (length xs) (is_blank z) (starts_name z) (is_ascii_digit z) (word_lexeme xs)
+    (number_lexeme xs) (sign_lexeme xs) (omega arith)
+    (λ q. named_fits (length xs) (prefix_len continues_name xs)
+    (reserved (take_while continues_name xs)) (first_passes continues_name z zs
+    (starts_continues z q)) (prefix_len-le-length continues_name xs))
+    (λ q. (first_passes is_ascii_digit z zs q, prefix_len-le-length is_ascii_digit xs))
+    (sign_fits xs (omega arith))

@@ -38,26 +38,36 @@ pub record IsRepresented (words : TextTokens) (operand : Operand) : Type 0 where
   pub spells : Spells expr words.tokens tree
   pub represents : Represents operand tree
 
-along_none : (made : Option ParseFault) (P : Type 0) (Q : ParseFault → Type 0) → made ≡ None → P → MatchOption made P Q
+along_none : (made : Option ParseFault) (P : Type 0) (Q : ParseFault → Type 0) → made ≡ None → P
+    → MatchOption made P Q
 along_none made P Q e h = let R = λ (m : Option ParseFault). MatchOption m P Q in subst R (sym e) h
 
-pub read_outcome : (words : TextTokens) (outcome : Outcome) → limit_fault words ≡ None → IsOutcomeOfTokens words outcome → IsOutcomeWithin words outcome
+pub read_outcome : (words : TextTokens) (outcome : Outcome) → limit_fault words ≡ None
+    → IsOutcomeOfTokens words outcome → IsOutcomeWithin words outcome
 read_outcome words outcome e h = along_none (limit_fault words) _ _ e h
 
 -- Tokens that are not read to an end have their fault where the reading stops.
-pub stop_outcome : (words : TextTokens) (stop : Stop) (fault : ParseFault) → limit_fault words ≡ None → Stops (λ prior. prior ≡ []) stop words.tokens → IsFaultOf words stop fault →
+pub stop_outcome : (words : TextTokens) (stop : Stop) (fault : ParseFault) → limit_fault words
+    ≡ None → Stops (λ prior. prior ≡ []) stop words.tokens → IsFaultOf words stop fault →
     (fault ≡ Memory) ⊎ IsOutcomeWithin words (refused fault)
 stop_outcome words Lacking fault e h f = inl f
 stop_outcome words (Stuck left) fault e h f =
     let P = λ (g : ParseFault). IsOutcomeWithin words (refused g) in
-    inr (subst P (sym f) (read_outcome words _ e (inl (length words.tokens - left, h [] refl, refl))))
+    inr (subst P (sym f) (read_outcome words _ e (inl
+    (length words.tokens - left, h [] refl, refl))))
 
-pub is_whole : (words : TextTokens) (operand : Operand) → ParsesBy expr (Ok operand) words.tokens [] → IsRepresented words operand
+pub is_whole : (words : TextTokens) (operand : Operand) → ParsesBy expr (Ok operand) words.tokens []
+    → IsRepresented words operand
 is_whole words operand h =
     let P = λ (ts : List Token). Spells expr ts h.tree in
-    record { tree = h.tree; spells = subst P (sym (h.split ∙ append-nil h.taken)) h.spells; represents = h.stands }
+    record {
+      tree = h.tree;
+      spells = subst P (sym (h.split ∙ append-nil h.taken)) h.spells;
+      represents = h.stands;
+    }
 
-first_none : (words : TextTokens) (place : Option ℕ) (later : Option ParseFault) → earlier (option_map (λ at. Number (offset_of words at)) place) later ≡ None → place ≡ None
+first_none : (words : TextTokens) (place : Option ℕ) (later : Option ParseFault)
+    → earlier (option_map (λ at. Number (offset_of words at)) place) later ≡ None → place ≡ None
 first_none words None later e = refl
 first_none words (Some at) later e = absurd (cc)
 
@@ -66,99 +76,137 @@ no_big words e = first_none words (position is_big words.tokens) _ e
 
 -- The limits of an expression that is spelt.
 
-judged : (words : TextTokens) (operand : Operand) (outcome : Outcome) → limit_fault words ≡ None → (w : IsRepresented words operand) → NoneEmpty words.tokens → outcome ≡ limited_outcome words w.tree → IsOutcomeWithin words outcome
-judged words operand outcome e w h q = read_outcome words outcome e (inr (w.tree, w.spells, inr (h, q)))
+judged : (words : TextTokens) (operand : Operand) (outcome : Outcome) → limit_fault words ≡ None
+    → (w : IsRepresented words operand) → NoneEmpty words.tokens → outcome
+    ≡ limited_outcome words w.tree → IsOutcomeWithin words outcome
+judged words operand outcome e w h q = read_outcome words outcome e
+    (inr (w.tree, w.spells, inr (h, q)))
 
-pub past_outcome : (words : TextTokens) (operand : Operand) (at : ℕ) → limit_fault words ≡ None → IsRepresented words operand → NoneEmpty words.tokens → words.past ≡ Some at →
+pub past_outcome : (words : TextTokens) (operand : Operand) (at : ℕ) → limit_fault words ≡ None
+    → IsRepresented words operand → NoneEmpty words.tokens → words.past ≡ Some at →
     IsOutcomeWithin words (refused (TooManyNames at))
 past_outcome words operand at e w h q =
     judged words operand (refused (TooManyNames at)) e w h
-    (sym (ap (λ past. past_or past (if nat_lt NODES_MAX (node_count w.tree) then refused (TooLarge (min (node_count w.tree) COUNT_MAX)) else spelt w.tree words.names)) q))
+    (sym (ap (λ past. past_or past (if nat_lt NODES_MAX (node_count w.tree) then refused
+    (TooLarge (min (node_count w.tree) COUNT_MAX)) else spelt w.tree words.names)) q))
 
-size_large : (is : Bool) (n : ℕ) (whole : Outcome) → nat_lt NODES_MAX n ≡ is → NODES_MAX < n → (if is then refused (TooLarge (min n COUNT_MAX)) else whole) ≡ refused (TooLarge (min n COUNT_MAX))
+size_large : (is : Bool) (n : ℕ) (whole : Outcome) → nat_lt NODES_MAX n ≡ is → NODES_MAX < n
+    → (if is then refused (TooLarge (min n COUNT_MAX)) else whole)
+    ≡ refused (TooLarge (min n COUNT_MAX))
 size_large true n whole t lt = refl
 size_large false n whole t lt = absurd (grind (arith, nat_tests))
 
-size_small : (is : Bool) (n : ℕ) (large whole : Outcome) → nat_lt NODES_MAX n ≡ is → n ≤ NODES_MAX → (if is then large else whole) ≡ whole
+size_small : (is : Bool) (n : ℕ) (large whole : Outcome) → nat_lt NODES_MAX n ≡ is → n ≤ NODES_MAX
+    → (if is then large else whole) ≡ whole
 size_small true n large whole t le = absurd (grind (arith, nat_tests))
 size_small false n large whole t le = refl
 
-pub large_outcome : (words : TextTokens) (operand : Operand) (nodes : ℕ) → limit_fault words ≡ None → (w : IsRepresented words operand) → NoneEmpty words.tokens → words.past ≡ None → nodes ≡ operand.nodes → NODES_MAX < nodes →
+pub large_outcome : (words : TextTokens) (operand : Operand) (nodes : ℕ) → limit_fault words ≡ None
+    → (w : IsRepresented words operand) → NoneEmpty words.tokens → words.past ≡ None → nodes
+    ≡ operand.nodes → NODES_MAX < nodes →
     IsOutcomeWithin words (refused (TooLarge nodes))
 large_outcome words operand nodes e w h q same lt =
     let count = w.represents.nodes in
     judged words operand (refused (TooLarge nodes)) e w h
     (ap (λ n. refused (TooLarge n)) (same ∙ count)
-    ∙ sym (size_large (nat_lt NODES_MAX (node_count w.tree)) (node_count w.tree) (spelt w.tree words.names) refl (omega (arith, count)))
-    ∙ sym (ap (λ past. past_or past (if nat_lt NODES_MAX (node_count w.tree) then refused (TooLarge (min (node_count w.tree) COUNT_MAX)) else spelt w.tree words.names)) q))
+    ∙ sym (size_large (nat_lt NODES_MAX (node_count w.tree)) (node_count w.tree)
+    (spelt w.tree words.names) refl (omega (arith, count)))
+    ∙ sym (ap (λ past. past_or past (if nat_lt NODES_MAX (node_count w.tree) then refused
+    (TooLarge (min (node_count w.tree) COUNT_MAX)) else spelt w.tree words.names)) q))
 
 -- What was read is a pattern with these names.
-pub record IsBuildable (names : List (List ℕ)) (operand : Operand) (tree : PatternTree) : Type 0 where
-  pub represents : Represents operand tree
-  pub small : node_count tree ≤ NODES_MAX
-  pub fine : HasFineIntervals tree
-  pub numbered : IsNumbered tree (length names)
+pub record IsBuildable (names : List (List ℕ)) (operand : Operand) (tree : PatternTree) : Type 0
+  where
+    pub represents : Represents operand tree
+    pub small : node_count tree ≤ NODES_MAX
+    pub fine : HasFineIntervals tree
+    pub numbered : IsNumbered tree (length names)
 
 -- What is within all limits can be built, and is the pattern.
-pub is_buildable : (words : TextTokens) (operand : Operand) → limit_fault words ≡ None → (w : IsRepresented words operand) → NoneEmpty words.tokens → words.past ≡ None → operand.nodes ≤ NODES_MAX → IsNumberedByUse words →
+pub is_buildable : (words : TextTokens) (operand : Operand) → limit_fault words ≡ None
+    → (w : IsRepresented words operand) → NoneEmpty words.tokens → words.past ≡ None
+    → operand.nodes ≤ NODES_MAX → IsNumberedByUse words →
     IsBuildable words.names operand w.tree
 is_buildable words operand e w h q le n =
     let count = w.represents.nodes in
     record {
       represents = w.represents;
       small = omega (arith, count);
-      fine = fine_intervals expr words.tokens w.tree w.spells (stand_fine words.tokens (none_big words.tokens (no_big words e)) h);
-      numbered = (counts_alike expr words.tokens w.tree w.spells).alike 0 (length words.names) (n q);
+      fine = fine_intervals expr words.tokens w.tree w.spells
+          (stand_fine words.tokens (none_big words.tokens (no_big words e)) h);
+      numbered = (counts_alike expr words.tokens w.tree w.spells).alike 0 (length words.names)
+          (n q);
     }
 
-pub expr_is : (names : List (List ℕ)) (operand : Operand) (tree : PatternTree) (kept : Option Expr) (built : Expr) → IsBuildable names operand tree → Keeps operand.nodes operand.tree kept →
+pub expr_is : (names : List (List ℕ)) (operand : Operand) (tree : PatternTree) (kept : Option Expr)
+    (built : Expr) → IsBuildable names operand tree → Keeps operand.nodes operand.tree kept →
     kept ≡ Some built → tree_of built ≡ tree
-expr_is names operand tree kept built b k e = kept_is operand.nodes operand.tree kept built (λ x. tree_of x ≡ tree) k e b.represents.same
+expr_is names operand tree kept built b k e = kept_is operand.nodes operand.tree kept built
+    (λ x. tree_of x ≡ tree) k e b.represents.same
 
-pub expr_some : (names : List (List ℕ)) (operand : Operand) (tree : PatternTree) (kept : Option Expr) → IsBuildable names operand tree → Keeps operand.nodes operand.tree kept →
+pub expr_some : (names : List (List ℕ)) (operand : Operand) (tree : PatternTree)
+    (kept : Option Expr) → IsBuildable names operand tree → Keeps operand.nodes operand.tree kept →
     operand.nodes ≤ NODES_MAX → kept ≡ None → ⊥
-expr_some names operand tree kept b k le e = no_none operand.tree (b.represents.built b.small b.fine) (sym (k.small le) ∙ e)
+expr_some names operand tree kept b k le e = no_none operand.tree
+    (b.represents.built b.small b.fine) (sym (k.small le) ∙ e)
   where
     no_none : (whole : Option Expr) → IsSome whole → whole ≡ None → ⊥
     no_none None h e = cc
     no_none (Some x) h e = cc
 
-pub pattern_some : (names : List (List ℕ)) (operand : Operand) (tree : PatternTree) (built : Expr) → IsBuildable names operand tree → tree_of built ≡ tree →
+pub pattern_some : (names : List (List ℕ)) (operand : Operand) (tree : PatternTree) (built : Expr)
+    → IsBuildable names operand tree → tree_of built ≡ tree →
     (node_count (tree_of built) ≤ NODES_MAX) × IsNumbered (tree_of built) (length names)
 pattern_some names operand tree built b e =
     let P = λ (t : PatternTree). (node_count t ≤ NODES_MAX) × IsNumbered t (length names) in
     subst P (sym e) (b.small, b.numbered)
 
-pub spelt_outcome : (words : TextTokens) (operand : Operand) (tree : PatternTree) (names : List (List ℕ)) → limit_fault words ≡ None → (w : IsRepresented words operand) → NoneEmpty words.tokens → words.past ≡ None → operand.nodes ≤ NODES_MAX →
+pub spelt_outcome : (words : TextTokens) (operand : Operand) (tree : PatternTree)
+    (names : List (List ℕ)) → limit_fault words ≡ None → (w : IsRepresented words operand)
+    → NoneEmpty words.tokens → words.past ≡ None → operand.nodes ≤ NODES_MAX →
     tree ≡ w.tree → names ≡ words.names → IsOutcomeWithin words (spelt tree names)
 spelt_outcome words operand tree names e w h q le same kept =
     let count = w.represents.nodes in
     judged words operand (spelt tree names) e w h
     (ap (λ t. spelt t names) same ∙ ap (λ n. spelt w.tree n) kept
-    ∙ sym (size_small (nat_lt NODES_MAX (node_count w.tree)) (node_count w.tree) (refused (TooLarge (min (node_count w.tree) COUNT_MAX))) (spelt w.tree words.names) refl (omega (arith, count)))
-    ∙ sym (ap (λ past. past_or past (if nat_lt NODES_MAX (node_count w.tree) then refused (TooLarge (min (node_count w.tree) COUNT_MAX)) else spelt w.tree words.names)) q))
+    ∙ sym (size_small (nat_lt NODES_MAX (node_count w.tree)) (node_count w.tree)
+    (refused (TooLarge (min (node_count w.tree) COUNT_MAX))) (spelt w.tree words.names) refl
+    (omega (arith, count)))
+    ∙ sym (ap (λ past. past_or past (if nat_lt NODES_MAX (node_count w.tree) then refused
+    (TooLarge (min (node_count w.tree) COUNT_MAX)) else spelt w.tree words.names)) q))
 
 -- The text as a whole.
-pub words_outcome : (text : List ℕ) (outcome : Outcome) → byte_fault text ≡ None → IsOutcomeWithin (text_tokens_of text) outcome → IsOutcome text outcome
+pub words_outcome : (text : List ℕ) (outcome : Outcome) → byte_fault text ≡ None
+    → IsOutcomeWithin (text_tokens_of text) outcome → IsOutcome text outcome
 words_outcome text outcome e h = along_none (byte_fault text) _ _ e h
 
-short_by : (is : Bool) (n : ℕ) (first later : Option ParseFault) → nat_lt TEXT_MAX n ≡ is → n ≤ TEXT_MAX → (if is then first else later) ≡ later
+short_by : (is : Bool) (n : ℕ) (first later : Option ParseFault) → nat_lt TEXT_MAX n ≡ is
+    → n ≤ TEXT_MAX → (if is then first else later) ≡ later
 short_by true n first later t le = absurd (grind (arith, nat_tests))
 short_by false n first later t le = refl
 
-pub good_bytes : (text : List ℕ) → length text ≤ TEXT_MAX → bad_byte text ≡ None → byte_fault text ≡ None
-good_bytes text le e = short_by (nat_lt TEXT_MAX (length text)) (length text) (Some TooLong) _ refl le ∙ ap (option_map (λ at. BadByte at)) e
+pub good_bytes : (text : List ℕ) → length text ≤ TEXT_MAX → bad_byte text ≡ None → byte_fault text
+    ≡ None
+good_bytes text le e = short_by (nat_lt TEXT_MAX (length text)) (length text) (Some TooLong) _ refl
+    le ∙ ap (option_map (λ at. BadByte at)) e
 
 -- A scan of a text holds its words.
-pub same_words : (text : List ℕ) (scan : Scan) → IsScan text scan → text_tokens_in scan ≡ text_tokens_of text
-same_words text scan s = let z = s.size in let a = s.tokens in let b = s.offsets in let c = s.names in let d = s.past in (cc)
+pub same_words : (text : List ℕ) (scan : Scan) → IsScan text scan → text_tokens_in scan
+    ≡ text_tokens_of text
+same_words text scan s = let z = s.size in let a = s.tokens in let b = s.offsets in let c =
+    s.names in let d = s.past in (cc)
 
-pub scan_numbered : (text : List ℕ) (scan : Scan) → IsScan text scan → IsNumberedByUse (text_tokens_in scan)
-scan_numbered text scan s = let P = λ (w : TextTokens). IsNumberedByUse w in subst P (sym (same_words text scan s)) (text_numbered text)
+pub scan_numbered : (text : List ℕ) (scan : Scan) → IsScan text scan
+    → IsNumberedByUse (text_tokens_in scan)
+scan_numbered text scan s = let P = λ (w : TextTokens). IsNumberedByUse w in
+    subst P (sym (same_words text scan s)) (text_numbered text)
 
-pub answers_text : (text : List ℕ) (scan : Scan) (result : Result Pattern ParseFault) → length text ≤ TEXT_MAX → IsScan text scan → Answers (IsOutcomeWithin (text_tokens_in scan)) result → Answers (IsOutcome text) result
+pub answers_text : (text : List ℕ) (scan : Scan) (result : Result Pattern ParseFault)
+    → length text ≤ TEXT_MAX → IsScan text scan → Answers (IsOutcomeWithin (text_tokens_in scan))
+    result → Answers (IsOutcome text) result
 answers_text text scan (Ok pattern) le s h =
-    let P = λ (w : TextTokens). IsOutcomeWithin w (spelt (pattern_tree pattern) (names_of pattern)) in
+    let P = λ (w : TextTokens). IsOutcomeWithin w (spelt (pattern_tree pattern)
+    (names_of pattern)) in
     words_outcome text _ (good_bytes text le s.good) (subst P (same_words text scan s) h)
 answers_text text scan (Err fault) le s (inl h) = inl h
 answers_text text scan (Err fault) le s (inr h) =
@@ -166,11 +214,15 @@ answers_text text scan (Err fault) le s (inr h) =
     inr (words_outcome text _ (good_bytes text le s.good) (subst P (same_words text scan s) h))
 
 -- The outcome is what is answered.
-pub answered : (text : List ℕ) (outcome : Outcome) (result : Result Pattern ParseFault) → Answers (IsOutcome text) result → IsOutcome text outcome → Answers (λ answer. outcome ≡ answer) result
+pub answered : (text : List ℕ) (outcome : Outcome) (result : Result Pattern ParseFault)
+    → Answers (IsOutcome text) result → IsOutcome text outcome
+    → Answers (λ answer. outcome ≡ answer) result
 answered text outcome (Ok pattern) h k = outcome_once text outcome _ k h
 answered text outcome (Err fault) (inl h) k = inl h
 answered text outcome (Err fault) (inr h) k = inr (outcome_once text outcome _ k h)
 
-pub limits_met : (words : TextTokens) → position is_big words.tokens ≡ None → deep_place 0 0 words.tokens ≡ None → limit_fault words ≡ None
-limits_met words p q = ap (λ big. earlier (option_map (λ at. Number (offset_of words at)) big) (option_map (λ at. TooDeep (offset_of words at)) (deep_place 0 0 words.tokens))) p
+pub limits_met : (words : TextTokens) → position is_big words.tokens ≡ None
+    → deep_place 0 0 words.tokens ≡ None → limit_fault words ≡ None
+limits_met words p q = ap (λ big. earlier (option_map (λ at. Number (offset_of words at)) big)
+    (option_map (λ at. TooDeep (offset_of words at)) (deep_place 0 0 words.tokens))) p
     ∙ ap (λ deep. earlier None (option_map (λ at. TooDeep (offset_of words at)) deep)) q

@@ -195,7 +195,8 @@ after_step level below x RightParen = leave below (as_expression level x)
 after_step level below x _ = None
 
 abbrev pub after_literal_step : Level → List Level → Bool → StateTree → Token → Option Config
-after_literal_step level below begins s Ends = moved level below (after (edged_literal begins true s))
+after_literal_step level below begins s Ends = moved level below
+    (after (edged_literal begins true s))
 after_literal_step level below begins s token =
     after_step level below (plain_literal begins s) token
 

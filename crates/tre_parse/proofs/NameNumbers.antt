@@ -13,62 +13,82 @@ use Rattle.tre_parse.specs.Tokens.{RawToken, name, sign, RawTokenAt, names_with,
 use Rattle.tre_parse.specs.Numbering.{HasTokenAt}
 
 -- A name that is held keeps its place when one more is put at the end.
-below : (n m i : ℕ) (is : Bool) → nat_lt n m ≡ is → cond is (Some n) None ≡ Some i → (n < m) × (n ≡ i)
+below : (n m i : ℕ) (is : Bool) → nat_lt n m ≡ is → cond is (Some n) None ≡ Some i → (n < m)
+    × (n ≡ i)
 below n m i true t e = (grind (arith, nat_tests), cc)
 below n m i false t e = absurd (cc)
 
-kept_len : (p : List ℕ → Bool) (xs : List (List ℕ)) (y : List ℕ) → position_or_len p xs < length xs → position_or_len p (xs ++ y ∷ []) ≡ position_or_len p xs
+kept_len : (p : List ℕ → Bool) (xs : List (List ℕ)) (y : List ℕ) → position_or_len p xs < length xs
+    → position_or_len p (xs ++ y ∷ []) ≡ position_or_len p xs
 kept_len p xs y lt = grind (arith, position_or_len_push p xs y)
 
-kept_place : (known : List (List ℕ)) (bytes other : List ℕ) (i : ℕ) → place_of known bytes ≡ Some i → place_of (known ++ other ∷ []) bytes ≡ Some i
+kept_place : (known : List (List ℕ)) (bytes other : List ℕ) (i : ℕ) → place_of known bytes ≡ Some i
+    → place_of (known ++ other ∷ []) bytes ≡ Some i
 kept_place known bytes other i e =
     let b = below (position_or_len (bytes_eq bytes) known) (length known) i _ refl e in
-    found (kept_len (bytes_eq bytes) known other b.0 ∙ b.1) (length-append known (other ∷ [])) (omega (arith, b.0, b.1))
+    found (kept_len (bytes_eq bytes) known other b.0 ∙ b.1) (length-append known (other ∷ []))
+    (omega (arith, b.0, b.1))
   where
-    found : {n m : ℕ} → n ≡ i → m ≡ length known + 1 → i < length known → cond (nat_lt n m) (Some n) None ≡ Some i
+    found : {n m : ℕ} → n ≡ i → m ≡ length known + 1 → i < length known
+        → cond (nat_lt n m) (Some n) None ≡ Some i
     found same more lt = grind (arith, nat_tests)
 
 -- A name has its place for good, where it has one or no more names are taken.
 abbrev HasPlace : List (List ℕ) → List ℕ → Type 0
-HasPlace known bytes = ((i : ℕ) × (place_of known bytes ≡ Some i)) ⊎ (nat_lt (length known) NAMES_MAX ≡ false)
+HasPlace known bytes = ((i : ℕ) × (place_of known bytes ≡ Some i)) ⊎
+    (nat_lt (length known) NAMES_MAX ≡ false)
 
-no_room : (known : List (List ℕ)) (other : List ℕ) (none room : Bool) → room ≡ false → (if none && room then known ++ other ∷ [] else known) ≡ known
+no_room : (known : List (List ℕ)) (other : List ℕ) (none room : Bool) → room ≡ false
+    → (if none && room then known ++ other ∷ [] else known) ≡ known
 no_room known other true room e = ap (λ (r : Bool). if r then known ++ other ∷ [] else known) e
 no_room known other false room e = refl
 
-some_kept : (known : List (List ℕ)) (bytes other : List ℕ) (i : ℕ) (is : Bool) → place_of known bytes ≡ Some i → place_of (if is then known ++ other ∷ [] else known) bytes ≡ Some i
+some_kept : (known : List (List ℕ)) (bytes other : List ℕ) (i : ℕ) (is : Bool)
+    → place_of known bytes ≡ Some i → place_of (if is then known ++ other ∷ [] else known) bytes
+    ≡ Some i
 some_kept known bytes other i true e = kept_place known bytes other i e
 some_kept known bytes other i false e = e
 
-word_on : (known : List (List ℕ)) (word : RawToken) (bytes : List ℕ) → HasPlace known bytes → HasPlace (known_after known word) bytes × (place_of (known_after known word) bytes ≡ place_of known bytes)
+word_on : (known : List (List ℕ)) (word : RawToken) (bytes : List ℕ) → HasPlace known bytes
+    → HasPlace (known_after known word) bytes × (place_of (known_after known word) bytes
+    ≡ place_of known bytes)
 word_on known (sign token) bytes h = (h, refl)
 word_on known (name other) bytes (inl s) =
-    let e = some_kept known bytes other s.0 (is_none (place_of known other) && nat_lt (length known) NAMES_MAX) s.1 in (inl (s.0, e), e ∙ sym s.1)
+    let e = some_kept known bytes other s.0 (is_none (place_of known other) && nat_lt (length known)
+    NAMES_MAX) s.1 in (inl (s.0, e), e ∙ sym s.1)
 word_on known (name other) bytes (inr full) =
-    let same = no_room known other (is_none (place_of known other)) (nat_lt (length known) NAMES_MAX) full in
+    let same = no_room known other (is_none (place_of known other))
+    (nat_lt (length known) NAMES_MAX) full in
     (inr (ap (λ k. nat_lt (length k) NAMES_MAX) same ∙ full), ap (λ k. place_of k bytes) same)
 
-for_good : (known : List (List ℕ)) (raw_tokens : List RawTokenAt) (bytes : List ℕ) → HasPlace known bytes → place_of (names_from known raw_tokens) bytes ≡ place_of known bytes
+for_good : (known : List (List ℕ)) (raw_tokens : List RawTokenAt) (bytes : List ℕ)
+    → HasPlace known bytes → place_of (names_from known raw_tokens) bytes ≡ place_of known bytes
 for_good known [] bytes h = refl
 for_good known (raw ∷ rest) bytes h =
-    let w = word_on known raw.word bytes h in for_good (known_after known raw.word) rest bytes w.0 ∙ w.1
+    let w = word_on known raw.word bytes h in for_good (known_after known raw.word) rest bytes w.0
+    ∙ w.1
 
 -- After a name was read it has its place.
-placed : (known : List (List ℕ)) (bytes : List ℕ) (found : Option ℕ) (room : Bool) → place_of known bytes ≡ found → nat_lt (length known) NAMES_MAX ≡ room →
+placed : (known : List (List ℕ)) (bytes : List ℕ) (found : Option ℕ) (room : Bool)
+    → place_of known bytes ≡ found → nat_lt (length known) NAMES_MAX ≡ room →
     HasPlace (if is_none found && room then known ++ bytes ∷ [] else known) bytes
 placed known bytes (Some i) room e f = inl (i, e)
 placed known bytes None true e f = inl (length known, place_of-push known bytes e)
 placed known bytes None false e f = inr f
 
 number_from : (front back : List RawTokenAt) (at : ℕ) (bytes : List ℕ) (known : List (List ℕ)) →
-    HasTokenAt (tokens_from known (front ++ (record { at = at; word = name bytes }) ∷ back)) (length front)
-    (Numbered (unwrap_or (place_of (names_from known (front ++ (record { at = at; word = name bytes }) ∷ back)) bytes) NAMES_MAX))
+    HasTokenAt (tokens_from known (front ++ (record { at = at; word = name bytes }) ∷ back))
+    (length front)
+    (Numbered (unwrap_or (place_of (names_from known
+    (front ++ (record { at = at; word = name bytes }) ∷ back)) bytes) NAMES_MAX))
 number_from [] back at bytes known =
-    let same = for_good (names_with known bytes) back bytes (placed known bytes (place_of known bytes) (nat_lt (length known) NAMES_MAX) refl refl) in
+    let same = for_good (names_with known bytes) back bytes
+    (placed known bytes (place_of known bytes) (nat_lt (length known) NAMES_MAX) refl refl) in
     record {
       before = [];
       after = tokens_from (names_with known bytes) back;
-      split = ap (λ (o : Option ℕ). Numbered (unwrap_or o NAMES_MAX) ∷ tokens_from (names_with known bytes) back) (sym same);
+      split = ap (λ (o : Option ℕ). Numbered (unwrap_or o NAMES_MAX) ∷ tokens_from
+          (names_with known bytes) back) (sym same);
       here = refl;
     }
 number_from (raw ∷ front) back at bytes known =
@@ -80,8 +100,11 @@ number_from (raw ∷ front) back at bytes known =
       here = ap suc h.here;
     }
 
-pub name_number : (text bytes : List ℕ) (front back : List RawTokenAt) (at : ℕ) → raw_tokens_of text ≡ front ++ (record { at = at; word = name bytes }) ∷ back →
-    HasTokenAt (tokens_of text) (length front) (Numbered (unwrap_or (place_of (names_of text) bytes) NAMES_MAX))
+pub name_number : (text bytes : List ℕ) (front back : List RawTokenAt) (at : ℕ) → raw_tokens_of text
+    ≡ front ++ (record { at = at; word = name bytes }) ∷ back →
+    HasTokenAt (tokens_of text) (length front) (Numbered
+    (unwrap_or (place_of (names_of text) bytes) NAMES_MAX))
 name_number text bytes front back at e =
-    let P = λ (raw_tokens : List RawTokenAt). HasTokenAt (tokens_from [] raw_tokens) (length front) (Numbered (unwrap_or (place_of (names_from [] raw_tokens) bytes) NAMES_MAX)) in
+    let P = λ (raw_tokens : List RawTokenAt). HasTokenAt (tokens_from [] raw_tokens) (length front)
+    (Numbered (unwrap_or (place_of (names_from [] raw_tokens) bytes) NAMES_MAX)) in
     subst P (sym e) (number_from front back at bytes [])

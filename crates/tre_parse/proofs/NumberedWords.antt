@@ -27,7 +27,10 @@ abbrev IsNoName : Token → Type 0
 IsNoName (Numbered i) = ⊥
 IsNoName _ = Unit {0}
 
-reserved_by : (a b c d e f : Bool) → IfSome (if a then Some Eps else (if b then Some Rise else (if c then Some Fall else (if d then Some Inf else (if e then Some True else (if f then Some Event else None)))))) IsNoName
+reserved_by : (a b c d e f : Bool) → IfSome (if a then Some Eps else
+    (if b then Some Rise else (if c then Some Fall else
+    (if d then Some Inf else (if e then Some True else (if f then Some Event else None))))))
+    IsNoName
 reserved_by true _ _ _ _ _ = tt
 reserved_by false true _ _ _ _ = tt
 reserved_by false false true _ _ _ = tt
@@ -38,7 +41,9 @@ reserved_by false false false false false false = tt
 
 reserved_no_name : (word : List ℕ) → IfSome (reserved word) IsNoName
 reserved_no_name word =
-    reserved_by (bytes_eq (codes "eps") word) (bytes_eq (codes "rise") word) (bytes_eq (codes "fall") word) (bytes_eq (codes "inf") word) (bytes_eq (codes "true") word) (bytes_eq (codes "event") word)
+    reserved_by (bytes_eq (codes "eps") word) (bytes_eq (codes "rise") word)
+    (bytes_eq (codes "fall") word) (bytes_eq (codes "inf") word) (bytes_eq (codes "true") word)
+    (bytes_eq (codes "event") word)
 
 abbrev SaysNoName : Lexeme → Type 0
 SaysNoName (Sign token len) = IsNoName token
@@ -48,19 +53,55 @@ named_no_name : (n : ℕ) (o : Option Token) → IfSome o IsNoName → SaysNoNam
 named_no_name n None h = tt
 named_no_name n (Some t) h = h
 
-first_no_name : {A : Type 0} (text : A → List ℕ) (token : A → Token) (signs : List A) (xs : List ℕ) → Each (λ s. IsNoName (token s)) signs → SaysNoName (first_sign text token signs xs)
+first_no_name : {A : Type 0} (text : A → List ℕ) (token : A → Token) (signs : List A) (xs : List ℕ)
+    → Each (λ s. IsNoName (token s)) signs → SaysNoName (first_sign text token signs xs)
 first_no_name text token [] xs h = tt
-first_no_name text token (s ∷ more) xs h = by (first_no_name text token more xs h.1) (starts_with nat_eq xs (text s))
+first_no_name text token (s ∷ more) xs h = by (first_no_name text token more xs h.1)
+    (starts_with nat_eq xs (text s))
   where
-    by : SaysNoName (first_sign text token more xs) → (is : Bool) → SaysNoName (cond is (Sign (token s) (length (text s))) (first_sign text token more xs))
+    by : SaysNoName (first_sign text token more xs) → (is : Bool)
+        → SaysNoName (cond is (Sign (token s) (length (text s))) (first_sign text token more xs))
     by next true = h.0
     by next false = next
 
 sign_no_name : (rest : List ℕ) → SaysNoName (sign_lexeme rest)
-sign_no_name rest = first_no_name (λ sign. sign.0.now) (λ sign. sign.1) SIGNS rest ((tt, (tt, (tt, (tt, (tt, (tt, (tt, (tt, (tt, (tt, (tt, (tt, (tt, (tt, (tt, (tt, (tt, (tt, (tt, tt))))))))))))))))))))
+sign_no_name rest = first_no_name (λ sign. sign.0.now) (λ sign. sign.1) SIGNS rest
+    ((
+      tt,
+      (
+        tt,
+        (
+          tt,
+          (
+            tt,
+            (
+              tt,
+              (
+                tt,
+                (
+                  tt,
+                  (
+                    tt,
+                    (
+                      tt,
+                      (
+                        tt,
+                        (tt, (tt, (tt, (tt, (tt, (tt, (tt, (tt, (tt, tt))))))))),
+                      ),
+                    ),
+                  ),
+                ),
+              ),
+            ),
+          ),
+        ),
+      ),
+    ))
 
-lexeme_by : (blank starts digit : Bool) (word number other : Lexeme) → SaysNoName word → SaysNoName number → SaysNoName other →
-    SaysNoName (if blank then Blank else (if starts then word else (if digit then number else other)))
+lexeme_by : (blank starts digit : Bool) (word number other : Lexeme) → SaysNoName word
+    → SaysNoName number → SaysNoName other →
+    SaysNoName (if blank then Blank else (if starts then word else
+    (if digit then number else other)))
 lexeme_by true starts digit word number other h k m = tt
 lexeme_by false true digit word number other h k m = h
 lexeme_by false false true word number other h k m = k
@@ -69,8 +110,10 @@ lexeme_by false false false word number other h k m = m
 lexeme_no_name : (rest : List ℕ) → SaysNoName (lexeme_of rest)
 lexeme_no_name [] = tt
 lexeme_no_name (b ∷ bs) =
-    lexeme_by (is_blank b) (starts_name b) (is_ascii_digit b) (word_lexeme (b ∷ bs)) (number_lexeme (b ∷ bs)) (sign_lexeme (b ∷ bs))
-    (named_no_name _ _ (reserved_no_name (take_while continues_name (b ∷ bs)))) tt (sign_no_name (b ∷ bs))
+    lexeme_by (is_blank b) (starts_name b) (is_ascii_digit b) (word_lexeme (b ∷ bs))
+    (number_lexeme (b ∷ bs)) (sign_lexeme (b ∷ bs))
+    (named_no_name _ _ (reserved_no_name (take_while continues_name (b ∷ bs)))) tt
+    (sign_no_name (b ∷ bs))
 
 -- Names stand among the words by their bytes alone.
 abbrev IsPlain : RawToken → Type 0
@@ -81,56 +124,76 @@ abbrev ArePlain : List RawTokenAt → Type 0
 ArePlain [] = Unit {0}
 ArePlain (raw ∷ rest) = IsPlain raw.word × ArePlain rest
 
-scanned_plain : (lexeme : Lexeme) (at : ℕ) (bytes : List ℕ) (next : ℕ → RawTokens) → SaysNoName lexeme → ((k : ℕ) → ArePlain (next k).raw_tokens) → ArePlain (scanned lexeme at bytes next).raw_tokens
+scanned_plain : (lexeme : Lexeme) (at : ℕ) (bytes : List ℕ) (next : ℕ → RawTokens)
+    → SaysNoName lexeme → ((k : ℕ) → ArePlain (next k).raw_tokens)
+    → ArePlain (scanned lexeme at bytes next).raw_tokens
 scanned_plain Blank at bytes next h go = go 0
 scanned_plain Wrong at bytes next h go = tt
 scanned_plain (Name len) at bytes next h go = (tt, go (len - 1))
 scanned_plain (Sign token len) at bytes next h go = (h, go (len - 1))
 
-raw_tokens_plain : (skip at : ℕ) (bytes : List ℕ) → ArePlain (raw_tokens_from skip at bytes).raw_tokens
+raw_tokens_plain : (skip at : ℕ) (bytes : List ℕ) → ArePlain
+    (raw_tokens_from skip at bytes).raw_tokens
 raw_tokens_plain skip at [] = tt
 raw_tokens_plain (suc skip) at (b ∷ bs) = raw_tokens_plain skip (at + 1) bs
-raw_tokens_plain zero at (b ∷ bs) = scanned_plain (lexeme_of (b ∷ bs)) at (b ∷ bs) (λ skip. raw_tokens_from skip (at + 1) bs) (lexeme_no_name (b ∷ bs)) (λ skip. raw_tokens_plain skip (at + 1) bs)
+raw_tokens_plain zero at (b ∷ bs) = scanned_plain (lexeme_of (b ∷ bs)) at (b ∷ bs)
+    (λ skip. raw_tokens_from skip (at + 1) bs) (lexeme_no_name (b ∷ bs))
+    (λ skip. raw_tokens_plain skip (at + 1) bs)
 
-no_name_numbers : (token : Token) (rest : List Token) → IsNoName token → numbers_in (token ∷ rest) ≡ numbers_in rest
+no_name_numbers : (token : Token) (rest : List Token) → IsNoName token → numbers_in (token ∷ rest)
+    ≡ numbers_in rest
 no_name_numbers (Numbered i) rest h = absurd h
 no_name_numbers _ rest h = refl
 
 -- What the number of a name is, where it is not past the most.
-name_seen : (known : List (List ℕ)) (bytes : List ℕ) (found : Option ℕ) (room : Bool) (rest : List ℕ) (m : ℕ) → place_of known bytes ≡ found →
-    is_none (place_of (if is_none found && room then known ++ bytes ∷ [] else known) bytes) ≡ false →
-    seen_after (length (if is_none found && room then known ++ bytes ∷ [] else known)) rest ≡ Some m →
-    seen_after (length known) (unwrap_or (place_of (if is_none found && room then known ++ bytes ∷ [] else known) bytes) NAMES_MAX ∷ rest) ≡ Some m
+name_seen : (known : List (List ℕ)) (bytes : List ℕ) (found : Option ℕ) (room : Bool)
+    (rest : List ℕ) (m : ℕ) → place_of known bytes ≡ found →
+    is_none (place_of (if is_none found && room then known ++ bytes ∷ [] else known) bytes) ≡ false
+    →
+    seen_after (length (if is_none found && room then known ++ bytes ∷ [] else known)) rest ≡ Some m
+    →
+    seen_after (length known) (unwrap_or (place_of (if is_none found && room then known ++ bytes ∷
+    [] else known) bytes) NAMES_MAX ∷ rest) ≡ Some m
 name_seen known bytes (Some i) room rest m f p e =
     let bound = position-Some (bytes_eq bytes) known i [] f in
-    ap (λ (o : Option ℕ). seen_after (length known) (unwrap_or o NAMES_MAX ∷ rest)) f ∙ seen_old (length known) i rest m bound.0 e
+    ap (λ (o : Option ℕ). seen_after (length known) (unwrap_or o NAMES_MAX ∷ rest)) f
+    ∙ seen_old (length known) i rest m bound.0 e
 name_seen known bytes None true rest m f p e =
     let pushed = place_of-push known bytes f in
     let size : length (known ++ bytes ∷ []) ≡ length known + 1 = length-append known (bytes ∷ []) in
     ap (λ (o : Option ℕ). seen_after (length known) (unwrap_or o NAMES_MAX ∷ rest)) pushed
-    ∙ seen_new (length known) (length known) rest m refl (ap (λ n. seen_after n rest) (sym size) ∙ e)
+    ∙ seen_new (length known) (length known) rest m refl
+    (ap (λ n. seen_after n rest) (sym size) ∙ e)
 name_seen known bytes None false rest m f p e =
     let none = ap is_none f in absurd (cc)
 
-past_none : (is : Bool) (at : ℕ) (later : Option ℕ) → (if is then Some at else later) ≡ None → (is ≡ false) × (later ≡ None)
+past_none : (is : Bool) (at : ℕ) (later : Option ℕ) → (if is then Some at else later) ≡ None
+    → (is ≡ false) × (later ≡ None)
 past_none true at later e = absurd (cc)
 past_none false at later e = (refl, e)
 
-spot_numbered : (word : RawToken) (at : ℕ) (known : List (List ℕ)) (rest : List Token) (later : Option ℕ) (m : ℕ) → IsPlain word →
-    (if is_past known word then Some at else later) ≡ None → (later ≡ None → seen_after (length (known_after known word)) (numbers_in rest) ≡ Some m) →
+spot_numbered : (word : RawToken) (at : ℕ) (known : List (List ℕ)) (rest : List Token)
+    (later : Option ℕ) (m : ℕ) → IsPlain word →
+    (if is_past known word then Some at else later) ≡ None
+    → (later ≡ None → seen_after (length (known_after known word)) (numbers_in rest) ≡ Some m) →
     seen_after (length known) (numbers_in (token_of known word ∷ rest)) ≡ Some m
 spot_numbered (name bytes) at known rest later m h e go =
     let split = past_none (is_past known (name bytes)) at later e in
-    name_seen known bytes (place_of known bytes) (nat_lt (length known) NAMES_MAX) (numbers_in rest) m refl split.0 (go split.1)
+    name_seen known bytes (place_of known bytes) (nat_lt (length known) NAMES_MAX) (numbers_in rest)
+    m refl split.0 (go split.1)
 spot_numbered (sign token) at known rest later m h e go =
     ap (seen_after (length known)) (no_name_numbers token rest h) ∙ go e
 
-numbered_from : (raw_tokens : List RawTokenAt) (known : List (List ℕ)) → ArePlain raw_tokens → past_from known raw_tokens ≡ None →
-    seen_after (length known) (numbers_in (tokens_from known raw_tokens)) ≡ Some (length (names_from known raw_tokens))
+numbered_from : (raw_tokens : List RawTokenAt) (known : List (List ℕ)) → ArePlain raw_tokens
+    → past_from known raw_tokens ≡ None →
+    seen_after (length known) (numbers_in (tokens_from known raw_tokens))
+    ≡ Some (length (names_from known raw_tokens))
 numbered_from [] known h e = refl
 numbered_from (raw ∷ rest) known h e =
-    spot_numbered raw.word raw.at known (tokens_from (known_after known raw.word) rest) (past_from (known_after known raw.word) rest)
-    (length (names_from (known_after known raw.word) rest)) h.0 e (λ later. numbered_from rest (known_after known raw.word) h.1 later)
+    spot_numbered raw.word raw.at known (tokens_from (known_after known raw.word) rest)
+    (past_from (known_after known raw.word) rest)
+    (length (names_from (known_after known raw.word) rest)) h.0 e
+    (λ later. numbered_from rest (known_after known raw.word) h.1 later)
 
 -- The words of a text are numbered by use.
 pub text_numbered : (text : List ℕ) → IsNumberedByUse (text_tokens_of text)

@@ -12,29 +12,38 @@ use Rattle.tre_parse.specs.declared.token.Token.TheVariants.{Name, RightParen, R
 use Rattle.tre_parse.specs.Grammar.{StateRule, lit, state, conj, neg, SpellsState, lit_name, lit_true, lit_braces, lit_bang, state_conj, state_bars, conj_neg, conj_ampersands, neg_name, neg_true, neg_parens, neg_bang, SpellsInterval, with_high, without_high, Rule, expr, meet, seq, post, primary, Spells, expr_meet, expr_bar, meet_seq, meet_ampersand, seq_post, seq_semicolon, post_primary, post_star, post_plus, post_question, post_percent, primary_eps, primary_parens, primary_rise, primary_fall, primary_lit, primary_begins, primary_ends, primary_begins_ends}
 use Rattle.tre_parse.specs.Numbering.{numbers_in}
 
-numbers_join : (xs ys : List Token) → numbers_in (xs ++ ys) ≡ numbers_in xs ++ numbers_in ys
+pub numbers_join : (xs ys : List Token) → numbers_in (xs ++ ys) ≡ numbers_in xs ++ numbers_in ys
 numbers_join [] ys = refl
 numbers_join (Name i ∷ xs) ys = ap (λ l. i ∷ l) (numbers_join xs ys)
 numbers_join (_ ∷ xs) ys = numbers_join xs ys
 
 -- Brackets around tokens have no numbers.
-numbers_closed : (xs : List Token) (mark : Token) → numbers_in (mark ∷ []) ≡ [] → numbers_in (xs ++ mark ∷ []) ≡ numbers_in xs
-numbers_closed xs mark e = numbers_join xs (mark ∷ []) ∙ ap (λ l. numbers_in xs ++ l) e ∙ append-nil (numbers_in xs)
+numbers_closed : (xs : List Token) (mark : Token) → numbers_in (mark ∷ []) ≡ []
+    → numbers_in (xs ++ mark ∷ []) ≡ numbers_in xs
+numbers_closed xs mark e = numbers_join xs (mark ∷ []) ∙ ap (λ l. numbers_in xs ++ l) e
+    ∙ append-nil (numbers_in xs)
 
-state_numbers : (r : StateRule) (xs : List Token) (s : StateTree) → SpellsState r xs s → state.numbers_of s ≡ numbers_in xs
+state_numbers : (r : StateRule) (xs : List Token) (s : StateTree) → SpellsState r xs s
+    → state.numbers_of s ≡ numbers_in xs
 state_numbers _ _ _ (lit_name i) = refl
 state_numbers _ _ _ lit_true = refl
-state_numbers _ _ _ (lit_braces xs s h) = state_numbers state xs s h ∙ sym (numbers_closed xs RightBrace refl)
+state_numbers _ _ _ (lit_braces xs s h) = state_numbers state xs s h
+    ∙ sym (numbers_closed xs RightBrace refl)
 state_numbers _ _ _ (lit_bang xs s h) = state_numbers lit xs s h
 state_numbers _ _ _ (state_conj xs s h) = state_numbers conj xs s h
 state_numbers _ _ _ (state_bars xs ys s t h k) =
-    ap (λ l. l ++ state.numbers_of t) (state_numbers state xs s h) ∙ ap (λ l. numbers_in xs ++ l) (state_numbers conj ys t k) ∙ sym (numbers_join xs (DoubleBar ∷ ys))
+    ap (λ l. l ++ state.numbers_of t) (state_numbers state xs s h)
+    ∙ ap (λ l. numbers_in xs ++ l) (state_numbers conj ys t k)
+    ∙ sym (numbers_join xs (DoubleBar ∷ ys))
 state_numbers _ _ _ (conj_neg xs s h) = state_numbers neg xs s h
 state_numbers _ _ _ (conj_ampersands xs ys s t h k) =
-    ap (λ l. l ++ state.numbers_of t) (state_numbers conj xs s h) ∙ ap (λ l. numbers_in xs ++ l) (state_numbers neg ys t k) ∙ sym (numbers_join xs (DoubleAmpersand ∷ ys))
+    ap (λ l. l ++ state.numbers_of t) (state_numbers conj xs s h)
+    ∙ ap (λ l. numbers_in xs ++ l) (state_numbers neg ys t k)
+    ∙ sym (numbers_join xs (DoubleAmpersand ∷ ys))
 state_numbers _ _ _ (neg_name i) = refl
 state_numbers _ _ _ neg_true = refl
-state_numbers _ _ _ (neg_parens xs s h) = state_numbers state xs s h ∙ sym (numbers_closed xs RightParen refl)
+state_numbers _ _ _ (neg_parens xs s h) = state_numbers state xs s h
+    ∙ sym (numbers_closed xs RightParen refl)
 state_numbers _ _ _ (neg_bang xs s h) = state_numbers neg xs s h
 
 -- Numbers read in two parts.
@@ -43,9 +52,13 @@ record SeenBetween (xs ys : List ℕ) (n m : ℕ) : Type 0 where
   first : seen_after n xs ≡ Some between
   second : seen_after between ys ≡ Some m
 
-split_by : (below same : Bool) (xs ys : List ℕ) (n m : ℕ) → (seen_after n (xs ++ ys) ≡ Some m → SeenBetween xs ys n m) → (seen_after (n + 1) (xs ++ ys) ≡ Some m → SeenBetween xs ys (n + 1) m) →
-    (if below then seen_after n (xs ++ ys) else (if same then seen_after (n + 1) (xs ++ ys) else None)) ≡ Some m →
-    (b : ℕ) × ((if below then seen_after n xs else (if same then seen_after (n + 1) xs else None)) ≡ Some b) × (seen_after b ys ≡ Some m)
+split_by : (below same : Bool) (xs ys : List ℕ) (n m : ℕ)
+    → (seen_after n (xs ++ ys) ≡ Some m → SeenBetween xs ys n m)
+    → (seen_after (n + 1) (xs ++ ys) ≡ Some m → SeenBetween xs ys (n + 1) m) →
+    (if below then seen_after n (xs ++ ys) else (if same then seen_after (n + 1) (xs ++ ys) else
+    None)) ≡ Some m →
+    (b : ℕ) × ((if below then seen_after n xs else (if same then seen_after (n + 1) xs else None))
+    ≡ Some b) × (seen_after b ys ≡ Some m)
 split_by true same xs ys n m go next e = let r = go e in (r.between, r.first, r.second)
 split_by false true xs ys n m go next e = let r = next e in (r.between, r.first, r.second)
 split_by false false xs ys n m go next e = absurd (cc)
@@ -53,28 +66,38 @@ split_by false false xs ys n m go next e = absurd (cc)
 seen_split : (xs ys : List ℕ) (n m : ℕ) → seen_after n (xs ++ ys) ≡ Some m → SeenBetween xs ys n m
 seen_split [] ys n m e = record { between = n; first = refl; second = e }
 seen_split (i ∷ xs) ys n m e =
-    let r = split_by (nat_lt i n) (i == n) xs ys n m (λ q. seen_split xs ys n m q) (λ q. seen_split xs ys (n + 1) m q) e in
+    let r = split_by (nat_lt i n) (i == n) xs ys n m (λ q. seen_split xs ys n m q)
+    (λ q. seen_split xs ys (n + 1) m q) e in
     record { between = r.0; first = r.1; second = r.2 }
 
-join_by : (below same : Bool) (xs ys : List ℕ) (n k m : ℕ) → (seen_after n xs ≡ Some k → seen_after n (xs ++ ys) ≡ Some m) → (seen_after (n + 1) xs ≡ Some k → seen_after (n + 1) (xs ++ ys) ≡ Some m) →
+join_by : (below same : Bool) (xs ys : List ℕ) (n k m : ℕ)
+    → (seen_after n xs ≡ Some k → seen_after n (xs ++ ys) ≡ Some m)
+    → (seen_after (n + 1) xs ≡ Some k → seen_after (n + 1) (xs ++ ys) ≡ Some m) →
     (if below then seen_after n xs else (if same then seen_after (n + 1) xs else None)) ≡ Some k →
-    (if below then seen_after n (xs ++ ys) else (if same then seen_after (n + 1) (xs ++ ys) else None)) ≡ Some m
+    (if below then seen_after n (xs ++ ys) else (if same then seen_after (n + 1) (xs ++ ys) else
+    None)) ≡ Some m
 join_by true same xs ys n k m go next e = go e
 join_by false true xs ys n k m go next e = next e
 join_by false false xs ys n k m go next e = absurd (cc)
 
-seen_join : (xs ys : List ℕ) (n k m : ℕ) → seen_after n xs ≡ Some k → seen_after k ys ≡ Some m → seen_after n (xs ++ ys) ≡ Some m
+seen_join : (xs ys : List ℕ) (n k m : ℕ) → seen_after n xs ≡ Some k → seen_after k ys ≡ Some m
+    → seen_after n (xs ++ ys) ≡ Some m
 seen_join [] ys n k m e f = let same : n ≡ k = cc in ap (λ j. seen_after j ys) same ∙ f
-seen_join (i ∷ xs) ys n k m e f = join_by (nat_lt i n) (i == n) xs ys n k m (λ q. seen_join xs ys n k m q f) (λ q. seen_join xs ys (n + 1) k m q f) e
+seen_join (i ∷ xs) ys n k m e f = join_by (nat_lt i n) (i == n) xs ys n k m
+    (λ q. seen_join xs ys n k m q f) (λ q. seen_join xs ys (n + 1) k m q f) e
 
 -- Numbers that were read once are all known, so read again they add none.
-known : (below : Bool) (i j : ℕ) (rest other : Option ℕ) → nat_lt i j ≡ below → i < j → rest ≡ Some j → (if below then rest else other) ≡ Some j
+known : (below : Bool) (i j : ℕ) (rest other : Option ℕ) → nat_lt i j ≡ below → i < j → rest
+    ≡ Some j → (if below then rest else other) ≡ Some j
 known true i j rest other t lt e = e
 known false i j rest other t lt e = absurd (grind (arith, nat_tests))
 
-more_by : (below same : Bool) (i n m j : ℕ) (xs : List ℕ) → nat_lt i n ≡ below → (i == n) ≡ same → m ≤ j →
-    (seen_after n xs ≡ Some m → (n ≤ m) × (seen_after j xs ≡ Some j)) → (seen_after (n + 1) xs ≡ Some m → (n + 1 ≤ m) × (seen_after j xs ≡ Some j)) →
-    (if below then seen_after n xs else (if same then seen_after (n + 1) xs else None)) ≡ Some m → (n ≤ m) × (seen_after j (i ∷ xs) ≡ Some j)
+more_by : (below same : Bool) (i n m j : ℕ) (xs : List ℕ) → nat_lt i n ≡ below → (i == n) ≡ same
+    → m ≤ j →
+    (seen_after n xs ≡ Some m → (n ≤ m) × (seen_after j xs ≡ Some j))
+    → (seen_after (n + 1) xs ≡ Some m → (n + 1 ≤ m) × (seen_after j xs ≡ Some j)) →
+    (if below then seen_after n xs else (if same then seen_after (n + 1) xs else None)) ≡ Some m
+    → (n ≤ m) × (seen_after j (i ∷ xs) ≡ Some j)
 more_by true same i n m j xs t u le go next e =
     let r = go e in
     let lt : i < n = grind (arith, nat_tests) in
@@ -85,47 +108,83 @@ more_by false true i n m j xs t u le go next e =
     (omega (arith, r.0), known (nat_lt i j) i j _ _ refl (omega (arith, r.0)) r.1)
 more_by false false i n m j xs t u le go next e = absurd (cc)
 
-seen_more : (xs : List ℕ) (n m j : ℕ) → seen_after n xs ≡ Some m → m ≤ j → (n ≤ m) × (seen_after j xs ≡ Some j)
+seen_more : (xs : List ℕ) (n m j : ℕ) → seen_after n xs ≡ Some m → m ≤ j → (n ≤ m)
+    × (seen_after j xs ≡ Some j)
 seen_more [] n m j e le = let same : n ≡ m = cc in (omega arith, refl)
-seen_more (i ∷ xs) n m j e le = more_by (nat_lt i n) (i == n) i n m j xs refl refl le (λ q. seen_more xs n m j q le) (λ q. seen_more xs (n + 1) m j q le) e
+seen_more (i ∷ xs) n m j e le = more_by (nat_lt i n) (i == n) i n m j xs refl refl le
+    (λ q. seen_more xs n m j q le) (λ q. seen_more xs (n + 1) m j q le) e
 
 seen_again : (xs : List ℕ) (n m : ℕ) → seen_after n xs ≡ Some m → seen_after n (xs ++ xs) ≡ Some m
 seen_again xs n m e = seen_join xs xs n m m e (seen_more xs n m m e (omega arith)).1
 
 -- Whatever is known before, the tokens and the expression come to as many names.
 pub record CountsAlike (xs : List Token) (e : PatternTree) : Type 0 where
-  pub alike : (n m : ℕ) → seen_after n (numbers_in xs) ≡ Some m → seen_after n (numbers_of e) ≡ Some m
+  pub alike : (n m : ℕ) → seen_after n (numbers_in xs) ≡ Some m → seen_after n (numbers_of e)
+      ≡ Some m
 
 -- Two parts side by side, with a token between them.
-alike_join : (xs ys : List Token) (mark : Token) (e f : PatternTree) → numbers_in (mark ∷ ys) ≡ numbers_in ys → CountsAlike xs e → CountsAlike ys f →
-    (n m : ℕ) → seen_after n (numbers_in (xs ++ mark ∷ ys)) ≡ Some m → seen_after n (numbers_of e ++ numbers_of f) ≡ Some m
+alike_join : (xs ys : List Token) (mark : Token) (e f : PatternTree) → numbers_in (mark ∷ ys)
+    ≡ numbers_in ys → CountsAlike xs e → CountsAlike ys f →
+    (n m : ℕ) → seen_after n (numbers_in (xs ++ mark ∷ ys)) ≡ Some m
+    → seen_after n (numbers_of e ++ numbers_of f) ≡ Some m
 alike_join xs ys mark e f s a b n m h =
-    let r = seen_split (numbers_in xs) (numbers_in ys) n m (ap (seen_after n) (sym (numbers_join xs (mark ∷ ys) ∙ ap (λ l. numbers_in xs ++ l) s)) ∙ h) in
-    seen_join (numbers_of e) (numbers_of f) n r.between m (a.alike n r.between r.first) (b.alike r.between m r.second)
+    let r = seen_split (numbers_in xs) (numbers_in ys) n m
+    (ap (seen_after n) (sym (numbers_join xs (mark ∷ ys) ∙ ap (λ l. numbers_in xs ++ l) s))
+    ∙ h) in
+    seen_join (numbers_of e) (numbers_of f) n r.between m (a.alike n r.between r.first)
+    (b.alike r.between m r.second)
 
-alike_closed : (xs : List Token) (mark : Token) (e : PatternTree) → numbers_in (mark ∷ []) ≡ [] → CountsAlike xs e → (n m : ℕ) → seen_after n (numbers_in (xs ++ mark ∷ [])) ≡ Some m → seen_after n (numbers_of e) ≡ Some m
-alike_closed xs mark e s a n m h = a.alike n m (ap (seen_after n) (sym (numbers_closed xs mark s)) ∙ h)
+alike_closed : (xs : List Token) (mark : Token) (e : PatternTree) → numbers_in (mark ∷ []) ≡ []
+    → CountsAlike xs e → (n m : ℕ) → seen_after n (numbers_in (xs ++ mark ∷ [])) ≡ Some m
+    → seen_after n (numbers_of e) ≡ Some m
+alike_closed xs mark e s a n m h = a.alike n m (ap (seen_after n) (sym (numbers_closed xs mark s))
+    ∙ h)
 
-state_seen : (r : StateRule) (xs : List Token) (s : StateTree) → SpellsState r xs s → (n m : ℕ) → seen_after n (numbers_in xs) ≡ Some m → seen_after n (state.numbers_of s) ≡ Some m
+state_seen : (r : StateRule) (xs : List Token) (s : StateTree) → SpellsState r xs s → (n m : ℕ)
+    → seen_after n (numbers_in xs) ≡ Some m → seen_after n (state.numbers_of s) ≡ Some m
 state_seen r xs s h n m e = ap (seen_after n) (state_numbers r xs s h) ∙ e
 
 pub counts_alike : (r : Rule) (xs : List Token) (e : PatternTree) → Spells r xs e → CountsAlike xs e
 counts_alike _ _ _ (expr_meet xs e h) = counts_alike meet xs e h
-counts_alike _ _ _ (expr_bar xs ys e f h k) = record { alike = alike_join xs ys Bar e f refl (counts_alike expr xs e h) (counts_alike meet ys f k) }
+counts_alike _ _ _ (expr_bar xs ys e f h k) = record
+    { alike = alike_join xs ys Bar e f refl (counts_alike expr xs e h) (counts_alike meet ys f k) }
 counts_alike _ _ _ (meet_seq xs e h) = counts_alike seq xs e h
-counts_alike _ _ _ (meet_ampersand xs ys e f h k) = record { alike = alike_join xs ys Ampersand e f refl (counts_alike meet xs e h) (counts_alike seq ys f k) }
+counts_alike _ _ _ (meet_ampersand xs ys e f h k) =
+    record {
+      alike = alike_join xs ys Ampersand e f refl (counts_alike meet xs e h)
+          (counts_alike seq ys f k);
+    }
 counts_alike _ _ _ (seq_post xs e h) = counts_alike post xs e h
-counts_alike _ _ _ (seq_semicolon xs ys e f h k) = record { alike = alike_join xs ys Semicolon e f refl (counts_alike seq xs e h) (counts_alike post ys f k) }
+counts_alike _ _ _ (seq_semicolon xs ys e f h k) =
+    record {
+      alike = alike_join xs ys Semicolon e f refl (counts_alike seq xs e h)
+          (counts_alike post ys f k);
+    }
 counts_alike _ _ _ (post_primary xs e h) = counts_alike primary xs e h
-counts_alike _ _ _ (post_star xs e h) = record { alike = alike_closed xs Star e refl (counts_alike post xs e h) }
+counts_alike _ _ _ (post_star xs e h) = record {
+  alike =
+      alike_closed xs Star e refl (counts_alike post xs e h);
+}
 counts_alike _ _ _ (post_plus xs e h) =
-    record { alike = λ n m q. seen_again (numbers_of e) n m (alike_closed xs Plus e refl (counts_alike post xs e h) n m q) }
+    record {
+      alike = λ n m q. seen_again (numbers_of e) n m
+          (alike_closed xs Plus e refl (counts_alike post xs e h) n m q);
+    }
 counts_alike _ _ _ (post_question xs e h) =
-    record { alike = λ n m q. ap (seen_after n) (append-nil (numbers_of e)) ∙ alike_closed xs Question e refl (counts_alike post xs e h) n m q }
+    record {
+      alike = λ n m q. ap (seen_after n) (append-nil (numbers_of e))
+          ∙ alike_closed xs Question e refl (counts_alike post xs e h) n m q;
+    }
 counts_alike _ _ _ (post_percent xs ys e i h k) =
-    record { alike = λ n m q. (counts_alike post xs e h).alike n m (ap (seen_after n) (sym (numbers_join xs (Percent ∷ ys) ∙ ap (λ l. numbers_in xs ++ l) (interval_numbers ys i k) ∙ append-nil (numbers_in xs))) ∙ q) }
+    record {
+      alike = λ n m q. (counts_alike post xs e h).alike n m
+          (ap (seen_after n) (sym (numbers_join xs (Percent ∷ ys)
+          ∙ ap (λ l. numbers_in xs ++ l) (interval_numbers ys i k) ∙ append-nil (numbers_in xs)))
+          ∙ q);
+    }
   where
-    interval_numbers : (ys : List Token) (i : IntervalEnds) → SpellsInterval ys i → numbers_in ys ≡ []
+    interval_numbers : (ys : List Token) (i : IntervalEnds) → SpellsInterval ys i → numbers_in ys
+        ≡ []
     interval_numbers _ _ (with_high low high true true) = refl
     interval_numbers _ _ (with_high low high true false) = refl
     interval_numbers _ _ (with_high low high false true) = refl
@@ -133,17 +192,32 @@ counts_alike _ _ _ (post_percent xs ys e i h k) =
     interval_numbers _ _ (without_high low true) = refl
     interval_numbers _ _ (without_high low false) = refl
 counts_alike _ _ _ primary_eps = record { alike = λ n m q. q }
-counts_alike _ _ _ (primary_parens xs e h) = record { alike = alike_closed xs RightParen e refl (counts_alike expr xs e h) }
-counts_alike _ _ _ (primary_rise xs s h) = record { alike = λ n m q. state_seen state xs s h n m (ap (seen_after n) (sym (numbers_closed xs RightParen refl)) ∙ q) }
-counts_alike _ _ _ (primary_fall xs s h) = record { alike = λ n m q. state_seen state xs s h n m (ap (seen_after n) (sym (numbers_closed xs RightParen refl)) ∙ q) }
+counts_alike _ _ _ (primary_parens xs e h) = record
+    { alike = alike_closed xs RightParen e refl (counts_alike expr xs e h) }
+counts_alike _ _ _ (primary_rise xs s h) = record {
+  alike =
+      λ n m q. state_seen state xs s h n m (ap (seen_after n)
+      (sym (numbers_closed xs RightParen refl)) ∙ q);
+}
+counts_alike _ _ _ (primary_fall xs s h) = record {
+  alike =
+      λ n m q. state_seen state xs s h n m (ap (seen_after n)
+      (sym (numbers_closed xs RightParen refl)) ∙ q);
+}
 counts_alike _ _ _ (primary_lit xs s h) = record { alike = state_seen lit xs s h }
-counts_alike _ _ _ (primary_begins xs s h) = record { alike = λ n m q. seen_again (state.numbers_of s) n m (state_seen lit xs s h n m q) }
+counts_alike _ _ _ (primary_begins xs s h) = record
+    { alike = λ n m q. seen_again (state.numbers_of s) n m (state_seen lit xs s h n m q) }
 counts_alike _ _ _ (primary_ends xs s h) =
-    record { alike = λ n m q. seen_again (state.numbers_of s) n m (state_seen lit xs s h n m (ap (seen_after n) (sym (numbers_closed xs Ends refl)) ∙ q)) }
+    record {
+      alike = λ n m q. seen_again (state.numbers_of s) n m
+          (state_seen lit xs s h n m (ap (seen_after n) (sym (numbers_closed xs Ends refl)) ∙ q));
+    }
 counts_alike _ _ _ (primary_begins_ends xs s h) =
     record {
       alike = λ n m q.
-          let once = state_seen lit xs s h n m (ap (seen_after n) (sym (numbers_closed xs Ends refl)) ∙ q) in
+          let once = state_seen lit xs s h n m (ap (seen_after n)
+          (sym (numbers_closed xs Ends refl)) ∙ q) in
           let more = (seen_more (state.numbers_of s) n m m once (omega arith)).1 in
-          seen_join (state.numbers_of s ++ state.numbers_of s) (state.numbers_of s) n m m (seen_again (state.numbers_of s) n m once) more;
+          seen_join (state.numbers_of s ++ state.numbers_of s) (state.numbers_of s) n m m
+          (seen_again (state.numbers_of s) n m once) more;
     }

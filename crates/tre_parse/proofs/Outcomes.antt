@@ -16,14 +16,21 @@ first_once tokens i j f g =
     let right : j < i → ⊥ = λ lt. f.first j g.here.ends lt g.here.stands g.here.empty in
     omega (arith, left, right)
 
-judged_once : (words : TextTokens) (tree : PatternTree) (o q : Outcome) → IsOutcomeOfTree words tree o → IsOutcomeOfTree words tree q → o ≡ q
-judged_once words tree o q (inl a) (inl b) = a.2 ∙ ap (λ n. refused (EmptyInterval (offset_of words n))) (first_once words.tokens a.0 b.0 a.1 b.1) ∙ sym b.2
-judged_once words tree o q (inl a) (inr b) = absurd (b.0 a.0 a.1.here.ends a.1.here.stands a.1.here.empty)
-judged_once words tree o q (inr a) (inl b) = absurd (a.0 b.0 b.1.here.ends b.1.here.stands b.1.here.empty)
+judged_once : (words : TextTokens) (tree : PatternTree) (o q : Outcome)
+    → IsOutcomeOfTree words tree o → IsOutcomeOfTree words tree q → o ≡ q
+judged_once words tree o q (inl a) (inl b) = a.2 ∙ ap
+    (λ n. refused (EmptyInterval (offset_of words n))) (first_once words.tokens a.0 b.0 a.1 b.1)
+    ∙ sym b.2
+judged_once words tree o q (inl a) (inr b) = absurd
+    (b.0 a.0 a.1.here.ends a.1.here.stands a.1.here.empty)
+judged_once words tree o q (inr a) (inl b) = absurd
+    (a.0 b.0 b.1.here.ends b.1.here.stands b.1.here.empty)
 judged_once words tree o q (inr a) (inr b) = a.1 ∙ sym b.1
 
-read_once : (words : TextTokens) (o q : Outcome) → IsOutcomeOfTokens words o → IsOutcomeOfTokens words q → o ≡ q
-read_once words o q (inl a) (inl b) = a.2 ∙ ap (λ n. refused (Syntax (offset_of words n))) (fault_once words.tokens a.0 b.0 a.1 b.1) ∙ sym b.2
+read_once : (words : TextTokens) (o q : Outcome) → IsOutcomeOfTokens words o
+    → IsOutcomeOfTokens words q → o ≡ q
+read_once words o q (inl a) (inl b) = a.2 ∙ ap (λ n. refused (Syntax (offset_of words n)))
+    (fault_once words.tokens a.0 b.0 a.1 b.1) ∙ sym b.2
 read_once words o q (inl a) (inr b) = absurd (a.1.none b.0 b.1)
 read_once words o q (inr a) (inl b) = absurd (b.1.none a.0 a.1)
 read_once words o q (inr a) (inr b) =
@@ -31,13 +38,17 @@ read_once words o q (inr a) (inr b) =
     let P = λ (t : PatternTree). IsOutcomeOfTree words t q in
     judged_once words a.0 o q a.2 (subst P same b.2)
 
-first_fault_once : (made : Option ParseFault) (Rest : Outcome → Type 0) → ((o q : Outcome) → Rest o → Rest q → o ≡ q) → (o q : Outcome) →
-    MatchOption made (Rest o) (λ fault. o ≡ refused fault) → MatchOption made (Rest q) (λ fault. q ≡ refused fault) → o ≡ q
+first_fault_once : (made : Option ParseFault) (Rest : Outcome → Type 0)
+    → ((o q : Outcome) → Rest o → Rest q → o ≡ q) → (o q : Outcome) →
+    MatchOption made (Rest o) (λ fault. o ≡ refused fault)
+    → MatchOption made (Rest q) (λ fault. q ≡ refused fault) → o ≡ q
 first_fault_once None Rest once o q h k = once o q h k
 first_fault_once (Some fault) Rest once o q h k = h ∙ sym k
 
-words_once : (words : TextTokens) (o q : Outcome) → IsOutcomeWithin words o → IsOutcomeWithin words q → o ≡ q
+words_once : (words : TextTokens) (o q : Outcome) → IsOutcomeWithin words o
+    → IsOutcomeWithin words q → o ≡ q
 words_once words = first_fault_once (limit_fault words) (IsOutcomeOfTokens words) (read_once words)
 
 pub outcome_once : (text : List ℕ) (o q : Outcome) → IsOutcome text o → IsOutcome text q → o ≡ q
-outcome_once text = first_fault_once (byte_fault text) (IsOutcomeWithin (text_tokens_of text)) (words_once (text_tokens_of text))
+outcome_once text = first_fault_once (byte_fault text) (IsOutcomeWithin (text_tokens_of text))
+    (words_once (text_tokens_of text))

@@ -17,17 +17,23 @@ ended_from : (made : Option PatternTree) → made ≡ kept_ok (ended made)
 ended_from None = refl
 ended_from (Some tree) = refl
 
-continued_from : (rest : List Token) (left : ℕ) → ((next : Config) → read_from rest next ≡ kept_ok (read rest next)) → (made : Option Config) →
-    option_and_then (λ next. read_from rest next) made ≡ kept_ok (continued made left (λ next. read rest next))
+continued_from : (rest : List Token) (left : ℕ) → ((next : Config) → read_from rest next
+    ≡ kept_ok (read rest next)) → (made : Option Config) →
+    option_and_then (λ next. read_from rest next) made
+    ≡ kept_ok (continued made left (λ next. read rest next))
 continued_from rest left go None = refl
 continued_from rest left go (Some next) = go next
 
-pub from_read : (tokens : List Token) (config : Config) → read_from tokens config ≡ kept_ok (read tokens config)
+pub from_read : (tokens : List Token) (config : Config) → read_from tokens config
+    ≡ kept_ok (read tokens config)
 from_read [] config = ended_from (end_of config.level config.below config.place)
-from_read (token ∷ rest) config = continued_from rest (length (token ∷ rest)) (λ next. from_read rest next) (step config token)
+from_read (token ∷ rest) config = continued_from rest (length (token ∷ rest))
+    (λ next. from_read rest next) (step config token)
 
-pub read_ok : (tokens : List Token) (config : Config) (tree : PatternTree) → read tokens config ≡ Ok tree → read_from tokens config ≡ Some tree
+pub read_ok : (tokens : List Token) (config : Config) (tree : PatternTree) → read tokens config
+    ≡ Ok tree → read_from tokens config ≡ Some tree
 read_ok tokens config tree e = from_read tokens config ∙ ap kept_ok e
 
-pub read_err : (tokens : List Token) (config : Config) (left : ℕ) → read tokens config ≡ Err left → read_from tokens config ≡ None
+pub read_err : (tokens : List Token) (config : Config) (left : ℕ) → read tokens config ≡ Err left
+    → read_from tokens config ≡ None
 read_err tokens config left e = from_read tokens config ∙ ap kept_ok e

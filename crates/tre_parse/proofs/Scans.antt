@@ -10,25 +10,32 @@ use Rattle.tre_parse.specs.Tokens.{RawToken, name, sign, RawTokens, raw_tokens_f
 use Rattle.tre_parse.specs.Scan.{rest_from, TakesToken, LeadsTo}
 
 -- The bytes of a word are passed over.
-raw_tokens_skip : (k at : ℕ) (bytes : List ℕ) → k ≤ length bytes → raw_tokens_from k at bytes ≡ raw_tokens_from 0 (at + k) (drop k bytes)
-raw_tokens_skip zero at bytes h = let e : at ≡ at + 0 = omega arith in ap (λ n. raw_tokens_from 0 n bytes) e
+raw_tokens_skip : (k at : ℕ) (bytes : List ℕ) → k ≤ length bytes → raw_tokens_from k at bytes
+    ≡ raw_tokens_from 0 (at + k) (drop k bytes)
+raw_tokens_skip zero at bytes h = let e : at ≡ at + 0 = omega arith in
+    ap (λ n. raw_tokens_from 0 n bytes) e
 raw_tokens_skip (suc k) at [] h = absurd (omega arith)
 raw_tokens_skip (suc k) at (b ∷ bs) h =
     let e : at + 1 + k ≡ at + suc k = omega arith in
     raw_tokens_skip k (at + 1) bs (omega arith) ∙ ap (λ n. raw_tokens_from 0 n (drop k bs)) e
 
-raw_tokens_first : (b : ℕ) (xs bs : List ℕ) (at : ℕ) → xs ≡ b ∷ bs → raw_tokens_from 0 at xs ≡ scanned (lexeme_of xs) at xs (λ skip. raw_tokens_from skip (at + 1) bs)
+raw_tokens_first : (b : ℕ) (xs bs : List ℕ) (at : ℕ) → xs ≡ b ∷ bs → raw_tokens_from 0 at xs
+    ≡ scanned (lexeme_of xs) at xs (λ skip. raw_tokens_from skip (at + 1) bs)
 raw_tokens_first b xs bs at e =
-    let P = λ (ys : List ℕ). raw_tokens_from 0 at ys ≡ scanned (lexeme_of ys) at ys (λ skip. raw_tokens_from skip (at + 1) bs) in
+    let P = λ (ys : List ℕ). raw_tokens_from 0 at ys
+    ≡ scanned (lexeme_of ys) at ys (λ skip. raw_tokens_from skip (at + 1) bs) in
     subst P (sym e) refl
 
-rest_first : (bytes : List ℕ) (at : ℕ) → at < length bytes → rest_from bytes at ≡ scanned (lexeme_of (drop at bytes)) at (drop at bytes) (λ skip. raw_tokens_from skip (at + 1) (drop (at + 1) bytes))
+rest_first : (bytes : List ℕ) (at : ℕ) → at < length bytes → rest_from bytes at
+    ≡ scanned (lexeme_of (drop at bytes)) at (drop at bytes)
+    (λ skip. raw_tokens_from skip (at + 1) (drop (at + 1) bytes))
 rest_first bytes at h =
     let e = rw (← add-one) at (drop-cons bytes at 0 h) in
     raw_tokens_first (get_or bytes at 0) (drop at bytes) (drop (at + 1) bytes) at e
 
 -- What follows a word of so many bytes.
-rest_after : (bytes : List ℕ) (at len : ℕ) → 0 < len → len ≤ length (drop at bytes) → raw_tokens_from (len - 1) (at + 1) (drop (at + 1) bytes) ≡ rest_from bytes (at + len)
+rest_after : (bytes : List ℕ) (at len : ℕ) → 0 < len → len ≤ length (drop at bytes)
+    → raw_tokens_from (len - 1) (at + 1) (drop (at + 1) bytes) ≡ rest_from bytes (at + len)
 rest_after bytes at len p h =
     let size = length-drop at bytes in
     let next = length-drop (at + 1) bytes in
@@ -37,47 +44,71 @@ rest_after bytes at len p h =
     ∙ ap (λ l. raw_tokens_from 0 (at + 1 + (len - 1)) l) (drop-drop (len - 1) (at + 1) bytes)
     ∙ ap (λ n. raw_tokens_from 0 n (drop n bytes)) e
 
-pub rest_blank : (bytes : List ℕ) (at : ℕ) → at < length bytes → lexeme_of (drop at bytes) ≡ Blank → rest_from bytes at ≡ rest_from bytes (at + 1)
-rest_blank bytes at h e = rest_first bytes at h ∙ ap (λ x. scanned x at (drop at bytes) (λ skip. raw_tokens_from skip (at + 1) (drop (at + 1) bytes))) e
+pub rest_blank : (bytes : List ℕ) (at : ℕ) → at < length bytes → lexeme_of (drop at bytes) ≡ Blank
+    → rest_from bytes at ≡ rest_from bytes (at + 1)
+rest_blank bytes at h e = rest_first bytes at h ∙ ap
+    (λ x. scanned x at (drop at bytes) (λ skip. raw_tokens_from skip (at + 1)
+    (drop (at + 1) bytes))) e
 
-pub rest_name : (bytes : List ℕ) (at len : ℕ) → at < length bytes → 0 < len → len ≤ length (drop at bytes) → lexeme_of (drop at bytes) ≡ Name len →
-    rest_from bytes at ≡ with_raw_token at (name (take len (drop at bytes))) (rest_from bytes (at + len))
+pub rest_name : (bytes : List ℕ) (at len : ℕ) → at < length bytes → 0 < len
+    → len ≤ length (drop at bytes) → lexeme_of (drop at bytes) ≡ Name len →
+    rest_from bytes at ≡ with_raw_token at (name (take len (drop at bytes)))
+    (rest_from bytes (at + len))
 rest_name bytes at len h p q e =
-    rest_first bytes at h ∙ ap (λ x. scanned x at (drop at bytes) (λ skip. raw_tokens_from skip (at + 1) (drop (at + 1) bytes))) e
+    rest_first bytes at h ∙ ap (λ x. scanned x at (drop at bytes)
+    (λ skip. raw_tokens_from skip (at + 1) (drop (at + 1) bytes))) e
     ∙ ap (with_raw_token at (name (take len (drop at bytes)))) (rest_after bytes at len p q)
 
-pub rest_sign : (bytes : List ℕ) (at len : ℕ) (token : Token) → at < length bytes → 0 < len → len ≤ length (drop at bytes) → lexeme_of (drop at bytes) ≡ Sign token len →
+pub rest_sign : (bytes : List ℕ) (at len : ℕ) (token : Token) → at < length bytes → 0 < len
+    → len ≤ length (drop at bytes) → lexeme_of (drop at bytes) ≡ Sign token len →
     rest_from bytes at ≡ with_raw_token at (sign token) (rest_from bytes (at + len))
 rest_sign bytes at len token h p q e =
-    rest_first bytes at h ∙ ap (λ x. scanned x at (drop at bytes) (λ skip. raw_tokens_from skip (at + 1) (drop (at + 1) bytes))) e
+    rest_first bytes at h ∙ ap (λ x. scanned x at (drop at bytes)
+    (λ skip. raw_tokens_from skip (at + 1) (drop (at + 1) bytes))) e
     ∙ ap (with_raw_token at (sign token)) (rest_after bytes at len p q)
 
-earlier_first : (old later : Option ℕ) (is : Bool) (at : ℕ) → earlier old (if is then Some at else later) ≡ earlier (earlier old (if is then Some at else None)) later
+earlier_first : (old later : Option ℕ) (is : Bool) (at : ℕ)
+    → earlier old (if is then Some at else later) ≡ earlier
+    (earlier old (if is then Some at else None)) later
 earlier_first (Some n) later is at = refl
 earlier_first None later true at = refl
 earlier_first None later false at = refl
 
 -- A word that the scan takes leads to what follows it.
-pub leads_word : (bytes : List ℕ) (old new : Scan) (at next : ℕ) (word : RawToken) → TakesToken old new at word →
-    rest_from bytes at ≡ with_raw_token at word (rest_from bytes next) → LeadsTo bytes old at new next
+pub leads_word : (bytes : List ℕ) (old new : Scan) (at next : ℕ) (word : RawToken)
+    → TakesToken old new at word →
+    rest_from bytes at ≡ with_raw_token at word (rest_from bytes next)
+    → LeadsTo bytes old at new next
 leads_word bytes old new at next word t e =
     let rest = (rest_from bytes next).raw_tokens in
     let raw_tokens = ap (λ (l : RawTokens). l.raw_tokens) e in
     record {
-      tokens = ap (λ s. old.tokens.items ++ tokens_from old.names s) raw_tokens ∙ sym (append_assoc old.tokens.items (token_of old.names word ∷ []) (tokens_from (known_after old.names word) rest))
-          ∙ ap (λ l. l ++ tokens_from (known_after old.names word) rest) (sym t.tokens) ∙ ap (λ k. new.tokens.items ++ tokens_from k rest) (sym t.names);
-      offsets = ap (λ s. old.offsets.items ++ offsets_of s) raw_tokens ∙ sym (append_assoc old.offsets.items (at ∷ []) (offsets_of rest)) ∙ ap (λ l. l ++ offsets_of rest) (sym t.offsets);
-      names = ap (λ s. names_from old.names s) raw_tokens ∙ ap (λ k. names_from k rest) (sym t.names);
-      past = ap (λ s. earlier old.past (past_from old.names s)) raw_tokens ∙ earlier_first old.past (past_from (known_after old.names word) rest) (is_past old.names word) at
-          ∙ ap (λ p. earlier p (past_from (known_after old.names word) rest)) (sym t.past) ∙ ap (λ k. earlier new.past (past_from k rest)) (sym t.names);
+      tokens = ap (λ s. old.tokens.items ++ tokens_from old.names s) raw_tokens
+          ∙ sym (append_assoc old.tokens.items (token_of old.names word ∷ [])
+          (tokens_from (known_after old.names word) rest))
+          ∙ ap (λ l. l ++ tokens_from (known_after old.names word) rest) (sym t.tokens)
+          ∙ ap (λ k. new.tokens.items ++ tokens_from k rest) (sym t.names);
+      offsets = ap (λ s. old.offsets.items ++ offsets_of s) raw_tokens
+          ∙ sym (append_assoc old.offsets.items (at ∷ []) (offsets_of rest))
+          ∙ ap (λ l. l ++ offsets_of rest) (sym t.offsets);
+      names = ap (λ s. names_from old.names s) raw_tokens
+          ∙ ap (λ k. names_from k rest) (sym t.names);
+      past = ap (λ s. earlier old.past (past_from old.names s)) raw_tokens
+          ∙ earlier_first old.past (past_from (known_after old.names word) rest)
+          (is_past old.names word) at
+          ∙ ap (λ p. earlier p (past_from (known_after old.names word) rest)) (sym t.past)
+          ∙ ap (λ k. earlier new.past (past_from k rest)) (sym t.names);
       bad = ap (λ (l : RawTokens). l.bad) e;
       size = t.size;
     }
 
-pub same_bytes : (bytes : List ℕ) (old new : Scan) (at : ℕ) (xs ys : List ℕ) → xs ≡ ys → TakesToken old new at (name ys) → TakesToken old new at (name xs)
-same_bytes bytes old new at xs ys e t = let P = λ (zs : List ℕ). TakesToken old new at (name zs) in subst P (sym e) t
+pub same_bytes : (bytes : List ℕ) (old new : Scan) (at : ℕ) (xs ys : List ℕ) → xs ≡ ys
+    → TakesToken old new at (name ys) → TakesToken old new at (name xs)
+same_bytes bytes old new at xs ys e t = let P = λ (zs : List ℕ). TakesToken old new at (name zs) in
+    subst P (sym e) t
 
-pub leads_same : (bytes : List ℕ) (scan : Scan) (at next : ℕ) → rest_from bytes at ≡ rest_from bytes next → LeadsTo bytes scan at scan next
+pub leads_same : (bytes : List ℕ) (scan : Scan) (at next : ℕ) → rest_from bytes at
+    ≡ rest_from bytes next → LeadsTo bytes scan at scan next
 leads_same bytes scan at next e =
     record {
       tokens = ap (λ (l : RawTokens). scan.tokens.items ++ tokens_from scan.names l.raw_tokens) e;

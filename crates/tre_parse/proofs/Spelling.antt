@@ -13,38 +13,50 @@ use Rattle.tre_parse.specs.Outcome.{IsSpelling, spelt, refused, text_tokens_of, 
 use Rattle.tre_parse.specs.Answers.{Answers}
 
 -- A pattern is no refusal.
-unrefused : (made : Option ParseFault) (P : Type 0) (tree : PatternTree) (names : List (List ℕ)) → MatchOption made P (λ fault. spelt tree names ≡ refused fault) → (made ≡ None) × P
+unrefused : (made : Option ParseFault) (P : Type 0) (tree : PatternTree) (names : List (List ℕ))
+    → MatchOption made P (λ fault. spelt tree names ≡ refused fault) → (made ≡ None) × P
 unrefused None P tree names h = (refl, h)
 unrefused (Some fault) P tree names h = absurd (cc)
 
-none_bad : (long : Bool) (bad : Option ℕ) → (if long then Some TooLong else option_map (λ at. BadByte at) bad) ≡ None → bad ≡ None
+none_bad : (long : Bool) (bad : Option ℕ) → (if long then Some TooLong else option_map
+    (λ at. BadByte at) bad) ≡ None → bad ≡ None
 none_bad true bad e = absurd (cc)
 none_bad false None e = refl
 none_bad false (Some at) e = absurd (cc)
 
-verdict_spells : (past : Option ℕ) (large : Bool) (fault : ParseFault) (t tree : PatternTree) (kept names : List (List ℕ)) →
-    spelt tree names ≡ past_or past (if large then refused fault else spelt t kept) → (tree ≡ t) × (names ≡ kept)
+verdict_spells : (past : Option ℕ) (large : Bool) (fault : ParseFault) (t tree : PatternTree)
+    (kept names : List (List ℕ)) →
+    spelt tree names ≡ past_or past (if large then refused fault else spelt t kept) → (tree ≡ t)
+    × (names ≡ kept)
 verdict_spells (Some at) large fault t tree kept names e = absurd (cc)
 verdict_spells None true fault t tree kept names e = absurd (cc)
 verdict_spells None false fault t tree kept names e = (cc, cc)
 
-judged_spells : (text : List ℕ) (t tree : PatternTree) (names : List (List ℕ)) → bad_byte text ≡ None → Spells expr (tokens_of text) t → IsOutcomeOfTree (text_tokens_of text) t (spelt tree names) → IsSpelling text tree names
+judged_spells : (text : List ℕ) (t tree : PatternTree) (names : List (List ℕ)) → bad_byte text
+    ≡ None → Spells expr (tokens_of text) t → IsOutcomeOfTree (text_tokens_of text) t
+    (spelt tree names) → IsSpelling text tree names
 judged_spells text t tree names good h (inl k) = let no = k.2 in absurd (cc)
 judged_spells text t tree names good h (inr k) =
     let same = verdict_spells _ _ _ t tree _ names k.1 in
     let P = λ (u : PatternTree). Spells expr (tokens_of text) u in
     record { tokens_alone = good; spells = subst P (sym same.0) h; numbered = same.1 }
 
-read_spells : (text : List ℕ) (tree : PatternTree) (names : List (List ℕ)) → bad_byte text ≡ None → IsOutcomeOfTokens (text_tokens_of text) (spelt tree names) → IsSpelling text tree names
+read_spells : (text : List ℕ) (tree : PatternTree) (names : List (List ℕ)) → bad_byte text ≡ None
+    → IsOutcomeOfTokens (text_tokens_of text) (spelt tree names) → IsSpelling text tree names
 read_spells text tree names good (inl h) = let no = h.1 in absurd (cc)
 read_spells text tree names good (inr h) = judged_spells text h.0 tree names good h.1 h.2
 
-pub outcome_spells : (text : List ℕ) (tree : PatternTree) (names : List (List ℕ)) → IsOutcome text (spelt tree names) → IsSpelling text tree names
+pub outcome_spells : (text : List ℕ) (tree : PatternTree) (names : List (List ℕ))
+    → IsOutcome text (spelt tree names) → IsSpelling text tree names
 outcome_spells text tree names h =
-    let bytes = unrefused (byte_fault text) (IsOutcomeWithin (text_tokens_of text) (spelt tree names)) tree names h in
-    let words = unrefused (limit_fault (text_tokens_of text)) (IsOutcomeOfTokens (text_tokens_of text) (spelt tree names)) tree names bytes.1 in
+    let bytes = unrefused (byte_fault text) (IsOutcomeWithin (text_tokens_of text)
+    (spelt tree names)) tree names h in
+    let words = unrefused (limit_fault (text_tokens_of text))
+    (IsOutcomeOfTokens (text_tokens_of text) (spelt tree names)) tree names bytes.1 in
     read_spells text tree names (none_bad _ (bad_byte text) bytes.0) words.1
 
-pub answer_spells : (text : List ℕ) (result : Result Pattern ParseFault) → Answers (IsOutcome text) result → IfOk result (λ pattern. IsSpelling text (pattern_tree pattern) (names_of pattern))
+pub answer_spells : (text : List ℕ) (result : Result Pattern ParseFault)
+    → Answers (IsOutcome text) result → IfOk result (λ pattern. IsSpelling text
+    (pattern_tree pattern) (names_of pattern))
 answer_spells text (Ok pattern) h = outcome_spells text _ _ h
 answer_spells text (Err fault) h = tt

@@ -12,8 +12,19 @@ use Rattle.tre_parse.specs.Lexeme.{lexeme_of, first_sign, sign_lexeme}
 use Rattle.tre_parse.specs.Signs.{IsSign, left_paren, right_paren, left_bracket, right_bracket, left_brace, right_brace, comma, semicolon, bar, double_bar, ampersand, double_ampersand, bang, star, plus, question, percent, begins, ends, TakesSign}
 
 -- A sign that no other goes on with.
-alone : (spelling rest : List ℕ) (token : Token) → IsSign spelling token → lexeme_of (spelling ++ rest) ≡ Sign token (length spelling) → TakesSign (spelling ++ rest) (length spelling)
-alone spelling rest token s e = record { spelling = spelling; token = token; rest = rest; is = s; split = refl; long = omega arith; taken = e }
+alone : (spelling rest : List ℕ) (token : Token) → IsSign spelling token
+    → lexeme_of (spelling ++ rest) ≡ Sign token (length spelling)
+    → TakesSign (spelling ++ rest) (length spelling)
+alone spelling rest token s e = record {
+  spelling = spelling;
+  token = token;
+  rest = rest;
+  is =
+      s;
+  split = refl;
+  long = omega arith;
+  taken = e;
+}
 
 same_byte : (b n : ℕ) → nat_eq n b ≡ true → b ≡ n
 same_byte b n e = grind (arith, nat_tests)
@@ -21,18 +32,57 @@ same_byte b n e = grind (arith, nat_tests)
 bar_by : (b : ℕ) (rest : List ℕ) (is : Bool) → nat_eq 124 b ≡ is → TakesSign (124 ∷ b ∷ rest) 1
 bar_by b rest true e =
     let P = λ (n : ℕ). TakesSign (124 ∷ n ∷ rest) 1 in
-    subst P (sym (same_byte b 124 e)) (record { spelling = codes "||"; token = DoubleBar; rest = rest; is = double_bar; split = refl; long = omega arith; taken = refl })
+    subst P (sym (same_byte b 124 e)) (record {
+      spelling = codes "||";
+      token = DoubleBar;
+      rest =
+          rest;
+      is = double_bar;
+      split = refl;
+      long = omega arith;
+      taken = refl;
+    })
 bar_by b rest false e =
-    record { spelling = codes "|"; token = Bar; rest = b ∷ rest; is = bar; split = refl; long = omega arith; taken = ap (λ (t : Bool). cond (t && true) (Sign DoubleBar 2) (Sign Bar 1)) e }
+    record {
+      spelling = codes "|";
+      token = Bar;
+      rest = b ∷ rest;
+      is = bar;
+      split = refl;
+      long =
+          omega arith;
+      taken = ap (λ (t : Bool). cond (t && true) (Sign DoubleBar 2) (Sign Bar 1)) e;
+    }
 
 ampersand_by : (b : ℕ) (rest : List ℕ) (is : Bool) → nat_eq 38 b ≡ is → TakesSign (38 ∷ b ∷ rest) 1
 ampersand_by b rest true e =
     let P = λ (n : ℕ). TakesSign (38 ∷ n ∷ rest) 1 in
-    subst P (sym (same_byte b 38 e)) (record { spelling = codes "&&"; token = DoubleAmpersand; rest = rest; is = double_ampersand; split = refl; long = omega arith; taken = refl })
+    subst P (sym (same_byte b 38 e)) (record {
+      spelling = codes "&&";
+      token =
+          DoubleAmpersand;
+      rest = rest;
+      is = double_ampersand;
+      split = refl;
+      long =
+          omega arith;
+      taken = refl;
+    })
 ampersand_by b rest false e =
-    record { spelling = codes "&"; token = Ampersand; rest = b ∷ rest; is = ampersand; split = refl; long = omega arith; taken = ap (λ (t : Bool). cond (t && true) (Sign DoubleAmpersand 2) (Sign Ampersand 1)) e }
+    record {
+      spelling = codes "&";
+      token = Ampersand;
+      rest = b ∷ rest;
+      is = ampersand;
+      split =
+          refl;
+      long = omega arith;
+      taken = ap (λ (t : Bool). cond (t && true)
+          (Sign DoubleAmpersand 2) (Sign Ampersand 1)) e;
+    }
 
-pub longest : (spelling rest : List ℕ) (token : Token) → IsSign spelling token → TakesSign (spelling ++ rest) (length spelling)
+pub longest : (spelling rest : List ℕ) (token : Token) → IsSign spelling token
+    → TakesSign (spelling ++ rest) (length spelling)
 longest _ [] _ bar = alone (codes "|") [] Bar bar refl
 longest _ (b ∷ rest) _ bar = bar_by b rest (nat_eq 124 b) refl
 longest _ [] _ ampersand = alone (codes "&") [] Ampersand ampersand refl
@@ -63,12 +113,16 @@ Each P [] = Unit {0}
 Each P (x ∷ xs) = P x × Each P xs
 
 module _ {A : Type 0} (text : A → List ℕ) (token : A → Token) where
-  pub first_is : (signs : List A) (bytes : List ℕ) (t : Token) (len : ℕ) → Each (λ x. IsSign (text x) (token x)) signs → first_sign text token signs bytes ≡ Sign t len →
+  pub first_is : (signs : List A) (bytes : List ℕ) (t : Token) (len : ℕ)
+      → Each (λ x. IsSign (text x) (token x)) signs → first_sign text token signs bytes ≡ Sign t len
+      →
       IsSign (take len bytes) t
   first_is [] bytes t len h e = absurd (cc)
-  first_is (x ∷ xs) bytes t len h e = by (first_is xs bytes t len h.1) (starts_with nat_eq bytes (text x)) refl e
+  first_is (x ∷ xs) bytes t len h e = by (first_is xs bytes t len h.1)
+      (starts_with nat_eq bytes (text x)) refl e
     where
-      by : (first_sign text token xs bytes ≡ Sign t len → IsSign (take len bytes) t) → (is : Bool) → is ≡ starts_with nat_eq bytes (text x) →
+      by : (first_sign text token xs bytes ≡ Sign t len → IsSign (take len bytes) t) → (is : Bool)
+          → is ≡ starts_with nat_eq bytes (text x) →
           cond is (Sign (token x) (length (text x))) (first_sign text token xs bytes) ≡ Sign t len →
           IsSign (take len bytes) t
       by more true q e =
@@ -81,7 +135,49 @@ module _ {A : Type 0} (text : A → List ℕ) (token : A → Token) where
           subst P same (subst R size (subst Q front h.0))
       by more false q e = more e
 
-pub only_signs : (bytes : List ℕ) (token : Token) (len : ℕ) → sign_lexeme bytes ≡ Sign token len → IsSign (take len bytes) token
+pub only_signs : (bytes : List ℕ) (token : Token) (len : ℕ) → sign_lexeme bytes ≡ Sign token len
+    → IsSign (take len bytes) token
 only_signs bytes token len e =
-    first_is (λ sign. sign.0.now) (λ sign. sign.1) SIGNS bytes token len
-    (double_bar, (double_ampersand, (begins, (ends, (left_paren, (right_paren, (left_bracket, (right_bracket, (left_brace, (right_brace, (comma, (semicolon, (bar, (ampersand, (bang, (star, (plus, (question, (percent, tt))))))))))))))))))) e
+    first_is (λ sign. sign.0.now) (λ sign. sign.1) SIGNS bytes token len (
+      double_bar,
+      (
+        double_ampersand,
+        (
+          begins,
+          (
+            ends,
+            (
+              left_paren,
+              (
+                right_paren,
+                (
+                  left_bracket,
+                  (
+                    right_bracket,
+                    (
+                      left_brace,
+                      (
+                        right_brace,
+                        (
+                          comma,
+                          (
+                            semicolon,
+                            (
+                              bar,
+                              (
+                                ampersand,
+                                (bang, (star, (plus, (question, (percent, tt))))),
+                              ),
+                            ),
+                          ),
+                        ),
+                      ),
+                    ),
+                  ),
+                ),
+              ),
+            ),
+          ),
+        ),
+      ),
+    ) e

@@ -1,13 +1,13 @@
 -- What sets of zones hold, where the first time is not after the second.
-use Rattle.std.proofs.Common.{ℕ, ◌<◌, ◌≤◌, List, [], ◌∷◌, ⊎_elim}
+use Rattle.std.proofs.Common.{ℕ, List, []}
 use Rattle.std.proofs.Math.Nat.{mul-le-mul_left, le_of_mul-le-mul_left}
 use Rattle.tre_pairs.specs.Pairs.{Composed}
 use Rattle.tre_pairs.proofs.Agreement.{Agree-Composed}
 use Rattle.tre_pairs.proofs.Laws.{Scales, IsOrdered, Agree}
 use Rattle.tre_pairs.proofs.Order.{IsOrdered-Composed}
-use Rattle.tre_zone.specs.ZoneList.{SetHolds, AreCanonical, HoldExactly}
+use Rattle.tre_zone.specs.ZoneList.{SetHolds, HoldExactly}
 use Rattle.tre_zone.specs.declared.zone_bounds.ZoneBounds.{ZoneBounds}
-use Rattle.tre_zone.proofs.Scaling.{SetHolds-scale, canonical-frame}
+use Rattle.tre_zone.proofs.Scaling.{SetHolds-scale, SetHolds-rising}
 use Rattle.tre_zone.proofs.ZoneListLemmas.{SetHolds-empty}
 use Rattle.tre_zoneset.specs.ZoneSet.{IsZoneSet}
 use Rattle.tre_residual.specs.Residual.{Held, IsComposition}
@@ -30,20 +30,11 @@ IsOrdered-Held zones = record { le = λ a b n h. h.rising }
 pub Held-empty : (a b n : ℕ) → Held [] a b n → ⊥
 Held-empty a b n h = SetHolds-empty a b n h.held
 
--- The pairs of a set of zones are ordered.
-SetHolds-le : (zones : List ZoneBounds) → AreCanonical zones → (a b n : ℕ) → 0 < n
-    → SetHolds zones a b n → a ≤ b
-unfolding SetHolds AreCanonical
-SetHolds-le [] all a b n some h = absurd h
-SetHolds-le (zone ∷ zones) all a b n some h =
-    ⊎_elim (λ x. (canonical-frame zone all.0 a b n some x).rising)
-    (λ x. SetHolds-le zones all.1 a b n some x) h
-
 Agree-Held : (zones : List ZoneBounds) → IsZoneSet zones → Agree (Held zones) (SetHolds zones)
 Agree-Held zones set = record {
   at = λ a b n some. (
     (λ h. h.held),
-    (λ h. record { rising = SetHolds-le zones set.canonical a b n some h; held = h }),
+    (λ h. record { rising = SetHolds-rising zones set.canonical a b n some h; held = h }),
   );
 }
 

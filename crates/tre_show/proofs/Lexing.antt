@@ -40,7 +40,8 @@ pub record Continues (words : List RawToken) (whole rest : RawTokens) : Type 0 w
 -- The text says these words, whichever of those rests follows.
 pub record Says (IsRest : List ℕ → Type 0) (text : List ℕ) (words : List RawToken) : Type 0 where
   pub says : (rest : List ℕ) → IsRest rest → (at : ℕ)
-      → (next : ℕ) × Continues words (raw_tokens_from 0 at (text ++ rest)) (raw_tokens_from 0 next rest)
+      → (next : ℕ) × Continues words (raw_tokens_from 0 at (text ++ rest))
+      (raw_tokens_from 0 next rest)
 
 continue_both : (words others : List RawToken) (whole middle rest : RawTokens)
     → Continues words whole middle
@@ -59,7 +60,8 @@ join text other words others meets one two = record {
   says = λ rest fits at.
       let first = one.says (other ++ rest) (meets rest fits) at in
       let second = two.says rest fits first.0 in
-      let whole : raw_tokens_from 0 at (text ++ (other ++ rest)) ≡ raw_tokens_from 0 at ((text ++ other) ++ rest) =
+      let whole : raw_tokens_from 0 at (text ++ (other ++ rest))
+      ≡ raw_tokens_from 0 at ((text ++ other) ++ rest) =
       ap (raw_tokens_from 0 at) (sym (append_assoc text other rest)) in
       let P = λ (l : RawTokens). Continues (words ++ others) l (raw_tokens_from 0 second.0 rest) in (
         second.0,
@@ -82,7 +84,8 @@ before_fewer text words fewer one = record {
 
 -- A sign of one byte.
 pub one_sign : (byte : ℕ) (token : Token)
-    → ((at : ℕ) (rest : List ℕ) → raw_tokens_from 0 at (byte ∷ rest) ≡ with_raw_token at (sign token)
+    → ((at : ℕ) (rest : List ℕ) → raw_tokens_from 0 at (byte ∷ rest)
+    ≡ with_raw_token at (sign token)
     (raw_tokens_from 0 (at + 1) rest))
     → Says IsAny (byte ∷ []) (sign token ∷ [])
 one_sign byte token is = record {
@@ -237,7 +240,8 @@ says_digits (d ∷ ds) some all = record {
       let value = λ (n : ℕ). Number (min (decimal (take n text)) 1099511627777) in
       let less : length whole - 1 ≡ length ds = omega arith in
       let end = skipped ds rest (at + 1) in
-      let read : raw_tokens_from 0 at text ≡ with_raw_token at (sign number) (raw_tokens_from 0 end.0 rest) =
+      let read : raw_tokens_from 0 at text ≡ with_raw_token at (sign number)
+      (raw_tokens_from 0 end.0 rest) =
       ap (λ l. scanned l at text go) kind
       ∙ ap (λ n. with_raw_token at (sign (value n)) (go (n - 1))) size
       ∙ ap (λ ds. with_raw_token at (sign (Number (min (decimal ds) 1099511627777)))

@@ -22,6 +22,7 @@ use Rattle.tre_syntax.specs.PatternTree.{numbers_of, numbers_of_atom, seen_after
 use Rattle.tre_parse.specs.declared.token.Token.{Token}
 use Rattle.tre_parse.specs.declared.token.Token.TheVariants.{Name, RightParen, RightBrace, Semicolon, Bar, DoubleBar, Ampersand, DoubleAmpersand, Star, Percent}
 use Rattle.tre_parse.specs.Numbering.{numbers_in}
+use Rattle.tre_parse.proofs.Numbers.{numbers_join}
 use Rattle.tre_parse.specs.Tokens.{RawToken, sign, RawTokenAt, names_with, token_of, known_after, tokens_from, names_from, is_past, past_from}
 use Rattle.tre_show.specs.StateText.{name_text}
 use Rattle.tre_show.proofs.Lexing.{words_at}
@@ -30,11 +31,6 @@ use Rattle.tre_show.proofs.TreeTokens.{enclosed, state_tokens, literal_tokens, a
 use Rattle.tre_show.proofs.TextTokens.{word_of, AreBelow}
 
 -- ---- the numbers among the tokens of a tree
-
-numbers_join : (xs ys : List Token) → numbers_in (xs ++ ys) ≡ numbers_in xs ++ numbers_in ys
-numbers_join [] ys = refl
-numbers_join (Name i ∷ xs) ys = ap (λ l. i ∷ l) (numbers_join xs ys)
-numbers_join (_ ∷ xs) ys = numbers_join xs ys
 
 -- a token behind the others that has no number
 numbers_behind : (xs : List Token) (mark : Token) → numbers_in (mark ∷ []) ≡ []
@@ -175,7 +171,8 @@ abbrev NonePast : List (List ℕ) → List RawToken → Type 0
 NonePast known [] = Unit {0}
 NonePast known (word ∷ rest) = (is_past known word ≡ false) × NonePast (known_after known word) rest
 
-past_from-none : (raw_tokens : List RawTokenAt) (known : List (List ℕ)) → NonePast known (words_at raw_tokens)
+past_from-none : (raw_tokens : List RawTokenAt) (known : List (List ℕ))
+    → NonePast known (words_at raw_tokens)
     → past_from known raw_tokens ≡ None
 past_from-none [] known none = refl
 past_from-none (spot ∷ rest) known none =
@@ -268,7 +265,8 @@ module _ (names : List (List ℕ)) (list : IsNameList names) where
       let bytes : name_text names i ≡ get_or names i [] = unwrap_or-slice_get names i [] in
       let known : names_with (take k names) (name_text names i) ≡ take next names =
       ap (names_with (take k names)) bytes ∙ behind in
-      let place : place_of (names_with (take k names) (name_text names i)) (name_text names i) ≡ Some i =
+      let place : place_of (names_with (take k names) (name_text names i)) (name_text names i)
+      ≡ Some i =
       ap (λ l. place_of l (name_text names i)) known ∙ ap (place_of (take next names)) bytes
       ∙ held i next before within in
       let words = map (word_of names) rest in

@@ -1,4 +1,4 @@
--- A list of zones in another order holds the same pairs, and is a set of zones as before.
+-- A list of zones in another order is a set of zones as before.
 use Rattle.std.proofs.Common.{◌≡◌, ◌≢◌, ℕ, zero, suc, ◌<◌, ◌↔◌, ◌⊎◌, List, [], ◌∷◌, length, get_or, refl, sym, ap, ◌∙◌, subst, arith, inl, inr, ⊎_elim}
 use Rattle.std.specs.List.{Contains, swap}
 use Rattle.std.specs.List.Sorted.{IsPermutation}
@@ -10,67 +10,13 @@ use Rattle.std.proofs.lemmas.List.Edits.{swap_is, length-swap}
 use Rattle.tre_zone.specs.Zone.{ZoneHolds, IsCanonical}
 use Rattle.tre_zone.specs.ZoneList.{SetHolds, IsApart, IsApartFrom, AreApart}
 use Rattle.tre_zone.specs.declared.zone_bounds.ZoneBounds.{ZoneBounds}
-use Rattle.tre_zone.proofs.ZoneListLemmas.{AreApart-swap}
+use Rattle.tre_zone.proofs.ZoneListLemmas.{AreApart-swap, IsApartFrom-at}
 use Rattle.tre_zone.specs.ZoneList.{AreCanonical}
-
--- some member holds the pair
-record HeldBy (zones : List ZoneBounds) (a b n : ℕ) : Type 0 where
-  zone : ZoneBounds
-  member : Contains zones zone
-  held : ZoneHolds zone a b n
-
-held_by : (zones : List ZoneBounds) (a b n : ℕ) → SetHolds zones a b n → HeldBy zones a b n
-unfolding SetHolds
-held_by [] a b n held = absurd held
-held_by (zone ∷ zones) a b n held = ⊎_elim
-    (λ here. record { zone = zone; member = (0, omega arith, refl); held = here })
-    (λ later. let found = held_by zones a b n later in
-    record {
-      zone = found.zone;
-      member = (
-        suc found.member.0,
-        omega (arith, found.member.1),
-        found.member.2,
-      );
-      held = found.held;
-    })
-    held
-
-held_at : (zones : List ZoneBounds) (k : ℕ) (d : ZoneBounds) (a b n : ℕ) → k < length zones
-    → ZoneHolds (get_or zones k d) a b n → SetHolds zones a b n
-unfolding SetHolds
-held_at [] k d a b n below held = absurd (omega (arith, below))
-held_at (zone ∷ zones) zero d a b n below held = inl held
-held_at (zone ∷ zones) (suc k) d a b n below held =
-    inr (held_at zones k d a b n (omega (arith, below)) held)
-
-moved : (zones others : List ZoneBounds) (a b n : ℕ) → IsPermutation zones others
-    → SetHolds zones a b n → SetHolds others a b n
-moved zones others a b n order held =
-    let found = held_by zones a b n held in
-    let place = Contains-permutation zones others found.zone order found.member in
-    held_at others place.0 found.zone a b n place.1
-    (subst (λ z. ZoneHolds z a b n) (sym place.2) found.held)
-
-pub SetHolds-permutation : (zones others : List ZoneBounds) (a b n : ℕ) → IsPermutation zones others
-    → SetHolds others a b n ↔ SetHolds zones a b n
-SetHolds-permutation zones others a b n order = (
-  moved others zones a b n (IsPermutation-sym zones others order),
-  moved zones others a b n order,
-)
 
 -- any two of the list, at two places, are apart
 record AnyTwoApart (zones : List ZoneBounds) : Type 0 where
   two : (p q : ℕ) (d : ZoneBounds) → p < length zones → q < length zones → p ≢ q
       → AreApart (get_or zones p d) (get_or zones q d)
-
-apart_from_at : (zone : ZoneBounds) (zones : List ZoneBounds) (k : ℕ) (d : ZoneBounds)
-    → IsApartFrom zone zones → k < length zones → AreApart zone (get_or zones k d)
-unfolding IsApartFrom
-apart_from_at zone [] k d apart below = absurd (omega (arith, below))
-apart_from_at zone (other ∷ zones) zero d apart below = apart.0
-apart_from_at zone (other ∷ zones) (suc k) d apart below =
-    apart_from_at zone zones k d apart.1 (omega (arith, below))
 
 apart_at : (zones : List ZoneBounds) (p q : ℕ) (d : ZoneBounds) → IsApart zones → p < length zones
     → q < length zones → p ≢ q → AreApart (get_or zones p d) (get_or zones q d)
@@ -78,9 +24,9 @@ unfolding IsApart
 apart_at [] p q d apart below other two = absurd (omega (arith, below))
 apart_at (zone ∷ zones) zero zero d apart below other two = absurd (two refl)
 apart_at (zone ∷ zones) zero (suc q) d apart below other two =
-    apart_from_at zone zones q d apart.0 (omega (arith, other))
+    IsApartFrom-at zone zones q d apart.0 (omega (arith, other))
 apart_at (zone ∷ zones) (suc p) zero d apart below other two =
-    AreApart-swap zone _ (apart_from_at zone zones p d apart.0 (omega (arith, below)))
+    AreApart-swap zone _ (IsApartFrom-at zone zones p d apart.0 (omega (arith, below)))
 apart_at (zone ∷ zones) (suc p) (suc q) d apart below other two =
     apart_at zones p q d apart.1 (omega (arith, below)) (omega (arith, other)) (λ e. two (ap suc e))
 

@@ -57,7 +57,8 @@ by_verdict past tree names outcome none small e =
 -- words that spell the tree, and nothing else
 by_reading : (words : TextTokens) (tree : PatternTree) (outcome : Outcome)
     → Spells expr words.tokens tree
-    → NoneEmpty words.tokens → words.past ≡ None → node_count tree ≤ 1000 → IsOutcomeOfTokens words outcome
+    → NoneEmpty words.tokens → words.past ≡ None → node_count tree ≤ 1000
+    → IsOutcomeOfTokens words outcome
     → outcome ≡ spelt tree words.names
 by_reading words tree outcome spells none past small read = ⊎_elim
     (λ wrong. absurd (wrong.1.none tree spells))

@@ -7,6 +7,7 @@ use Rattle.tre_zone.specs.Bound.{weakness_of, sum_of}
 use Rattle.tre_zone.specs.Zone.{IsCanonical}
 use Rattle.tre_zone.specs.declared.zone_bounds.ZoneBounds.{ZoneBounds}
 use Rattle.tre_zone.proofs.Bounds.{split, split-sum}
+use Rattle.tre_zone.proofs.Ranges.{lowered}
 use Rattle.tre_zone.proofs.Tightness.{canonical-keys}
 use Rattle.tre_zone.proofs.ZoneKeys.{zones_same}
 use Rattle.tre_zone.specs.ZoneList.{AreCanonical}
@@ -21,14 +22,9 @@ up_from : (low high : ℤ) → pos 1 ≤ℤ sum_of low high → low ≤ℤ pos 1
 up_from low high loop down =
     let a = split low in let b = split high in let d = split-sum low high in omega (arith, ints)
 
--- a sum of two bounds that are at most 0 is at most 0
-down_from : (key left right : ℤ) → key ≤ℤ sum_of left right → left ≤ℤ pos 1 → right ≤ℤ pos 1
-    → key ≤ℤ pos 1
-down_from key left right le p q =
-    let a = split left in let b = split right in let d = split-sum left right in omega (arith, ints)
-
 -- the keys of each of its three ranges
-pub begin_keys : (zone : ZoneBounds) → IsCanonical zone → AreRangeKeys zone.begin_low zone.begin_high
+pub begin_keys : (zone : ZoneBounds) → IsCanonical zone
+    → AreRangeKeys zone.begin_low zone.begin_high
 begin_keys zone canonical =
     let keys = canonical-keys zone canonical in
     record {
@@ -41,7 +37,7 @@ begin_keys zone canonical =
 pub end_keys : (zone : ZoneBounds) → IsCanonical zone → AreRangeKeys zone.end_low zone.end_high
 end_keys zone canonical =
     let keys = canonical-keys zone canonical in
-    let down = down_from zone.end_low zone.begin_low zone.dur_low canonical.closed.end_low
+    let down = lowered zone.end_low zone.begin_low zone.dur_low canonical.closed.end_low
     canonical.framed.starts canonical.framed.lasts in
     record {
       down = down;

@@ -24,7 +24,8 @@ whole_read names tree list numbered fine =
     let below = below_all (numbers_of tree) 0 (length names) numbered in
     let read = (operand_says names list.each tree below.0 fine 0).says [] tt 0 in (
       read.0,
-      subst (λ text. Continues (map (word_of names) (operand_tokens 0 tree)) (raw_tokens_from 0 0 text)
+      subst (λ text. Continues (map (word_of names) (operand_tokens 0 tree))
+          (raw_tokens_from 0 0 text)
           (raw_tokens_from 0 read.0 [])) (append-nil (expression_text names tree)) read.1,
     )
 

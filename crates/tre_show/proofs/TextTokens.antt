@@ -39,27 +39,32 @@ SaysTokens names IsRest text tokens = Says IsRest text (map (word_of names) toke
 
 -- ---- the signs
 
-semicolon_read : (at : ℕ) (rest : List ℕ) → raw_tokens_from 0 at (59 ∷ rest) ≡ with_raw_token at (sign Semicolon)
+semicolon_read : (at : ℕ) (rest : List ℕ) → raw_tokens_from 0 at (59 ∷ rest)
+    ≡ with_raw_token at (sign Semicolon)
     (raw_tokens_from 0 (at + 1) rest)
 semicolon_read at [] = refl
 semicolon_read at (b ∷ bs) = refl
 
-comma_read : (at : ℕ) (rest : List ℕ) → raw_tokens_from 0 at (44 ∷ rest) ≡ with_raw_token at (sign Comma)
+comma_read : (at : ℕ) (rest : List ℕ) → raw_tokens_from 0 at (44 ∷ rest)
+    ≡ with_raw_token at (sign Comma)
     (raw_tokens_from 0 (at + 1) rest)
 comma_read at [] = refl
 comma_read at (b ∷ bs) = refl
 
-bang_read : (at : ℕ) (rest : List ℕ) → raw_tokens_from 0 at (33 ∷ rest) ≡ with_raw_token at (sign Bang)
+bang_read : (at : ℕ) (rest : List ℕ) → raw_tokens_from 0 at (33 ∷ rest)
+    ≡ with_raw_token at (sign Bang)
     (raw_tokens_from 0 (at + 1) rest)
 bang_read at [] = refl
 bang_read at (b ∷ bs) = refl
 
-star_read : (at : ℕ) (rest : List ℕ) → raw_tokens_from 0 at (42 ∷ rest) ≡ with_raw_token at (sign Star)
+star_read : (at : ℕ) (rest : List ℕ) → raw_tokens_from 0 at (42 ∷ rest)
+    ≡ with_raw_token at (sign Star)
     (raw_tokens_from 0 (at + 1) rest)
 star_read at [] = refl
 star_read at (b ∷ bs) = refl
 
-left_paren_read : (at : ℕ) (rest : List ℕ) → raw_tokens_from 0 at (40 ∷ rest) ≡ with_raw_token at (sign LeftParen)
+left_paren_read : (at : ℕ) (rest : List ℕ) → raw_tokens_from 0 at (40 ∷ rest)
+    ≡ with_raw_token at (sign LeftParen)
     (raw_tokens_from 0 (at + 1) rest)
 left_paren_read at [] = refl
 left_paren_read at (b ∷ bs) = refl
@@ -79,7 +84,8 @@ right_bracket_read : (at : ℕ) (rest : List ℕ) → raw_tokens_from 0 at (93 �
 right_bracket_read at [] = refl
 right_bracket_read at (b ∷ bs) = refl
 
-left_brace_read : (at : ℕ) (rest : List ℕ) → raw_tokens_from 0 at (123 ∷ rest) ≡ with_raw_token at (sign LeftBrace)
+left_brace_read : (at : ℕ) (rest : List ℕ) → raw_tokens_from 0 at (123 ∷ rest)
+    ≡ with_raw_token at (sign LeftBrace)
     (raw_tokens_from 0 (at + 1) rest)
 left_brace_read at [] = refl
 left_brace_read at (b ∷ bs) = refl
@@ -92,7 +98,8 @@ right_brace_read at (b ∷ bs) = refl
 -- A sign between two blanks.
 spaced : (text : List ℕ) (token : Token)
     → ((at : ℕ) (rest : List ℕ) → (next : ℕ) × (there : ℕ) ×
-    (raw_tokens_from 0 at (text ++ rest) ≡ with_raw_token there (sign token) (raw_tokens_from 0 next rest)))
+    (raw_tokens_from 0 at (text ++ rest) ≡ with_raw_token there (sign token)
+    (raw_tokens_from 0 next rest)))
     → Says IsAny text (sign token ∷ [])
 spaced text token is = record {
   says = λ rest fits at. let read = is at rest in (
@@ -141,7 +148,8 @@ says_inf = says_word 105 (codes "nf") refl (AllPass-from_list_all continues_name
 
 no_reserved : (a b c d e f : Bool) → (IsTrue (a || (b || (c || (d || (e || (f || false)))))) → ⊥)
     → (if a then Some Eps else (if b then Some Rise else (if c then Some Fall
-    else (if d then Some Inf else (if e then Some True else (if f then Some Event else None)))))) ≡ None
+    else (if d then Some Inf else (if e then Some True else (if f then Some Event else None))))))
+    ≡ None
 no_reserved true b c d e f never = absurd (never refl)
 no_reserved false true c d e f never = absurd (never refl)
 no_reserved false false true d e f never = absurd (never refl)

@@ -10,7 +10,7 @@ use Rattle.tre_zone.specs.Zone.{IsInstantBetween, IsCanonical, ZoneHolds}
 use Rattle.tre_zone.specs.ZoneList.{SetHolds, HoldExactly, AreCanonical}
 use Rattle.tre_zone.specs.declared.zone_bounds.ZoneBounds.{ZoneBounds}
 use Rattle.tre_zone.proofs.ZoneListLemmas.{SetHolds-empty, AreCanonical-empty}
-use Rattle.tre_zone.proofs.Scaling.{SetHolds-scale, canonical-frame}
+use Rattle.tre_zone.proofs.Scaling.{SetHolds-scale, SetHolds-rising}
 use Rattle.tre_zoneset.proofs.Members.{SetHolds-more}
 use Rattle.tre_star.specs.Growth.{HasGrown}
 
@@ -59,14 +59,6 @@ Scales-instants from to = record {
     ends = unscaled_down k to n b pos h.ends;
   };
 }
-
-pub SetHolds-rising : (zones : List ZoneBounds) → AreCanonical zones → (a b n : ℕ) → 0 < n
-    → SetHolds zones a b n → a ≤ b
-unfolding SetHolds AreCanonical
-SetHolds-rising [] all a b n some h = absurd h
-SetHolds-rising (zone ∷ zones) all a b n some h =
-    ⊎_elim (λ x. (canonical-frame zone all.0 a b n some x).rising)
-    (λ x. SetHolds-rising zones all.1 a b n some x) h
 
 pub instants-rising : (from to a b n : ℕ) → IsInstantBetween from to a b n → a ≤ b
 instants-rising from to a b n h = let same = h.same in omega arith

@@ -14,6 +14,7 @@ use Rattle.tre_zone.specs.declared.zone_bounds.ZoneBounds.{ZoneBounds}
 use Rattle.tre_zone.proofs.Bounds.{split, split-sum}
 use Rattle.tre_zone.proofs.Sums.{sum_of-comm}
 use Rattle.tre_zone.proofs.Paths.{Meets-looser, Meets-sum}
+use Rattle.tre_zone.proofs.Ranges.{below_zero}
 use Rattle.tre_zone.proofs.Scaling.{Meets-scale, canonical-frame}
 use Rattle.tre_zone.proofs.ZoneListLemmas.{SetHolds-empty, SetHolds-push, AreCanonical-empty, AreCanonical-push}
 use Rattle.tre_zone.specs.ZoneList.{SetHolds, HoldExactly}
@@ -52,11 +53,6 @@ Meets-later key q q' n le m = let met = m.met in record { met = omega (arith, in
 
 -- ---- the value of such a bound
 
-not_above : (value : ℤ) → value ≤ℤ pos 0 → value ≡ neg_ℤ (pos (nat_abs value))
-not_above (pos zero) le = refl
-not_above (pos (suc n)) le = absurd (omega (arith, ints))
-not_above (negsuc n) le = refl
-
 pub not_below : (value : ℤ) → pos 0 ≤ℤ value → value ≡ pos (nat_abs value)
 not_below (pos n) le = refl
 not_below (negsuc n) le = absurd (omega (arith, ints))
@@ -67,7 +63,7 @@ abs_within limit (pos n) low high = omega (arith, ints)
 abs_within limit (negsuc n) low high = omega (arith, ints)
 
 pub least_value : (key : ℤ) → key ≤ℤ pos 1 → value_of key ≡ neg_ℤ (pos (nat_abs (value_of key)))
-least_value key le = let s = split key in not_above (value_of key) (omega (arith, ints))
+least_value key le = let s = split key in below_zero (value_of key) (omega (arith, ints))
 
 pub value_within : (limit : ℕ) (key : ℤ) → IsKeyWithin limit key → nat_abs (value_of key) ≤ limit
 value_within limit key h =

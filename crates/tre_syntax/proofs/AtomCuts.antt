@@ -15,6 +15,7 @@ use Rattle.tre_syntax.specs.Cut.{last_of}
 use Rattle.tre_syntax.specs.PatternTree.{Atom, empty, literal, rise, fall}
 use Rattle.tre_syntax.specs.Rest.{rest_of, HasEdge, EdgeMatches, EmptyMatches, AtomMatches}
 use Rattle.tre_syntax.proofs.Atoms.{end_of-le}
+use Rattle.tre_syntax.proofs.Growth.{between_cut}
 
 module _ (P : ℕ → Type 0) (a b n : ℕ) where
   -- what ends before a/n says nothing of what is from it on
@@ -225,11 +226,6 @@ module _ (P : ℕ → Type 0) (a b n : ℕ) where
   between_both start [] v h g = g
   between_both start (s ∷ u) v h g = (h.0, between_both (start + s.len) u v h.1 g)
 
-  between_front : (start : ℕ) (u v : List Segment) → HoldsBetween P start (u ++ v) a b n
-      → HoldsBetween P start u a b n
-  between_front start [] v h = tt
-  between_front start (s ∷ u) v h = (h.0, between_front (start + s.len) u v h.1)
-
   between_sooner : (start c : ℕ) (u : List Segment) → c ≤ b → HoldsBetween P start u a b n
       → HoldsBetween P start u a c n
   between_sooner start c [] le h = tt
@@ -265,7 +261,7 @@ module _ (P : ℕ → Type 0) (start : ℕ) (before : Option ℕ) (u v : List Se
         some_time = early;
         end = omega arith;
         throughout = between_sooner P a b n start cut u h.end
-            (between_front P a b n start u v h.related.throughout);
+            (between_cut P a b n start u v h.related.throughout);
       }))
       (λ late. let begin = h.begin in inr (record {
         begin = omega (arith, begin, late);

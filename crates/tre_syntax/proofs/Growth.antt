@@ -29,7 +29,7 @@ module _ (P : ℕ → Type 0) (a b n : ℕ) where
   between_grows start [] v le h = between_after start v le
   between_grows start (s ∷ u) v le h = (h.0, between_grows (start + s.len) u v le h.1)
 
-  between_cut : (start : ℕ) (u v : List Segment) → HoldsBetween P start (u ++ v) a b n
+  pub between_cut : (start : ℕ) (u v : List Segment) → HoldsBetween P start (u ++ v) a b n
       → HoldsBetween P start u a b n
   between_cut start [] v h = tt
   between_cut start (s ∷ u) v h = (h.0, between_cut (start + s.len) u v h.1)

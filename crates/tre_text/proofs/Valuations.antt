@@ -3,15 +3,10 @@ use Rattle.std.proofs.Common.{◌≡◌, ◌≢◌, ◌↔◌, ◌⊎◌, ℕ, z
 use Rattle.std.specs.Int.{bit_at}
 use Rattle.std.specs.Int.Bits.{bit_or}
 use Rattle.std.proofs.lemmas.Bool.{cases_eq}
-use Rattle.std.proofs.lemmas.Nat.{bit_set_by_shift}
-use Rattle.std.proofs.lemmas.Nat.Bits.{shr_and_one, bit_at_or, bit_at-pow_same, bit_at-pow_other, bit_at-zero}
+use Rattle.std.proofs.lemmas.Nat.Bits.{bit_at_or, bit_at-pow_same, bit_at-pow_other, bit_at-zero}
+use Rattle.tre_state.proofs.Bits.{bit_is}
 use Rattle.tre_state.specs.Names.{place_of}
 use Rattle.tre_text.specs.TextReading.{with_bit, with_name, valuation_after, valuation_of, IsNamed}
-
-bit_is : (n i : ℕ) → (bit_at n i ≡ 1) ↔ IsBitSet n i
-bit_is n i =
-    let shift = bit_set_by_shift n i in
-    (λ e. shift.0 (shr_and_one n i ∙ e), λ set. sym (shr_and_one n i) ∙ shift.1 set)
 
 no_bit : (i : ℕ) → IsBitSet 0 i → ⊥
 no_bit i set =

@@ -26,7 +26,8 @@ module _ (own : List (List ℕ)) (number : ℕ) (item new : List ℕ) (within : 
     at_number : words_at (set own number new) number ≡ new
     at_number = get_or-set_same own number new [] within
 
-    elsewhere : (other : ℕ) → other ≢ number → words_at (set own number new) other ≡ words_at own other
+    elsewhere : (other : ℕ) → other ≢ number → words_at (set own number new) other
+        ≡ words_at own other
     elsewhere other apart = get_or-set_other own number other new [] apart
 
     pub stretched_more : (was : List (List ℕ)) (count : ℕ)
@@ -54,7 +55,11 @@ module _ (own : List (List ℕ)) (number : ℕ) (item new : List ℕ) (within : 
         ]
 
 small_of : (n d : ℕ) → 0 < d → n / d ≡ 0 → n < d
-small_of n d some none = omega (arith, (div-lt_iff_lt-mul {k = d} {x = n} {y = 1} some).0 (omega (arith, none)))
+small_of n d some none = omega (
+  arith,
+  (div-lt_iff_lt-mul {k = d} {x = n} {y = 1} some).0
+      (omega (arith, none)),
+)
 
 -- a valuation that is shifted out has no bit from there on
 pub bit_past : (valuation count number : ℕ) → valuation / 2 ^ count ≡ 0 → count ≤ number

@@ -47,8 +47,10 @@ module _ (words : List ℕ) (place : ℕ) (within : place / 64 < length words) w
       elim (cases_eq (other / 64) (place / 64)) [
         | inl here ↦
             let differs : other % 64 ≢ place % 64 = omega arith in
-            rw here (ap (λ word. bit_at word (other % 64)) (get_or-set_same words (place / 64) _ 0 within)
-            ∙ bit_at_set_other w64 (get_or words (place / 64) 0) (place % 64) small (other % 64) differs)
+            rw here (ap (λ word. bit_at word (other % 64))
+            (get_or-set_same words (place / 64) _ 0 within)
+            ∙ bit_at_set_other w64 (get_or words (place / 64) 0) (place % 64) small (other % 64)
+            differs)
         | inr elsewhere ↦
             ap (λ word. bit_at word (other % 64))
             (get_or-set_other words (place / 64) (other / 64) _ 0 elsewhere)

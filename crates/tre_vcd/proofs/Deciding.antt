@@ -3,16 +3,17 @@ use Rattle.std.proofs.Common.{◌≡◌, ◌≢◌, ◌↔◌, ℕ, zero, suc, �
 use Rattle.std.specs.Int.{bit_at}
 use Rattle.std.specs.Str.{bytes_eq}
 use Rattle.std.proofs.Math.Nat.{pow-suc}
-use Rattle.std.proofs.lemmas.Nat.{bit_set_by_shift}
-use Rattle.std.proofs.lemmas.Nat.Bits.{shr_and_one, bit_at-zero, bit_at_lowest, bit_at-suc}
+use Rattle.std.proofs.lemmas.Nat.Bits.{bit_at-zero, bit_at_lowest, bit_at-suc}
 use Rattle.std.proofs.lemmas.Slice.Eq.{bytes_eq-Decides}
+use Rattle.tre_state.proofs.Bits.{bit_is}
 use Rattle.tre_vcd.specs.VcdReading.{Statement, scope, upscope, var, definitions, time, change, dump, dump_end, scopes_at, value_at, identifier_in, identifier_of, first_of, value_of, valuation_from}
 use Rattle.tre_vcd.specs.Deciding.{Keeps, LastChange, Leaves, FirstDeclaration, IsHigh}
 
 eq-same : (bytes : List ℕ) → bytes_eq bytes bytes ≡ true
 eq-same bytes = (bytes_eq-Decides bytes bytes).1 refl
 
-eq-other : (one other : List ℕ) (same : Bool) → bytes_eq one other ≡ same → one ≢ other → same ≡ false
+eq-other : (one other : List ℕ) (same : Bool) → bytes_eq one other ≡ same → one ≢ other → same
+    ≡ false
 eq-other one other true e apart = absurd (apart ((bytes_eq-Decides one other).0 e))
 eq-other one other false e apart = refl
 
@@ -21,17 +22,23 @@ eq-other one other false e apart = refl
 value-behind : (later earlier : List Statement) (identifier : List ℕ) → Keeps identifier later
     → value_at (later ++ earlier) identifier ≡ value_at earlier identifier
 value-behind [] earlier identifier keeps = refl
-value-behind (scope name ∷ later) earlier identifier keeps = value-behind later earlier identifier keeps
-value-behind (upscope ∷ later) earlier identifier keeps = value-behind later earlier identifier keeps
-value-behind (var tokens ∷ later) earlier identifier keeps = value-behind later earlier identifier keeps
-value-behind (definitions ∷ later) earlier identifier keeps = value-behind later earlier identifier keeps
-value-behind (time ticks ∷ later) earlier identifier keeps = value-behind later earlier identifier keeps
+value-behind (scope name ∷ later) earlier identifier keeps =
+    value-behind later earlier identifier keeps
+value-behind (upscope ∷ later) earlier identifier keeps =
+    value-behind later earlier identifier keeps
+value-behind (var tokens ∷ later) earlier identifier keeps =
+    value-behind later earlier identifier keeps
+value-behind (definitions ∷ later) earlier identifier keeps =
+    value-behind later earlier identifier keeps
+value-behind (time ticks ∷ later) earlier identifier keeps =
+    value-behind later earlier identifier keeps
 value-behind (change other value ∷ later) earlier identifier keeps =
     ap (λ (b : Bool). if b then value else value_at (later ++ earlier) identifier)
     (eq-other identifier other (bytes_eq identifier other) refl keeps.0)
     ∙ value-behind later earlier identifier keeps.1
 value-behind (dump ∷ later) earlier identifier keeps = value-behind later earlier identifier keeps
-value-behind (dump_end ∷ later) earlier identifier keeps = value-behind later earlier identifier keeps
+value-behind (dump_end ∷ later) earlier identifier keeps =
+    value-behind later earlier identifier keeps
 
 pub value-last : (past : List Statement) (identifier : List ℕ) (value : Bool) → LastChange past
     identifier value → value_at past identifier ≡ value
@@ -129,23 +136,32 @@ declared-behind : (later earlier : List Statement) (name identifier : List ℕ)
     → identifier_of earlier name ≡ Some identifier
     → identifier_of (later ++ earlier) name ≡ Some identifier
 declared-behind [] earlier name identifier is = is
-declared-behind (scope other ∷ later) earlier name identifier is = declared-behind later earlier name identifier is
-declared-behind (upscope ∷ later) earlier name identifier is = declared-behind later earlier name identifier is
+declared-behind (scope other ∷ later) earlier name identifier is =
+    declared-behind later earlier name identifier is
+declared-behind (upscope ∷ later) earlier name identifier is =
+    declared-behind later earlier name identifier is
 declared-behind (var tokens ∷ later) earlier name identifier is =
-    ap (λ (o : Option (List ℕ)). first_of o (identifier_in (scopes_at (later ++ earlier)) name tokens))
+    ap (λ (o : Option (List ℕ)). first_of o (identifier_in (scopes_at (later ++ earlier)) name
+    tokens))
     (declared-behind later earlier name identifier is)
-declared-behind (definitions ∷ later) earlier name identifier is = declared-behind later earlier name identifier is
-declared-behind (time ticks ∷ later) earlier name identifier is = declared-behind later earlier name identifier is
-declared-behind (change other value ∷ later) earlier name identifier is = declared-behind later earlier name identifier is
-declared-behind (dump ∷ later) earlier name identifier is = declared-behind later earlier name identifier is
-declared-behind (dump_end ∷ later) earlier name identifier is = declared-behind later earlier name identifier is
+declared-behind (definitions ∷ later) earlier name identifier is =
+    declared-behind later earlier name identifier is
+declared-behind (time ticks ∷ later) earlier name identifier is =
+    declared-behind later earlier name identifier is
+declared-behind (change other value ∷ later) earlier name identifier is =
+    declared-behind later earlier name identifier is
+declared-behind (dump ∷ later) earlier name identifier is =
+    declared-behind later earlier name identifier is
+declared-behind (dump_end ∷ later) earlier name identifier is =
+    declared-behind later earlier name identifier is
 
 declared-first : (past : List Statement) (name identifier : List ℕ) → FirstDeclaration past name
     identifier → identifier_of past name ≡ Some identifier
 declared-first past name identifier found =
     ap (λ (p : List Statement). identifier_of p name) found.parts
     ∙ declared-behind found.later (var found.tokens ∷ found.earlier) name identifier
-    (ap (λ (o : Option (List ℕ)). first_of o (identifier_in (scopes_at found.earlier) name found.tokens))
+    (ap (λ (o : Option (List ℕ)). first_of o (identifier_in (scopes_at found.earlier) name
+    found.tokens))
     (declared-none found.earlier name found.first) ∙ found.declares)
 
 first-later : (statement : Statement) (past : List Statement) (name identifier : List ℕ)
@@ -225,11 +241,6 @@ declared-is past name identifier = (
 
 -- ---- valuations
 
-bit_is : (n i : ℕ) → (bit_at n i ≡ 1) ↔ IsBitSet n i
-bit_is n i =
-    let shift = bit_set_by_shift n i in
-    (λ e. shift.0 (shr_and_one n i ∙ e), λ set. sym (shr_and_one n i) ∙ shift.1 set)
-
 -- whether the proposition at the place is true
 abbrev value_in : List Statement → List (List ℕ) → ℕ → Bool
 value_in past [] i = false
@@ -257,7 +268,8 @@ twice past (name ∷ names) i =
 split-bits : (past : List Statement) (name : List ℕ) (names : List (List ℕ))
     → valuation_from past 0 (name ∷ names)
     ≡ (if value_of past (identifier_of past name) then 1 else 0) + valuation_from past 0 names * 2
-split-bits past name names = ap (λ n. (if value_of past (identifier_of past name) then 1 else 0) + n)
+split-bits past name names = ap (λ n. (if value_of past (identifier_of past name) then 1 else 0) +
+    n)
     (twice past names 0)
 
 lowest : (value : Bool) (rest : ℕ) → ((if value then 1 else 0) + rest * 2) % 2

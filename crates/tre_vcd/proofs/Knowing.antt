@@ -201,7 +201,8 @@ pub known-set : (past : List Statement) (tokens names : List (List ℕ)) (signal
     (i : ℕ) (identifier : List ℕ) (d new : Signal) → i < length signals
     → identifier_in (scopes_at past) (get_or names i []) tokens ≡ Some identifier
     → ((k : ℕ) → k < length names → k ≢ i
-    → identifier_in (scopes_at past) (get_or names k []) tokens ≡ None) → value_at past identifier ≡ false → IsDeclared identifier (get_or signals i d) new
+    → identifier_in (scopes_at past) (get_or names k []) tokens ≡ None) → value_at past identifier
+    ≡ false → IsDeclared identifier (get_or signals i d) new
     → AreKnown past names signals → AreKnown (var tokens ∷ past) names (set signals i new)
 known-set past tokens [] signals i identifier d new below one others quiet made known =
     absurd (omega (arith, below, ap length known))

@@ -10,7 +10,8 @@ use Rattle.tre_zone.proofs.Bounds.{split, split-sum, Meets-at_most, Meets-less}
 use Rattle.tre_zone.proofs.Ends.{weak_low, strict_low}
 use Rattle.tre_zone.proofs.Scaling.{canonical-frame}
 
-below_zero : (value : ℤ) → value ≤ℤ pos 0 → value ≡ neg_ℤ (pos (nat_abs value))
+-- A value that is at most 0 is the negative of its size.
+pub below_zero : (value : ℤ) → value ≤ℤ pos 0 → value ≡ neg_ℤ (pos (nat_abs value))
 below_zero (pos zero) le = refl
 below_zero (pos (suc n)) le = absurd (omega (arith, ints))
 below_zero (negsuc n) le = refl
@@ -68,7 +69,7 @@ raised : (low high : ℤ) → pos 1 ≤ℤ sum_of low high → low ≤ℤ pos 1 
 raised low high loop down =
     let a = split low in let b = split high in let d = split-sum low high in omega (arith, ints)
 
-lowered : (key left right : ℤ) → key ≤ℤ sum_of left right → left ≤ℤ pos 1 → right ≤ℤ pos 1
+pub lowered : (key left right : ℤ) → key ≤ℤ sum_of left right → left ≤ℤ pos 1 → right ≤ℤ pos 1
     → key ≤ℤ pos 1
 lowered key left right le p q =
     let a = split left in let b = split right in let d = split-sum left right in

@@ -8,7 +8,7 @@ use borrow.Author.Differences.{up, down}
 use Rattle.tre_pairs.specs.declared.TheConstants.{TIME_MAX}
 use Rattle.tre_zone.specs.Bound.{value_of, weakness_of, Meets}
 use Rattle.tre_zone.specs.Zone.{ZoneHolds, IsCanonical, IsInFrame}
-use Rattle.tre_zone.specs.ZoneList.{SetHolds}
+use Rattle.tre_zone.specs.ZoneList.{SetHolds, AreCanonical}
 use Rattle.tre_zone.specs.declared.zone_bounds.ZoneBounds.{ZoneBounds}
 use Rattle.tre_zone.proofs.Bounds.{split, Meets-at_most}
 use Rattle.tre_zone.proofs.Paths.{Meets-looser}
@@ -103,3 +103,12 @@ canonical-frame zone c a b n some h =
     let ends = (Meets-at_most (pos (2 * TIME_MAX + 1)) (TIME_MAX) refl b 0 n).0
     (Meets-looser zone.end_high (pos (2 * TIME_MAX + 1)) b 0 n some c.framed.ends h.end_high) in
     record { rising = omega arith; ends = omega arith }
+
+-- The pairs of a list of zones are ordered.
+pub SetHolds-rising : (zones : List ZoneBounds) → AreCanonical zones → (a b n : ℕ) → 0 < n
+    → SetHolds zones a b n → a ≤ b
+unfolding SetHolds AreCanonical
+SetHolds-rising [] all a b n some h = absurd h
+SetHolds-rising (zone ∷ zones) all a b n some h =
+    ⊎_elim (λ x. (canonical-frame zone all.0 a b n some x).rising)
+    (λ x. SetHolds-rising zones all.1 a b n some x) h

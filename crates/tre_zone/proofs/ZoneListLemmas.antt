@@ -1,5 +1,5 @@
 -- Lists of zones: one more zone at the end.
-use Rattle.std.proofs.Common.{ℕ, ◌<◌, ◌≤◌, ◌⊎◌, ◌↔◌, List, [], ◌∷◌, ◌++◌, inl, inr, ⊎_elim}
+use Rattle.std.proofs.Common.{ℕ, zero, suc, ◌<◌, ◌≤◌, ◌⊎◌, ◌↔◌, List, [], ◌∷◌, ◌++◌, length, get_or, inl, inr, ⊎_elim, arith}
 use Rattle.tre_pairs.specs.Pairs.{Pairs}
 use Rattle.tre_zone.specs.Zone.{ZoneHolds, IsCanonical}
 use Rattle.tre_zone.specs.ZoneList.{SetHolds, AreApart, IsApartFrom, IsApart, AreCanonical, AreTight, HoldExactly}
@@ -67,6 +67,15 @@ unfolding AreCanonical
 AreCanonical-push [] zone all new = (new, tt)
 AreCanonical-push (other ∷ zones) zone all new =
     (all.0, AreCanonical-push zones zone all.1 new)
+
+-- A zone that is apart from a list is apart from each member.
+pub IsApartFrom-at : (zone : ZoneBounds) (zones : List ZoneBounds) (i : ℕ) (d : ZoneBounds)
+    → IsApartFrom zone zones → i < length zones → AreApart zone (get_or zones i d)
+unfolding IsApartFrom
+IsApartFrom-at zone [] i d apart below = absurd (omega (arith, below))
+IsApartFrom-at zone (other ∷ zones) zero d apart below = apart.0
+IsApartFrom-at zone (other ∷ zones) (suc i) d apart below =
+    IsApartFrom-at zone zones i d apart.1 (omega (arith, below))
 
 -- Canonical bounds are the tightest of some pairs.
 pub AreCanonical-tight : (zones : List ZoneBounds) → AreCanonical zones → AreTight zones

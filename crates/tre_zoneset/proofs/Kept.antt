@@ -43,20 +43,23 @@ module _ {F : Type 0} (R : F → ZoneBounds → Bool → F → Type 0) (outer : 
       subst (Without (Includes outer) zones) (sym is) (in_turn zones answers last same turns)
 
 module _ (P : ZoneBounds → Type 0) where
-  apart_from : (zone : ZoneBounds) (old kept : List ZoneBounds) → Without P old kept
+  -- A zone that is apart from all is apart from those that stay.
+  pub IsApartFrom-fewer : (zone : ZoneBounds) (old kept : List ZoneBounds) → Without P old kept
       → IsApartFrom zone old → IsApartFrom zone kept
   unfolding Without IsApartFrom
-  apart_from zone [] kept is apart = subst (IsApartFrom zone) (sym is) tt
-  apart_from zone (other ∷ old) kept (inl gone) apart = apart_from zone old kept gone.1 apart.1
-  apart_from zone (other ∷ old) kept (inr (stays, (rest, is, without))) apart =
-      subst (IsApartFrom zone) (sym is) (apart.0, apart_from zone old rest without apart.1)
+  IsApartFrom-fewer zone [] kept is apart = subst (IsApartFrom zone) (sym is) tt
+  IsApartFrom-fewer zone (other ∷ old) kept (inl gone) apart =
+      IsApartFrom-fewer zone old kept gone.1 apart.1
+  IsApartFrom-fewer zone (other ∷ old) kept (inr (stays, (rest, is, without))) apart =
+      subst (IsApartFrom zone) (sym is) (apart.0, IsApartFrom-fewer zone old rest without apart.1)
 
   apart : (old kept : List ZoneBounds) → Without P old kept → IsApart old → IsApart kept
   unfolding Without IsApart
   apart [] kept is set = subst IsApart (sym is) tt
   apart (zone ∷ old) kept (inl gone) set = apart old kept gone.1 set.1
   apart (zone ∷ old) kept (inr (stays, (rest, is, without))) set =
-      subst IsApart (sym is) (apart_from zone old rest without set.0, apart old rest without set.1)
+      subst IsApart (sym is)
+      (IsApartFrom-fewer zone old rest without set.0, apart old rest without set.1)
 
   canonical : (old kept : List ZoneBounds) → Without P old kept → AreCanonical old
       → AreCanonical kept

@@ -1,5 +1,5 @@
 -- Zones that are kept where no kept one includes them, first from one end and then from the other.
-use Rattle.std.proofs.Common.{◌≡◌, ℕ, zero, suc, ◌+◌, ◌<◌, ◌⊎◌, List, [], ◌∷◌, ◌++◌, length, get_or, take, reverse, Any, sym, subst, inl, inr, ⊎_elim, arith}
+use Rattle.std.proofs.Common.{◌≡◌, ℕ, zero, suc, ◌+◌, ◌<◌, ◌⊎◌, ◌↔◌, List, [], ◌∷◌, ◌++◌, length, get_or, take, reverse, Any, sym, subst, inl, inr, ⊎_elim, arith}
 use Rattle.std.specs.List.Sorted.{IsPermutation}
 use Rattle.std.proofs.lemmas.List.{take_more, reverse-append}
 use Rattle.std.proofs.lemmas.List.Sorted.{IsPermutation-sym, Contains-permutation}
@@ -224,14 +224,17 @@ moved zones others a b n order held =
     held_at others place.0 any.1 a b n place.1
     (subst (λ zone. ZoneHolds zone a b n) (sym place.2) any.4)
 
+pub SetHolds-permutation : (zones others : List ZoneBounds) (a b n : ℕ) → IsPermutation zones others
+    → SetHolds others a b n ↔ SetHolds zones a b n
+SetHolds-permutation zones others a b n order = (
+  moved others zones a b n (IsPermutation-sym zones others order),
+  moved zones others a b n order,
+)
+
 pub HoldExactly-moved : (zones others : List ZoneBounds) → IsPermutation zones others
     → HoldExactly others (SetHolds zones)
-HoldExactly-moved zones others order = record {
-  exact = λ a b n some le. (
-    moved others zones a b n (IsPermutation-sym zones others order),
-    moved zones others a b n order,
-  );
-}
+HoldExactly-moved zones others order = record
+    { exact = λ a b n some le. SetHolds-permutation zones others a b n order }
 
 HoldExactly-trans : (one two three : List ZoneBounds) → HoldExactly one (SetHolds two)
     → HoldExactly two (SetHolds three) → HoldExactly one (SetHolds three)

@@ -59,8 +59,10 @@ loop-at-preserved c =
     let first =
     rw (c.deref.ensures.value, c.segments-count.ensures.segments) at c.next_place-other.ensures in
     let last =
-    rw (c.deref-in-loop-at.ensures.value, c.segments-count.ensures.segments) at c.next_place-turn.ensures in
-    let held = rw (c.start_of.ensures, c.segments-count.ensures.segments) at c.in_ok-add_edge.ensures.held in
+    rw (c.deref-in-loop-at.ensures.value, c.segments-count.ensures.segments) at
+    c.next_place-turn.ensures in
+    let held = rw (c.start_of.ensures, c.segments-count.ensures.segments) at
+    c.in_ok-add_edge.ensures.held in
     record {
       exact = λ a b n some rising.
           exact_closed (c.loop-at.invariant.exact a b n some rising)

@@ -68,7 +68,8 @@ loop-at-preserved c =
     let first =
     rw (c.deref.ensures.value, c.segments-count.ensures.segments) at c.next_place-begin.ensures in
     let last =
-    rw (c.deref-in-loop-at.ensures.value, c.segments-count.ensures.segments) at c.next_place-end.ensures in
+    rw (c.deref-in-loop-at.ensures.value, c.segments-count.ensures.segments) at
+    c.next_place-end.ensures in
     let held =
     rw (c.start_of.ensures, c.start_of-in-loop-at.ensures) at c.in_ok-close.ensures.held in
     record {

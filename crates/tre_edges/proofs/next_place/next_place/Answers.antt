@@ -25,9 +25,12 @@ returns-then-rest-ne0 c =
     let words = c.args.words.now in
     let truth = c.args.truth in
     let sought = c.saying.result in
-    let found = found_here words truth at sought c.saying.ensures c.if-rest-ne0.true c.saying.type_inv in
-    let before = none_before words truth at sought c.saying.ensures c.if-rest-ne0.true c.saying.type_inv in
-    let place = at + zeros words truth at sought c.saying.ensures c.if-rest-ne0.true c.saying.type_inv in
+    let found = found_here words truth at sought c.saying.ensures c.if-rest-ne0.true
+    c.saying.type_inv in
+    let before = none_before words truth at sought c.saying.ensures c.if-rest-ne0.true
+    c.saying.type_inv in
+    let place = at + zeros words truth at sought c.saying.ensures c.if-rest-ne0.true
+    c.saying.type_inv in
     let is : c.min.result ≡ min place c.args.count = c.min.ensures in
     record {
       late = omega (arith, is, c.loop-at.invariant.late, c.loop-at-test.true);

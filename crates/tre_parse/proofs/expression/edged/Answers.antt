@@ -7,4 +7,5 @@ use Rattle.tre_parse.proofs.expression.edged.Goals as goal
 pub returns-then-ends : goal.returns-then-ends
 returns-then-ends c = λ s h.
     let P = λ (b : Bool). Represents c.in_ok-both.both (edged_literal c.args.begins b s) in
-    subst P (sym c.if-ends.true) (c.in_ok-both.ensures (plain_literal c.args.begins s) (atom (fall s)) (c.in_ok-body.ensures s h) (c.edge.ensures s (c.in_ok-again.ensures s h)))
+    subst P (sym c.if-ends.true) (c.in_ok-both.ensures (plain_literal c.args.begins s)
+    (atom (fall s)) (c.in_ok-body.ensures s h) (c.edge.ensures s (c.in_ok-again.ensures s h)))

@@ -4,4 +4,8 @@ use Rattle.tre_parse.specs.Outcome.{deep_place}
 use Rattle.tre_parse.proofs.limits.first_deep.Given as goal
 
 abbrev pub invariant-loop-place : goal.invariant-loop-place
-invariant-loop-place l = record { deep : deep_place 0 0 l.tokens ≡ deep_place l.depth l.place (drop l.place l.tokens); few : l.depth ≤ DEPTH_MAX }
+invariant-loop-place l = record {
+  deep : deep_place 0 0 l.tokens
+      ≡ deep_place l.depth l.place (drop l.place l.tokens);
+  few : l.depth ≤ DEPTH_MAX;
+}

@@ -3,7 +3,11 @@ use Rattle.tre_parse.specs.Scan.{LeadsTo}
 use Rattle.tre_parse.proofs.scan.scan_text.Given as goal
 
 abbrev pub invariant-loop-at : goal.invariant-loop-at
-invariant-loop-at l = record { leads : LeadsTo l.bytes l.initial.scan 0 l.scan l.at; within : l.at ≤ length l.bytes }
+invariant-loop-at l = record {
+  leads : LeadsTo l.bytes l.initial.scan 0 l.scan l.at;
+  within : l.at ≤
+      length l.bytes;
+}
 
 abbrev pub decreases-loop-at : goal.decreases-loop-at
 decreases-loop-at l = length l.bytes - l.at

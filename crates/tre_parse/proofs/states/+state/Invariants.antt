@@ -37,4 +37,5 @@ abbrev pub decreases-state-loop-alloc : goal.decreases-state-loop-alloc
 decreases-state-loop-alloc l = length l.tokens
 
 abbrev pub invariant-operand-loop : goal.invariant-operand-loop
-invariant-operand-loop l = (s : StateTree) → RepresentsState l.initial.whole s → RepresentsState l.whole (negated l.counter s)
+invariant-operand-loop l = (s : StateTree) → RepresentsState l.initial.whole s
+    → RepresentsState l.whole (negated l.counter s)

@@ -2,7 +2,8 @@ use Rattle.std.proofs.Common.{rules}
 use Rattle.std.proofs.lemmas.List.Sorted.{answers_always}
 use Rattle.tre_zone.proofs.ZoneListLemmas.{AreCanonical-tight}
 use Rattle.tre_show.specs.Order.{sort_key, IsRising}
-use Rattle.tre_show.proofs.Orders.{SetHolds-permutation, IsApart-permutation, AreCanonical-permutation}
+use Rattle.tre_zoneset.proofs.Thinning.{SetHolds-permutation}
+use Rattle.tre_show.proofs.Orders.{IsApart-permutation, AreCanonical-permutation}
 use Rattle.tre_show.proofs.order.printed_order.Goals as goal
 
 pub returns-clause-same : goal.returns-clause-same

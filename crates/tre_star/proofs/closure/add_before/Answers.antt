@@ -36,7 +36,8 @@ loop-place-preserved c = record {
       (c.key_before-key.ensures.others other canonical far))) c.loop-place.place c.in-Some.next
       c.index-items-next.result c.add_found.new.reached
       (Lasting (LastsUpTo c.args.longest) (FoundHolds c.compose.result))
-      c.in-Some.ensures (rw c.items-items.ensures at c.index-items-next.is) c.loop-place.invariant.first
+      c.in-Some.ensures (rw c.items-items.ensures at c.index-items-next.is)
+      c.loop-place.invariant.first
       c.in_ok-add_found-in-Some.ensures.held
       (Lasting-exact (LastsUpTo c.args.longest) (FoundHolds c.compose.result)
       (Composed (ZoneHolds c.index-items-next.result) (ZoneHolds c.args.zone.now))

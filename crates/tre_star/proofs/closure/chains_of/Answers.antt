@@ -24,7 +24,8 @@ loop-place-init c =
     at c.in_ok-add_before.ensures.held)
     (instants_short c.args.longest c.args.from c.args.to)
 
-pub add_before-requires-in-loop-place-clause-reached : goal.add_before-requires-in-loop-place-clause-reached
+pub add_before-requires-in-loop-place-clause-reached
+    : goal.add_before-requires-in-loop-place-clause-reached
 add_before-requires-in-loop-place-clause-reached c =
     AreCanonical-behind (instants_of c.args.from c.args.to) c.loop-place.reached
     c.loop-place.invariant.set

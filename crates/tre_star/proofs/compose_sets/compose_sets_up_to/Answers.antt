@@ -15,4 +15,5 @@ returns c =
     (rw (c.zones-2.ensures.same, c.zones-3.ensures.same) at c.in_ok-found-2.ensures)
 
 pub compose_by_index-requires-clause-seconds : goal.compose_by_index-requires-clause-seconds
-compose_by_index-requires-clause-seconds c = rw c.zones-3.ensures.same c.zones-3.ensures.set.canonical
+compose_by_index-requires-clause-seconds c = rw c.zones-3.ensures.same
+    c.zones-3.ensures.set.canonical

@@ -12,8 +12,10 @@ loop-number-preserved c =
     omega (arith, c.loop-number-test.true, c.loop-number.auto.own) in
     record {
       stretched =
-          stretched_more own number item new within c.args.own.now _ c.loop-number.invariant.stretched c.make_room.ensures.stretched;
+          stretched_more own number item new within c.args.own.now _
+          c.loop-number.invariant.stretched c.make_room.ensures.stretched;
       room =
-          room_more own number item new within c.args.place c.args.valuation c.loop-number.invariant.room
+          room_more own number item new within c.args.place c.args.valuation
+          c.loop-number.invariant.room
           (rw c.bit_of.ensures at c.in_ok-make_room.ensures.ok);
     }

@@ -17,7 +17,8 @@ open-tells g c =
       opened_before =
           on_err_weaker c.result (λ same. ap (λ source. source.opened) same) c.ensures.unchanged;
       left_before = on_err_weaker c.result (λ same.
-          subst (Keeps before.left) (sym (ap (λ source. source.left) same)) (Keeps-refl before.left))
+          subst (Keeps before.left) (sym (ap (λ source. source.left) same))
+          (Keeps-refl before.left))
           c.ensures.unchanged;
       cause = c.ensures.cause;
       never_fails = λ sound _. absurd (false≢true sound);

@@ -21,7 +21,8 @@ returns-clause-beside c =
       own = λ number below.
           rw (with_items_is own new same)
           (AreWordsOf-stretched number c.args.segments.now _ _
-          (rw (← c.widen.ensures.same number, ← c.deref_mut.ensures.value) at (beside.own number below))
+          (rw (← c.widen.ensures.same number, ← c.deref_mut.ensures.value) at
+          (beside.own number below))
           (c.make_room.ensures.stretched number));
     }
 

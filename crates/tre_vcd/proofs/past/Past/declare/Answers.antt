@@ -33,7 +33,8 @@ returns c = λ past tokens known before declares.
             signals =
                 let place = w.in-Some.place in
                 let named =
-                named-at names bytes place w.in-Some.ensures.list.distinct w.in-Some.ensures.place in
+                named-at names bytes place w.in-Some.ensures.list.distinct
+                w.in-Some.ensures.place in
                 let at : w.from-place.result ≡ place = w.from-place.ensures in
                 let old = w.index_mut.result.now in
                 let below : w.from-place.result < length kept.signals.items =
@@ -71,5 +72,6 @@ returns c = λ past tokens known before declares.
       | in_default w ↦
           subst (λ now. Knows names now (var tokens ∷ past)) (sym w.self-is)
           (knows-other names kept past tokens
-          (λ k below. other (get_or names k []) (named-none names bytes w.in_default.ensures.place k below)) filled)
+          (λ k below. other (get_or names k []) (named-none names bytes w.in_default.ensures.place k
+          below)) filled)
     ]
