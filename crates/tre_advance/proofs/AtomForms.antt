@@ -26,7 +26,8 @@ pub inside_agrees : (piece : Piece) (tree : PatternTree) (inside : List ZoneBoun
     → HoldExactly inside (MatchesRest tree (rest_of_piece piece))
     → Agree (Held inside) (MatchesRest tree (alone piece))
 inside_agrees piece tree inside held =
-    set_agrees (set_exact inside (MatchesRest tree (alone piece)) (IsOrdered-rest tree (alone piece))
+    set_agrees (set_exact inside (MatchesRest tree (alone piece))
+    (IsOrdered-rest tree (alone piece))
     held)
 
 module _ (piece : Piece) (here begun inside told : List ZoneBounds) where

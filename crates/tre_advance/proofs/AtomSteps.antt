@@ -91,7 +91,8 @@ module _ (piece : Piece) (here begun : List ZoneBounds) (x : Atom) (ends : EndAt
     here_part = joined_composed piece.begin here (MatchesRest (atom x) (alone piece)) ends
         (Scales-rest (atom x) (alone piece))
 
-    pub brief_tells : IsBrief x → begun ≡ [] → Agree Told (Marked (alone piece) (atom_mark here begun) (atom x))
+    pub brief_tells : IsBrief x → begun ≡ [] → Agree Told
+        (Marked (alone piece) (atom_mark here begun) (atom x))
     brief_tells brief none = record {
       at = λ a b n some.
           let X = MatchesRest (atom x) (alone piece) in
@@ -194,7 +195,8 @@ module _ (piece : Piece) (here begun enter here' : List ZoneBounds) (x : Atom)
               ((cut_of piece segments (atom x)).late.at m (k * b) (k * n) finer from y.right);
         }))) h.related
 
-  brief_leaves : (segments : List Segment) → Agree (Marked (behind piece segments) (atom_mark here' []) (atom x))
+  brief_leaves : (segments : List Segment) → Agree (Marked (behind piece segments)
+      (atom_mark here' []) (atom x))
       (Crossing T' (Going (over piece segments) (atom_mark here begun) (atom x) (Held enter)))
   brief_leaves segments = record {
     at = λ a b n some. (brief_to segments a b n some, brief_from segments a b n some);
@@ -409,7 +411,8 @@ two_marks : (rest : Rest) (x : Atom) (here begun one two three four : List ZoneB
     → Agree (Held here) (Either (Held one) (Held three))
     → Agree (Held begun) (Either (Held two) (Held four))
     → Agree (Marked rest (atom_mark here begun) (atom x))
-    (Either (Marked rest (atom_mark three four) (atom x)) (Marked rest (atom_mark one two) (atom x)))
+    (Either (Marked rest (atom_mark three four) (atom x))
+    (Marked rest (atom_mark one two) (atom x)))
 two_marks rest x here begun one two three four heres beguns = record {
   at = λ a b n some.
       let f = heres.at a (rest.start * n) n some in

@@ -45,7 +45,8 @@ sequence_enters_to piece one other one' other' left right enter first second bet
     enters_of piece (sequence left right) second (sequence_mark one' other')
     (sequence_mark one other) enter
     (sequence_beside piece one other one' other' left right enter first second between
-    (of_enters piece left first one' one enter f) (of_enters piece right second other' other first g))
+    (of_enters piece left first one' one enter f) (of_enters piece right second other' other first
+    g))
 
 pub alternation_steps_to : (piece : Piece) (one other one' other' : MarkTree)
     (left right : PatternTree) (first second told : List ZoneBounds)
@@ -70,7 +71,8 @@ alternation_enters_to piece one other one' other' left right enter first second 
     enters_of piece (alternation left right) told (alternation_mark one' other')
     (alternation_mark one other) enter
     (alternation_beside piece one other one' other' left right enter first second told
-    (of_enters piece left first one' one enter f) (of_enters piece right second other' other enter g)
+    (of_enters piece left first one' one enter f) (of_enters piece right second other' other enter
+    g)
     (set_agrees union))
 
 -- Where nothing enters, nothing is told, and the mark stays.
@@ -123,7 +125,8 @@ again_set piece tree ended here starts told union set =
     set_of (agree_then (set_agrees set)
     (agree_composed (set_agrees union) (agree_refl (MatchesRest (repetition tree) (alone piece)))))
 
-pub repetition_steps_to : (piece : Piece) (here : List ZoneBounds) (body body' body'' rest : MarkTree)
+pub repetition_steps_to : (piece : Piece) (here : List ZoneBounds)
+    (body body' body'' rest : MarkTree)
     (tree : PatternTree) (ended told told' none : List ZoneBounds)
     → EndAt piece.begin here → StepsTo body tree piece ended body'
     → IsSetOf told (Followed (Either (Held ended) (Held here)) (repetition tree) (alone piece))
@@ -134,7 +137,8 @@ repetition_steps_to piece here body body' body'' rest tree ended told told' none
     kept =
     let T' = end_of_piece piece in
     let inner = of_steps piece tree ended body' body f in
-    let alike : Agree (Either (Held ended) (Held here)) (Started piece here body tree ends (alone piece)) =
+    let alike : Agree (Either (Held ended) (Held here))
+    (Started piece here body tree ends (alone piece)) =
     record {
       at = λ a b n some.
           let same = inner.tells.at a b n some in (
@@ -151,7 +155,8 @@ repetition_steps_to piece here body body' body'' rest tree ended told told' none
         (λ h. inl h),
       );
     }) (set_agrees kept.ends)) in
-    subst (λ (mark : MarkTree). StepsTo (repetition_mark here body) (repetition tree) piece told mark)
+    subst (λ (mark : MarkTree). StepsTo (repetition_mark here body) (repetition tree) piece told
+    mark)
     (sym kept.shape)
     (steps_of piece (repetition tree) told (repetition_mark kept.here body'')
     (repetition_mark here body)

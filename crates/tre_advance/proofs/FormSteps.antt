@@ -30,7 +30,8 @@ module _ (piece : Piece) (right : PatternTree) (segments : List Segment) (G F : 
       (Crossing (end_of_piece piece) (Composed F (MatchesRest right (over piece segments)))))
   cross_second =
       let W = over piece segments in
-      cross_followed (end_of_piece piece) G F (MatchesRest right W) (MatchesRest right (alone piece))
+      cross_followed (end_of_piece piece) G F (MatchesRest right W)
+      (MatchesRest right (alone piece))
       (MatchesRest right (behind piece segments)) front (cut_of piece segments right)
       (IsOrdered-rest right W)
 
@@ -40,7 +41,8 @@ pub sequence_inner : (piece : Piece) (one other one' other' other'' : MarkTree)
     → Inner piece right (λ r. Marked r other right) second other'
     → Beside piece right other' (Followed (Held first) right) third other''
     → Agree (Held told) (Either (Held second) (Held third))
-    → Inner piece (sequence left right) (λ r. Marked r (sequence_mark one other) (sequence left right))
+    → Inner piece (sequence left right) (λ r. Marked r (sequence_mark one other)
+    (sequence left right))
     told (sequence_mark one' other'')
 sequence_inner piece one other one' other' other'' left right first second third told f g e union =
     let T' = end_of_piece piece in

@@ -196,7 +196,8 @@ module _ (piece : Piece) (left right : PatternTree) (from to : ℕ)
           (λ x. subst (λ (mark : MarkTree). Agree (Marked V' mark (intersection left right))
           (Either (Marked V' old_rest (intersection left right)) Part')) (sym x)
           (agree_then (join_both V' left right
-          (intersection_one from to outer rest rest' intersection_none) (end_of_piece piece) old_rest
+          (intersection_one from to outer rest rest' intersection_none) (end_of_piece piece)
+          old_rest
           old_well.well)
           (agree_either (agree_refl (Marked V' old_rest (intersection left right)))
           (record {
@@ -209,12 +210,14 @@ module _ (piece : Piece) (left right : PatternTree) (from to : ℕ)
 
     keeps_both_well : IsWell (end_of_piece piece) new_rest (intersection left right)
     keeps_both_well = ⊎_elim
-        (λ x. subst (λ (mark : MarkTree). IsWell (end_of_piece piece) mark (intersection left right))
+        (λ x. subst (λ (mark : MarkTree). IsWell (end_of_piece piece) mark
+        (intersection left right))
         (sym x)
         (join_both_well (end_of_piece piece) left right
         (intersection_one from to outer rest rest' intersection_none)
         (entered, inner.well.well, inner'.well.well, tt) old_rest old_well.well))
-        (λ x. subst (λ (mark : MarkTree). IsWell (end_of_piece piece) mark (intersection left right))
+        (λ x. subst (λ (mark : MarkTree). IsWell (end_of_piece piece) mark
+        (intersection left right))
         (sym x.0) old_well.well)
         kept.keeps
 
@@ -228,7 +231,8 @@ module _ (piece : Piece) (left right : PatternTree) (from to : ℕ)
         let V = behind piece segments in
         agree_then (keeps_both segments)
         (agree_either (agree_refl (Marked V old_rest (intersection left right)))
-        (cross_outer piece outer (Both (N W) (N' W)) (Both (Marked V rest left) (Marked V rest' right))
+        (cross_outer piece outer (Both (N W) (N' W)) (Both (Marked V rest left)
+        (Marked V rest' right))
         (λ a b n some h.
         let end = entered.ends.end a b n some h in
         let later = mul-le-mul_right n entered.past in

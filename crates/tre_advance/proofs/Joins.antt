@@ -188,7 +188,8 @@ module _ (time : ℕ) (tree : PatternTree) (none : MarkTree) (listed : IsListed 
   -- Those before one instance of the list, and that instance.
   pub well_parts : (list : List Instance) (i : ℕ) (x : Instance) → i < length list
       → x ≡ get_or list i x → IsWell time (list_before list none) tree
-      → IsWell time (list_before (take i list) none) tree × IsWell time (instance_before x none) tree
+      → IsWell time (list_before (take i list) none) tree
+      × IsWell time (instance_before x none) tree
   well_parts list i x within is well =
       let whole : list_before list none
       ≡ list_before (take (i + 1) list) (list_before (drop (i + 1) list) none) =

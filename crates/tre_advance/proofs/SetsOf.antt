@@ -105,9 +105,14 @@ set_held set zones held = record {
 }
 
 -- One of the two has no pair.
-pub either_left : (one other : List ZoneBounds) → other ≡ [] → IsSetOf one (Either (Held one) (Held other))
+pub either_left : (one other : List ZoneBounds) → other ≡ []
+    → IsSetOf one (Either (Held one) (Held other))
 either_left one other empty = record {
-  pairs = λ a b n some. ((λ h. inl h), (λ h. ⊎_elim (λ x. x) (λ x. absurd (no_pair other empty a b n x)) h));
+  pairs = λ a b n some. (
+    (λ h. inl h),
+    (λ h. ⊎_elim (λ x. x)
+        (λ x. absurd (no_pair other empty a b n x)) h),
+  );
 }
 
 pub either_right : (zones one other : List ZoneBounds) → one ≡ [] → zones ≡ other

@@ -1,5 +1,5 @@
 -- A mark that is well has the form of its expression.
-use Rattle.std.proofs.Common.{◌≡◌, ℕ, List, Box, Global, refl}
+use Rattle.std.proofs.Common.{◌≡◌, ◌⊎◌, ⊎_elim, ℕ, List, Box, Global, refl}
 use Rattle.tre_syntax.specs.PatternTree.{PatternTree, atom, sequence, alternation, intersection, repetition, restriction}
 use Rattle.tre_zone.specs.Interval.{IntervalEnds}
 use Rattle.tre_zone.specs.declared.zone_bounds.ZoneBounds.{ZoneBounds}
@@ -8,6 +8,7 @@ use Rattle.tre_mark.specs.declared.mark.Instances.{Instances, Instances', Row_of
 use Rattle.tre_mark.specs.declared.mark.Mark.{Mark, Atom, Seq, Seq', Alt, Alt', Star, Star', Meet, Within}
 use Rattle.tre_mark.specs.MarkTree.{MarkTree, intersection_none, restriction_none, mark_of, row_before, instances_before}
 use Rattle.tre_mark.specs.Marked.{IsWell}
+use Rattle.tre_advance.specs.Moves.{IsBriefTree, IsLiteralTree}
 
 -- The expression has no instances.
 abbrev IsPlain : PatternTree → Type 0
@@ -63,6 +64,17 @@ module _ (time : ℕ) where
       plain_instances time (atom x) tt instances intersection_none (λ h. h) well
   shape_atom (Within instances) x well never =
       plain_instances time (atom x) tt instances restriction_none (λ h. h) well
+
+  -- The mark of an atom, which lasts no time or is a literal, is an atom's.
+  pub shape_atomic : (mark : Mark) (tree : PatternTree) → IsBriefTree tree ⊎ IsLiteralTree tree
+      → IsWell time (mark_of mark) tree
+      → ((here begun : _) → mark ≡ Atom here begun → ⊥) → ⊥
+  shape_atomic mark (atom x) either well never = shape_atom mark x well never
+  shape_atomic mark (sequence f g) either well never = ⊎_elim (λ x. x) (λ x. x) either
+  shape_atomic mark (alternation f g) either well never = ⊎_elim (λ x. x) (λ x. x) either
+  shape_atomic mark (intersection f g) either well never = ⊎_elim (λ x. x) (λ x. x) either
+  shape_atomic mark (repetition f) either well never = ⊎_elim (λ x. x) (λ x. x) either
+  shape_atomic mark (restriction f ends) either well never = ⊎_elim (λ x. x) (λ x. x) either
 
   pub shape_sequence : (mark : Mark) (left right : PatternTree)
       → IsWell time (mark_of mark) (sequence left right)

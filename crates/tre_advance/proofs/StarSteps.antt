@@ -370,7 +370,8 @@ module _ (piece : Piece) (here : List ZoneBounds) (body : MarkTree) (tree : Patt
 
   marked_repetition : (segments : List Segment)
       → Agree (Marked (over piece segments) (repetition_mark here body) (repetition tree))
-      (Composed (Started (over piece segments)) (MatchesRest (repetition tree) (over piece segments)))
+      (Composed (Started (over piece segments)) (MatchesRest (repetition tree)
+      (over piece segments)))
   marked_repetition segments =
       let W = over piece segments in
       let M = Marked W body tree in
@@ -386,7 +387,8 @@ module _ (piece : Piece) (here : List ZoneBounds) (body : MarkTree) (tree : Patt
               (λ h. ⊎_elim (λ x. d.1 (inr (e.1 (inl (s.0 x))))) (λ x. d.1 (inl x)) h),
               (λ h. ⊎_elim (λ x. inr x)
                   (λ x. ⊎_elim (λ y. inl (s.1 y))
-                  (λ y. absurd (Held-empty (y.factor * a) y.midpoint (y.factor * n) y.left)) (e.0 x))
+                  (λ y. absurd (Held-empty (y.factor * a) y.midpoint (y.factor * n) y.left))
+                  (e.0 x))
                   (d.0 h)),
             );
       }
@@ -398,7 +400,8 @@ module _ (piece : Piece) (here : List ZoneBounds) (body : MarkTree) (tree : Patt
       → Agree (Held steps) (MatchesRest tree (alone piece))
       → Agree (Held told) (Composed (Held starts)
       (Chain (Held steps) (IsInstantBetween piece.begin (end_of_piece piece))))
-      → Agree (Held told) (Composed (Started (alone piece)) (MatchesRest (repetition tree) (alone piece)))
+      → Agree (Held told) (Composed (Started (alone piece))
+      (MatchesRest (repetition tree) (alone piece)))
   step_tells ended starts steps told one two three four =
       repetition_tells piece here [] body tree ends none_enters starts steps told
       (agree_then two (agree_either one (record {
@@ -409,7 +412,8 @@ module _ (piece : Piece) (here : List ZoneBounds) (body : MarkTree) (tree : Patt
       }))) three four
 
   pub repetition_inner : (told ended told' here' : List ZoneBounds) (body' body'' : MarkTree)
-      → Agree (Held told) (Composed (Started (alone piece)) (MatchesRest (repetition tree) (alone piece)))
+      → Agree (Held told) (Composed (Started (alone piece))
+      (MatchesRest (repetition tree) (alone piece)))
       → Agree (Held here') (Both (Held told) (EndsAt (end_of_piece piece)))
       → Inner piece tree (λ r. Marked r body tree) ended body'
       → Beside piece tree body' (Followed (Held told) tree) told' body''

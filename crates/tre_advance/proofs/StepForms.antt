@@ -66,7 +66,8 @@ module _ (piece : Piece) (tree : PatternTree) (interval : IntervalEnds) (x : Ins
       new_told new_rest
   lasting_goes_on well last steps inner kept =
       let one = mark_of x.left.value in
-      let shape = lasting_right piece.begin x.right x.from x.to x.outer one tree interval last.well in
+      let shape = lasting_right piece.begin x.right x.from x.to x.outer one tree interval
+      last.well in
       subst (λ (m : MarkTree). StepsTo (join is m) (restriction tree interval) piece new_told
       new_rest) (sym shape)
       (lasting_more piece tree interval x.from x.to x.outer old_told told new_told is one old_rest

@@ -1,13 +1,13 @@
 // The step of a mark over a piece in which nothing enters.
-ghost use Rattle.std.specs.Prelude.{◌≡◌, ◌≤◌, IfOk};
+ghost use Rattle.std.specs.Prelude.{◌≡◌, ◌≤◌, ◌⊎◌, IfOk};
 ghost use Rattle.tre_state.specs.declared.names.TheConstants.{NAMES_MAX};
 ghost use Rattle.tre_syntax.specs.Expr.{tree_of};
-ghost use Rattle.tre_syntax.specs.PatternTree.{PatternTree, NumbersBelow, intersection, restriction};
+ghost use Rattle.tre_syntax.specs.PatternTree.{PatternTree, NumbersBelow, sequence, alternation, intersection, repetition, restriction};
 ghost use Rattle.tre_zone.specs.Interval.{IntervalEnds};
 ghost use Rattle.tre_mark.specs.MarkTree.{MarkTree, mark_of, intersection_none, intersection_one, restriction_none, instance_before, instances_before};
 ghost use Rattle.tre_mark.specs.Marked.{IsWellAt};
 ghost use Rattle.tre_advance.specs.Instances.{join};
-ghost use Rattle.tre_advance.specs.Moves.{StepsTo};
+ghost use Rattle.tre_advance.specs.Moves.{StepsTo, IsBriefTree, IsLiteralTree};
 
 use crate::atoms::{step_brief, step_literal};
 use crate::enter::enter;
@@ -24,6 +24,7 @@ use tre_zoneset::ZoneSet;
 /// What the mark tells over the piece, and the mark that it leaves there.
 ///
 /// It goes as deep as the expression does.
+#[cycle(step)]
 pub fn step(alloc: Global, mark: &Mark, expr: &Expr, piece: &Piece) -> Result<Advanced, AllocError>
     requires numbers { NumbersBelow NAMES_MAX (tree_of expr.now) }
     requires well { IsWellAt piece.now.begin (mark_of mark.now) (tree_of expr.now) }
@@ -31,95 +32,192 @@ pub fn step(alloc: Global, mark: &Mark, expr: &Expr, piece: &Piece) -> Result<Ad
         StepsTo (mark_of mark.now) (tree_of expr.now) piece.now r.told (mark_of r.rest)) }
 {
     match expr {
-        Expr::Eps => match mark {
-            Mark::Atom { here, .. } => step_brief(alloc, here, expr, piece),
-            _ => unreachable!(),
+        Expr::Eps | Expr::Lit(_) | Expr::Rise(_) | Expr::Fall(_) => {
+            step_atom(alloc, mark, expr, piece)
+        }
+        Expr::Seq(left, right) => step_sequence(alloc, mark, left, right, piece),
+        Expr::Alt(left, right) => step_alternation(alloc, mark, left, right, piece),
+        Expr::Star(body) => step_repetition(alloc, mark, body, piece),
+        Expr::Meet(left, right) => step_intersection(alloc, mark, left, right, piece),
+        Expr::Within(body, interval) => step_restriction(alloc, mark, body, interval, piece),
+    }
+}
+
+#[cycle(step)]
+fn step_sequence(
+    alloc: Global,
+    mark: &Mark,
+    left: &Expr,
+    right: &Expr,
+    piece: &Piece,
+) -> Result<Advanced, AllocError>
+    requires numbers { NumbersBelow NAMES_MAX (sequence (tree_of left.now) (tree_of right.now)) }
+    requires well { IsWellAt piece.now.begin (mark_of mark.now)
+        (sequence (tree_of left.now) (tree_of right.now)) }
+    ensures { IfOk result (λ r. StepsTo (mark_of mark.now)
+        (sequence (tree_of left.now) (tree_of right.now)) piece.now r.told (mark_of r.rest)) }
+{
+    match mark {
+        Mark::Seq(one, other) => {
+            let first = step(alloc, one, left, piece)?;
+            let second = step(alloc, other, right, piece)?;
+            let third = enter(alloc, second.rest, right, &first.told, piece)?;
+            step_in_turn(alloc, first, second.told, third)
+        }
+        _ => unreachable!(),
+    }
+}
+
+#[cycle(step)]
+fn step_alternation(
+    alloc: Global,
+    mark: &Mark,
+    left: &Expr,
+    right: &Expr,
+    piece: &Piece,
+) -> Result<Advanced, AllocError>
+    requires numbers { NumbersBelow NAMES_MAX
+        (alternation (tree_of left.now) (tree_of right.now)) }
+    requires well { IsWellAt piece.now.begin (mark_of mark.now)
+        (alternation (tree_of left.now) (tree_of right.now)) }
+    ensures { IfOk result (λ r. StepsTo (mark_of mark.now)
+        (alternation (tree_of left.now) (tree_of right.now)) piece.now r.told (mark_of r.rest)) }
+{
+    match mark {
+        Mark::Alt(one, other) => {
+            let first = step(alloc, one, left, piece)?;
+            let second = step(alloc, other, right, piece)?;
+            either(alloc, first, second)
+        }
+        _ => unreachable!(),
+    }
+}
+
+#[cycle(step)]
+fn step_repetition(
+    alloc: Global,
+    mark: &Mark,
+    body: &Expr,
+    piece: &Piece,
+) -> Result<Advanced, AllocError>
+    requires numbers { NumbersBelow NAMES_MAX (repetition (tree_of body.now)) }
+    requires well { IsWellAt piece.now.begin (mark_of mark.now) (repetition (tree_of body.now)) }
+    ensures { IfOk result (λ r. StepsTo (mark_of mark.now) (repetition (tree_of body.now))
+        piece.now r.told (mark_of r.rest)) }
+{
+    match mark {
+        Mark::Star { here, body: inner } => {
+            let next = step(alloc, inner, body, piece)?;
+            let told = tell_again(alloc, next.told, here, body, piece)?;
+            let entered = enter(alloc, next.rest, body, &told, piece)?;
+            leave_again(alloc, ZoneSet::new(alloc), told, entered.rest, piece)
+        }
+        _ => unreachable!(),
+    }
+}
+
+#[cycle(step)]
+fn step_intersection(
+    alloc: Global,
+    mark: &Mark,
+    left: &Expr,
+    right: &Expr,
+    piece: &Piece,
+) -> Result<Advanced, AllocError>
+    requires numbers { NumbersBelow NAMES_MAX
+        (intersection (tree_of left.now) (tree_of right.now)) }
+    requires well { IsWellAt piece.now.begin (mark_of mark.now)
+        (intersection (tree_of left.now) (tree_of right.now)) }
+    ensures { IfOk result (λ r. StepsTo (mark_of mark.now)
+        (intersection (tree_of left.now) (tree_of right.now)) piece.now r.told
+        (mark_of r.rest)) }
+{
+    let instances = instances_of_both(mark, left, right, piece);
+    let mut kept = nothing_kept(alloc);
+    for instance in instances.items() {
+        let one = left_of(instance, left, right, piece);
+        let other = right_of(instance, left, right, piece);
+        let first = step(alloc, one, left, piece)?;
+        let second = step(alloc, other, right, piece)?;
+        kept = go_on_both(alloc, kept, instance, first, second)?;
+    }
+    let told = united(alloc, kept.told)?;
+    Ok(Advanced {
+        told,
+        rest: Mark::Meet(kept.rest),
+    })
+}
+
+#[cycle(step)]
+fn step_restriction(
+    alloc: Global,
+    mark: &Mark,
+    body: &Expr,
+    interval: &Interval,
+    piece: &Piece,
+) -> Result<Advanced, AllocError>
+    requires numbers { NumbersBelow NAMES_MAX (restriction (tree_of body.now) interval.now) }
+    requires well { IsWellAt piece.now.begin (mark_of mark.now)
+        (restriction (tree_of body.now) interval.now) }
+    ensures { IfOk result (λ r. StepsTo (mark_of mark.now)
+        (restriction (tree_of body.now) interval.now) piece.now r.told (mark_of r.rest)) }
+{
+    let instances = instances_of_lasting(mark, body, interval, piece);
+    let mut kept = nothing_kept(alloc);
+    for instance in instances.items() {
+        let inner = body_of(instance, body, interval, piece);
+        let next = step(alloc, inner, body, piece)?;
+        kept = go_on_lasting(alloc, kept, instance, next, interval, piece)?;
+    }
+    let told = united(alloc, kept.told)?;
+    Ok(Advanced {
+        told,
+        rest: Mark::Within(kept.rest),
+    })
+}
+
+fn step_atom(alloc: Global, mark: &Mark, expr: &Expr, piece: &Piece) -> Result<Advanced, AllocError>
+    requires numbers { NumbersBelow NAMES_MAX (tree_of expr.now) }
+    requires atom { IsBriefTree (tree_of expr.now) ⊎ IsLiteralTree (tree_of expr.now) }
+    requires well { IsWellAt piece.now.begin (mark_of mark.now) (tree_of expr.now) }
+    ensures { IfOk result (λ r.
+        StepsTo (mark_of mark.now) (tree_of expr.now) piece.now r.told (mark_of r.rest)) }
+{
+    match mark {
+        Mark::Atom { here, begun } => match expr {
+            Expr::Lit(_) => step_literal(alloc, here, begun, expr, piece),
+            _ => step_brief(alloc, here, expr, piece),
         },
-        Expr::Lit(_) => match mark {
-            Mark::Atom { here, begun } => step_literal(alloc, here, begun, expr, piece),
-            _ => unreachable!(),
-        },
-        Expr::Rise(_) => match mark {
-            Mark::Atom { here, .. } => step_brief(alloc, here, expr, piece),
-            _ => unreachable!(),
-        },
-        Expr::Fall(_) => match mark {
-            Mark::Atom { here, .. } => step_brief(alloc, here, expr, piece),
-            _ => unreachable!(),
-        },
-        Expr::Seq(left, right) => match mark {
-            Mark::Seq(one, other) => {
-                let left: &Expr = left;
-                let right: &Expr = right;
-                let one: &Mark = one;
-                let other: &Mark = other;
-                let first = step(alloc, one, left, piece)?;
-                let second = step(alloc, other, right, piece)?;
-                let third = enter(alloc, second.rest, right, &first.told, piece)?;
-                step_in_turn(alloc, first, second.told, third)
-            }
-            _ => unreachable!(),
-        },
-        Expr::Alt(left, right) => match mark {
-            Mark::Alt(one, other) => {
-                let left: &Expr = left;
-                let right: &Expr = right;
-                let one: &Mark = one;
-                let other: &Mark = other;
-                let first = step(alloc, one, left, piece)?;
-                let second = step(alloc, other, right, piece)?;
-                either(alloc, first, second)
-            }
-            _ => unreachable!(),
-        },
-        Expr::Star(body) => match mark {
-            Mark::Star { here, body: inner } => {
-                let body: &Expr = body;
-                let inner: &Mark = inner;
-                let next = step(alloc, inner, body, piece)?;
-                let told = tell_again(alloc, next.told, here, body, piece)?;
-                let entered = enter(alloc, next.rest, body, &told, piece)?;
-                leave_again(alloc, ZoneSet::new(alloc), told, entered.rest, piece)
-            }
-            _ => unreachable!(),
-        },
-        Expr::Meet(left, right) => match mark {
-            Mark::Meet(instances) => {
-                let left: &Expr = left;
-                let right: &Expr = right;
-                let mut kept = nothing_kept(alloc);
-                for instance in instances.items() {
-                    let one = left_of(instance, left, right, piece);
-                    let other = right_of(instance, left, right, piece);
-                    let first = step(alloc, one, left, piece)?;
-                    let second = step(alloc, other, right, piece)?;
-                    kept = go_on_both(alloc, kept, instance, first, second)?;
-                }
-                let told = united(alloc, kept.told)?;
-                Ok(Advanced {
-                    told,
-                    rest: Mark::Meet(kept.rest),
-                })
-            }
-            _ => unreachable!(),
-        },
-        Expr::Within(body, interval) => match mark {
-            Mark::Within(instances) => {
-                let body: &Expr = body;
-                let mut kept = nothing_kept(alloc);
-                for instance in instances.items() {
-                    let inner = body_of(instance, body, interval, piece);
-                    let next = step(alloc, inner, body, piece)?;
-                    kept = go_on_lasting(alloc, kept, instance, next, interval, piece)?;
-                }
-                let told = united(alloc, kept.told)?;
-                Ok(Advanced {
-                    told,
-                    rest: Mark::Within(kept.rest),
-                })
-            }
-            _ => unreachable!(),
-        },
+        _ => unreachable!(),
+    }
+}
+
+// The instances of an intersection.
+fn instances_of_both<'a>(mark: &'a Mark, left: &Expr, right: &Expr, piece: &Piece) -> &'a Instances
+    requires { IsWellAt piece.now.begin (mark_of mark.now)
+        (intersection (tree_of left.now) (tree_of right.now)) }
+    ensures { mark_of mark.now ≡ instances_before result.now intersection_none }
+{
+    match mark {
+        Mark::Meet(instances) => instances,
+        _ => unreachable!(),
+    }
+}
+
+// The instances of a restriction.
+fn instances_of_lasting<'a>(
+    mark: &'a Mark,
+    body: &Expr,
+    interval: &Interval,
+    piece: &Piece,
+) -> &'a Instances
+    requires { IsWellAt piece.now.begin (mark_of mark.now)
+        (restriction (tree_of body.now) interval.now) }
+    ensures { mark_of mark.now ≡ instances_before result.now restriction_none }
+{
+    match mark {
+        Mark::Within(instances) => instances,
+        _ => unreachable!(),
     }
 }
 

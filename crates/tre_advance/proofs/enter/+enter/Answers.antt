@@ -30,7 +30,8 @@ unreachable-requires t c =
 
 pub unreachable-requires-in_default-mark : goal.unreachable-requires-in_default-mark
 unreachable-requires-in_default-mark t c =
-    shape_atom (end_of_piece c.args.piece.now) c.args.mark (literal (states.tree_of c.in-Lit.field-0))
+    shape_atom (end_of_piece c.args.piece.now) c.args.mark
+    (literal (states.tree_of c.in-Lit.field-0))
     (subst (λ (tree : PatternTree). IsWell (end_of_piece c.args.piece.now) (mark_of c.args.mark)
     tree) (ap tree_of c.in-Lit.is) c.requires.well.well) c.in_default-mark.not-Atom
 
@@ -48,13 +49,15 @@ unreachable-requires-in_default-mark-3 t c =
 
 pub unreachable-requires-in_default-mark-4 : goal.unreachable-requires-in_default-mark-4
 unreachable-requires-in_default-mark-4 t c =
-    shape_sequence (end_of_piece c.args.piece.now) c.args.mark (tree_of c.in-Seq.left.value) (tree_of c.in-Seq.right.value)
+    shape_sequence (end_of_piece c.args.piece.now) c.args.mark (tree_of c.in-Seq.left.value)
+    (tree_of c.in-Seq.right.value)
     (subst (λ (tree : PatternTree). IsWell (end_of_piece c.args.piece.now) (mark_of c.args.mark)
     tree) (ap tree_of c.in-Seq.is) c.requires.well.well) c.in_default-mark-4.not-Seq
 
 pub unreachable-requires-in_default-mark-5 : goal.unreachable-requires-in_default-mark-5
 unreachable-requires-in_default-mark-5 t c =
-    shape_alternation (end_of_piece c.args.piece.now) c.args.mark (tree_of c.in-Alt.left.value) (tree_of c.in-Alt.right.value)
+    shape_alternation (end_of_piece c.args.piece.now) c.args.mark (tree_of c.in-Alt.left.value)
+    (tree_of c.in-Alt.right.value)
     (subst (λ (tree : PatternTree). IsWell (end_of_piece c.args.piece.now) (mark_of c.args.mark)
     tree) (ap tree_of c.in-Alt.is) c.requires.well.well) c.in_default-mark-5.not-Alt
 
@@ -66,13 +69,15 @@ unreachable-requires-in_default-mark-6 t c =
 
 pub unreachable-requires-in_default-mark-7 : goal.unreachable-requires-in_default-mark-7
 unreachable-requires-in_default-mark-7 t c =
-    shape_intersection (end_of_piece c.args.piece.now) c.args.mark (tree_of c.in-Meet.left.value) (tree_of c.in-Meet.right.value)
+    shape_intersection (end_of_piece c.args.piece.now) c.args.mark (tree_of c.in-Meet.left.value)
+    (tree_of c.in-Meet.right.value)
     (subst (λ (tree : PatternTree). IsWell (end_of_piece c.args.piece.now) (mark_of c.args.mark)
     tree) (ap tree_of c.in-Meet.is) c.requires.well.well) c.in_default-mark-7.not-Meet
 
 pub unreachable-requires-in_default-mark-8 : goal.unreachable-requires-in_default-mark-8
 unreachable-requires-in_default-mark-8 t c =
-    shape_restriction (end_of_piece c.args.piece.now) c.args.mark (tree_of c.in-Within.body.value) c.in-Within.interval
+    shape_restriction (end_of_piece c.args.piece.now) c.args.mark (tree_of c.in-Within.body.value)
+    c.in-Within.interval
     (subst (λ (tree : PatternTree). IsWell (end_of_piece c.args.piece.now) (mark_of c.args.mark)
     tree) (ap tree_of c.in-Within.is) c.requires.well.well) c.in_default-mark-8.not-Within
 
@@ -145,7 +150,8 @@ returns-in_ok-entered-in-Star-mark t c =
     c.requires.well) in
     let set : IsSetOf told (Followed (Held zones) (repetition tree) (alone piece)) =
     subst (λ (list : List ZoneBounds). IsSetOf told (Followed (Held list) (repetition tree)
-    (alone piece))) c.in_ok-try_clone-in-Star-mark.ensures c.in_ok-told-in-Star-mark.ensures.tells in
+    (alone piece))) c.in_ok-try_clone-in-Star-mark.ensures
+    c.in_ok-told-in-Star-mark.ensures.tells in
     IfOk-weaker c.leave_again.result _ _
     (λ r both. enters_moved piece (repetition_mark old body) (mark_of c.args.mark)
     (repetition tree) (tree_of c.args.expr.now) zones r.told (mark_of r.rest) shape form

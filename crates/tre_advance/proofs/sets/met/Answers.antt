@@ -9,7 +9,8 @@ returns-then-is_empty c =
       | then-is_empty-via-then-is_empty w ↦
           no_pair c.args.one.now (c.is_empty.ensures.0 w.if-is_empty.true) a b n h.left
       | then-is_empty-via-else-is_empty+then-is_empty-2 w ↦
-          no_pair c.args.other.now (w.is_empty-else-is_empty.ensures.0 w.if-is_empty-2.true) a b n h.right
+          no_pair c.args.other.now (w.is_empty-else-is_empty.ensures.0 w.if-is_empty-2.true) a b n
+          h.right
     ])
 
 pub returns : goal.returns

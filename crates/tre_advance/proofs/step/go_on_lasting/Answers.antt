@@ -7,7 +7,8 @@ pub returns : goal.returns
 returns c =
     IfOk-weaker c.keep_lasting.result _ _
     (λ new kept is tree well last steps inner.
-    lasting_goes_on c.args.piece.now tree c.args.interval.now c.args.instance.now c.args.kept.told.items
+    lasting_goes_on c.args.piece.now tree c.args.interval.now c.args.instance.now
+    c.args.kept.told.items
     c.args.next.told new.told.items is (instances_before c.args.kept.rest restriction_none)
     (mark_of c.args.next.rest) (instances_before new.rest restriction_none) well last steps inner
     kept) c.keep_lasting.ensures
