@@ -1,14 +1,14 @@
 // What enters a mark in a piece.
-ghost use Rattle.std.specs.Prelude.{IfOk};
+ghost use Rattle.std.specs.Prelude.{◌⊎◌, IfOk};
 ghost use Rattle.tre_state.specs.declared.names.TheConstants.{NAMES_MAX};
 ghost use Rattle.tre_syntax.specs.Expr.{tree_of};
-ghost use Rattle.tre_syntax.specs.PatternTree.{PatternTree, NumbersBelow, intersection, restriction};
+ghost use Rattle.tre_syntax.specs.PatternTree.{PatternTree, NumbersBelow, sequence, alternation, intersection, repetition, restriction};
 ghost use Rattle.tre_zone.specs.Zone.{IsInstantBetween};
 ghost use Rattle.tre_zone.specs.ZoneList.{HoldExactly};
 ghost use Rattle.tre_mark.specs.MarkTree.{mark_of, intersection_none, restriction_none, instances_before};
 ghost use Rattle.tre_mark.specs.Marked.{EndBetween, IsWellAt, IsUnbegun};
 ghost use Rattle.tre_edges.specs.Piece.{end_of_piece};
-ghost use Rattle.tre_advance.specs.Moves.{EntersTo, Begins};
+ghost use Rattle.tre_advance.specs.Moves.{EntersTo, Begins, IsBriefTree, IsLiteralTree};
 
 use crate::atoms::{enter_brief, enter_literal};
 use crate::instances::{Kept, keep_both, keep_lasting};
@@ -25,6 +25,7 @@ use tre_zoneset::ZoneSet;
 /// Where nothing enters, the mark stays as it is.
 ///
 /// It goes as deep as the expression does.
+#[cycle(enter)]
 pub fn enter(
     alloc: Global,
     mark: Mark,
@@ -45,74 +46,177 @@ pub fn enter(
         });
     }
     match expr {
-        Expr::Eps => match mark {
-            Mark::Atom { here, begun } => enter_brief(alloc, here, begun, expr, zones, piece),
-            _ => unreachable!(),
+        Expr::Eps | Expr::Lit(_) | Expr::Rise(_) | Expr::Fall(_) => {
+            enter_atom(alloc, mark, expr, zones, piece)
+        }
+        Expr::Seq(left, right) => enter_sequence(alloc, mark, left, right, zones, piece),
+        Expr::Alt(left, right) => enter_alternation(alloc, mark, left, right, zones, piece),
+        Expr::Star(body) => enter_repetition(alloc, mark, body, zones, piece),
+        Expr::Meet(left, right) => enter_intersection(alloc, mark, left, right, zones, piece),
+        Expr::Within(body, interval) => {
+            enter_restriction(alloc, mark, body, interval, zones, piece)
+        }
+    }
+}
+
+#[cycle(enter)]
+fn enter_sequence(
+    alloc: Global,
+    mark: Mark,
+    left: &Expr,
+    right: &Expr,
+    zones: &ZoneSet,
+    piece: &Piece,
+) -> Result<Advanced, AllocError>
+    requires numbers { NumbersBelow NAMES_MAX (sequence (tree_of left.now) (tree_of right.now)) }
+    requires well { IsWellAt (end_of_piece piece.now) (mark_of mark)
+        (sequence (tree_of left.now) (tree_of right.now)) }
+    requires enter { EndBetween piece.now.begin (end_of_piece piece.now) zones.now }
+    ensures { IfOk result (λ r. EntersTo (mark_of mark)
+        (sequence (tree_of left.now) (tree_of right.now)) zones.now piece.now r.told
+        (mark_of r.rest)) }
+{
+    match mark {
+        Mark::Seq(one, other) => {
+            let first = enter(alloc, Box::into_inner(one), left, zones, piece)?;
+            let second = enter(alloc, Box::into_inner(other), right, &first.told, piece)?;
+            enter_in_turn(alloc, first, second)
+        }
+        _ => unreachable!(),
+    }
+}
+
+#[cycle(enter)]
+fn enter_alternation(
+    alloc: Global,
+    mark: Mark,
+    left: &Expr,
+    right: &Expr,
+    zones: &ZoneSet,
+    piece: &Piece,
+) -> Result<Advanced, AllocError>
+    requires numbers { NumbersBelow NAMES_MAX (alternation (tree_of left.now) (tree_of right.now)) }
+    requires well { IsWellAt (end_of_piece piece.now) (mark_of mark)
+        (alternation (tree_of left.now) (tree_of right.now)) }
+    requires enter { EndBetween piece.now.begin (end_of_piece piece.now) zones.now }
+    ensures { IfOk result (λ r. EntersTo (mark_of mark)
+        (alternation (tree_of left.now) (tree_of right.now)) zones.now piece.now r.told
+        (mark_of r.rest)) }
+{
+    match mark {
+        Mark::Alt(one, other) => {
+            let first = enter(alloc, Box::into_inner(one), left, zones, piece)?;
+            let second = enter(alloc, Box::into_inner(other), right, zones, piece)?;
+            either(alloc, first, second)
+        }
+        _ => unreachable!(),
+    }
+}
+
+#[cycle(enter)]
+fn enter_repetition(
+    alloc: Global,
+    mark: Mark,
+    body: &Expr,
+    zones: &ZoneSet,
+    piece: &Piece,
+) -> Result<Advanced, AllocError>
+    requires numbers { NumbersBelow NAMES_MAX (repetition (tree_of body.now)) }
+    requires well { IsWellAt (end_of_piece piece.now) (mark_of mark)
+        (repetition (tree_of body.now)) }
+    requires enter { EndBetween piece.now.begin (end_of_piece piece.now) zones.now }
+    ensures { IfOk result (λ r. EntersTo (mark_of mark)
+        (repetition (tree_of body.now)) zones.now piece.now r.told
+        (mark_of r.rest)) }
+{
+    match mark {
+        Mark::Star { here, body: inner } => {
+            let told = repeat(alloc, zones.try_clone()?, body, piece)?;
+            let entered = enter(alloc, Box::into_inner(inner), body, &told, piece)?;
+            leave_again(alloc, here, told, entered.rest, piece)
+        }
+        _ => unreachable!(),
+    }
+}
+
+#[cycle(enter)]
+fn enter_intersection(
+    alloc: Global,
+    mark: Mark,
+    left: &Expr,
+    right: &Expr,
+    zones: &ZoneSet,
+    piece: &Piece,
+) -> Result<Advanced, AllocError>
+    requires numbers { NumbersBelow NAMES_MAX (intersection (tree_of left.now) (tree_of right.now)) }
+    requires well { IsWellAt (end_of_piece piece.now) (mark_of mark)
+        (intersection (tree_of left.now) (tree_of right.now)) }
+    requires enter { EndBetween piece.now.begin (end_of_piece piece.now) zones.now }
+    ensures { IfOk result (λ r. EntersTo (mark_of mark)
+        (intersection (tree_of left.now) (tree_of right.now)) zones.now piece.now r.told
+        (mark_of r.rest)) }
+{
+    match mark {
+        Mark::Meet(instances) => {
+            let all = moments_of(alloc, piece)?;
+            let empty_left = unbegun(alloc, left, piece)?;
+            let one = enter(alloc, empty_left, left, &all, piece)?;
+            let empty_right = unbegun(alloc, right, piece)?;
+            let other = enter(alloc, empty_right, right, &all, piece)?;
+            enter_both(alloc, instances, one, other, zones, piece)
+        }
+        _ => unreachable!(),
+    }
+}
+
+#[cycle(enter)]
+fn enter_restriction(
+    alloc: Global,
+    mark: Mark,
+    body: &Expr,
+    interval: &Interval,
+    zones: &ZoneSet,
+    piece: &Piece,
+) -> Result<Advanced, AllocError>
+    requires numbers { NumbersBelow NAMES_MAX (restriction (tree_of body.now) interval.now) }
+    requires well { IsWellAt (end_of_piece piece.now) (mark_of mark)
+        (restriction (tree_of body.now) interval.now) }
+    requires enter { EndBetween piece.now.begin (end_of_piece piece.now) zones.now }
+    ensures { IfOk result (λ r. EntersTo (mark_of mark)
+        (restriction (tree_of body.now) interval.now) zones.now piece.now r.told
+        (mark_of r.rest)) }
+{
+    match mark {
+        Mark::Within(instances) => {
+            let all = moments_of(alloc, piece)?;
+            let empty = unbegun(alloc, body, piece)?;
+            let begun = enter(alloc, empty, body, &all, piece)?;
+            enter_lasting(alloc, instances, begun, interval, zones, piece)
+        }
+        _ => unreachable!(),
+    }
+}
+
+fn enter_atom(
+    alloc: Global,
+    mark: Mark,
+    expr: &Expr,
+    zones: &ZoneSet,
+    piece: &Piece,
+) -> Result<Advanced, AllocError>
+    requires numbers { NumbersBelow NAMES_MAX (tree_of expr.now) }
+    requires atom { IsBriefTree (tree_of expr.now) ⊎ IsLiteralTree (tree_of expr.now) }
+    requires well { IsWellAt (end_of_piece piece.now) (mark_of mark) (tree_of expr.now) }
+    requires enter { EndBetween piece.now.begin (end_of_piece piece.now) zones.now }
+    ensures { IfOk result (λ r. EntersTo (mark_of mark) (tree_of expr.now) zones.now piece.now
+        r.told (mark_of r.rest)) }
+{
+    match mark {
+        Mark::Atom { here, begun } => match expr {
+            Expr::Lit(_) => enter_literal(alloc, here, begun, expr, zones, piece),
+            _ => enter_brief(alloc, here, begun, expr, zones, piece),
         },
-        Expr::Lit(_) => match mark {
-            Mark::Atom { here, begun } => enter_literal(alloc, here, begun, expr, zones, piece),
-            _ => unreachable!(),
-        },
-        Expr::Rise(_) => match mark {
-            Mark::Atom { here, begun } => enter_brief(alloc, here, begun, expr, zones, piece),
-            _ => unreachable!(),
-        },
-        Expr::Fall(_) => match mark {
-            Mark::Atom { here, begun } => enter_brief(alloc, here, begun, expr, zones, piece),
-            _ => unreachable!(),
-        },
-        Expr::Seq(left, right) => match mark {
-            Mark::Seq(one, other) => {
-                let left: &Expr = left;
-                let right: &Expr = right;
-                let first = enter(alloc, Box::into_inner(one), left, zones, piece)?;
-                let second = enter(alloc, Box::into_inner(other), right, &first.told, piece)?;
-                enter_in_turn(alloc, first, second)
-            }
-            _ => unreachable!(),
-        },
-        Expr::Alt(left, right) => match mark {
-            Mark::Alt(one, other) => {
-                let left: &Expr = left;
-                let right: &Expr = right;
-                let first = enter(alloc, Box::into_inner(one), left, zones, piece)?;
-                let second = enter(alloc, Box::into_inner(other), right, zones, piece)?;
-                either(alloc, first, second)
-            }
-            _ => unreachable!(),
-        },
-        Expr::Star(body) => match mark {
-            Mark::Star { here, body: inner } => {
-                let body: &Expr = body;
-                let told = repeat(alloc, zones.try_clone()?, body, piece)?;
-                let entered = enter(alloc, Box::into_inner(inner), body, &told, piece)?;
-                leave_again(alloc, here, told, entered.rest, piece)
-            }
-            _ => unreachable!(),
-        },
-        Expr::Meet(left, right) => match mark {
-            Mark::Meet(instances) => {
-                let left: &Expr = left;
-                let right: &Expr = right;
-                let all = moments_of(alloc, piece)?;
-                let empty_left = unbegun(alloc, left, piece)?;
-                let one = enter(alloc, empty_left, left, &all, piece)?;
-                let empty_right = unbegun(alloc, right, piece)?;
-                let other = enter(alloc, empty_right, right, &all, piece)?;
-                enter_both(alloc, instances, one, other, zones, piece)
-            }
-            _ => unreachable!(),
-        },
-        Expr::Within(body, interval) => match mark {
-            Mark::Within(instances) => {
-                let body: &Expr = body;
-                let all = moments_of(alloc, piece)?;
-                let empty = unbegun(alloc, body, piece)?;
-                let begun = enter(alloc, empty, body, &all, piece)?;
-                enter_lasting(alloc, instances, begun, interval, zones, piece)
-            }
-            _ => unreachable!(),
-        },
+        _ => unreachable!(),
     }
 }
 
