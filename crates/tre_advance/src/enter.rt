@@ -1,5 +1,5 @@
 // What enters a mark in a piece.
-ghost use Rattle.std.specs.Prelude.{IfOk};
+ghost use Rattle.std.specs.Prelude.{◌≡◌, [], IfOk};
 ghost use Rattle.tre_state.specs.declared.names.TheConstants.{NAMES_MAX};
 ghost use Rattle.tre_syntax.specs.Expr.{tree_of};
 ghost use Rattle.tre_syntax.specs.PatternTree.{PatternTree, NumbersBelow, intersection, restriction};
@@ -144,6 +144,7 @@ fn enter_lasting(
     zones: &ZoneSet,
     piece: &Piece,
 ) -> Result<Advanced, AllocError>
+    requires some { zones.now ≡ [] → ⊥ }
     requires enter { EndBetween piece.now.begin (end_of_piece piece.now) zones.now }
     ensures { IfOk result (λ r. (tree : PatternTree)
         → IsWellAt (end_of_piece piece.now) (instances_before instances restriction_none)
@@ -174,6 +175,7 @@ fn enter_both(
     zones: &ZoneSet,
     piece: &Piece,
 ) -> Result<Advanced, AllocError>
+    requires some { zones.now ≡ [] → ⊥ }
     requires enter { EndBetween piece.now.begin (end_of_piece piece.now) zones.now }
     ensures { IfOk result (λ r. (left right : PatternTree)
         → IsWellAt (end_of_piece piece.now) (instances_before instances intersection_none)
