@@ -18,7 +18,7 @@ use Rattle.tre_advance.specs.Moves.{StepsTo, EntersTo, KeepsHere}
 use Rattle.tre_advance.specs.Sets.{IsSetOf}
 use Rattle.tre_advance.proofs.AtomForms.{inside_agrees}
 use Rattle.tre_advance.proofs.FormSteps.{sequence_inner, sequence_beside, alternation_inner, alternation_beside}
-use Rattle.tre_advance.proofs.Going.{alone, begin_end}
+use Rattle.tre_advance.proofs.Going.{alone}
 use Rattle.tre_advance.proofs.SetsOf.{set_agrees, set_of, no_pair}
 use Rattle.tre_advance.proofs.StarSteps.{Started, enter_tells, repetition_inner, repetition_beside}
 use Rattle.tre_advance.proofs.Steps.{Followed, steps_of, of_steps, enters_of, of_enters, followed_between}

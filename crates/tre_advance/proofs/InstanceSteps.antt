@@ -1,5 +1,5 @@
 -- The steps of intersections and restrictions, instance by instance.
-use Rattle.std.proofs.Common.{ℕ, ◌+◌, ◌-◌, ◌*◌, ◌<◌, ◌≤◌, ◌⊎◌, List, [], Option, None, Some, Bool, true, false, MatchOption, MatchBool, inl, inr, ⊎_elim, subst, sym, arith}
+use Rattle.std.proofs.Common.{◌≡◌, ℕ, ◌+◌, ◌-◌, ◌*◌, ◌<◌, ◌≤◌, ◌⊎◌, List, [], Option, None, Some, Bool, true, false, MatchOption, MatchBool, inl, inr, ⊎_elim, subst, sym, arith}
 use Rattle.std.proofs.Math.Nat.{mul-pos, mul-le-mul_right}
 use Rattle.std.proofs.lemmas.Bool.{cases_lt}
 use Rattle.tre_pairs.specs.Cuts.{Crossing}
@@ -18,9 +18,10 @@ use Rattle.tre_zone.specs.Interval.{IntervalEnds, LastsWithin}
 use Rattle.tre_zone.specs.declared.zone_bounds.ZoneBounds.{ZoneBounds}
 use Rattle.tre_edges.specs.declared.piece.Piece.{Piece}
 use Rattle.tre_mark.specs.MarkTree.{MarkTree, intersection_none, intersection_one, restriction_none, restriction_one}
-use Rattle.tre_mark.specs.Marked.{Marked, EndBetween, IsEntered, IsWell, IsWellAt, IsNothing}
+use Rattle.tre_mark.specs.Marked.{Marked, EndBetween, IsBare, IsEntered, IsWell, IsWellAt}
 use Rattle.tre_mark.proofs.Agreeing.{agree_refl, agree_sym, agree_then, agree_composed, agree_either}
 use Rattle.tre_mark.proofs.Meanings.{around_present}
+use Rattle.tre_mark.proofs.Starts.{bare_nothing}
 use Rattle.tre_edges.specs.Piece.{end_of_piece}
 use Rattle.tre_advance.specs.Moves.{StepsTo, EntersTo, Begins}
 use Rattle.tre_advance.specs.Instances.{join, IsPast, KeepsLasting, KeepsBoth}
@@ -93,13 +94,13 @@ module _ (piece : Piece) (tree : PatternTree) (interval : IntervalEnds) (from to
     abbrev Part : Pairs
     Part = Composed (Held outer) (Lasting (LastsWithin interval) (Marked V rest tree))
 
-    nothing_left : IsNothing rest ⊎ IsPast to interval T' → (a b n : ℕ) → 0 < n → Part a b n → ⊥
+    nothing_left : IsBare rest ⊎ IsPast to interval T' → (a b n : ℕ) → 0 < n → Part a b n → ⊥
     nothing_left why a b n some h =
         let k = h.factor in
         let m = h.midpoint in
         let finer : 0 < k * n = mul-pos h.positive some in
         ⊎_elim
-        (λ x. x.never tree V m (k * b) (k * n) h.right.related)
+        (λ x. (bare_nothing rest x).never tree V m (k * b) (k * n) h.right.related)
         (λ past.
         let end = entered.ends.end (k * a) m (k * n) finer h.left in
         let around = around_present V rest tree m (k * b) (k * n) h.right.related in
@@ -128,7 +129,7 @@ module _ (piece : Piece) (tree : PatternTree) (interval : IntervalEnds) (from to
   keeps_well = ⊎_elim
       (λ x. subst (λ (mark : MarkTree). IsWell T' mark (restriction tree interval)) (sym x.0)
       (join_lasting_well T' tree interval (restriction_one from to outer rest restriction_none)
-      (entered, reach_of interval.high to T' x.1, inner.well.well, tt) old_rest
+      (entered, reach_of interval.high to T' x.1, inner.well.well, tt, x.2) old_rest
       old_well.well))
       (λ x. subst (λ (mark : MarkTree). IsWell T' mark (restriction tree interval)) (sym x.0)
       old_well.well)
@@ -185,16 +186,18 @@ module _ (piece : Piece) (left right : PatternTree) (from to : ℕ)
       abbrev Part' : Pairs
       Part' = Composed (Held outer) (Both (Marked V' rest left) (Marked V' rest' right))
 
-      nothing_both : IsNothing rest ⊎ IsNothing rest' → (a b n : ℕ) → 0 < n → Part' a b n → ⊥
+      nothing_both : IsBare rest ⊎ IsBare rest' → (a b n : ℕ) → 0 < n → Part' a b n → ⊥
       nothing_both why a b n some h = ⊎_elim
-          (λ x. x.never left V' h.midpoint (h.factor * b) (h.factor * n) h.right.left)
-          (λ x. x.never right V' h.midpoint (h.factor * b) (h.factor * n) h.right.right) why
+          (λ x. (bare_nothing rest x).never left V' h.midpoint (h.factor * b) (h.factor * n)
+          h.right.left)
+          (λ x. (bare_nothing rest' x).never right V' h.midpoint (h.factor * b) (h.factor * n)
+          h.right.right) why
 
       keeps_both : Agree (Marked V' new_rest (intersection left right))
           (Either (Marked V' old_rest (intersection left right)) Part')
       keeps_both = ⊎_elim
           (λ x. subst (λ (mark : MarkTree). Agree (Marked V' mark (intersection left right))
-          (Either (Marked V' old_rest (intersection left right)) Part')) (sym x)
+          (Either (Marked V' old_rest (intersection left right)) Part')) (sym x.0)
           (agree_then (join_both V' left right
           (intersection_one from to outer rest rest' intersection_none) (end_of_piece piece)
           old_rest
@@ -212,10 +215,10 @@ module _ (piece : Piece) (left right : PatternTree) (from to : ℕ)
     keeps_both_well = ⊎_elim
         (λ x. subst (λ (mark : MarkTree). IsWell (end_of_piece piece) mark
         (intersection left right))
-        (sym x)
+        (sym x.0)
         (join_both_well (end_of_piece piece) left right
         (intersection_one from to outer rest rest' intersection_none)
-        (entered, inner.well.well, inner'.well.well, tt) old_rest old_well.well))
+        (entered, inner.well.well, inner'.well.well, tt, x.1, x.2) old_rest old_well.well))
         (λ x. subst (λ (mark : MarkTree). IsWell (end_of_piece piece) mark
         (intersection left right))
         (sym x.0) old_well.well)
@@ -266,6 +269,7 @@ module _ (piece : Piece) (tree : PatternTree) (interval : IntervalEnds) (from to
     new_told new_rest) where
   here_entered : IsEntered (end_of_piece piece) from to outer
   here_entered = record {
+    some = last.well.0.some;
     rising = last.well.0.rising;
     past = let past = last.well.0.past in omega (arith, past);
     ends = last.well.0.ends;
@@ -325,6 +329,7 @@ module _ (piece : Piece) (left right : PatternTree) (from to : ℕ)
   where
     both_entered : IsEntered (end_of_piece piece) from to outer
     both_entered = record {
+      some = last.well.0.some;
       rising = last.well.0.rising;
       past = let past = last.well.0.past in omega (arith, past);
       ends = last.well.0.ends;
@@ -379,8 +384,9 @@ module _ (piece : Piece) (left right : PatternTree) (from to : ℕ)
 -- What enters in a piece ends from its begin to its end.
 now_entered : (piece : Piece) (enter : List ZoneBounds)
     → EndBetween piece.begin (end_of_piece piece) enter
-    → IsEntered (end_of_piece piece) piece.begin (end_of_piece piece) enter
-now_entered piece enter between = record {
+    → (enter ≡ [] → ⊥) → IsEntered (end_of_piece piece) piece.begin (end_of_piece piece) enter
+now_entered piece enter between filled = record {
+  some = filled;
   rising = omega arith;
   past = omega arith;
   ends = between;
@@ -398,7 +404,7 @@ told_alone told R same = agree_then same (record {
 
 module _ (piece : Piece) (tree : PatternTree) (interval : IntervalEnds)
     (enter told new_told : List ZoneBounds) (old_rest rest new_rest : MarkTree)
-    (between : EndBetween piece.begin (end_of_piece piece) enter)
+    (between : EndBetween piece.begin (end_of_piece piece) enter) (filled : enter ≡ [] → ⊥)
     (old_well : IsWellAt (end_of_piece piece) old_rest (restriction tree interval))
     (begins : Begins tree piece told rest)
     (kept : KeepsLasting interval (end_of_piece piece) [] old_rest piece.begin
@@ -407,7 +413,7 @@ module _ (piece : Piece) (tree : PatternTree) (interval : IntervalEnds)
   lasting_enters =
       let N : Rest → Pairs = MatchesRest tree in
       let part = of_begins piece tree told rest begins in
-      let entered = now_entered piece enter between in
+      let entered = now_entered piece enter between filled in
       enters_of piece (restriction tree interval) new_told new_rest old_rest enter
       (record {
         tells = told_alone new_told (Followed (Held enter) (restriction tree interval)
@@ -422,7 +428,7 @@ module _ (piece : Piece) (tree : PatternTree) (interval : IntervalEnds)
 
 module _ (piece : Piece) (left right : PatternTree)
     (enter told told' new_told : List ZoneBounds) (old_rest rest rest' new_rest : MarkTree)
-    (between : EndBetween piece.begin (end_of_piece piece) enter)
+    (between : EndBetween piece.begin (end_of_piece piece) enter) (filled : enter ≡ [] → ⊥)
     (old_well : IsWellAt (end_of_piece piece) old_rest (intersection left right))
     (begins : Begins left piece told rest) (begins' : Begins right piece told' rest')
     (kept : KeepsBoth [] old_rest piece.begin (end_of_piece piece) enter told told' rest rest'
@@ -433,7 +439,7 @@ module _ (piece : Piece) (left right : PatternTree)
       let N' : Rest → Pairs = MatchesRest right in
       let part = of_begins piece left told rest begins in
       let part' = of_begins piece right told' rest' begins' in
-      let entered = now_entered piece enter between in
+      let entered = now_entered piece enter between filled in
       enters_of piece (intersection left right) new_told new_rest old_rest enter
       (record {
         tells = told_alone new_told (Followed (Held enter) (intersection left right) (alone piece))

@@ -81,7 +81,7 @@ module _ (time : ℕ) (tree : PatternTree) (ends : IntervalEnds) (end : MarkTree
       → IsWell time (join is end) (restriction tree ends)
   join_lasting_well restriction_none well = last
   join_lasting_well (restriction_one from to outer one others) well =
-      (well.0, well.1, well.2, join_lasting_well others well.3)
+      (well.0, well.1, well.2, join_lasting_well others well.3, well.4)
   join_lasting_well (atom_mark here begun) well = absurd well
   join_lasting_well (sequence_mark one other) well = absurd well
   join_lasting_well (alternation_mark one other) well = absurd well
@@ -122,7 +122,7 @@ module _ (time : ℕ) (left right : PatternTree) (end : MarkTree)
       → IsWell time (join is end) (intersection left right)
   join_both_well intersection_none well = last
   join_both_well (intersection_one from to outer one other others) well =
-      (well.0, well.1, well.2, join_both_well others well.3)
+      (well.0, well.1, well.2, join_both_well others well.3, well.4, well.5)
   join_both_well (atom_mark here begun) well = absurd well
   join_both_well (sequence_mark one other) well = absurd well
   join_both_well (alternation_mark one other) well = absurd well
@@ -153,7 +153,7 @@ first_lasting : (time : ℕ) (tree : PatternTree) (ends : IntervalEnds)
     → IsWell time others' (restriction tree ends)
     → IsWell time (behind right from to outer left others') (restriction tree ends))
 first_lasting time tree ends None from to outer left others well =
-    (well.3, λ others' last. (well.0, well.1, well.2, last))
+    (well.3, λ others' last. (well.0, well.1, well.2, last, well.4))
 first_lasting time tree ends (Some right) from to outer left others well = absurd well
 
 first_both : (time : ℕ) (left right : PatternTree)
@@ -165,7 +165,7 @@ first_both : (time : ℕ) (left right : PatternTree)
     → IsWell time (behind other from to outer one others') (intersection left right))
 first_both time left right None from to outer one others well = absurd well
 first_both time left right (Some other) from to outer one others well =
-    (well.3, λ others' last. (well.0, well.1, well.2, last))
+    (well.3, λ others' last. (well.0, well.1, well.2, last, well.4, well.5))
 
 pub listed_lasting : (time : ℕ) (tree : PatternTree) (ends : IntervalEnds)
     → IsListed time (restriction tree ends) restriction_none

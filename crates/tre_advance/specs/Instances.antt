@@ -5,7 +5,7 @@ use Rattle.tre_residual.specs.Residual.{Held}
 use Rattle.tre_zone.specs.Interval.{IntervalEnds, LastsWithin}
 use Rattle.tre_zone.specs.declared.zone_bounds.ZoneBounds.{ZoneBounds}
 use Rattle.tre_mark.specs.MarkTree.{MarkTree, atom_mark, sequence_mark, alternation_mark, repetition_mark, intersection_none, intersection_one, restriction_none, restriction_one}
-use Rattle.tre_mark.specs.Marked.{IsNothing}
+use Rattle.tre_mark.specs.Marked.{IsBare}
 use Rattle.tre_advance.specs.Sets.{IsSetOf}
 
 -- The instances of the one, and then those of the other.
@@ -33,8 +33,8 @@ pub record KeepsLasting (interval : IntervalEnds) (time : ℕ) (old_told : List 
   pub tells : IsSetOf new_told
       (Either (Held old_told) (Composed (Held outer) (Lasting (LastsWithin interval) (Held told))))
   pub keeps : ((new_rest ≡ join old_rest (restriction_one from to outer rest restriction_none))
-      × (IsPast to interval time → ⊥))
-      ⊎ ((new_rest ≡ old_rest) × (IsNothing rest ⊎ IsPast to interval time))
+      × (IsPast to interval time → ⊥) × (IsBare rest → ⊥))
+      ⊎ ((new_rest ≡ old_rest) × (IsBare rest ⊎ IsPast to interval time))
 
 -- Another instance of an intersection told what both its marks did, and was kept unless nothing is
 -- left of one of them.
@@ -44,5 +44,6 @@ pub record KeepsBoth (old_told : List ZoneBounds) (old_rest : MarkTree) (from to
   pub tells : IsSetOf new_told
       (Either (Held old_told) (Composed (Held outer) (Both (Held told) (Held told'))))
   pub keeps :
-      (new_rest ≡ join old_rest (intersection_one from to outer rest rest' intersection_none))
-      ⊎ ((new_rest ≡ old_rest) × (IsNothing rest ⊎ IsNothing rest'))
+      ((new_rest ≡ join old_rest (intersection_one from to outer rest rest' intersection_none))
+      × (IsBare rest → ⊥) × (IsBare rest' → ⊥))
+      ⊎ ((new_rest ≡ old_rest) × (IsBare rest ⊎ IsBare rest'))

@@ -1,5 +1,5 @@
 // What enters a mark in a piece.
-ghost use Rattle.std.specs.Prelude.{◌⊎◌, IfOk};
+ghost use Rattle.std.specs.Prelude.{◌≡◌, ◌⊎◌, [], IfOk};
 ghost use Rattle.tre_state.specs.declared.names.TheConstants.{NAMES_MAX};
 ghost use Rattle.tre_syntax.specs.Expr.{tree_of};
 ghost use Rattle.tre_syntax.specs.PatternTree.{PatternTree, NumbersBelow, sequence, alternation, intersection, repetition, restriction};
@@ -151,6 +151,7 @@ fn enter_intersection(
     requires numbers { NumbersBelow NAMES_MAX (intersection (tree_of left.now) (tree_of right.now)) }
     requires well { IsWellAt (end_of_piece piece.now) (mark_of mark)
         (intersection (tree_of left.now) (tree_of right.now)) }
+    requires some { zones.now ≡ [] → ⊥ }
     requires enter { EndBetween piece.now.begin (end_of_piece piece.now) zones.now }
     ensures { IfOk result (λ r. EntersTo (mark_of mark)
         (intersection (tree_of left.now) (tree_of right.now)) zones.now piece.now r.told
@@ -181,6 +182,7 @@ fn enter_restriction(
     requires numbers { NumbersBelow NAMES_MAX (restriction (tree_of body.now) interval.now) }
     requires well { IsWellAt (end_of_piece piece.now) (mark_of mark)
         (restriction (tree_of body.now) interval.now) }
+    requires some { zones.now ≡ [] → ⊥ }
     requires enter { EndBetween piece.now.begin (end_of_piece piece.now) zones.now }
     ensures { IfOk result (λ r. EntersTo (mark_of mark)
         (restriction (tree_of body.now) interval.now) zones.now piece.now r.told
@@ -248,6 +250,7 @@ fn enter_lasting(
     zones: &ZoneSet,
     piece: &Piece,
 ) -> Result<Advanced, AllocError>
+    requires some { zones.now ≡ [] → ⊥ }
     requires enter { EndBetween piece.now.begin (end_of_piece piece.now) zones.now }
     ensures { IfOk result (λ r. (tree : PatternTree)
         → IsWellAt (end_of_piece piece.now) (instances_before instances restriction_none)
@@ -278,6 +281,7 @@ fn enter_both(
     zones: &ZoneSet,
     piece: &Piece,
 ) -> Result<Advanced, AllocError>
+    requires some { zones.now ≡ [] → ⊥ }
     requires enter { EndBetween piece.now.begin (end_of_piece piece.now) zones.now }
     ensures { IfOk result (λ r. (left right : PatternTree)
         → IsWellAt (end_of_piece piece.now) (instances_before instances intersection_none)

@@ -1,9 +1,14 @@
 -- The instances of a mark are those of its list.
-use Rattle.std.proofs.Common.{◌≡◌, ℕ, ◌+◌, ◌<◌, length, get_or, take, List, [], ◌∷◌, ◌++◌, refl, ap, sym, ◌∙◌, Vec, Global}
-use Rattle.std.proofs.lemmas.List.{take_more}
+use Rattle.std.proofs.Common.{◌≡◌, ◌↔◌, ℕ, ◌+◌, ◌<◌, length, get_or, take, List, [], ◌∷◌, ◌++◌, Option, None, Some, Box, Bool, IsTrue, refl, ap, sym, subst, ◌∙◌, Vec, Global}
+use Rattle.std.proofs.lemmas.Bool.{eq-eqb, eqb-true}
+use Rattle.std.proofs.lemmas.List.{take_more, nil_from_length}
+use Rattle.std.specs.Bool.{◌==◌}
 use Rattle.tre_mark.specs.declared.mark.Instance.{Instance, None', Some'}
 use Rattle.tre_mark.specs.declared.mark.Instances.{Instances, Instances', Row_of-Instance, end_of-Instance, more_of-Instance, items-the_row-Instance, out-Instances, roll-Instances, out-roll-Instances, items_shown-the_row-Instance-0, outs-Instances'}
-use Rattle.tre_mark.specs.MarkTree.{MarkTree, intersection_one, restriction_one, mark_of, row_before, instances_before, instance_before, list_before}
+use Rattle.tre_mark.specs.declared.mark.Mark.{Mark}
+use Rattle.tre_mark.specs.MarkTree.{MarkTree, intersection_one, restriction_one, mark_of, row_before, instances_before, instance_before, list_before, behind}
+use Rattle.tre_mark.specs.Marked.{IsBare}
+use Rattle.tre_zone.specs.declared.zone_bounds.ZoneBounds.{ZoneBounds}
 
 row_list : {m : _} (row : Row_of-Instance m) (end : MarkTree)
     → row_before row end ≡ list_before (items-the_row-Instance m row) end
@@ -39,3 +44,29 @@ pub list_more : (list : List Instance) (i : ℕ) (instance : Instance) → i < l
 list_more list i instance within is end =
     let last = list_append (take i list) instance end in
     rw (take_more list i instance within, ← is) last
+
+-- ---- nothing is left where the list is empty
+
+bare_behind : (right : Option (Box Mark Global)) (from to : ℕ) (outer : List ZoneBounds)
+    (left others : MarkTree) → IsBare (behind right from to outer left others) → ⊥
+bare_behind None from to outer left others bare = bare
+bare_behind (Some right) from to outer left others bare = bare
+
+bare_none : (list : List Instance) (end : MarkTree) → IsBare (list_before list end) → list ≡ []
+bare_none [] end bare = refl
+bare_none (x ∷ list) end bare =
+    absurd (bare_behind x.right x.from x.to x.outer (mark_of x.left.value) (list_before list end)
+    bare)
+
+pub bare_instances : (instances : Instances) (list : List Instance) (end mark : MarkTree)
+    (result : Bool) → IsBare end → mark ≡ instances_before instances end
+    → list_before list end ≡ instances_before instances end → result ≡ (length list == 0)
+    → IsTrue result ↔ IsBare mark
+bare_instances instances list end mark result bare is same test =
+    let whole : mark ≡ list_before list end = is ∙ sym same in (
+      (λ h. subst (λ (m : MarkTree). IsBare m)
+          (sym (whole ∙ ap (λ xs. list_before xs end)
+          (nil_from_length list (eqb-true (length list) 0 (sym test ∙ h))))) bare),
+      (λ h. test ∙ eq-eqb (length list) 0
+          (ap length (bare_none list end (subst (λ (m : MarkTree). IsBare m) whole h)))),
+    )

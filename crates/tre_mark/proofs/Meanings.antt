@@ -91,7 +91,11 @@ module _ (rest : Rest) where
       (Scales-Lasting (LastsWithin ends) (Marked rest one tree) (DurationScales-LastsWithin ends)
       (Scales-Marked one tree)))
       (Scales-Marked others (restriction tree ends))
-  Scales-Marked mark tree = record { up = λ k a b n pos h. absurd h; down = λ k a b n pos h. absurd h }
+  Scales-Marked mark tree = record {
+    up = λ k a b n pos h. absurd h;
+    down =
+        λ k a b n pos h. absurd h;
+  }
 
   -- The pair begins up to the present and ends then or later.
   abbrev Around : ℕ → ℕ → ℕ → Type 0

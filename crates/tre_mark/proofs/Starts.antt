@@ -1,5 +1,5 @@
 -- Marks of which nothing has begun, and marks that start.
-use Rattle.std.proofs.Common.{◌≡◌, ℕ, ◌*◌, ◌≤◌, ◌<◌, List, [], Option, None, Some, MatchOption, ◌+◌, subst, refl, sym, inl, inr, ⊎_elim, arith}
+use Rattle.std.proofs.Common.{◌≡◌, ◌∙◌, ℕ, ◌*◌, ◌≤◌, ◌<◌, List, [], Option, None, Some, MatchOption, ◌+◌, ap, subst, refl, sym, inl, inr, ⊎_elim, arith}
 use Rattle.std.proofs.Math.Nat.{mul-pos}
 use Rattle.tre_pairs.specs.Cuts.{JoinedAt}
 use Rattle.tre_pairs.specs.Pairs.{Pairs, Composed, Both, Lasting}
@@ -15,10 +15,11 @@ use Rattle.tre_syntax.proofs.MeaningLaws.{DurationScales-LastsWithin}
 use Rattle.tre_trace.specs.declared.segment.Segment.{Segment}
 use Rattle.tre_zone.specs.Interval.{IntervalEnds, LastsWithin}
 use Rattle.tre_zone.specs.Zone.{IsInstantBetween}
-use Rattle.tre_zone.specs.ZoneList.{HoldExactly}
+use Rattle.tre_zone.specs.ZoneList.{SetHolds, HoldExactly}
+use Rattle.tre_zone.proofs.ZoneListLemmas.{SetHolds-empty}
 use Rattle.tre_zone.specs.declared.zone_bounds.ZoneBounds.{ZoneBounds}
 use Rattle.tre_mark.specs.MarkTree.{MarkTree, atom_mark, sequence_mark, alternation_mark, repetition_mark, intersection_none, intersection_one, restriction_none, restriction_one}
-use Rattle.tre_mark.specs.Marked.{Marked, IsBegun, IsNothing, IsUnbegun, IsStart, IsEntered, IsInReach}
+use Rattle.tre_mark.specs.Marked.{Marked, IsBare, IsBegun, IsNothing, IsUnbegun, IsStart, IsEntered, IsInReach}
 use Rattle.tre_mark.proofs.Agreeing.{agree_refl, agree_sym, agree_then, agree_composed, agree_assoc, joined_composed}
 
 pub end_at_none : (time : ℕ) → EndAt time []
@@ -67,8 +68,29 @@ module _ (body : MarkTree) (inner : IsNothing body) where
   pub nothing_repetition : IsNothing (repetition_mark [] body)
   nothing_repetition = record { never = never_repetition }
 
+pub nothing_intersection : IsNothing intersection_none
+nothing_intersection = record { never = λ tree rest a b n h. h }
+
 pub nothing_restriction : IsNothing restriction_none
 nothing_restriction = record { never = λ tree rest a b n h. h }
+
+pub bare_nothing : (mark : MarkTree) → IsBare mark → IsNothing mark
+bare_nothing (atom_mark here begun) bare =
+    subst (λ (mark : MarkTree). IsNothing mark)
+    (sym (ap (λ list. atom_mark list begun) bare.0 ∙ ap (λ list. atom_mark [] list) bare.1))
+    nothing_atom
+bare_nothing (sequence_mark one other) bare =
+    nothing_sequence one other (bare_nothing one bare.0) (bare_nothing other bare.1)
+bare_nothing (alternation_mark one other) bare =
+    nothing_alternation one other (bare_nothing one bare.0) (bare_nothing other bare.1)
+bare_nothing (repetition_mark here body) bare =
+    subst (λ (mark : MarkTree). IsNothing mark)
+    (sym (ap (λ list. repetition_mark list body) bare.0))
+    (nothing_repetition body (bare_nothing body bare.1))
+bare_nothing intersection_none bare = nothing_intersection
+bare_nothing (intersection_one from to outer one other others) bare = absurd bare
+bare_nothing restriction_none bare = nothing_restriction
+bare_nothing (restriction_one from to outer one others) bare = absurd bare
 
 begun_none : (time : ℕ) (x : Atom) → IsBegun time [] x
 begun_none time empty = refl
@@ -113,6 +135,7 @@ module _ (time : ℕ) (zones : List ZoneBounds) (ends : EndAt time zones) where
       (λ h. inl h),
     );
     well = record { well = (ends, begun_none time x) };
+    some = λ filled bare. filled bare.0;
   }
 
   pub start_sequence : (one other : MarkTree) (left right : PatternTree)
@@ -138,6 +161,7 @@ module _ (time : ℕ) (zones : List ZoneBounds) (ends : EndAt time zones) where
           (λ h. inl (both.1 h)),
         );
     well = record { well = (first.well.well, (second.well time).well) };
+    some = λ filled bare. first.some filled bare.0;
   }
 
   pub start_alternation : (one other : MarkTree) (left right : PatternTree)
@@ -155,6 +179,7 @@ module _ (time : ℕ) (zones : List ZoneBounds) (ends : EndAt time zones) where
               (λ x. inr (g.1 (record { left = h.left; right = x }))) h.right),
         );
     well = record { well = (first.well.well, second.well.well) };
+    some = λ filled bare. first.some filled bare.0;
   }
 
   pub start_repetition : (body : MarkTree) (tree : PatternTree) → IsUnbegun body tree
@@ -168,10 +193,12 @@ module _ (time : ℕ) (zones : List ZoneBounds) (ends : EndAt time zones) where
           (λ h. inl h),
         );
     well = record { well = (ends, (inner.well time).well) };
+    some = λ filled bare. filled bare.0;
   }
 
-  entered_now : IsEntered time time time zones
-  entered_now = record {
+  entered_now : (zones ≡ [] → ⊥) → IsEntered time time time zones
+  entered_now filled = record {
+    some = filled;
     rising = omega arith;
     past = omega arith;
     ends = record {
@@ -210,6 +237,19 @@ module _ (time : ℕ) (zones : List ZoneBounds) (ends : EndAt time zones) where
         })
         (agree_sym (joined_composed time zones R ends r))
 
+-- Where there is no pair, what has not begun is what starts.
+pub start_nothing : (time : ℕ) (zones : List ZoneBounds) (mark : MarkTree) (tree : PatternTree)
+    → zones ≡ [] → IsUnbegun mark tree → IsStart time zones mark tree
+start_nothing time zones mark tree none unbegun = record {
+  pairs = λ before segments a b n some. (
+    (λ h. absurd (unbegun.nothing.never tree (rest_of time before segments) a b n h)),
+    (λ h. absurd (Held-empty a (time * n) n
+        (subst (λ (list : List ZoneBounds). Held list a (time * n) n) none h.left))),
+  );
+  well = unbegun.well time;
+  some = λ filled bare. filled none;
+}
+
 in_reach_of : (time : ℕ) (high : Option ℕ)
     → MatchOption high (Unit {0}) (λ high. time ≤ time + high)
 in_reach_of time None = tt
@@ -219,7 +259,8 @@ in_reach : (time : ℕ) (interval : IntervalEnds) → IsInReach time time interv
 in_reach time interval = in_reach_of time interval.high
 
 -- A mark that starts at a moment stands there for the matches of what comes.
-module _ (time : ℕ) (moment : List ZoneBounds) (held : HoldExactly moment (IsInstantBetween time time))
+module _ (time : ℕ) (moment : List ZoneBounds) (held : HoldExactly moment
+    (IsInstantBetween time time))
     (mark : MarkTree) (tree : PatternTree) (start : IsStart time moment mark tree)
     (before : Option ℕ) (segments : List Segment) where
   pub from_moment : (a b n : ℕ) → 0 < n → Marked (rest_of time before segments) mark tree a b n
@@ -244,8 +285,17 @@ module _ (time : ℕ) (moment : List ZoneBounds) (held : HoldExactly moment (IsI
         right = moved (MatchesRest tree (rest_of time before segments)) is refl refl h;
       })
 
-module _ (time : ℕ) (zones : List ZoneBounds) (ends : EndAt time zones) (moment : List ZoneBounds)
-    (held : HoldExactly moment (IsInstantBetween time time)) where
+-- There is a moment from a time to itself.
+moment_some : (time : ℕ) (moment : List ZoneBounds)
+    → HoldExactly moment (IsInstantBetween time time)
+    → moment ≡ [] → ⊥
+moment_some time moment held none =
+    SetHolds-empty time time 1 (subst (λ (list : List ZoneBounds). SetHolds list time time 1) none
+    ((held.exact time time 1 (omega arith) (omega arith)).1
+    (record { starts = omega arith; same = refl; ends = omega arith })))
+
+module _ (time : ℕ) (zones : List ZoneBounds) (filled : zones ≡ [] → ⊥) (ends : EndAt time zones)
+    (moment : List ZoneBounds) (held : HoldExactly moment (IsInstantBetween time time)) where
   pub start_restriction : (body : MarkTree) (tree : PatternTree) (interval : IntervalEnds)
       → IsStart time moment body tree
       → IsStart time zones (restriction_one time time zones body restriction_none)
@@ -270,8 +320,15 @@ module _ (time : ℕ) (zones : List ZoneBounds) (ends : EndAt time zones) (momen
         })).at a b n some in
         ((λ h. ⊎_elim (λ x. same.0 x) (λ x. absurd x) h), (λ h. inl (same.1 h)));
     well = record {
-      well = (entered_now time zones ends, in_reach time interval, start.well.well, tt);
+      well = (
+        entered_now time zones ends filled,
+        in_reach time interval,
+        start.well.well,
+        tt,
+        start.some (moment_some time moment held),
+      );
     };
+    some = λ filled bare. bare;
   }
 
   pub start_intersection : (one other : MarkTree) (left right : PatternTree)
@@ -298,8 +355,16 @@ module _ (time : ℕ) (zones : List ZoneBounds) (ends : EndAt time zones) (momen
         })).at a b n some in
         ((λ h. ⊎_elim (λ x. same.0 x) (λ x. absurd x) h), (λ h. inl (same.1 h)));
     well = record {
-      well = (entered_now time zones ends, first.well.well, second.well.well, tt);
+      well = (
+        entered_now time zones ends filled,
+        first.well.well,
+        second.well.well,
+        tt,
+        first.some (moment_some time moment held),
+        second.some (moment_some time moment held),
+      );
     };
+    some = λ filled bare. bare;
   }
 
 -- ---- the same under other names

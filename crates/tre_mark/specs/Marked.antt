@@ -46,8 +46,9 @@ pub record EndBetween (low high : ℕ) (zones : List ZoneBounds) : Type 0 where
   pub begin : (a b n : ℕ) → 0 < n → Held zones a b n → low * n ≤ b
   pub end : (a b n : ℕ) → 0 < n → Held zones a b n → b ≤ high * n
 
--- Each pair of the set ends from `from` to `to`, and that is not after the time.
+-- There are pairs in the set, each of which ends from `from` to `to`, and that is not after the time.
 pub record IsEntered (time from to : ℕ) (outer : List ZoneBounds) : Type 0 where
+  pub some : outer ≡ [] → ⊥
   pub rising : from ≤ to
   pub past : to ≤ time
   pub ends : EndBetween from to outer
@@ -63,8 +64,20 @@ IsBegun time begun (literal state) = EndAt time begun
 IsBegun time begun (rise state) = begun ≡ []
 IsBegun time begun (fall state) = begun ≡ []
 
+-- Nothing is left of the mark: each of its sets is empty, and it has no instance.
+abbrev pub IsBare : MarkTree → Type 0
+IsBare (atom_mark here begun) = (here ≡ []) × (begun ≡ [])
+IsBare (sequence_mark one other) = IsBare one × IsBare other
+IsBare (alternation_mark one other) = IsBare one × IsBare other
+IsBare (repetition_mark here body) = (here ≡ []) × IsBare body
+IsBare intersection_none = Unit {0}
+IsBare (intersection_one from to outer one other others) = ⊥
+IsBare restriction_none = Unit {0}
+IsBare (restriction_one from to outer one others) = ⊥
+
 -- The mark has the shape of the expression, each pair that is here or has begun ends at the time,
--- and each instance was entered up to then and is not too old.
+-- and each instance was entered up to then, is not too old, and has something left of each of its
+-- marks.
 abbrev pub IsWell : ℕ → MarkTree → PatternTree → Type 0
 IsWell time (atom_mark here begun) (atom x) = EndAt time here × IsBegun time begun x
 IsWell time (sequence_mark one other) (sequence left right) =
@@ -75,11 +88,11 @@ IsWell time (repetition_mark here body) (repetition tree) = EndAt time here × I
 IsWell time intersection_none (intersection left right) = Unit {0}
 IsWell time (intersection_one from to outer one other others) (intersection left right) =
     IsEntered time from to outer × IsWell time one left × IsWell time other right
-    × IsWell time others (intersection left right)
+    × IsWell time others (intersection left right) × (IsBare one → ⊥) × (IsBare other → ⊥)
 IsWell time restriction_none (restriction tree ends) = Unit {0}
 IsWell time (restriction_one from to outer one others) (restriction tree ends) =
     IsEntered time from to outer × IsInReach time to ends × IsWell time one tree
-    × IsWell time others (restriction tree ends)
+    × IsWell time others (restriction tree ends) × (IsBare one → ⊥)
 IsWell time mark tree = ⊥
 
 -- The mark is one of the expression at the time.
@@ -96,10 +109,11 @@ pub record IsUnbegun (mark : MarkTree) (tree : PatternTree) : Type 0 where
   pub well : (time : ℕ) → IsWellAt time mark tree
 
 -- The mark stands for a pair of the set up to the time, and then a match of what comes, and is well
--- there.
+-- there. Where there are pairs, something is left of it.
 pub record IsStart (time : ℕ) (zones : List ZoneBounds) (mark : MarkTree) (tree : PatternTree)
     : Type 0 where
   pub pairs : (before : Option ℕ) (segments : List Segment) (a b n : ℕ) → 0 < n
       → Marked (rest_of time before segments) mark tree a b n
       ↔ JoinedAt time (Held zones) (MatchesRest tree (rest_of time before segments)) a b n
   pub well : IsWellAt time mark tree
+  pub some : (zones ≡ [] → ⊥) → IsBare mark → ⊥

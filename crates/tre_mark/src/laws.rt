@@ -8,7 +8,7 @@ ghost use Rattle.tre_pairs.specs.Cuts.{Crossing};
 ghost use Rattle.tre_syntax.specs.PatternTree.{PatternTree, node_count};
 ghost use Rattle.tre_syntax.specs.Rest.{Rest};
 ghost use Rattle.tre_mark.specs.MarkTree.{MarkTree};
-ghost use Rattle.tre_mark.specs.Marked.{Marked, IsWellAt};
+ghost use Rattle.tre_mark.specs.Marked.{Marked, IsBare, IsNothing, IsWellAt};
 ghost use Rattle.tre_mark.specs.Nodes.{mark_node_count, form_count, HasNoInstances};
 
 /// A mark means times, and not the numbers that name them.
@@ -21,6 +21,11 @@ pub fn scaling()
 pub fn crossing()
     ensures { (mark : MarkTree) (tree : PatternTree) (rest : Rest) (a b n : ℕ) →
         Marked rest mark tree a b n → Crossing rest.start (Marked rest mark tree) a b n }
+{}
+
+/// Where nothing is left of a mark, it stands for no pair.
+pub fn bare()
+    ensures { (mark : MarkTree) → IsBare mark → IsNothing mark }
 {}
 
 /// Where the expression has neither an intersection nor a restriction, a mark of it that is well

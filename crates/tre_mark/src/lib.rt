@@ -3,8 +3,9 @@
 //! A [`Mark`] at a time stands for the pairs of times of the matches that began up to then and go
 //! on, whatever comes next in the trace. It has one node for each form of the expression, and so
 //! never grows beyond it where the expression has neither `&` nor `%`; of these two it keeps a list
-//! of instances, one for each stretch of time in which they began. [`Mark::start`] is where a match
-//! begins; the layer above advances a mark over a piece of a trace.
+//! of instances, each of one stretch of time in which they began, as long as something is left of
+//! it. [`Mark::start`] is where a match begins; the layer above advances a mark over a piece of a
+//! trace.
 //!
 //! ```
 //! let mark = Mark::start(alloc, expr, &zones, 0)?;

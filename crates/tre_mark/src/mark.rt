@@ -19,7 +19,7 @@ pub enum Mark {
     Alt(Box<Mark>, Box<Mark>),
     /// Of a repetition: the pairs behind which it may go on now, and the mark of what is repeated.
     Star { here: ZoneSet, body: Box<Mark> },
-    /// Of an intersection: one instance for each stretch of time in which it began.
+    /// Of an intersection: its instances, each of one stretch of time in which it began.
     Meet(Instances),
     /// Of a restriction.
     Within(Instances),
@@ -38,7 +38,7 @@ pub struct Instances {
 pub struct Instance {
     pub from: u64,
     pub to: u64,
-    /// The pairs behind which it began. Each ends from `from` to `to`.
+    /// The pairs behind which it began, one at least. Each ends from `from` to `to`.
     pub outer: ZoneSet,
     /// How far it has come: of a restriction what is restricted, of an intersection its left side.
     pub left: Box<Mark>,

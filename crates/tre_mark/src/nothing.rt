@@ -1,13 +1,14 @@
-ghost use Rattle.std.specs.Prelude.{IsTrue};
+ghost use Rattle.std.specs.Prelude.{◌↔◌, IsTrue};
 ghost use Rattle.tre_mark.specs.MarkTree.{mark_of};
-ghost use Rattle.tre_mark.specs.Marked.{IsNothing};
+ghost use Rattle.tre_mark.specs.Marked.{IsBare};
 
 use crate::mark::Mark;
 
 impl Mark {
-    /// Whether the mark is seen to stand for no pair: every set is empty, and no instance is left.
+    /// Whether nothing is left of the mark: every set is empty, and there is no instance. Then it
+    /// stands for no pair.
     pub fn is_nothing(&self) -> bool
-        ensures { IsTrue result → IsNothing (mark_of self.now) }
+        ensures { IsTrue result ↔ IsBare (mark_of self.now) }
     {
         match self {
             Mark::Atom { here, begun } => here.is_empty() && begun.is_empty(),

@@ -15,6 +15,7 @@ use tre_zoneset::ZoneSet;
 
 impl Mark {
     /// The mark of an expression that may begin behind each pair of the set, which ends at `time`.
+    /// Where there is none, nothing has begun.
     ///
     /// It goes as deep as the expression does.
     pub fn start(alloc: Global, expr: &Expr, zones: &ZoneSet, time: u64) -> Result<Mark, AllocError>
@@ -23,6 +24,9 @@ impl Mark {
         ensures { IfOk result (λ mark.
             IsStart time zones.now (mark_of mark) (tree_of expr.now)) }
     {
+        if zones.is_empty() {
+            return Mark::empty(alloc, expr);
+        }
         match expr {
             Expr::Eps => atom_at(alloc, zones),
             Expr::Lit(_) => atom_at(alloc, zones),

@@ -10,7 +10,7 @@ use Rattle.tre_syntax.specs.declared.pattern.Pattern.{Pattern}
 use Rattle.tre_zone.specs.contracts.zone_bounds.ZoneBounds as zone_bounds
 use Rattle.tre_zone.specs.declared.zone_bounds.ZoneBounds.{ZoneBounds}
 use Rattle.tre_mark.specs.MarkTree.{MarkTree, atom_mark, sequence_mark, alternation_mark, repetition_mark, intersection_none, intersection_one, restriction_none, restriction_one, mark_of}
-use Rattle.tre_mark.specs.Marked.{EndBetween, IsEntered, IsBegun, IsWell, IsWellAt}
+use Rattle.tre_mark.specs.Marked.{EndBetween, IsBare, IsEntered, IsBegun, IsWell, IsWellAt}
 use Rattle.tre_mark.specs.declared.mark.Mark.{Mark}
 
 zones_set : IsSet (List ZoneBounds)
@@ -28,11 +28,15 @@ IsProp-EndBetween low high zones x y =
     let end = Π_prop (λ a. Π_prop (λ b. Π_prop (λ n. →_prop (→_prop (le_prop))))) x.end y.end in
     λ i. record { begin = begin i; end = end i }
 
+IsProp-never : (A : Type 0) → IsProp (A → ⊥)
+IsProp-never A = →_prop (λ x. absurd x)
+
 IsProp-IsEntered : (time from to : ℕ) (outer : List ZoneBounds)
     → IsProp (IsEntered time from to outer)
 IsProp-IsEntered time from to outer x y =
     let ends = IsProp-EndBetween from to outer x.ends y.ends in
     λ i. record {
+      some = IsProp-never (outer ≡ []) x.some y.some i;
       rising = le_prop x.rising y.rising i;
       past = le_prop x.past y.past i;
       ends = ends i;
@@ -65,7 +69,9 @@ IsProp-form time (intersection_one from to outer one other others) (intersection
     let first = IsProp-form time one left u.1 v.1 in
     let second = IsProp-form time other right u.2 v.2 in
     let rest = IsProp-form time others (intersection left right) u.3 v.3 in
-    λ i. (entered i, first i, second i, rest i)
+    let one_left = IsProp-never (IsBare one) u.4 v.4 in
+    let other_left = IsProp-never (IsBare other) u.5 v.5 in
+    λ i. (entered i, first i, second i, rest i, one_left i, other_left i)
 IsProp-form time restriction_none (restriction tree ends) = Unit-prop
 IsProp-form time (restriction_one from to outer one others) (restriction tree ends) =
     λ u v.
@@ -73,7 +79,8 @@ IsProp-form time (restriction_one from to outer one others) (restriction tree en
     let reach = IsProp-reach time to ends.high u.1 v.1 in
     let first = IsProp-form time one tree u.2 v.2 in
     let rest = IsProp-form time others (restriction tree ends) u.3 v.3 in
-    λ i. (entered i, reach i, first i, rest i)
+    let one_left = IsProp-never (IsBare one) u.4 v.4 in
+    λ i. (entered i, reach i, first i, rest i, one_left i)
 IsProp-form time mark tree = λ x. absurd x
 
 IsProp-IsWellAt : (time : ℕ) (mark : MarkTree) (tree : PatternTree)

@@ -4,7 +4,7 @@ use Rattle.std.proofs.lemmas.Result.{IfOk-weaker}
 use Rattle.tre_residual.specs.Residual.{Held}
 use Rattle.tre_zone.specs.declared.zone_bounds.ZoneBounds.{ZoneBounds}
 use Rattle.tre_syntax.specs.Expr.{tree_of}
-use Rattle.tre_syntax.specs.PatternTree.{PatternTree, sequence, alternation, intersection, repetition, restriction}
+use Rattle.tre_syntax.specs.PatternTree.{sequence, alternation, intersection, repetition, restriction}
 use Rattle.tre_mark.specs.MarkTree.{MarkTree, mark_of, sequence_mark, alternation_mark, repetition_mark, intersection_none, restriction_none, instances_before}
 use Rattle.tre_mark.specs.Marked.{IsWellAt}
 use Rattle.tre_edges.specs.Piece.{end_of_piece}

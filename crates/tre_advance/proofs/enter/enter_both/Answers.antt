@@ -18,7 +18,8 @@ returns c left right well begins begins' =
     let new = instances_before kept.rest intersection_none in
     enters_united c.in_ok-told.ensures
     (both_enters piece left right zones one.told other.told kept.told.items old
-    (mark_of one.rest) (mark_of other.rest) new c.requires.enter well begins begins'
+    (mark_of one.rest) (mark_of other.rest) new c.requires.enter c.requires.some well begins
+    begins'
     (subst (λ (list : List ZoneBounds). KeepsBoth list old piece.begin (end_of_piece piece) zones
     one.told other.told (mark_of one.rest) (mark_of other.rest) kept.told.items new)
     c.new.ensures.items c.in_ok-kept.ensures))

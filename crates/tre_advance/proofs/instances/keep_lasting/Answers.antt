@@ -12,7 +12,7 @@ returns-then-is_past c = record {
     elim c.then-is_past.branch [
       | then-is_past-via-then-is_past w ↦ inr (c.is_past.ensures.0 w.if-is_past.true)
       | then-is_past-via-else-is_past+then-is_nothing w ↦
-          inl (w.is_nothing.ensures w.if-is_nothing.true)
+          inl (w.is_nothing.ensures.0 w.if-is_nothing.true)
     ],
   );
 }
@@ -22,7 +22,7 @@ returns c = record {
   tells = c.in_ok-told.ensures;
   keeps = inl (
     c.in_ok-rest.ensures,
-    λ past. both_ways c.is_past.result c.if-is_past.false
-        (c.is_past.ensures.1 past),
+    (λ past. both_ways c.is_past.result c.if-is_past.false (c.is_past.ensures.1 past)),
+    (λ bare. both_ways c.is_nothing.result c.if-is_nothing.false (c.is_nothing.ensures.1 bare)),
   );
 }

@@ -5,4 +5,5 @@ use Rattle.tre_mark.proofs.mark.Instances.items.Goals as goal
 
 pub returns : goal.returns
 returns c end =
-    ap (λ list. list_before list end) c.deref.ensures.value ∙ sym (instances_list c.args.self.now end)
+    ap (λ list. list_before list end) c.deref.ensures.value
+    ∙ sym (instances_list c.args.self.now end)

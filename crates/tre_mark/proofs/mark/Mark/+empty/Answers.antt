@@ -16,17 +16,20 @@ returns-in-Eps t c =
 pub returns-in-Lit : goal.returns-in-Lit
 returns-in-Lit t c =
     subst (λ (tree : PatternTree). IsUnbegun (mark_of c.no_atom-in-Lit.result) tree)
-    (sym (ap tree_of c.in-Lit.is)) (c.no_atom-in-Lit.ensures (literal (states.tree_of c.in-Lit.field-0)))
+    (sym (ap tree_of c.in-Lit.is)) (c.no_atom-in-Lit.ensures
+    (literal (states.tree_of c.in-Lit.field-0)))
 
 pub returns-in-Rise : goal.returns-in-Rise
 returns-in-Rise t c =
     subst (λ (tree : PatternTree). IsUnbegun (mark_of c.no_atom-in-Rise.result) tree)
-    (sym (ap tree_of c.in-Rise.is)) (c.no_atom-in-Rise.ensures (rise (states.tree_of c.in-Rise.field-0)))
+    (sym (ap tree_of c.in-Rise.is)) (c.no_atom-in-Rise.ensures
+    (rise (states.tree_of c.in-Rise.field-0)))
 
 pub returns-in-Fall : goal.returns-in-Fall
 returns-in-Fall t c =
     subst (λ (tree : PatternTree). IsUnbegun (mark_of c.no_atom-in-Fall.result) tree)
-    (sym (ap tree_of c.in-Fall.is)) (c.no_atom-in-Fall.ensures (fall (states.tree_of c.in-Fall.field-0)))
+    (sym (ap tree_of c.in-Fall.is)) (c.no_atom-in-Fall.ensures
+    (fall (states.tree_of c.in-Fall.field-0)))
 
 pub returns-in_ok-body-in-Star : goal.returns-in_ok-body-in-Star
 returns-in_ok-body-in-Star t c =

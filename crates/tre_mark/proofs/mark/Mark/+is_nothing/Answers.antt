@@ -1,22 +1,16 @@
-use Rattle.std.proofs.Common.{◌∙◌, ap, refl, sym, subst, []}
-use Rattle.tre_mark.specs.MarkTree.{MarkTree, mark_of, atom_mark, repetition_mark}
-use Rattle.tre_mark.specs.Marked.{IsNothing}
-use Rattle.tre_mark.proofs.Starts.{nothing_atom, nothing_repetition}
+use Rattle.std.proofs.Common.{ap}
+use Rattle.tre_mark.specs.MarkTree.{mark_of, intersection_none, restriction_none}
+use Rattle.tre_mark.proofs.Lists.{bare_instances}
 use Rattle.tre_mark.proofs.mark.Mark.+is_nothing.Goals as goal
 
-pub returns-then-is_empty : goal.returns-then-is_empty
-returns-then-is_empty t c h =
-    subst (λ (mark : MarkTree). IsNothing mark)
-    (sym (ap mark_of c.in-Atom.is
-    ∙ ap (λ here. atom_mark here c.in-Atom.begun) (c.if-is_empty.ensures.0 refl)
-    ∙ ap (λ begun. atom_mark [] begun) (c.is_empty-then-is_empty.ensures.0 h)))
-    nothing_atom
+pub returns-in-Meet : goal.returns-in-Meet
+returns-in-Meet t c =
+    bare_instances c.in-Meet.instances c.items.result.now intersection_none
+    (mark_of c.args.self.now) c.is_empty-in-Meet.result tt (ap mark_of c.in-Meet.is)
+    (c.items.ensures intersection_none) c.is_empty-in-Meet.ensures
 
-pub returns-then-is_empty-2 : goal.returns-then-is_empty-2
-returns-then-is_empty-2 t c h =
-    let body = mark_of c.deref-then-is_empty-2.result.now in
-    subst (λ (mark : MarkTree). IsNothing mark)
-    (sym (ap mark_of c.in-Star.is
-    ∙ ap (λ m. repetition_mark c.in-Star.here (mark_of m)) (sym c.deref-then-is_empty-2.ensures)
-    ∙ ap (λ here. repetition_mark here body) (c.if-is_empty-2.ensures.0 refl)))
-    (nothing_repetition body (c.is_nothing-then-is_empty-2.ensures h))
+pub returns-in-Within : goal.returns-in-Within
+returns-in-Within t c =
+    bare_instances c.in-Within.instances c.items-in-Within.result.now restriction_none
+    (mark_of c.args.self.now) c.is_empty-in-Within.result tt (ap mark_of c.in-Within.is)
+    (c.items-in-Within.ensures restriction_none) c.is_empty-in-Within.ensures

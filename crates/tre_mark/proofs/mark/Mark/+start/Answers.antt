@@ -1,11 +1,17 @@
 -- Each form starts as its parts do.
 use Rattle.std.proofs.Common.{◌≡◌, ◌∙◌, ap, sym}
+use Rattle.std.proofs.lemmas.Bool.{both_ways}
 use Rattle.std.proofs.lemmas.Result.{IfOk-weaker}
 use Rattle.tre_syntax.specs.Expr.{tree_of}
 use Rattle.tre_syntax.specs.PatternTree.{sequence, intersection, repetition, restriction}
 use Rattle.tre_mark.specs.MarkTree.{mark_of, sequence_mark, repetition_mark, intersection_none, intersection_one, restriction_none, restriction_one}
-use Rattle.tre_mark.proofs.Starts.{start_moved, start_sequence, start_repetition, start_intersection, start_restriction}
+use Rattle.tre_mark.proofs.Starts.{start_moved, start_nothing, start_sequence, start_repetition, start_intersection, start_restriction}
 use Rattle.tre_mark.proofs.mark.Mark.+start.Goals as goal
+
+pub returns-then-is_empty : goal.returns-then-is_empty
+returns-then-is_empty t c = IfOk-weaker c.empty.result _ _
+    (λ mark unbegun. start_nothing c.args.time c.args.zones.now (mark_of mark)
+    (tree_of c.args.expr.now) (c.is_empty.ensures.0 c.if-is_empty.true) unbegun) c.empty.ensures
 
 pub returns-in_ok-right-in-Seq : goal.returns-in_ok-right-in-Seq
 returns-in_ok-right-in-Seq t c =
@@ -49,13 +55,16 @@ returns-in_ok-right-in-Meet t c =
     let right = tree_of c.deref-in-Meet-2.result.now in
     let form : tree_of c.args.expr.now ≡ intersection left right =
     ap tree_of c.in-Meet.is
-    ∙ ap (λ e. intersection (tree_of e) (tree_of c.in-Meet.right.value)) (sym c.deref-in-Meet.ensures)
+    ∙ ap (λ e. intersection (tree_of e) (tree_of c.in-Meet.right.value))
+    (sym c.deref-in-Meet.ensures)
     ∙ ap (λ e. intersection left (tree_of e)) (sym c.deref-in-Meet-2.ensures) in
     IfOk-weaker c.both_at.result _ _
     (λ mark is. start_moved time zones
     (intersection_one time time zones one other intersection_none) (mark_of mark)
     (intersection left right) (tree_of c.args.expr.now) is form
-    (start_intersection time zones c.requires.ends c.in_ok-moment-in-Meet.moment
+    (start_intersection time zones
+    (λ none. both_ways c.is_empty.result c.if-is_empty.false (c.is_empty.ensures.1 none))
+    c.requires.ends c.in_ok-moment-in-Meet.moment
     c.in_ok-moment-in-Meet.ensures one other left right c.in_ok-left-in-Meet.ensures
     c.in_ok-right-in-Meet.ensures))
     c.both_at.ensures
@@ -73,6 +82,8 @@ returns-in_ok-body-in-Within t c =
     IfOk-weaker c.lasting_at.result _ _
     (λ mark is. start_moved time zones (restriction_one time time zones body restriction_none)
     (mark_of mark) (restriction tree ends) (tree_of c.args.expr.now) is form
-    (start_restriction time zones c.requires.ends c.in_ok-moment-in-Within.moment
+    (start_restriction time zones
+    (λ none. both_ways c.is_empty.result c.if-is_empty.false (c.is_empty.ensures.1 none))
+    c.requires.ends c.in_ok-moment-in-Within.moment
     c.in_ok-moment-in-Within.ensures body tree ends c.in_ok-body-in-Within.ensures))
     c.lasting_at.ensures
