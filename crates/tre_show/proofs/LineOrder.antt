@@ -1,5 +1,5 @@
 -- The six numbers of a line order it as its three ranges do.
-use Rattle.std.proofs.Common.{◌≡◌, ℕ, ◌*◌, ◌+◌, ◌<◌, ◌≤◌, ◌==◌, ◌⊎◌, true, false, Some, List, [], ◌∷◌, refl, sym, ap, subst, arith, inl, inr, ⊎_elim, ℤ, pos, negsuc, neg_ℤ, ◌≤ℤ◌, nat_abs}
+use Rattle.std.proofs.Common.{◌≡◌, ℕ, ◌*◌, ◌+◌, ◌<◌, ◌≤◌, ◌==◌, ◌⊎◌, true, false, List, [], ◌∷◌, refl, ap, subst, arith, inl, inr, ⊎_elim, ℤ, pos, negsuc, neg_ℤ, ◌≤ℤ◌, nat_abs}
 use Rattle.std.specs.Prelude.{◌<ℤ◌}
 use Rattle.std.specs.Ordering.{int_cmp, ordering_then, MatchOrdering}
 use Rattle.std.specs.declared.cmp.Ordering.{Ordering}
