@@ -148,7 +148,8 @@ fn enter_intersection(
     zones: &ZoneSet,
     piece: &Piece,
 ) -> Result<Advanced, AllocError>
-    requires numbers { NumbersBelow NAMES_MAX (intersection (tree_of left.now) (tree_of right.now)) }
+    requires numbers { NumbersBelow NAMES_MAX
+        (intersection (tree_of left.now) (tree_of right.now)) }
     requires well { IsWellAt (end_of_piece piece.now) (mark_of mark)
         (intersection (tree_of left.now) (tree_of right.now)) }
     requires some { zones.now ≡ [] → ⊥ }
