@@ -2,7 +2,7 @@
 use Rattle.std.proofs.Common.{◌≡◌, ◌∙◌, ap, ℕ, List, Option, Some, None, IfSome, IfNone, true, refl, sym, codes}
 use Rattle.std.specs.Borrow.{Bor}
 use Rattle.std.specs.Prelude.{option_map}
-use Rattle.clap.specs.Words.{first_of, first_value, rows_of, is_simple}
+use Rattle.clap.specs.Words.{first_of, first_value, rows_of, is_simple, is_simple_and_free}
 use Rattle.clap.specs.declared.parser.matches.Found.{Found}
 use Rattle.clap.proofs.OnLiterals.{clap_on_literals}
 use Rattle.clap.proofs.WalkLemmas.{first_value-rows}
@@ -17,6 +17,11 @@ use Rattle.tre_tool.specs.Job.{bare_command, command_line}
 pub command_line-simple : is_simple command_line ≡ true
 unfolding command_line clap_on_literals
 command_line-simple = refl
+
+-- and of which it promises the faults
+pub command_line-free : is_simple_and_free command_line ≡ true
+unfolding command_line clap_on_literals
+command_line-free = refl
 
 -- what `get_str` reads, by the rows of the matches
 pub value-some : (found : Found) (name : List ℕ) (value : Option (Bor (List ℕ)))

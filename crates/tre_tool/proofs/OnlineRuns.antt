@@ -36,6 +36,7 @@ EndsOver-telling request input output InputTooLong online ends = record {
 EndsOver-telling request input output ReadFault online ends = record {
   cause = ends.cause;
   unsound = ends.unsound;
+  goes_on = ends.goes_on;
   stands = rw online ends.stands;
 }
 EndsOver-telling request input output WriteFault online ends = record {

@@ -5,10 +5,10 @@ use Rattle.tre_trace.specs.declared.fault.TraceKind.{TraceKind}
 use Rattle.tre_trace.specs.declared.fault.TraceKind.TheVariants.{LineTooLong, BadNumber, Zero, TooLate, BadName, BadToken, UnknownName, TimeBack, CutShort, Spent, Memory as KindMemory}
 use Rattle.tre_tool.specs.Answer.{StopsAs}
 use Rattle.tre_tool.specs.Feeding.{StopsReading}
-use Rattle.tre_tool.specs.Input.{HasReadCause}
+use Rattle.tre_tool.specs.Input.{HasReadCause, MayGoOn}
 use Rattle.tre_tool.specs.Outcome.{reading_in}
 use Rattle.tre_tool.specs.Devices.{InputTold, OutputTold, NothingWritten}
-use Rattle.tre_tool.specs.Run.{Request, StandsAtFault, StandsAtFailedRead, StandsAtMemory}
+use Rattle.tre_tool.specs.Run.{Request, reading_for, StandsAtFault, StandsAtFailedRead, StandsAtMemory}
 use Rattle.tre_tool.specs.Status.{trace_status}
 use Rattle.tre_tool.specs.declared.job.Mode.{Mode}
 use Rattle.tre_tool.specs.declared.job.Mode.TheVariants.{Offline, Online, Show, Generate}
@@ -53,29 +53,34 @@ pub StopsAs-reading : (T : Type 0) (request : Request) (input : InputTold) (stat
     status
     → HasReadCause {T = T} input.faults_before input.faults_now (Err status)
     → (IsTrue input.sound → input.name ≡ Some request.job.input → status ≢ ReadFault)
+    → (status ≡ ReadFault → MayGoOn (reading_for request) request.job.max_bytes input)
     → StopsAs request input status
-StopsAs-reading T request input (Trace fault) offline stops cause sound = λ output unwritten. record {
-  kind = stops.0;
-  cause = stops.1;
-  reads = cause;
-  stands = stands_in request.job.mode request input output offline unwritten;
-}
-StopsAs-reading T request input InputTooLong offline stops cause sound = λ output unwritten. record {
-  cause = stops;
-  reads = cause;
-  stands = stands_in request.job.mode request input output offline unwritten;
-}
-StopsAs-reading T request input ReadFault offline stops cause sound = λ output unwritten. record {
-  cause = cause;
-  unsound = λ good named. sound good named refl;
-  stands = unread_in request.job.mode request input output offline unwritten;
-}
-StopsAs-reading T request input Memory offline stops cause sound =
+StopsAs-reading T request input (Trace fault) offline stops cause sound more =
+    λ output unwritten. record {
+      kind = stops.0;
+      cause = stops.1;
+      reads = cause;
+      stands = stands_in request.job.mode request input output offline unwritten;
+    }
+StopsAs-reading T request input InputTooLong offline stops cause sound more =
+    λ output unwritten. record {
+      cause = stops;
+      reads = cause;
+      stands = stands_in request.job.mode request input output offline unwritten;
+    }
+StopsAs-reading T request input ReadFault offline stops cause sound more =
+    λ output unwritten. record {
+      cause = cause;
+      unsound = λ good named. sound good named refl;
+      goes_on = more refl;
+      stands = unread_in request.job.mode request input output offline unwritten;
+    }
+StopsAs-reading T request input Memory offline stops cause sound more =
     StopsAs-memory request input (λ online. cc) cause
-StopsAs-reading T request input Done offline stops cause sound = absurd stops
-StopsAs-reading T request input Usage offline stops cause sound = absurd stops
-StopsAs-reading T request input (Expression fault) offline stops cause sound = absurd stops
-StopsAs-reading T request input WriteFault offline stops cause sound = absurd stops
+StopsAs-reading T request input Done offline stops cause sound more = absurd stops
+StopsAs-reading T request input Usage offline stops cause sound more = absurd stops
+StopsAs-reading T request input (Expression fault) offline stops cause sound more = absurd stops
+StopsAs-reading T request input WriteFault offline stops cause sound more = absurd stops
 
 -- memory was wanting, or the kind is told
 pub kinds : (kind : TraceKind) (fault : TraceFault)

@@ -1,7 +1,7 @@
 -- How the telling of an input ends.
 use Rattle.std.proofs.Common.{◌≡◌, ◌≢◌, ◌∙◌, ℕ, ◌+◌, ◌-◌, ◌≤◌, Bool, true, false, List, [], ◌∷◌, ◌++◌, length, take, drop, Option, None, Some, IfSome, IfErr, IsTrue, Result, Ok, Err, refl, sym, ap, subst, inl, inr, arith, length-append, append-nil, append_assoc, take-append-drop}
 use Rattle.std.specs.Io.KnownBytes.{Appends, Consumes, Keeps}
-use Rattle.std.proofs.KnownBytes.{Appends-trans, Consumes-whole, Consumes-nil}
+use Rattle.std.proofs.KnownBytes.{Appends-trans, Consumes-whole}
 use Rattle.std.proofs.lemmas.List.{take-append-le, take-take}
 use Rattle.tre_online.specs.Session.{pattern_of, StandsFor}
 use Rattle.tre_online.specs.declared.session.Session.{Session}
@@ -11,7 +11,7 @@ use Rattle.tre_trace.specs.Reading.{Reading}
 use Rattle.tre_trace.specs.Trace.{IsTrace, end_of}
 use Rattle.tre_trace.specs.declared.segment.Segment.{Segment}
 use Rattle.tre_zone.specs.declared.zone_bounds.ZoneBounds.{ZoneBounds}
-use Rattle.tre_tool.specs.Devices.{InputTold, OutputTold, AllReadsGood, AllWritesGood, WereRead}
+use Rattle.tre_tool.specs.Devices.{InputTold, OutputTold, AllReadsGood, AllWritesGood}
 use Rattle.tre_tool.specs.Feeding.{IsFed, HasRead, GoesOn, IsEnded, TellsAll, StopsTurn, StopsReading}
 use Rattle.tre_tool.specs.Input.{HasReadCause}
 use Rattle.tre_tool.specs.Online.{BlocksWritten, AreKnown, FirstBlocksStand, IsOnlineAnswer}
@@ -23,10 +23,9 @@ use Rattle.tre_tool.specs.declared.status.Status.{Status}
 use Rattle.tre_tool.specs.declared.status.Status.TheVariants.{Done, Usage, Expression, Trace, InputTooLong, ReadFault, WriteFault, Memory}
 use Rattle.tre_tool.proofs.Cuts.{take-over}
 use Rattle.tre_tool.proofs.Feeding.{AllGrow, same_reading}
-use Rattle.tre_tool.proofs.Readings.{IsFed-start}
+use Rattle.tre_tool.proofs.Readings.{IsFed-start, were_read, none_read, MayGoOn-stopped, MayGoOn-unread}
 use Rattle.tre_tool.proofs.Told.{HasTold-start, IsCutBehind-after, Appends-none}
 use Rattle.tre_tool.proofs.Transcripts.{IsTranscript-none}
-use Rattle.tre_tool.proofs.Turns.{Consumes-keeps}
 
 -- These bytes were fed, and the blocks of the segments that they say were written.
 pub record IsTelling (represents : List ℕ → Type 0) (reading : Bool → List ℕ → Reading)
@@ -35,13 +34,6 @@ pub record IsTelling (represents : List ℕ → Type 0) (reading : Bool → List
   pub bytes : List ℕ
   pub fed : IsFed represents limit file left count bytes
   pub told : HasTold session tree (reading false (take limit bytes)).segments before now
-
-were_read : (input : InputTold) (bytes : List ℕ) → input.opened ≡ true
-    → Consumes input.file input.left bytes → WereRead input bytes
-were_read input bytes opened front = record {
-  of_open = λ is_open. front;
-  of_closed = λ closed. cc;
-}
 
 -- what is known where a turn ended: the segments of the bytes before it and those that it told
 known_with : (reading : Bool → List ℕ → Reading) (limit most : ℕ) (input : InputTold)
@@ -122,7 +114,7 @@ reads_good reading limit file left bytes new tree told before now status faults 
     cause stops within = cause
 reads_good reading limit file left bytes new tree told before now status faults faults'
     (Err ReadFault) cause stops within =
-    absurd (no_middle within.front within.segment within.rest (sym stops.1 ∙ within.split))
+    absurd (no_middle within.front within.segment within.rest (sym stops.1.0 ∙ within.split))
 reads_good reading limit file left bytes new tree told before now status faults faults'
     (Err Done) cause stops within = cause
 reads_good reading limit file left bytes new tree told before now status faults faults'
@@ -255,13 +247,14 @@ pub EndsTelling-stopped : (reading : Bool → List ℕ → Reading) → AllGrow 
     → (IsTrue input.sound → input.name ≡ Some name → status ≢ ReadFault)
     → StopsReading reading limit input.file status
     → StopsTurn reading limit input.file input.left bytes [] new status
+    → (reading false (take limit bytes)).fault ≡ None
     → AllWritesGood output
     → BlocksWritten tree ((reading false (take limit bytes)).segments ++ new)
     output.written_before output.written_now
     → EndsTelling reading limit tree name input output status
 EndsTelling-stopped reading grows limit most tree name input output bytes new (Trace fault) has room
     opened
-    read sound cause stops writes stand = record {
+    read sound cause stops none writes stand = record {
       cause = cause;
       reads = read;
       stands = record {
@@ -271,7 +264,7 @@ EndsTelling-stopped reading grows limit most tree name input output bytes new (T
     }
 EndsTelling-stopped reading grows limit most tree name input output bytes new InputTooLong has room
     opened
-    read sound cause stops writes stand = record {
+    read sound cause stops none writes stand = record {
       cause = cause;
       reads = read;
       stands = record {
@@ -281,35 +274,36 @@ EndsTelling-stopped reading grows limit most tree name input output bytes new In
     }
 EndsTelling-stopped reading grows limit most tree name input output bytes new ReadFault has room
     opened read
-    sound cause stops writes stand = record {
+    sound cause stops none writes stand = record {
       cause = read;
       unsound = λ good named. sound good named refl;
+      goes_on = MayGoOn-stopped reading limit input bytes [] new ReadFault stops refl opened none;
       stands = record {
         writes = writes;
         bytes = bytes;
         read = were_read input bytes opened stops.0;
-        stand = rw (stops.1, append-nil (reading false (take limit bytes)).segments) at stand;
+        stand = rw (stops.1.0, append-nil (reading false (take limit bytes)).segments) at stand;
       };
     }
 EndsTelling-stopped reading grows limit most tree name input output bytes new Memory has room
     opened read
-    sound cause stops writes stand = record {
+    sound cause stops none writes stand = record {
       reads = read;
       stands = first_stand reading grows limit most tree input output bytes new has room opened
           writes stand;
     }
 EndsTelling-stopped reading grows limit most tree name input output bytes new Done has room
     opened read
-    sound cause stops writes stand = absurd stops
+    sound cause stops none writes stand = absurd stops
 EndsTelling-stopped reading grows limit most tree name input output bytes new Usage has room
     opened read
-    sound cause stops writes stand = absurd stops
+    sound cause stops none writes stand = absurd stops
 EndsTelling-stopped reading grows limit most tree name input output bytes new (Expression fault)
     has room
-    opened read sound cause stops writes stand = absurd stops
+    opened read sound cause stops none writes stand = absurd stops
 EndsTelling-stopped reading grows limit most tree name input output bytes new WriteFault has room
     opened
-    read sound cause stops writes stand = absurd stops
+    read sound cause stops none writes stand = absurd stops
 
 -- the trace of a whole input
 whole_trace : (reading : Bool → List ℕ → Reading) (limit : ℕ) (file left : Option (List ℕ))
@@ -448,30 +442,23 @@ none_written tree segments told none = rw none (record {
   written = Appends-none told;
 })
 
-none_read : (input : InputTold) → (IsTrue input.opened → Keeps input.file input.left)
-    → WereRead input []
-none_read input kept = record {
-  of_open = λ is_open. Consumes-keeps input.file input.file input.left [] (Consumes-nil input.file)
-      (kept is_open);
-  of_closed = λ closed. refl;
-}
-
 -- nothing was read
 pub EndsTelling-unread : (reading : Bool → List ℕ → Reading) (limit : ℕ) (tree : PatternTree)
     (name : List ℕ) (input : InputTold) (output : OutputTold) (status : Status)
-    → (reading false []).segments ≡ []
+    → (reading false []).segments ≡ [] → (reading false []).fault ≡ None
     → (IsTrue input.opened → Keeps input.file input.left)
     → HasReadCause {T = Bool} input.faults_before input.faults_now (Err status)
     → (status ≢ ReadFault → status ≢ Memory → ⊥)
     → (IsTrue input.sound → input.name ≡ Some name → status ≢ ReadFault)
     → output.written_now ≡ output.written_before → AllWritesGood output
     → EndsTelling reading limit tree name input output status
-EndsTelling-unread reading limit tree name input output ReadFault nothing kept read only sound
-    unwritten writes =
+EndsTelling-unread reading limit tree name input output ReadFault nothing
+    faultless kept read only sound unwritten writes =
     let none : take limit [] ≡ [] = take-over {X = ℕ} limit [] (omega arith) in
     record {
       cause = read;
       unsound = λ good named. sound good named refl;
+      goes_on = MayGoOn-unread reading limit input faultless kept;
       stands = record {
         writes = writes;
         bytes = [];
@@ -479,8 +466,8 @@ EndsTelling-unread reading limit tree name input output ReadFault nothing kept r
         stand = rw (none, unwritten) (none_written tree _ output.written_before nothing);
       };
     }
-EndsTelling-unread reading limit tree name input output Memory nothing kept read only sound
-    unwritten writes =
+EndsTelling-unread reading limit tree name input output Memory nothing
+    faultless kept read only sound unwritten writes =
     let none : take limit [] ≡ [] = take-over {X = ℕ} limit [] (omega arith) in
     record {
       reads = read;
@@ -503,18 +490,18 @@ EndsTelling-unread reading limit tree name input output Memory nothing kept read
             rw (early, nothing) (omega arith);
       };
     }
-EndsTelling-unread reading limit tree name input output Done nothing kept read only sound
-    unwritten writes = absurd (only (λ e. cc) (λ e. cc))
-EndsTelling-unread reading limit tree name input output Usage nothing kept read only sound
-    unwritten writes = absurd (only (λ e. cc) (λ e. cc))
-EndsTelling-unread reading limit tree name input output (Expression fault) nothing kept read only
-    sound unwritten writes = absurd (only (λ e. cc) (λ e. cc))
-EndsTelling-unread reading limit tree name input output (Trace fault) nothing kept read only sound
-    unwritten writes = absurd (only (λ e. cc) (λ e. cc))
-EndsTelling-unread reading limit tree name input output InputTooLong nothing kept read only sound
-    unwritten writes = absurd (only (λ e. cc) (λ e. cc))
-EndsTelling-unread reading limit tree name input output WriteFault nothing kept read only sound
-    unwritten writes = absurd (only (λ e. cc) (λ e. cc))
+EndsTelling-unread reading limit tree name input output Done nothing
+    faultless kept read only sound unwritten writes = absurd (only (λ e. cc) (λ e. cc))
+EndsTelling-unread reading limit tree name input output Usage nothing
+    faultless kept read only sound unwritten writes = absurd (only (λ e. cc) (λ e. cc))
+EndsTelling-unread reading limit tree name input output (Expression fault) nothing
+    faultless kept read only sound unwritten writes = absurd (only (λ e. cc) (λ e. cc))
+EndsTelling-unread reading limit tree name input output (Trace fault) nothing
+    faultless kept read only sound unwritten writes = absurd (only (λ e. cc) (λ e. cc))
+EndsTelling-unread reading limit tree name input output InputTooLong nothing
+    faultless kept read only sound unwritten writes = absurd (only (λ e. cc) (λ e. cc))
+EndsTelling-unread reading limit tree name input output WriteFault nothing
+    faultless kept read only sound unwritten writes = absurd (only (λ e. cc) (λ e. cc))
 
 -- nothing was fed or told
 pub IsTelling-start : {represents : List ℕ → Type 0} (reading : Bool → List ℕ → Reading)
@@ -559,11 +546,14 @@ HasWriteCause-from before before' now result same cause =
 -- memory was wanting before the input was opened
 pub EndsTelling-unopened : (reading : Bool → List ℕ → Reading) (limit : ℕ) (tree : PatternTree)
     (name : List ℕ) (input : InputTold) (output : OutputTold)
-    → (reading false []).segments ≡ [] → input.opened ≡ false → AllReadsGood input
+    → (reading false []).segments ≡ [] → (reading false []).fault ≡ None
+    → input.opened ≡ false → AllReadsGood input
     → output.written_now ≡ output.written_before → AllWritesGood output
     → EndsTelling reading limit tree name input output Memory
-EndsTelling-unopened reading limit tree name input output nothing closed read unwritten writes =
-    EndsTelling-unread reading limit tree name input output Memory nothing (λ is_open. cc) read
+EndsTelling-unopened reading limit tree name input output nothing faultless closed read unwritten
+    writes =
+    EndsTelling-unread reading limit tree name input output Memory nothing faultless
+    (λ is_open. cc) read
     (λ failed wanting. wanting refl) (λ good named is. cc) unwritten writes
 
 -- the same reading and the same pattern

@@ -250,7 +250,10 @@ StopsTurn-piece reading limit room file left left' count bytes old new (Trace fa
     (rw (IsFed-here so_far inside) (rw behind at stops.all))
     (rw behind at stops.told)
 StopsTurn-piece reading limit room file left left' count bytes old new ReadFault grows so_far
-    inside stops = (Consumes-keeps file left left' bytes so_far.front stops.kept, stops.same)
+    inside stops = (
+      Consumes-keeps file left left' bytes so_far.front stops.kept,
+      (stops.same, omega (arith, so_far.size, inside)),
+    )
 StopsTurn-piece reading limit room file left left' count bytes old new Memory grows so_far
     inside stops = tt
 StopsTurn-piece reading limit room file left left' count bytes old new Done grows so_far

@@ -109,8 +109,8 @@ abbrev pub TellsAll : (Bool → List ℕ → Reading) → ℕ → Option (List �
 TellsAll reading limit file bytes old new = IfSome file (λ whole.
     Adds old new (reading false (take limit bytes)) (reading_within reading limit whole))
 
--- What the segments are where a turn stopped behind these bytes. Where memory was wanting, they are
--- no more than the first.
+-- What the segments are where a turn stopped behind these bytes. Where a read failed, the bytes are
+-- within the limit; where memory was wanting, the segments are no more than the first.
 abbrev pub StopsTurn : (Bool → List ℕ → Reading) → ℕ → Option (List ℕ) → Option (List ℕ) →
     List ℕ → List Segment → List Segment → Status → Type 0
 StopsTurn reading limit file left bytes old new (Trace fault) =
@@ -118,6 +118,6 @@ StopsTurn reading limit file left bytes old new (Trace fault) =
 StopsTurn reading limit file left bytes old new InputTooLong =
     TellsAll reading limit file bytes old new
 StopsTurn reading limit file left bytes old new ReadFault =
-    Consumes file left bytes × (new ≡ old)
+    Consumes file left bytes × ((new ≡ old) × (length bytes ≤ limit))
 StopsTurn reading limit file left bytes old new Memory = Unit {0}
 StopsTurn reading limit file left bytes old new _ = ⊥

@@ -4,7 +4,7 @@ use Rattle.std.specs.Option.{option_map_or}
 use Rattle.std.specs.Str.{bytes_eq}
 use Rattle.std.specs.Str.Parse.{digits_value}
 use Rattle.clap.specs.Simple.{on_top}
-use Rattle.clap.specs.Words.{App, Row, Rule, Text, first_of, matches_of, new_app, new_rule, takes, with_rule}
+use Rattle.clap.specs.Words.{App, Row, Rule, Text, fault_of, first_of, matches_of, new_app, new_rule, takes, with_rule}
 use Rattle.clap.specs.declared.builder.action.ArgAction.TheVariants.{Set, SetTrue}
 use Rattle.tre_parts.specs.Numeral.{is_numeral}
 use Rattle.tre_generate.specs.declared.made_run.TheConstants.{SEGMENTS_MAX}
@@ -128,3 +128,12 @@ AreTakenWhere false words = takes command_line words ≡ true
 -- The words are taken.
 abbrev pub AreTaken : List Text → Type 0
 AreTaken words = AreTakenWhere (is_made_run words) words
+
+-- `clap` has no fault of its own for words that it reads.
+abbrev pub HaveNoFaultWhere : Bool → List Text → Type 0
+HaveNoFaultWhere true words = Unit {0}
+HaveNoFaultWhere false words = fault_of command_line words ≡ []
+
+-- The words have no fault.
+abbrev pub HaveNoFault : List Text → Type 0
+HaveNoFault words = HaveNoFaultWhere (is_made_run words) words

@@ -14,6 +14,7 @@ use Rattle.tre_tool.specs.Job.{GivesJob, GivesNoJob, AreTaken, is_made_run, made
 use Rattle.tre_show.specs.PatternText.{expression_text}
 use Rattle.tre_trace.specs.Reading.{Reading}
 use Rattle.tre_tool.specs.Devices.{InputTold, OutputTold, AllReadsGood, AllWritesGood, NothingWritten, NothingDone}
+use Rattle.tre_tool.specs.Input.{MayGoOn}
 use Rattle.tre_tool.specs.Online.{AllBlocksStand, BlocksSoFarStand, FirstBlocksStand, BlockIsCut, IsOnlineAnswer, EndIsCut}
 use Rattle.tre_tool.specs.Outcome.{Outcome, completes, refuses, exceeds, reading_in, outcome_of, IsInputKind, IsAnswer}
 use Rattle.tre_tool.specs.declared.job.Job.{Job}
@@ -183,11 +184,12 @@ pub record EndsTooLong (request : Request) (input : InputTold) (output : OutputT
   pub stands : StandsAtFault request.job.mode request input output
 
 -- `ReadFault`: one failure to open or read was counted, and a source that is sound under the name
--- of the job's input has none.
+-- of the job's input has none. What was read before it has no fault, and is within the limit.
 pub record EndsReadFault (request : Request)
     (input : InputTold) (output : OutputTold) : Type 0 where
   pub cause : input.faults_now ≡ counted input.faults_before
   pub unsound : IsTrue input.sound → input.name ≢ Some request.job.input
+  pub goes_on : MayGoOn (reading_for request) request.job.max_bytes input
   pub stands : StandsAtFailedRead request.job.mode request input output
 
 -- `WriteFault`: one failure to write was counted.

@@ -13,6 +13,7 @@ use Rattle.tre_trace.specs.declared.segment.Segment.{Segment}
 use Rattle.tre_zone.specs.declared.zone_bounds.ZoneBounds.{ZoneBounds}
 use Rattle.tre_tool.specs.Devices.{InputTold, OutputTold, AllReadsGood, AllWritesGood}
 use Rattle.tre_tool.specs.Feeding.{StopsReading}
+use Rattle.tre_tool.specs.Input.{MayGoOn}
 use Rattle.tre_tool.specs.Online.{BlocksWritten, AllBlocksStand, BlocksSoFarStand, FirstBlocksStand, LastBlockIsCut, BlockIsCut, IsOnlineAnswer, EndIsCut}
 use Rattle.tre_tool.specs.Transcript.{IsTranscript, block_before, closing_line, online_text}
 use Rattle.tre_tool.specs.declared.status.Status.{Status}
@@ -82,11 +83,12 @@ pub record IsToldToFault (reading : Bool → List ℕ → Reading) (limit : ℕ)
   pub reads : AllReadsGood input
   pub stands : AllBlocksStand reading limit tree input output
 
--- A read of the input of this name failed, and all that was complete was told.
+-- A read of the input of this name failed where it might go on, and all that was complete was told.
 pub record IsToldToFailedRead (reading : Bool → List ℕ → Reading) (limit : ℕ)
     (tree : PatternTree) (name : List ℕ) (input : InputTold) (output : OutputTold) : Type 0 where
   pub cause : input.faults_now ≡ counted input.faults_before
   pub unsound : IsTrue input.sound → input.name ≢ Some name
+  pub goes_on : MayGoOn reading limit input
   pub stands : BlocksSoFarStand reading limit tree input output
 
 -- A write failed.

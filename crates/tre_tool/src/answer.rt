@@ -6,7 +6,7 @@ ghost use Rattle.tre_tool.specs.Answer.{status_of, EndsOver, IsReadAs, IsFoundFo
 ghost use Rattle.tre_tool.specs.Devices.{input_told, output_told};
 ghost use Rattle.tre_tool.specs.Feeding.{IsWhole, StopsReading};
 ghost use Rattle.tre_tool.specs.Job.{IsCount};
-ghost use Rattle.tre_tool.specs.Input.{TakesAtMost, HasReadCause};
+ghost use Rattle.tre_tool.specs.Input.{TakesAtMost, MayGoOn, HasReadCause};
 ghost use Rattle.tre_tool.specs.Run.{ReadsInput, request_for};
 ghost use Rattle.tre_tool.specs.declared.job.TheConstants.{LIMIT_MAX};
 
@@ -47,6 +47,9 @@ fn read_trace<S: Source, R: TraceReader>(
     ensures bounded { IsTrue (S.opened input.new) →
         TakesAtMost (limit + 1) (S.file input.old) (S.left input.new) }
     ensures cause { HasReadCause (S.faults input.old) (S.faults input.new) result }
+    ensures goes_on { IsErrOf result Status.ReadFault →
+        MayGoOn (R.reading (R.names reader.old)) limit
+        (input_told S.file_name S.file S.sound S.opened S.left S.faults input.old input.new) }
     ensures sound { IsTrue (S.sound input.old) → S.file_name input.old ≡ Some name.now →
         IsErrOf result Status.ReadFault → ⊥ }
 {

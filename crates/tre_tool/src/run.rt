@@ -5,7 +5,7 @@ ghost use Rattle.tre_parse.specs.Outcome.{spelt, refused};
 ghost use Rattle.tre_syntax.specs.Pattern.{pattern_tree, names_of};
 ghost use Rattle.tre_tool.specs.Answer.{status_of};
 ghost use Rattle.tre_tool.specs.Input.{TakesAtMost};
-ghost use Rattle.tre_tool.specs.Job.{GivesJob};
+ghost use Rattle.tre_tool.specs.Job.{GivesJob, HaveNoFault};
 ghost use Rattle.tre_tool.specs.Devices.{input_told, output_told};
 ghost use Rattle.tre_tool.specs.Run.{Request, IsOutcomeIn, AsksFor, AsksForNothing, AsksForMadeRun, ReadsInput, EndsAs, EndsMadeRun, IsComplete, IsLineTold};
 ghost use Rattle.tre_tool.specs.Status.{error_line};
@@ -64,6 +64,8 @@ fn run_words<S: Source, O: Sink>(
     ensures reads_at_most { (job : Job) → GivesJob (map string_bytes words.now) job →
         IsTrue (S.opened input.new) →
         TakesAtMost (job.max_bytes + 1) (S.file input.old) (S.left input.new) }
+    ensures faultless { status_of result ≢ Status.Usage → status_of result ≢ Status.Memory →
+        HaveNoFault (map string_bytes words.now) }
 {
     let job = read_words(alloc, words)?;
     let pattern = pattern_of(alloc, &job)?;
@@ -107,6 +109,10 @@ pub fn run<S: Source, O: Sink, E: Sink>(
     ensures complete { IsComplete (map string_bytes words.now)
         (input_told S.file_name S.file S.sound S.opened S.left S.faults input.old input.new)
         (output_told O.written O.faults out.old out.new) result }
+
+    // Words of which `clap` has a fault are told as such, whatever else it makes of them.
+    ensures faultless { result ≢ Status.Usage → result ≢ Status.Memory →
+        HaveNoFault (map string_bytes words.now) }
 
     // Words that ask for nothing leave the source and the output as they were.
     ensures untouched { AsksForNothing (map string_bytes words.now) →

@@ -1,7 +1,7 @@
 // The words of the command line.
-ghost use Rattle.std.specs.Prelude.{◌≡◌, ◌≢◌, ℕ, ◌≤◌, ◌<◌, ◌^◌, ◌-◌, map, string_bytes, IfOk, IsErrOf, IfSome, IfNone, Some, None, true, false, codes, option_and_then, option_map};
-ghost use Rattle.clap.specs.Words.{app_of, rule_of, found_of, rows_of, matches_of, first_of, takes};
-ghost use Rattle.tre_tool.specs.Job.{flag_rule, option_rule, operand_rule, command_line, is_given, mode_for, mode_in, format_named, number_written, is_made_run, made_count, made_job, IsCount, GivesFrom, GivesJob, GivesNoJob, AreTaken};
+ghost use Rattle.std.specs.Prelude.{◌≡◌, ◌≢◌, ℕ, ◌≤◌, ◌<◌, ◌^◌, ◌-◌, map, string_bytes, IfOk, OnOk, IsErrOf, IfSome, IfNone, Some, None, [], true, false, codes, option_and_then, option_map};
+ghost use Rattle.clap.specs.Words.{app_of, rule_of, found_of, rows_of, matches_of, fault_of, first_of, takes};
+ghost use Rattle.tre_tool.specs.Job.{flag_rule, option_rule, operand_rule, command_line, is_given, mode_for, mode_in, format_named, number_written, is_made_run, made_count, made_job, IsCount, GivesFrom, GivesJob, GivesNoJob, AreTaken, HaveNoFault};
 ghost use Rattle.tre_tool.specs.declared.job.Job.{Job};
 
 use crate::job::{Format, Job, LIMIT_DEFAULT, LIMIT_MAX, Mode, Word, WordsFault};
@@ -67,6 +67,8 @@ fn parse_words<'a>(alloc: Global, words: &'a [String]) -> Result<ArgMatches<'a>,
         rows_of (found_of matches) ≡ matches_of command_line (map string_bytes words.entry.now)) }
     ensures usage { IsErrOf result WordsFault.Usage →
         takes command_line (map string_bytes words.entry.now) ≡ true → ⊥ }
+    ensures faultless { OnOk result
+        (fault_of command_line (map string_bytes words.entry.now) ≡ []) }
 {
     let command = command_line(alloc)?;
     match command.try_get_matches_from(words) {
@@ -177,6 +179,7 @@ fn read_options(alloc: Global, words: &[String]) -> Result<Job, WordsFault>
     ensures usage { IsErrOf result WordsFault.Usage →
         takes command_line (map string_bytes words.now) ≡ true → (job : Job) →
         GivesFrom (matches_of command_line (map string_bytes words.now)) job → ⊥ }
+    ensures faultless { OnOk result (fault_of command_line (map string_bytes words.now) ≡ []) }
 {
     let matches = parse_words(alloc, words)?;
     let job = job_in(alloc, &matches)?;
@@ -239,6 +242,7 @@ pub fn read_words(alloc: Global, words: &[String]) -> Result<Job, WordsFault>
         IsCount count) }
     ensures usage { IsErrOf result WordsFault.Usage → AreTaken (map string_bytes words.now) →
         GivesNoJob (map string_bytes words.now) }
+    ensures faultless { OnOk result (HaveNoFault (map string_bytes words.now)) }
 {
     if is_made_run(words) {
         let job = read_made_run(alloc, words)?;

@@ -23,14 +23,15 @@ returns-in_err-trace-in-Text-clause-stops g c =
     (names_of c.args.pattern.now) in
     let input = input_told g.S.Source.file_name g.S.Source.file g.S.Source.sound g.S.Source.opened g.S.Source.left
     g.S.Source.faults c.args.input.now c.read_trace.new.input in
+    let same = c.new-reader.ensures.names ∙ c.in_ok-names.ensures ∙ c.names.ensures.names in
     let stops : StopsReading (text_reading (names_of c.args.pattern.now)) c.args.job.now.max_bytes
     (g.S.Source.file c.args.input.now) c.in_err-trace-in-Text.field-0.0 =
-    rw (c.new-reader.ensures.names ∙ c.in_ok-names.ensures
-    ∙ c.names.ensures.names) at c.in_err-trace-in-Text.ensures.stops in
+    rw same at c.in_err-trace-in-Text.ensures.stops in
     rw (p.1, p.2) (StopsAs-reading Trace request input c.in_err-trace-in-Text.field-0.0
     c.requires.offline (rw c.in-Text.is stops) c.in_err-trace-in-Text.ensures.cause
     (λ good named is. c.in_err-trace-in-Text.ensures.sound good (named
-    ∙ ap Some (sym c.text.ensures)) (ap Err is)))
+    ∙ ap Some (sym c.text.ensures)) (ap Err is))
+    (λ is. rw c.in-Text.is (rw same at c.in_err-trace-in-Text.ensures.goes_on (ap Err is))))
 
 pub read_trace-requires-in-Vcd-clause-nothing : goal.read_trace-requires-in-Vcd-clause-nothing
 read_trace-requires-in-Vcd-clause-nothing g c = vcd_reading-nothing
@@ -44,11 +45,12 @@ returns-in_err-trace-in-Vcd-clause-stops g c =
     (names_of c.args.pattern.now) in
     let input = input_told g.S.Source.file_name g.S.Source.file g.S.Source.sound g.S.Source.opened g.S.Source.left
     g.S.Source.faults c.args.input.now c.read_trace-in-Vcd.new.input in
+    let same = c.new-reader-in-Vcd.ensures.names ∙ c.in_ok-names.ensures ∙ c.names.ensures.names in
     let stops : StopsReading (vcd_reading (names_of c.args.pattern.now)) c.args.job.now.max_bytes
     (g.S.Source.file c.args.input.now) c.in_err-trace-in-Vcd.field-0.0 =
-    rw (c.new-reader-in-Vcd.ensures.names ∙ c.in_ok-names.ensures
-    ∙ c.names.ensures.names) at c.in_err-trace-in-Vcd.ensures.stops in
+    rw same at c.in_err-trace-in-Vcd.ensures.stops in
     rw (p.1, p.2) (StopsAs-reading Trace request input c.in_err-trace-in-Vcd.field-0.0
     c.requires.offline (rw c.in-Vcd.is stops) c.in_err-trace-in-Vcd.ensures.cause
     (λ good named is. c.in_err-trace-in-Vcd.ensures.sound good (named
-    ∙ ap Some (sym c.text-in-Vcd.ensures)) (ap Err is)))
+    ∙ ap Some (sym c.text-in-Vcd.ensures)) (ap Err is))
+    (λ is. rw c.in-Vcd.is (rw same at c.in_err-trace-in-Vcd.ensures.goes_on (ap Err is))))

@@ -1,4 +1,4 @@
-use Rattle.std.proofs.Common.{◌∙◌, Bool, false, true, Err, Some, length, take, refl, sym, ap, arith}
+use Rattle.std.proofs.Common.{◌≡◌, ◌∙◌, Bool, false, true, Err, Some, None, [], length, take, refl, sym, subst, ap, arith}
 use Rattle.std.proofs.lemmas.Result.{err_from_is_err_and}
 use Rattle.tre_online.specs.Session.{pattern_of}
 use Rattle.tre_syntax.specs.Pattern.{pattern_tree}
@@ -17,7 +17,9 @@ returns-in_err-feed-clause-ends g c =
     rw (p.1, p.2) (EndsTelling-unread
     (g.R.TraceReader.reading (g.R.TraceReader.names c.args.reader.now)) c.args.job.now.max_bytes
     (pattern_tree (pattern_of c.args.session.now)) c.args.job.now.input input output
-    c.in_err-feed.field-0.0 c.requires.nothing c.in_err-feed.ensures.nothing
+    c.in_err-feed.field-0.0 c.requires.nothing
+    (g.met.R.TraceReader.faultless c.args.reader.now [] c.requires.fresh)
+    c.in_err-feed.ensures.nothing
     c.in_err-feed.ensures.cause c.in_err-feed.ensures.named
     (λ good named is. c.in_err-feed.ensures.sound good (named ∙ ap Some (sym c.text.ensures))
     (ap Err is)) refl refl)
@@ -140,7 +142,11 @@ returns-in_err-fed-clause-ends g c =
     (HasReadCause-from {T = Bool} _ _ input.faults_now (Err c.in_err-fed.field-0.0) inv.no_fault
     c.in_err-fed.ensures.cause)
     (λ good named is. c.in_err-fed.ensures.sound (rw inv.sound good) (ap Err is))
-    cause stops (c.in_ok-tell_blocks.ensures.cause ∙ inv.good) (HasTold-written told))
+    cause stops
+    (subst (λ names. (g.R.TraceReader.reading names false (take limit tel.bytes)).fault ≡ None)
+    inv.names (g.met.R.TraceReader.faultless c.loop-segments.reader (take limit tel.bytes)
+    tel.fed.fed))
+    (c.in_ok-tell_blocks.ensures.cause ∙ inv.good) (HasTold-written told))
 
 pub returns-in_err-fed-clause-bounded : goal.returns-in_err-fed-clause-bounded
 returns-in_err-fed-clause-bounded g c =

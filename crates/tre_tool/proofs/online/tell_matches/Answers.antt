@@ -5,7 +5,7 @@ use Rattle.tre_text.specs.TextReading.{text_reading}
 use Rattle.tre_vcd.specs.VcdReading.{vcd_reading}
 use Rattle.tre_tool.specs.Outcome.{reading_in}
 use Rattle.tre_tool.specs.declared.status.Status.TheVariants.{Done}
-use Rattle.tre_tool.proofs.Readings.{text_reading-nothing, vcd_reading-nothing, reading_in-nothing}
+use Rattle.tre_tool.proofs.Readings.{text_reading-nothing, vcd_reading-nothing, reading_in-nothing, reading_in-faultless}
 use Rattle.tre_tool.proofs.Tellings.{EndsTelling-unopened, EndsTelling-same}
 use Rattle.tre_tool.proofs.online.tell_matches.Goals as goal
 
@@ -13,16 +13,18 @@ pub returns-in_err-names-clause-ends : goal.returns-in_err-names-clause-ends
 returns-in_err-names-clause-ends g c =
     let p = err_from_is_err_and c.from_residual.result c.from_residual.ensures.1 in
     rw (p.1, p.2) (EndsTelling-unopened _ _ _ c.args.job.now.input _ _
-    (reading_in-nothing c.args.job.now.format (names_of c.args.pattern)) c.requires.closed refl refl
-    refl)
+    (reading_in-nothing c.args.job.now.format (names_of c.args.pattern))
+    (reading_in-faultless c.args.job.now.format (names_of c.args.pattern)) c.requires.closed refl
+    refl refl)
 
 pub returns-in_err-session-clause-ends : goal.returns-in_err-session-clause-ends
 returns-in_err-session-clause-ends g c =
     let p = err_from_is_err_and c.from_residual-in_err-session.result
     c.from_residual-in_err-session.ensures.1 in
     rw (p.1, p.2) (EndsTelling-unopened _ _ _ c.args.job.now.input _ _
-    (reading_in-nothing c.args.job.now.format (names_of c.args.pattern)) c.requires.closed refl refl
-    refl)
+    (reading_in-nothing c.args.job.now.format (names_of c.args.pattern))
+    (reading_in-faultless c.args.job.now.format (names_of c.args.pattern)) c.requires.closed refl
+    refl refl)
 
 pub tell_input-requires-clause-nothing : goal.tell_input-requires-clause-nothing
 tell_input-requires-clause-nothing g c = text_reading-nothing

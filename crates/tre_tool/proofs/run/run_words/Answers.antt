@@ -96,3 +96,8 @@ returns-clause-reads_at_most g c = λ job gives opened.
     (g.S.Source.left c.answer.new.input))
     (job_unique (map string_bytes c.args.words.now) c.in_ok-job.job job c.in_ok-job.ensures.ok gives)
     (c.in_ok-answer.ensures.bounded opened)
+
+pub returns-in_err-job-clause-faultless : goal.returns-in_err-job-clause-faultless
+returns-in_err-job-clause-faultless g c =
+    let p = err_from_is_err_and c.from_residual.result c.from_residual.ensures.1 in
+    rw (p.1, p.2) (λ usage memory. absurd (only_untaken c.in_err-job.field-0.0 usage memory))

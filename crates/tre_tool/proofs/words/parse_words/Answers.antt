@@ -1,9 +1,15 @@
-use Rattle.std.proofs.Common.{◌∙◌, ap, map, string_bytes}
-use Rattle.clap.specs.Words.{is_simple, matches_of}
-use Rattle.tre_tool.proofs.CommandLine.{command_line-simple}
+use Rattle.std.proofs.Common.{◌∙◌, ap, sym, map, string_bytes}
+use Rattle.clap.specs.Words.{is_simple, is_simple_and_free, fault_of, matches_of}
+use Rattle.tre_tool.proofs.CommandLine.{command_line-simple, command_line-free}
 use Rattle.tre_tool.proofs.words.parse_words.Goals as goal
 
 pub returns-in-Ok-clause-matches : goal.returns-in-Ok-clause-matches
 returns-in-Ok-clause-matches c =
     (c.in-Ok.ensures.matches (ap is_simple c.in_ok-command.ensures ∙ command_line-simple)).0
     ∙ ap (λ app. matches_of app (map string_bytes c.args.words.now)) c.in_ok-command.ensures
+
+pub returns-in-Ok-clause-faultless : goal.returns-in-Ok-clause-faultless
+returns-in-Ok-clause-faultless c =
+    ap (λ app. fault_of app (map string_bytes c.args.words.now)) (sym c.in_ok-command.ensures)
+    ∙ c.in-Ok.ensures.kinds
+    (ap is_simple_and_free c.in_ok-command.ensures ∙ command_line-free)
