@@ -24,7 +24,8 @@ made_some count some none =
     ap (λ (list : List Segment). length list) none in
     absurd (omega (arith, size, zero, some))
 
-module _ (tree : PatternTree) (count : ℕ) (some : 1 ≤ count) (whole told : List ZoneBounds) (tally : Tally)
+module _ (tree : PatternTree) (count : ℕ) (some : 1 ≤ count) (whole told : List ZoneBounds)
+    (tally : Tally)
     (matched : IsMatchSet whole tree (made_trace count))
     (are_told : AreTold tree (made_trace count) told)
     (counted : IsTally whole told (made_trace count) count tally) where

@@ -1,17 +1,10 @@
 -- Where a list is cut.
-use Rattle.std.proofs.Common.{◌≡◌, ℕ, zero, suc, min, ◌-◌, ◌<◌, ◌≤◌, List, [], ◌∷◌, ◌++◌, length, get_or, take, drop, refl, sym, ap, ◌∙◌, arith, drop-cons, take-append-drop, append-nil}
-use Rattle.std.proofs.Math.ListN.{drop_of_length-le}
+use Rattle.std.proofs.Common.{◌≡◌, ℕ, zero, suc, min, ◌-◌, ◌<◌, ◌≤◌, List, [], ◌∷◌, ◌++◌, length, get_or, take, drop, refl, sym, ap, ◌∙◌, arith, drop-cons, take-append-drop}
 
 pub split_around : {X : Type 0} (xs : List X) (k : ℕ) (d : X) → k < length xs
     → xs ≡ take k xs ++ get_or xs k d ∷ drop (suc k) xs
 split_around xs k d below = sym (take-append-drop k xs)
     ∙ ap (λ rest. take k xs ++ rest) (drop-cons xs k d below)
-
--- a list no longer than that is its own front
-pub take-over : {X : Type 0} (i : ℕ) (xs : List X) → length xs ≤ i → take i xs ≡ xs
-take-over i xs short =
-    sym (append-nil (take i xs)) ∙ ap (λ rest. take i xs ++ rest) (sym
-    (drop_of_length-le xs short)) ∙ take-append-drop i xs
 
 -- the front of two lists, one behind the other
 pub take_split : {X : Type 0} (n : ℕ) (xs ys : List X)

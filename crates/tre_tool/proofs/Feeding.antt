@@ -6,7 +6,8 @@ use Rattle.tre_trace.specs.Reading.{Reading, Grows, Adds, IsRefused}
 use Rattle.tre_trace.specs.Trace.{IsTrace}
 use Rattle.tre_trace.specs.declared.segment.Segment.{Segment}
 use Rattle.tre_trace.specs.declared.fault.TraceFault.{TraceFault}
-use Rattle.tre_tool.proofs.Cuts.{take-over, take_split}
+use Rattle.tre_show.proofs.Lists.{take-over}
+use Rattle.tre_tool.proofs.Cuts.{take_split}
 use Rattle.tre_tool.proofs.Outcomes.{within, beyond}
 use Rattle.tre_tool.proofs.Stops.{kinds}
 use Rattle.std.proofs.lemmas.List.{take-append-le}
@@ -35,7 +36,8 @@ unfolding outcome_of
 fault_stays reading grows limit taken left fault told =
     let closed = nat_le (length (taken ++ left)) limit in
     let grown = grows closed (take limit taken) (take (limit - length taken) left) in
-    rw (take_split limit taken left, reading_within) (refused closed _ fault (ap (λ (r : Reading). r.fault)
+    rw (take_split limit taken left, reading_within)
+    (refused closed _ fault (ap (λ (r : Reading). r.fault)
     (grown.fault fault told) ∙ told))
 
 pub outcome-fault : (reading : Bool → List ℕ → Reading) → AllGrow reading
@@ -56,7 +58,11 @@ unfolding outcome_of
 exceeded reading limit taken left over none =
     let longer : limit < length (taken ++ left) = omega (arith, over, length-append taken left) in
     let inside : limit ≤ length taken = omega (arith, over) in
-    rw (beyond (length (taken ++ left)) limit longer, take-append-le limit taken left inside, reading_within)
+    rw (
+      beyond (length (taken ++ left)) limit longer,
+      take-append-le limit taken left inside,
+      reading_within,
+    )
     (too_long (reading false (take limit taken)) none)
 
 pub outcome-exceeds : (reading : Bool → List ℕ

@@ -48,7 +48,8 @@ never_by_flags true online count e = cc
 never_by_flags false true count e = cc
 never_by_flags false false count e = cc
 
-written_count : (written : Option ℕ) (job : Job) (count : ℕ) → option_map made_job written ≡ Some job
+written_count : (written : Option ℕ) (job : Job) (count : ℕ) → option_map made_job written
+    ≡ Some job
     → job.mode ≡ Generate count → written ≡ Some count
 written_count (Some number) job count e mode =
     let same : made_job number ≡ job = one_value e in

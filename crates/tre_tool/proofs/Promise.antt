@@ -126,7 +126,8 @@ spelt_or_refused words request fault asks told =
     let same = job_unique words told.job request.job told.gives asks.gives in
     let wrong = outcome_once_in request.job.mode request.job.expr (refused fault)
     (spelt request.tree request.names)
-    (subst (λ (j : Job). IsOutcomeIn j.mode j.expr (refused fault)) same told.refuses) asks.spells in
+    (subst (λ (j : Job). IsOutcomeIn j.mode j.expr (refused fault)) same told.refuses)
+    asks.spells in
     cc
 
 pub refused_once : (words : List (List ℕ)) (fault other : ParseFault) → IsRefused words fault

@@ -15,7 +15,7 @@ use Rattle.tre_tool.specs.declared.job.Format.{Format}
 use Rattle.tre_tool.specs.declared.job.Format.TheVariants.{Text, Vcd}
 use Rattle.tre_tool.specs.declared.status.Status.{Status}
 use Rattle.tre_tool.specs.declared.status.Status.TheVariants.{ReadFault}
-use Rattle.tre_tool.proofs.Cuts.{take-over}
+use Rattle.tre_show.proofs.Lists.{take-over}
 use Rattle.tre_tool.proofs.Turns.{Consumes-keeps}
 
 pub text_reading-nothing : (names : List (List ℕ)) → (text_reading names false []).segments ≡ []

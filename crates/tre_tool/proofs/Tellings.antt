@@ -21,7 +21,7 @@ use Rattle.tre_tool.specs.Transcript.{block_texts, online_text, closing_line}
 use Rattle.tre_tool.specs.declared.input.TheConstants.{PIECE}
 use Rattle.tre_tool.specs.declared.status.Status.{Status}
 use Rattle.tre_tool.specs.declared.status.Status.TheVariants.{Done, Usage, Expression, Trace, InputTooLong, ReadFault, WriteFault, Memory}
-use Rattle.tre_tool.proofs.Cuts.{take-over}
+use Rattle.tre_show.proofs.Lists.{take-over}
 use Rattle.tre_tool.proofs.Feeding.{AllGrow, same_reading}
 use Rattle.tre_tool.proofs.Readings.{IsFed-start, were_read, none_read, MayGoOn-stopped, MayGoOn-unread}
 use Rattle.tre_tool.proofs.Told.{HasTold-start, IsCutBehind-after, Appends-none}
@@ -79,7 +79,8 @@ CanTell-read reading limit most file left bytes new session traces has stands =
 prompt : (reading : Bool → List ℕ → Reading) → AllGrow reading → (limit most : ℕ)
     (file left : Option (List ℕ)) (bytes : List ℕ) (new : List Segment)
     → (has : HasRead reading limit most file left bytes [] new) → most ≡ PIECE
-    → length (reading false (take (length (bytes ++ has.piece) - PIECE) (bytes ++ has.piece))).segments
+    → length (reading false (take (length (bytes ++ has.piece) - PIECE)
+    (bytes ++ has.piece))).segments
     ≤ length (reading false (take limit bytes)).segments
 prompt reading grows limit most file left bytes new has room =
     let whole = bytes ++ has.piece in

@@ -11,7 +11,8 @@ use Rattle.tre_tool.specs.Outcome.{reading_within}
 use Rattle.tre_tool.specs.Status.{trace_status}
 use Rattle.tre_tool.specs.declared.status.Status.{Status}
 use Rattle.tre_tool.specs.declared.status.Status.TheVariants.{Done, Usage, Expression, Trace, InputTooLong, ReadFault, WriteFault, Memory}
-use Rattle.tre_tool.proofs.Cuts.{take-over, take_split}
+use Rattle.tre_show.proofs.Lists.{take-over}
+use Rattle.tre_tool.proofs.Cuts.{take_split}
 use Rattle.tre_tool.proofs.Feeding.{AllGrow, outcome-fault, fed_more}
 use Rattle.tre_tool.proofs.Outcomes.{within, beyond}
 use Rattle.tre_tool.proofs.Stops.{kinds}
@@ -219,7 +220,12 @@ TellsAll-exceeds reading limit (Some whole) None bytes segments front over = abs
 TellsAll-exceeds reading limit (Some whole) (Some rest) bytes segments front over =
     let longer : limit < length (bytes ++ rest) = omega (arith, over, length-append bytes rest) in
     let inside : limit ≤ length bytes = omega (arith, over) in
-    rw (front, beyond (length (bytes ++ rest)) limit longer, take-append-le limit bytes rest inside, reading_within)
+    rw (
+      front,
+      beyond (length (bytes ++ rest)) limit longer,
+      take-append-le limit bytes rest inside,
+      reading_within,
+    )
     (record {
       added = [];
       new_is = sym (append-nil segments);

@@ -21,7 +21,8 @@ returns-in_err-trace-in-Text-clause-stops g c =
     c.from_residual-in_err-trace-in-Text.ensures.1 in
     let request = request_for c.args.job.now (pattern_tree c.args.pattern.now)
     (names_of c.args.pattern.now) in
-    let input = input_told g.S.Source.file_name g.S.Source.file g.S.Source.sound g.S.Source.opened g.S.Source.left
+    let input = input_told g.S.Source.file_name g.S.Source.file g.S.Source.sound g.S.Source.opened
+    g.S.Source.left
     g.S.Source.faults c.args.input.now c.read_trace.new.input in
     let same = c.new-reader.ensures.names ∙ c.in_ok-names.ensures ∙ c.names.ensures.names in
     let stops : StopsReading (text_reading (names_of c.args.pattern.now)) c.args.job.now.max_bytes
@@ -43,7 +44,8 @@ returns-in_err-trace-in-Vcd-clause-stops g c =
     c.from_residual-in_err-trace-in-Vcd.ensures.1 in
     let request = request_for c.args.job.now (pattern_tree c.args.pattern.now)
     (names_of c.args.pattern.now) in
-    let input = input_told g.S.Source.file_name g.S.Source.file g.S.Source.sound g.S.Source.opened g.S.Source.left
+    let input = input_told g.S.Source.file_name g.S.Source.file g.S.Source.sound g.S.Source.opened
+    g.S.Source.left
     g.S.Source.faults c.args.input.now c.read_trace-in-Vcd.new.input in
     let same = c.new-reader-in-Vcd.ensures.names ∙ c.in_ok-names.ensures ∙ c.names.ensures.names in
     let stops : StopsReading (vcd_reading (names_of c.args.pattern.now)) c.args.job.now.max_bytes

@@ -27,7 +27,8 @@ returns-in_err-count-clause-read g c =
     let short : length (take c.min-room.result c.args.buffer.now) ≤ length c.args.buffer.now
     = omega (arith, length-take {A = ℕ} c.min-room.result c.args.buffer.now) in
     λ file bytes so_far. HasRead-piece
-    (g.R.TraceReader.reading (g.R.TraceReader.names c.args.reader.now)) c.args.limit (length (take c.min-room.result c.args.buffer.now)) _ file
+    (g.R.TraceReader.reading (g.R.TraceReader.names c.args.reader.now)) c.args.limit
+    (length (take c.min-room.result c.args.buffer.now)) _ file
     (g.S.Source.left c.args.input.now) _ _ bytes _ _ c.in_err-count.field-0.0 so_far inside
     (c.in_err-count.ensures.stops bytes (IsFed-all so_far inside)) room short
 
@@ -36,9 +37,11 @@ returns-in_err-count-clause-cause_told g c =
     let p = err_from_is_err_and c.from_residual.result c.from_residual.ensures.1 in
     let inside = c.if-taken-limit.false in
     λ file bytes so_far. rw (p.1, p.2) (StopsReading-piece
-    (g.R.TraceReader.reading (g.R.TraceReader.names c.args.reader.now)) c.args.limit _ file (g.S.Source.left c.args.input.now) _ _ bytes _ _
+    (g.R.TraceReader.reading (g.R.TraceReader.names c.args.reader.now)) c.args.limit _ file
+    (g.S.Source.left c.args.input.now) _ _ bytes _ _
     c.in_err-count.field-0.0
-    (λ closed first more. g.met.R.TraceReader.grows (g.R.TraceReader.names c.args.reader.now) closed first more) so_far inside
+    (λ closed first more. g.met.R.TraceReader.grows (g.R.TraceReader.names c.args.reader.now) closed
+    first more) so_far inside
     (c.in_err-count.ensures.stops bytes (IsFed-all so_far inside)))
 
 pub returns-in_err-count-clause-stops : goal.returns-in_err-count-clause-stops
@@ -46,9 +49,11 @@ returns-in_err-count-clause-stops g c =
     let p = err_from_is_err_and c.from_residual.result c.from_residual.ensures.1 in
     let inside = c.if-taken-limit.false in
     λ file bytes so_far. rw (p.1, p.2) (StopsTurn-piece
-    (g.R.TraceReader.reading (g.R.TraceReader.names c.args.reader.now)) c.args.limit _ file (g.S.Source.left c.args.input.now) _ _ bytes _ _
+    (g.R.TraceReader.reading (g.R.TraceReader.names c.args.reader.now)) c.args.limit _ file
+    (g.S.Source.left c.args.input.now) _ _ bytes _ _
     c.in_err-count.field-0.0
-    (λ closed first more. g.met.R.TraceReader.grows (g.R.TraceReader.names c.args.reader.now) closed first more) so_far inside
+    (λ closed first more. g.met.R.TraceReader.grows (g.R.TraceReader.names c.args.reader.now) closed
+    first more) so_far inside
     (c.in_err-count.ensures.stops bytes (IsFed-all so_far inside)))
 
 pub returns-in_err-finish-clause-read : goal.returns-in_err-finish-clause-read
@@ -67,7 +72,8 @@ returns-in_err-finish-clause-read g c =
     c.args.taken count bytes buffer so_far inside c.in_ok-count.ensures.taken
     (c.in_ok-count.ensures.end none) none
     (c.in_ok-count.ensures.goes_on bytes (IsFed-all so_far inside)) in
-    HasRead-end (g.R.TraceReader.reading (g.R.TraceReader.names c.args.reader.now)) c.args.limit _ file _ bytes _ c.feed_piece.new.segments.items _ at_end adds
+    HasRead-end (g.R.TraceReader.reading (g.R.TraceReader.names c.args.reader.now)) c.args.limit _
+    file _ bytes _ c.feed_piece.new.segments.items _ at_end adds
     (rw c.in_ok-count.ensures.names at c.in_err-finish.ensures.refused bytes at_end.fed).adds_some
 
 pub returns-in_err-finish-clause-cause_told : goal.returns-in_err-finish-clause-cause_told
@@ -88,7 +94,9 @@ returns-in_err-finish-clause-cause_told g c =
     c.args.taken count bytes buffer so_far inside c.in_ok-count.ensures.taken
     (c.in_ok-count.ensures.end none) none
     (c.in_ok-count.ensures.goes_on bytes (IsFed-all so_far inside)) in
-    rw (p.1, p.2) (StopsReading-end (g.R.TraceReader.reading (g.R.TraceReader.names c.args.reader.now)) c.args.limit file _ _ _ bytes c.in_err-finish.field-0.0
+    rw (p.1, p.2) (StopsReading-end (g.R.TraceReader.reading
+    (g.R.TraceReader.names c.args.reader.now)) c.args.limit file _ _ _ bytes
+    c.in_err-finish.field-0.0
     at_end.front at_end.all_read at_end.within
     (rw c.in_ok-count.ensures.names at c.in_err-finish.ensures.refused bytes at_end.fed))
 
@@ -110,7 +118,8 @@ returns-in_err-finish-clause-stops g c =
     c.args.taken count bytes buffer so_far inside c.in_ok-count.ensures.taken
     (c.in_ok-count.ensures.end none) none
     (c.in_ok-count.ensures.goes_on bytes (IsFed-all so_far inside)) in
-    rw (p.1, p.2) (StopsTurn-end (g.R.TraceReader.reading (g.R.TraceReader.names c.args.reader.now)) c.args.limit file _ bytes _
+    rw (p.1, p.2) (StopsTurn-end (g.R.TraceReader.reading (g.R.TraceReader.names c.args.reader.now))
+    c.args.limit file _ bytes _
     c.feed_piece.new.segments.items _ c.in_err-finish.field-0.0 at_end adds
     (rw c.in_ok-count.ensures.names at c.in_err-finish.ensures.refused bytes at_end.fed))
 
@@ -130,7 +139,8 @@ returns-in_ok-finish-clause-read g c =
     c.args.taken count bytes buffer so_far inside c.in_ok-count.ensures.taken
     (c.in_ok-count.ensures.end none) none
     (c.in_ok-count.ensures.goes_on bytes (IsFed-all so_far inside)) in
-    HasRead-end (g.R.TraceReader.reading (g.R.TraceReader.names c.args.reader.now)) c.args.limit _ file _ bytes _ c.feed_piece.new.segments.items _ at_end adds
+    HasRead-end (g.R.TraceReader.reading (g.R.TraceReader.names c.args.reader.now)) c.args.limit _
+    file _ bytes _ c.feed_piece.new.segments.items _ at_end adds
     (Adds-some (rw c.in_ok-count.ensures.names at c.in_ok-finish.ensures.adds bytes at_end.fed))
 
 pub returns-in_ok-finish-clause-ended : goal.returns-in_ok-finish-clause-ended
@@ -149,7 +159,8 @@ returns-in_ok-finish-clause-ended g c =
     c.args.taken count bytes buffer so_far inside c.in_ok-count.ensures.taken
     (c.in_ok-count.ensures.end none) none
     (c.in_ok-count.ensures.goes_on bytes (IsFed-all so_far inside)) in
-    λ zero. IsEnded-end (g.R.TraceReader.reading (g.R.TraceReader.names c.args.reader.now)) c.args.limit file _ bytes _ c.feed_piece.new.segments.items _
+    λ zero. IsEnded-end (g.R.TraceReader.reading (g.R.TraceReader.names c.args.reader.now))
+    c.args.limit file _ bytes _ c.feed_piece.new.segments.items _
     at_end adds
     (rw c.in_ok-count.ensures.names at c.in_ok-finish.ensures.adds bytes at_end.fed)
     (rw c.in_ok-count.ensures.names at c.in_ok-finish.ensures.whole bytes at_end.fed)
@@ -164,7 +175,8 @@ returns-else-count-eq0-clause-read g c =
     let short : length (take c.min-room.result c.args.buffer.now) ≤ length c.args.buffer.now
     = omega (arith, length-take {A = ℕ} c.min-room.result c.args.buffer.now) in
     λ file bytes so_far. HasRead-fed
-    (g.R.TraceReader.reading (g.R.TraceReader.names c.args.reader.now)) c.args.limit (length (take c.min-room.result c.args.buffer.now)) _ file
+    (g.R.TraceReader.reading (g.R.TraceReader.names c.args.reader.now)) c.args.limit
+    (length (take c.min-room.result c.args.buffer.now)) _ file
     (g.S.Source.left c.args.input.now) _ _ bytes _ _ so_far inside (record {
       piece = take count buffer;
       front = c.in_ok-count.ensures.taken;
@@ -187,7 +199,8 @@ returns-else-count-eq0-clause-goes_on g c =
       c.min-room.ensures,
     ) in
     λ file bytes so_far some. GoesOn-fed
-    (g.R.TraceReader.reading (g.R.TraceReader.names c.args.reader.now)) c.args.limit file (g.S.Source.left c.args.input.now) _ _ count bytes
+    (g.R.TraceReader.reading (g.R.TraceReader.names c.args.reader.now)) c.args.limit file
+    (g.S.Source.left c.args.input.now) _ _ count bytes
     (take count buffer) _ _ so_far inside c.in_ok-count.ensures.taken size few
     (c.in_ok-count.ensures.goes_on bytes (IsFed-all so_far inside))
     (c.in_ok-count.ensures.adds bytes (IsFed-all so_far inside))

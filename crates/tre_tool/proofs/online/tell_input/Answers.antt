@@ -90,7 +90,8 @@ returns-in_err-tell_blocks-clause-ends g c =
     c.next-fed.ensures.read file tel.bytes tel.fed in
     let input = input_told g.S.Source.file_name g.S.Source.file g.S.Source.sound
     g.S.Source.opened g.S.Source.left g.S.Source.faults c.args.input.now c.next-fed.new.input in
-    let output = output_told g.O.Sink.written g.O.Sink.faults c.args.out.now c.tell_blocks.new.out in
+    let output = output_told g.O.Sink.written g.O.Sink.faults c.args.out.now
+    c.tell_blocks.new.out in
     let stops = rw (inv.names, inv.limit, inv.empty) at
     c.next-fed.ensures.stops file tel.bytes tel.fed in
     let within = rw c.deref.ensures.value at c.in_err-tell_blocks.ensures.stops tree
@@ -127,7 +128,8 @@ returns-in_err-fed-clause-ends g c =
     c.next-fed.ensures.read file tel.bytes tel.fed in
     let input = input_told g.S.Source.file_name g.S.Source.file g.S.Source.sound
     g.S.Source.opened g.S.Source.left g.S.Source.faults c.args.input.now c.next-fed.new.input in
-    let output = output_told g.O.Sink.written g.O.Sink.faults c.args.out.now c.tell_blocks.new.out in
+    let output = output_told g.O.Sink.written g.O.Sink.faults c.args.out.now
+    c.tell_blocks.new.out in
     let told = rw c.deref.ensures.value at c.in_ok-tell_blocks.ensures.told tree
     (reading false (take limit tel.bytes)).segments (g.O.Sink.written c.args.out.now) tel.told in
     let stops = rw (inv.names, inv.limit, inv.empty) at

@@ -42,7 +42,8 @@ returns-in_err-tell_input-in-Text-clause-ends g c =
     let same = ap text_reading (c.new-reader.ensures.names
     ∙ (c.in_ok-names.ensures ∙ c.names.ensures.names))
     ∙ ap (λ f. reading_in f (names_of c.args.pattern)) (sym c.in-Text.is) in
-    rw (p.1, p.2) (EndsTelling-same _ _ _ _ _ c.args.job.now.input _ _ c.in_err-tell_input-in-Text.field-0.0
+    rw (p.1, p.2) (EndsTelling-same _ _ _ _ _ c.args.job.now.input _ _
+    c.in_err-tell_input-in-Text.field-0.0
     same c.in_ok-session.ensures.tree c.in_err-tell_input-in-Text.ensures.ends)
 
 pub returns-in-Text-clause-ends : goal.returns-in-Text-clause-ends
@@ -61,7 +62,8 @@ returns-in_err-tell_input-in-Vcd-clause-ends g c =
     let same = ap vcd_reading (c.new-reader-in-Vcd.ensures.names
     ∙ (c.in_ok-names.ensures ∙ c.names.ensures.names))
     ∙ ap (λ f. reading_in f (names_of c.args.pattern)) (sym c.in-Vcd.is) in
-    rw (p.1, p.2) (EndsTelling-same _ _ _ _ _ c.args.job.now.input _ _ c.in_err-tell_input-in-Vcd.field-0.0
+    rw (p.1, p.2) (EndsTelling-same _ _ _ _ _ c.args.job.now.input _ _
+    c.in_err-tell_input-in-Vcd.field-0.0
     same c.in_ok-session.ensures.tree c.in_err-tell_input-in-Vcd.ensures.ends)
 
 pub returns-clause-ends : goal.returns-clause-ends

@@ -31,22 +31,26 @@ pub returns-in_err-answer-clause-ends : goal.returns-in_err-answer-clause-ends
 returns-in_err-answer-clause-ends g c =
     let p = err_from_is_err_and c.from_residual-in_err-answer.result
     c.from_residual-in_err-answer.ensures.1 in
-    let asks = AsksFor-of _ c.in_ok-job.job _ _ c.in_ok-job.ensures.ok c.in_ok-pattern.ensures.spells in
+    let asks = AsksFor-of _ c.in_ok-job.job _ _ c.in_ok-job.ensures.ok
+    c.in_ok-pattern.ensures.spells in
     rw (p.1, p.2) (EndsAs-over _ _ _ _ c.in_err-answer.field-0.0 asks c.in_err-answer.ensures.ends)
 
 pub returns-in_err-answer-clause-untouched : goal.returns-in_err-answer-clause-untouched
 returns-in_err-answer-clause-untouched g c =
-    let asks = AsksFor-of _ c.in_ok-job.job _ _ c.in_ok-job.ensures.ok c.in_ok-pattern.ensures.spells in
+    let asks = AsksFor-of _ c.in_ok-job.job _ _ c.in_ok-job.ensures.ok
+    c.in_ok-pattern.ensures.spells in
     λ nothing. absurd (nothing_asked _ _ asks nothing)
 
 pub returns-clause-ends : goal.returns-clause-ends
 returns-clause-ends g c =
-    let asks = AsksFor-of _ c.in_ok-job.job _ _ c.in_ok-job.ensures.ok c.in_ok-pattern.ensures.spells in
+    let asks = AsksFor-of _ c.in_ok-job.job _ _ c.in_ok-job.ensures.ok
+    c.in_ok-pattern.ensures.spells in
     EndsAs-over _ _ _ _ Done asks c.in_ok-answer.ensures.ends
 
 pub returns-clause-untouched : goal.returns-clause-untouched
 returns-clause-untouched g c =
-    let asks = AsksFor-of _ c.in_ok-job.job _ _ c.in_ok-job.ensures.ok c.in_ok-pattern.ensures.spells in
+    let asks = AsksFor-of _ c.in_ok-job.job _ _ c.in_ok-job.ensures.ok
+    c.in_ok-pattern.ensures.spells in
     λ nothing. absurd (nothing_asked _ _ asks nothing)
 
 pub returns-in_err-job-clause-by_name : goal.returns-in_err-job-clause-by_name
@@ -70,7 +74,8 @@ returns-clause-by_name g c =
 
 pub answer-requires-clause-counted : goal.answer-requires-clause-counted
 answer-requires-clause-counted g c = λ count mode.
-    IsCount-given (map string_bytes c.args.words.now) c.in_ok-job.job count c.in_ok-job.ensures.ok mode
+    IsCount-given (map string_bytes c.args.words.now) c.in_ok-job.job count c.in_ok-job.ensures.ok
+    mode
 
 pub returns-in_err-answer-clause-source_untouched :
     goal.returns-in_err-answer-clause-source_untouched
@@ -87,14 +92,16 @@ pub returns-in_err-answer-clause-reads_at_most : goal.returns-in_err-answer-clau
 returns-in_err-answer-clause-reads_at_most g c = λ job gives opened.
     subst (λ (j : Job). TakesAtMost (j.max_bytes + 1) (g.S.Source.file c.args.input.now)
     (g.S.Source.left c.answer.new.input))
-    (job_unique (map string_bytes c.args.words.now) c.in_ok-job.job job c.in_ok-job.ensures.ok gives)
+    (job_unique (map string_bytes c.args.words.now) c.in_ok-job.job job c.in_ok-job.ensures.ok
+    gives)
     (c.in_err-answer.ensures.bounded opened)
 
 pub returns-clause-reads_at_most : goal.returns-clause-reads_at_most
 returns-clause-reads_at_most g c = λ job gives opened.
     subst (λ (j : Job). TakesAtMost (j.max_bytes + 1) (g.S.Source.file c.args.input.now)
     (g.S.Source.left c.answer.new.input))
-    (job_unique (map string_bytes c.args.words.now) c.in_ok-job.job job c.in_ok-job.ensures.ok gives)
+    (job_unique (map string_bytes c.args.words.now) c.in_ok-job.job job c.in_ok-job.ensures.ok
+    gives)
     (c.in_ok-answer.ensures.bounded opened)
 
 pub returns-in_err-job-clause-faultless : goal.returns-in_err-job-clause-faultless
