@@ -11,7 +11,7 @@ use std::test::Fail;
 use tre_edges::Piece;
 use tre_offline::{local, matches};
 use tre_residual::Residual;
-use tre_state::{NAMES_MAX, Names, State, is_name};
+use tre_state::{NAMES_MAX, Names, State};
 use tre_syntax::{Expr, Pattern};
 use tre_trace::{Segment, Trace};
 use tre_zone::Interval;
@@ -111,10 +111,9 @@ fn count(case: Case) -> usize {
 
 fn pattern(alloc: Global, case: Case) -> Result<Pattern, Fail> {
     let mut names = Names::new(alloc);
-    for name in ["p", "q"].into_iter().take(count(case)) {
-        if is_name(name) {
-            names.number(name)?;
-        }
+    names.number("p")?;
+    if count(case) == 2 {
+        names.number("q")?;
     }
     let pattern = Pattern::new(expr(alloc, case)?, names).ok_or("no pattern")?;
     Ok(pattern)
