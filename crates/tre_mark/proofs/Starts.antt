@@ -287,8 +287,7 @@ module _ (time : ℕ) (moment : List ZoneBounds) (held : HoldExactly moment
 
 -- There is a moment from a time to itself.
 moment_some : (time : ℕ) (moment : List ZoneBounds)
-    → HoldExactly moment (IsInstantBetween time time)
-    → moment ≡ [] → ⊥
+    → HoldExactly moment (IsInstantBetween time time) → moment ≡ [] → ⊥
 moment_some time moment held none =
     SetHolds-empty time time 1 (subst (λ (list : List ZoneBounds). SetHolds list time time 1) none
     ((held.exact time time 1 (omega arith) (omega arith)).1

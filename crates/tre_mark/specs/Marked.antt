@@ -46,8 +46,7 @@ pub record EndBetween (low high : ℕ) (zones : List ZoneBounds) : Type 0 where
   pub begin : (a b n : ℕ) → 0 < n → Held zones a b n → low * n ≤ b
   pub end : (a b n : ℕ) → 0 < n → Held zones a b n → b ≤ high * n
 
--- There are pairs in the set, each of which ends from `from` to `to`, and that is not after the
--- time.
+-- There are pairs in the set. Each ends from `from` to `to`, and that is not after the time.
 pub record IsEntered (time from to : ℕ) (outer : List ZoneBounds) : Type 0 where
   pub some : outer ≡ [] → ⊥
   pub rising : from ≤ to
