@@ -9,7 +9,7 @@ use Rattle.tre_pairs.proofs.Implication.{Implies-Composed, Implies-Either, Impli
 use Rattle.tre_pairs.proofs.Laws.{IsOrdered, Implies, ImpliesBefore}
 use Rattle.tre_pairs.proofs.Order.{IsOrdered-Lasting}
 use Rattle.tre_pairs.proofs.Ticks.{ge_down}
-use Rattle.tre_residual.specs.Residual.{Held}
+use Rattle.tre_zone.specs.Held.{Held}
 use Rattle.tre_syntax.specs.Cut.{uncut, back_of}
 use Rattle.tre_syntax.specs.Meaning.{MatchesRest}
 use Rattle.tre_syntax.specs.PatternTree.{Atom, PatternTree, empty, literal, rise, fall, atom, sequence, alternation, intersection, repetition, restriction}

@@ -7,8 +7,8 @@ use Rattle.tre_pairs.specs.Pairs.{Pairs, Composed, Either, Both, Lasting}
 use Rattle.tre_pairs.proofs.Agreement.{Agree-Lasting, Agree-Both}
 use Rattle.tre_pairs.proofs.CutLaws.{crossing_lasting, crossing_both}
 use Rattle.tre_pairs.proofs.Laws.{Agree}
-use Rattle.tre_residual.specs.Residual.{Held}
-use Rattle.tre_residual.proofs.HeldSets.{IsOrdered-Held, Held-empty}
+use Rattle.tre_zone.specs.Held.{Held}
+use Rattle.tre_zone.proofs.HeldSets.{IsOrdered-Held, Held-empty}
 use Rattle.tre_syntax.specs.Meaning.{MatchesRest}
 use Rattle.tre_syntax.specs.PatternTree.{PatternTree, intersection, restriction}
 use Rattle.tre_syntax.specs.Rest.{Rest}

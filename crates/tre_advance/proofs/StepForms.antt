@@ -4,7 +4,7 @@ use Rattle.tre_syntax.specs.PatternTree.{PatternTree, intersection, restriction}
 use Rattle.tre_zone.specs.Interval.{IntervalEnds}
 use Rattle.tre_zone.specs.declared.zone_bounds.ZoneBounds.{ZoneBounds}
 use Rattle.tre_edges.specs.declared.piece.Piece.{Piece}
-use Rattle.tre_residual.specs.Residual.{Held}
+use Rattle.tre_zone.specs.Held.{Held, IsSetOf}
 use Rattle.tre_mark.proofs.Agreeing.{agree_then}
 use Rattle.tre_mark.specs.MarkTree.{MarkTree, intersection_none, intersection_one, restriction_none, restriction_one, mark_of, instance_before, behind}
 use Rattle.tre_mark.specs.Marked.{Marked, EndBetween, IsWell, IsWellAt}
@@ -13,7 +13,6 @@ use Rattle.tre_mark.specs.declared.mark.Mark.{Mark}
 use Rattle.tre_edges.specs.Piece.{end_of_piece}
 use Rattle.tre_advance.specs.Instances.{join, KeepsLasting, KeepsBoth}
 use Rattle.tre_advance.specs.Moves.{StepsTo, EntersTo}
-use Rattle.tre_advance.specs.Sets.{IsSetOf}
 use Rattle.tre_advance.proofs.Going.{alone}
 use Rattle.tre_advance.proofs.SetsOf.{set_agrees, set_of, set_none, no_pair}
 use Rattle.tre_advance.proofs.InstanceSteps.{lasting_more, both_more}

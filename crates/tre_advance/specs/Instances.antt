@@ -1,12 +1,11 @@
 -- What becomes of the instances of an intersection or a restriction.
 use Rattle.std.specs.Prelude.{◌≡◌, ℕ, ◌+◌, ◌<◌, ◌⊎◌, List, MatchOption}
 use Rattle.tre_pairs.specs.Pairs.{Composed, Either, Both, Lasting}
-use Rattle.tre_residual.specs.Residual.{Held}
+use Rattle.tre_zone.specs.Held.{Held, IsSetOf}
 use Rattle.tre_zone.specs.Interval.{IntervalEnds, LastsWithin}
 use Rattle.tre_zone.specs.declared.zone_bounds.ZoneBounds.{ZoneBounds}
 use Rattle.tre_mark.specs.MarkTree.{MarkTree, atom_mark, sequence_mark, alternation_mark, repetition_mark, intersection_none, intersection_one, restriction_none, restriction_one}
 use Rattle.tre_mark.specs.Marked.{IsBare}
-use Rattle.tre_advance.specs.Sets.{IsSetOf}
 
 -- The instances of the one, and then those of the other.
 abbrev pub join : MarkTree → MarkTree → MarkTree

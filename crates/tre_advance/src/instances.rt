@@ -3,10 +3,9 @@ ghost use Rattle.std.specs.Prelude.{◌≡◌, ◌≤◌, ◌↔◌, IfOk, IsTru
 ghost use Rattle.tre_pairs.specs.Pairs.{Composed, Either, Both, Lasting};
 ghost use Rattle.tre_pairs.specs.declared.TheConstants.{TIME_MAX};
 ghost use Rattle.tre_zone.specs.Interval.{LastsWithin};
-ghost use Rattle.tre_residual.specs.Residual.{Held};
+ghost use Rattle.tre_zone.specs.Held.{Held, IsSetOf};
 ghost use Rattle.tre_mark.specs.MarkTree.{mark_of, intersection_none, intersection_one, restriction_none, restriction_one, instances_before};
 ghost use Rattle.tre_advance.specs.Instances.{join, IsPast, KeepsLasting, KeepsBoth};
-ghost use Rattle.tre_advance.specs.Sets.{IsSetOf};
 
 use crate::sets::{followed, gathered, met, within};
 use crate::stepping::Advanced;

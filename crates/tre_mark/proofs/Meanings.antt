@@ -8,9 +8,9 @@ use Rattle.tre_pairs.proofs.Laws.{Scales, IsOrdered}
 use Rattle.tre_pairs.proofs.Order.{IsOrdered-Either}
 use Rattle.tre_pairs.proofs.Scaling.{Scales-Composed, Scales-Either, Scales-Both, Scales-Lasting}
 use Rattle.tre_pairs.proofs.Ticks.{le_down, ge_down}
-use Rattle.tre_residual.specs.Residual.{Held}
-use Rattle.tre_residual.proofs.HeldSets.{Scales-Held, IsOrdered-Held}
-use Rattle.tre_residual.proofs.Meanings.{Scales-JoinedAt}
+use Rattle.tre_zone.specs.Held.{Held}
+use Rattle.tre_zone.proofs.HeldSets.{Scales-Held, IsOrdered-Held}
+use Rattle.tre_zone.proofs.JoinedPairs.{Scales-JoinedAt}
 use Rattle.tre_syntax.specs.Meaning.{MatchesRest}
 use Rattle.tre_syntax.specs.PatternTree.{Atom, PatternTree, empty, literal, rise, fall, atom, sequence, alternation, intersection, repetition, restriction}
 use Rattle.tre_syntax.specs.Rest.{Rest}

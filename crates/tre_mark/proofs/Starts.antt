@@ -5,8 +5,8 @@ use Rattle.tre_pairs.specs.Cuts.{JoinedAt}
 use Rattle.tre_pairs.specs.Pairs.{Pairs, Composed, Both, Lasting}
 use Rattle.tre_pairs.proofs.Laws.{Scales, Agree}
 use Rattle.tre_pairs.proofs.Scaling.{moved, Scales-Composed, Scales-Both, Scales-Lasting}
-use Rattle.tre_residual.specs.Residual.{Held, EndAt}
-use Rattle.tre_residual.proofs.HeldSets.{Scales-Held, Held-empty}
+use Rattle.tre_zone.specs.Held.{Held, EndAt}
+use Rattle.tre_zone.proofs.HeldSets.{Scales-Held, Held-empty}
 use Rattle.tre_syntax.specs.Meaning.{MatchesRest}
 use Rattle.tre_syntax.specs.PatternTree.{Atom, PatternTree, empty, literal, rise, fall, atom, sequence, alternation, intersection, repetition, restriction}
 use Rattle.tre_syntax.specs.Rest.{Rest, rest_of}

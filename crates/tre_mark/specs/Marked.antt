@@ -2,7 +2,7 @@
 use Rattle.std.specs.Prelude.{◌≡◌, ℕ, ◌+◌, ◌*◌, ◌<◌, ◌≤◌, ◌↔◌, List, [], MatchOption, Option}
 use Rattle.tre_pairs.specs.Cuts.{IsMoment, JoinedAt}
 use Rattle.tre_pairs.specs.Pairs.{Pairs, Composed, Either, Both, Lasting}
-use Rattle.tre_residual.specs.Residual.{Held, EndAt}
+use Rattle.tre_zone.specs.Held.{Held, EndAt}
 use Rattle.tre_syntax.specs.Meaning.{MatchesRest}
 use Rattle.tre_syntax.specs.PatternTree.{Atom, PatternTree, empty, literal, rise, fall, atom, sequence, alternation, intersection, repetition, restriction}
 use Rattle.tre_syntax.specs.Rest.{Rest, rest_of}

@@ -1,6 +1,6 @@
 ghost use Rattle.std.specs.Prelude.{ℕ, ◌≤◌, IfOk};
 ghost use Rattle.tre_pairs.specs.declared.TheConstants.{TIME_MAX};
-ghost use Rattle.tre_residual.specs.Residual.{EndAt};
+ghost use Rattle.tre_zone.specs.Held.{EndAt};
 ghost use Rattle.tre_syntax.specs.Expr.{tree_of};
 ghost use Rattle.tre_syntax.specs.PatternTree.{Atom, atom};
 ghost use Rattle.tre_mark.specs.MarkTree.{mark_of};

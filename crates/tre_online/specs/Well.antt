@@ -3,7 +3,7 @@ use Rattle.std.specs.Prelude.{◌≡◌, ℕ, ◌+◌, ◌*◌, ◌<◌, ◌≤�
 use Rattle.std.specs.Coded.{Coded-set, ×_prop, Π_prop, →_prop, Unit-prop, le_prop, coded_list}
 use native.Mathlib.Nat.{ℕ_set}
 use mathlib.Core.Path.{ap}
-use Rattle.tre_residual.specs.Residual.{Held, EndAt}
+use Rattle.tre_zone.specs.Held.{Held, EndAt}
 use Rattle.tre_syntax.specs.Pattern.{pattern_tree}
 use Rattle.tre_syntax.specs.PatternTree.{Atom, PatternTree, empty, literal, rise, fall, atom, sequence, alternation, intersection, repetition, restriction}
 use Rattle.tre_syntax.specs.declared.pattern.Pattern.{Pattern}
