@@ -14,11 +14,11 @@ join (sequence_mark one other) end = sequence_mark one other
 join (alternation_mark one other) end = alternation_mark one other
 join (repetition_mark here body) end = repetition_mark here body
 join intersection_none end = end
-join (intersection_one from to outer one other others) end =
-    intersection_one from to outer one other (join others end)
+join (intersection_one to outer one other others) end =
+    intersection_one to outer one other (join others end)
 join restriction_none end = end
-join (restriction_one from to outer one others) end =
-    restriction_one from to outer one (join others end)
+join (restriction_one to outer one others) end =
+    restriction_one to outer one (join others end)
 
 -- What begins at `to` is too long for the interval where it ends at the time or later.
 abbrev pub IsPast : ℕ → IntervalEnds → ℕ → Type 0
@@ -27,22 +27,22 @@ IsPast to interval time = MatchOption interval.high ⊥ (λ high. to + high < ti
 -- Another instance of a restriction told what its mark did, as far as it is in the interval, and
 -- was kept at the time unless it is too old or nothing is left of it.
 pub record KeepsLasting (interval : IntervalEnds) (time : ℕ) (old_told : List ZoneBounds)
-    (old_rest : MarkTree) (from to : ℕ) (outer told : List ZoneBounds) (rest : MarkTree)
+    (old_rest : MarkTree) (to : ℕ) (outer told : List ZoneBounds) (rest : MarkTree)
     (new_told : List ZoneBounds) (new_rest : MarkTree) : Type 0 where
   pub tells : IsSetOf new_told
       (Either (Held old_told) (Composed (Held outer) (Lasting (LastsWithin interval) (Held told))))
-  pub keeps : ((new_rest ≡ join old_rest (restriction_one from to outer rest restriction_none))
+  pub keeps : ((new_rest ≡ join old_rest (restriction_one to outer rest restriction_none))
       × (IsPast to interval time → ⊥) × (IsBare rest → ⊥))
       ⊎ ((new_rest ≡ old_rest) × (IsBare rest ⊎ IsPast to interval time))
 
 -- Another instance of an intersection told what both its marks did, and was kept unless nothing is
 -- left of one of them.
-pub record KeepsBoth (old_told : List ZoneBounds) (old_rest : MarkTree) (from to : ℕ)
+pub record KeepsBoth (old_told : List ZoneBounds) (old_rest : MarkTree) (to : ℕ)
     (outer told told' : List ZoneBounds) (rest rest' : MarkTree) (new_told : List ZoneBounds)
     (new_rest : MarkTree) : Type 0 where
   pub tells : IsSetOf new_told
       (Either (Held old_told) (Composed (Held outer) (Both (Held told) (Held told'))))
   pub keeps :
-      ((new_rest ≡ join old_rest (intersection_one from to outer rest rest' intersection_none))
+      ((new_rest ≡ join old_rest (intersection_one to outer rest rest' intersection_none))
       × (IsBare rest → ⊥) × (IsBare rest' → ⊥))
       ⊎ ((new_rest ≡ old_rest) × (IsBare rest ⊎ IsBare rest'))

@@ -48,12 +48,16 @@ impl Mark {
                 repetition(alloc, here, body)
             }
             Expr::Meet(left, right) => {
+                // For the proof: the call says that each zone holds a pair.
+                let _zones = zones.zones();
                 let moment = moments(alloc, time, time)?;
                 let left = Mark::start(alloc, left, &moment, time)?;
                 let right = Mark::start(alloc, right, &moment, time)?;
                 both_at(alloc, zones, time, left, right)
             }
             Expr::Within(body, _) => {
+                // For the proof: the call says that each zone holds a pair.
+                let _zones = zones.zones();
                 let moment = moments(alloc, time, time)?;
                 let body = Mark::start(alloc, body, &moment, time)?;
                 lasting_at(alloc, zones, time, body)
