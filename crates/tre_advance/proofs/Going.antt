@@ -9,7 +9,7 @@ use Rattle.tre_pairs.proofs.Implication.{Implies-Composed, Implies-Either, Impli
 use Rattle.tre_pairs.proofs.Laws.{IsOrdered, Implies, ImpliesBefore}
 use Rattle.tre_pairs.proofs.Order.{IsOrdered-Lasting}
 use Rattle.tre_pairs.proofs.Ticks.{ge_down}
-use Rattle.tre_residual.specs.Residual.{Held}
+use Rattle.tre_zone.specs.Held.{Held}
 use Rattle.tre_syntax.specs.Cut.{uncut, back_of}
 use Rattle.tre_syntax.specs.Meaning.{MatchesRest}
 use Rattle.tre_syntax.specs.PatternTree.{Atom, PatternTree, empty, literal, rise, fall, atom, sequence, alternation, intersection, repetition, restriction}
@@ -129,7 +129,7 @@ module _ (piece : Piece) (segments : List Segment) where
       (Implies-Composed (Marked P body tree) (Marked W body tree)
       (MatchesRest (repetition tree) P) (MatchesRest (repetition tree) W) (mark_grows body tree)
       (tree_grows (repetition tree)))
-  mark_grows (intersection_one from to outer one other others) (intersection left right) =
+  mark_grows (intersection_one to outer one other others) (intersection left right) =
       let Rp = Both (Marked P one left) (Marked P other right) in
       let R = Both (Marked W one left) (Marked W other right) in
       Implies-Either (Composed (Held outer) Rp) (Composed (Held outer) R)
@@ -138,7 +138,7 @@ module _ (piece : Piece) (segments : List Segment) where
       (Implies-Both (Marked P one left) (Marked W one left) (Marked P other right)
       (Marked W other right) (mark_grows one left) (mark_grows other right)))
       (mark_grows others (intersection left right))
-  mark_grows (restriction_one from to outer one others) (restriction tree ends) =
+  mark_grows (restriction_one to outer one others) (restriction tree ends) =
       let D = LastsWithin ends in
       Implies-Either (Composed (Held outer) (Lasting D (Marked P one tree)))
       (Composed (Held outer) (Lasting D (Marked W one tree)))
@@ -179,7 +179,7 @@ module _ (piece : Piece) (segments : List Segment) where
       (MatchesRest (repetition tree) W) (MatchesRest (repetition tree) P)
       (IsOrdered-rest (repetition tree) W) (mark_early body tree)
       (tree_early (repetition tree)))
-  mark_early (intersection_one from to outer one other others) (intersection left right) =
+  mark_early (intersection_one to outer one other others) (intersection left right) =
       let Rp = Both (Marked P one left) (Marked P other right) in
       let R = Both (Marked W one left) (Marked W other right) in
       ImpliesBefore-Either T' (Composed (Held outer) R) (Composed (Held outer) Rp)
@@ -190,7 +190,7 @@ module _ (piece : Piece) (segments : List Segment) where
       (ImpliesBefore-Both T' (Marked W one left) (Marked P one left) (Marked W other right)
       (Marked P other right) (mark_early one left) (mark_early other right)))
       (mark_early others (intersection left right))
-  mark_early (restriction_one from to outer one others) (restriction tree ends) =
+  mark_early (restriction_one to outer one others) (restriction tree ends) =
       let D = LastsWithin ends in
       ImpliesBefore-Either T' (Composed (Held outer) (Lasting D (Marked W one tree)))
       (Composed (Held outer) (Lasting D (Marked P one tree)))
@@ -242,12 +242,12 @@ module _ (rest : Rest) where
       (λ y. tree_ends (repetition tree) (rest.start * n) b n y.right)
       (λ y. ends_composed (Marked rest body tree) (MatchesRest (repetition tree) rest)
       (tree_ends (repetition tree)) a b n y) h
-  mark_ends le (intersection_one from to outer one other others) (intersection left right) a b n h =
+  mark_ends le (intersection_one to outer one other others) (intersection left right) a b n h =
       ⊎_elim
       (λ y. ends_composed (Held outer) (Both (Marked rest one left) (Marked rest other right))
       (λ a b n z. mark_ends le one left a b n z.left) a b n y)
       (λ y. mark_ends le others (intersection left right) a b n y) h
-  mark_ends le (restriction_one from to outer one others) (restriction tree ends) a b n h = ⊎_elim
+  mark_ends le (restriction_one to outer one others) (restriction tree ends) a b n h = ⊎_elim
       (λ y. ends_composed (Held outer) (Lasting (LastsWithin ends) (Marked rest one tree))
       (λ a b n z. mark_ends le one tree a b n z.related) a b n y)
       (λ y. mark_ends le others (restriction tree ends) a b n y) h

@@ -9,9 +9,9 @@ use Rattle.tre_pairs.proofs.CutLaws.{Scales-Crossing}
 use Rattle.tre_pairs.proofs.Laws.{Scales, IsOrdered, Agree}
 use Rattle.tre_pairs.proofs.Order.{IsOrdered-Either}
 use Rattle.tre_pairs.proofs.Scaling.{moved, Scales-Composed, Scales-Either}
-use Rattle.tre_residual.specs.Residual.{Held, EndAt}
-use Rattle.tre_residual.proofs.HeldSets.{Scales-Held, IsOrdered-Held, Held-empty}
-use Rattle.tre_residual.proofs.Meanings.{Scales-JoinedAt}
+use Rattle.tre_zone.specs.Held.{Held, EndAt}
+use Rattle.tre_zone.proofs.HeldSets.{Scales-Held, IsOrdered-Held, Held-empty}
+use Rattle.tre_zone.proofs.JoinedPairs.{Scales-JoinedAt}
 use Rattle.tre_syntax.specs.Meaning.{MatchesRest}
 use Rattle.tre_syntax.specs.PatternTree.{PatternTree, empty, repetition}
 use Rattle.tre_syntax.specs.Rest.{Rest, AtomMatches}

@@ -13,8 +13,9 @@ use Rattle.tre_syntax.specs.Rest.{Rest}
 use Rattle.tre_syntax.proofs.CutMeaning.{Scales-rest}
 use Rattle.tre_zone.specs.Interval.{IntervalEnds}
 use Rattle.tre_zone.specs.declared.zone_bounds.ZoneBounds.{ZoneBounds}
-use Rattle.tre_residual.specs.Residual.{ResidualTree, nothing, here, joined, preceded, followed, either, lasting, Held, Means, EndAt, Builds, IsComposition}
-use Rattle.tre_residual.proofs.HeldSets.{Scales-Held, Held-empty}
+use Rattle.tre_zone.specs.Held.{Held, EndAt}
+use Rattle.tre_residual.specs.Residual.{ResidualTree, nothing, here, joined, preceded, followed, either, lasting, Means, Builds, IsComposition}
+use Rattle.tre_zone.proofs.HeldSets.{Scales-Held, Held-empty}
 use Rattle.tre_residual.proofs.Meanings.{Scales-Means}
 
 -- Any form stands for its own pairs.

@@ -13,7 +13,8 @@ use Rattle.tre_syntax.proofs.CutMeaning.{IsOrdered-rest}
 use Rattle.tre_syntax.proofs.Growth.{Implies-grown, ImpliesBefore-cut}
 use Rattle.tre_syntax.proofs.MeaningLaws.{Implies-Meaning, ImpliesBefore-Meaning}
 use Rattle.tre_zone.specs.Interval.{LastsWithin}
-use Rattle.tre_residual.specs.Residual.{ResidualTree, nothing, here, joined, preceded, followed, either, both, lasting, Held, Means}
+use Rattle.tre_zone.specs.Held.{Held}
+use Rattle.tre_residual.specs.Residual.{ResidualTree, nothing, here, joined, preceded, followed, either, both, lasting, Means}
 use Rattle.tre_residual.proofs.Meanings.{IsOrdered-Means}
 
 Implies-self : (R : Pairs) → Implies R R

@@ -1,5 +1,5 @@
 -- Residuals: the matches that began before a time and may go on behind it, seen as trees.
-use Rattle.std.specs.Prelude.{◌≡◌, ℕ, ◌*◌, ◌<◌, ◌≤◌, ◌↔◌, List}
+use Rattle.std.specs.Prelude.{ℕ, ◌<◌, ◌↔◌, List}
 use Rattle.tre_pairs.specs.Cuts.{JoinedAt}
 use Rattle.tre_pairs.specs.Pairs.{Pairs, Composed, Either, Both, Lasting}
 use Rattle.tre_state.specs.declared.names.TheConstants.{NAMES_MAX}
@@ -7,8 +7,8 @@ use Rattle.tre_syntax.specs.Expr.{tree_of}
 use Rattle.tre_syntax.specs.Meaning.{MatchesRest}
 use Rattle.tre_syntax.specs.PatternTree.{PatternTree, NumbersBelow}
 use Rattle.tre_syntax.specs.Rest.{Rest}
+use Rattle.tre_zone.specs.Held.{Held, EndAt}
 use Rattle.tre_zone.specs.Interval.{IntervalEnds, LastsWithin}
-use Rattle.tre_zone.specs.ZoneList.{SetHolds}
 use Rattle.tre_zone.specs.declared.zone_bounds.ZoneBounds.{ZoneBounds}
 use Rattle.tre_residual.specs.declared.residual.Residual.{Residual}
 use Rattle.tre_residual.specs.declared.residual.Residual.TheVariants.{Nil, Here, At, Pre', Post', Or', Both', Dur'}
@@ -35,11 +35,6 @@ residual_tree (Or' box one box' other) = either (residual_tree one) (residual_tr
 residual_tree (Both' box one box' other) = both (residual_tree one) (residual_tree other)
 residual_tree (Dur' box residual interval) = lasting (residual_tree residual) interval
 
--- Some zone of the list holds the pair, the first time of which is not after the second.
-pub record Held (zones : List ZoneBounds) (a b n : ℕ) : Type 0 where
-  pub rising : a ≤ b
-  pub held : SetHolds zones a b n
-
 -- The pairs that a residual stands for, where this rest of a trace comes.
 abbrev pub Means : ResidualTree → Rest → Pairs
 Means nothing rest a b n = ⊥
@@ -53,10 +48,6 @@ Means (followed residual tree) rest a b n =
 Means (either one other) rest a b n = Either (Means one rest) (Means other rest) a b n
 Means (both one other) rest a b n = Both (Means one rest) (Means other rest) a b n
 Means (lasting residual ends) rest a b n = Lasting (LastsWithin ends) (Means residual rest) a b n
-
--- Each pair of the set ends at the time.
-pub record EndAt (time : ℕ) (zones : List ZoneBounds) : Type 0 where
-  pub ends : (a b n : ℕ) → 0 < n → Held zones a b n → b ≡ time * n
 
 -- Each pair that is here ends at the time, and each expression names propositions that there are.
 abbrev pub IsWell : ℕ → ResidualTree → Type 0

@@ -1,16 +1,15 @@
--- What sets of zones hold, where the first time is not after the second.
+-- What lists of zones hold, where the first time is not after the second.
 use Rattle.std.proofs.Common.{ℕ, List, []}
 use Rattle.std.proofs.Math.Nat.{mul-le-mul_left, le_of_mul-le-mul_left}
 use Rattle.tre_pairs.specs.Pairs.{Composed}
 use Rattle.tre_pairs.proofs.Agreement.{Agree-Composed}
 use Rattle.tre_pairs.proofs.Laws.{Scales, IsOrdered, Agree}
 use Rattle.tre_pairs.proofs.Order.{IsOrdered-Composed}
-use Rattle.tre_zone.specs.ZoneList.{SetHolds, HoldExactly}
+use Rattle.tre_zone.specs.Held.{Held, IsSetOf}
+use Rattle.tre_zone.specs.ZoneList.{SetHolds, AreCanonical, HoldExactly}
 use Rattle.tre_zone.specs.declared.zone_bounds.ZoneBounds.{ZoneBounds}
 use Rattle.tre_zone.proofs.Scaling.{SetHolds-scale, SetHolds-rising}
 use Rattle.tre_zone.proofs.ZoneListLemmas.{SetHolds-empty}
-use Rattle.tre_zoneset.specs.ZoneSet.{IsZoneSet}
-use Rattle.tre_residual.specs.Residual.{Held, IsComposition}
 
 pub Scales-Held : (zones : List ZoneBounds) → Scales (Held zones)
 Scales-Held zones = record {
@@ -30,18 +29,21 @@ IsOrdered-Held zones = record { le = λ a b n h. h.rising }
 pub Held-empty : (a b n : ℕ) → Held [] a b n → ⊥
 Held-empty a b n h = SetHolds-empty a b n h.held
 
-Agree-Held : (zones : List ZoneBounds) → IsZoneSet zones → Agree (Held zones) (SetHolds zones)
-Agree-Held zones set = record {
+-- Zones hold no other pairs.
+pub Agree-Held : (zones : List ZoneBounds) → AreCanonical zones
+    → Agree (Held zones) (SetHolds zones)
+Agree-Held zones canonical = record {
   at = λ a b n some. (
     (λ h. h.held),
-    (λ h. record { rising = SetHolds-rising zones set.canonical a b n some h; held = h }),
+    (λ h. record { rising = SetHolds-rising zones canonical a b n some h; held = h }),
   );
 }
 
-pub composed_exact : (first second zones : List ZoneBounds) → IsZoneSet first → IsZoneSet second
-    → HoldExactly zones (Composed (SetHolds first) (SetHolds second))
-    → IsComposition zones first second
-composed_exact first second zones one other held =
+-- The pairs of one list, followed by those of another.
+pub composed_set : (first second zones : List ZoneBounds) → AreCanonical first
+    → AreCanonical second → HoldExactly zones (Composed (SetHolds first) (SetHolds second))
+    → IsSetOf zones (Composed (Held first) (Held second))
+composed_set first second zones one other held =
     let same = Agree-Composed (Held first) (SetHolds first) (Held second) (SetHolds second)
     (Agree-Held first one) (Agree-Held second other) in
     let ordered = IsOrdered-Composed (Held first) (Held second) (IsOrdered-Held first)
