@@ -9,8 +9,7 @@ ghost use Rattle.tre_zone.specs.Zone.{IsInstantBetween, EndsAt};
 ghost use Rattle.tre_advance.specs.Sets.{IsSetOf};
 
 use std::alloc::{AllocError, Global};
-use tre_star::closure::closure;
-use tre_star::compose_sets::compose_sets;
+use tre_star::{closure, compose_sets};
 use tre_zone::{Interval, Zone};
 use tre_zoneset::ZoneSet;
 
