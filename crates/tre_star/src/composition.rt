@@ -1,15 +1,16 @@
-ghost use Rattle.std.specs.Prelude.{OnOk, IfOk};
+ghost use Rattle.std.specs.Prelude.{map, OnOk, IfOk};
 ghost use Rattle.tre_pairs.specs.Pairs.{Either, Composed, Lasting};
 ghost use Rattle.tre_zone.specs.Longest.{LastsUpTo, IsLongest};
-ghost use Rattle.tre_zone.specs.Zone.{ZoneHolds};
+ghost use Rattle.tre_zone.specs.Zone.{ZoneHolds, row_of};
 ghost use Rattle.tre_zone.specs.ZoneList.{SetHolds, AreCanonical, HoldExactly};
+ghost use Rattle.tre_index.specs.Turn.{AreInTurn};
 
 use crate::gather_up_to::gather_up_to;
 use std::alloc::{AllocError, Global};
 use tre_compose::compose;
-use tre_index::{ZoneIndex, key_after};
+use tre_index::{ZoneIndex, are_in_turn, find_stretch, key_after};
 use tre_zone::Zone;
-use tre_zoneset::{ZoneSet, are_few, index_of};
+use tre_zoneset::{ZoneSet, index_of};
 
 /// The pairs `(t,t')` for which some `m` has `(t,m)` in `first` and `(m,t')` in `second`.
 pub fn compose_sets(alloc: Global, first: &ZoneSet, second: &ZoneSet) -> Result<ZoneSet, AllocError>
@@ -30,33 +31,72 @@ pub fn compose_sets_up_to(
     ensures { IfOk result (λ set. HoldExactly set
         (Lasting (LastsUpTo longest) (Composed (SetHolds first.now) (SetHolds second.now)))) }
 {
-    if first.is_empty() || are_few(second.zones()) {
-        let found = compose_each(alloc, first.zones(), second.zones(), longest)?;
-        let composed = ZoneSet::of_zones(alloc, found)?;
-        return Ok(composed);
-    }
-    let found = compose_by_index(alloc, first.zones(), second.zones(), longest)?;
+    let found = compositions_of(alloc, first.zones(), second.zones(), longest)?;
     let composed = ZoneSet::of_zones(alloc, found)?;
     Ok(composed)
 }
 
 // The compositions of the first zones with the second ones, two by two, as far as they last at most
 // `longest`.
-fn compose_each(
+fn compositions_of(
     alloc: Global,
     first: &[Zone],
     second: &[Zone],
     longest: Option<u64>,
 ) -> Result<Vec<Zone>, AllocError>
-    requires { IsLongest longest }
+    requires seconds { AreCanonical second.now }
+    requires longest { IsLongest longest }
+    ensures { IfOk result (λ found. HoldExactly found.items
+        (Lasting (LastsUpTo longest) (Composed (SetHolds first.now) (SetHolds second.now)))) }
+{
+    if are_in_turn(second) {
+        return compose_in_turn(alloc, first, second, longest);
+    }
+    compose_by_index(alloc, first, second, longest)
+}
+
+// The same where the second zones stand in the order of time: one pass over both.
+fn compose_in_turn(
+    alloc: Global,
+    first: &[Zone],
+    second: &[Zone],
+    longest: Option<u64>,
+) -> Result<Vec<Zone>, AllocError>
+    requires turn { AreInTurn (map row_of second.now) }
+    requires seconds { AreCanonical second.now }
+    requires longest { IsLongest longest }
     ensures { IfOk result (λ found. HoldExactly found.items
         (Lasting (LastsUpTo longest) (Composed (SetHolds first.now) (SetHolds second.now)))) }
 {
     let mut found = Vec::new(alloc);
+    let mut near = 0;
     for zone in first {
-        gather_each(&mut found, zone, second, longest)?;
+        near = gather_near(&mut found, zone, second, near, longest)?;
     }
     Ok(found)
+}
+
+// Adds the compositions of the zone with the second ones to a list, as far as they last at most
+// `longest`: by looking at those around the place `near` that begin where it ends. Gives the place
+// of the first of them.
+fn gather_near(
+    found: &mut Vec<Zone>,
+    zone: &Zone,
+    second: &[Zone],
+    near: usize,
+    longest: Option<u64>,
+) -> Result<usize, AllocError>
+    requires turn { AreInTurn (map row_of second.now) }
+    requires seconds { AreCanonical second.now }
+    requires longest { IsLongest longest }
+    ensures { OnOk result (HoldExactly found.new.items
+        (Either (SetHolds found.old.items)
+        (Lasting (LastsUpTo longest) (Composed (ZoneHolds zone.now) (SetHolds second.now))))) }
+{
+    let key = key_after(zone);
+    let stretch = find_stretch(second, near, &key);
+    gather_each(found, zone, &second[stretch.from..stretch.to], longest)?;
+    Ok(stretch.from)
 }
 
 // Adds the compositions of the zone with each of the second ones to a list, as far as they last at
@@ -78,7 +118,7 @@ fn gather_each(
     Ok(())
 }
 
-// The same as `compose_each`, by an index over the second ones.
+// The same in any order, by an index over the second zones.
 fn compose_by_index(
     alloc: Global,
     first: &[Zone],

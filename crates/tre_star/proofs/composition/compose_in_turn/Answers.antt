@@ -7,7 +7,7 @@ use Rattle.tre_zone.specs.ZoneList.{SetHolds}
 use Rattle.tre_zone.proofs.ZoneListLemmas.{SetHolds-empty}
 use Rattle.tre_zoneset.proofs.Unions.{HoldExactly-each, HoldExactly-none, HoldExactly-all}
 use Rattle.tre_star.proofs.Composing.{Composed-additive_left}
-use Rattle.tre_star.proofs.composition.compose_each.Goals as goal
+use Rattle.tre_star.proofs.composition.compose_in_turn.Goals as goal
 
 pub loop-zone-init : goal.loop-zone-init
 loop-zone-init c =
@@ -22,11 +22,11 @@ loop-zone-preserved c =
     (λ (R : Pairs). Composed R (SetHolds c.args.second.now))
     (Composed-additive_left (SetHolds c.args.second.now)))
     c.loop-zone.found.items
-    c.gather_each.new.found.items c.args.first.now c.loop-zone.zone-index
+    c.gather_near.new.found.items c.args.first.now c.loop-zone.zone-index
     c.zone-item.result (Lasting (LastsUpTo c.args.longest)
     (Composed (ZoneHolds c.zone-item.result) (SetHolds c.args.second.now)))
     c.loop-zone-test.true c.zone-item.is c.loop-zone.invariant
-    c.in_ok-gather_each.ensures
+    c.in_ok-near.ensures
     (λ a b n some le. ((λ h. h), (λ h. h)))
 
 pub returns : goal.returns
