@@ -8,8 +8,7 @@ ghost use Rattle.tre_zone.specs.Interval.{LastsWithin};
 ghost use Rattle.tre_zone.specs.Zone.{IsInstantBetween, EndsAt};
 
 use std::alloc::{AllocError, Global};
-use tre_star::closure::closure;
-use tre_star::compose_sets::compose_sets;
+use tre_star::{closure, compose_sets};
 use tre_zone::{Interval, Zone};
 use tre_zoneset::ZoneSet;
 

@@ -5,7 +5,7 @@ ghost use Rattle.tre_syntax.specs.PatternTree.{NumbersBelow};
 ghost use Rattle.tre_residual.specs.Residual.{nothing, here, joined, preceded, followed, either, both, lasting, residual_tree, IsWellAt, Builds, IsComposition};
 
 use std::alloc::{AllocError, Global};
-use tre_star::compose_sets::compose_sets;
+use tre_star::compose_sets;
 use tre_syntax::Expr;
 use tre_zone::Interval;
 use tre_zoneset::ZoneSet;

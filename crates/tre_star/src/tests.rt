@@ -1,7 +1,6 @@
 ghost use Rattle.std.specs.Prelude.{◌<◌};
 
-use crate::closure::closure;
-use crate::compose_sets::compose_sets;
+use crate::{closure, compose_sets};
 use std::alloc::{AllocError, Global};
 use std::test::Fail;
 use tre_pairs::TIME_MAX;

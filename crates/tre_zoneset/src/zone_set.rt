@@ -1,16 +1,17 @@
-ghost use Rattle.std.specs.Prelude.{◌≡◌, ℕ, ◌+◌, ◌<◌, ◌≤◌, ◌↔◌, false, true, IsTrue, OnOk, OnErr, IfOk, Any, [], ◌∷◌, ◌++◌, take, vec_len, vec_capacity, pos, ◌≤ℤ◌, ◌^◌};
+ghost use Rattle.std.specs.Prelude.{◌≡◌, ℕ, ◌+◌, ◌<◌, ◌≤◌, ◌↔◌, false, true, IsTrue, OnOk, OnErr, IfOk, Any, [], ◌∷◌, ◌++◌, take, map, vec_len, vec_capacity, pos, ◌≤ℤ◌, ◌^◌};
 ghost use Rattle.tre_pairs.specs.Pairs.{Either, Both, Lasting};
 ghost use Rattle.tre_zone.specs.Interval.{LastsWithin};
 ghost use Rattle.tre_zone.specs.Longest.{LastsUpTo, IsLongest};
-ghost use Rattle.tre_zone.specs.Zone.{ZoneHolds, Includes, HasNoPair, EndsAt};
+ghost use Rattle.tre_zone.specs.Zone.{ZoneHolds, Includes, HasNoPair, EndsAt, row_of};
 ghost use Rattle.tre_zone.specs.ZoneList.{SetHolds, IsApartFrom, AreCanonical, AreTight, HoldExactly};
+ghost use Rattle.tre_index.specs.Turn.{AreInTurn};
 ghost use Rattle.tre_zoneset.specs.ZoneSet.{IsZoneSet, Without, Stays, IsAdded, FoundHolds, IsThinned, IsKept};
 ghost use Rattle.tre_zoneset.specs.Short.{AreUpTo, AreWithin, IsWithin};
 
 use crate::rise::all_rise;
 use std::alloc::{AllocError, Global};
 use std::marker::Model;
-use tre_index::{ZoneIndex, key_meeting};
+use tre_index::{ZoneIndex, are_in_turn, find_stretch, key_meeting};
 use tre_pairs::TIME_MAX;
 use tre_zone::{Interval, Zone};
 
@@ -171,12 +172,7 @@ impl ZoneSet {
             HoldExactly set (Both (SetHolds self.now) (SetHolds other.now))) }
     {
         let alloc = *self.zones.allocator();
-        if self.is_empty() || are_few(other.zones()) {
-            let found = meets_of(alloc, self.zones(), other.zones())?;
-            let met = ZoneSet::of_zones(alloc, found)?;
-            return Ok(met);
-        }
-        let found = meets_by_index(alloc, self.zones(), other.zones())?;
+        let found = meets_of(alloc, self.zones(), other.zones())?;
         let met = ZoneSet::of_zones(alloc, found)?;
         Ok(met)
     }
@@ -337,14 +333,49 @@ fn is_within(zone: &Zone, interval: &Interval) -> bool
 
 // What the zones have in common with the others, two by two.
 fn meets_of(alloc: Global, zones: &[Zone], others: &[Zone]) -> Result<Vec<Zone>, AllocError>
+    requires { AreCanonical others.now }
+    ensures { IfOk result (λ found.
+        HoldExactly found.items (Both (SetHolds zones.now) (SetHolds others.now))) }
+{
+    if are_in_turn(others) {
+        return meets_in_turn(alloc, zones, others);
+    }
+    meets_by_index(alloc, zones, others)
+}
+
+// What the zones have in common with the others, which stand in the order of time: one pass over
+// both.
+fn meets_in_turn(alloc: Global, zones: &[Zone], others: &[Zone]) -> Result<Vec<Zone>, AllocError>
+    requires turn { AreInTurn (map row_of others.now) }
+    requires others { AreCanonical others.now }
     ensures { IfOk result (λ found.
         HoldExactly found.items (Both (SetHolds zones.now) (SetHolds others.now))) }
 {
     let mut found = Vec::new(alloc);
+    let mut near = 0;
     for zone in zones {
-        gather_each_meet(&mut found, zone, others)?;
+        near = gather_near_meets(&mut found, zone, others, near)?;
     }
     Ok(found)
+}
+
+// Adds what the zone has in common with the others to a list: by looking at those around the place
+// `near` that begin when it does. Gives the place of the first of them.
+fn gather_near_meets(
+    found: &mut Vec<Zone>,
+    zone: &Zone,
+    others: &[Zone],
+    near: usize,
+) -> Result<usize, AllocError>
+    requires turn { AreInTurn (map row_of others.now) }
+    requires others { AreCanonical others.now }
+    ensures { OnOk result (HoldExactly found.new.items
+        (Either (SetHolds found.old.items) (Both (ZoneHolds zone.now) (SetHolds others.now)))) }
+{
+    let key = key_meeting(zone);
+    let stretch = find_stretch(others, near, &key);
+    gather_each_meet(found, zone, &others[stretch.from..stretch.to])?;
+    Ok(stretch.from)
 }
 
 // Adds what the zone has in common with each of the others to a list: by looking at each.
