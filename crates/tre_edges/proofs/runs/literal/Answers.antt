@@ -8,7 +8,7 @@ use Rattle.tre_edges.proofs.Literals.{HoldsFrom-literal}
 use Rattle.tre_edges.proofs.NextTurns.{run_found}
 use Rattle.tre_edges.proofs.Places.{time_of, time_of-mono, time_of-limit, count-limit, later}
 use Rattle.tre_edges.proofs.Turns.{exact_closed}
-use Rattle.tre_edges.proofs.literal.literal.Goals as goal
+use Rattle.tre_edges.proofs.runs.literal.Goals as goal
 
 pub loop-at-init : goal.loop-at-init
 loop-at-init c =

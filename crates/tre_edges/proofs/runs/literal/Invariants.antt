@@ -7,7 +7,7 @@ use Rattle.tre_edges.specs.Ends.{EndBefore}
 use Rattle.tre_edges.specs.Runs.{AreRuns}
 use Rattle.tre_edges.proofs.Places.{time_of}
 use Rattle.tre_edges.proofs.RunsOfTraces.{FromPlace}
-use Rattle.tre_edges.proofs.literal.literal.Given as goal
+use Rattle.tre_edges.proofs.runs.literal.Given as goal
 
 -- The zones hold the stretches that have ended before the place `at`.
 abbrev pub invariant-loop-at : goal.invariant-loop-at
