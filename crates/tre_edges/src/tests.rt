@@ -3,9 +3,9 @@ ghost use Rattle.tre_state.specs.State.{tree_of};
 ghost use Rattle.tre_state.specs.StateTree.{NumbersBelow};
 ghost use Rattle.tre_state.specs.declared.names.TheConstants.{NAMES_MAX};
 
-use crate::literal::literal;
-use crate::moments::moments;
-use crate::{Piece, fall_in, falls, literal_in, moments_in, rise_in, rises, truth};
+use crate::{
+    Piece, fall_in, falls, literal, literal_in, moments, moments_in, rise_in, rises, truth,
+};
 use std::alloc::{AllocError, Global};
 use std::test::Fail;
 use tre_state::{NAMES_MAX, State};

@@ -24,4 +24,4 @@ mod trace;
 pub use fault::{PushFault, TraceFault, TraceKind};
 pub use reader::{FED_MAX, TraceReader};
 pub use segment::{Segment, generated};
-pub use trace::Trace;
+pub use trace::{Start, Trace};

@@ -1,6 +1,7 @@
 -- What a reader must believe.
 pub mod VcdReading
 pub mod Deciding
+pub mod Dumps
 -- What the functions inside promise each other.
 pub mod Kept
 pub mod Sections

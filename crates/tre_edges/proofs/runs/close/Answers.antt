@@ -1,6 +1,6 @@
 use Rattle.std.proofs.Common.{arith}
 use Rattle.tre_edges.proofs.RunLists.{AreRuns-push}
-use Rattle.tre_edges.proofs.literal.close.Goals as goal
+use Rattle.tre_edges.proofs.runs.close.Goals as goal
 
 pub returns-in_ok-push_disjoint-clause-runs : goal.returns-in_ok-push_disjoint-clause-runs
 returns-in_ok-push_disjoint-clause-runs c =

@@ -1,5 +1,5 @@
 use Rattle.tre_edges.proofs.MomentsOfTraces.{moments_exact}
-use Rattle.tre_edges.proofs.moments.moments.Goals as goal
+use Rattle.tre_edges.proofs.all_moments.moments.Goals as goal
 
 pub returns : goal.returns
 returns c =

@@ -15,7 +15,7 @@ use crate::next_place::next_place;
 use crate::truth_words::truth;
 use std::alloc::{AllocError, Global};
 use tre_state::{NAMES_MAX, State};
-use tre_trace::Trace;
+use tre_trace::{Start, Trace};
 use tre_zone::Zone;
 use tre_zoneset::ZoneSet;
 
@@ -30,12 +30,15 @@ pub fn literal(alloc: Global, state: &State, trace: &Trace) -> Result<ZoneSet, A
     let words = truth(alloc, state, trace)?;
     let count = trace.segments().len();
     let mut zones = ZoneSet::new(alloc);
-    // All runs that begin before `at` are in.
+    // All runs that begin before `at` are in, and times were added up as far as `seen`.
     let mut at = 0;
+    let mut seen = Start { place: 0, time: 0 };
     while at < count {
         let begin = next_place(&words, true, at, count);
         let end = next_place(&words, false, begin, count);
-        close(&mut zones, trace.start_of(begin), trace.start_of(end))?;
+        let from = trace.start_from(seen, begin);
+        seen = trace.start_from(from, end);
+        close(&mut zones, from.time, seen.time)?;
         at = end + 1;
     }
     Ok(zones)

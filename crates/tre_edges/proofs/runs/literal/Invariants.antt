@@ -1,4 +1,4 @@
-use Rattle.std.proofs.Common.{ℕ, ◌-◌, ◌<◌, ◌≤◌, ◌↔◌, ◌⊎◌, length}
+use Rattle.std.proofs.Common.{◌≡◌, ℕ, ◌-◌, ◌<◌, ◌≤◌, ◌↔◌, ◌⊎◌, length}
 use Rattle.tre_state.specs.State.{tree_of}
 use Rattle.tre_state.specs.StateTree.{HoldsOn}
 use Rattle.tre_trace.specs.Literal.{LiteralMatches}
@@ -7,7 +7,7 @@ use Rattle.tre_edges.specs.Ends.{EndBefore}
 use Rattle.tre_edges.specs.Runs.{AreRuns}
 use Rattle.tre_edges.proofs.Places.{time_of}
 use Rattle.tre_edges.proofs.RunsOfTraces.{FromPlace}
-use Rattle.tre_edges.proofs.literal.literal.Given as goal
+use Rattle.tre_edges.proofs.runs.literal.Given as goal
 
 -- The zones hold the stretches that have ended before the place `at`.
 abbrev pub invariant-loop-at : goal.invariant-loop-at
@@ -17,6 +17,8 @@ invariant-loop-at l =
       exact : (a b n : ℕ) → 0 < n → a ≤ b → LiteralMatches holds 0 l.trace a b n
           ↔ (SetHolds l.zones a b n ⊎ FromPlace holds l.trace (time_of l.trace l.at) l.at a b n);
       runs : AreRuns 0 l.zones;
+      passed : l.seen.place ≤ l.at;
+      seen : l.seen.time ≡ time_of l.trace l.seen.place;
       ended : l.at < length l.trace → EndBefore (time_of l.trace l.at) l.zones;
     }
 
