@@ -25,4 +25,3 @@ pub mod Depth
 pub mod Table
 pub mod NameNumbers
 pub mod Ends
-pub mod Past

@@ -1,5 +1,0 @@
-use Rattle.tre_parse.proofs.Past.{past_law}
-use Rattle.tre_parse.proofs.laws.one_name_too_many.Goals as goal
-
-pub returns : goal.returns
-returns c = past_law
