@@ -4,8 +4,8 @@ use Rattle.tre_state.specs.StateTree.{StateTree, negation, conjunction, disjunct
 use Rattle.tre_syntax.specs.PatternTree.{PatternTree, literal, rise, fall, atom, sequence, alternation, intersection}
 use Rattle.tre_syntax.specs.declared.pattern.TheConstants.{NODES_MAX}
 use Rattle.tre_parse.specs.declared.token.Token.{Token}
-use Rattle.tre_parse.specs.declared.token.Token.TheVariants.{Semicolon, Bar, DoubleBar, Ampersand, DoubleAmpersand}
-use Rattle.tre_parse.specs.Grammar.{StateRule, state, conj, neg, Rule, expr, meet, seq, post}
+use Rattle.tre_parse.specs.declared.token.Token.TheVariants.{LeftParen, RightParen, LeftBrace, RightBrace, Semicolon, Bar, DoubleBar, Ampersand, DoubleAmpersand, Rise, Fall}
+use Rattle.tre_parse.specs.Grammar.{StateRule, lit, state, conj, neg, Rule, expr, meet, seq, post}
 use Rattle.tre_parse.specs.declared.connective.Connective.{Connective}
 use Rattle.tre_parse.specs.declared.connective.Connective.TheVariants.{And, Or}
 use Rattle.tre_parse.specs.declared.connective.Join.{Join}
@@ -28,6 +28,11 @@ abbrev pub connected_part : Connective → StateRule
 connected_part And = neg
 connected_part Or = conj
 
+-- An operand of a state: in braces a literal.
+abbrev pub operand_in : Bool → StateRule
+operand_in true = lit
+operand_in false = neg
+
 abbrev pub joined_by : Join → PatternTree → PatternTree → PatternTree
 joined_by Sequence e f = sequence e f
 joined_by Intersection e f = intersection e f
@@ -48,6 +53,16 @@ abbrev pub joined_part : Join → Rule
 joined_part Sequence = post
 joined_part Intersection = seq
 joined_part Alternation = meet
+
+-- `rise` or `fall`.
+abbrev pub edge_sign : Bool → Token
+edge_sign true = Rise
+edge_sign false = Fall
+
+-- The brackets around a state in an operand: in a literal, braces.
+abbrev pub brackets_of : Bool → Token × Token
+brackets_of true = (LeftBrace, RightBrace)
+brackets_of false = (LeftParen, RightParen)
 
 -- So many negations of the state.
 abbrev pub negated : ℕ → StateTree → StateTree

@@ -11,11 +11,13 @@ pub mod Numbering
 pub mod Strength
 pub mod Depth
 pub mod Blanks
+pub mod Ends
 -- What the functions inside promise each other.
 pub mod Front
 pub mod Scan
 pub mod Joins
 pub mod Parts
 pub mod Operands
+pub mod Reader
 pub mod Reading
 pub mod Answers

@@ -1,11 +1,11 @@
 //! Expressions, one function for each kind of rule.
 ghost use Rattle.std.specs.Prelude.{◌≡◌, ◌≤◌, length, IfOk};
 ghost use Rattle.tre_state.specs.StateTree.{StateTree};
-ghost use Rattle.tre_parse.specs.Grammar.{Rule, post};
-ghost use Rattle.tre_parse.specs.Joins.{joined_rule, joined_part, plain_literal, edged_literal};
+ghost use Rattle.tre_parse.specs.Joins.{edge_sign, plain_literal, edged_literal};
 ghost use Rattle.tre_parse.specs.Operands.{RepresentsState, Represents, Turns};
 ghost use Rattle.tre_parse.specs.Front.{front};
-ghost use Rattle.tre_parse.specs.Reading.{IsPast, OperandMayCome, BeginsLiteral, edge_sign, ParsesBy, RefusesEnds};
+ghost use Rattle.tre_parse.specs.Reader.{PatternTask, expression_part};
+ghost use Rattle.tre_parse.specs.Reading.{BeginsLiteral, Reads};
 
 use crate::connective::{Connective, Join};
 use crate::counted::Counted;
@@ -22,9 +22,8 @@ use tre_syntax::Expr;
 /// least, between them they are a whole expression.
 #[cycle(expression)]
 pub(crate) fn expression(alloc: Global, how: Join, tokens: &mut Cursor) -> Result<Operand, Stop>
-    ensures reads { ParsesBy (joined_rule how) result tokens.old tokens.new }
+    ensures reads { Reads (PatternTask.expression_by how) result tokens.old tokens.new }
     ensures shorter { IfOk result (λ _. length tokens.new ≤ length tokens.old) }
-    ensures ends { IfOk result (λ _. IsPast (joined_rule how) (front tokens.new)) }
 {
     let mut whole = part(alloc, how, tokens)?;
     while tokens.accept(how.sign()) {
@@ -37,9 +36,8 @@ pub(crate) fn expression(alloc: Global, how: Join, tokens: &mut Cursor) -> Resul
 // What stands between those signs.
 #[cycle(expression)]
 fn part(alloc: Global, how: Join, tokens: &mut Cursor) -> Result<Operand, Stop>
-    ensures reads { ParsesBy (joined_part how) result tokens.old tokens.new }
+    ensures reads { Reads (expression_part how) result tokens.old tokens.new }
     ensures shorter { IfOk result (λ _. length tokens.new ≤ length tokens.old) }
-    ensures ends { IfOk result (λ _. IsPast (joined_part how) (front tokens.new)) }
 {
     match how {
         Join::Alternation => expression(alloc, Join::Intersection, tokens),
@@ -52,9 +50,8 @@ fn part(alloc: Global, how: Join, tokens: &mut Cursor) -> Result<Operand, Stop>
 // part of the primary.
 #[cycle(expression)]
 fn operand(alloc: Global, tokens: &mut Cursor) -> Result<Operand, Stop>
-    ensures reads { ParsesBy post result tokens.old tokens.new }
+    ensures reads { Reads PatternTask.operand result tokens.old tokens.new }
     ensures shorter { IfOk result (λ _. length tokens.new ≤ length tokens.old) }
-    ensures ends { IfOk result (λ _. IsPast post (front tokens.new)) }
 {
     let mut whole = primary(alloc, tokens)?;
     loop {
@@ -86,9 +83,8 @@ fn operand(alloc: Global, tokens: &mut Cursor) -> Result<Operand, Stop>
 // `eps`, an expression in parentheses, an edge, or a literal.
 #[cycle(expression)]
 fn primary(alloc: Global, tokens: &mut Cursor) -> Result<Operand, Stop>
-    ensures reads { ParsesBy Rule.primary result tokens.old tokens.new }
+    ensures reads { Reads PatternTask.unsigned result tokens.old tokens.new }
     ensures shorter { IfOk result (λ _. length tokens.new ≤ length tokens.old) }
-    ensures ends { IfOk result (λ _. RefusesEnds OperandMayCome tokens.old tokens.new) }
 {
     match tokens.peek() {
         Token::Eps => {
@@ -110,9 +106,8 @@ fn primary(alloc: Global, tokens: &mut Cursor) -> Result<Operand, Stop>
 // `rise` or `fall`, and a state in parentheses.
 fn edge(alloc: Global, rises: bool, tokens: &mut Cursor) -> Result<Operand, Stop>
     requires { front tokens.old ≡ edge_sign rises }
-    ensures reads { ParsesBy Rule.primary result tokens.old tokens.new }
+    ensures reads { Reads PatternTask.unsigned result tokens.old tokens.new }
     ensures shorter { IfOk result (λ _. length tokens.new ≤ length tokens.old) }
-    ensures ends { IfOk result (λ _. RefusesEnds OperandMayCome tokens.old tokens.new) }
 {
     tokens.advance();
     tokens.expect(Token::LeftParen)?;
@@ -124,9 +119,8 @@ fn edge(alloc: Global, rises: bool, tokens: &mut Cursor) -> Result<Operand, Stop
 // A literal, after `<:` or not, and `:>` after it or not.
 fn literal(alloc: Global, tokens: &mut Cursor) -> Result<Operand, Stop>
     requires { BeginsLiteral (front tokens.old) }
-    ensures reads { ParsesBy Rule.primary result tokens.old tokens.new }
+    ensures reads { Reads PatternTask.unsigned result tokens.old tokens.new }
     ensures shorter { IfOk result (λ _. length tokens.new ≤ length tokens.old) }
-    ensures ends { IfOk result (λ _. RefusesEnds OperandMayCome tokens.old tokens.new) }
 {
     let begins = tokens.accept(Token::Begins);
     let formula = states::operand(alloc, true, tokens)?;

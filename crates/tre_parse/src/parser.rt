@@ -1,7 +1,7 @@
 ghost use Rattle.std.specs.Prelude.{◌≡◌, [], Ok, Some, None, IfOk, MatchResult};
 ghost use Rattle.tre_syntax.specs.Pattern.{pattern_tree, names_of};
-ghost use Rattle.tre_parse.specs.Grammar.{expr};
-ghost use Rattle.tre_parse.specs.Reading.{ParsesBy};
+ghost use Rattle.tre_parse.specs.Reader.{PatternTask};
+ghost use Rattle.tre_parse.specs.Reading.{Reads};
 ghost use Rattle.tre_parse.specs.Numbering.{IsNumberedByUse};
 ghost use Rattle.tre_parse.specs.Outcome.{IsSpelling, Outcome, limit_fault, IsOutcomeWithin, IsOutcome};
 ghost use Rattle.tre_parse.specs.Answers.{text_tokens_in, IsFaultOf, Answers};
@@ -76,7 +76,8 @@ fn fault_of(scan: &Scan, stop: Stop) -> ParseFault
 fn judge(scan: Scan, whole: Operand) -> Result<Pattern, ParseFault>
     requires numbered { IsNumberedByUse (text_tokens_in scan) }
     requires small { limit_fault (text_tokens_in scan) ≡ None }
-    requires whole { ParsesBy expr (Ok whole) scan.tokens.items [] }
+    requires whole { Reads (PatternTask.expression_by Join.Alternation) (Ok whole)
+        scan.tokens.items [] }
     ensures { Answers (IsOutcomeWithin (text_tokens_in scan)) result }
 {
     if let Some(place) = first_empty(&scan.tokens) {

@@ -12,7 +12,7 @@ use Rattle.tre_parse.specs.declared.fault.ParseFault.TheVariants.{TooLong, BadBy
 use Rattle.tre_parse.specs.Grammar.{expr, Spells}
 use Rattle.tre_parse.specs.Tokens.{earlier, tokens_of, bad_byte}
 use Rattle.tre_parse.specs.Outcome.{IsSpelling, Outcome, spelt, refused, TextTokens, text_tokens_of, is_big, deep_place, offset_of, past_or, NoneEmpty, IsOutcomeOfTokens, IsOutcomeWithin, IsOutcome}
-use Rattle.tre_parse.proofs.Completeness.{spelt_once}
+use Rattle.tre_parse.proofs.Whole.{spelt_once}
 use Rattle.tre_show.specs.Intervals.{HasIntervals}
 use Rattle.tre_show.specs.PatternText.{expression_text}
 use Rattle.tre_show.specs.ReadBack.{IsReadBack}

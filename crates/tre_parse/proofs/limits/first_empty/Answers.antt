@@ -23,7 +23,7 @@ loop-place-preserved-in_default c =
     ∙ take_rest c.args.tokens.now c.loop-place.place) c.if-not-accept.ensures in
     let d = decides_here c.args.tokens.now c.accept.new.self c.loop-place.place Comma false
     c.loop-place-test.true p.0 p.1 c.requires (none_decides c.accept.new.self
-    c.in_default.ensures.none) in
+    c.interval.new.tokens _ c.in_default.ensures.syntax c.in_default.ensures.reads) in
     none_before_more _ _ c.loop-place.invariant (λ h. let never = d.1 h in (cc))
 
 pub returns-then-is_none : goal.returns-then-is_none

@@ -1,9 +1,9 @@
 use Rattle.std.proofs.Common.{refl, List, ◌≡◌, ◌∙◌, ap, subst, arith, inr}
 use Rattle.std.specs.Prelude.{position}
 use Rattle.tre_parse.specs.declared.token.Token.{Token}
-use Rattle.tre_parse.specs.Outcome.{is_big, NoneEmpty}
+use Rattle.tre_parse.specs.Outcome.{is_big, IsFirstEmpty, NoneEmpty}
 use Rattle.tre_parse.specs.Answers.{text_tokens_in}
-use Rattle.tre_parse.proofs.Judging.{is_whole, no_big, past_outcome, large_outcome, is_buildable, expr_is, expr_some, pattern_some, spelt_outcome}
+use Rattle.tre_parse.proofs.Judging.{is_whole, empty_outcome, no_big, past_outcome, large_outcome, is_buildable, expr_is, expr_some, pattern_some, spelt_outcome}
 use Rattle.tre_parse.proofs.parser.judge.Goals as goal
 
 none_along : (tokens other : List Token) → tokens ≡ other → NoneEmpty tokens → NoneEmpty other
@@ -12,6 +12,13 @@ none_along tokens other e h = let P = λ (ts : List Token). NoneEmpty ts in subs
 pub first_empty-requires : goal.first_empty-requires
 first_empty-requires c = ap (position is_big) c.deref.ensures.value
     ∙ no_big (text_tokens_in c.args.scan) c.requires.small
+
+pub returns-in-Some : goal.returns-in-Some
+returns-in-Some c =
+    let P = λ (ts : List Token). IsFirstEmpty ts c.in-Some.place in
+    inr (empty_outcome (text_tokens_in c.args.scan) c.args.whole c.in-Some.place c.offset-at.result
+    c.requires.small (is_whole (text_tokens_in c.args.scan) c.args.whole c.requires.whole)
+    (subst P c.deref.ensures.value c.in-Some.ensures) c.offset-at.ensures)
 
 pub returns-in-Some-past : goal.returns-in-Some-past
 returns-in-Some-past c =
