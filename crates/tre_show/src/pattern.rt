@@ -14,6 +14,7 @@ ghost use Rattle.tre_show.specs.PatternText.{operand_text, expression_text};
 use crate::interval::push_interval;
 use crate::state::{push_close, push_literal, push_open, push_state, push_text};
 use std::alloc::{AllocError, Global};
+use tre_parse::laws::one_outcome;
 use tre_state::{Names, State};
 use tre_syntax::{Expr, Pattern};
 use tre_zone::Interval;
@@ -42,6 +43,8 @@ pub fn pattern_text(alloc: Global, pattern: &Pattern) -> Result<String, AllocErr
     let names = pattern.names();
     // For the proof: the call says that the names are names, and no two of them the same.
     let _count = names.len();
+    // A text has one outcome.
+    one_outcome();
     let mut text = String::new(alloc);
     push_operand(&mut text, names, pattern.expr(), ALTERNATION)?;
     Ok(text)
