@@ -29,6 +29,7 @@ mod limits;
 mod operand;
 mod parser;
 mod scan;
+pub mod sign;
 mod states;
 #[cfg(test)]
 mod tests;

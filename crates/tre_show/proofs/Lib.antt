@@ -3,11 +3,7 @@ pub mod Orders
 pub mod Ranges
 pub mod Printing
 pub mod TreeTokens
-pub mod Lexing
-pub mod TextTokens
-pub mod Numbering
-pub mod Spelling
-pub mod ZoneLines
-pub mod TokenLimits
+pub mod ReadBack
 pub mod Outcomes
+pub mod ZoneLines
 pub mod LineOrder
