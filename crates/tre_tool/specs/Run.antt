@@ -10,7 +10,7 @@ use Rattle.tre_syntax.specs.PatternTree.{PatternTree}
 use Rattle.tre_parse.specs.Outcome.{Outcome as ParseOutcome, IsOutcome, spelt, refused}
 use Rattle.tre_generate.specs.FixedPattern.{fixed_tree, fixed_names}
 use Rattle.tre_generate.specs.Summary.{IsSummary}
-use Rattle.tre_tool.specs.Job.{GivesJob, GivesNoJob, AreTaken, is_made_run, made_count}
+use Rattle.tre_tool.specs.Job.{GivesJob, GivesNoJob, is_made_run, made_count}
 use Rattle.tre_show.specs.PatternText.{expression_text}
 use Rattle.tre_trace.specs.Reading.{Reading}
 use Rattle.tre_tool.specs.Devices.{InputTold, OutputTold, AllReadsGood, AllWritesGood, NothingWritten, NothingDone}
@@ -60,7 +60,7 @@ pub record IsRefused (words : List (List ℕ)) (fault : ParseFault) : Type 0 whe
   pub refuses : IsOutcomeIn job.mode job.expr (refused fault)
   pub never_memory : fault ≢ ParseMemory
 
--- The words ask for nothing: they give no job, or its text is refused.
+-- The words ask for nothing: they have a fault, or give no job, or its text is refused.
 abbrev pub AsksForNothing : List (List ℕ) → Type 0
 AsksForNothing words = GivesNoJob words ⊎ ((fault : ParseFault) × IsRefused words fault)
 
@@ -157,10 +157,10 @@ pub record EndsDone (request : Request) (input : InputTold) (output : OutputTold
   pub writes : AllWritesGood output
   pub written : Appends output.written_before output.written_now text
 
--- `Usage`: the words give no job, or `clap` doesn't take them.
+-- `Usage`: the words have a fault, or give no job.
 pub record EndsUsage (words : List (List ℕ))
     (input : InputTold) (output : OutputTold) : Type 0 where
-  pub no_job : AreTaken words → GivesNoJob words
+  pub no_job : GivesNoJob words
   pub nothing : NothingDone input output
 
 -- `Expression`: the words give a job, and its text is refused with this fault.
@@ -247,13 +247,14 @@ IsStatusIn Online request input status =
 IsStatusIn Show request input status = IsUnlessMemory Done status
 IsStatusIn (Generate count) request input status = IsUnlessMemory Done status
 
--- What words that are taken ask for decides the status, where no fault was counted: a refused text
--- is told, and the bytes of the input come to one outcome.
+-- What the words ask for decides the status, where no fault was counted: that they give no job is
+-- told, and so is a refused text, and the bytes of the input come to one outcome.
 pub record IsComplete (words : List (List ℕ)) (input : InputTold) (output : OutputTold)
     (status : Status) : Type 0 where
-  pub refused : (fault : ParseFault) → AreTaken words → IsRefused words fault →
+  pub no_job : GivesNoJob words → IsUnlessMemory Usage status
+  pub refused : (fault : ParseFault) → IsRefused words fault →
       IsUnlessMemory (Expression fault) status
-  pub asked : (request : Request) → AreTaken words → AsksFor words request →
+  pub asked : (request : Request) → AsksFor words request →
       ¬ Rises output.faults_before output.faults_now →
       IsStatusIn request.job.mode request input status
 

@@ -1,5 +1,5 @@
 // From a job to the text that answers it.
-ghost use Rattle.std.specs.Prelude.{◌≡◌, ◌≢◌, ℕ, ◌≤◌, ◌+◌, ◌++◌, [], codes, false, IsTrue, IsErrOf, IfOk, IfErr, IfSome, OnOk, Some, string_bytes};
+ghost use Rattle.std.specs.Prelude.{◌≡◌, ℕ, ◌≤◌, ◌+◌, ◌++◌, [], codes, false, IsTrue, IsErrOf, IfOk, IfErr, IfSome, Some, string_bytes};
 ghost use Rattle.tre_show.specs.PatternText.{expression_text};
 ghost use Rattle.tre_syntax.specs.Pattern.{pattern_tree, names_of};
 ghost use Rattle.tre_tool.specs.Answer.{status_of, EndsOver, IsReadAs, IsFoundFor, StopsAs};
@@ -37,9 +37,8 @@ fn read_trace<S: Source, R: TraceReader>(
     requires fresh { R.represents reader.old [] }
     requires nothing { (R.reading (R.names reader.old) false []).segments ≡ [] }
     requires fits { limit ≤ LIMIT_MAX }
-    ensures named { IfErr result (λ status. status ≢ Status.ReadFault → status ≢ Status.Memory →
-        IfSome (S.file_name input.old) (λ told. told ≡ name.now)) }
-    ensures by_name { OnOk result (IfSome (S.file_name input.old) (λ told. told ≡ name.now)) }
+    ensures by_name { IsTrue (S.opened input.new) →
+        IfSome (S.file_name input.old) (λ told. told ≡ name.now) }
     ensures read { IfOk result (IsWhole (R.reading (R.names reader.old)) limit
         (S.file input.old) (S.left input.new)) }
     ensures stops { IfErr result
@@ -82,9 +81,8 @@ fn read_input<S: Source>(
         (input_told S.file_name S.file S.sound S.opened S.left S.faults input.old input.new)) }
     ensures bounded { IsTrue (S.opened input.new) →
         TakesAtMost (job.now.max_bytes + 1) (S.file input.old) (S.left input.new) }
-    ensures named { IfErr result (λ status. status ≢ Status.ReadFault → status ≢ Status.Memory →
-        IfSome (S.file_name input.old) (λ told. told ≡ job.now.input)) }
-    ensures by_name { OnOk result (IfSome (S.file_name input.old) (λ told. told ≡ job.now.input)) }
+    ensures by_name { IsTrue (S.opened input.new) →
+        IfSome (S.file_name input.old) (λ told. told ≡ job.now.input) }
 {
     let names = pattern.names().try_clone()?;
     let limit = job.max_bytes as usize;
@@ -121,9 +119,8 @@ fn matches_text<S: Source>(
         (input_told S.file_name S.file S.sound S.opened S.left S.faults input.old input.new)) }
     ensures bounded { IsTrue (S.opened input.new) →
         TakesAtMost (job.now.max_bytes + 1) (S.file input.old) (S.left input.new) }
-    ensures named { IfErr result (λ status. status ≢ Status.ReadFault → status ≢ Status.Memory →
-        IfSome (S.file_name input.old) (λ told. told ≡ job.now.input)) }
-    ensures by_name { OnOk result (IfSome (S.file_name input.old) (λ told. told ≡ job.now.input)) }
+    ensures by_name { IsTrue (S.opened input.new) →
+        IfSome (S.file_name input.old) (λ told. told ≡ job.now.input) }
 {
     let trace = read_input(alloc, pattern, job, input)?;
     let set = matches(alloc, pattern, &trace)?;
@@ -158,8 +155,7 @@ pub fn answer<S: Source, O: Sink>(
         (output_told O.written O.faults out.old out.new) (status_of result) }
     ensures bounded { IsTrue (S.opened input.new) →
         TakesAtMost (job.now.max_bytes + 1) (S.file input.old) (S.left input.new) }
-    ensures by_name { ReadsInput job.now.mode → status_of result ≢ Status.ReadFault →
-        status_of result ≢ Status.Memory →
+    ensures by_name { IsTrue (S.opened input.new) →
         IfSome (S.file_name input.old) (λ told. told ≡ job.now.input) }
     ensures untouched { (ReadsInput job.now.mode → ⊥) → input.new ≡ input.old }
 {

@@ -158,7 +158,8 @@ impl Feed {
         ensures start { IfOk result (λ feed. feed.taken ≡ 0) }
         ensures limit { IfOk result (λ feed. feed.limit ≡ limit) }
         ensures room { IfOk result (λ feed. length feed.buffer.items ≡ PIECE) }
-        ensures by_name { OnOk result (IfSome (S.file_name input.old) (λ told. told ≡ name.now)) }
+        ensures by_name { IsTrue (S.opened input.new) →
+            IfSome (S.file_name input.old) (λ told. told ≡ name.now) }
         ensures named { IfErr result (λ status. status ≢ Status.ReadFault →
             status ≢ Status.Memory → ⊥) }
         ensures nothing { OnErr result (IsTrue (S.opened input.new) →

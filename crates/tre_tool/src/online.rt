@@ -153,7 +153,7 @@ fn tell_input<S: Source, R: TraceReader, O: Sink>(
         (output_told O.written O.faults out.old out.new) (status_of result) }
     ensures bounded { IsTrue (S.opened input.new) →
         TakesAtMost (job.now.max_bytes + 1) (S.file input.old) (S.left input.new) }
-    ensures by_name { status_of result ≢ Status.ReadFault → status_of result ≢ Status.Memory →
+    ensures by_name { IsTrue (S.opened input.new) →
         IfSome (S.file_name input.old) (λ told. told ≡ job.now.input) }
 {
     let mut feed = Feed::open(alloc, job.input.text(), job.max_bytes as usize, input)?;
@@ -186,7 +186,7 @@ pub fn tell_matches<S: Source, O: Sink>(
         (output_told O.written O.faults out.old out.new) (status_of result) }
     ensures bounded { IsTrue (S.opened input.new) →
         TakesAtMost (job.now.max_bytes + 1) (S.file input.old) (S.left input.new) }
-    ensures by_name { status_of result ≢ Status.ReadFault → status_of result ≢ Status.Memory →
+    ensures by_name { IsTrue (S.opened input.new) →
         IfSome (S.file_name input.old) (λ told. told ≡ job.now.input) }
 {
     let names = pattern.names().try_clone()?;

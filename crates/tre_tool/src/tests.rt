@@ -1,7 +1,7 @@
 ghost use Rattle.std.specs.Prelude.{◌≡◌, ◌<◌, ◌-◌, ◌^◌, IfOk, false};
 
 use crate::job::{Format, Mode};
-use crate::run::run;
+use crate::run;
 use crate::status::Status;
 use crate::words::read_words;
 use std::alloc::{AllocError, Global};

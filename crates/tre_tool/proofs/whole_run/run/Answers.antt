@@ -1,7 +1,7 @@
 use Rattle.tre_tool.specs.Job.{made_job}
 use Rattle.tre_tool.proofs.MadeRuns.{EndsMadeRun-ends, gives_one}
 use Rattle.tre_tool.proofs.Promise.{IsComplete-ends, IsLineTold-of}
-use Rattle.tre_tool.proofs.run.run.Goals as goal
+use Rattle.tre_tool.proofs.whole_run.run.Goals as goal
 
 pub returns-clause-complete : goal.returns-clause-complete
 returns-clause-complete g c = rw c.ending-status.ensures

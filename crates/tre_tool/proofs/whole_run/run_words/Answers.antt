@@ -4,8 +4,8 @@ use Rattle.tre_tool.specs.declared.status.Status.TheVariants.{Done}
 use Rattle.tre_tool.specs.Input.{TakesAtMost}
 use Rattle.tre_tool.specs.declared.job.Job.{Job}
 use Rattle.tre_tool.proofs.MadeRuns.{IsCount-given}
-use Rattle.tre_tool.proofs.Promise.{named_as, only_untaken, EndsAs-refused, EndsAs-over, IsRefused-of, AsksFor-of, job_unique, kept_as, nothing_asked, never_refused}
-use Rattle.tre_tool.proofs.run.run_words.Goals as goal
+use Rattle.tre_tool.proofs.Promise.{named_as, told_as_such, EndsAs-refused, EndsAs-over, IsRefused-of, AsksFor-of, job_unique, kept_as, nothing_asked}
+use Rattle.tre_tool.proofs.whole_run.run_words.Goals as goal
 
 pub returns-in_err-pattern-clause-ends : goal.returns-in_err-pattern-clause-ends
 returns-in_err-pattern-clause-ends g c =
@@ -18,14 +18,6 @@ returns-in_err-pattern-clause-ends g c =
       reads = refl;
       unwritten = record { unwritten = refl; writes = refl };
     }))
-
-pub returns-in_err-pattern-clause-by_name : goal.returns-in_err-pattern-clause-by_name
-returns-in_err-pattern-clause-by_name g c =
-    let p = err_from_is_err_and c.from_residual-in_err-pattern.result
-    c.from_residual-in_err-pattern.ensures.1 in
-    λ request asks reads. rw (p.1, p.2) (λ usage read memory. absurd (memory
-    (never_refused _ request c.in_err-pattern.field-0.0 asks
-    (IsRefused-of _ _ _ c.in_ok-job.ensures.ok c.in_err-pattern.ensures.refuses))))
 
 pub returns-in_err-answer-clause-ends : goal.returns-in_err-answer-clause-ends
 returns-in_err-answer-clause-ends g c =
@@ -53,24 +45,15 @@ returns-clause-untouched g c =
     c.in_ok-pattern.ensures.spells in
     λ nothing. absurd (nothing_asked _ _ asks nothing)
 
-pub returns-in_err-job-clause-by_name : goal.returns-in_err-job-clause-by_name
-returns-in_err-job-clause-by_name g c =
-    let p = err_from_is_err_and c.from_residual.result c.from_residual.ensures.1 in
-    λ request asks reads. rw (p.1, p.2) (λ usage read memory. absurd
-    (only_untaken c.in_err-job.field-0.0 usage memory))
-
 pub returns-in_err-answer-clause-by_name : goal.returns-in_err-answer-clause-by_name
-returns-in_err-answer-clause-by_name g c =
-    let p = err_from_is_err_and c.from_residual-in_err-answer.result
-    c.from_residual-in_err-answer.ensures.1 in
-    λ request asks reads. rw (p.1, p.2) (λ usage read memory.
-    named_as _ _ request _ c.in_ok-job.ensures.ok asks
-    (λ mode. c.in_err-answer.ensures.by_name mode read memory) reads)
+returns-in_err-answer-clause-by_name g c = λ job gives opened.
+    named_as (map string_bytes c.args.words.now) c.in_ok-job.job job _ c.in_ok-job.ensures.ok gives
+    (c.in_err-answer.ensures.by_name opened)
 
 pub returns-clause-by_name : goal.returns-clause-by_name
-returns-clause-by_name g c =
-    λ request asks reads usage read memory. named_as _ _ request _ c.in_ok-job.ensures.ok asks
-    (λ mode. c.in_ok-answer.ensures.by_name mode (λ e. cc) (λ e. cc)) reads
+returns-clause-by_name g c = λ job gives opened.
+    named_as (map string_bytes c.args.words.now) c.in_ok-job.job job _ c.in_ok-job.ensures.ok gives
+    (c.in_ok-answer.ensures.by_name opened)
 
 pub answer-requires-clause-counted : goal.answer-requires-clause-counted
 answer-requires-clause-counted g c = λ count mode.
@@ -107,4 +90,4 @@ returns-clause-reads_at_most g c = λ job gives opened.
 pub returns-in_err-job-clause-faultless : goal.returns-in_err-job-clause-faultless
 returns-in_err-job-clause-faultless g c =
     let p = err_from_is_err_and c.from_residual.result c.from_residual.ensures.1 in
-    rw (p.1, p.2) (λ usage memory. absurd (only_untaken c.in_err-job.field-0.0 usage memory))
+    rw (p.1, p.2) (λ usage memory. absurd (told_as_such c.in_err-job.field-0.0 usage memory))

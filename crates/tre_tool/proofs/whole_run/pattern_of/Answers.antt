@@ -3,7 +3,7 @@ use Rattle.std.proofs.lemmas.Result.{err_from_is_err_and}
 use Rattle.tre_parse.specs.Outcome.{IsOutcome, spelt}
 use Rattle.tre_syntax.specs.Pattern.{pattern_tree, names_of}
 use Rattle.tre_tool.proofs.Promise.{IsOutcomeIn-text, IsOutcomeIn-refused}
-use Rattle.tre_tool.proofs.run.pattern_of.Goals as goal
+use Rattle.tre_tool.proofs.whole_run.pattern_of.Goals as goal
 
 pub returns-in_err-pattern-in_default : goal.returns-in_err-pattern-in_default
 returns-in_err-pattern-in_default c =

@@ -7,7 +7,7 @@ ghost use Rattle.tre_tool.specs.Answer.{status_of};
 ghost use Rattle.tre_tool.specs.Input.{TakesAtMost};
 ghost use Rattle.tre_tool.specs.Job.{GivesJob, HaveNoFault};
 ghost use Rattle.tre_tool.specs.Devices.{input_told, output_told};
-ghost use Rattle.tre_tool.specs.Run.{Request, IsOutcomeIn, AsksFor, AsksForNothing, AsksForMadeRun, ReadsInput, EndsAs, EndsMadeRun, IsComplete, IsLineTold};
+ghost use Rattle.tre_tool.specs.Run.{IsOutcomeIn, AsksForNothing, AsksForMadeRun, ReadsInput, EndsAs, EndsMadeRun, IsComplete, IsLineTold};
 ghost use Rattle.tre_tool.specs.Status.{error_line};
 ghost use Rattle.tre_tool.specs.declared.job.Job.{Job};
 
@@ -57,10 +57,9 @@ fn run_words<S: Source, O: Sink>(
         (input.new ≡ input.old) × (out.new ≡ out.old) }
     ensures source_untouched { (job : Job) → GivesJob (map string_bytes words.now) job →
         (ReadsInput job.mode → ⊥) → input.new ≡ input.old }
-    ensures by_name { (request : Request) → AsksFor (map string_bytes words.now) request →
-        ReadsInput request.job.mode → status_of result ≢ Status.Usage →
-        status_of result ≢ Status.ReadFault → status_of result ≢ Status.Memory →
-        IfSome (S.file_name input.old) (λ told. told ≡ request.job.input) }
+    ensures by_name { (job : Job) → GivesJob (map string_bytes words.now) job →
+        IsTrue (S.opened input.new) →
+        IfSome (S.file_name input.old) (λ told. told ≡ job.input) }
     ensures reads_at_most { (job : Job) → GivesJob (map string_bytes words.now) job →
         IsTrue (S.opened input.new) →
         TakesAtMost (job.max_bytes + 1) (S.file input.old) (S.left input.new) }
@@ -110,7 +109,7 @@ pub fn run<S: Source, O: Sink, E: Sink>(
         (input_told S.file_name S.file S.sound S.opened S.left S.faults input.old input.new)
         (output_told O.written O.faults out.old out.new) result }
 
-    // Words of which `clap` has a fault are told as such, whatever else it makes of them.
+    // Words of which `clap` has a fault are told as such, whatever else they give.
     ensures faultless { result ≢ Status.Usage → result ≢ Status.Memory →
         HaveNoFault (map string_bytes words.now) }
 
@@ -134,14 +133,14 @@ pub fn run<S: Source, O: Sink, E: Sink>(
     ensures error_part { IsLineTold (output_told E.written E.faults err.old err.new)
         (error_line result) }
 
-    // The input is read to its end, or to one byte past the limit, and the words name it.
+    // An input that was opened is the one that the words name, and it is read to its end, or to one
+    // byte past the limit.
     ensures reads_at_most { (job : Job) → GivesJob (map string_bytes words.now) job →
         IsTrue (S.opened input.new) →
         TakesAtMost (job.max_bytes + 1) (S.file input.old) (S.left input.new) }
-    ensures by_name { (request : Request) → AsksFor (map string_bytes words.now) request →
-        ReadsInput request.job.mode → result ≢ Status.Usage →
-        result ≢ Status.ReadFault → result ≢ Status.Memory →
-        IfSome (S.file_name input.old) (λ told. told ≡ request.job.input) }
+    ensures by_name { (job : Job) → GivesJob (map string_bytes words.now) job →
+        IsTrue (S.opened input.new) →
+        IfSome (S.file_name input.old) (λ told. told ≡ job.input) }
 {
     let status = ending(run_words(alloc, words, input, out));
     let _ = tell_status(&status, err);
