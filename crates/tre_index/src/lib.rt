@@ -23,8 +23,6 @@ mod level;
 mod row;
 mod row_index;
 mod search;
-#[cfg(test)]
-mod tests;
 mod turn;
 mod zone_index;
 mod zone_keys;

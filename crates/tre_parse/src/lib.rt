@@ -31,6 +31,4 @@ mod parser;
 mod scan;
 pub mod sign;
 mod states;
-#[cfg(test)]
-mod tests;
 mod token;

@@ -20,5 +20,3 @@ mod chains;
 mod composition;
 mod gather_up_to;
 mod power_limit;
-#[cfg(test)]
-mod tests;

@@ -26,7 +26,5 @@ mod interval;
 mod latest;
 pub mod laws;
 mod longest;
-#[cfg(test)]
-mod tests;
 mod zone;
 mod zone_bounds;
