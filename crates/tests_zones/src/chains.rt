@@ -3,8 +3,7 @@ use std::alloc::Global;
 use std::test::Fail;
 use tests_support::{has_lines, set_of};
 use tre_pairs::TIME_MAX;
-use tre_star::closure::closure;
-use tre_star::compose_sets::compose_sets;
+use tre_star::{closure, compose_sets};
 use tre_zone::{Interval, Zone};
 use tre_zoneset::ZoneSet;
 
