@@ -2,6 +2,7 @@ mod Deciding
 mod Dumps
 mod Groups
 mod Knowing
+mod Letters
 mod Naming
 mod NoRule
 mod Reading
