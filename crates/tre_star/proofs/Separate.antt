@@ -45,8 +45,12 @@ module _ (A B T E : Pairs) (scales_a : Scales A) (scales_b : Scales B)
   late_steps n last from some step [] to h = h
   late_steps n last from some step (cut ∷ cuts) to h =
       ⊎_elim
-      (λ x. absurd (omega (arith, before from cut last from n some x step,
-      rises_a from cut n some x, rises_b last from n some step)))
+      (λ x. absurd (omega (
+        arith,
+        before from cut last from n some x step,
+        rises_a from cut n some x,
+        rises_b last from n some step,
+      )))
       (λ x. (x, late_steps n from cut some x cuts to h.1))
       ((both from cut n).0 h.0)
 
