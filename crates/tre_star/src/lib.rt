@@ -19,4 +19,5 @@ pub use composition::{compose_sets, compose_sets_up_to};
 mod chains;
 mod composition;
 mod gather_up_to;
+mod parts;
 mod power_limit;

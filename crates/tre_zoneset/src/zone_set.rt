@@ -166,6 +166,20 @@ impl ZoneSet {
         Ok(())
     }
 
+    /// `join`, for a set that shares no pair with this one: its zones come last, as they stand.
+    pub fn join_disjoint(&mut self, other: &ZoneSet) -> Result<(), AllocError>
+        requires { HasNoPair (Both (SetHolds self.old) (SetHolds other.now)) }
+        ensures ok { OnOk result (self.new ≡ self.old ++ other.now) }
+        ensures held { OnOk result
+            (HoldExactly self.new (Either (SetHolds self.old) (SetHolds other.now))) }
+        ensures err { OnErr result (self.new ≡ self.old) }
+    {
+        // For the proof: what the set is before the call.
+        let _zones = &self.zones;
+        self.zones.extend_from_slice(other.zones())?;
+        Ok(())
+    }
+
     /// The pairs in both sets.
     pub fn meet(&self, other: &ZoneSet) -> Result<ZoneSet, AllocError>
         ensures { IfOk result (λ set.

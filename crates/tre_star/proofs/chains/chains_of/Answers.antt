@@ -1,10 +1,9 @@
-use Rattle.std.proofs.Common.{suc, ◌∷◌, arith}
+use Rattle.std.proofs.Common.{arith}
 use Rattle.tre_zone.specs.Longest.{LastsUpTo}
-use Rattle.tre_zone.specs.Zone.{IsInstantBetween, instants_of}
+use Rattle.tre_zone.specs.Zone.{IsInstantBetween}
 use Rattle.tre_zone.proofs.Lasting.{LastsUpTo-downward, LastsUpTo-scales}
 use Rattle.tre_zone.proofs.ZoneListLemmas.{AreCanonical-empty}
-use Rattle.tre_star.proofs.Short.{instants_short}
-use Rattle.tre_star.proofs.Chaining.{IsClosedTo-instants, IsClosedTo-more, IsClosedTo-last, AreCanonical-behind, Scales-instants, instants-rising}
+use Rattle.tre_star.proofs.Chaining.{IsClosedTo-first, IsClosedTo-next, IsClosedTo-last, Scales-instants, instants-rising}
 use Rattle.tre_star.proofs.chains.chains_of.Goals as goal
 
 pub add_before-requires-clause-reached : goal.add_before-requires-clause-reached
@@ -12,32 +11,25 @@ add_before-requires-clause-reached c = rw c.new-reached.ensures AreCanonical-emp
 
 pub loop-place-init : goal.loop-place-init
 loop-place-init c =
-    IsClosedTo-instants (LastsUpTo c.args.longest) c.args.steps.now
+    IsClosedTo-first (LastsUpTo c.args.longest) c.args.steps.now
     (IsInstantBetween c.args.from c.args.to)
     c.requires.steps (Scales-instants c.args.from c.args.to)
-    (instants-rising c.args.from c.args.to) (instants_of c.args.from c.args.to)
-    (rw c.instants-instants.ensures.bounds at c.bounds-bounds.ensures.canonical)
-    (rw c.instants-instants.ensures.bounds at c.instants-instants.ensures.held)
+    (instants-rising c.args.from c.args.to) c.instants-instants.result
+    c.instants-instants.ensures.held
     c.add_before.new.reached
     (rw c.new-reached.ensures at c.in_ok-add_before.ensures.grown)
-    (rw (c.new-reached.ensures, c.instants-instants.ensures.bounds)
-    at c.in_ok-add_before.ensures.held)
-    (instants_short c.args.longest c.args.from c.args.to)
+    (rw c.new-reached.ensures at c.in_ok-add_before.ensures.held)
 
 pub add_before-requires-in-loop-place-clause-reached
     : goal.add_before-requires-in-loop-place-clause-reached
-add_before-requires-in-loop-place-clause-reached c =
-    AreCanonical-behind (instants_of c.args.from c.args.to) c.loop-place.reached
-    c.loop-place.invariant.set
+add_before-requires-in-loop-place-clause-reached c = c.loop-place.invariant.set
 
 pub loop-place-preserved : goal.loop-place-preserved
 loop-place-preserved c =
-    IsClosedTo-more (LastsUpTo c.args.longest) c.args.steps.now
+    IsClosedTo-next (LastsUpTo c.args.longest) c.args.steps.now
     (IsInstantBetween c.args.from c.args.to)
     c.requires.steps (Scales-instants c.args.from c.args.to)
-    (instants-rising c.args.from c.args.to) (instants_of c.args.from c.args.to)
-    (rw c.instants-instants.ensures.bounds at c.bounds-bounds.ensures.canonical)
-    (rw c.instants-instants.ensures.bounds at c.instants-instants.ensures.held)
+    (instants-rising c.args.from c.args.to)
     c.loop-place.reached c.add_before-in-loop-place.new.reached
     c.loop-place.place c.index-items-place.result
     (rw c.items.ensures at c.loop-place-test.true)
@@ -57,7 +49,6 @@ returns c =
     (IsInstantBetween c.args.from c.args.to)
     c.requires.steps (Scales-instants c.args.from c.args.to)
     (instants-rising c.args.from c.args.to) (LastsUpTo-downward c.args.longest)
-    (LastsUpTo-scales c.args.longest) (instants_of c.args.from c.args.to ∷ c.loop-place.reached)
-    (suc c.loop-place.place)
+    (LastsUpTo-scales c.args.longest) c.loop-place.reached c.loop-place.place
     c.loop-place.invariant
     (let all = rw c.items.ensures at c.loop-place-test.false in omega (arith, all)))
