@@ -1,6 +1,6 @@
 -- A token that is printed is read as that token, before what can stand behind it; and so the text
 -- of tokens is read back, its names as the ones that were printed.
-use Rattle.std.proofs.Common.{◌≡◌, ℕ, suc, ◌+◌, ◌-◌, ◌*◌, ◌<◌, ◌≤◌, ◌^◌, Bool, true, false, cond, ◌&&◌, ◌⊎◌, ⊎_elim, inl, inr}
+use Rattle.std.proofs.Common.{◌≡◌, ℕ, suc, ◌+◌, ◌-◌, ◌*◌, ◌<◌, ◌≤◌, ◌^◌, Bool, true, false, cond, ◌&&◌, ◌⊎◌, ⊎_elim}
 use Rattle.std.proofs.Common.{Option, Some, None, List, [], ◌∷◌, ◌++◌, length, get_or, take, refl, sym, ap, ◌∙◌, subst, arith}
 use Rattle.std.specs.Prelude.{codes, fold, min, nat_lt, ◌==◌, is_none, is_some, unwrap_or, if◌then◌else◌, decimal as digits_of}
 use Rattle.std.specs.Char.{digit_value, is_ascii_digit}
