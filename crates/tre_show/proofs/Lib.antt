@@ -1,9 +1,7 @@
-pub mod Lists
 pub mod Orders
 pub mod Ranges
 pub mod Printing
 pub mod TreeTokens
 pub mod ReadBack
 pub mod Outcomes
-pub mod ZoneLines
 pub mod LineOrder

@@ -18,7 +18,7 @@ use Rattle.tre_parse.specs.Outcome.{IsSpelling, Outcome, spelt, refused, TextTok
 use Rattle.tre_show.specs.Intervals.{HasIntervals}
 use Rattle.tre_show.specs.PatternText.{expression_text}
 use Rattle.tre_show.specs.ReadBack.{IsReadBack}
-use Rattle.tre_show.proofs.TreeTokens.{operand_tokens, tree_spelt, BeginsWell, Stand, tree_says}
+use Rattle.tre_show.proofs.TreeTokens.{BeginsWell, Stand, tree_prints}
 use Rattle.tre_show.proofs.ReadBack.{AreRead, all_read}
 
 -- ---- the limits on tokens
@@ -91,22 +91,22 @@ pub record IsTextOf (text : List ℕ) (tree : PatternTree) (names : List (List �
   pub spelling : IsSpelling text tree names
   pub outcome : (outcome : Outcome) → IsOutcome text outcome → IsReadBack tree names outcome
 
-text_of_tree : (names : List (List ℕ)) (tree : PatternTree) → IsNameList names
+pub text_of_tree : (names : List (List ℕ)) (tree : PatternTree) → IsNameList names
     → IsPattern tree names → HasIntervals tree
     → ((text : List ℕ) (o q : Outcome) → IsOutcome text o → IsOutcome text q → o ≡ q)
     → IsTextOf (expression_text names tree) tree names
 text_of_tree names tree list pattern fine once =
     let text = expression_text names tree in
-    let tokens = operand_tokens 0 tree in
-    let says = tree_says names tree fine 0 in
+    let printed = tree_prints names tree fine 0 in
+    let tokens = printed.tokens in
+    let says = printed.says in
     let stand : Stand names tokens =
     subst (Stand names) (append-nil tokens) (says.stand [] tt tt) in
     let is : AreRead names list [] tokens (raw_tokens_from 0 0 text) =
     subst (λ t. AreRead names list [] tokens (raw_tokens_from 0 0 t)) says.text_same
     (all_read names list tokens 0 0 stand (omega arith) (rw says.numbers_same pattern.numbered)) in
     let spells : Spells expr (tokens_of text) tree =
-    subst (λ (ts : List Token). Spells expr ts tree) (sym is.tokens_same)
-    (tree_spelt tree fine).loosest in
+    subst (λ (ts : List Token). Spells expr ts tree) (sym is.tokens_same) printed.spells in
     let words = text_tokens_of text in
     let big : position is_big (tokens_of text) ≡ None =
     ap (position is_big) is.tokens_same ∙ none_big names tokens stand in
@@ -120,21 +120,8 @@ text_of_tree names tree list pattern fine once =
       ),
     ) in
     record {
-      spelling = record {
-        tokens_alone = is.good;
-        spells = spells;
-        numbered = sym is.names_same;
-      };
+      spelling = record { tokens_alone = is.good; spells = spells; numbered = sym is.names_same };
       outcome = λ outcome said. judged (nat_lt 16384 (length text)) (bad_byte text)
           (position is_big words.tokens) (deep_place 0 0 words.tokens) words tree names outcome
           is.good big read (λ o so. once text o outcome so said) said;
     }
-
-pub text_of_pattern : (text : List ℕ) (names : List (List ℕ)) (tree : PatternTree)
-    → text ≡ expression_text names tree → IsNameList names → IsPattern tree names
-    → HasIntervals tree
-    → ((text : List ℕ) (o q : Outcome) → IsOutcome text o → IsOutcome text q → o ≡ q)
-    → IsTextOf text tree names
-text_of_pattern text names tree same list pattern fine once =
-    subst (λ bytes. IsTextOf bytes tree names) (sym same)
-    (text_of_tree names tree list pattern fine once)

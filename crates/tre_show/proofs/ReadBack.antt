@@ -1,17 +1,17 @@
--- A token that is printed is read as that token, before what can stand behind it; and so the text of
--- tokens is read back, its names as the ones that were printed.
-use Rattle.std.proofs.Common.{◌≡◌, ℕ, suc, ◌+◌, ◌-◌, ◌*◌, ◌<◌, ◌≤◌, ◌^◌, Bool, true, false, cond, ◌&&◌, ◌⊎◌, ⊎_elim, inl, inr}
+-- A token that is printed is read as that token, before what can stand behind it; and so the text
+-- of tokens is read back, its names as the ones that were printed.
+use Rattle.std.proofs.Common.{◌≡◌, ℕ, suc, ◌+◌, ◌-◌, ◌*◌, ◌<◌, ◌≤◌, ◌^◌, Bool, true, false, cond, ◌&&◌, ◌⊎◌, ⊎_elim}
 use Rattle.std.proofs.Common.{Option, Some, None, List, [], ◌∷◌, ◌++◌, length, get_or, take, refl, sym, ap, ◌∙◌, subst, arith}
 use Rattle.std.specs.Prelude.{codes, fold, min, nat_lt, ◌==◌, is_none, is_some, unwrap_or, if◌then◌else◌, decimal as digits_of}
 use Rattle.std.specs.Char.{digit_value, is_ascii_digit}
-use Rattle.std.specs.List.{prefix_len, AllPass, position_or_len, zip}
+use Rattle.std.specs.List.{prefix_len, AllPass, list_all, position_or_len, zip}
 use Rattle.std.specs.Str.{bytes_eq}
 use Rattle.std.specs.Str.Parse.{AllDigits, digits_value_after}
 use Rattle.std.proofs.Math.Seq.{take-append_seam, take-suc}
 use Rattle.std.proofs.lemmas.Bool.{false_from_ne_true}
 use Rattle.std.proofs.lemmas.Bool.Decides.{nat_tests}
 use Rattle.std.proofs.lemmas.Fmt.{decimal_is_IsNumeral}
-use Rattle.std.proofs.lemmas.List.{get_or-take, length-take-le}
+use Rattle.std.proofs.lemmas.List.{get_or-take, length-take-le, take_all}
 use Rattle.std.proofs.lemmas.List.Elements.{All-cons, All-nil}
 use Rattle.std.proofs.lemmas.List.Sums.{AllPass-from_list_all, position_or_len_is}
 use Rattle.std.proofs.lemmas.Map.Made.{is_some-lookup}
@@ -29,7 +29,6 @@ use Rattle.tre_parse.specs.Lexeme.{is_blank, reserved, named, word_lexeme, numbe
 use Rattle.tre_parse.specs.Numbering.{numbers_in}
 use Rattle.tre_parse.specs.Tokens.{RawToken, name, sign, RawTokens, raw_tokens_from, scanned, with_raw_token, names_with, tokens_from, names_from, past_from}
 use Rattle.tre_show.specs.StateText.{name_text}
-use Rattle.tre_show.proofs.Lists.{take-over}
 use Rattle.tre_show.proofs.TreeTokens.{printed, text_of, IsCut, StandsBefore, Stand}
 
 -- The text has this word first, and goes on with the rest.
@@ -152,32 +151,37 @@ fold_digits n (d ∷ ds) all =
     let same : 10 * n + (d - 48) ≡ n * 10 + digit_value d = omega (arith, value) in
     fold_digits (10 * n + (d - 48)) ds all.1 ∙ ap (λ m. digits_value_after 10 m ds) same
 
-takes_digits : (digits rest : List ℕ) (at : ℕ) → 0 < length digits → AllDigits 10 digits
-    → IsCut rest → Takes (sign (Number (min (decimal digits) 1099511627777))) at (digits ++ rest) rest
-takes_digits [] rest at some all cut = absurd (omega arith)
-takes_digits (d ∷ ds) rest at some all cut =
+takes_digits : (digits rest : List ℕ) (n at : ℕ) → 0 < length digits → AllDigits 10 digits
+    → min (decimal digits) 1099511627777 ≡ n → IsCut rest
+    → Takes (sign (Number n)) at (digits ++ rest) rest
+takes_digits [] rest n at some all value cut = absurd (omega arith)
+takes_digits (d ∷ ds) rest n at some all value cut =
     let whole = d ∷ ds in
     let pass = digits_pass whole all in
     let kept = λ (digits : List ℕ). Some (Number (min (decimal digits) 1099511627777)) in
-    takes_front d ds rest (kept whole) at
+    takes_front d ds rest (Some (Number n)) at
     (kind_number d _ (word_lexeme (whole ++ rest)) (number_lexeme (whole ++ rest))
     (sign_lexeme (whole ++ rest)) (pass 0 d (omega arith))
     ∙ ap (λ n. named n (kept (take n (whole ++ rest))))
     (prefix_whole is_ascii_digit whole rest pass (cut_stops is_ascii_digit rest no_digit cut))
-    ∙ ap (λ ds. named (length whole) (kept ds)) (take-append_seam whole rest))
+    ∙ ap (λ ds. named (length whole) (kept ds)) (take-append_seam whole rest)
+    ∙ ap (λ m. named (length whole) (Some (Number m))) value)
 
 -- A number up to the latest time.
 takes_number : (n : ℕ) (rest : List ℕ) (at : ℕ) → n ≤ 2 ^ 40 → IsCut rest
     → Takes (sign (Number n)) at (digits_of n ++ rest) rest
 takes_number n rest at small cut =
     let numeral = decimal_is_IsNumeral n (omega (arith, small)) in
-    let value : decimal (digits_of n) ≡ n =
-    fold_digits 0 (digits_of n) numeral.0.1 ∙ numeral.1 in
-    let same : min (decimal (digits_of n)) 1099511627777 ≡ n = omega (arith, value, small) in
-    subst (λ m. Takes (sign (Number m)) at (digits_of n ++ rest) rest) same
-    (takes_digits (digits_of n) rest at numeral.0.0 numeral.0.1 cut)
+    let value = fold_digits 0 (digits_of n) numeral.0.1 ∙ numeral.1 in
+    takes_digits (digits_of n) rest n at numeral.0.0 numeral.0.1 (omega (arith, value, small)) cut
 
 -- ---- the table
+
+kept : (byte : ℕ) (bytes rest : List ℕ) (at : ℕ) → starts_name byte ≡ true
+    → list_all continues_name bytes ≡ true → IsCut rest
+    → Takes (word_for (byte ∷ bytes) (reserved (byte ∷ bytes))) at (byte ∷ (bytes ++ rest)) rest
+kept byte bytes rest at starts all cut =
+    takes_word byte bytes rest at starts (AllPass-from_list_all continues_name bytes all) cut
 
 -- A token as a word of the text: a name by its bytes.
 abbrev pub word_of : List (List ℕ) → Token → RawToken
@@ -198,18 +202,12 @@ takes names (Name i) rest at stands is =
     takes_name (name_text names i) (text_of names rest) at is stands
 takes names (Number n) rest at stands is =
     takes_number n (text_of names rest) at stands.0 stands.1
-takes names Eps rest at stands is = takes_word 101 (codes "ps") (text_of names rest) at refl
-    (AllPass-from_list_all continues_name (codes "ps") refl) stands
-takes names Rise rest at stands is = takes_word 114 (codes "ise") (text_of names rest) at refl
-    (AllPass-from_list_all continues_name (codes "ise") refl) stands
-takes names Fall rest at stands is = takes_word 102 (codes "all") (text_of names rest) at refl
-    (AllPass-from_list_all continues_name (codes "all") refl) stands
-takes names Inf rest at stands is = takes_word 105 (codes "nf") (text_of names rest) at refl
-    (AllPass-from_list_all continues_name (codes "nf") refl) stands
-takes names True rest at stands is = takes_word 116 (codes "rue") (text_of names rest) at refl
-    (AllPass-from_list_all continues_name (codes "rue") refl) stands
-takes names Event rest at stands is = takes_word 101 (codes "vent") (text_of names rest) at refl
-    (AllPass-from_list_all continues_name (codes "vent") refl) stands
+takes names Eps rest at stands is = kept 101 (codes "ps") _ at refl refl stands
+takes names Rise rest at stands is = kept 114 (codes "ise") _ at refl refl stands
+takes names Fall rest at stands is = kept 102 (codes "all") _ at refl refl stands
+takes names Inf rest at stands is = kept 105 (codes "nf") _ at refl refl stands
+takes names True rest at stands is = kept 116 (codes "rue") _ at refl refl stands
+takes names Event rest at stands is = kept 101 (codes "vent") _ at refl refl stands
 takes names Bar rest at stands is = (at + 1, at + 1 + 1 + 1, refl)
 takes names DoubleBar rest at stands is = (at + 1, at + 1 + 1 + 1 + 1, refl)
 takes names Ampersand rest at stands is = (at + 1, at + 1 + 1 + 1, refl)
@@ -288,12 +286,9 @@ module _ (names : List (List ℕ)) (list : IsNameList names) where
   sign_read : (known : List (List ℕ)) (token : Token) (rest : List Token) (there : ℕ)
       (raw : RawTokens) → AreRead known rest raw
       → AreRead known (token ∷ rest) (with_raw_token there (sign token) raw)
-  sign_read known token rest there raw more = record {
-    tokens_same = ap (λ ts. token ∷ ts) more.tokens_same;
-    names_same = more.names_same;
-    few = more.few;
-    good = more.good;
-  }
+  sign_read known token rest there raw more =
+      let same = ap (λ ts. token ∷ ts) more.tokens_same in
+      record { tokens_same = same; names_same = more.names_same; few = more.few; good = more.good }
 
   -- A name, and the rest with the names that are known then.
   name_read : (i k next at : ℕ) (rest : List Token) → i < next → next ≤ length names
@@ -350,12 +345,8 @@ module _ (names : List (List ℕ)) (list : IsNameList names) where
       → AreRead (take k names) tokens (raw_tokens_from 0 at (text_of names tokens))
   all_read [] k at stand within e =
       let same : k ≡ length names = cc in
-      record {
-        tokens_same = refl;
-        names_same = take-over k names (omega (arith, same));
-        few = refl;
-        good = refl;
-      }
+      let all = take_all k names (omega (arith, same)) in
+      record { tokens_same = refl; names_same = all; few = refl; good = refl }
   all_read (Name i ∷ rest) k at stand within e = ⊎_elim
       (λ old. name_read i k k at rest old.0 within (known_old i k old.0 within) stand
       (λ at. all_read rest k at stand.1 within old.1))

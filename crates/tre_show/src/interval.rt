@@ -57,11 +57,19 @@ fn push_infinite(text: &mut String) -> Result<(), AllocError>
 fn opening(weak: bool) -> &'static str
     ensures { result.now ≡ (if weak then codes "[" else codes "(") }
 {
-    if weak { sign::LEFT_BRACKET } else { sign::LEFT_PAREN }
+    if weak {
+        sign::LEFT_BRACKET
+    } else {
+        sign::LEFT_PAREN
+    }
 }
 
 fn closing(weak: bool) -> &'static str
     ensures { result.now ≡ (if weak then codes "]" else codes ")") }
 {
-    if weak { sign::RIGHT_BRACKET } else { sign::RIGHT_PAREN }
+    if weak {
+        sign::RIGHT_BRACKET
+    } else {
+        sign::RIGHT_PAREN
+    }
 }
