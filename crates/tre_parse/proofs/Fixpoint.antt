@@ -90,47 +90,33 @@ unsigned_guarded Fall = edge_guarded false
 unsigned_guarded Begins = literal_guarded true 8 (omega arith)
 unsigned_guarded _ = literal_guarded false 2 (omega arith)
 
-high_rank : (task : Task) → rank task < 8
-high_rank (of_state (state_by And)) = omega arith
-high_rank (of_state (state_by Or)) = omega arith
-high_rank (of_state (state_after how s)) = omega arith
-high_rank (of_state (state_operand braces)) = omega arith
-high_rank (of_pattern (expression_by Sequence)) = omega arith
-high_rank (of_pattern (expression_by Intersection)) = omega arith
-high_rank (of_pattern (expression_by Alternation)) = omega arith
-high_rank (of_pattern (expression_after how e)) = omega arith
-high_rank (of_pattern operand) = omega arith
-high_rank (of_pattern (operand_after e)) = omega arith
-high_rank (of_pattern unsigned) = omega arith
-high_rank of_interval = omega arith
+state_part_rank : (how : Connective) → rank (of_state (state_part how)) < 8
+state_part_rank And = omega arith
+state_part_rank Or = omega arith
+
+part_rank : (how : Join) → rank (of_pattern (expression_part how)) < 8
+part_rank Sequence = omega arith
+part_rank Intersection = omega arith
+part_rank Alternation = omega arith
 
 no_close : (high : Option ℕ) → closed_by high EndOfText ≡ None
 no_close None = refl
 no_close (Some high) = refl
 
-some_rank : (how : Connective) → 0 < rank (of_state (state_by how))
-some_rank And = omega arith
-some_rank Or = omega arith
-
-some_join_rank : (how : Join) → 0 < rank (of_pattern (expression_by how))
-some_join_rank Sequence = omega arith
-some_join_rank Intersection = omega arith
-some_join_rank Alternation = omega arith
-
 pub guarded : (task : Task) → IsGuarded (rank task) (program task)
-guarded (of_state (state_by how)) = (state_part_lower how, λ s. (some_rank how, λ t. tt))
+guarded (of_state (state_by how)) = (state_part_lower how, λ s. (omega (arith, state_part_lower how), λ t. tt))
 guarded (of_state (state_after how s)) =
     accept_guarded (connective_sign how) _ _ 0
-    (high_rank (of_state (state_part how)), λ t. (omega arith, λ u. tt)) tt
+    (state_part_rank how, λ t. (omega arith, λ u. tt)) tt
 guarded (of_state (state_operand braces)) =
     accept_guarded Bang _ _ 1 (omega arith, λ s. tt)
     (accept_guarded (brackets_of braces).0 _ _ 1
     (omega arith, λ s. accept_guarded (brackets_of braces).1 _ halt 8 tt tt)
     (part_guarded leaf_of _ 1 refl (λ s. tt)))
-guarded (of_pattern (expression_by how)) = (part_lower how, λ e. (some_join_rank how, λ f. tt))
+guarded (of_pattern (expression_by how)) = (part_lower how, λ e. (omega (arith, part_lower how), λ f. tt))
 guarded (of_pattern (expression_after how e)) =
     accept_guarded (join_sign how) _ _ 0
-    (high_rank (of_pattern (expression_part how)), λ f. (omega arith, λ g. tt)) tt
+    (part_rank how, λ f. (omega arith, λ g. tt)) tt
 guarded (of_pattern operand) = (omega arith, λ e. (omega arith, λ f. tt))
 guarded (of_pattern (operand_after e)) = (refl, sign_guarded e)
 guarded (of_pattern unsigned) = (refl, unsigned_guarded)

@@ -253,25 +253,17 @@ no_ends begins s rest h = by (front rest) h
     by _ h = refl
 
 -- A literal is read where an operand is.
-unsigned_literal : (r : StateRule) (xs : List Token) (s : StateTree) → SpellsState r xs s → r ≡ lit
-    → (rest : List Token) → read_pattern unsigned (xs ++ rest)
+unsigned_literal : (xs : List Token) (s : StateTree) → SpellsState lit xs s → (rest : List Token)
+    → read_pattern unsigned (xs ++ rest)
     ≡ and_then (read_state (state_operand true) (xs ++ rest)) (λ t us. literal_end false t us)
-unsigned_literal _ _ _ (lit_name i) q rest = pattern_fixed _ _
-unsigned_literal _ _ _ lit_true q rest = pattern_fixed _ _
-unsigned_literal _ _ _ (lit_braces xs s h) q rest = pattern_fixed _ _
-unsigned_literal _ _ _ (lit_bang xs s h) q rest = pattern_fixed _ _
-unsigned_literal _ _ _ (state_conj xs s h) q rest = cc
-unsigned_literal _ _ _ (state_bars xs ys s t h k) q rest = cc
-unsigned_literal _ _ _ (conj_neg xs s h) q rest = cc
-unsigned_literal _ _ _ (conj_ampersands xs ys s t h k) q rest = cc
-unsigned_literal _ _ _ (neg_name i) q rest = cc
-unsigned_literal _ _ _ neg_true q rest = cc
-unsigned_literal _ _ _ (neg_parens xs s h) q rest = cc
-unsigned_literal _ _ _ (neg_bang xs s h) q rest = cc
+unsigned_literal _ _ (lit_name i) rest = pattern_fixed _ _
+unsigned_literal _ _ lit_true rest = pattern_fixed _ _
+unsigned_literal _ _ (lit_braces xs s h) rest = pattern_fixed _ _
+unsigned_literal _ _ (lit_bang xs s h) rest = pattern_fixed _ _
 
 literal_read : (xs : List Token) (s : StateTree) → SpellsState lit xs s → (rest : List Token)
     → read_pattern unsigned (xs ++ rest) ≡ literal_end false s rest
-literal_read xs s h rest = unsigned_literal lit xs s h refl rest
+literal_read xs s h rest = unsigned_literal xs s h rest
     ∙ along (λ t us. literal_end false t us) (state_is_read lit xs s h rest)
 
 begun_read : (xs : List Token) (s : StateTree) → SpellsState lit xs s → (rest : List Token)

@@ -51,9 +51,12 @@ returns-in_err-low_weak c =
 pub returns-in_default : goal.returns-in_default
 returns-in_default c =
     let s = part_unsaid number_of (λ low. behind_low c.in_ok-low_weak.low_weak low)
-    c.refused.result c.opening.new.tokens c.opening.new.tokens
-    (no_number (front c.opening.new.tokens)
-    (λ n q. c.in_default.not-Number n (c.peek.ensures ∙ q)), refl, c.refused.ensures) in
+    c.refused.result c.opening.new.tokens c.opening.new.tokens (
+      no_number (front c.opening.new.tokens)
+          (λ n q. c.in_default.not-Number n (c.peek.ensures ∙ q)),
+      refl,
+      c.refused.ensures,
+    ) in
     record {
       reads = stops_here (read of_interval c.args.tokens.now) c.refused.result
           c.opening.new.tokens s.0

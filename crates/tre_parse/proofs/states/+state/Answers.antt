@@ -156,9 +156,10 @@ without_bangs-returns-in-True-clause-reads t c =
     (λ q. c.if-accept.ensures.1 (q ∙ sym (ap (λ s. s.0) c.brackets-opening.ensures))) in
     goes_here c.leaf-in-True.result always
     (read_state (state_operand c.args.braces) c.args.tokens.now) c.advance-in-True.new.self
-    (e ∙ part_said leaf_of (λ s. give s) always c.args.tokens.now c.advance-in-True.new.self
-    (ap leaf_of (ap front (sym same) ∙ sym c.in-True.ensures),
-    c.advance-in-True.ensures ∙ ap tail same))
+    (e ∙ part_said leaf_of (λ s. give s) always c.args.tokens.now c.advance-in-True.new.self (
+      ap leaf_of (ap front (sym same) ∙ sym c.in-True.ensures),
+      c.advance-in-True.ensures ∙ ap tail same,
+    ))
     (leaf_counts c.leaf-in-True.result _ c.leaf-in-True.ensures.nodes
     c.leaf-in-True.ensures.tree refl)
 
