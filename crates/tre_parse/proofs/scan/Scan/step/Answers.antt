@@ -11,7 +11,7 @@ use Rattle.tre_parse.proofs.scan.Scan.step.Goals as goal
 pub name_at-requires : goal.name_at-requires
 name_at-requires c =
     let bytes = c.as_bytes.result.now in let at = c.args.at in let len = c.in-Name.len in
-    let same = c.as_bytes.ensures in
+    let same = c.as_bytes.ensures.value in
     let whole = ap length (take_rest bytes at) in
     let size = length-drop at bytes in
     let P = λ (bs : List ℕ). IsName (take len (drop at bs)) in
@@ -25,14 +25,14 @@ pub put_name-requires : goal.put_name-requires
 put_name-requires c =
     let bytes = c.as_bytes.result.now in let at = c.args.at in let len = c.in-Name.len in
     let P = λ (bs : List ℕ). IsName (take len (drop at bs)) in
-    subst IsName (sym c.name_at.ensures) (subst P c.as_bytes.ensures
+    subst IsName (sym c.name_at.ensures) (subst P c.as_bytes.ensures.value
     (name_bytes (drop at bytes) len
     (ap lexeme_of (sym (take_rest bytes at)) ∙ sym c.in-Name.ensures.value)))
 
 pub returns-in-Blank-clause-ok : goal.returns-in-Blank-clause-ok
 returns-in-Blank-clause-ok c =
     let bytes = c.as_bytes.result.now in
-    let same = c.as_bytes.ensures in
+    let same = c.as_bytes.ensures.value in
     let P = λ (bs : List ℕ). GoesOn bs c.args.self.now c.args.at c.args.self.now (c.args.at + 1) in
     let e = rest_blank bytes c.args.at (omega (arith, c.requires, ap length same))
     (ap lexeme_of (sym (take_rest bytes c.args.at)) ∙ sym c.in-Blank.ensures.value) in
@@ -45,7 +45,7 @@ returns-in-Blank-clause-ok c =
 pub returns-in_ok-put_name-in-Name-clause-ok : goal.returns-in_ok-put_name-in-Name-clause-ok
 returns-in_ok-put_name-in-Name-clause-ok c =
     let bytes = c.as_bytes.result.now in let at = c.args.at in let len = c.in-Name.len in
-    let same = c.as_bytes.ensures in
+    let same = c.as_bytes.ensures.value in
     let whole = ap length (take_rest bytes at) in
     let size = length-drop at bytes in
     let P = λ (bs : List ℕ). GoesOn bs c.args.self.now at c.put_name.new.self (at + len) in
@@ -65,7 +65,7 @@ returns-in_ok-put_name-in-Name-clause-ok c =
 pub returns-in_ok-put-in-Sign-clause-ok : goal.returns-in_ok-put-in-Sign-clause-ok
 returns-in_ok-put-in-Sign-clause-ok c =
     let bytes = c.as_bytes.result.now in let at = c.args.at in let len = c.in-Sign.len in
-    let same = c.as_bytes.ensures in
+    let same = c.as_bytes.ensures.value in
     let whole = ap length (take_rest bytes at) in
     let size = length-drop at bytes in
     let P = λ (bs : List ℕ). GoesOn bs c.args.self.now at c.put.new.self (at + len) in
