@@ -1,19 +1,17 @@
 -- What a task reads is what its program reads: as many calls inside one another as there are tokens
 -- and ranks are enough.
-use Rattle.std.proofs.Common.{◌≡◌, ℕ, ◌+◌, ◌*◌, ◌<◌, ◌≤◌, zero, suc, Bool, true, false, Option, Some, None, List, [], ◌∷◌, length, refl, sym, ◌∙◌, ap, subst, arith}
+use Rattle.std.proofs.Common.{◌≡◌, ℕ, ◌+◌, ◌*◌, ◌<◌, ◌≤◌, zero, suc, Bool, true, false, Option, Some, None, List, [], ◌∷◌, length, refl, ap, subst, arith}
 use Rattle.std.specs.Prelude.{if◌then◌else◌, is_some}
-use Rattle.tre_zone.specs.Interval.{ends_of, kept_weak}
-use Rattle.tre_syntax.specs.PatternTree.{PatternTree, sequence, alternation, atom, empty, repetition, restriction}
-use Rattle.tre_state.specs.StateTree.{negation}
+use Rattle.tre_syntax.specs.PatternTree.{PatternTree}
 use Rattle.tre_parse.specs.declared.token.Token.{Token}
-use Rattle.tre_parse.specs.declared.token.Token.TheVariants.{Name, Number, LeftParen, RightParen, LeftBracket, RightBracket, LeftBrace, RightBrace, Comma, Semicolon, Bar, DoubleBar, Ampersand, DoubleAmpersand, Bang, Star, Plus, Question, Percent, Begins, Ends, Eps, Rise, Fall, Inf, True, EndOfText}
+use Rattle.tre_parse.specs.declared.token.Token.TheVariants.{LeftParen, RightParen, Comma, Bang, Star, Plus, Question, Percent, Begins, Ends, Eps, Rise, Fall, EndOfText}
 use Rattle.tre_parse.specs.declared.connective.Connective.{Connective}
 use Rattle.tre_parse.specs.declared.connective.Connective.TheVariants.{And, Or}
 use Rattle.tre_parse.specs.declared.connective.Join.{Join}
 use Rattle.tre_parse.specs.declared.connective.Join.TheVariants.{Sequence, Intersection, Alternation}
 use Rattle.tre_parse.specs.Front.{front, tail}
-use Rattle.tre_parse.specs.Joins.{connective_sign, join_sign, brackets_of, edge_of, edged_literal}
-use Rattle.tre_parse.specs.Reader.{Reading, got, stop, and_then, StateTask, state_by, state_after, state_operand, PatternTask, expression_by, expression_after, operand, operand_after, unsigned, Task, of_state, of_pattern, of_interval, Made, Program, give, halt, look, call, is_sign, accept, said, part, leaf_of, state_part, expression_part, go_on, opened_by, number_of, high_of, closed_by, sign_program, is_behind, edge_program, literal_program, unsigned_program, is_before, interval_program, state_program, pattern_program, program, past, run, deep, rank, read, read_state, read_pattern}
+use Rattle.tre_parse.specs.Joins.{connective_sign, join_sign, brackets_of}
+use Rattle.tre_parse.specs.Reader.{Reading, got, stop, and_then, StateTask, state_by, state_after, state_operand, PatternTask, expression_by, expression_after, operand, operand_after, unsigned, Task, of_state, of_pattern, of_interval, Made, Program, give, halt, look, call, is_sign, accept, said, part, leaf_of, state_part, expression_part, opened_by, number_of, high_of, closed_by, sign_program, is_behind, edge_program, literal_program, unsigned_program, is_before, interval_program, state_program, pattern_program, program, past, run, deep, rank, read, read_state, read_pattern}
 
 -- The tokens that a reading leaves.
 abbrev pub left : {A : Type 0} → Reading A → List Token

@@ -1,7 +1,7 @@
 -- The first name past the first NAMES_MAX is the first of one name too many.
-use Rattle.std.proofs.Common.{◌≡◌, ◌≢◌, ℕ, ◌+◌, ◌<◌, ◌≤◌, Bool, true, false, cond, ◌&&◌, ◌⊎◌, inl, inr, Option, Some, None, List, [], ◌∷◌, ◌++◌, length, get_or, refl, sym, ◌∙◌, ap, subst, arith, append_assoc, length-append}
-use Rattle.std.specs.Prelude.{nat_lt, if◌then◌else◌, is_none, MatchOption, position}
-use Rattle.std.specs.List.{Contains, position_or_len}
+use Rattle.std.proofs.Common.{◌≡◌, ◌≢◌, ℕ, ◌+◌, ◌<◌, ◌≤◌, Bool, true, false, ◌&&◌, inl, inr, Option, Some, None, List, [], ◌∷◌, ◌++◌, length, get_or, refl, sym, ◌∙◌, ap, subst, arith, append_assoc, length-append}
+use Rattle.std.specs.Prelude.{nat_lt, if◌then◌else◌, is_none, MatchOption}
+use Rattle.std.specs.List.{Contains}
 use Rattle.std.specs.Str.{bytes_eq}
 use Rattle.std.proofs.lemmas.Bool.Decides.{nat_tests}
 use Rattle.std.proofs.lemmas.List.{append-nil}
@@ -12,7 +12,7 @@ use Rattle.tre_state.specs.declared.names.TheConstants.{NAMES_MAX}
 use Rattle.tre_state.specs.Names.{place_of}
 use Rattle.tre_state.proofs.Places.{place_of-push, none_len, len_fails}
 use Rattle.tre_parse.specs.declared.token.Token.{Token}
-use Rattle.tre_parse.specs.Tokens.{RawToken, name, sign, RawTokenAt, names_with, known_after, is_past, past_from, raw_tokens_of}
+use Rattle.tre_parse.specs.Tokens.{RawToken, name, sign, RawTokenAt, known_after, is_past, past_from, raw_tokens_of}
 use Rattle.tre_parse.specs.Past.{with_use, uses_in, AreNamesOf, UsesFew, IsOneTooMany}
 
 use_join : (word : RawToken) (xs ys : List (List ℕ)) → with_use word (xs ++ ys)

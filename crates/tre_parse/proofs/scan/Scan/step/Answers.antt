@@ -1,4 +1,4 @@
-use Rattle.std.proofs.Common.{◌≡◌, ℕ, ◌+◌, List, sym, ◌∙◌, ap, subst, arith, take, drop, length, length-drop}
+use Rattle.std.proofs.Common.{ℕ, ◌+◌, List, sym, ◌∙◌, ap, subst, arith, take, drop, length, length-drop}
 use Rattle.std.proofs.lemmas.List.{take_rest}
 use Rattle.tre_state.specs.Name.{IsName}
 use Rattle.tre_parse.specs.Tokens.{name, sign}
