@@ -6,13 +6,13 @@ use Rattle.tre_state.specs.StateTree.{StateTree, negation}
 use Rattle.tre_zone.specs.Interval.{ends_of, kept_weak}
 use Rattle.tre_syntax.specs.PatternTree.{PatternTree, rise, fall, atom, empty, sequence, alternation, repetition, restriction}
 use Rattle.tre_parse.specs.declared.token.Token.{Token}
-use Rattle.tre_parse.specs.declared.token.Token.TheVariants.{Name, Number, LeftParen, RightParen, LeftBracket, RightBracket, LeftBrace, RightBrace, Comma, Semicolon, Bar, DoubleBar, Ampersand, DoubleAmpersand, Bang, Star, Plus, Question, Percent, Begins as BeginsSign, Ends, Eps, Rise, Fall, Inf, True}
+use Rattle.tre_parse.specs.declared.token.Token.TheVariants.{Name, Number, LeftParen, RightParen, LeftBracket, RightBracket, Comma, Bang, Star, Plus, Question, Percent, Begins as BeginsSign, Ends, Eps, Rise, Fall, Inf, True}
 use Rattle.tre_parse.specs.declared.connective.Connective.{Connective}
 use Rattle.tre_parse.specs.declared.connective.Connective.TheVariants.{And, Or}
 use Rattle.tre_parse.specs.declared.connective.Join.{Join}
 use Rattle.tre_parse.specs.declared.connective.Join.TheVariants.{Sequence, Intersection, Alternation}
 use Rattle.tre_parse.specs.Grammar as grammar
-use Rattle.tre_parse.specs.Grammar.{StateRule, lit, state, conj, neg, SpellsState, opening, SpellsInterval, with_high, without_high, Rule, expr, meet, seq, post, primary, Spells}
+use Rattle.tre_parse.specs.Grammar.{StateRule, state, conj, neg, SpellsState, opening, SpellsInterval, with_high, without_high, Rule, expr, meet, seq, post, primary, Spells}
 use Rattle.tre_parse.specs.Begins as begin
 use Rattle.tre_parse.specs.Begins.{BeginsState, BeginsInterval, Begins}
 use Rattle.tre_parse.specs.Joins.{connected, connective_sign, connected_rule, joined_by, join_sign, joined_rule, brackets_of, operand_in, edge_sign}

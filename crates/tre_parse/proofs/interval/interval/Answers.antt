@@ -1,10 +1,10 @@
-use Rattle.std.proofs.Common.{◌≡◌, ◌≢◌, ℕ, Bool, true, false, Option, Some, None, Ok, List, ◌∷◌, refl, sym, ◌∙◌, ap}
+use Rattle.std.proofs.Common.{◌≡◌, ◌≢◌, ℕ, Bool, Option, None, Ok, List, ◌∷◌, refl, sym, ◌∙◌, ap}
 use Rattle.std.proofs.lemmas.Result.{err_from_is_err_and}
 use Rattle.tre_zone.specs.Interval.{ends_of, kept_weak}
 use Rattle.tre_parse.specs.declared.token.Token.{Token}
 use Rattle.tre_parse.specs.declared.token.Token.TheVariants.{Number, Comma}
 use Rattle.tre_parse.specs.Front.{front, tail}
-use Rattle.tre_parse.specs.Reader.{got, give, opened_by, number_of, high_of, closed_by, behind_high, behind_comma, behind_low, behind_opening, of_interval, run, read}
+use Rattle.tre_parse.specs.Reader.{give, opened_by, number_of, high_of, closed_by, behind_high, behind_comma, behind_low, behind_opening, of_interval, run, read}
 use Rattle.tre_parse.specs.Reading.{IsPart}
 use Rattle.tre_parse.proofs.Fixpoint.{interval_fixed}
 use Rattle.tre_parse.proofs.Equations.{passed, unpassed, part_said, part_unsaid}

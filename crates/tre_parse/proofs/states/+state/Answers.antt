@@ -2,7 +2,6 @@ use Rattle.std.proofs.Common.{◌≡◌, ℕ, arith, length, ◌∙◌, ◌∷�
 use Rattle.std.proofs.lemmas.Result.{err_from_is_err_and}
 use Rattle.tre_state.specs.StateTree.{StateTree, always, proposition}
 use Rattle.tre_parse.proofs.Counts.{leaf_counts, negated_more}
-use Rattle.tre_parse.specs.declared.token.Token.TheVariants.{Name, True}
 use Rattle.tre_parse.specs.declared.cursor.Stop.TheVariants.{Syntax}
 use Rattle.tre_parse.specs.declared.connective.Connective.TheVariants.{Or}
 use Rattle.tre_parse.specs.Front.{front, tail}
