@@ -1,5 +1,5 @@
 -- Where intervals stand among tokens.
-use Rattle.std.proofs.Common.{◌≡◌, ℕ, ◌+◌, ◌<◌, ◌≤◌, Bool, true, false, not, Option, Some, None, Ok, List, [], ◌∷◌, ◌++◌, length, take, drop, get_or, refl, sym, ◌∙◌, ap, subst, arith, append_assoc, add-one, drop-cons, length-append}
+use Rattle.std.proofs.Common.{◌≡◌, ℕ, ◌+◌, ◌<◌, ◌≤◌, Bool, true, false, not, Option, Some, None, Ok, List, ◌∷◌, ◌++◌, length, take, drop, get_or, refl, sym, ◌∙◌, ap, subst, arith, add-one, drop-cons, length-append}
 use Rattle.std.specs.Prelude.{IsTrue, is_some, position, ◌↔◌}
 use Rattle.std.proofs.Math.Seq.{drop-append_seam}
 use Rattle.std.proofs.lemmas.List.{take-append-drop, length-take-le}
@@ -14,7 +14,7 @@ use Rattle.tre_parse.specs.declared.cursor.Stop.{Stop}
 use Rattle.tre_parse.specs.declared.cursor.Stop.TheVariants.{Syntax, Memory}
 use Rattle.tre_parse.specs.Front.{front}
 use Rattle.tre_parse.specs.Reader.{Reading, got, stop, of_interval, read}
-use Rattle.tre_parse.specs.Reading.{Goes, Stops, IsRead}
+use Rattle.tre_parse.specs.Reading.{Stops, IsRead}
 use Rattle.tre_parse.specs.Outcome.{is_big, IsIntervalAt, HasEmptyAt, NoneEmptyBefore, NoneEmpty}
 use Rattle.tre_parse.proofs.Fine.{none_big, ends_within}
 use Rattle.tre_parse.proofs.Fixpoint.{left}

@@ -1,19 +1,17 @@
 -- What a task reads is what its program reads: as many calls inside one another as there are tokens
 -- and ranks are enough.
-use Rattle.std.proofs.Common.{◌≡◌, ℕ, ◌+◌, ◌*◌, ◌<◌, ◌≤◌, zero, suc, Bool, true, false, Option, Some, None, List, [], ◌∷◌, length, refl, sym, ◌∙◌, ap, subst, arith}
+use Rattle.std.proofs.Common.{◌≡◌, ℕ, ◌+◌, ◌*◌, ◌<◌, ◌≤◌, zero, suc, Bool, true, false, Option, Some, None, List, [], ◌∷◌, length, refl, ap, subst, arith}
 use Rattle.std.specs.Prelude.{if◌then◌else◌, is_some}
-use Rattle.tre_zone.specs.Interval.{ends_of, kept_weak}
-use Rattle.tre_syntax.specs.PatternTree.{PatternTree, sequence, alternation, atom, empty, repetition, restriction}
-use Rattle.tre_state.specs.StateTree.{negation}
+use Rattle.tre_syntax.specs.PatternTree.{PatternTree}
 use Rattle.tre_parse.specs.declared.token.Token.{Token}
-use Rattle.tre_parse.specs.declared.token.Token.TheVariants.{Name, Number, LeftParen, RightParen, LeftBracket, RightBracket, LeftBrace, RightBrace, Comma, Semicolon, Bar, DoubleBar, Ampersand, DoubleAmpersand, Bang, Star, Plus, Question, Percent, Begins, Ends, Eps, Rise, Fall, Inf, True, EndOfText}
+use Rattle.tre_parse.specs.declared.token.Token.TheVariants.{LeftParen, RightParen, Comma, Bang, Star, Plus, Question, Percent, Begins, Ends, Eps, Rise, Fall, EndOfText}
 use Rattle.tre_parse.specs.declared.connective.Connective.{Connective}
 use Rattle.tre_parse.specs.declared.connective.Connective.TheVariants.{And, Or}
 use Rattle.tre_parse.specs.declared.connective.Join.{Join}
 use Rattle.tre_parse.specs.declared.connective.Join.TheVariants.{Sequence, Intersection, Alternation}
 use Rattle.tre_parse.specs.Front.{front, tail}
-use Rattle.tre_parse.specs.Joins.{connective_sign, join_sign, brackets_of, edge_of, edged_literal}
-use Rattle.tre_parse.specs.Reader.{Reading, got, stop, and_then, StateTask, state_by, state_after, state_operand, PatternTask, expression_by, expression_after, operand, operand_after, unsigned, Task, of_state, of_pattern, of_interval, Made, Program, give, halt, look, call, is_sign, accept, said, part, leaf_of, state_part, expression_part, go_on, opened_by, number_of, high_of, closed_by, sign_program, is_behind, edge_program, literal_program, unsigned_program, is_before, interval_program, state_program, pattern_program, program, past, run, deep, rank, read, read_state, read_pattern}
+use Rattle.tre_parse.specs.Joins.{connective_sign, join_sign, brackets_of}
+use Rattle.tre_parse.specs.Reader.{Reading, got, stop, and_then, StateTask, state_by, state_after, state_operand, PatternTask, expression_by, expression_after, operand, operand_after, unsigned, Task, of_state, of_pattern, of_interval, Made, Program, give, halt, look, call, is_sign, accept, said, part, leaf_of, state_part, expression_part, opened_by, number_of, high_of, closed_by, sign_program, is_behind, edge_program, literal_program, unsigned_program, is_before, interval_program, state_program, pattern_program, program, past, run, deep, rank, read, read_state, read_pattern}
 
 -- The tokens that a reading leaves.
 abbrev pub left : {A : Type 0} → Reading A → List Token
@@ -90,47 +88,33 @@ unsigned_guarded Fall = edge_guarded false
 unsigned_guarded Begins = literal_guarded true 8 (omega arith)
 unsigned_guarded _ = literal_guarded false 2 (omega arith)
 
-high_rank : (task : Task) → rank task < 8
-high_rank (of_state (state_by And)) = omega arith
-high_rank (of_state (state_by Or)) = omega arith
-high_rank (of_state (state_after how s)) = omega arith
-high_rank (of_state (state_operand braces)) = omega arith
-high_rank (of_pattern (expression_by Sequence)) = omega arith
-high_rank (of_pattern (expression_by Intersection)) = omega arith
-high_rank (of_pattern (expression_by Alternation)) = omega arith
-high_rank (of_pattern (expression_after how e)) = omega arith
-high_rank (of_pattern operand) = omega arith
-high_rank (of_pattern (operand_after e)) = omega arith
-high_rank (of_pattern unsigned) = omega arith
-high_rank of_interval = omega arith
+state_part_rank : (how : Connective) → rank (of_state (state_part how)) < 8
+state_part_rank And = omega arith
+state_part_rank Or = omega arith
+
+part_rank : (how : Join) → rank (of_pattern (expression_part how)) < 8
+part_rank Sequence = omega arith
+part_rank Intersection = omega arith
+part_rank Alternation = omega arith
 
 no_close : (high : Option ℕ) → closed_by high EndOfText ≡ None
 no_close None = refl
 no_close (Some high) = refl
 
-some_rank : (how : Connective) → 0 < rank (of_state (state_by how))
-some_rank And = omega arith
-some_rank Or = omega arith
-
-some_join_rank : (how : Join) → 0 < rank (of_pattern (expression_by how))
-some_join_rank Sequence = omega arith
-some_join_rank Intersection = omega arith
-some_join_rank Alternation = omega arith
-
 pub guarded : (task : Task) → IsGuarded (rank task) (program task)
-guarded (of_state (state_by how)) = (state_part_lower how, λ s. (some_rank how, λ t. tt))
+guarded (of_state (state_by how)) = (state_part_lower how, λ s. (omega (arith, state_part_lower how), λ t. tt))
 guarded (of_state (state_after how s)) =
     accept_guarded (connective_sign how) _ _ 0
-    (high_rank (of_state (state_part how)), λ t. (omega arith, λ u. tt)) tt
+    (state_part_rank how, λ t. (omega arith, λ u. tt)) tt
 guarded (of_state (state_operand braces)) =
     accept_guarded Bang _ _ 1 (omega arith, λ s. tt)
     (accept_guarded (brackets_of braces).0 _ _ 1
     (omega arith, λ s. accept_guarded (brackets_of braces).1 _ halt 8 tt tt)
     (part_guarded leaf_of _ 1 refl (λ s. tt)))
-guarded (of_pattern (expression_by how)) = (part_lower how, λ e. (some_join_rank how, λ f. tt))
+guarded (of_pattern (expression_by how)) = (part_lower how, λ e. (omega (arith, part_lower how), λ f. tt))
 guarded (of_pattern (expression_after how e)) =
     accept_guarded (join_sign how) _ _ 0
-    (high_rank (of_pattern (expression_part how)), λ f. (omega arith, λ g. tt)) tt
+    (part_rank how, λ f. (omega arith, λ g. tt)) tt
 guarded (of_pattern operand) = (omega arith, λ e. (omega arith, λ f. tt))
 guarded (of_pattern (operand_after e)) = (refl, sign_guarded e)
 guarded (of_pattern unsigned) = (refl, unsigned_guarded)

@@ -3,7 +3,6 @@ use Rattle.std.proofs.Common.{◌≡◌, ℕ, ◌<◌, ◌≤◌, ◌-◌, Bool,
 use Rattle.std.specs.Prelude.{IsSome, Result, MatchOption, position, nat_lt, min, if◌then◌else◌}
 use Rattle.std.specs.Option.{option_map}
 use Rattle.std.proofs.lemmas.Bool.Decides.{nat_tests}
-use Rattle.std.proofs.lemmas.List.{append-nil}
 use Rattle.tre_syntax.specs.declared.pattern.TheConstants.{NODES_MAX}
 use Rattle.tre_syntax.specs.declared.pattern.Pattern.{Pattern}
 use Rattle.tre_parse.specs.declared.limits.TheConstants.{TEXT_MAX, COUNT_MAX}

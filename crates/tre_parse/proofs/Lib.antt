@@ -25,3 +25,4 @@ pub mod Depth
 pub mod Table
 pub mod NameNumbers
 pub mod Ends
+pub mod Past

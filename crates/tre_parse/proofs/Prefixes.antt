@@ -1,5 +1,5 @@
 -- What begins a rule is what some tokens complete: both directions.
-use Rattle.std.proofs.Common.{◌≡◌, ◌⊎◌, inl, inr, Bool, true, false, List, [], ◌∷◌, ◌++◌, refl, sym, ◌∙◌, ap, subst, arith, append_assoc}
+use Rattle.std.proofs.Common.{◌≡◌, ◌⊎◌, inl, inr, true, false, List, [], ◌∷◌, ◌++◌, refl, sym, ◌∙◌, ap, subst, arith, append_assoc}
 use Rattle.std.proofs.lemmas.List.{append-nil}
 use Rattle.tre_state.specs.StateTree.{StateTree, always, disjunction, conjunction, negation}
 use Rattle.tre_syntax.specs.PatternTree.{PatternTree, atom, literal, rise, fall, alternation, intersection, sequence, restriction}
@@ -89,60 +89,43 @@ front_says task xs ys q = let s = task_says task xs in
     by s (got x rest) h e = inl (x, subst (λ ts. Spelt task ts x) e h)
     by s (stop rest) h e = inr (subst (λ ts. Begun task ts) e h)
 
-state_left : (r : StateRule) (ts : List Token) (s : StateTree) → SpellsState r ts s
-    → (xs ys : List Token) → ts ≡ xs ++ ys → left (read_state (state_task r) (xs ++ ys)) ≡ []
-state_left r ts s h xs ys q = ap (λ us. left (read_state (state_task r) us))
-    (sym q ∙ sym (append-nil ts)) ∙ ap left (state_end r ts s h)
+-- What a rule's task spells and begins the rule does.
+state_begun : (r : StateRule) (xs : List Token) → ((s : StateTree)
+    × Spelt (of_state (state_task r)) xs s) ⊎ Begun (of_state (state_task r)) xs → BeginsState r xs
+state_begun lit xs (inl k) = begun_state lit xs k.0 k.1
+state_begun lit xs (inr k) = k
+state_begun neg xs (inl k) = begun_state neg xs k.0 k.1
+state_begun neg xs (inr k) = k
+state_begun conj xs (inl k) = begun_state conj xs k.0 k.1
+state_begun conj xs (inr k) = k
+state_begun state xs (inl k) = begun_state state xs k.0 k.1
+state_begun state xs (inr k) = k
 
 pub state_front : (r : StateRule) (ts : List Token) (s : StateTree) → SpellsState r ts s
     → (xs ys : List Token) → ts ≡ xs ++ ys → BeginsState r xs
-state_front r ts s h xs ys q = by r (state_left r ts s h xs ys q)
-  where
-    by : (r : StateRule) → left (read_state (state_task r) (xs ++ ys)) ≡ [] → BeginsState r xs
-    by lit q = elim (front_says (of_state (state_operand true)) xs ys q) [
-      | inl k ↦ begun_state lit xs k.0 k.1
-      | inr k ↦ k
-    ]
-    by neg q = elim (front_says (of_state (state_operand false)) xs ys q) [
-      | inl k ↦ begun_state neg xs k.0 k.1
-      | inr k ↦ k
-    ]
-    by conj q = elim (front_says (of_state (state_by And)) xs ys q) [
-      | inl k ↦ begun_state conj xs k.0 k.1
-      | inr k ↦ k
-    ]
-    by state q = elim (front_says (of_state (state_by Or)) xs ys q) [
-      | inl k ↦ begun_state state xs k.0 k.1
-      | inr k ↦ k
-    ]
+state_front r ts s h xs ys q = state_begun r xs (front_says (of_state (state_task r)) xs ys
+    (ap (λ us. left (read_state (state_task r) us)) (sym q ∙ sym (append-nil ts))
+    ∙ ap left (state_end r ts s h)))
+
+pattern_begun : (r : Rule) (xs : List Token) → ((e : PatternTree)
+    × Spelt (of_pattern (pattern_task r)) xs e) ⊎ Begun (of_pattern (pattern_task r)) xs
+    → Begins r xs
+pattern_begun expr xs (inl k) = begun expr xs k.0 k.1
+pattern_begun expr xs (inr k) = k
+pattern_begun meet xs (inl k) = begun meet xs k.0 k.1
+pattern_begun meet xs (inr k) = k
+pattern_begun seq xs (inl k) = begun seq xs k.0 k.1
+pattern_begun seq xs (inr k) = k
+pattern_begun post xs (inl k) = begun post xs k.0 k.1
+pattern_begun post xs (inr k) = k
+pattern_begun primary xs (inl k) = begun primary xs k.0 k.1
+pattern_begun primary xs (inr k) = k
 
 pub front_begins : (r : Rule) (ts : List Token) (e : PatternTree) → Spells r ts e
     → (xs ys : List Token) → ts ≡ xs ++ ys → Begins r xs
-front_begins r ts e h xs ys q =
-    by r (ap (λ us. left (read_pattern (pattern_task r) us)) (sym q)
-    ∙ ap left (pattern_whole r ts e h))
-  where
-    by : (r : Rule) → left (read_pattern (pattern_task r) (xs ++ ys)) ≡ [] → Begins r xs
-    by expr q = elim (front_says (of_pattern (expression_by Alternation)) xs ys q) [
-      | inl k ↦ begun expr xs k.0 k.1
-      | inr k ↦ k
-    ]
-    by meet q = elim (front_says (of_pattern (expression_by Intersection)) xs ys q) [
-      | inl k ↦ begun meet xs k.0 k.1
-      | inr k ↦ k
-    ]
-    by seq q = elim (front_says (of_pattern (expression_by Sequence)) xs ys q) [
-      | inl k ↦ begun seq xs k.0 k.1
-      | inr k ↦ k
-    ]
-    by post q = elim (front_says (of_pattern operand) xs ys q) [
-      | inl k ↦ begun post xs k.0 k.1
-      | inr k ↦ k
-    ]
-    by primary q = elim (front_says (of_pattern unsigned) xs ys q) [
-      | inl k ↦ begun primary xs k.0 k.1
-      | inr k ↦ k
-    ]
+front_begins r ts e h xs ys q = pattern_begun r xs (front_says (of_pattern (pattern_task r)) xs ys
+    (ap (λ us. left (read_pattern (pattern_task r) us)) (sym q)
+    ∙ ap left (pattern_whole r ts e h)))
 
 -- Each front that begins a rule is completed by some tokens.
 abbrev pub CompletedState : StateRule → List Token → Type 0

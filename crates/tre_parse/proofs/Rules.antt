@@ -6,13 +6,13 @@ use Rattle.tre_state.specs.StateTree.{StateTree, negation}
 use Rattle.tre_zone.specs.Interval.{ends_of, kept_weak}
 use Rattle.tre_syntax.specs.PatternTree.{PatternTree, rise, fall, atom, empty, sequence, alternation, repetition, restriction}
 use Rattle.tre_parse.specs.declared.token.Token.{Token}
-use Rattle.tre_parse.specs.declared.token.Token.TheVariants.{Name, Number, LeftParen, RightParen, LeftBracket, RightBracket, LeftBrace, RightBrace, Comma, Semicolon, Bar, DoubleBar, Ampersand, DoubleAmpersand, Bang, Star, Plus, Question, Percent, Begins as BeginsSign, Ends, Eps, Rise, Fall, Inf, True}
+use Rattle.tre_parse.specs.declared.token.Token.TheVariants.{Name, Number, LeftParen, RightParen, LeftBracket, RightBracket, Comma, Bang, Star, Plus, Question, Percent, Begins as BeginsSign, Ends, Eps, Rise, Fall, Inf, True}
 use Rattle.tre_parse.specs.declared.connective.Connective.{Connective}
 use Rattle.tre_parse.specs.declared.connective.Connective.TheVariants.{And, Or}
 use Rattle.tre_parse.specs.declared.connective.Join.{Join}
 use Rattle.tre_parse.specs.declared.connective.Join.TheVariants.{Sequence, Intersection, Alternation}
 use Rattle.tre_parse.specs.Grammar as grammar
-use Rattle.tre_parse.specs.Grammar.{StateRule, lit, state, conj, neg, SpellsState, opening, SpellsInterval, with_high, without_high, Rule, expr, meet, seq, post, primary, Spells}
+use Rattle.tre_parse.specs.Grammar.{StateRule, state, conj, neg, SpellsState, opening, SpellsInterval, with_high, without_high, Rule, expr, meet, seq, post, primary, Spells}
 use Rattle.tre_parse.specs.Begins as begin
 use Rattle.tre_parse.specs.Begins.{BeginsState, BeginsInterval, Begins}
 use Rattle.tre_parse.specs.Joins.{connected, connective_sign, connected_rule, joined_by, join_sign, joined_rule, brackets_of, operand_in, edge_sign}
@@ -118,8 +118,7 @@ state_after_holds : (how : Connective) (s : StateTree)
 state_after_holds how s =
     accepts (StateSpelt (state_after how s)) (StateBegun (state_after how s)) (connective_sign how)
     (call (of_state (state_part how))
-    (λ t. call (of_state (state_after how (connected how s t))) (λ u. give u))) (give s) []
-    (
+    (λ t. call (of_state (state_after how (connected how s t))) (λ u. give u))) (give s) [] (
       (λ ys t k. (
         (λ zs u l xs h.
             let P = λ (ts : List Token). SpellsState (connected_rule how) ts u in
@@ -177,8 +176,7 @@ state_operand_holds braces =
     (call (of_state (state_operand braces)) (λ s. give (negation s)))
     (accept first bracket (part leaf_of (λ s. give s))) []
     ((λ xs s h. bang_state braces xs s h), (λ xs h. bang_begun braces xs h))
-    (accepts Gives Halts first bracket (part leaf_of (λ s. give s)) []
-    (
+    (accepts Gives Halts first bracket (part leaf_of (λ s. give s)) [] (
       (λ xs s h. accepts Gives Halts last (give s) halt (first ∷ xs) (bracket_state braces xs s h)
           (bracket_begun braces xs (begun_state state xs s h))),
       (λ xs h. bracket_begun braces xs h),
@@ -226,8 +224,7 @@ expression_after_holds : (how : Join) (e : PatternTree)
 expression_after_holds how e =
     accepts (PatternSpelt (expression_after how e)) (PatternBegun (expression_after how e))
     (join_sign how) (call (of_pattern (expression_part how))
-    (λ f. call (of_pattern (expression_after how (joined_by how e f))) (λ g. give g))) (give e) []
-    (
+    (λ f. call (of_pattern (expression_after how (joined_by how e f))) (λ g. give g))) (give e) [] (
       (λ ys f k. (
         (λ zs g l xs h.
             let P = λ (ts : List Token). Spells (joined_rule how) ts g in
@@ -281,8 +278,7 @@ edge_holds : (rises : Bool) → Holds (Spells primary) (Begins primary) (edge_pr
     (edge_sign rises ∷ [])
 edge_holds true =
     accepts (Spells primary) (Begins primary) LeftParen
-    (call (of_state (state_by Or)) (λ s. expect RightParen (give (atom (rise s))))) halt (Rise ∷ [])
-    (
+    (call (of_state (state_by Or)) (λ s. expect RightParen (give (atom (rise s))))) halt (Rise ∷ []) (
       (λ xs s h. accepts (Spells primary) (Begins primary) RightParen (give (atom (rise s))) halt
           (Rise ∷ LeftParen ∷ xs) (grammar.primary_rise xs s h)
           (begin.primary_rise_parens xs (begun_state state xs s h))),
@@ -290,8 +286,7 @@ edge_holds true =
     ) begin.primary_rise
 edge_holds false =
     accepts (Spells primary) (Begins primary) LeftParen
-    (call (of_state (state_by Or)) (λ s. expect RightParen (give (atom (fall s))))) halt (Fall ∷ [])
-    (
+    (call (of_state (state_by Or)) (λ s. expect RightParen (give (atom (fall s))))) halt (Fall ∷ []) (
       (λ xs s h. accepts (Spells primary) (Begins primary) RightParen (give (atom (fall s))) halt
           (Fall ∷ LeftParen ∷ xs) (grammar.primary_fall xs s h)
           (begin.primary_fall_parens xs (begun_state state xs s h))),

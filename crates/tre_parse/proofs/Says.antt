@@ -1,13 +1,11 @@
 -- What is read is spelt, and where reading stops the tokens before it begin the rule: by what each
 -- program takes, whatever the tasks that it calls have taken.
-use Rattle.std.proofs.Common.{◌≡◌, ℕ, ◌+◌, ◌*◌, ◌<◌, ◌≤◌, zero, suc, Bool, true, false, Option, Some, None, List, [], ◌∷◌, ◌++◌, length, refl, sym, ◌∙◌, ap, subst, arith, append_assoc}
-use Rattle.std.specs.Prelude.{if◌then◌else◌, is_some}
+use Rattle.std.proofs.Common.{◌≡◌, ℕ, ◌+◌, ◌*◌, ◌<◌, ◌≤◌, zero, suc, Bool, true, false, List, [], ◌∷◌, ◌++◌, length, refl, sym, ◌∙◌, ap, subst, arith, append_assoc}
+use Rattle.std.specs.Prelude.{if◌then◌else◌}
 use Rattle.std.proofs.lemmas.List.{append-nil}
 use Rattle.tre_state.specs.StateTree.{StateTree}
-use Rattle.tre_zone.specs.Interval.{IntervalEnds}
 use Rattle.tre_syntax.specs.PatternTree.{PatternTree}
 use Rattle.tre_parse.specs.declared.token.Token.{Token}
-use Rattle.tre_parse.specs.declared.token.Token.TheVariants.{EndOfText}
 use Rattle.tre_parse.specs.Grammar.{SpellsState, SpellsInterval, post, primary, Spells}
 use Rattle.tre_parse.specs.Begins.{BeginsState, BeginsInterval, Begins}
 use Rattle.tre_parse.specs.Front.{front, tail}

@@ -1,13 +1,12 @@
 -- What is spelt is read: by induction on how the tokens are spelt, before any rest of the tokens
 -- that doesn't go on with it.
-use Rattle.std.proofs.Common.{◌≡◌, ℕ, ◌+◌, ◌<◌, ◌≤◌, Bool, true, false, List, [], ◌∷◌, ◌++◌, refl, sym, ◌∙◌, ap, subst, arith, append_assoc}
+use Rattle.std.proofs.Common.{◌≡◌, ℕ, ◌+◌, ◌<◌, ◌≤◌, Bool, true, false, List, [], ◌∷◌, ◌++◌, refl, ◌∙◌, ap, arith, append_assoc}
 use Rattle.std.specs.Prelude.{if◌then◌else◌}
-use Rattle.std.proofs.lemmas.List.{append-nil}
-use Rattle.tre_state.specs.StateTree.{StateTree, negation, conjunction, disjunction}
+use Rattle.tre_state.specs.StateTree.{StateTree, negation}
 use Rattle.tre_zone.specs.Interval.{IntervalEnds}
-use Rattle.tre_syntax.specs.PatternTree.{PatternTree, atom, rise, fall, sequence, alternation, intersection, restriction, repetition, empty}
+use Rattle.tre_syntax.specs.PatternTree.{PatternTree, atom, rise, fall, sequence, alternation, restriction, repetition, empty}
 use Rattle.tre_parse.specs.declared.token.Token.{Token}
-use Rattle.tre_parse.specs.declared.token.Token.TheVariants.{LeftParen, RightParen, LeftBrace, RightBrace, Semicolon, Bar, DoubleBar, Ampersand, DoubleAmpersand, Bang, Star, Plus, Question, Percent, Begins, Ends, Eps, Rise, Fall, True}
+use Rattle.tre_parse.specs.declared.token.Token.TheVariants.{LeftParen, RightParen, LeftBrace, RightBrace, Semicolon, Bar, DoubleBar, Ampersand, DoubleAmpersand, Star, Plus, Question, Percent, Begins, Ends, Rise, Fall}
 use Rattle.tre_parse.specs.declared.connective.Connective.{Connective}
 use Rattle.tre_parse.specs.declared.connective.Connective.TheVariants.{And, Or}
 use Rattle.tre_parse.specs.declared.connective.Join.{Join}
@@ -15,7 +14,7 @@ use Rattle.tre_parse.specs.declared.connective.Join.TheVariants.{Sequence, Inter
 use Rattle.tre_parse.specs.Grammar.{StateRule, lit, state, conj, neg, SpellsState, lit_name, lit_true, lit_braces, lit_bang, state_conj, state_bars, conj_neg, conj_ampersands, neg_name, neg_true, neg_parens, neg_bang, SpellsInterval, with_high, without_high, Rule, expr, meet, seq, post, primary, Spells, expr_meet, expr_bar, meet_seq, meet_ampersand, seq_post, seq_semicolon, post_primary, post_star, post_plus, post_question, post_percent, primary_eps, primary_parens, primary_rise, primary_fall, primary_lit, primary_begins, primary_ends, primary_begins_ends}
 use Rattle.tre_parse.specs.Front.{front}
 use Rattle.tre_parse.specs.Joins.{connected, connective_sign, joined_by, join_sign, edged_literal}
-use Rattle.tre_parse.specs.Reader.{Reading, got, stop, and_then, state_by, state_after, state_operand, expression_by, expression_after, operand, operand_after, unsigned, Task, of_state, of_pattern, of_interval, Made, Program, give, halt, look, call, is_sign, accept, expect, state_part, expression_part, sign_program, is_behind, unsigned_program, is_before, program, past, run, read, read_state, read_pattern}
+use Rattle.tre_parse.specs.Reader.{Reading, got, and_then, state_by, state_after, state_operand, expression_by, expression_after, operand, operand_after, unsigned, of_interval, give, is_sign, accept, expect, state_part, expression_part, sign_program, is_behind, past, run, read, read_state, read_pattern}
 use Rattle.tre_parse.proofs.Fixpoint.{state_fixed, pattern_fixed, interval_fixed}
 use Rattle.tre_parse.proofs.Equations.{along, then_got, state_begins, state_goes_on, state_ends, expression_begins, expression_goes_on, expression_ends, operand_begins}
 
@@ -253,25 +252,17 @@ no_ends begins s rest h = by (front rest) h
     by _ h = refl
 
 -- A literal is read where an operand is.
-unsigned_literal : (r : StateRule) (xs : List Token) (s : StateTree) → SpellsState r xs s → r ≡ lit
-    → (rest : List Token) → read_pattern unsigned (xs ++ rest)
+unsigned_literal : (xs : List Token) (s : StateTree) → SpellsState lit xs s → (rest : List Token)
+    → read_pattern unsigned (xs ++ rest)
     ≡ and_then (read_state (state_operand true) (xs ++ rest)) (λ t us. literal_end false t us)
-unsigned_literal _ _ _ (lit_name i) q rest = pattern_fixed _ _
-unsigned_literal _ _ _ lit_true q rest = pattern_fixed _ _
-unsigned_literal _ _ _ (lit_braces xs s h) q rest = pattern_fixed _ _
-unsigned_literal _ _ _ (lit_bang xs s h) q rest = pattern_fixed _ _
-unsigned_literal _ _ _ (state_conj xs s h) q rest = cc
-unsigned_literal _ _ _ (state_bars xs ys s t h k) q rest = cc
-unsigned_literal _ _ _ (conj_neg xs s h) q rest = cc
-unsigned_literal _ _ _ (conj_ampersands xs ys s t h k) q rest = cc
-unsigned_literal _ _ _ (neg_name i) q rest = cc
-unsigned_literal _ _ _ neg_true q rest = cc
-unsigned_literal _ _ _ (neg_parens xs s h) q rest = cc
-unsigned_literal _ _ _ (neg_bang xs s h) q rest = cc
+unsigned_literal _ _ (lit_name i) rest = pattern_fixed _ _
+unsigned_literal _ _ lit_true rest = pattern_fixed _ _
+unsigned_literal _ _ (lit_braces xs s h) rest = pattern_fixed _ _
+unsigned_literal _ _ (lit_bang xs s h) rest = pattern_fixed _ _
 
 literal_read : (xs : List Token) (s : StateTree) → SpellsState lit xs s → (rest : List Token)
     → read_pattern unsigned (xs ++ rest) ≡ literal_end false s rest
-literal_read xs s h rest = unsigned_literal lit xs s h refl rest
+literal_read xs s h rest = unsigned_literal xs s h rest
     ∙ along (λ t us. literal_end false t us) (state_is_read lit xs s h rest)
 
 begun_read : (xs : List Token) (s : StateTree) → SpellsState lit xs s → (rest : List Token)

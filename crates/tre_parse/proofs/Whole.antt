@@ -1,6 +1,6 @@
 -- All the tokens: what is read is the one expression that they spell, and where reading stops is
 -- their syntax fault.
-use Rattle.std.proofs.Common.{◌≡◌, ℕ, ◌+◌, ◌-◌, ◌<◌, ◌≤◌, zero, suc, Option, Some, None, List, [], ◌∷◌, ◌++◌, length, take, ◌⊎◌, inl, inr, refl, sym, ◌∙◌, ap, subst, arith, append_assoc, length-append}
+use Rattle.std.proofs.Common.{◌≡◌, ℕ, ◌+◌, ◌-◌, ◌<◌, ◌≤◌, zero, suc, List, [], ◌∷◌, ◌++◌, length, take, ◌⊎◌, inl, inr, refl, sym, ◌∙◌, ap, subst, arith, append_assoc, length-append}
 use Rattle.std.proofs.lemmas.List.{append-nil}
 use Rattle.tre_syntax.specs.PatternTree.{PatternTree}
 use Rattle.tre_parse.specs.declared.token.Token.{Token}
@@ -11,7 +11,7 @@ use Rattle.tre_parse.specs.Front.{front}
 use Rattle.tre_parse.specs.Outcome.{IsSyntaxFaultAt}
 use Rattle.tre_parse.specs.Reader.{Reading, got, stop, expression_by, of_pattern, read_pattern}
 use Rattle.tre_parse.proofs.Fixpoint.{left}
-use Rattle.tre_parse.proofs.Says.{before, Says, IsSaid}
+use Rattle.tre_parse.proofs.Says.{before, Says}
 use Rattle.tre_parse.proofs.Rules.{task_says, begun}
 use Rattle.tre_parse.proofs.Prefixes.{pattern_whole, completes, begins_shorter}
 

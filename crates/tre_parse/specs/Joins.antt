@@ -5,7 +5,7 @@ use Rattle.tre_syntax.specs.PatternTree.{PatternTree, literal, rise, fall, atom,
 use Rattle.tre_syntax.specs.declared.pattern.TheConstants.{NODES_MAX}
 use Rattle.tre_parse.specs.declared.token.Token.{Token}
 use Rattle.tre_parse.specs.declared.token.Token.TheVariants.{LeftParen, RightParen, LeftBrace, RightBrace, Semicolon, Bar, DoubleBar, Ampersand, DoubleAmpersand, Rise, Fall}
-use Rattle.tre_parse.specs.Grammar.{StateRule, lit, state, conj, neg, Rule, expr, meet, seq, post}
+use Rattle.tre_parse.specs.Grammar.{StateRule, lit, state, conj, neg, Rule, expr, meet, seq}
 use Rattle.tre_parse.specs.declared.connective.Connective.{Connective}
 use Rattle.tre_parse.specs.declared.connective.Connective.TheVariants.{And, Or}
 use Rattle.tre_parse.specs.declared.connective.Join.{Join}
@@ -15,7 +15,7 @@ abbrev pub connected : Connective → StateTree → StateTree → StateTree
 connected And s t = conjunction s t
 connected Or s t = disjunction s t
 
--- The sign between two states that are joined so, the rule for both together, and that for each.
+-- The sign between two states that are joined so, and the rule for both together.
 abbrev pub connective_sign : Connective → Token
 connective_sign And = DoubleAmpersand
 connective_sign Or = DoubleBar
@@ -23,10 +23,6 @@ connective_sign Or = DoubleBar
 abbrev pub connected_rule : Connective → StateRule
 connected_rule And = conj
 connected_rule Or = state
-
-abbrev pub connected_part : Connective → StateRule
-connected_part And = neg
-connected_part Or = conj
 
 -- An operand of a state: in braces a literal.
 abbrev pub operand_in : Bool → StateRule
@@ -48,11 +44,6 @@ abbrev pub joined_rule : Join → Rule
 joined_rule Sequence = seq
 joined_rule Intersection = meet
 joined_rule Alternation = expr
-
-abbrev pub joined_part : Join → Rule
-joined_part Sequence = post
-joined_part Intersection = seq
-joined_part Alternation = meet
 
 -- `rise` or `fall`.
 abbrev pub edge_sign : Bool → Token

@@ -12,6 +12,7 @@ pub mod Strength
 pub mod Depth
 pub mod Blanks
 pub mod Ends
+pub mod Past
 -- What the functions inside promise each other.
 pub mod Front
 pub mod Scan

@@ -13,6 +13,7 @@ ghost use Rattle.tre_parse.specs.Strength.{Groups, StateGroups};
 ghost use Rattle.std.specs.Char.{is_ascii_digit};
 ghost use Rattle.tre_state.specs.Name.{starts_name, continues_name};
 ghost use Rattle.tre_parse.specs.Ends.{bytes_in, EndsRun};
+ghost use Rattle.tre_parse.specs.Past.{UsesFew, IsOneTooMany};
 ghost use Rattle.tre_parse.specs.Lexeme.{is_blank, sign_lexeme, lexeme_of};
 ghost use Rattle.tre_parse.specs.Signs.{IsSign, TakesSign};
 ghost use Rattle.tre_parse.specs.declared.lexeme.Lexeme.TheVariants.{Sign};
@@ -150,4 +151,11 @@ pub fn numbers_of_names()
         HasTokenAt (tokens_of text) (length front)
         (Name (unwrap_or (place_of (names_of text) bytes) NAMES_MAX)) }
     ensures first_use { (text : List ℕ) → IsNumberedByUse (text_tokens_of text) }
+{}
+
+/// A name is past the first `NAMES_MAX` where it is first used that is none of the `NAMES_MAX`
+/// different ones used before it, and no name is where no more than `NAMES_MAX` are used.
+pub fn one_name_too_many()
+    ensures { (text : List ℕ) → MatchOption (text_tokens_of text).past
+        (UsesFew (raw_tokens_of text)) (IsOneTooMany (raw_tokens_of text)) }
 {}

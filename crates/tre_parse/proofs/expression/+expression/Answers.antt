@@ -1,15 +1,14 @@
-use Rattle.std.proofs.Common.{arith, ◌∙◌, ◌∷◌, refl, sym, ap, Bool, true, false}
+use Rattle.std.proofs.Common.{arith, ◌∙◌, ◌∷◌, refl, sym, ap}
 use Rattle.std.proofs.lemmas.Result.{err_from_is_err_and}
 use Rattle.tre_syntax.specs.PatternTree.{PatternTree, atom, empty, sequence, alternation, repetition, restriction}
-use Rattle.tre_parse.specs.declared.token.Token.{Token}
-use Rattle.tre_parse.specs.declared.token.Token.TheVariants.{Eps, LeftParen, RightParen, Star, Plus, Question, Percent, Ends}
+use Rattle.tre_parse.specs.declared.token.Token.TheVariants.{Eps, LeftParen, RightParen, Star, Plus, Question, Percent}
 use Rattle.tre_parse.specs.declared.connective.Join.TheVariants.{Alternation}
 use Rattle.tre_parse.specs.Front.{front}
 use Rattle.tre_parse.specs.Joins.{joined_by, join_sign}
 use Rattle.tre_parse.specs.Reader.{got, give, expect, expression_by, expression_after, operand, operand_after, unsigned, of_interval, expression_part, run, read, read_pattern}
 use Rattle.tre_parse.proofs.Counts.{leaf_counts}
 use Rattle.tre_parse.proofs.Equations.{not_sign, passed, unpassed, expression_begins, expression_goes_on, expression_ends, operand_begins, star_read, plus_read, question_read, percent_read, operand_ends, ends_stop, eps_read, parens_read, no_sign_behind}
-use Rattle.tre_parse.proofs.Steps.{goes_past, one_shorter, goes_here, goes_first, goes_turned, goes_on, goes_joined, stops_here, stops_first, stops_joined, stops_at}
+use Rattle.tre_parse.proofs.Steps.{goes_past, one_shorter, goes_here, goes_first, goes_turned, goes_on, goes_joined, stops_first, stops_joined, stops_at}
 use Rattle.tre_parse.proofs.expression.+expression.Goals as goal
 
 pub expression-returns-in_err-whole-clause-reads : goal.expression-returns-in_err-whole-clause-reads

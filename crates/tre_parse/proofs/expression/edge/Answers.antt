@@ -1,4 +1,4 @@
-use Rattle.std.proofs.Common.{◌≡◌, refl, sym, ◌∙◌, ap}
+use Rattle.std.proofs.Common.{refl, sym, ◌∙◌, ap}
 use Rattle.std.proofs.lemmas.Result.{err_from_is_err_and}
 use Rattle.tre_state.specs.StateTree.{StateTree, always}
 use Rattle.tre_parse.specs.declared.token.Token.TheVariants.{LeftParen, RightParen}

@@ -1,10 +1,10 @@
-use Rattle.std.proofs.Common.{◌≡◌, ◌≢◌, ℕ, Bool, true, false, Option, Some, None, Ok, List, ◌∷◌, refl, sym, ◌∙◌, ap}
+use Rattle.std.proofs.Common.{◌≡◌, ◌≢◌, ℕ, Bool, Option, None, Ok, List, ◌∷◌, refl, sym, ◌∙◌, ap}
 use Rattle.std.proofs.lemmas.Result.{err_from_is_err_and}
 use Rattle.tre_zone.specs.Interval.{ends_of, kept_weak}
 use Rattle.tre_parse.specs.declared.token.Token.{Token}
 use Rattle.tre_parse.specs.declared.token.Token.TheVariants.{Number, Comma}
 use Rattle.tre_parse.specs.Front.{front, tail}
-use Rattle.tre_parse.specs.Reader.{got, give, opened_by, number_of, high_of, closed_by, behind_high, behind_comma, behind_low, behind_opening, of_interval, run, read}
+use Rattle.tre_parse.specs.Reader.{give, opened_by, number_of, high_of, closed_by, behind_high, behind_comma, behind_low, behind_opening, of_interval, run, read}
 use Rattle.tre_parse.specs.Reading.{IsPart}
 use Rattle.tre_parse.proofs.Fixpoint.{interval_fixed}
 use Rattle.tre_parse.proofs.Equations.{passed, unpassed, part_said, part_unsaid}
@@ -51,9 +51,12 @@ returns-in_err-low_weak c =
 pub returns-in_default : goal.returns-in_default
 returns-in_default c =
     let s = part_unsaid number_of (λ low. behind_low c.in_ok-low_weak.low_weak low)
-    c.refused.result c.opening.new.tokens c.opening.new.tokens
-    (no_number (front c.opening.new.tokens)
-    (λ n q. c.in_default.not-Number n (c.peek.ensures ∙ q)), refl, c.refused.ensures) in
+    c.refused.result c.opening.new.tokens c.opening.new.tokens (
+      no_number (front c.opening.new.tokens)
+          (λ n q. c.in_default.not-Number n (c.peek.ensures ∙ q)),
+      refl,
+      c.refused.ensures,
+    ) in
     record {
       reads = stops_here (read of_interval c.args.tokens.now) c.refused.result
           c.opening.new.tokens s.0

@@ -1,4 +1,4 @@
-use Rattle.std.proofs.Common.{sym, ◌≡◌, ◌≤◌, List, [], ◌∷◌, length, ap, subst, Ok, arith, ◌∙◌, refl}
+use Rattle.std.proofs.Common.{sym, ◌≡◌, ◌≤◌, List, [], ◌∷◌, length, ap, subst, arith, ◌∙◌, refl}
 use Rattle.std.specs.Prelude.{position}
 use Rattle.tre_parse.specs.declared.token.Token.{Token}
 use Rattle.tre_parse.specs.Operands.{Represents}

@@ -2,7 +2,6 @@ use Rattle.std.proofs.Common.{◌≡◌, ℕ, arith, length, ◌∙◌, ◌∷�
 use Rattle.std.proofs.lemmas.Result.{err_from_is_err_and}
 use Rattle.tre_state.specs.StateTree.{StateTree, always, proposition}
 use Rattle.tre_parse.proofs.Counts.{leaf_counts, negated_more}
-use Rattle.tre_parse.specs.declared.token.Token.TheVariants.{Name, True}
 use Rattle.tre_parse.specs.declared.cursor.Stop.TheVariants.{Syntax}
 use Rattle.tre_parse.specs.declared.connective.Connective.TheVariants.{Or}
 use Rattle.tre_parse.specs.Front.{front, tail}
@@ -156,9 +155,10 @@ without_bangs-returns-in-True-clause-reads t c =
     (λ q. c.if-accept.ensures.1 (q ∙ sym (ap (λ s. s.0) c.brackets-opening.ensures))) in
     goes_here c.leaf-in-True.result always
     (read_state (state_operand c.args.braces) c.args.tokens.now) c.advance-in-True.new.self
-    (e ∙ part_said leaf_of (λ s. give s) always c.args.tokens.now c.advance-in-True.new.self
-    (ap leaf_of (ap front (sym same) ∙ sym c.in-True.ensures),
-    c.advance-in-True.ensures ∙ ap tail same))
+    (e ∙ part_said leaf_of (λ s. give s) always c.args.tokens.now c.advance-in-True.new.self (
+      ap leaf_of (ap front (sym same) ∙ sym c.in-True.ensures),
+      c.advance-in-True.ensures ∙ ap tail same,
+    ))
     (leaf_counts c.leaf-in-True.result _ c.leaf-in-True.ensures.nodes
     c.leaf-in-True.ensures.tree refl)
 
