@@ -25,8 +25,6 @@ pub mod literal;
 pub mod moments;
 mod next_place;
 mod piece;
-#[cfg(test)]
-mod tests;
 mod truth_words;
 
 pub use edges::{falls, rises};
