@@ -25,8 +25,6 @@ mod in_piece;
 mod next_place;
 mod piece;
 mod runs;
-#[cfg(test)]
-mod tests;
 mod truth_words;
 
 pub use all_moments::moments;

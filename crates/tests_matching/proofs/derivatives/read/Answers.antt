@@ -1,6 +1,6 @@
 use Rattle.std.proofs.lemmas.Result.{IfOk-weaker}
 use Rattle.tre_edges.specs.Piece.{end_of_piece}
-use Rattle.tre_derive.proofs.tests.read.Goals as goal
+use Rattle.tests_matching.proofs.derivatives.read.Goals as goal
 
 pub returns : goal.returns
 returns c =

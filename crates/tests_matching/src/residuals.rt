@@ -1,10 +1,11 @@
-ghost use Rattle.std.specs.Prelude.{◌≤◌};
+// The constructors of residuals: each means its form.
 
-use crate::Residual;
-use std::alloc::{AllocError, Global};
+use std::alloc::Global;
 use std::test::Fail;
+use tests_support::set_of;
+use tre_residual::Residual;
 use tre_syntax::Expr;
-use tre_zone::{Interval, Zone};
+use tre_zone::Interval;
 use tre_zoneset::ZoneSet;
 
 /// The residuals of the rows, at the tick 2.
@@ -28,59 +29,44 @@ enum Case {
     TooLate,
 }
 
+// Lines of one pair.
+const WHOLE: &str = "[0,0] [2,2] [2,2]";
+
+const FIRST: &str = "[0,0] [1,1] [1,1]";
+
+const SECOND: &str = "[1,1] [2,2] [1,1]";
+
 fn residual(alloc: Global, case: Case) -> Result<Residual, Fail> {
+    let whole = here(alloc, WHOLE)?;
     let residual = match case {
-        Case::AfterNone => Residual::pre(alloc, ZoneSet::new(alloc), whole(alloc)?)?,
-        Case::Choice => Residual::or(alloc, Residual::Nil, whole(alloc)?)?,
-        Case::Nothing => Residual::both(alloc, Residual::Nil, whole(alloc)?)?,
-        Case::Short => within(alloc, 1)?,
-        Case::Long => within(alloc, 2)?,
-        Case::Followed => Residual::post(alloc, whole(alloc)?, Expr::Eps)?,
-        Case::Composed => Residual::pre(alloc, set(alloc, first())?, choice(alloc)?)?,
-        Case::TooLate => Residual::pre(alloc, set(alloc, all())?, choice(alloc)?)?,
+        Case::AfterNone => Residual::pre(alloc, ZoneSet::new(alloc), whole)?,
+        Case::Choice => Residual::or(alloc, Residual::Nil, whole)?,
+        Case::Nothing => Residual::both(alloc, Residual::Nil, whole)?,
+        Case::Short => Residual::dur(alloc, whole, lasting(1)?)?,
+        Case::Long => Residual::dur(alloc, whole, lasting(2)?)?,
+        Case::Followed => Residual::post(alloc, whole, Expr::Eps)?,
+        Case::Composed => Residual::pre(alloc, set_of(alloc, &[FIRST])?, choice(alloc)?)?,
+        Case::TooLate => Residual::pre(alloc, set_of(alloc, &[WHOLE])?, choice(alloc)?)?,
     };
     Ok(residual)
 }
 
-// The pair (0,2), which ends now.
-fn whole(alloc: Global) -> Result<Residual, AllocError> {
-    Ok(Residual::Here(set(alloc, all())?))
+// The pair of the line, which ends now.
+fn here(alloc: Global, line: &str) -> Result<Residual, Fail> {
+    Ok(Residual::Here(set_of(alloc, &[line])?))
 }
 
-fn within(alloc: Global, ticks: u64) -> Result<Residual, Fail>
-    requires { ticks ≤ 2 }
-{
+fn lasting(ticks: u32) -> Result<Interval, Fail> {
+    let ticks = u64::from(ticks);
     let interval = Interval::new(ticks, true, Some(ticks), true).ok_or("no interval")?;
-    let residual = Residual::dur(alloc, whole(alloc)?, interval)?;
-    Ok(residual)
+    Ok(interval)
 }
 
 // The pair (1,2), which ends now, or that pair and then `eps`.
-fn choice(alloc: Global) -> Result<Residual, AllocError> {
-    let ended = Residual::Here(set(alloc, second())?);
-    let begun = Residual::At(set(alloc, second())?, Expr::Eps);
-    Residual::or(alloc, ended, begun)
-}
-
-// `[0,0] [2,2] [2,2]`
-fn all() -> Option<Zone> {
-    Zone::span(0, 2).within(&Interval::new(2, true, Some(2), true)?)
-}
-
-// `[0,0] [1,1] [1,1]`
-fn first() -> Option<Zone> {
-    Zone::span(0, 1).within(&Interval::new(1, true, Some(1), true)?)
-}
-
-// `[1,1] [2,2] [1,1]`
-fn second() -> Option<Zone> {
-    Zone::span(1, 2).within(&Interval::new(1, true, Some(1), true)?)
-}
-
-fn set(alloc: Global, zone: Option<Zone>) -> Result<ZoneSet, AllocError> {
-    let mut set = ZoneSet::new(alloc);
-    set.add_found(zone)?;
-    Ok(set)
+fn choice(alloc: Global) -> Result<Residual, Fail> {
+    let begun = Residual::At(set_of(alloc, &[SECOND])?, Expr::Eps);
+    let choice = Residual::or(alloc, here(alloc, SECOND)?, begun)?;
+    Ok(choice)
 }
 
 // Whether the residual at the tick 2 holds the pair of ticks, where nothing comes and the only
@@ -116,7 +102,7 @@ fn constructors_mean_their_forms(rt: HostRuntime) -> Result<(), Fail> {
         for a in 0..4 {
             for b in 0..4 {
                 let want = whole && a == 0 && b == 2;
-                assert_eq!(rt; holds(&found, a, b), want, "{case:?} {a} {b}");
+                assert!(rt; holds(&found, a, b) == want, "{case:?} {a} {b}");
             }
         }
     }
