@@ -59,8 +59,8 @@ block_bytes zones end xs = simp append_assoc
 -- What a text tells: its blocks, and how long their segments are.
 pub record TellsOnce (blocks others : List (List ZoneBounds)) (trace other : List Segment)
     : Type 0 where
-  pub blocks : blocks ≡ others
-  pub lengths : map (λ (segment : Segment). segment.len) trace
+  pub same_blocks : blocks ≡ others
+  pub same_lengths : map (λ (segment : Segment). segment.len) trace
       ≡ map (λ (segment : Segment). segment.len) other
 
 -- where one text has ended the other has no block
@@ -89,7 +89,7 @@ texts_once : (start : ℕ) (blocks others : List (List ZoneBounds)) (trace other
     ≡ block_texts start others other ++ closing_line ended at'
     → TellsOnce blocks others trace other
 texts_once start [] [] [] [] closed ended at at' n n' p q small small' e =
-    record { blocks = refl; lengths = refl }
+    record { same_blocks = refl; same_lengths = refl }
 texts_once start [] (zones ∷ others) [] (segment ∷ other) closed ended at at' n n' p q small small'
     e = absurd (no_block zones (start + segment.len) at closed
     (block_texts (start + segment.len) others other ++ closing_line ended at') q.0
@@ -123,9 +123,9 @@ texts_once start (zones ∷ blocks) (zones' ∷ others) (segment ∷ trace) (seg
     (subst (λ k. xs ≡ block_texts k others other ++ closing_line ended at') (sym same) behind) in
     let first : zones ≡ zones' = both.0 in
     let length_same : segment.len ≡ segment'.len = omega (arith, same) in
-    let later = rest.blocks in
-    let lengths = rest.lengths in
-    record { blocks = cc; lengths = cc }
+    let later = rest.same_blocks in
+    let lengths = rest.same_lengths in
+    record { same_blocks = cc; same_lengths = cc }
 
 pub text_once : (blocks others : List (List ZoneBounds)) (trace other : List Segment)
     (closed ended : Bool) → AreBlocksOf blocks trace → AreBlocksOf others other
