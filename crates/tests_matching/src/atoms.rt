@@ -4,9 +4,9 @@ use crate::given::{Lengths, are_text, pattern};
 use std::alloc::{AllocError, Global};
 use std::test::Fail;
 use tests_support::trace_of;
-use tre_edges::literal::literal;
-use tre_edges::moments::moments;
-use tre_edges::{Piece, fall_in, falls, literal_in, moments_in, rise_in, rises, truth};
+use tre_edges::{
+    Piece, fall_in, falls, literal, literal_in, moments, moments_in, rise_in, rises, truth,
+};
 use tre_state::State;
 use tre_syntax::Expr;
 use tre_trace::{PushFault, Segment, Trace};
