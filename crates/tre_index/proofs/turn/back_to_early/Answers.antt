@@ -8,7 +8,7 @@ returns-then-is_early-clause-none g c =
     let items = c.args.items.now in
     let rows = map g.T.HasRow.row_of items in
     let long : length rows ≡ length items = length-map items g.T.HasRow.row_of in
-    let inside = c.loop-place.invariant in
+    let inside = c.loop-place.invariant.0 in
     let some = c.loop-place-test.true in
     HasNone-early rows c.args.key.now c.row.result c.loop-place.place c.requires
     (omega (arith, inside, long)) (omega (arith, some))
