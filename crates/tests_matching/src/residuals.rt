@@ -70,7 +70,7 @@ fn choice(alloc: Global) -> Result<Residual, Fail> {
 }
 
 // Whether the residual at the tick 2 holds the pair of ticks, where nothing comes and the only
-// expression is `eps`. No row is left with a set in front.
+// expression is `eps`. No row is left with a set in front, and none is a mark.
 fn holds(residual: &Residual, a: u64, b: u64) -> bool {
     match residual {
         Residual::Nil => false,
@@ -82,6 +82,7 @@ fn holds(residual: &Residual, a: u64, b: u64) -> bool {
         Residual::Both(one, other) => holds(one, a, b) && holds(other, a, b),
         Residual::Dur(inner, interval) => holds(inner, a, b)
             && interval.holds(b.saturating_sub(a), 1),
+        Residual::Mark(_, _) => true,
     }
 }
 
