@@ -116,7 +116,8 @@ none_empty tokens place le none = λ k ends s h. none k ends
     (omega (arith, (place_within tokens k ends s).1)) s h
 
 -- An interval that can't be kept is empty, where no number is too big.
-pub unkept_empty : (ends : IntervalEnds) → IsIntervalWithin TIME_MAX ends → (IsFineInterval ends → ⊥)
+pub unkept_empty : (ends : IntervalEnds) → IsIntervalWithin TIME_MAX ends
+    → (IsFineInterval ends → ⊥)
     → IsEmptyInterval ends
 unkept_empty ends w h = λ d n some within. h (record
     { lasts = λ empty. empty d n some within; within = w })

@@ -81,7 +81,8 @@ rest_outcome words stopped fault operand rest e h some q f =
     (subst P q f))
 
 pub is_whole : (words : TextTokens) (operand : Operand)
-    → Goes Represents operand (read_whole words.tokens) (λ e. got e []) → IsRepresented words operand
+    → Goes Represents operand (read_whole words.tokens) (λ e. got e [])
+    → IsRepresented words operand
 is_whole words operand h = record {
   tree = h.tree;
   spells = spelt_read words.tokens h.tree h.goes;

@@ -1,4 +1,4 @@
--- Where a text first has one name too many, in the words of a reader who counts the names before it.
+-- Where a text first has one name too many, in the words of a reader who counts the names before.
 use Rattle.std.specs.Prelude.{◌≡◌, ◌≢◌, ℕ, ◌≤◌, List, [], ◌∷◌, ◌++◌, length, AllPairs, ◌↔◌}
 use Rattle.std.specs.List.{Contains}
 use Rattle.tre_state.specs.declared.names.TheConstants.{NAMES_MAX}

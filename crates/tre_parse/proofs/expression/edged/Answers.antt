@@ -8,4 +8,5 @@ pub returns-then-ends-clause-stands : goal.returns-then-ends-clause-stands
 returns-then-ends-clause-stands c = λ s h.
     let P = λ (b : Bool). Represents c.in_ok-both.both (edged_literal c.args.begins b s) in
     subst P (sym c.if-ends.true) (c.in_ok-both.ensures.stands (plain_literal c.args.begins s)
-    (atom (fall s)) (c.in_ok-body.ensures.stands s h) (c.edge.ensures.stands s (c.in_ok-again.ensures s h)))
+    (atom (fall s)) (c.in_ok-body.ensures.stands s h)
+    (c.edge.ensures.stands s (c.in_ok-again.ensures s h)))

@@ -17,7 +17,8 @@ past_opening old ts weak h = interval_fixed old
     ∙ part_said opened_by (λ weak. behind_opening weak) weak old ts h
 
 past_low : (old ts us : List Token) (weak : Bool) (low : ℕ) → IsPart opened_by (Ok weak) old ts
-    → Number low ≡ front ts → us ≡ tail ts → read of_interval old ≡ run read (behind_low weak low) us
+    → Number low ≡ front ts → us ≡ tail ts
+    → read of_interval old ≡ run read (behind_low weak low) us
 past_low old ts us weak low h e f = past_opening old ts weak h
     ∙ part_said number_of (λ low. behind_low weak low) low ts us (ap number_of (sym e), f)
 
