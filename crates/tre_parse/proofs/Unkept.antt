@@ -1,7 +1,7 @@
 -- The first interval that can't be kept, from the tokens that one function reads to those of
 -- another; and that where no number is too big it is the first empty one.
 use Rattle.std.proofs.Common.{◌≡◌, ◌≢◌, ℕ, ◌+◌, ◌-◌, Bool, true, false, Option, Some, None, List, [], ◌∷◌, ◌++◌, length, inl, inr, refl, sym, ◌∙◌, ap, subst, arith, append_assoc, length-append}
-use Rattle.std.specs.Prelude.{IsSome, MatchOption, position}
+use Rattle.std.specs.Prelude.{MatchOption, position}
 use Rattle.std.proofs.lemmas.List.{append-nil}
 use Rattle.tre_state.specs.StateTree.{StateTree}
 use Rattle.tre_zone.specs.Interval.{IntervalEnds}
@@ -125,9 +125,6 @@ skips_interval _ _ (with_high low high false false) ys found h = h
 skips_interval _ _ (without_high low true) ys found h = h
 skips_interval _ _ (without_high low false) ys found h = h
 
-none_some : IsSome {A = IntervalEnds} None → ⊥
-none_some h = cc
-
 pub up_to_interval : (within : Option IntervalEnds) (us new : List Token)
     → Goes IsMadeOf within (read of_interval us) (λ ends. got ends new) →
     FindsUpTo (Percent ∷ us) new (unkept_at within (length us))
@@ -147,7 +144,7 @@ up_to_interval within us new k =
         rest = new;
         split = split;
         spells = spells;
-        unkept = λ fine. none_some (made.made fine);
+        unkept = λ fine. let some = made.made fine in (cc);
       },
       refl,
     )
