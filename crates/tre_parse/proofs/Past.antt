@@ -169,5 +169,8 @@ past_on front (raw ∷ rest) known h le =
 pub past_law : (text : List ℕ)
     → Law (raw_tokens_of text) (past_from [] (raw_tokens_of text))
 past_law text = past_on [] (raw_tokens_of text) []
-    (record { different = λ i j d lt within. absurd (omega arith); same = λ bytes. ((λ c. c), (λ c. c)) })
+    (record {
+      different = λ i j d lt within. absurd (omega arith);
+      same = λ bytes. ((λ c. c), (λ c. c));
+    })
     (omega arith)
