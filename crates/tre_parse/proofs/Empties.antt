@@ -9,7 +9,6 @@ use Rattle.tre_parse.specs.declared.token.Token.TheVariants.{Percent}
 use Rattle.tre_parse.specs.Grammar.{SpellsInterval}
 use Rattle.tre_parse.specs.Begins.{BeginsInterval}
 use Rattle.tre_parse.specs.Parts.{IsEmptyInterval, IsFineInterval}
-use Rattle.tre_parse.specs.Front.{front}
 use Rattle.tre_parse.specs.Reader.{Reading, got, stop, of_interval, read}
 use Rattle.tre_parse.specs.Outcome.{IsIntervalAt, HasEmptyAt, NoneEmptyBefore, NoneEmpty}
 use Rattle.tre_parse.proofs.Fixpoint.{left}
