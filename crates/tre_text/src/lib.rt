@@ -18,5 +18,6 @@ mod line_reader;
 #[cfg(test)]
 mod tests;
 mod text_reader;
+mod word;
 
 pub use text_reader::TextReader;
