@@ -29,8 +29,3 @@ pub use job::{Format, Job, LIMIT_MAX, Mode, Word, WordsFault};
 pub use report::tell_status;
 pub use status::Status;
 pub use words::read_words;
-
-#[cfg(test)]
-mod online_tests;
-#[cfg(test)]
-mod tests;
