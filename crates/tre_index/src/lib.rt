@@ -22,7 +22,5 @@ mod level;
 mod row;
 mod row_index;
 mod search;
-#[cfg(test)]
-mod tests;
 mod zone_index;
 mod zone_keys;

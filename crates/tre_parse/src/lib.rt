@@ -30,6 +30,4 @@ mod operand;
 mod parser;
 mod scan;
 mod states;
-#[cfg(test)]
-mod tests;
 mod token;

@@ -27,5 +27,3 @@ mod offline;
 mod order;
 mod pattern;
 mod state;
-#[cfg(test)]
-mod tests;

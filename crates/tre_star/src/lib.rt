@@ -18,5 +18,3 @@ pub mod closure;
 pub mod compose_sets;
 mod gather_up_to;
 mod power_limit;
-#[cfg(test)]
-mod tests;

@@ -15,8 +15,6 @@ mod field;
 pub mod laws;
 mod line;
 mod line_reader;
-#[cfg(test)]
-mod tests;
 mod text_reader;
 
 pub use text_reader::TextReader;

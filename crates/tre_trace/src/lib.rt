@@ -17,8 +17,6 @@ mod plane;
 mod planes;
 mod reader;
 mod segment;
-#[cfg(test)]
-mod tests;
 mod trace;
 
 pub use fault::{PushFault, TraceFault, TraceKind};

@@ -24,7 +24,5 @@ mod bound;
 mod interval;
 pub mod laws;
 mod longest;
-#[cfg(test)]
-mod tests;
 mod zone;
 mod zone_bounds;

@@ -1,59 +1,21 @@
-use crate::VcdReader;
+// Tests of tre_vcd.
+use crate::reading::{feed, read};
 use std::alloc::Global;
 use std::test::Fail;
-use tre_state::{Names, is_name};
-use tre_trace::TraceKind::{LineTooLong, Memory, Spent};
-use tre_trace::{Segment, TraceFault, TraceKind, TraceReader};
+use tests_support::names_of;
+use tre_trace::TraceKind::{LineTooLong, Spent};
+use tre_trace::{TraceFault, TraceKind, TraceReader};
+use tre_vcd::VcdReader;
 
-// The names that stand in the text, with one space between two.
-fn names_in(alloc: Global, text: &str) -> Result<Names, Fail> {
-    let mut names = Names::new(alloc);
-    for name in text.split(' ') {
-        if is_name(name) {
-            names.number(name)?;
-        }
-    }
-    Ok(names)
+fn reader(alloc: Global, names: &str) -> Result<VcdReader, Fail> {
+    Ok(VcdReader::new(alloc, names_of(alloc, names)?))
 }
 
-// Feeds a piece, where the reader has room for it.
-fn feed(
-    reader: &mut VcdReader,
-    piece: &[u8],
-    segments: &mut Vec<Segment>,
-) -> Result<(), TraceFault> {
-    if reader.fed() > 1 << 40 || piece.len() > 1 << 40 {
-        return Err(fault(0, Memory));
-    }
-    reader.feed(piece, segments)
-}
-
-const fn fault(place: u64, kind: TraceKind) -> TraceFault {
-    TraceFault { place, kind }
-}
-
-// Reads the dump in pieces of this many bytes, and its end: each segment as its length and its
-// valuation, and then the fault.
-fn read(alloc: Global, names: &str, dump: &[u8], most: usize) -> Result<String, Fail> {
-    let mut reader = VcdReader::new(alloc, names_in(alloc, names)?);
-    let mut segments = Vec::new(alloc);
-    let mut end = Ok(());
-    for piece in dump.chunks(most.max(1)) {
-        if end.is_ok() {
-            end = feed(&mut reader, piece, &mut segments);
-        }
-    }
-    if end.is_ok() {
-        end = reader.finish(&mut segments);
-    }
-    let mut text = String::new(alloc);
-    for segment in &segments {
-        write!(text, "{}:{} ", segment.len, segment.val)?;
-    }
-    if let Err(fault) = end {
-        write!(text, "{:?} {}", fault.kind, fault.place)?;
-    }
-    Ok(text)
+// Whether the dump, read in pieces of this many bytes, says this for the propositions of the names:
+// segments, each as its length and its valuation, and the fault with its place.
+fn says(alloc: Global, names: &str, dump: &[u8], most: usize, want: &str) -> Result<bool, Fail> {
+    let said = read(alloc, &mut reader(alloc, names)?, dump, most)?;
+    Ok(said.as_str() == want)
 }
 
 const WORKED: &str = "$date today $end\n$version worked $end\n$timescale 1 ns $end\n\
@@ -63,10 +25,12 @@ const WORKED: &str = "$date today $end\n$version worked $end\n$timescale 1 ns $e
 #[test]
 fn worked_dump(rt: HostRuntime) -> Result<(), Fail> {
     let dump = WORKED.as_bytes();
-    assert_eq!(rt; dump.len(), 213);
+    assert!(rt; dump.len() == 213);
     for most in [1, 2, 7, 213] {
-        let text = read(rt.alloc(), "top.p", dump, most)?;
-        assert_eq!(rt; text.as_str(), "5:0 4:1 1:0 ", "{most}");
+        assert!(rt;
+            says(rt.alloc(), "top.p", dump, most, "5:0 4:1 1:0 ")?,
+            "{most}"
+        );
     }
     Ok(())
 }
@@ -91,16 +55,14 @@ const CUT: [(usize, &str); 14] = [
 
 #[test]
 fn cut_dumps(rt: HostRuntime) -> Result<(), Fail> {
-    for (len, want) in CUT {
-        if len <= WORKED.len() {
-            let text = read(rt.alloc(), "top.p", &WORKED.as_bytes()[..len], 5)?;
-            assert_eq!(rt; text.as_str(), want, "{len}");
-        }
+    for (len, want) in &CUT {
+        let first = WORKED.as_bytes().get(..*len).ok_or("no dump")?;
+        assert!(rt; says(rt.alloc(), "top.p", first, 5, *want)?, "{len}");
     }
     Ok(())
 }
 
-// Headers, dumps behind them, and what they say for the propositions p and q.
+// The header of a dump, which declares p and q.
 const HEADER: &str = "$var wire 1 ! p $end $var wire 1 \" q $end $enddefinitions $end ";
 
 // What stands behind the header, and what it says.
@@ -144,13 +106,22 @@ const VALUES: [(&str, &str); 22] = [
     ("#2 rx", "2:0 CutShort 68"),
 ];
 
+// The header, and what stands behind it.
+fn with_header(alloc: Global, values: &str) -> Result<String, Fail> {
+    let mut dump = String::from_str(alloc, HEADER)?;
+    dump.push_str(values)?;
+    Ok(dump)
+}
+
 #[test]
 fn values(rt: HostRuntime) -> Result<(), Fail> {
-    for (dump, want) in VALUES {
-        let whole = format!(in rt.alloc(); "{HEADER}{dump}")?;
+    for (values, want) in &VALUES {
+        let dump = with_header(rt.alloc(), *values)?;
         for most in [1, 1000] {
-            let text = read(rt.alloc(), "p q", whole.as_bytes(), most)?;
-            assert_eq!(rt; text.as_str(), want, "{dump} {most}");
+            assert!(rt;
+                says(rt.alloc(), "p q", dump.as_bytes(), most, *want)?,
+                "{values} {most}"
+            );
         }
     }
     Ok(())
@@ -161,12 +132,23 @@ const NO_VALUES: [&str; 14] = [
     "1", "b", "B", "#", "#x", "#1.5", "q!", "META", "+1!", "$dump", "$scope", "$var", "[", "\u{e9}",
 ];
 
+// The header, and then the token between two times.
+fn with_token(alloc: Global, token: &str) -> Result<String, Fail> {
+    let mut dump = with_header(alloc, "#2 ")?;
+    dump.push_str(token)?;
+    dump.push_str(" #3")?;
+    Ok(dump)
+}
+
 #[test]
 fn tokens_refused(rt: HostRuntime) -> Result<(), Fail> {
-    for token in NO_VALUES {
-        let whole = format!(in rt.alloc(); "{HEADER}#2 {token} #3")?;
-        let text = read(rt.alloc(), "p", whole.as_bytes(), 1000)?;
-        assert_eq!(rt; text.as_str(), "2:0 BadToken 66", "{token}");
+    for token in &NO_VALUES {
+        let dump = with_token(rt.alloc(), *token)?;
+        let want = "2:0 BadToken 66";
+        assert!(rt;
+            says(rt.alloc(), "p", dump.as_bytes(), 1000, want)?,
+            "{token}"
+        );
     }
     Ok(())
 }
@@ -245,51 +227,61 @@ const DUMPS: [(&str, &str); 20] = [
 
 #[test]
 fn declarations(rt: HostRuntime) -> Result<(), Fail> {
-    for (dump, want) in DUMPS {
+    for (dump, want) in &DUMPS {
         for most in [1, 1000] {
-            let text = read(rt.alloc(), "t.p", dump.as_bytes(), most)?;
-            assert_eq!(rt; text.as_str(), want, "{dump} {most}");
+            assert!(rt;
+                says(rt.alloc(), "t.p", dump.as_bytes(), most, *want)?,
+                "{dump} {most}"
+            );
         }
     }
     Ok(())
 }
 
+// The names of propositions, a dump, and what it says.
+const UNDECLARED: [(&str, &str, &str); 4] = [
+    ("", "$enddefinitions $end\n#9\n#7\n", "9:0 TimeBack 24"),
+    ("", "$enddefinitions $end\n$dumpvars\n", "CutShort 31"),
+    ("", "$enddefinitions", "CutShort 15"),
+    (
+        "clk",
+        "$scope module top $end\n$var wire 1 ! clk $end\n$upscope $end\n$enddefinitions $end\n",
+        "UnknownName 60",
+    ),
+];
+
 #[test]
 fn no_names(rt: HostRuntime) -> Result<(), Fail> {
-    let rows = [
-        ("$enddefinitions $end\n#9\n#7\n", "9:0 TimeBack 24"),
-        ("$enddefinitions $end\n$dumpvars\n", "CutShort 31"),
-        ("$enddefinitions", "CutShort 15"),
-    ];
-    for (dump, want) in rows {
-        let text = read(rt.alloc(), "", dump.as_bytes(), 1)?;
-        assert_eq!(rt; text.as_str(), want, "{dump}");
+    for (names, dump, want) in &UNDECLARED {
+        assert!(rt;
+            says(rt.alloc(), *names, dump.as_bytes(), 1, *want)?,
+            "{dump}"
+        );
     }
-    let clk = "$scope module top $end\n$var wire 1 ! clk $end\n$upscope $end\n\
-        $enddefinitions $end\n";
-    let text = read(rt.alloc(), "clk", clk.as_bytes(), 1)?;
-    assert_eq!(rt; text.as_str(), "UnknownName 60");
     Ok(())
+}
+
+fn fault(place: u64, kind: TraceKind) -> Result<(), TraceFault> {
+    Err(TraceFault { place, kind })
+}
+
+// A token of as many bytes as one may have.
+fn long_token(alloc: Global) -> Result<Vec<u8>, Fail> {
+    let mut long = Vec::new(alloc);
+    long.resize(65_536, b'x')?;
+    Ok(long)
 }
 
 #[test]
 fn a_token_may_have_so_many_bytes(rt: HostRuntime) -> Result<(), Fail> {
-    let mut long = Vec::new(rt.alloc());
-    long.resize(65_536, b'x')?;
+    let long = long_token(rt.alloc())?;
     let mut segments = Vec::new(rt.alloc());
-    let mut reader = VcdReader::new(rt.alloc(), names_in(rt.alloc(), "")?);
-    assert_eq!(rt; feed(&mut reader, b"$date ", &mut segments), Ok(()));
-    assert_eq!(rt; feed(&mut reader, &long, &mut segments), Ok(()));
-    assert_eq!(rt; feed(&mut reader, b" ", &mut segments), Ok(()));
-    assert_eq!(rt; feed(&mut reader, &long, &mut segments), Ok(()));
-    assert_eq!(rt;
-        feed(&mut reader, b"x", &mut segments),
-        Err(fault(65_543, LineTooLong))
-    );
-    assert_eq!(rt;
-        feed(&mut reader, b" ", &mut segments),
-        Err(fault(0, Spent))
-    );
-    assert_eq!(rt; reader.finish(&mut segments), Err(fault(0, Spent)));
+    let mut reader = reader(rt.alloc(), "")?;
+    for piece in [b"$date ".as_slice(), &long, b" ".as_slice(), &long] {
+        assert!(rt; feed(&mut reader, piece, &mut segments).is_ok());
+    }
+    assert!(rt; feed(&mut reader, b"x", &mut segments) == fault(65_543, LineTooLong));
+    assert!(rt; feed(&mut reader, b" ", &mut segments) == fault(0, Spent));
+    assert!(rt; reader.finish(&mut segments) == fault(0, Spent));
     Ok(())
 }

@@ -1,5 +1,5 @@
 use Rattle.tre_zone.proofs.ZoneListLemmas.{SetHolds-empty}
-use Rattle.tre_zoneset.proofs.tests.pushed.Goals as goal
+use Rattle.tests_zones.proofs.sets.pushed.Goals as goal
 
 pub push_disjoint-requires : goal.push_disjoint-requires
 push_disjoint-requires g c = rw c.new-set.ensures

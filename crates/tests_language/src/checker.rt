@@ -1,13 +1,12 @@
 // A plain slow checker of the meaning, to compare with values worked by hand.
-
 ghost use Rattle.std.specs.Prelude.{◌<◌};
 ghost use Rattle.tre_state.specs.StateTree.{NumbersBelow as StateNumbersBelow};
 ghost use Rattle.tre_state.specs.State.{tree_of as state_tree_of};
 ghost use Rattle.tre_syntax.specs.Expr.{tree_of};
 ghost use Rattle.tre_syntax.specs.PatternTree.{NumbersBelow};
 
-use crate::{Expr, Pattern};
 use tre_state::{NAMES_MAX, State};
+use tre_syntax::{Expr, Pattern};
 use tre_trace::Segment;
 
 /// Whether the pattern matches the stretch from `a/n` to `b/n`, which lies within the trace, if a
@@ -18,7 +17,7 @@ use tre_trace::Segment;
 /// on the whole parts of the times and on the order of their fractional parts alone. Between two
 /// neighbouring multiples of `1/n` there are `cuts` finer ones, and that is room for all the cuts
 /// in any order.
-pub fn decide(pattern: &Pattern, trace: &[Segment], a: u8, b: u8, n: u8, cuts: u8) -> bool {
+pub(crate) fn decide(pattern: &Pattern, trace: &[Segment], a: u8, b: u8, n: u8, cuts: u8) -> bool {
     let finer = u64::from(cuts) + 1;
     let n = u32::from(n) * (u32::from(cuts) + 1);
     let a = u64::from(a) * finer;
