@@ -3,12 +3,13 @@ use Rattle.std.proofs.Common.{◌≡◌, ◌∙◌, ℕ, ◌+◌, ◌<◌, ◌�
 use Rattle.std.specs.Prelude.{codes, decimal}
 use Rattle.tre_pairs.specs.declared.TheConstants.{TIME_MAX}
 use Rattle.tre_show.specs.Line.{line_of, lines_of}
-use Rattle.tre_show.specs.Interval.{end_text, number_text}
+use Rattle.tre_show.specs.Interval.{end_text, interval_text, number_text}
 use Rattle.tre_show.proofs.Printing.{line_once}
 use Rattle.tre_show.proofs.Ranges.{number_end}
 use Rattle.tre_trace.specs.Trace.{end_of}
 use Rattle.tre_trace.specs.declared.segment.Segment.{Segment}
 use Rattle.tre_trace.proofs.Segments.{end_of-le}
+use Rattle.tre_zone.specs.Ranges.{begin_range, end_range, duration_range}
 use Rattle.tre_zone.specs.ZoneList.{AreCanonical}
 use Rattle.tre_zone.specs.declared.zone_bounds.ZoneBounds.{ZoneBounds}
 use Rattle.tre_tool.specs.Transcript.{block_text, block_texts, closing_line, online_text, AreCanonicalBlocks, AreBlocksOf}
@@ -25,7 +26,12 @@ no_bracket false letter first second third xs ys small e =
 -- nor does the line of a zone
 no_line : (zone : ZoneBounds) (letter : ℕ) (xs ys : List ℕ) → 97 ≤ letter
     → letter ∷ ys ≡ line_of zone ++ xs → ⊥
-no_line zone letter xs ys small e = no_bracket _ letter _ _ _ xs ys small e
+no_line zone letter xs ys small e =
+    let begin = begin_range zone in
+    no_bracket begin.low_weak letter (number_text begin.low ++ codes ",")
+    (end_text begin.high begin.high_weak)
+    (codes " " ++ interval_text (end_range zone) ++ codes " " ++ interval_text (duration_range zone)
+    ++ codes "\n") xs ys small e
 
 -- what lines and a letter behind them tell
 lines_then : (zones others : List ZoneBounds) (a b : ℕ) (xs ys : List ℕ) → 97 ≤ a → 97 ≤ b
@@ -68,8 +74,11 @@ no_block : (zones : List ZoneBounds) (end at : ℕ) (closed : Bool) (xs : List �
     → AreCanonical zones → closing_line closed at ≡ block_text zones end ++ xs → ⊥
 unfolding lines_of AreCanonical
 no_block zones end at true xs p e =
-    let both = lines_then [] zones 101 97 _ (116 ∷ (32 ∷ (decimal end ++ (10 ∷ xs)))) (omega arith)
+    let both = lines_then [] zones 101 97 (110 ∷ (100 ∷ (32 ∷ (decimal at ++ (10 ∷ [])))))
+    (116 ∷ (32 ∷ (decimal end ++ (10 ∷ xs)))) (omega arith)
     (omega arith) tt p (e ∙ block_bytes zones end xs) in
+    let letters : 101 ∷ (110 ∷ (100 ∷ (32 ∷ (decimal at ++ (10 ∷ [])))))
+    ≡ 97 ∷ (116 ∷ (32 ∷ (decimal end ++ (10 ∷ xs)))) = both.1 in
     let byte : 101 ≡ 97 = cc in
     omega (arith, byte)
 no_block zones end at false xs p e =
@@ -116,6 +125,7 @@ texts_once start (zones ∷ blocks) (zones' ∷ others) (segment ∷ trace) (seg
     let numbers : decimal m ++ (10 ∷ xs) ≡ decimal m' ++ (10 ∷ ys) = cc in
     let ends = number_end m m' 10 10 xs ys (omega (arith, small, end_of-le m trace))
     (omega (arith, small', end_of-le m' other)) (omega arith) (omega arith) numbers in
+    let line_ends : 10 ∷ xs ≡ 10 ∷ ys = ends.1 in
     let behind : xs ≡ ys = cc in
     let same : m ≡ m' = ends.0 in
     let rest = texts_once m blocks others trace other closed ended at at' (omega (arith, n))
@@ -126,6 +136,18 @@ texts_once start (zones ∷ blocks) (zones' ∷ others) (segment ∷ trace) (seg
     let later = rest.same_blocks in
     let lengths = rest.same_lengths in
     record { same_blocks = cc; same_lengths = cc }
+texts_once start [] others (segment ∷ trace) other closed ended at at' n n' p q small small' e =
+    absurd (omega (arith, n))
+texts_once start (zones ∷ blocks) others [] other closed ended at at' n n' p q small small' e =
+    absurd (omega (arith, n))
+texts_once start [] [] [] (segment ∷ other) closed ended at at' n n' p q small small' e =
+    absurd (omega (arith, n'))
+texts_once start [] (zones ∷ others) [] [] closed ended at at' n n' p q small small' e =
+    absurd (omega (arith, n'))
+texts_once start (zones ∷ blocks) [] (segment ∷ trace) (other ∷ others) closed ended at at' n n' p q
+    small small' e = absurd (omega (arith, n'))
+texts_once start (zones ∷ blocks) (zones' ∷ others) (segment ∷ trace) [] closed ended at at' n n' p
+    q small small' e = absurd (omega (arith, n'))
 
 pub text_once : (blocks others : List (List ZoneBounds)) (trace other : List Segment)
     (closed ended : Bool) → AreBlocksOf blocks trace → AreBlocksOf others other

@@ -213,14 +213,14 @@ IsCollected-more reading most limit file left found count bytes old new more tol
 }
 
 -- how a turn stopped that did
-pub turn_stops : {represents : List ℕ → Type 0} {reading : Bool → List ℕ → Reading}
-    {most limit : ℕ} {file left found : Option (List ℕ)} {count : ℕ} {bytes : List ℕ}
-    {old new : List Segment} (result : Result Bool Status)
+pub turn_stops : (represents : List ℕ → Type 0) (reading : Bool → List ℕ → Reading)
+    (most limit : ℕ) (file left found : Option (List ℕ)) (count : ℕ) (bytes : List ℕ)
+    (old new : List Segment) (result : Result Bool Status)
     → EndsTurn represents reading most limit file left found count bytes old new result
     → IfErr result (StopsTurn reading limit file left bytes old new)
-turn_stops (Ok true) ends = tt
-turn_stops (Ok false) ends = tt
-turn_stops (Err status) ends = ends
+turn_stops represents reading most limit file left found count bytes old new (Ok more) ends = tt
+turn_stops represents reading most limit file left found count bytes old new (Err status) ends =
+    ends
 
 -- no bytes have no fault
 pub text_reading-faultless : (names : List (List ℕ)) → (text_reading names false []).fault ≡ None

@@ -158,13 +158,19 @@ StopsTurn reading limit file left bytes old new ReadFault =
 StopsTurn reading limit file left bytes old new Memory = Unit {0}
 StopsTurn reading limit file left bytes old new _ = ⊥
 
+-- A turn says whether the input may go on.
+abbrev pub SaysMore : (List ℕ → Type 0) → (Bool → List ℕ → Reading) → ℕ → ℕ → Option (List ℕ) →
+    Option (List ℕ) → Option (List ℕ) → ℕ → List ℕ → List Segment → List Segment → Bool → Type 0
+SaysMore represents reading most limit file left found count bytes old new true =
+    GoesOn represents reading most limit file left found count bytes old new
+SaysMore represents reading most limit file left found count bytes old new false =
+    IsEnded reading limit file left bytes old new
+
 -- How a turn ended that read on behind these bytes.
 abbrev pub EndsTurn : (List ℕ → Type 0) → (Bool → List ℕ → Reading) → ℕ → ℕ → Option (List ℕ) →
     Option (List ℕ) → Option (List ℕ) → ℕ → List ℕ → List Segment → List Segment →
     Result Bool Status → Type 0
-EndsTurn represents reading most limit file left found count bytes old new (Ok true) =
-    GoesOn represents reading most limit file left found count bytes old new
-EndsTurn represents reading most limit file left found count bytes old new (Ok false) =
-    IsEnded reading limit file left bytes old new
+EndsTurn represents reading most limit file left found count bytes old new (Ok more) =
+    SaysMore represents reading most limit file left found count bytes old new more
 EndsTurn represents reading most limit file left found count bytes old new (Err status) =
     StopsTurn reading limit file left bytes old new status

@@ -19,4 +19,4 @@ returns-clause-found g c =
     c.in_ok-zones.ensures.tight c.in_ok-zones.ensures.rising
     (c.in_ok-text.ensures
     ∙ (ap (λ zones. offline_text zones c.end.result) c.deref.ensures.value
-    ∙ ap (offline_text c.in_ok-zones.zones.items) c.end.ensures))
+    ∙ ap (offline_text c.in_ok-zones.zones.items) c.end.ensures.end))

@@ -1,4 +1,4 @@
-use Rattle.std.proofs.Common.{◌≡◌, ◌∙◌, ℕ, Bool, [], Err, None, take, length, refl, ap, subst, arith}
+use Rattle.std.proofs.Common.{◌≡◌, ◌∙◌, ℕ, Bool, true, false, [], Err, None, take, length, refl, ap, subst, arith}
 use Rattle.std.proofs.lemmas.Result.{err_from_is_err_and}
 use Rattle.tre_show.proofs.Lists.{take-over}
 use Rattle.tre_tool.specs.Devices.{input_told}
@@ -124,10 +124,16 @@ returns-clause-read g c =
     let input = input_told g.S.Source.file_name g.S.Source.file g.S.Source.sound g.S.Source.opened
     g.S.Source.left g.S.Source.found g.S.Source.faults c.args.input.now
     c.next.new.input in
-    rw c.in_ok-trace.ensures (IsWhole-ended reading c.args.limit input so_far.bytes
+    rw c.in_ok-trace.ensures.same (IsWhole-ended reading c.args.limit input so_far.bytes
     c.loop-segments.segments.items c.next.new.segments.items
     (c.next.ensures.same_opened ∙ inv.opened) (c.in_ok-next.ensures.cause ∙ inv.no_fault)
     (rw (inv.names, inv.limit, c.if-not-branch.true) at
     c.in_ok-next.ensures.ends (g.S.Source.file c.args.input.now) so_far.bytes so_far.fed)
     so_far.told
     (g.met.R.TraceReader.is_trace (g.R.TraceReader.names c.args.reader.now) true so_far.bytes))
+
+pub returns-in_err-trace-clause-stops : goal.returns-in_err-trace-clause-stops
+returns-in_err-trace-clause-stops g c =
+    let p = err_from_is_err_and c.from_residual-in_err-trace.result
+    c.from_residual-in_err-trace.ensures.1 in
+    rw (p.1, p.2) (c.in_ok-next.ensures.cause ∙ c.loop-segments.invariant.no_fault)

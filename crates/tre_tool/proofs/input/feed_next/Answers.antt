@@ -88,8 +88,8 @@ returns-in_err-finish-clause-ends g c =
     c.feed_piece.new.segments.items _ c.in_err-finish.field-0.0 at_end adds
     (rw c.in_ok-count.ensures.names at c.in_err-finish.ensures.refused bytes at_end.fed))
 
-pub returns-in_ok-finish-clause-read : goal.returns-in_ok-finish-clause-read
-returns-in_ok-finish-clause-read g c =
+pub returns-then-count-eq0-clause-read : goal.returns-then-count-eq0-clause-read
+returns-then-count-eq0-clause-read g c =
     let inside = c.if-taken-limit.false in
     let count = c.in_ok-count.count in
     let buffer = c.feed_piece.new.buffer in
@@ -110,8 +110,8 @@ returns-in_ok-finish-clause-read g c =
     file _ _ bytes _ c.feed_piece.new.segments.items _ at_end adds
     (Adds-some (rw c.in_ok-count.ensures.names at c.in_ok-finish.ensures.adds bytes at_end.fed))
 
-pub returns-in_ok-finish-clause-ends : goal.returns-in_ok-finish-clause-ends
-returns-in_ok-finish-clause-ends g c =
+pub returns-then-count-eq0-clause-ends : goal.returns-then-count-eq0-clause-ends
+returns-then-count-eq0-clause-ends g c =
     let inside = c.if-taken-limit.false in
     let count = c.in_ok-count.count in
     let buffer = c.feed_piece.new.buffer in
@@ -133,8 +133,8 @@ returns-in_ok-finish-clause-ends g c =
     (rw c.in_ok-count.ensures.names at c.in_ok-finish.ensures.adds bytes at_end.fed)
     (rw c.in_ok-count.ensures.names at c.in_ok-finish.ensures.whole bytes at_end.fed)
 
-pub returns-else-count-eq0-clause-read : goal.returns-else-count-eq0-clause-read
-returns-else-count-eq0-clause-read g c =
+pub returns-clause-read : goal.returns-clause-read
+returns-clause-read g c =
     let inside = c.if-taken-limit.false in
     let count = c.in_ok-count.count in
     let buffer = c.feed_piece.new.buffer in
@@ -154,8 +154,8 @@ returns-else-count-eq0-clause-read g c =
       some = Adds-some (c.in_ok-count.ensures.adds bytes (IsFed-all so_far inside));
     }) room short
 
-pub returns-else-count-eq0-clause-ends : goal.returns-else-count-eq0-clause-ends
-returns-else-count-eq0-clause-ends g c =
+pub returns-clause-ends : goal.returns-clause-ends
+returns-clause-ends g c =
     let inside = c.if-taken-limit.false in
     let count = c.in_ok-count.count in
     let buffer = c.feed_piece.new.buffer in

@@ -92,7 +92,10 @@ returns-in_err-tell_blocks-clause-ends g c =
     c.next-fed.new.input in
     let output = output_told g.O.Sink.written g.O.Sink.faults c.args.out.now
     c.tell_blocks.new.out in
-    let stops = turn_stops c.next-fed.result (rw (inv.names, inv.limit, inv.empty) at
+    let stops = turn_stops (g.R.TraceReader.represents c.next-fed.new.reader) reading
+    (length c.loop-segments.feed.buffer.items) limit file (g.S.Source.left c.next-fed.new.input)
+    (g.S.Source.found c.next-fed.new.input) c.next-fed.new.self.taken tel.bytes [] new
+    c.next-fed.result (rw (inv.names, inv.limit, inv.empty) at
     c.next-fed.ensures.ends file tel.bytes tel.fed) in
     let within = rw c.deref.ensures.value at c.in_err-tell_blocks.ensures.stops tree
     (reading false (take limit tel.bytes)).segments (g.O.Sink.written c.args.out.now) tel.told in
