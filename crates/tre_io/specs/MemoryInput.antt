@@ -2,8 +2,8 @@
 use Rattle.std.specs.Prelude.{◌≡◌, ℕ, List, Bool, true, false, length, drop, ◌==◌}
 use Rattle.tre_io.specs.Calls.{CallCounts, new_calls, is_next_failing, after_call, after_fault}
 
--- Its name and all its bytes, those not yet read, those that the last read found left, whether it is
--- open, and how much a read gives at most.
+-- Its name and all its bytes, those not yet read, those that the last read found left, whether it
+-- is open, and how much a read gives at most.
 pub record MemoryInput : Type 0 where
   pub name : List ℕ
   pub bytes : List ℕ

@@ -218,11 +218,13 @@ pub StopsTurn-piece : {represents : List ℕ → Type 0} (reading : Bool → Lis
     → StopsTurn reading limit file left' bytes old new status
 StopsTurn-piece reading room most limit file left found left' count bytes old new (Trace fault)
     grows so_far inside stops =
-    let behind = IsFed-behind so_far inside stops.piece in
-    (stops.kind, TellsAll-fault reading grows limit file left' bytes (bytes ++ stops.piece) old new
-    fault (Consumes-trans file left left' bytes stops.piece so_far.front stops.front)
-    (rw (IsFed-here so_far inside) (rw behind at stops.all))
-    (rw behind at stops.told))
+    let behind = IsFed-behind so_far inside stops.piece in (
+      stops.kind,
+      TellsAll-fault reading grows limit file left' bytes (bytes ++ stops.piece) old new
+          fault (Consumes-trans file left left' bytes stops.piece so_far.front stops.front)
+          (rw (IsFed-here so_far inside) (rw behind at stops.all))
+          (rw behind at stops.told),
+    )
 StopsTurn-piece reading room most limit file left found left' count bytes old new ReadFault grows
     so_far inside stops = record {
       front = Consumes-keeps file left left' bytes so_far.front stops.kept;
