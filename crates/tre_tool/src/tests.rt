@@ -621,11 +621,15 @@ impl<S: Source> Source for AtLastCount<S> {
 
     ghost left = { λ device. S.left device.inner };
 
+    ghost found = { λ device. S.found device.inner };
+
     ghost opened = { λ device. S.opened device.inner };
 
     ghost sound = { λ device. S.sound device.inner };
 
     ghost faults = { λ _. 2 ^ 64 - 1 };
+
+    ghost found_told = { λ device. S.found_told device.inner };
 
     ghost told_together = { λ device. S.told_together device.inner };
 
