@@ -5,8 +5,7 @@ use crate::memory::{Device, FIRST_FAILS, SOUND, sink_of, source_of, words_of};
 use std::alloc::{AllocError, Global};
 use std::test::Fail;
 use tre_io::{Failed, MemSink, MemSource, Sink, Source};
-use tre_tool::Status;
-use tre_tool::run::run;
+use tre_tool::{Status, run};
 
 /// A source or a sink whose count of faults stands at its last value.
 #[derive(Drop)]
@@ -21,11 +20,15 @@ impl<S: Source> Source for AtLastCount<S> {
 
     ghost left = { λ device. S.left device.inner };
 
+    ghost found = { λ device. S.found device.inner };
+
     ghost opened = { λ device. S.opened device.inner };
 
     ghost sound = { λ device. S.sound device.inner };
 
     ghost faults = { λ _. 2 ^ 64 - 1 };
+
+    ghost found_told = { λ device. S.found_told device.inner };
 
     ghost told_together = { λ device. S.told_together device.inner };
 

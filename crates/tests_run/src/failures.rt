@@ -8,8 +8,7 @@ use std::alloc::{AllocError, Global};
 use std::io::Cursor;
 use std::test::Fail;
 use tre_io::StdSink;
-use tre_tool::Status;
-use tre_tool::run::run;
+use tre_tool::{Status, run};
 
 /// How many calls take `len` bytes, at most `most` of them a call.
 fn calls_for(len: u64, most: usize) -> u64

@@ -3,7 +3,7 @@ ghost use Rattle.std.specs.Prelude.{◌≡◌, ◌<◌, IfOk, false};
 
 use std::alloc::{AllocError, Global};
 use tre_io::{MemSink, MemSource};
-use tre_tool::run::run;
+use tre_tool::run;
 
 /// How a run over memory ended, and what it wrote.
 #[derive(Drop)]
