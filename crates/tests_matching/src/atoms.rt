@@ -55,35 +55,50 @@ const MIXED: Lengths<'static> = &[(3, 1), (2, 2), (4, 3)];
 const GAP: Lengths<'static> = &[(1, 0), (1, 1)];
 
 /// Of each row: the atom, the ticks of p and the segments behind them, and the zones.
+const OVER_TRACES: [(Atom, u8, Lengths<'static>, &str); 13] = [
+    (Atom::P, 0, MIXED, "[0,3) (0,3] (0,3]\n[5,9) (5,9] (0,4]\n"),
+    // Two segments are one run.
+    (Atom::Q, 0, MIXED, "[3,9) (3,9] (0,6]\n"),
+    (Atom::Eps, 0, MIXED, "[0,9] [0,9] [0,0]\n"),
+    (Atom::RiseP, 0, MIXED, "[5,5] [5,5] [0,0]\n"),
+    (Atom::FallP, 0, MIXED, "[3,3] [3,3] [0,0]\n"),
+    // A word has the truth of 64 segments.
+    (Atom::P, 65, NOTHING, "[0,65) (0,65] (0,65]\n"),
+    (
+        Atom::P,
+        64,
+        GAP,
+        "[0,64) (0,64] (0,64]\n[65,66) (65,66] (0,1]\n",
+    ),
+    (Atom::RiseP, 64, GAP, "[65,65] [65,65] [0,0]\n"),
+    (Atom::FallP, 64, GAP, "[64,64] [64,64] [0,0]\n"),
+    // The empty trace.
+    (Atom::Eps, 0, NOTHING, "[0,0] [0,0] [0,0]\n"),
+    (Atom::P, 0, NOTHING, ""),
+    (Atom::RiseP, 0, NOTHING, ""),
+    (Atom::FallP, 0, NOTHING, ""),
+];
+
+/// Whether the atom has these zones over the trace.
+fn matches_trace(
+    alloc: Global,
+    atom: Atom,
+    ticks: u8,
+    rest: Lengths,
+    zones: &str,
+) -> Result<bool, Fail> {
+    let trace = ticks_and(alloc, ticks, rest)?;
+    let found = over_trace(alloc, atom, &trace)?;
+    Ok(are_text(alloc, found.zones(), zones)?)
+}
+
 #[test]
 fn atoms_of_a_trace(rt: HostRuntime) -> Result<(), Fail> {
-    let rows = [
-        (Atom::P, 0, MIXED, "[0,3) (0,3] (0,3]\n[5,9) (5,9] (0,4]\n"),
-        // Two segments are one run.
-        (Atom::Q, 0, MIXED, "[3,9) (3,9] (0,6]\n"),
-        (Atom::Eps, 0, MIXED, "[0,9] [0,9] [0,0]\n"),
-        (Atom::RiseP, 0, MIXED, "[5,5] [5,5] [0,0]\n"),
-        (Atom::FallP, 0, MIXED, "[3,3] [3,3] [0,0]\n"),
-        // A word has the truth of 64 segments.
-        (Atom::P, 65, NOTHING, "[0,65) (0,65] (0,65]\n"),
-        (
-            Atom::P,
-            64,
-            GAP,
-            "[0,64) (0,64] (0,64]\n[65,66) (65,66] (0,1]\n",
-        ),
-        (Atom::RiseP, 64, GAP, "[65,65] [65,65] [0,0]\n"),
-        (Atom::FallP, 64, GAP, "[64,64] [64,64] [0,0]\n"),
-        // The empty trace.
-        (Atom::Eps, 0, NOTHING, "[0,0] [0,0] [0,0]\n"),
-        (Atom::P, 0, NOTHING, ""),
-        (Atom::RiseP, 0, NOTHING, ""),
-        (Atom::FallP, 0, NOTHING, ""),
-    ];
-    for (atom, ticks, rest, zones) in rows {
-        let trace = ticks_and(rt.alloc(), ticks, rest)?;
-        let found = over_trace(rt.alloc(), atom, &trace)?;
-        assert!(rt; are_text(rt.alloc(), found.zones(), zones)?, "{zones}");
+    for (atom, ticks, rest, zones) in &OVER_TRACES {
+        assert!(rt;
+            matches_trace(rt.alloc(), *atom, *ticks, *rest, *zones)?,
+            "{zones}"
+        );
     }
     Ok(())
 }
@@ -98,18 +113,19 @@ fn has_bits(alloc: Global, text: &str, trace: &Trace, bits: u64) -> Result<bool,
     Ok(false)
 }
 
+const STATES: [(&str, u64); 5] = [
+    ("p", 0b101),
+    ("!p", 0b010),
+    ("{p && q}", 0b100),
+    ("{p || q}", 0b111),
+    ("true", 0b111),
+];
+
 #[test]
 fn words_of_states(rt: HostRuntime) -> Result<(), Fail> {
     let trace = trace_of(rt.alloc(), MIXED)?;
-    let rows = [
-        ("p", 0b101),
-        ("!p", 0b010),
-        ("{p && q}", 0b100),
-        ("{p || q}", 0b111),
-        ("true", 0b111),
-    ];
-    for (text, bits) in rows {
-        assert!(rt; has_bits(rt.alloc(), text, &trace, bits)?, "{text}");
+    for (text, bits) in &STATES {
+        assert!(rt; has_bits(rt.alloc(), *text, &trace, *bits)?, "{text}");
     }
     Ok(())
 }
@@ -191,26 +207,39 @@ fn in_piece(atom: Atom, piece: &Piece) -> Option<Zone> {
 }
 
 /// Of each row: the atom, when three ticks of p begin and what held before them, and the zone.
+const IN_PIECES: [(Atom, u8, Option<u64>, &str); 7] = [
+    (Atom::P, 2, Some(0), "[2,5) (2,5] (0,3]\n"),
+    (Atom::RiseP, 2, Some(0), "[2,2] [2,2] [0,0]\n"),
+    (Atom::FallP, 2, Some(0), ""),
+    (Atom::Eps, 2, Some(0), "[2,5] [2,5] [0,0]\n"),
+    (Atom::P, 0, None, "[0,3) (0,3] (0,3]\n"),
+    (Atom::RiseP, 0, None, ""),
+    (Atom::FallP, 0, None, ""),
+];
+
+/// Whether the atom has this zone in the piece, or none where there is no line.
+fn matches_piece(
+    alloc: Global,
+    atom: Atom,
+    begin: u8,
+    before: Option<u64>,
+    zone: &str,
+) -> Result<bool, AllocError> {
+    let piece = Piece {
+        begin: u64::from(begin),
+        segment: Segment { len: 3, val: 1 },
+        before,
+    };
+    are_text(alloc, in_piece(atom, &piece).as_slice(), zone)
+}
+
 #[test]
 fn atoms_of_a_piece(rt: HostRuntime) -> Result<(), Fail> {
-    let rows = [
-        (Atom::P, 2u8, Some(0), "[2,5) (2,5] (0,3]\n"),
-        (Atom::RiseP, 2, Some(0), "[2,2] [2,2] [0,0]\n"),
-        (Atom::FallP, 2, Some(0), ""),
-        (Atom::Eps, 2, Some(0), "[2,5] [2,5] [0,0]\n"),
-        (Atom::P, 0, None, "[0,3) (0,3] (0,3]\n"),
-        (Atom::RiseP, 0, None, ""),
-        (Atom::FallP, 0, None, ""),
-    ];
-    for (atom, begin, before, zone) in rows {
-        let segment = Segment { len: 3, val: 1 };
-        let piece = Piece {
-            begin: u64::from(begin),
-            segment,
-            before,
-        };
-        let found = in_piece(atom, &piece);
-        assert!(rt; are_text(rt.alloc(), found.as_slice(), zone)?, "{zone}");
+    for (atom, begin, before, zone) in &IN_PIECES {
+        assert!(rt;
+            matches_piece(rt.alloc(), *atom, *begin, *before, *zone)?,
+            "{zone}"
+        );
     }
     Ok(())
 }

@@ -70,19 +70,32 @@ fn told(alloc: Global, text: &str, first: Length, second: Length) -> Result<Zone
     Ok(stepped.told)
 }
 
+const PAIRS: [(&str, Length, Length, (u64, u64), bool); 5] = [
+    ("p", (2, 1), (3, 1), (0, 5), true),
+    ("p", (2, 1), (3, 1), (0, 2), true),
+    ("p", (2, 1), (3, 1), (0, 1), false),
+    // The first part ends inside the first piece.
+    ("(p % [1,1]);q", (2, 3), (2, 2), (0, 3), true),
+    (FALLING, (2, 1), (1, 2), (0, 2), true),
+];
+
+// Whether the pair is told at the second of two pieces.
+fn tells(
+    alloc: Global,
+    text: &str,
+    first: Length,
+    second: Length,
+    pair: &(u64, u64),
+) -> Result<bool, Fail> {
+    let (a, b) = *pair;
+    Ok(told(alloc, text, first, second)?.holds(a, b, 1))
+}
+
 #[test]
 fn pairs_across_two_pieces(rt: HostRuntime) -> Result<(), Fail> {
-    let rows = [
-        ("p", (2, 1), (3, 1), (0, 5), true),
-        ("p", (2, 1), (3, 1), (0, 2), true),
-        ("p", (2, 1), (3, 1), (0, 1), false),
-        // The first part ends inside the first piece.
-        ("(p % [1,1]);q", (2, 3), (2, 2), (0, 3), true),
-        (FALLING, (2, 1), (1, 2), (0, 2), true),
-    ];
-    for (text, first, second, (a, b), want) in rows {
-        let told = told(rt.alloc(), text, first, second)?;
-        assert!(rt; told.holds(a, b, 1) == want, "{text} {a} {b}");
+    for (text, first, second, pair, want) in &PAIRS {
+        let tells = tells(rt.alloc(), *text, *first, *second, pair)?;
+        assert!(rt; tells == *want, "{text}");
     }
     Ok(())
 }
@@ -128,7 +141,7 @@ fn is_right(
 }
 
 // After how many of the pieces what was told so far were the matches so far.
-fn right(alloc: Global, text: &str, lengths: [Length; 3]) -> Result<u8, Fail> {
+fn right(alloc: Global, text: &str, lengths: &[Length; 3]) -> Result<u8, Fail> {
     let pattern = pattern(alloc, text)?;
     let mut told = ZoneSet::new(alloc);
     let mut trace = Trace::new(alloc);
@@ -145,27 +158,28 @@ fn right(alloc: Global, text: &str, lengths: [Length; 3]) -> Result<u8, Fail> {
     Ok(right)
 }
 
+const PATTERNS: [&str; 7] = [
+    "(p % [1,1]);q",
+    FALLING,
+    "rise(p);p",
+    "(p % [1,1])*",
+    "(p;q)*",
+    "(p;q) % [2,3]",
+    "(p;q) | (p % [1,1])*",
+];
+
+const TRACES: [[Length; 3]; 4] = [
+    [(1, 1), (2, 3), (1, 2)],
+    [(2, 3), (1, 0), (2, 1)],
+    [(1, 0), (3, 1), (2, 2)],
+    [(2, 1), (2, 3), (1, 1)],
+];
+
 #[test]
 fn told_by_each_piece_are_the_matches(rt: HostRuntime) -> Result<(), Fail> {
-    let texts = [
-        "(p % [1,1]);q",
-        FALLING,
-        "rise(p);p",
-        "(p % [1,1])*",
-        "(p;q)*",
-        "(p;q) % [2,3]",
-        "(p;q) | (p % [1,1])*",
-    ];
-    let traces = [
-        [(1, 1), (2, 3), (1, 2)],
-        [(2, 3), (1, 0), (2, 1)],
-        [(1, 0), (3, 1), (2, 2)],
-        [(2, 1), (2, 3), (1, 1)],
-    ];
-    for text in texts {
-        for lengths in traces {
-            let right = right(rt.alloc(), text, lengths)?;
-            assert!(rt; right == 3, "{text} {lengths:?}");
+    for text in &PATTERNS {
+        for lengths in &TRACES {
+            assert!(rt; right(rt.alloc(), *text, lengths)? == 3, "{text}");
         }
     }
     Ok(())

@@ -162,22 +162,23 @@ fn are_same(set: &ZoneSet, other: &ZoneSet) -> bool {
 }
 
 /// Of each row: the pattern, what the plain program does, and how many zones it finds.
+const OPERATORS: [(&str, Operator, usize); 5] = [
+    ("p;q", Operator::Sequence, 1_125),
+    ("p|q", Operator::Alternation, 1_875),
+    ("p & q", Operator::Meet, 375),
+    ("p % (1,2)", Operator::Short, 750),
+    ("(p % [1,1])*", Operator::Ticks, 3_001),
+];
+
 #[test]
 fn as_by_the_plain_program(rt: HostRuntime) -> Result<(), Fail> {
     let lengths = long(rt.alloc(), TURN)?;
     let p = found(rt.alloc(), "p", &lengths)?;
     let q = found(rt.alloc(), "p", &long(rt.alloc(), EXCHANGED)?)?;
-    let rows = [
-        ("p;q", Operator::Sequence, 1_125),
-        ("p|q", Operator::Alternation, 1_875),
-        ("p & q", Operator::Meet, 375),
-        ("p % (1,2)", Operator::Short, 750),
-        ("(p % [1,1])*", Operator::Ticks, 3_001),
-    ];
-    for (text, operator, count) in rows {
-        let found = found(rt.alloc(), text, &lengths)?;
-        let plain = plain(rt.alloc(), operator, &p, &q)?;
-        assert!(rt; plain.zones().len() == count, "{text}");
+    for (text, operator, count) in &OPERATORS {
+        let found = found(rt.alloc(), *text, &lengths)?;
+        let plain = plain(rt.alloc(), *operator, &p, &q)?;
+        assert!(rt; plain.zones().len() == *count, "{text}");
         assert!(rt; are_same(&found, &plain), "{text}");
     }
     Ok(())

@@ -70,7 +70,7 @@ fn choice(alloc: Global) -> Result<Residual, Fail> {
 }
 
 // Whether the residual at the tick 2 holds the pair of ticks, where nothing comes and the only
-// expression is `eps`. No row is left with a set in front.
+// expression is `eps`. No row is left with a set in front, and none is a mark.
 fn holds(residual: &Residual, a: u64, b: u64) -> bool {
     match residual {
         Residual::Nil => false,
@@ -82,29 +82,38 @@ fn holds(residual: &Residual, a: u64, b: u64) -> bool {
         Residual::Both(one, other) => holds(one, a, b) && holds(other, a, b),
         Residual::Dur(inner, interval) => holds(inner, a, b)
             && interval.holds(b.saturating_sub(a), 1),
+        Residual::Mark(_, _) => true,
     }
+}
+
+const FORMS: [(Case, bool); 8] = [
+    (Case::AfterNone, false),
+    (Case::Choice, true),
+    (Case::Nothing, false),
+    (Case::Short, false),
+    (Case::Long, true),
+    (Case::Followed, true),
+    (Case::Composed, true),
+    (Case::TooLate, false),
+];
+
+// Whether the residual holds the pair (0,2) or not, as this says, and no other.
+fn means(residual: &Residual, whole: bool) -> bool {
+    for a in 0..4 {
+        for b in 0..4 {
+            if holds(residual, a, b) != (whole && a == 0 && b == 2) {
+                return false;
+            }
+        }
+    }
+    true
 }
 
 #[test]
 fn constructors_mean_their_forms(rt: HostRuntime) -> Result<(), Fail> {
-    let table = [
-        (Case::AfterNone, false),
-        (Case::Choice, true),
-        (Case::Nothing, false),
-        (Case::Short, false),
-        (Case::Long, true),
-        (Case::Followed, true),
-        (Case::Composed, true),
-        (Case::TooLate, false),
-    ];
-    for (case, whole) in table {
-        let found = residual(rt.alloc(), case)?;
-        for a in 0..4 {
-            for b in 0..4 {
-                let want = whole && a == 0 && b == 2;
-                assert!(rt; holds(&found, a, b) == want, "{case:?} {a} {b}");
-            }
-        }
+    for (case, whole) in &FORMS {
+        let found = residual(rt.alloc(), *case)?;
+        assert!(rt; means(&found, *whole), "{case:?}");
     }
     Ok(())
 }

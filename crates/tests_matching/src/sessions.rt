@@ -36,31 +36,44 @@ const ENDS: Lengths<'static> = &[(2, 1), (1, 2)];
 /// `2 p / 3 p / 1 q`
 const ANSWERED: Lengths<'static> = &[(2, 1), (3, 1), (1, 2)];
 
+const FALLING: &str = "(p;fall(p)) & p";
+
 /// Of each row: the pattern, the segments, a pair of times, and whether the last segment tells it.
+const PAIRS: [(&str, Lengths<'static>, (u64, u64, u32), bool); 12] = [
+    ("p", &[(2, 1)], (0, 2, 1), true),
+    ("p", &[(2, 1)], (1, 3, 2), true),
+    ("p", LONG, (0, 5, 1), true),
+    ("p", LONG, (3, 5, 2), true),
+    ("p", LONG, (5, 9, 2), true),
+    // What ends before the segment isn't told again.
+    ("p", LONG, (0, 1, 1), false),
+    ("p;q", BOTH, (1, 7, 2), true),
+    // The first part ends strictly inside the first segment.
+    ("(p % [1,1]);q", BOTH, (0, 3, 1), true),
+    // An edge is known only once the segment behind it has come.
+    (FALLING, &[(2, 1)], (0, 2, 1), false),
+    (FALLING, ENDS, (0, 2, 1), true),
+    ("p;rise(q)", LONG, (0, 5, 1), false),
+    ("p;rise(q)", ANSWERED, (0, 5, 1), true),
+];
+
+fn tells(
+    alloc: Global,
+    text: &str,
+    lengths: Lengths,
+    pair: &(u64, u64, u32),
+) -> Result<bool, Fail> {
+    let (a, b, n) = *pair;
+    Ok(n > 0 && told(alloc, text, lengths)?.holds(a, b, n))
+}
+
 #[test]
 fn the_last_segment_tells_the_pair(rt: HostRuntime) -> Result<(), Fail> {
-    let falling = "(p;fall(p)) & p";
-    let rows = [
-        ("p", &LONG[..1], (0, 2, 1), true),
-        ("p", &LONG[..1], (1, 3, 2), true),
-        ("p", LONG, (0, 5, 1), true),
-        ("p", LONG, (3, 5, 2), true),
-        ("p", LONG, (5, 9, 2), true),
-        // What ends before the segment isn't told again.
-        ("p", LONG, (0, 1, 1), false),
-        ("p;q", BOTH, (1, 7, 2), true),
-        // The first part ends strictly inside the first segment.
-        ("(p % [1,1]);q", BOTH, (0, 3, 1), true),
-        // An edge is known only once the segment behind it has come.
-        (falling, &ENDS[..1], (0, 2, 1), false),
-        (falling, ENDS, (0, 2, 1), true),
-        ("p;rise(q)", &ANSWERED[..2], (0, 5, 1), false),
-        ("p;rise(q)", ANSWERED, (0, 5, 1), true),
-    ];
-    for (text, lengths, (a, b, n), want) in rows {
-        let told = told(rt.alloc(), text, lengths)?;
-        let is_told = n > 0 && told.holds(a, b, n);
-        assert!(rt; is_told == want, "{text} {a} {b} {n}");
+    for (text, lengths, pair, want) in &PAIRS {
+        assert!(rt;
+            tells(rt.alloc(), *text, *lengths, pair)? == *want,
+            "{text} {pair:?}"
+        );
     }
     Ok(())
 }
@@ -153,26 +166,27 @@ const REPEATED: Lengths<'static> = &[
     (1, 3),
 ];
 
+const PATTERNS: [&str; 13] = [
+    "p",
+    "p;q",
+    "(p % [1,1]);q",
+    "(p;fall(p)) & p",
+    "p;rise(q)",
+    "(p;q)*",
+    "(p % [1,1])*",
+    "p % [0,3]",
+    "(p;q) % [2,3]",
+    "((p % [1,1]);q) & ((p;q) % [2,3])",
+    "p;rise(q) | (p % [1,1])*",
+    "((p;q) % [2,3])*",
+    "((p;q)* & (p % [1,1])*) | (p;fall(p)) & p",
+];
+
 #[test]
 fn told_so_far_are_the_matches(rt: HostRuntime) -> Result<(), Fail> {
-    let texts = [
-        "p",
-        "p;q",
-        "(p % [1,1]);q",
-        "(p;fall(p)) & p",
-        "p;rise(q)",
-        "(p;q)*",
-        "(p % [1,1])*",
-        "p % [0,3]",
-        "(p;q) % [2,3]",
-        "((p % [1,1]);q) & ((p;q) % [2,3])",
-        "p;rise(q) | (p % [1,1])*",
-        "((p;q) % [2,3])*",
-        "((p;q)* & (p % [1,1])*) | (p;fall(p)) & p",
-    ];
-    for text in texts {
-        assert!(rt; tells_matches(rt.alloc(), text, MIXED)?, "{text}");
-        assert!(rt; tells_matches(rt.alloc(), text, REPEATED)?, "{text}");
+    for text in &PATTERNS {
+        assert!(rt; tells_matches(rt.alloc(), *text, MIXED)?, "{text}");
+        assert!(rt; tells_matches(rt.alloc(), *text, REPEATED)?, "{text}");
     }
     Ok(())
 }

@@ -31,59 +31,68 @@ const TICKS: &str = "[0,0] [3,3] [3,3]\n[0,1] [2,3] [2,2]\n[0,2] [1,3] [1,1]\n[0
 const ANSWERED: &str = "<:p:> ; (!q % [1,4]) ; rise(q)";
 
 /// Of each row: the pattern, the segments and the zones.
+const ZONES: [(&str, Lengths<'static>, &str); 13] = [
+    ("eps", NOTHING, "[0,0] [0,0] [0,0]\n"),
+    ("p;p", TICK, "[0,1) (0,1] (0,1]\n"),
+    ("p;q", MIXED, "[0,3) (3,9] (0,9]\n[5,9) (5,9] (0,4]\n"),
+    ("p % (1,2)", LONG, "[0,2) (1,3] (1,2)\n"),
+    ("<:p:>", PULSE, "[2,2] [5,5] [3,3]\n"),
+    ("<:p:>", LONG, ""),
+    ("(p % [1,1])*", LONG, TICKS),
+    ("eps*", TICK, "[0,1] [0,1] [0,0]\n"),
+    ("(p*)*", TICK, "[0,1) (0,1] (0,1]\n[0,1] [0,1] [0,0]\n"),
+    ("{p || q}", TURNS, "[0,2) (0,2] (0,2]\n"),
+    ("p|q", TURNS, "[0,1) (0,1] (0,1]\n[1,2) (1,2] (0,1]\n"),
+    ("p & q", MIXED, "[5,9) (5,9] (0,4]\n"),
+    (ANSWERED, BUS, "[10,10] [15,15] [5,5]\n"),
+];
+
+/// Whether the pattern has just these zones.
+fn matches_zones(alloc: Global, text: &str, lengths: Lengths, zones: &str) -> Result<bool, Fail> {
+    let found = found(alloc, text, lengths)?;
+    Ok(has_text(alloc, &found, zones)?)
+}
+
 #[test]
 fn matches_are_the_zones(rt: HostRuntime) -> Result<(), Fail> {
-    let rows = [
-        ("eps", NOTHING, "[0,0] [0,0] [0,0]\n"),
-        ("p;p", TICK, "[0,1) (0,1] (0,1]\n"),
-        ("p;q", MIXED, "[0,3) (3,9] (0,9]\n[5,9) (5,9] (0,4]\n"),
-        ("p % (1,2)", LONG, "[0,2) (1,3] (1,2)\n"),
-        ("<:p:>", PULSE, "[2,2] [5,5] [3,3]\n"),
-        ("<:p:>", LONG, ""),
-        ("(p % [1,1])*", LONG, TICKS),
-        ("eps*", TICK, "[0,1] [0,1] [0,0]\n"),
-        ("(p*)*", TICK, "[0,1) (0,1] (0,1]\n[0,1] [0,1] [0,0]\n"),
-        ("{p || q}", TURNS, "[0,2) (0,2] (0,2]\n"),
-        ("p|q", TURNS, "[0,1) (0,1] (0,1]\n[1,2) (1,2] (0,1]\n"),
-        ("p & q", MIXED, "[5,9) (5,9] (0,4]\n"),
-        (ANSWERED, BUS, "[10,10] [15,15] [5,5]\n"),
-    ];
-    for (text, lengths, zones) in rows {
-        let found = found(rt.alloc(), text, lengths)?;
-        assert!(rt; has_text(rt.alloc(), &found, zones)?, "{text}");
+    for (text, lengths, zones) in &ZONES {
+        assert!(rt;
+            matches_zones(rt.alloc(), *text, *lengths, *zones)?,
+            "{text}"
+        );
     }
     Ok(())
 }
 
 /// Whether a pair of times is matched.
-fn has(
-    alloc: Global,
-    text: &str,
-    lengths: Lengths,
-    (a, b, n): (u64, u64, u32),
-) -> Result<bool, Fail> {
+fn has(alloc: Global, text: &str, lengths: Lengths, pair: &(u64, u64, u32)) -> Result<bool, Fail> {
+    let (a, b, n) = *pair;
     let found = found(alloc, text, lengths)?;
     Ok(n > 0 && found.holds(a, b, n))
 }
 
+const FALLING: &str = "(p;fall(p)) & {p}";
+
 /// Of each row: the pattern, the segments, a pair of times, and whether it is matched.
+const PAIRS: [(&str, Lengths<'static>, (u64, u64, u32), bool); 6] = [
+    // The moment between p and p is no whole number.
+    ("p;p", TICK, (0, 1, 1), true),
+    ("p;p", TICK, (0, 3, 2), false),
+    // p and then q is one stretch of {p || q}, and none of p|q.
+    ("{p || q}", TURNS, (0, 2, 1), true),
+    ("p|q", TURNS, (0, 2, 1), false),
+    // The edge at which p ends belongs to the match.
+    (FALLING, ENDED, (0, 2, 1), true),
+    (FALLING, ENDED, (0, 1, 1), false),
+];
+
 #[test]
 fn matches_hold_the_pairs(rt: HostRuntime) -> Result<(), Fail> {
-    let falling = "(p;fall(p)) & {p}";
-    let rows = [
-        // The moment between p and p is no whole number.
-        ("p;p", TICK, (0, 1, 1), true),
-        ("p;p", TICK, (0, 3, 2), false),
-        // p and then q is one stretch of {p || q}, and none of p|q.
-        ("{p || q}", TURNS, (0, 2, 1), true),
-        ("p|q", TURNS, (0, 2, 1), false),
-        // The edge at which p ends belongs to the match.
-        (falling, ENDED, (0, 2, 1), true),
-        (falling, ENDED, (0, 1, 1), false),
-    ];
-    for (text, lengths, pair, want) in rows {
-        let matched = has(rt.alloc(), text, lengths, pair)?;
-        assert!(rt; matched == want, "{text} {pair:?}");
+    for (text, lengths, pair, want) in &PAIRS {
+        assert!(rt;
+            has(rt.alloc(), *text, *lengths, pair)? == *want,
+            "{text} {pair:?}"
+        );
     }
     Ok(())
 }

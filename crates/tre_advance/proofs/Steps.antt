@@ -26,7 +26,8 @@ use Rattle.tre_edges.specs.Piece.{end_of_piece}
 use Rattle.tre_advance.specs.Advance.{GoesOver, MarkedBehind, Advances}
 use Rattle.tre_advance.specs.Moves.{StepsTo, EntersTo, Begins}
 use Rattle.tre_advance.proofs.Crossings.{cross_either}
-use Rattle.tre_advance.proofs.Going.{over, alone, behind, begin_le, mark_ends, ends_composed, tree_ends}
+use Rattle.tre_mark.proofs.Growth.{mark_ends, ends_composed, tree_ends}
+use Rattle.tre_advance.proofs.Going.{over, alone, behind, begin_le}
 use Rattle.tre_advance.proofs.SetsOf.{exact_set}
 
 -- Told are the pairs of a relation over the piece, and what is left are those of the same over more

@@ -1,6 +1,5 @@
 -- Where intervals stand among tokens.
-use Rattle.std.proofs.Common.{◌≡◌, ℕ, ◌+◌, ◌<◌, ◌≤◌, Bool, true, false, not, Option, Some, None, Ok, List, ◌∷◌, ◌++◌, length, take, drop, get_or, refl, sym, ◌∙◌, ap, subst, arith, add-one, drop-cons, length-append}
-use Rattle.std.specs.Prelude.{IsTrue, is_some, position, ◌↔◌}
+use Rattle.std.proofs.Common.{◌≡◌, ℕ, ◌+◌, ◌<◌, ◌≤◌, Option, Some, None, List, ◌∷◌, ◌++◌, length, take, drop, get_or, sym, ◌∙◌, ap, subst, arith, add-one, drop-cons, length-append}
 use Rattle.std.proofs.Math.Seq.{drop-append_seam}
 use Rattle.std.proofs.lemmas.List.{take-append-drop, length-take-le}
 use Rattle.tre_pairs.specs.declared.TheConstants.{TIME_MAX}
@@ -9,14 +8,9 @@ use Rattle.tre_parse.specs.declared.token.Token.{Token}
 use Rattle.tre_parse.specs.declared.token.Token.TheVariants.{Percent}
 use Rattle.tre_parse.specs.Grammar.{SpellsInterval}
 use Rattle.tre_parse.specs.Begins.{BeginsInterval}
-use Rattle.tre_parse.specs.Parts.{IsEmptyInterval, IsFineInterval, IsMadeOf}
-use Rattle.tre_parse.specs.declared.cursor.Stop.{Stop}
-use Rattle.tre_parse.specs.declared.cursor.Stop.TheVariants.{Syntax, Memory}
-use Rattle.tre_parse.specs.Front.{front}
+use Rattle.tre_parse.specs.Parts.{IsEmptyInterval, IsFineInterval}
 use Rattle.tre_parse.specs.Reader.{Reading, got, stop, of_interval, read}
-use Rattle.tre_parse.specs.Reading.{Stops, IsRead}
-use Rattle.tre_parse.specs.Outcome.{is_big, IsIntervalAt, HasEmptyAt, NoneEmptyBefore, NoneEmpty}
-use Rattle.tre_parse.proofs.Fine.{none_big, ends_within}
+use Rattle.tre_parse.specs.Outcome.{IsIntervalAt, HasEmptyAt, NoneEmptyBefore, NoneEmpty}
 use Rattle.tre_parse.proofs.Fixpoint.{left}
 use Rattle.tre_parse.proofs.Spelt.{interval_is_read}
 use Rattle.tre_parse.proofs.Says.{Says}
@@ -121,122 +115,16 @@ none_empty tokens place le none = λ k ends s h. none k ends
     (omega (arith, (place_within tokens k ends s).1)) s h
 
 -- An interval that can't be kept is empty, where no number is too big.
-unkept_empty : (ends : IntervalEnds) → IsIntervalWithin TIME_MAX ends → (IsFineInterval ends → ⊥)
+pub unkept_empty : (ends : IntervalEnds) → IsIntervalWithin TIME_MAX ends
+    → (IsFineInterval ends → ⊥)
     → IsEmptyInterval ends
 unkept_empty ends w h = λ d n some within. h (record
     { lasts = λ empty. empty d n some within; within = w })
 
--- The tokens begin with an interval that can't be kept.
-pub record BeginsUnkept (tokens : List Token) : Type 0 where
-  pub ends : IntervalEnds
-  pub body : List Token
-  pub rest : List Token
-  pub split : tokens ≡ body ++ rest
-  pub spells : SpellsInterval body ends
-  pub unkept : IsFineInterval ends → ⊥
-
--- The tests say whether an empty interval stands after a place.
-pub decides_here : (tokens rest : List Token) (place : ℕ) (d : Token) (r : Bool)
-    → place < length tokens → get_or tokens place d ≡ Percent → rest ≡ drop (place + 1) tokens →
-    position is_big tokens ≡ None → IsTrue r ↔ BeginsUnkept rest
-    → IsTrue r ↔ HasEmptyAt tokens (place + 1)
-decides_here tokens rest place d r h e q big t = (
-  (λ k. let u = t.0 k in
-      let read = ap (λ ts. interval_from ts) (sym q ∙ u.split)
-      ∙ interval_read u.body u.ends u.spells u.rest in
-      let stands = read_stands tokens place u.ends d h e read in
-      record {
-        ends = u.ends;
-        stands = stands;
-        empty =
-            unkept_empty u.ends (ends_within tokens stands.front stands.body stands.rest u.ends
-            (none_big tokens big) stands.split stands.spelt) u.unkept;
-      }),
-  (λ k. let s = stands_read tokens place k.ends d h k.stands in
-      let found = fronts (drop (place + 1) tokens) k.ends s.1 in
-      t.1 (record {
-        ends = k.ends;
-        body = found.body;
-        rest = found.rest;
-        split =
-            q ∙ found.split;
-        spells = found.spelt;
-        unkept = λ fine. fine.lasts k.empty;
-      })),
-)
-
-pub decides_not_here : (tokens : List Token) (place : ℕ) (d : Token) → place < length tokens
-    → (get_or tokens place d ≡ Percent → ⊥) → IsTrue false ↔ HasEmptyAt tokens (place + 1)
-decides_not_here tokens place d h never = (
-  (λ k. absurd (cc)),
-  (λ k. absurd (never (stands_read tokens place k.ends d h k.stands).0)),
-)
-
--- What the function for intervals answers says whether the interval can be kept.
-same_ends : (tokens xs ys rest other : List Token) (a b : IntervalEnds) → tokens ≡ xs ++ rest
+-- An interval at the front has its ends alone.
+pub same_ends : (tokens xs ys rest other : List Token) (a b : IntervalEnds) → tokens ≡ xs ++ rest
     → tokens ≡ ys ++ other → SpellsInterval xs a → SpellsInterval ys b → a ≡ b
 same_ends tokens xs ys rest other a b e f h k =
     let one = ap (λ ts. interval_from ts) e ∙ interval_read xs a h rest in
     let two = ap (λ ts. interval_from ts) f ∙ interval_read ys b k other in
     cc
-
-none_kept : (r : Bool) → false ≡ not r → IsTrue r
-none_kept true e = refl
-none_kept false e = absurd (cc)
-
-one_kept : (r : Bool) → true ≡ not r → IsTrue r → ⊥
-one_kept true e h = cc
-one_kept false e h = cc
-
-pub kept_decides : (interval : Option IntervalEnds) (r : Bool) (tokens new : List Token)
-    → is_some interval ≡ not r → IsRead IsMadeOf (read of_interval tokens) (Ok interval) new
-    → IsTrue r ↔ BeginsUnkept tokens
-kept_decides None r tokens new e h =
-    let f = fronts tokens h.tree (ap interval_of h.goes) in (
-      (λ k. record {
-        ends = h.tree;
-        body = f.body;
-        rest = f.rest;
-        split = f.split;
-        spells = f.spelt;
-        unkept = λ fine. let some = h.stands.made fine in (cc);
-      }),
-      (λ k. none_kept r e),
-    )
-kept_decides (Some kept) r tokens new e h =
-    let f = fronts tokens h.tree (ap interval_of h.goes) in (
-      (λ k. absurd (one_kept r e k)),
-      (λ k. absurd (k.unkept (subst IsFineInterval (same_ends tokens f.body k.body f.rest k.rest
-          h.tree k.ends f.split k.split f.spelt k.spells) (h.stands.fine refl)))),
-    )
-
-stopped : (q : Reading IntervalEnds) (fault : Stop) (n : ℕ) (new : List Token)
-    → fault ≡ Syntax n → Stops q fault new → q ≡ stop new
-stopped q Memory n new e h = absurd (cc)
-stopped q (Syntax m) n new e h = h.1
-
-pub none_decides : (tokens new : List Token) (fault : Stop) → fault ≡ Syntax (length new)
-    → Stops (read of_interval tokens) fault new → IsTrue false ↔ BeginsUnkept tokens
-none_decides tokens new fault e h = (
-  (λ k. absurd (cc)),
-  (λ k. absurd (let some = ap (λ ts. interval_from ts) k.split
-      ∙ interval_read k.body k.ends k.spells k.rest in
-      let none = ap interval_of (stopped (read of_interval tokens) fault (length new) new e h) in
-      (cc))),
-)
-
--- What stands at a place, and what follows it.
-pub percent_at : (tokens front rest : List Token) (place : ℕ) (d : Token) → place < length tokens
-    → front ≡ drop place tokens → front ≡ Percent ∷ rest →
-    (get_or tokens place d ≡ Percent) × (rest ≡ drop (place + 1) tokens)
-percent_at tokens front rest place d h e f =
-    let other = rw (← add-one) at (drop-cons tokens place d h) in
-    let both : Percent ∷ rest ≡ get_or tokens place d ∷ drop (place + 1) tokens =
-    sym f ∙ e ∙ other in
-    (cc, cc)
-
-pub no_percent : (tokens : List Token) (place : ℕ) (d : Token) → place < length tokens
-    → get_or tokens place d ≡ Percent → front (drop place tokens) ≡ Percent
-no_percent tokens place d h e =
-    let other = rw (← add-one) at (drop-cons tokens place d h) in
-    ap front other ∙ e

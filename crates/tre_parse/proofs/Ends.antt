@@ -80,4 +80,5 @@ number_ends b bs h =
     ∙ ap (λ (t : Bool). if t then word else (if is_ascii_digit b then number else other))
     (digit_starts_none b h)
     ∙ ap (λ (t : Bool). if t then number else other) h in
-    subst (EndsRun is_ascii_digit (b ∷ bs)) (sym (ap bytes_in taken)) (run_ends is_ascii_digit b bs h)
+    subst (EndsRun is_ascii_digit (b ∷ bs)) (sym (ap bytes_in taken))
+    (run_ends is_ascii_digit b bs h)

@@ -1,6 +1,6 @@
--- The equations of the tasks, each with the task that it calls: what a function of the parser does is
--- read off them.
-use Rattle.std.proofs.Common.{◌≡◌, ◌≢◌, ℕ, ◌+◌, zero, suc, Bool, true, false, Option, Some, None, List, ◌∷◌, ◌++◌, length, replicate, refl, sym, ◌∙◌, ap}
+-- The equations of the tasks, each with the task that it calls. What a function of the parser does
+-- is read off them.
+use Rattle.std.proofs.Common.{◌≡◌, ◌≢◌, ℕ, zero, suc, Bool, true, false, Option, Some, None, List, ◌∷◌, ◌++◌, length, replicate, refl, sym, ◌∙◌, ap}
 use Rattle.std.specs.Prelude.{if◌then◌else◌, is_some}
 use Rattle.tre_state.specs.StateTree.{StateTree, negation}
 use Rattle.tre_syntax.specs.PatternTree.{PatternTree, sequence, alternation, atom, empty, repetition, restriction}
@@ -131,7 +131,8 @@ state_goes_on how s ts =
     (λ t us. read_state (state_after how (connected how s t)) us)
 
 pub state_ends : (how : Connective) (s : StateTree) (ts : List Token)
-    → is_sign (connective_sign how) (front ts) ≡ false → read_state (state_after how s) ts ≡ got s ts
+    → is_sign (connective_sign how) (front ts) ≡ false
+    → read_state (state_after how s) ts ≡ got s ts
 state_ends how s ts e =
     state_fixed _ _ ∙ unaccepted (connective_sign how) (call (of_state (state_part how))
     (λ t. call (of_state (state_after how (connected how s t))) (λ u. give u))) (give s) ts e

@@ -37,7 +37,8 @@ sign_end : (sign : Token) → is_sign sign EndOfText ≡ false
 sign_end LeftParen = refl
 sign_end _ = refl
 
-accept_guarded : {A : Type 0} (sign : Token) (there other : Program A) (bound : ℕ) → IsGuarded 8 there
+accept_guarded : {A : Type 0} (sign : Token) (there other : Program A) (bound : ℕ)
+    → IsGuarded 8 there
     → IsGuarded bound other → IsGuarded bound (accept sign there other)
 accept_guarded sign there other bound h k = (sign_end sign, λ token. by (is_sign sign token))
   where
@@ -53,7 +54,8 @@ part_guarded {A = A} says next bound e h = (ap is_some e, λ token. by (says tok
     by None = tt
     by (Some x) = h x
 
-state_part_lower : (how : Connective) → rank (of_state (state_part how)) < rank (of_state (state_by how))
+state_part_lower : (how : Connective)
+    → rank (of_state (state_part how)) < rank (of_state (state_by how))
 state_part_lower And = omega arith
 state_part_lower Or = omega arith
 
@@ -102,7 +104,10 @@ no_close None = refl
 no_close (Some high) = refl
 
 pub guarded : (task : Task) → IsGuarded (rank task) (program task)
-guarded (of_state (state_by how)) = (state_part_lower how, λ s. (omega (arith, state_part_lower how), λ t. tt))
+guarded (of_state (state_by how)) = (
+  state_part_lower how,
+  λ s. (omega (arith, state_part_lower how), λ t. tt),
+)
 guarded (of_state (state_after how s)) =
     accept_guarded (connective_sign how) _ _ 0
     (state_part_rank how, λ t. (omega arith, λ u. tt)) tt
@@ -111,7 +116,10 @@ guarded (of_state (state_operand braces)) =
     (accept_guarded (brackets_of braces).0 _ _ 1
     (omega arith, λ s. accept_guarded (brackets_of braces).1 _ halt 8 tt tt)
     (part_guarded leaf_of _ 1 refl (λ s. tt)))
-guarded (of_pattern (expression_by how)) = (part_lower how, λ e. (omega (arith, part_lower how), λ f. tt))
+guarded (of_pattern (expression_by how)) = (
+  part_lower how,
+  λ e. (omega (arith, part_lower how), λ f. tt),
+)
 guarded (of_pattern (expression_after how e)) =
     accept_guarded (join_sign how) _ _ 0
     (part_rank how, λ f. (omega arith, λ g. tt)) tt

@@ -32,6 +32,8 @@ use Rattle.tre_parse.specs.Answers.{Answers, text_tokens_in, IsFaultOf}
 use Rattle.tre_parse.proofs.Numbers.{counts_alike}
 use Rattle.tre_parse.proofs.NumberedWords.{text_numbered}
 use Rattle.tre_parse.proofs.Fine.{none_big, stand_fine, fine_intervals}
+use Rattle.tre_parse.specs.Unkept.{FindsUpTo}
+use Rattle.tre_parse.proofs.Unkept.{IsFound, finds_first}
 use Rattle.tre_parse.proofs.Outcomes.{outcome_once}
 
 -- What was read stands for the expression that the tokens spell.
@@ -79,7 +81,8 @@ rest_outcome words stopped fault operand rest e h some q f =
     (subst P q f))
 
 pub is_whole : (words : TextTokens) (operand : Operand)
-    → Goes Represents operand (read_whole words.tokens) (λ e. got e []) → IsRepresented words operand
+    → Goes Represents operand (read_whole words.tokens) (λ e. got e [])
+    → IsRepresented words operand
 is_whole words operand h = record {
   tree = h.tree;
   spells = spelt_read words.tokens h.tree h.goes;
@@ -93,6 +96,18 @@ first_none words (Some at) later e = absurd (cc)
 
 pub no_big : (words : TextTokens) → limit_fault words ≡ None → position is_big words.tokens ≡ None
 no_big words e = first_none words (position is_big words.tokens) _ e
+
+-- What was found while the tokens were read is their first empty interval.
+pub none_found : (words : TextTokens) (operand : Operand) → limit_fault words ≡ None
+    → FindsUpTo words.tokens [] operand.unkept → operand.unkept ≡ None → NoneEmpty words.tokens
+none_found words operand e k none = subst (IsFound words.tokens) none
+    (finds_first words.tokens operand.unkept (no_big words e) k)
+
+pub first_found : (words : TextTokens) (operand : Operand) (left : ℕ) → limit_fault words ≡ None
+    → FindsUpTo words.tokens [] operand.unkept → operand.unkept ≡ Some left
+    → IsFirstEmpty words.tokens (length words.tokens - left)
+first_found words operand left e k some = subst (IsFound words.tokens) some
+    (finds_first words.tokens operand.unkept (no_big words e) k)
 
 -- The limits of an expression that is spelt.
 

@@ -8,6 +8,7 @@ pub mod Words
 pub mod Scans
 pub mod Counts
 pub mod Empties
+pub mod Unkept
 pub mod Outcomes
 pub mod Numbers
 pub mod Fine

@@ -1,5 +1,5 @@
 -- The first name past the first NAMES_MAX is the first of one name too many.
-use Rattle.std.proofs.Common.{◌≡◌, ◌≢◌, ℕ, ◌+◌, ◌<◌, ◌≤◌, Bool, true, false, ◌&&◌, inl, inr, Option, Some, None, List, [], ◌∷◌, ◌++◌, length, get_or, refl, sym, ◌∙◌, ap, subst, arith, append_assoc, length-append}
+use Rattle.std.proofs.Common.{◌≡◌, ◌≢◌, ℕ, ◌<◌, ◌≤◌, Bool, true, false, ◌&&◌, inl, inr, Option, Some, None, List, [], ◌∷◌, ◌++◌, length, get_or, refl, sym, ◌∙◌, ap, subst, arith, append_assoc, length-append}
 use Rattle.std.specs.Prelude.{nat_lt, if◌then◌else◌, is_none, MatchOption}
 use Rattle.std.specs.List.{Contains}
 use Rattle.std.specs.Str.{bytes_eq}
@@ -169,5 +169,8 @@ past_on front (raw ∷ rest) known h le =
 pub past_law : (text : List ℕ)
     → Law (raw_tokens_of text) (past_from [] (raw_tokens_of text))
 past_law text = past_on [] (raw_tokens_of text) []
-    (record { different = λ i j d lt within. absurd (omega arith); same = λ bytes. ((λ c. c), (λ c. c)) })
+    (record {
+      different = λ i j d lt within. absurd (omega arith);
+      same = λ bytes. ((λ c. c), (λ c. c));
+    })
     (omega arith)

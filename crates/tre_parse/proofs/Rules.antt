@@ -52,7 +52,8 @@ begun _ _ _ (grammar.post_primary xs e h) = begin.post_whole _ _ (grammar.post_p
 begun _ _ _ (grammar.post_star xs e h) = begin.post_whole _ _ (grammar.post_star xs e h)
 begun _ _ _ (grammar.post_plus xs e h) = begin.post_whole _ _ (grammar.post_plus xs e h)
 begun _ _ _ (grammar.post_question xs e h) = begin.post_whole _ _ (grammar.post_question xs e h)
-begun _ _ _ (grammar.post_percent xs ys e ends h k) = begin.post_whole _ _ (grammar.post_percent xs ys e ends h k)
+begun _ _ _ (grammar.post_percent xs ys e ends h k) = begin.post_whole _ _
+    (grammar.post_percent xs ys e ends h k)
 begun _ _ _ grammar.primary_eps = begin.primary_whole _ _ grammar.primary_eps
 begun _ _ _ (grammar.primary_parens xs e h) = begin.primary_whole _ _
     (grammar.primary_parens xs e h)
@@ -145,7 +146,8 @@ leaf_holds false True = grammar.neg_true
 leaf_holds braces _ = begin.none (operand_in braces)
 
 bang_state : (braces : Bool) (xs : List Token) (s : StateTree)
-    → SpellsState (operand_in braces) xs s → SpellsState (operand_in braces) (Bang ∷ xs) (negation s)
+    → SpellsState (operand_in braces) xs s
+    → SpellsState (operand_in braces) (Bang ∷ xs) (negation s)
 bang_state true xs s h = grammar.lit_bang xs s h
 bang_state false xs s h = grammar.neg_bang xs s h
 
@@ -278,7 +280,8 @@ edge_holds : (rises : Bool) → Holds (Spells primary) (Begins primary) (edge_pr
     (edge_sign rises ∷ [])
 edge_holds true =
     accepts (Spells primary) (Begins primary) LeftParen
-    (call (of_state (state_by Or)) (λ s. expect RightParen (give (atom (rise s))))) halt (Rise ∷ []) (
+    (call (of_state (state_by Or)) (λ s. expect RightParen (give (atom (rise s))))) halt
+    (Rise ∷ []) (
       (λ xs s h. accepts (Spells primary) (Begins primary) RightParen (give (atom (rise s))) halt
           (Rise ∷ LeftParen ∷ xs) (grammar.primary_rise xs s h)
           (begin.primary_rise_parens xs (begun_state state xs s h))),
@@ -286,7 +289,8 @@ edge_holds true =
     ) begin.primary_rise
 edge_holds false =
     accepts (Spells primary) (Begins primary) LeftParen
-    (call (of_state (state_by Or)) (λ s. expect RightParen (give (atom (fall s))))) halt (Fall ∷ []) (
+    (call (of_state (state_by Or)) (λ s. expect RightParen (give (atom (fall s))))) halt
+    (Fall ∷ []) (
       (λ xs s h. accepts (Spells primary) (Begins primary) RightParen (give (atom (fall s))) halt
           (Fall ∷ LeftParen ∷ xs) (grammar.primary_fall xs s h)
           (begin.primary_fall_parens xs (begun_state state xs s h))),

@@ -118,7 +118,8 @@ look_said : {A : Type 0} (Gives : List Token → A → Type 0) (Halts : List Tok
     (xs : List Token) (reads : Reads) (takes : Token → Bool) (next : Token → Program A)
     (tokens : List Token) (is : Bool) → takes (front tokens) ≡ is →
     (is ≡ true → tokens ≡ front tokens ∷ tail tokens) →
-    IsSaid Gives Halts (if is then xs ++ front tokens ∷ [] else xs) (run reads (next (front tokens)))
+    IsSaid Gives Halts (if is then xs ++ front tokens ∷ [] else xs)
+    (run reads (next (front tokens)))
     (past is tokens) → IsSaid Gives Halts xs (run reads (look takes next)) tokens
 look_said {A = A} Gives Halts xs reads takes next tokens false e some h =
     let same = ap (λ (is : Bool). run reads (next (front tokens)) (past is tokens)) e in
@@ -224,7 +225,8 @@ look_says Gives Halts takes next m bound xs tokens true e some k le l go =
 program_says : {A : Type 0} (Gives : List Token → A → Type 0) (Halts : List Token → Type 0)
     (m : ℕ) → ((task : Task) (ts : List Token) → size task ts < m → TaskSays task ts) →
     (p : Program A) (bound : ℕ) → IsGuarded bound p → (xs tokens : List Token) →
-    8 * length tokens + bound ≤ m → Holds Gives Halts p xs → IsSaid Gives Halts xs (run read p) tokens
+    8 * length tokens + bound ≤ m → Holds Gives Halts p xs
+    → IsSaid Gives Halts xs (run read p) tokens
 program_says Gives Halts m says (give x) bound g xs tokens le h =
     here Gives Halts xs (run read (give x)) tokens refl h (λ other. refl)
 program_says Gives Halts m says halt bound g xs tokens le h =

@@ -1,6 +1,6 @@
 -- What is spelt is read: by induction on how the tokens are spelt, before any rest of the tokens
 -- that doesn't go on with it.
-use Rattle.std.proofs.Common.{◌≡◌, ℕ, ◌+◌, ◌<◌, ◌≤◌, Bool, true, false, List, [], ◌∷◌, ◌++◌, refl, ◌∙◌, ap, arith, append_assoc}
+use Rattle.std.proofs.Common.{◌≡◌, ℕ, ◌<◌, ◌≤◌, Bool, true, false, List, [], ◌∷◌, ◌++◌, refl, ◌∙◌, ap, arith, append_assoc}
 use Rattle.std.specs.Prelude.{if◌then◌else◌}
 use Rattle.tre_state.specs.StateTree.{StateTree, negation}
 use Rattle.tre_zone.specs.Interval.{IntervalEnds}

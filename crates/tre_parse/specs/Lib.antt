@@ -20,5 +20,6 @@ pub mod Joins
 pub mod Parts
 pub mod Operands
 pub mod Reader
+pub mod Unkept
 pub mod Reading
 pub mod Answers

@@ -1,11 +1,12 @@
 //! Expressions, one function for each kind of rule.
-ghost use Rattle.std.specs.Prelude.{◌≡◌, ◌≤◌, length, IfOk};
+ghost use Rattle.std.specs.Prelude.{◌≡◌, ◌≤◌, None, length, IfOk};
 ghost use Rattle.tre_state.specs.StateTree.{StateTree};
 ghost use Rattle.tre_parse.specs.Joins.{edge_sign, plain_literal, edged_literal};
 ghost use Rattle.tre_parse.specs.Operands.{RepresentsState, Represents, Turns};
 ghost use Rattle.tre_parse.specs.Front.{front};
 ghost use Rattle.tre_parse.specs.Reader.{PatternTask, expression_part};
 ghost use Rattle.tre_parse.specs.Reading.{BeginsLiteral, Reads};
+ghost use Rattle.tre_parse.specs.Unkept.{FindsUpTo};
 
 use crate::connective::{Connective, Join};
 use crate::counted::Counted;
@@ -24,6 +25,7 @@ use tre_syntax::Expr;
 pub(crate) fn expression(alloc: Global, how: Join, tokens: &mut Cursor) -> Result<Operand, Stop>
     ensures reads { Reads (PatternTask.expression_by how) result tokens.old tokens.new }
     ensures shorter { IfOk result (λ _. length tokens.new ≤ length tokens.old) }
+    ensures unkept { IfOk result (λ x. FindsUpTo tokens.old tokens.new x.unkept) }
 {
     let mut whole = part(alloc, how, tokens)?;
     while tokens.accept(how.sign()) {
@@ -38,6 +40,7 @@ pub(crate) fn expression(alloc: Global, how: Join, tokens: &mut Cursor) -> Resul
 fn part(alloc: Global, how: Join, tokens: &mut Cursor) -> Result<Operand, Stop>
     ensures reads { Reads (expression_part how) result tokens.old tokens.new }
     ensures shorter { IfOk result (λ _. length tokens.new ≤ length tokens.old) }
+    ensures unkept { IfOk result (λ x. FindsUpTo tokens.old tokens.new x.unkept) }
 {
     match how {
         Join::Alternation => expression(alloc, Join::Intersection, tokens),
@@ -52,6 +55,7 @@ fn part(alloc: Global, how: Join, tokens: &mut Cursor) -> Result<Operand, Stop>
 fn operand(alloc: Global, tokens: &mut Cursor) -> Result<Operand, Stop>
     ensures reads { Reads PatternTask.operand result tokens.old tokens.new }
     ensures shorter { IfOk result (λ _. length tokens.new ≤ length tokens.old) }
+    ensures unkept { IfOk result (λ x. FindsUpTo tokens.old tokens.new x.unkept) }
 {
     let mut whole = primary(alloc, tokens)?;
     loop {
@@ -71,8 +75,9 @@ fn operand(alloc: Global, tokens: &mut Cursor) -> Result<Operand, Stop>
             }
             Token::Percent => {
                 tokens.advance();
+                let at = tokens.left();
                 let within = interval(tokens)?;
-                whole = restricted(alloc, whole, within)?;
+                whole = restricted(alloc, whole, within, at)?;
             }
             Token::Ends => return Err(tokens.refused()),
             _ => return Ok(whole),
@@ -85,6 +90,7 @@ fn operand(alloc: Global, tokens: &mut Cursor) -> Result<Operand, Stop>
 fn primary(alloc: Global, tokens: &mut Cursor) -> Result<Operand, Stop>
     ensures reads { Reads PatternTask.unsigned result tokens.old tokens.new }
     ensures shorter { IfOk result (λ _. length tokens.new ≤ length tokens.old) }
+    ensures unkept { IfOk result (λ x. FindsUpTo tokens.old tokens.new x.unkept) }
 {
     match tokens.peek() {
         Token::Eps => {
@@ -108,6 +114,7 @@ fn edge(alloc: Global, rises: bool, tokens: &mut Cursor) -> Result<Operand, Stop
     requires { front tokens.old ≡ edge_sign rises }
     ensures reads { Reads PatternTask.unsigned result tokens.old tokens.new }
     ensures shorter { IfOk result (λ _. length tokens.new ≤ length tokens.old) }
+    ensures unkept { IfOk result (λ x. FindsUpTo tokens.old tokens.new x.unkept) }
 {
     tokens.advance();
     tokens.expect(Token::LeftParen)?;
@@ -121,6 +128,7 @@ fn literal(alloc: Global, tokens: &mut Cursor) -> Result<Operand, Stop>
     requires { BeginsLiteral (front tokens.old) }
     ensures reads { Reads PatternTask.unsigned result tokens.old tokens.new }
     ensures shorter { IfOk result (λ _. length tokens.new ≤ length tokens.old) }
+    ensures unkept { IfOk result (λ x. FindsUpTo tokens.old tokens.new x.unkept) }
 {
     let begins = tokens.accept(Token::Begins);
     let formula = states::operand(alloc, true, tokens)?;
@@ -131,7 +139,9 @@ fn literal(alloc: Global, tokens: &mut Cursor) -> Result<Operand, Stop>
 
 // A literal with its edges: the rise before it, and the fall after it.
 fn edged(alloc: Global, begins: bool, formula: Formula, ends: bool) -> Result<Operand, AllocError>
-    ensures { IfOk result (Turns RepresentsState Represents (edged_literal begins ends) formula) }
+    ensures stands { IfOk result (Turns RepresentsState Represents (edged_literal begins ends)
+        formula) }
+    ensures unkept { IfOk result (λ x. x.unkept ≡ None) }
 {
     if ends {
         let again = copied(alloc, &formula)?;
@@ -144,7 +154,8 @@ fn edged(alloc: Global, begins: bool, formula: Formula, ends: bool) -> Result<Op
 }
 
 fn plain(alloc: Global, begins: bool, formula: Formula) -> Result<Operand, AllocError>
-    ensures { IfOk result (Turns RepresentsState Represents (plain_literal begins) formula) }
+    ensures stands { IfOk result (Turns RepresentsState Represents (plain_literal begins) formula) }
+    ensures unkept { IfOk result (λ x. x.unkept ≡ None) }
 {
     if begins {
         let again = copied(alloc, &formula)?;

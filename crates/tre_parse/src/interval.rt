@@ -1,4 +1,4 @@
-ghost use Rattle.std.specs.Prelude.{◌≡◌, ◌≤◌, length, IfOk, IfErr};
+ghost use Rattle.std.specs.Prelude.{◌≤◌, length, IfOk};
 ghost use Rattle.tre_parse.specs.Parts.{IsMadeOf};
 ghost use Rattle.tre_parse.specs.Reader.{Task, opened_by, high_of, closed_by, read};
 ghost use Rattle.tre_parse.specs.Reading.{IsRead, IsPart};
@@ -12,7 +12,6 @@ use tre_zone::Interval;
 /// An interval. None where no duration is in it, or an end is above the latest time.
 pub(crate) fn interval(tokens: &mut Cursor) -> Result<Option<Interval>, Stop>
     ensures reads { IsRead IsMadeOf (read Task.of_interval tokens.old) result tokens.new }
-    ensures syntax { IfErr result (λ stop. stop ≡ Stop.Syntax (length tokens.new)) }
     ensures shorter { IfOk result (λ _. length tokens.new ≤ length tokens.old) }
 {
     let low_weak = opening(tokens)?;

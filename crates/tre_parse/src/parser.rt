@@ -2,6 +2,7 @@ ghost use Rattle.std.specs.Prelude.{◌≡◌, [], Ok, Some, None, IfOk, MatchRe
 ghost use Rattle.tre_syntax.specs.Pattern.{pattern_tree, names_of};
 ghost use Rattle.tre_parse.specs.Reader.{PatternTask};
 ghost use Rattle.tre_parse.specs.Reading.{Reads};
+ghost use Rattle.tre_parse.specs.Unkept.{FindsUpTo};
 ghost use Rattle.tre_parse.specs.Numbering.{IsNumberedByUse};
 ghost use Rattle.tre_parse.specs.Outcome.{IsSpelling, Outcome, limit_fault, IsOutcomeWithin, IsOutcome};
 ghost use Rattle.tre_parse.specs.Answers.{text_tokens_in, IsFaultOf, Answers};
@@ -10,7 +11,7 @@ use crate::connective::Join;
 use crate::cursor::{Cursor, Stop};
 use crate::expression::expression;
 use crate::fault::ParseFault;
-use crate::limits::{TEXT_MAX, first_big, first_deep, first_empty};
+use crate::limits::{TEXT_MAX, first_big, first_deep};
 use crate::operand::Operand;
 use crate::scan::{Scan, scan_text};
 use std::alloc::Global;
@@ -67,7 +68,7 @@ fn fault_of(scan: &Scan, stop: Stop) -> ParseFault
     match stop {
         Stop::Memory => ParseFault::Memory,
         Stop::Syntax { left } => ParseFault::Syntax {
-            at: scan.offset(scan.tokens.len().saturating_sub(left)),
+            at: scan.offset_of_left(left),
         },
     }
 }
@@ -78,10 +79,11 @@ fn judge(scan: Scan, whole: Operand) -> Result<Pattern, ParseFault>
     requires small { limit_fault (text_tokens_in scan) ≡ None }
     requires whole { Reads (PatternTask.expression_by Join.Alternation) (Ok whole)
         scan.tokens.items [] }
+    requires unkept { FindsUpTo scan.tokens.items [] whole.unkept }
     ensures { Answers (IsOutcomeWithin (text_tokens_in scan)) result }
 {
-    if let Some(place) = first_empty(&scan.tokens) {
-        let at = scan.offset(place);
+    if let Some(left) = whole.unkept {
+        let at = scan.offset_of_left(left);
         return Err(ParseFault::EmptyInterval { at });
     }
     if let Some(at) = scan.past {

@@ -1,4 +1,4 @@
-ghost use Rattle.std.specs.Prelude.{◌≡◌, ◌<◌, ◌≤◌, ℕ, ◌+◌, ◌++◌, [], ◌∷◌, Some, None, length, take, drop, slice_index_or, OnOk, IfOk, IfErr};
+ghost use Rattle.std.specs.Prelude.{◌≡◌, ◌-◌, ◌<◌, ◌≤◌, ℕ, ◌+◌, ◌++◌, [], ◌∷◌, Some, None, length, take, drop, slice_index_or, OnOk, IfOk, IfErr};
 ghost use Rattle.tre_state.specs.Name.{IsName};
 ghost use Rattle.tre_state.specs.Names.{place_of};
 ghost use Rattle.tre_parse.specs.Tokens.{name, sign, names_with};
@@ -31,6 +31,14 @@ impl Scan {
         ensures { result ≡ slice_index_or self.now.offsets.items place self.now.size }
     {
         self.offsets.get(place).copied().unwrap_or(self.size)
+    }
+
+    /// The offset of the token with which so many are left, the length of the text where none is.
+    pub(crate) fn offset_of_left(&self, left: usize) -> u64
+        ensures { result ≡ slice_index_or self.now.offsets.items
+            (length self.now.tokens.items - left) self.now.size }
+    {
+        self.offset(self.tokens.len().saturating_sub(left))
     }
 
     // A token that is no name.

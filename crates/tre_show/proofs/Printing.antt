@@ -68,7 +68,7 @@ line_of-pieces zone xs =
     (range_text zone.dur_low zone.dur_high) xs
 
 -- The text of a line tells its zone and what follows it.
-pub line_once : (zone other : ZoneBounds) (xs ys : List ℕ) → IsCanonical zone → IsCanonical other
+line_once : (zone other : ZoneBounds) (xs ys : List ℕ) → IsCanonical zone → IsCanonical other
     → line_of zone ++ xs ≡ line_of other ++ ys → (zone ≡ other) × (xs ≡ ys)
 line_once zone other xs ys canonical canonical' e =
     let begin = range_once zone.begin_low zone.begin_high other.begin_low other.begin_high

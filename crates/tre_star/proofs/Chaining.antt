@@ -1,15 +1,15 @@
 -- The closure: what holds while it goes on, and at its end.
-use Rattle.std.proofs.Common.{◌≡◌, ℕ, zero, suc, ◌+◌, ◌-◌, ◌*◌, ◌<◌, ◌≤◌, ◌⊎◌, ◌↔◌, List, [], ◌∷◌, ◌++◌, length, length-append, take, get_or, refl, subst, ap, inl, inr, ⊎_elim, arith}
+use Rattle.std.proofs.Common.{◌≡◌, ℕ, zero, suc, ◌+◌, ◌-◌, ◌*◌, ◌<◌, ◌≤◌, ◌⊎◌, ◌↔◌, List, [], ◌∷◌, ◌++◌, length, length-append, take, get_or, subst, ap, inl, inr, ⊎_elim, arith}
 use Rattle.std.proofs.lemmas.List.{take-append-le, take_all}
 use Rattle.std.proofs.Math.Nat.{mul-pos, mul-le-mul_left, le_of_mul-le-mul_left, mul_left_comm}
 use Rattle.tre_pairs.specs.Pairs.{Pairs, Either, Composed, Lasting, LeadTo, Chain}
 use Rattle.tre_pairs.proofs.Laws.{Scales, DurationScales}
 use Rattle.tre_pairs.proofs.Shortening.{IsDownward, finer_duration}
 use Rattle.tre_pairs.proofs.Chains.{Composed-at, Chain-none, Chain-step, Chain-cases}
-use Rattle.tre_zone.specs.Zone.{IsInstantBetween, IsCanonical, ZoneHolds}
+use Rattle.tre_zone.specs.Zone.{IsInstantBetween, ZoneHolds}
 use Rattle.tre_zone.specs.ZoneList.{SetHolds, HoldExactly, AreCanonical}
 use Rattle.tre_zone.specs.declared.zone_bounds.ZoneBounds.{ZoneBounds}
-use Rattle.tre_zone.proofs.ZoneListLemmas.{SetHolds-empty, AreCanonical-empty}
+use Rattle.tre_zone.proofs.ZoneListLemmas.{SetHolds-empty}
 use Rattle.tre_zone.proofs.Scaling.{SetHolds-scale, SetHolds-rising}
 use Rattle.tre_zoneset.proofs.Members.{SetHolds-more}
 use Rattle.tre_star.specs.Growth.{HasGrown}

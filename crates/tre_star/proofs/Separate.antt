@@ -1,5 +1,5 @@
 -- Steps of which the ones end before the others begin, and the chains of each.
-use Rattle.std.proofs.Common.{◌≡◌, ℕ, zero, suc, ◌+◌, ◌-◌, ◌*◌, ◌^◌, ◌<◌, ◌≤◌, ◌⊎◌, ◌↔◌, List, [], ◌∷◌, ◌++◌, length, take, drop, get_or, refl, sym, ap, subst, ◌∙◌, inl, inr, ⊎_elim, arith, w64, ℤ, pos, negsuc, ◌≤ℤ◌, ◌<ℤ◌, ◌+ℤ◌}
+use Rattle.std.proofs.Common.{◌≡◌, ℕ, suc, ◌+◌, ◌-◌, ◌*◌, ◌^◌, ◌<◌, ◌≤◌, ◌⊎◌, ◌↔◌, List, [], ◌∷◌, ◌++◌, length, take, drop, get_or, refl, sym, ap, subst, ◌∙◌, inl, inr, ⊎_elim, arith, w64, ℤ, pos, negsuc, ◌≤ℤ◌, ◌<ℤ◌, ◌+ℤ◌}
 use Rattle.std.specs.List.{slice_range}
 use Rattle.std.proofs.lemmas.Bool.{cases_lt}
 use Rattle.std.proofs.lemmas.Int.{ints, to_z-of_z}
@@ -8,12 +8,12 @@ use Rattle.std.proofs.lemmas.List.Folds.{drop_split}
 use Rattle.std.proofs.Math.Seq.{drop-cons}
 use Rattle.std.proofs.Math.Nat.{mul-pos, mul-le-mul_left, mul_left_comm}
 use mir.Val.{SFits, of_z, to_z}
-use Rattle.tre_pairs.specs.Pairs.{Pairs, Either, Both, Composed, Lasting, LeadTo, Chain}
+use Rattle.tre_pairs.specs.Pairs.{Pairs, Either, Both, Lasting, LeadTo, Chain}
 use Rattle.tre_pairs.proofs.Laws.{Scales, Implies}
 use Rattle.tre_pairs.proofs.Scaling.{moved}
 use Rattle.tre_pairs.proofs.Implication.{Implies-Composed, Implies-Chain}
 use Rattle.tre_zone.specs.Bound.{Meets, IsKeyWithin, sum_of}
-use Rattle.tre_zone.specs.Zone.{ZoneHolds, HasNoPair}
+use Rattle.tre_zone.specs.Zone.{HasNoPair}
 use Rattle.tre_zone.specs.ZoneList.{SetHolds, AreCanonical, HoldExactly}
 use Rattle.tre_zone.specs.declared.zone_bounds.ZoneBounds.{ZoneBounds}
 use Rattle.tre_zone.proofs.Paths.{Meets-looser, Meets-sum, Meets-loop}

@@ -16,5 +16,6 @@ pub mod laws;
 mod line;
 mod line_reader;
 mod text_reader;
+mod word;
 
 pub use text_reader::TextReader;

@@ -111,12 +111,12 @@ module _ (words : List (List ℕ)) (count : ℕ) (asks : AsksForMadeRun words co
       (mode_given request.job asked.gives) asked.spells in
       cc
 
-  summary_asked : (request : Request) (file : Option (List ℕ)) (text : List ℕ)
-      → AsksFor words request → IsAnswerIn request.job.mode request file text
+  summary_asked : (request : Request) (input : InputTold) (text : List ℕ)
+      → AsksFor words request → IsAnswerIn request.job.mode request input text
       → IsSummary fixed_tree count text
-  summary_asked request file text asked right =
-      let here : IsAnswerIn (Generate count) request file text =
-      subst (λ (mode : Mode). IsAnswerIn mode request file text)
+  summary_asked request input text asked right =
+      let here : IsAnswerIn (Generate count) request input text =
+      subst (λ (mode : Mode). IsAnswerIn mode request input text)
       (mode_given request.job asked.gives) right in
       subst (λ (tree : PatternTree). IsSummary tree count text) (tree_asked request asked) here
 
@@ -132,17 +132,17 @@ module _ (words : List (List ℕ)) (count : ℕ) (asks : AsksForMadeRun words co
       → EndsAs words input output status → EndsMadeRun count output status
   EndsMadeRun-ends input output Done ends = record {
     text = ends.is_so.text;
-    right = summary_asked ends.request input.file ends.is_so.text ends.asks ends.is_so.right;
+    right = summary_asked ends.request input ends.is_so.text ends.asks ends.is_so.right;
     writes = ends.is_so.writes;
     written = ends.is_so.written;
   }
   EndsMadeRun-ends input output Usage ends = ends.no_job (made_job count) gives_one
   EndsMadeRun-ends input output (Expression fault) ends = never_refused fault ends.refused
   EndsMadeRun-ends input output (Trace fault) ends =
-      subst (λ (mode : Mode). StandsAtFault mode ends.request input output)
+      subst (λ (mode : Mode). StandsAtFault mode ends.request ends.is_so.cause.bytes output)
       (mode_given ends.request.job ends.asks.gives) ends.is_so.stands
   EndsMadeRun-ends input output InputTooLong ends =
-      subst (λ (mode : Mode). StandsAtFault mode ends.request input output)
+      subst (λ (mode : Mode). StandsAtFault mode ends.request ends.is_so.cause.bytes output)
       (mode_given ends.request.job ends.asks.gives) ends.is_so.stands
   EndsMadeRun-ends input output ReadFault ends =
       subst (λ (mode : Mode). StandsAtFailedRead mode ends.request input output)
@@ -153,7 +153,7 @@ module _ (words : List (List ℕ)) (count : ℕ) (asks : AsksForMadeRun words co
       (mode_given ends.request.job ends.asks.gives) ends.is_so.stands in
       record {
         text = here.text;
-        right = summary_asked ends.request input.file here.text ends.asks here.right;
+        right = summary_asked ends.request input here.text ends.asks here.right;
         cause = ends.is_so.cause;
         written = here.written;
       }

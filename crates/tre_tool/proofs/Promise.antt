@@ -13,7 +13,7 @@ use Rattle.tre_tool.specs.Job.{GivesWhere, GivesJob, GivesNoJob, is_made_run}
 use Rattle.tre_tool.specs.Outcome.{Outcome, completes, refuses, exceeds}
 use Rattle.tre_tool.specs.Answer.{EndsOver, StopsAs, IsFoundFor}
 use Rattle.tre_tool.specs.Devices.{InputTold, OutputTold, NothingWritten, NothingDone, AllWritesGood}
-use Rattle.tre_tool.specs.Run.{Request, request_for, IsOutcomeIn, AsksFor, Asks, IsRefused, AsksForNothing, EndsAs, EndsDone, EndsTrace, EndsTooLong, EndsReadFault, EndsWriteFault, StandsAtFault, StandsAtFailedRead, StandsAtFailedWrite, IsAnswerIn, IsAnswerTo, IsOnlineAnswerTo, outcome_for, IsStatusFor, IsStatusIn, ReadsInput, IsUnlessMemory, IsComplete, IsLineTold, IsReadToItsEnd}
+use Rattle.tre_tool.specs.Run.{Request, request_for, IsOutcomeIn, AsksFor, Asks, IsRefused, AsksForNothing, EndsAs, EndsDone, EndsTrace, EndsTooLong, EndsReadFault, EndsWriteFault, StandsAtFault, StandsAtFailedRead, StandsAtFailedWrite, PartIsWritten, IsAnswerTo, IsOnlineAnswerTo, outcome_for, IsStatusFor, IsStatusIn, ReadsInput, IsUnlessMemory, IsComplete, IsLineTold}
 use Rattle.tre_tool.specs.Status.{words_status, parse_status}
 use Rattle.tre_tool.specs.declared.job.WordsFault.{WordsFault}
 use Rattle.tre_tool.specs.declared.job.WordsFault.TheVariants.{Usage as WordsUsage, Memory as WordsMemory}
@@ -169,10 +169,12 @@ done_in : (mode : Mode) (request : Request) (input : InputTold) (output : Output
     → request.job.mode ≡ mode → IsStatusIn mode request input Done
 done_in Offline request input output done same = λ reads.
     let right = rw same at done.right in
-    weaker input.file _ _ (λ bytes answer. done_completes request bytes done.text answer) right
+    weaker input.file _ _ (λ told is. rw is (done_completes request right.bytes done.text
+    right.is_so)) right.all.whole
 done_in Online request input output done same = λ reads.
     let right = rw same at done.right in
-    weaker input.file _ _ (λ bytes answer. online_completes request bytes done.text answer) right
+    weaker input.file _ _ (λ told is. rw is (online_completes request right.bytes done.text
+    right.is_so)) right.all.whole
 done_in Show request input output done same = inl refl
 done_in (Generate count) request input output done same = inl refl
 
@@ -186,12 +188,12 @@ memory_in Show request input = inr refl
 memory_in (Generate count) request input = inr refl
 
 -- a run that stops at a fault of the input, or couldn't read it, is one that reads it
-reads_at_fault : (mode : Mode) (request : Request) (input : InputTold) (output : OutputTold)
-    → StandsAtFault mode request input output → ReadsInput mode
-reads_at_fault Offline request input output stands = tt
-reads_at_fault Online request input output stands = tt
-reads_at_fault Show request input output stands = stands
-reads_at_fault (Generate count) request input output stands = stands
+reads_at_fault : (mode : Mode) (request : Request) (bytes : List ℕ) (output : OutputTold)
+    → StandsAtFault mode request bytes output → ReadsInput mode
+reads_at_fault Offline request bytes output stands = tt
+reads_at_fault Online request bytes output stands = tt
+reads_at_fault Show request bytes output stands = stands
+reads_at_fault (Generate count) request bytes output stands = stands
 
 reads_at_failed_read : (mode : Mode) (request : Request) (input : InputTold) (output : OutputTold)
     → StandsAtFailedRead mode request input output → ReadsInput mode
@@ -226,13 +228,13 @@ asked_as words request input output (Expression fault) asks ends writes = absurd
 asked_as words request input output (Trace fault) asks ends writes =
     let found = the_request words request (λ r. EndsTrace r input output fault) asks ends in
     fault_in request.job.mode request input (Trace fault)
-    (reads_at_fault request.job.mode request input output found.stands)
-    (λ reads. weaker input.file _ _ (λ bytes e. rw e (inl refl)) found.cause)
+    (reads_at_fault request.job.mode request found.cause.bytes output found.stands)
+    (λ reads. weaker input.file _ _ (λ bytes e. rw e (inl refl)) found.cause.whole)
 asked_as words request input output InputTooLong asks ends writes =
     let found = the_request words request (λ r. EndsTooLong r input output) asks ends in
     fault_in request.job.mode request input InputTooLong
-    (reads_at_fault request.job.mode request input output found.stands)
-    (λ reads. weaker input.file _ _ (λ bytes e. rw e (inl refl)) found.cause)
+    (reads_at_fault request.job.mode request found.cause.bytes output found.stands)
+    (λ reads. weaker input.file _ _ (λ bytes e. rw e (inl refl)) found.cause.whole)
 asked_as words request input output ReadFault asks ends writes =
     let found = the_request words request (λ r. EndsReadFault r input output) asks ends in
     fault_in request.job.mode request input ReadFault
@@ -379,29 +381,12 @@ AsksFor-of words job tree names gives spells = record { gives = gives; spells = 
 
 -- what stands in the output where the one write of an answer failed
 cut_in : (mode : Mode) (request : Request) (input : InputTold) (output : OutputTold)
-    (text : List ℕ) → request.job.mode ≡ mode → (mode ≡ Online → ⊥)
-    → IsReadToItsEnd mode input → IsAnswerIn mode request input.file text
-    → AppendsPart output.written_before output.written_now text
+    → (mode ≡ Online → ⊥) → PartIsWritten request input output
     → StandsAtFailedWrite mode request input output
-cut_in Offline request input output text is once all_read right part = record {
-  all_read = rw is all_read;
-  text = text;
-  right = rw is right;
-  written = part;
-}
-cut_in Online request input output text is once all_read right part = absurd (once refl)
-cut_in Show request input output text is once all_read right part = record {
-  all_read = rw is all_read;
-  text = text;
-  right = rw is right;
-  written = part;
-}
-cut_in (Generate count) request input output text is once all_read right part = record {
-  all_read = rw is all_read;
-  text = text;
-  right = rw is right;
-  written = part;
-}
+cut_in Offline request input output once part = part
+cut_in Online request input output once part = absurd (once refl)
+cut_in Show request input output once part = part
+cut_in (Generate count) request input output once part = part
 
 -- a run whose answer is written at once, and that stopped before it
 pub EndsOver-stopped : (request : Request) (input : InputTold) (output : OutputTold)
@@ -418,8 +403,8 @@ pub EndsOver-cut : (request : Request) (input : InputTold) (output : OutputTold)
 EndsOver-cut request input output text once found cause part = record {
   cause = cause;
   reads = found.reads;
-  stands = cut_in request.job.mode request input output text refl once found.all_read found.right
-      part;
+  stands = cut_in request.job.mode request input output once
+      (record { text = text; right = found.right; written = part });
 }
 
 -- a run whose answer was written
@@ -428,7 +413,6 @@ pub EndsOver-done : (request : Request) (input : InputTold) (output : OutputTold
     → Appends output.written_before output.written_now text → EndsOver request input output Done
 EndsOver-done request input output text found writes written = record {
   reads = found.reads;
-  all_read = found.all_read;
   text = text;
   right = found.right;
   writes = writes;

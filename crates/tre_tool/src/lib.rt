@@ -30,8 +30,3 @@ pub use report::tell_status;
 pub use status::Status;
 pub use whole_run::run;
 pub use words::read_words;
-
-#[cfg(test)]
-mod online_tests;
-#[cfg(test)]
-mod tests;

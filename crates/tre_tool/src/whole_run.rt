@@ -50,7 +50,7 @@ fn run_words<S: Source, O: Sink>(
 ) -> Result<(), Status>
     requires { S.opened input.old ≡ false }
     ensures ends { EndsAs (map string_bytes words.now)
-        (input_told S.file_name S.file S.sound S.opened S.left S.faults input.old input.new)
+        (input_told S.file_name S.file S.sound S.opened S.left S.found S.faults input.old input.new)
         (output_told O.written O.faults out.old out.new)
         (status_of result) }
     ensures untouched { AsksForNothing (map string_bytes words.now) →
@@ -101,12 +101,12 @@ pub fn run<S: Source, O: Sink, E: Sink>(
 
     // What the status means, what was written, and why the run ended so.
     ensures ends { EndsAs (map string_bytes words.now)
-        (input_told S.file_name S.file S.sound S.opened S.left S.faults input.old input.new)
+        (input_told S.file_name S.file S.sound S.opened S.left S.found S.faults input.old input.new)
         (output_told O.written O.faults out.old out.new) result }
 
     // Where no fault was counted, what the words ask for and the input comes to decides the status.
     ensures complete { IsComplete (map string_bytes words.now)
-        (input_told S.file_name S.file S.sound S.opened S.left S.faults input.old input.new)
+        (input_told S.file_name S.file S.sound S.opened S.left S.found S.faults input.old input.new)
         (output_told O.written O.faults out.old out.new) result }
 
     // Words of which `clap` has a fault are told as such, whatever else they give.

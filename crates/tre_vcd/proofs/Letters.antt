@@ -3,7 +3,6 @@ use Rattle.std.proofs.Common.{◌≡◌, ℕ, ◌==◌, ◌||◌, Bool, true, fa
 use Rattle.std.specs.List.{list_any}
 use Rattle.tre_parts.specs.Format.{Step}
 use Rattle.tre_trace.specs.declared.fault.TraceKind.{TraceKind}
-use Rattle.tre_trace.specs.declared.fault.TraceKind.TheVariants.{BadToken}
 use Rattle.tre_vcd.specs.Letters.{letter_of}
 use Rattle.tre_vcd.specs.VcdReading.{Statement, number, Place, is_scalar, goes_to, value_says}
 use Rattle.tre_vcd.specs.declared.token.Letter.TheVariants.{Time, Keyword, Vector, Number, Scalar, Other}

@@ -1,4 +1,4 @@
-use Rattle.std.proofs.Common.{arith, ◌∙◌, ◌∷◌, refl, sym, ap}
+use Rattle.std.proofs.Common.{None, length, subst, arith, ◌∙◌, ◌∷◌, refl, sym, ap}
 use Rattle.std.proofs.lemmas.Result.{err_from_is_err_and}
 use Rattle.tre_syntax.specs.PatternTree.{PatternTree, atom, empty, sequence, alternation, repetition, restriction}
 use Rattle.tre_parse.specs.declared.token.Token.TheVariants.{Eps, LeftParen, RightParen, Star, Plus, Question, Percent}
@@ -9,6 +9,9 @@ use Rattle.tre_parse.specs.Reader.{got, give, expect, expression_by, expression_
 use Rattle.tre_parse.proofs.Counts.{leaf_counts}
 use Rattle.tre_parse.proofs.Equations.{not_sign, passed, unpassed, expression_begins, expression_goes_on, expression_ends, operand_begins, star_read, plus_read, question_read, percent_read, operand_ends, ends_stop, eps_read, parens_read, no_sign_behind}
 use Rattle.tre_parse.proofs.Steps.{goes_past, one_shorter, goes_here, goes_first, goes_turned, goes_on, goes_joined, stops_first, stops_joined, stops_at}
+use Rattle.tre_parse.specs.Tokens.{earlier}
+use Rattle.tre_parse.specs.Unkept.{FindsUpTo, unkept_at}
+use Rattle.tre_parse.proofs.Unkept.{earlier_none, up_to_past, up_to_end, up_to_joined, up_to_interval, join_no_percent}
 use Rattle.tre_parse.proofs.expression.+expression.Goals as goal
 
 pub expression-returns-in_err-whole-clause-reads : goal.expression-returns-in_err-whole-clause-reads
@@ -25,6 +28,7 @@ expression-loop-alloc-init t c = record {
       (λ e us. read_pattern (expression_after c.args.how e) us)
       (expression_begins c.args.how c.args.tokens.now) c.in_ok-whole.ensures.reads;
   shorter = c.in_ok-whole.ensures.shorter;
+  unkept = c.in_ok-whole.ensures.unkept;
 }
 
 pub expression-returns-in_err-next-clause-reads : goal.expression-returns-in_err-next-clause-reads
@@ -48,10 +52,17 @@ expression-loop-alloc-preserved t c =
           (λ x. read_pattern (expression_after c.args.how x) c.part-in-loop-alloc.new.tokens)
           (joined_by c.args.how)
           (λ x y us. read_pattern (expression_after c.args.how (joined_by c.args.how x y)) us)
-          c.loop-alloc.invariant.reads c.in_ok-next.ensures.reads c.in_ok-whole-2.ensures
+          c.loop-alloc.invariant.reads c.in_ok-next.ensures.reads c.in_ok-whole-2.ensures.stands
           (λ x. ap (λ ts. read_pattern (expression_after c.args.how x) ts) e
           ∙ expression_goes_on c.args.how x c.accept.new.self) (λ x y. refl);
       shorter = omega (arith, n, c.in_ok-next.ensures.shorter, c.loop-alloc.invariant.shorter);
+      unkept = up_to_joined c.args.tokens.now c.loop-alloc.tokens c.part-in-loop-alloc.new.tokens
+          c.loop-alloc.whole.unkept c.in_ok-next.next.unkept c.in_ok-whole-2.whole.unkept
+          c.loop-alloc.invariant.unkept
+          (up_to_past (join_sign c.args.how) c.loop-alloc.tokens c.accept.new.self
+          c.part-in-loop-alloc.new.tokens c.in_ok-next.next.unkept e
+          (join_no_percent c.args.how) c.in_ok-next.ensures.unkept)
+          c.in_ok-whole-2.ensures.unkept;
     }
 
 pub expression-returns-clause-reads : goal.expression-returns-clause-reads
@@ -61,6 +72,11 @@ expression-returns-clause-reads t c =
     (λ q. h.1 (q ∙ sym c.sign.ensures)) in
     goes_on (λ e. got e c.accept.new.self) c.loop-alloc.invariant.reads
     (λ e. expression_ends c.args.how e c.loop-alloc.tokens n ∙ ap (λ ts. got e ts) (sym h.0))
+
+pub expression-returns-clause-unkept : goal.expression-returns-clause-unkept
+expression-returns-clause-unkept t c =
+    subst (λ ts. FindsUpTo c.args.tokens.now ts c.loop-alloc.whole.unkept)
+    (sym c.loop-alloc-test.ensures.0) c.loop-alloc.invariant.unkept
 
 pub primary-expression-requires : goal.primary-expression-requires
 primary-expression-requires t c =
@@ -121,6 +137,25 @@ primary-returns-in_ok-expect-in-LeftParen-clause-shorter t c =
     c.in_ok-expect-in-LeftParen.ensures in
     omega (arith, n, m, c.in_ok-inside-in-LeftParen.ensures.shorter)
 
+pub primary-returns-in_ok-expect-in-LeftParen-clause-unkept
+    : goal.primary-returns-in_ok-expect-in-LeftParen-clause-unkept
+primary-returns-in_ok-expect-in-LeftParen-clause-unkept t c =
+    let e = goes_past c.args.tokens.now c.advance-in-LeftParen.new.self LeftParen
+    c.in-LeftParen.ensures (λ q. cc) c.advance-in-LeftParen.ensures in
+    up_to_end RightParen c.args.tokens.now c.expression.new.tokens c.expect.new.self
+    c.in_ok-inside-in-LeftParen.inside.unkept c.in_ok-inside-in-LeftParen.inside.unkept
+    (up_to_past LeftParen c.args.tokens.now c.advance-in-LeftParen.new.self
+    c.expression.new.tokens c.in_ok-inside-in-LeftParen.inside.unkept e (λ q. cc)
+    c.in_ok-inside-in-LeftParen.ensures.unkept) c.in_ok-expect-in-LeftParen.ensures
+    (λ q. cc) refl
+
+pub primary-returns-in-Eps-clause-unkept : goal.primary-returns-in-Eps-clause-unkept
+primary-returns-in-Eps-clause-unkept t c =
+    let e = goes_past c.args.tokens.now c.advance.new.self Eps c.in-Eps.ensures (λ q. cc)
+    c.advance.ensures in
+    up_to_end Eps c.args.tokens.now c.args.tokens.now c.advance.new.self None c.leaf.result.unkept
+    (λ later h. h) e (λ q. cc) c.leaf.ensures.unkept
+
 pub primary-returns-in-Eps-clause-reads : goal.primary-returns-in-Eps-clause-reads
 primary-returns-in-Eps-clause-reads t c =
     let e = goes_past c.args.tokens.now c.advance.new.self Eps c.in-Eps.ensures (λ q. cc)
@@ -143,6 +178,7 @@ operand-loop-tokens-init t c = record {
       (λ x us. read_pattern (operand_after x) us) (operand_begins c.args.tokens.now)
       c.in_ok-whole.ensures.reads;
   shorter = c.in_ok-whole.ensures.shorter;
+  unkept = c.in_ok-whole.ensures.unkept;
 }
 
 pub operand-loop-tokens-preserved-in-Star : goal.operand-loop-tokens-preserved-in-Star
@@ -153,9 +189,12 @@ operand-loop-tokens-preserved-in-Star t c =
     record {
       reads = goes_turned c.in_ok-whole-in-Star.whole
           (λ x. read_pattern (operand_after x) c.advance.new.self) repetition
-          c.loop-tokens.invariant.reads c.in_ok-whole-in-Star.ensures
+          c.loop-tokens.invariant.reads c.in_ok-whole-in-Star.ensures.stands
           (λ x. ap (λ ts. read_pattern (operand_after x) ts) e ∙ star_read x c.advance.new.self);
       shorter = omega (arith, n, c.loop-tokens.invariant.shorter);
+      unkept = up_to_end Star c.args.tokens.now c.loop-tokens.tokens c.advance.new.self
+          c.loop-tokens.whole.unkept c.in_ok-whole-in-Star.whole.unkept
+          c.loop-tokens.invariant.unkept e (λ q. cc) c.in_ok-whole-in-Star.ensures.unkept;
     }
 
 pub operand-loop-tokens-preserved-in-Plus : goal.operand-loop-tokens-preserved-in-Plus
@@ -167,10 +206,13 @@ operand-loop-tokens-preserved-in-Plus t c =
       reads = goes_turned c.in_ok-whole-in-Plus.whole
           (λ x. read_pattern (operand_after x) c.advance-in-Plus.new.self)
           (λ x. sequence x (repetition x)) c.loop-tokens.invariant.reads
-          c.in_ok-whole-in-Plus.ensures
+          c.in_ok-whole-in-Plus.ensures.stands
           (λ x. ap (λ ts. read_pattern (operand_after x) ts) e
           ∙ plus_read x c.advance-in-Plus.new.self);
       shorter = omega (arith, n, c.loop-tokens.invariant.shorter);
+      unkept = up_to_end Plus c.args.tokens.now c.loop-tokens.tokens c.advance-in-Plus.new.self
+          c.loop-tokens.whole.unkept c.in_ok-whole-in-Plus.whole.unkept
+          c.loop-tokens.invariant.unkept e (λ q. cc) c.in_ok-whole-in-Plus.ensures.unkept;
     }
 
 pub operand-loop-tokens-preserved-in-Question : goal.operand-loop-tokens-preserved-in-Question
@@ -182,12 +224,18 @@ operand-loop-tokens-preserved-in-Question t c =
       reads = goes_turned c.in_ok-whole-in-Question.whole
           (λ x. read_pattern (operand_after x) c.advance-in-Question.new.self)
           (λ x. alternation x (atom empty)) c.loop-tokens.invariant.reads
-          (λ x h. c.in_ok-whole-in-Question.ensures x (atom empty) h
+          (λ x h. c.in_ok-whole-in-Question.ensures.stands x (atom empty) h
           (leaf_counts c.leaf-empty.result _ c.leaf-empty.ensures.nodes
           c.leaf-empty.ensures.tree refl))
           (λ x. ap (λ ts. read_pattern (operand_after x) ts) e
           ∙ question_read x c.advance-in-Question.new.self);
       shorter = omega (arith, n, c.loop-tokens.invariant.shorter);
+      unkept = up_to_end Question c.args.tokens.now c.loop-tokens.tokens
+          c.advance-in-Question.new.self c.loop-tokens.whole.unkept
+          c.in_ok-whole-in-Question.whole.unkept c.loop-tokens.invariant.unkept e (λ q. cc)
+          (c.in_ok-whole-in-Question.ensures.unkept
+          ∙ ap (earlier c.loop-tokens.whole.unkept) c.leaf-empty.ensures.unkept
+          ∙ earlier_none c.loop-tokens.whole.unkept);
     }
 
 pub operand-returns-in_err-within-in-Percent-clause-reads
@@ -214,7 +262,7 @@ operand-loop-tokens-preserved t c =
           (λ x. read_pattern (operand_after x) c.interval.new.tokens) restriction
           (λ x ends us. read_pattern (operand_after (restriction x ends)) us)
           c.loop-tokens.invariant.reads c.in_ok-within-in-Percent.ensures.reads
-          (λ x ends h m. c.in_ok-whole-in-Percent.ensures x ends m h)
+          (λ x ends h m. c.in_ok-whole-in-Percent.ensures.stands x ends m h)
           (λ x. ap (λ ts. read_pattern (operand_after x) ts) e
           ∙ percent_read x c.advance-in-Percent.new.self) (λ x ends. refl);
       shorter = omega (
@@ -223,6 +271,17 @@ operand-loop-tokens-preserved t c =
         c.in_ok-within-in-Percent.ensures.shorter,
         c.loop-tokens.invariant.shorter,
       );
+      unkept = up_to_joined c.args.tokens.now c.loop-tokens.tokens c.interval.new.tokens
+          c.loop-tokens.whole.unkept
+          (unkept_at c.in_ok-within-in-Percent.within (length c.advance-in-Percent.new.self))
+          c.in_ok-whole-in-Percent.whole.unkept c.loop-tokens.invariant.unkept
+          (subst (λ ts. FindsUpTo ts c.interval.new.tokens
+          (unkept_at c.in_ok-within-in-Percent.within (length c.advance-in-Percent.new.self)))
+          (sym e) (up_to_interval c.in_ok-within-in-Percent.within c.advance-in-Percent.new.self
+          c.interval.new.tokens c.in_ok-within-in-Percent.ensures.reads))
+          (c.in_ok-whole-in-Percent.ensures.unkept
+          ∙ ap (λ k. earlier c.loop-tokens.whole.unkept
+          (unkept_at c.in_ok-within-in-Percent.within k)) c.left-at.ensures);
     }
 
 pub operand-returns-in-Ends-clause-reads : goal.operand-returns-in-Ends-clause-reads

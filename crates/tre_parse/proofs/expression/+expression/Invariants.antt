@@ -4,6 +4,7 @@ use Rattle.tre_parse.specs.declared.connective.Join.TheVariants.{Sequence, Inter
 use Rattle.tre_parse.specs.Operands.{Represents}
 use Rattle.tre_parse.specs.Reader.{expression_by, expression_after, operand, operand_after, read_pattern}
 use Rattle.tre_parse.specs.Reading.{Goes}
+use Rattle.tre_parse.specs.Unkept.{FindsUpTo}
 use Rattle.tre_parse.proofs.expression.+expression.Given as goal
 
 -- How far a function is from the innermost.
@@ -29,6 +30,7 @@ invariant-expression-loop-alloc l = record {
   reads : Goes Represents l.whole (read_pattern (expression_by l.how) l.fn.tokens)
       (λ e. read_pattern (expression_after l.how e) l.tokens);
   shorter : length l.tokens ≤ length l.fn.tokens;
+  unkept : FindsUpTo l.fn.tokens l.tokens l.whole.unkept;
 }
 
 abbrev pub decreases-expression-loop-alloc : goal.decreases-expression-loop-alloc
@@ -39,6 +41,7 @@ invariant-operand-loop-tokens l = record {
   reads : Goes Represents l.whole (read_pattern operand l.fn.tokens)
       (λ e. read_pattern (operand_after e) l.tokens);
   shorter : length l.tokens ≤ length l.fn.tokens;
+  unkept : FindsUpTo l.fn.tokens l.tokens l.whole.unkept;
 }
 
 abbrev pub decreases-operand-loop-tokens : goal.decreases-operand-loop-tokens

@@ -1,4 +1,4 @@
-use Rattle.std.proofs.Common.{refl, sym, ◌∙◌, ap}
+use Rattle.std.proofs.Common.{None, refl, sym, ◌∙◌, ap}
 use Rattle.std.proofs.lemmas.Result.{err_from_is_err_and}
 use Rattle.tre_state.specs.StateTree.{StateTree, always}
 use Rattle.tre_parse.specs.declared.token.Token.TheVariants.{LeftParen, RightParen}
@@ -7,6 +7,8 @@ use Rattle.tre_parse.specs.Joins.{edge_of, edge_sign}
 use Rattle.tre_parse.specs.Reader.{got, give, call, expect, state_by, of_state, unsigned, run, read, read_state, read_pattern}
 use Rattle.tre_parse.proofs.Equations.{passed, unpassed, edge_some, edge_read, opened_edge}
 use Rattle.tre_parse.proofs.Steps.{goes_past, goes_first, goes_turned, stops_here, stops_first, stops_at}
+use Rattle.tre_parse.specs.Grammar.{state}
+use Rattle.tre_parse.proofs.Unkept.{up_to_past, up_to_end, up_to_state, edge_no_percent}
 use Rattle.tre_parse.proofs.expression.edge.Goals as goal
 
 pub returns-in_err-expect-clause-reads : goal.returns-in_err-expect-clause-reads
@@ -56,6 +58,20 @@ returns-clause-reads c =
     (goes_first (read_pattern unsigned c.args.tokens.now)
     (λ s us. run read (expect RightParen (give (edge_of c.args.rises s))) us)
     (opened_edge c.args.rises c.args.tokens.now c.advance.new.self c.expect.new.self e
-    c.in_ok-expect.ensures) c.in_ok-inside.ensures.reads) c.edge.ensures
+    c.in_ok-expect.ensures) c.in_ok-inside.ensures.reads) c.edge.ensures.stands
     (λ s. passed RightParen (give (edge_of c.args.rises s)) c.state.new.tokens
     c.expect-2.new.self refl c.in_ok-expect-2.ensures)
+
+pub returns-clause-unkept : goal.returns-clause-unkept
+returns-clause-unkept c =
+    let e = goes_past c.args.tokens.now c.advance.new.self (edge_sign c.args.rises) (sym c.requires)
+    (edge_some c.args.rises) c.advance.ensures in
+    up_to_past (edge_sign c.args.rises) c.args.tokens.now c.advance.new.self c.expect-2.new.self
+    c.edge.result.unkept e (edge_no_percent c.args.rises)
+    (up_to_past LeftParen c.advance.new.self c.expect.new.self c.expect-2.new.self
+    c.edge.result.unkept c.in_ok-expect.ensures (λ q. cc)
+    (up_to_end RightParen c.expect.new.self c.state.new.tokens c.expect-2.new.self None
+    c.edge.result.unkept
+    (up_to_state state (state_by Or) c.in_ok-inside.inside c.expect.new.self c.state.new.tokens
+    (λ xs s h. h) c.in_ok-inside.ensures.reads) c.in_ok-expect-2.ensures (λ q. cc)
+    c.edge.ensures.unkept))

@@ -17,7 +17,8 @@ past_opening old ts weak h = interval_fixed old
     ∙ part_said opened_by (λ weak. behind_opening weak) weak old ts h
 
 past_low : (old ts us : List Token) (weak : Bool) (low : ℕ) → IsPart opened_by (Ok weak) old ts
-    → Number low ≡ front ts → us ≡ tail ts → read of_interval old ≡ run read (behind_low weak low) us
+    → Number low ≡ front ts → us ≡ tail ts
+    → read of_interval old ≡ run read (behind_low weak low) us
 past_low old ts us weak low h e f = past_opening old ts weak h
     ∙ part_said number_of (λ low. behind_low weak low) low ts us (ap number_of (sym e), f)
 
@@ -44,7 +45,6 @@ returns-in_err-low_weak c =
     rw (p.1, p.2) (record {
       reads = stops_here (read of_interval c.args.tokens.now) c.in_err-low_weak.field-0.0
           c.opening.new.tokens s.0 (interval_fixed c.args.tokens.now ∙ s.1);
-      syntax = s.0;
       shorter = tt;
     })
 
@@ -62,7 +62,6 @@ returns-in_default c =
           c.opening.new.tokens s.0
           (past_opening c.args.tokens.now c.opening.new.tokens c.in_ok-low_weak.low_weak
           c.in_ok-low_weak.ensures ∙ s.1);
-      syntax = s.0;
       shorter = tt;
     }
 
@@ -78,7 +77,6 @@ returns-in_err-expect c =
     rw (p.1, p.2) (record {
       reads = stops_here (read of_interval c.args.tokens.now) c.in_err-expect.field-0.0
           c.expect.new.self s.0 (b ∙ s.1);
-      syntax = s.0;
       shorter = tt;
     })
 
@@ -97,7 +95,6 @@ returns-in_err-high c =
     rw (p.1, p.2) (record {
       reads = stops_here (read of_interval c.args.tokens.now) c.in_err-high.field-0.0
           c.high.new.tokens s.0 (d ∙ s.1);
-      syntax = s.0;
       shorter = tt;
     })
 
@@ -121,7 +118,6 @@ returns-in_err-high_weak c =
     rw (p.1, p.2) (record {
       reads = stops_here (read of_interval c.args.tokens.now) c.in_err-high_weak.field-0.0
           c.closing.new.tokens s.0 (e ∙ s.1);
-      syntax = s.0;
       shorter = tt;
     })
 

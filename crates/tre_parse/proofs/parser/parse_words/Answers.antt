@@ -8,6 +8,7 @@ use Rattle.tre_parse.specs.Reader.{got}
 use Rattle.tre_parse.specs.Reading.{Goes, Stops}
 use Rattle.tre_parse.proofs.Judging.{stop_outcome, rest_outcome, limits_met}
 use Rattle.tre_parse.proofs.Whole.{read_whole}
+use Rattle.tre_parse.specs.Unkept.{FindsUpTo}
 use Rattle.tre_parse.proofs.parser.parse_words.Goals as goal
 
 none_left : (ts : List Token) → length ts ≤ 0 → ts ≡ []
@@ -22,6 +23,13 @@ judge-requires-clause-whole c =
     (read_whole c.args.scan.tokens.items) (λ e. got e ts) in
     subst Q (none_left c.expression.new.tokens (omega (arith, c.left.ensures, c.if-left-gt0.false)))
     (subst P (c.new-rest.ensures ∙ c.deref-3.ensures.value) c.in-Ok.ensures.reads)
+
+pub judge-requires-clause-unkept : goal.judge-requires-clause-unkept
+judge-requires-clause-unkept c =
+    let P = λ (ts : List Token). FindsUpTo ts c.expression.new.tokens c.in-Ok.whole.unkept in
+    let Q = λ (ts : List Token). FindsUpTo c.args.scan.tokens.items ts c.in-Ok.whole.unkept in
+    subst Q (none_left c.expression.new.tokens (omega (arith, c.left.ensures, c.if-left-gt0.false)))
+    (subst P (c.new-rest.ensures ∙ c.deref-3.ensures.value) c.in-Ok.ensures.unkept)
 
 pub returns-then-left-gt0 : goal.returns-then-left-gt0
 returns-then-left-gt0 c =

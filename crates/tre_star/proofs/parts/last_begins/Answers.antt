@@ -1,4 +1,4 @@
-use Rattle.std.proofs.Common.{rules, ◌≡◌, ◌^◌, length, sym, subst, arith, w64, ℤ, negsuc, ◌≤ℤ◌}
+use Rattle.std.proofs.Common.{rules, ◌≡◌, ◌^◌, sym, subst, arith, w64, negsuc, ◌≤ℤ◌}
 use Rattle.std.proofs.lemmas.Int.{ints, to_z-of_z}
 use mir.Val.{to_z, of_z}
 use Rattle.tre_zone.specs.Bound.{IsKeyWithin}

@@ -1,4 +1,4 @@
-use Rattle.std.proofs.Common.{rules, ◌≡◌, ◌+◌, ◌-◌, ◌^◌, ◌<◌, length, refl, sym, subst, get_or, arith, w64, ℤ, pos, ◌≤ℤ◌, ◌<ℤ◌, ◌+ℤ◌}
+use Rattle.std.proofs.Common.{rules, ◌+◌, ◌-◌, ◌^◌, length, refl, sym, subst, get_or, arith, w64, pos, ◌≤ℤ◌, ◌<ℤ◌, ◌+ℤ◌}
 use Rattle.std.specs.List.{slice_range}
 use mir.Val.{to_z}
 use Rattle.tre_zone.specs.Bound.{IsKeyWithin}
