@@ -18,6 +18,9 @@ use tre_zone::{Interval, Zone};
 /// So few zones are looked at one by one, without an index.
 const FEW: usize = 8;
 
+// How many looks for each zone are no dearer than an index.
+const LOOKS_PER_ZONE: usize = 8;
+
 /// A finite union of zones, none of which is included in another.
 #[derive(Debug, Drop)]
 pub struct ZoneSet {
@@ -351,10 +354,32 @@ fn meets_of(alloc: Global, zones: &[Zone], others: &[Zone]) -> Result<Vec<Zone>,
     ensures { IfOk result (λ found.
         HoldExactly found.items (Both (SetHolds zones.now) (SetHolds others.now))) }
 {
-    if are_in_turn(others) {
+    if are_in_turn(others) && is_short_pass(zones, others) {
         return meets_in_turn(alloc, zones, others);
     }
     meets_by_index(alloc, zones, others)
+}
+
+// Whether one pass over both looks at few zones, for each of all. Where many begin together and
+// differ by their ends or durations alone, it would look at most of them in vain.
+fn is_short_pass(zones: &[Zone], others: &[Zone]) -> bool
+    requires { AreInTurn (map row_of others.now) }
+{
+    let few = zones
+        .len()
+        .saturating_add(others.len())
+        .saturating_mul(LOOKS_PER_ZONE);
+    let mut near = 0;
+    let mut looks: usize = 0;
+    for zone in zones {
+        let stretch = find_stretch(others, near, &key_meeting(zone));
+        looks = looks.saturating_add(stretch.to - stretch.from);
+        if looks > few {
+            return false;
+        }
+        near = stretch.from;
+    }
+    true
 }
 
 // What the zones have in common with the others, which stand in the order of time: one pass over
