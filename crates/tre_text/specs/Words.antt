@@ -3,8 +3,8 @@ use Rattle.std.specs.Prelude.{◌≡◌, ℕ, ◌≤◌, ◌<◌, nat_lt, Bool, 
 use Rattle.tre_state.specs.Name.{starts_name, continues_name}
 use Rattle.tre_text.specs.TextReading.{is_blank, spells_word}
 
--- The bytes up to this place are spelt as a name, and the one there doesn't go on with it. At 0 none
--- begins.
+-- The bytes up to this place are spelt as a name, and the one there doesn't go on with it. At 0
+-- none begins.
 pub record IsWordEnd (bytes : List ℕ) (end : ℕ) : Type 0 where
   pub within : end ≤ length bytes
   pub word : 0 < end → spells_word (take end bytes) ≡ true
