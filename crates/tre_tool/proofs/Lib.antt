@@ -4,6 +4,7 @@ pub mod Feeding
 pub mod Inputs
 pub mod MadeRuns
 pub mod OnlineRuns
+pub mod OnlineTexts
 pub mod Outcomes
 pub mod Pieces
 pub mod Promise
