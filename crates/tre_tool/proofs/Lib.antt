@@ -2,6 +2,7 @@ pub mod CommandLine
 pub mod Cuts
 pub mod Feeding
 pub mod Inputs
+pub mod Lists
 pub mod MadeRuns
 pub mod OnlineRuns
 pub mod OnlineTexts
