@@ -12,7 +12,7 @@ use Rattle.tre_zone.proofs.Tightness.{canonical-keys}
 use Rattle.tre_zone.proofs.ZoneKeys.{zones_same}
 use Rattle.tre_zone.specs.ZoneList.{AreCanonical}
 use Rattle.tre_show.specs.Line.{line_of, lines_of, offline_text}
-use Rattle.tre_show.proofs.Ranges.{range_text, behind_byte, number_end, no_range, range_text-bytes, AreRangeKeys, range_once}
+use Rattle.tre_show.proofs.Ranges.{range_text, behind_byte, number_line_once, no_range, range_text-bytes, AreRangeKeys, range_once}
 
 -- ---- the keys of a canonical zone
 
@@ -86,32 +86,34 @@ line_once zone other xs ys canonical canonical' e =
     (dur_keys zone canonical) (dur_keys other canonical') (behind_byte 32 _ _ end.2) in
     (zones_same zone other begin.0 begin.1 end.0 end.1 dur.0 dur.1, behind_byte 10 xs ys dur.2)
 
--- A line begins with a bracket, and the end's line with the letter e.
-no_line : (zone : ZoneBounds) (xs ys : List ℕ) → 101 ∷ ys ≡ line_of zone ++ xs → ⊥
-no_line zone xs ys e = no_range (weakness_of zone.begin_low == 1) _ ys
+-- A line begins with a bracket, and not with a letter.
+no_line : (zone : ZoneBounds) (letter : ℕ) (xs ys : List ℕ) → 97 ≤ letter
+    → letter ∷ ys ≡ line_of zone ++ xs → ⊥
+no_line zone letter xs ys small e = no_range (weakness_of zone.begin_low == 1) letter _ ys small
     (e ∙ line_of-pieces zone xs ∙ range_text-bytes zone.begin_low zone.begin_high _)
 
--- The lines before the end's line tell the zones, and the end's line is what follows.
-lines_once : (zones others : List ZoneBounds) (xs ys : List ℕ) → AreCanonical zones
-    → AreCanonical others
-    → lines_of zones ++ (101 ∷ xs) ≡ lines_of others ++ (101 ∷ ys) → (zones ≡ others) × (xs ≡ ys)
+-- The lines before a letter tell the zones, and what follows them.
+pub lines_once : (zones others : List ZoneBounds) (letter other : ℕ) (xs ys : List ℕ)
+    → AreCanonical zones → AreCanonical others → 97 ≤ letter → 97 ≤ other
+    → lines_of zones ++ (letter ∷ xs) ≡ lines_of others ++ (other ∷ ys)
+    → (zones ≡ others) × (letter ≡ other) × (xs ≡ ys)
 unfolding lines_of AreCanonical
-lines_once [] [] xs ys p q e = (refl, cc)
-lines_once [] (other ∷ others) xs ys p q e = absurd
-    (no_line other (lines_of others ++ (101 ∷ ys)) xs
-    (e ∙ append_assoc (line_of other) (lines_of others) (101 ∷ ys)))
-lines_once (zone ∷ zones) [] xs ys p q e = absurd
-    (no_line zone (lines_of zones ++ (101 ∷ xs)) ys
-    (sym e ∙ append_assoc (line_of zone) (lines_of zones) (101 ∷ xs)))
-lines_once (zone ∷ zones) (other ∷ others) xs ys p q e =
-    let line = line_once zone other (lines_of zones ++ (101 ∷ xs))
-    (lines_of others ++ (101 ∷ ys)) p.0 q.0
-    (sym (append_assoc (line_of zone) (lines_of zones) (101 ∷ xs)) ∙ e
-    ∙ append_assoc (line_of other) (lines_of others) (101 ∷ ys)) in
-    let lines = lines_once zones others xs ys p.1 q.1 line.1 in
+lines_once [] [] a b xs ys p q small small' e = (refl, cc, cc)
+lines_once [] (other ∷ others) a b xs ys p q small small' e = absurd
+    (no_line other a (lines_of others ++ (b ∷ ys)) xs small
+    (e ∙ append_assoc (line_of other) (lines_of others) (b ∷ ys)))
+lines_once (zone ∷ zones) [] a b xs ys p q small small' e = absurd
+    (no_line zone b (lines_of zones ++ (a ∷ xs)) ys small'
+    (sym e ∙ append_assoc (line_of zone) (lines_of zones) (a ∷ xs)))
+lines_once (zone ∷ zones) (other ∷ others) a b xs ys p q small small' e =
+    let line = line_once zone other (lines_of zones ++ (a ∷ xs))
+    (lines_of others ++ (b ∷ ys)) p.0 q.0
+    (sym (append_assoc (line_of zone) (lines_of zones) (a ∷ xs)) ∙ e
+    ∙ append_assoc (line_of other) (lines_of others) (b ∷ ys)) in
+    let lines = lines_once zones others a b xs ys p.1 q.1 small small' line.1 in
     let first : zone ≡ other = line.0 in
     let rest : zones ≡ others = lines.0 in
-    (cc, lines.1)
+    (cc, lines.1, lines.2)
 
 -- the line of the end behind its letter e
 abbrev end_bytes : ℕ → List ℕ
@@ -128,8 +130,9 @@ text_once : (zones others : List ZoneBounds) (end other : ℕ) → AreCanonical 
     → offline_text zones end ≡ offline_text others other
     → (zones ≡ others) × (end_bytes end ≡ end_bytes other)
 text_once zones others end other p q e =
-    lines_once zones others (end_bytes end) (end_bytes other) p q
-    (sym (offline_text-lines zones end) ∙ e ∙ offline_text-lines others other)
+    let both = lines_once zones others 101 101 (end_bytes end) (end_bytes other) p q (omega arith)
+    (omega arith) (sym (offline_text-lines zones end) ∙ e ∙ offline_text-lines others other) in
+    (both.0, both.2)
 
 pub zones_once : (zones others : List ZoneBounds) (end other : ℕ) → AreCanonical zones
     → AreCanonical others → offline_text zones end ≡ offline_text others other → zones ≡ others
@@ -142,5 +145,5 @@ pub end_once : (zones others : List ZoneBounds) (end other : ℕ) → AreCanonic
 end_once zones others end other p q small_end small_other e =
     let bytes : end_bytes end ≡ end_bytes other = (text_once zones others end other p q e).1 in
     let numbers : decimal end ++ (10 ∷ []) ≡ decimal other ++ (10 ∷ []) = cc in
-    (number_end end other 10 10 [] [] (omega (arith, small_end)) (omega (arith, small_other))
-    (omega arith) (omega arith) numbers).0
+    (number_line_once end other [] [] (omega (arith, small_end)) (omega (arith, small_other))
+    numbers).0

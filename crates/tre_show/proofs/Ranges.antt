@@ -46,7 +46,7 @@ digits_end (a ∷ ds) (b ∷ es) c d xs ys p q u v e =
     (cc, rest.1)
 
 -- The digits of a number tell the number.
-pub number_end : (m n c d : ℕ) (xs ys : List ℕ) → m < 2 ^ 64 → n < 2 ^ 64 → 10 ≤ digit_value c
+number_end : (m n c d : ℕ) (xs ys : List ℕ) → m < 2 ^ 64 → n < 2 ^ 64 → 10 ≤ digit_value c
     → 10 ≤ digit_value d
     → decimal m ++ (c ∷ xs) ≡ decimal n ++ (d ∷ ys) → (m ≡ n) × (c ∷ xs ≡ d ∷ ys)
 number_end m n c d xs ys small_m small_n u v e =
@@ -54,6 +54,13 @@ number_end m n c d xs ys small_m small_n u v e =
     let q = decimal_is_IsNumeral n small_n in
     let ends = digits_end (decimal m) (decimal n) c d xs ys p.0.1 q.0.1 u v e in
     (sym p.1 ∙ ap (digits_value 10) ends.0 ∙ q.1, ends.1)
+
+-- A number at the end of its line, and what follows the line.
+pub number_line_once : (number other : ℕ) (xs ys : List ℕ) → number < 2 ^ 64 → other < 2 ^ 64
+    → decimal number ++ (10 ∷ xs) ≡ decimal other ++ (10 ∷ ys) → (number ≡ other) × (xs ≡ ys)
+number_line_once number other xs ys small small' e =
+    let ends = number_end number other 10 10 xs ys small small' (omega arith) (omega arith) e in
+    (ends.0, behind_byte 10 xs ys ends.1)
 
 -- ---- a range of two bounds
 
@@ -65,10 +72,13 @@ left_of weak = if weak then 91 else 40
 abbrev pub right_of : Bool → ℕ
 right_of weak = if weak then 93 else 41
 
--- A range begins with a bracket, and not with the letter e.
-pub no_range : (weak : Bool) (xs ys : List ℕ) → 101 ∷ ys ≡ left_of weak ∷ xs → ⊥
-no_range true xs ys e = let first = first_byte 101 91 ys xs e in absurd (omega arith)
-no_range false xs ys e = let first = first_byte 101 40 ys xs e in absurd (omega arith)
+-- A range begins with a bracket, and not with a letter.
+pub no_range : (weak : Bool) (letter : ℕ) (xs ys : List ℕ) → 97 ≤ letter
+    → letter ∷ ys ≡ left_of weak ∷ xs → ⊥
+no_range true letter xs ys small e =
+    let first = first_byte letter 91 ys xs e in absurd (omega (arith, first, small))
+no_range false letter xs ys small e =
+    let first = first_byte letter 40 ys xs e in absurd (omega (arith, first, small))
 
 -- a bracket tells whether the end is included
 bracket_once : (square round : ℕ) (one other : Bool) → square ≢ round

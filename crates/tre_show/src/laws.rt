@@ -1,5 +1,5 @@
 //! Laws of the printed texts, each as a function whose contract it is.
-ghost use Rattle.std.specs.Prelude.{◌≡◌, ◌≤◌, ℕ, List};
+ghost use Rattle.std.specs.Prelude.{◌≡◌, ◌<◌, ◌≤◌, ◌^◌, ℕ, List, ◌∷◌, ◌++◌, codes};
 ghost use Rattle.tre_pairs.specs.declared.TheConstants.{TIME_MAX};
 ghost use Rattle.tre_zone.specs.declared.zone_bounds.ZoneBounds.{ZoneBounds};
 ghost use Rattle.tre_zone.specs.Zone.{IsCanonical};
@@ -7,7 +7,8 @@ ghost use Rattle.tre_zone.specs.ZoneList.{AreCanonical};
 ghost use Rattle.std.specs.Cmp.Lexicographic.{slice_cmp};
 ghost use Rattle.std.specs.Ordering.{int_cmp};
 ghost use Rattle.std.specs.declared.cmp.Ordering.TheVariants.{Less};
-ghost use Rattle.tre_show.specs.Line.{line_of, offline_text, TellsZone};
+ghost use Rattle.tre_show.specs.Interval.{number_text};
+ghost use Rattle.tre_show.specs.Line.{line_of, lines_of, offline_text, TellsZone};
 ghost use Rattle.tre_show.specs.Order.{sort_key, LineComesBefore};
 
 /// The line of a zone tells exactly the pairs that the zone holds.
@@ -24,6 +25,21 @@ pub fn one_text()
     ensures end { (zones others : List ZoneBounds) (end other : ℕ) →
         AreCanonical zones → AreCanonical others → end ≤ TIME_MAX → other ≤ TIME_MAX →
         offline_text zones end ≡ offline_text others other → end ≡ other }
+{}
+
+/// Where a longer text goes on with lines of zones and a letter of the alphabet behind them (97 is
+/// the byte of `a`), they are those of one list of zones; where it goes on with a number that fills
+/// its line, that is one number. What follows is the same too.
+pub fn one_front()
+    ensures lines { (zones others : List ZoneBounds) (letter other : ℕ) (rest other_rest : List ℕ) →
+        AreCanonical zones → AreCanonical others → 97 ≤ letter → 97 ≤ other →
+        lines_of zones ++ (letter ∷ rest) ≡ lines_of others ++ (other ∷ other_rest) →
+        (zones ≡ others) × (letter ≡ other) × (rest ≡ other_rest) }
+    ensures number { (number other : ℕ) (rest other_rest : List ℕ) →
+        number < 2 ^ 64 → other < 2 ^ 64 →
+        number_text number ++ (codes "\n" ++ rest)
+        ≡ number_text other ++ (codes "\n" ++ other_rest) →
+        (number ≡ other) × (rest ≡ other_rest) }
 {}
 
 /// The order of the lines, by the ranges that stand on them: the begin decides, or else the end, or

@@ -5,7 +5,7 @@ use Rattle.std.proofs.KnownBytes.{Consumes-whole}
 use Rattle.tre_trace.specs.Reading.{Reading, Grows, Adds}
 use Rattle.tre_trace.specs.declared.segment.Segment.{Segment}
 use Rattle.tre_trace.specs.declared.fault.TraceFault.{TraceFault}
-use Rattle.tre_show.proofs.Lists.{take-over}
+use Rattle.tre_tool.proofs.Lists.{take-over}
 use Rattle.tre_tool.proofs.Cuts.{take_split}
 use Rattle.tre_tool.proofs.Outcomes.{within, beyond}
 use Rattle.std.proofs.lemmas.List.{take-append-le}

@@ -2,8 +2,10 @@ pub mod CommandLine
 pub mod Cuts
 pub mod Feeding
 pub mod Inputs
+pub mod Lists
 pub mod MadeRuns
 pub mod OnlineRuns
+pub mod OnlineTexts
 pub mod Outcomes
 pub mod Pieces
 pub mod Promise

@@ -2,7 +2,7 @@
 use Rattle.std.proofs.Common.{◌≡◌, ◌<◌, ◌≤◌, ℕ, nat_le, true, false, List, length, arith, refl}
 use Rattle.std.proofs.lemmas.Bool.Decides.{nat_tests}
 use Rattle.tre_trace.specs.declared.segment.Segment.{Segment}
-use Rattle.tre_show.proofs.Lists.{take-over}
+use Rattle.tre_tool.proofs.Lists.{take-over}
 use Rattle.tre_tool.specs.Outcome.{Reads, reading_in, completes, outcome_of, reading_within}
 use Rattle.tre_tool.specs.declared.job.Format.{Format}
 

@@ -16,7 +16,7 @@ use Rattle.tre_tool.specs.declared.job.Format.{Format}
 use Rattle.tre_tool.specs.declared.job.Format.TheVariants.{Text, Vcd}
 use Rattle.tre_tool.specs.declared.status.Status.{Status}
 use Rattle.tre_tool.specs.declared.status.Status.TheVariants.{Done, Usage, Expression, Trace, InputTooLong, ReadFault, WriteFault, Memory}
-use Rattle.tre_show.proofs.Lists.{take-over}
+use Rattle.tre_tool.proofs.Lists.{take-over}
 use Rattle.tre_tool.proofs.Feeding.{Adds-now, same_reading}
 use Rattle.tre_tool.proofs.Turns.{Consumes-keeps, found_behind}
 

@@ -22,7 +22,7 @@ use Rattle.tre_tool.specs.Transcript.{block_texts, online_text, closing_line}
 use Rattle.tre_tool.specs.declared.input.TheConstants.{PIECE}
 use Rattle.tre_tool.specs.declared.status.Status.{Status}
 use Rattle.tre_tool.specs.declared.status.Status.TheVariants.{Done, Usage, Expression, Trace, InputTooLong, ReadFault, WriteFault, Memory}
-use Rattle.tre_show.proofs.Lists.{take-over}
+use Rattle.tre_tool.proofs.Lists.{take-over}
 use Rattle.tre_tool.proofs.Feeding.{AllGrow, same_reading}
 use Rattle.tre_tool.proofs.Cuts.{take_split}
 use Rattle.tre_tool.proofs.Readings.{IsFed-start, AreAllBytes-read, were_read, none_read, MayGoOn-stopped, MayGoOn-unread}

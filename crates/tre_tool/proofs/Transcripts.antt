@@ -20,7 +20,7 @@ use Rattle.tre_zone.specs.ZoneList.{SetHolds, IsApart, AreTight, HoldExactly}
 use Rattle.tre_zone.specs.declared.zone_bounds.ZoneBounds.{ZoneBounds}
 use Rattle.tre_zone.proofs.ZoneListLemmas.{SetHolds-append}
 use Rattle.tre_tool.specs.Transcript.{block_text, block_texts, closing_line, online_text, zones_of, block_before, EndBetween, NoneIsIn, IsBlock, IsTranscript}
-use Rattle.tre_show.proofs.Lists.{take-over}
+use Rattle.tre_tool.proofs.Lists.{take-over}
 
 pub end_of-more : (start : ℕ) (segments : List Segment) (segment : Segment)
     → end_of start (segments ++ segment ∷ []) ≡ end_of start segments + segment.len

@@ -9,7 +9,7 @@ use Rattle.tre_tool.specs.Feeding.{StopsPiece, HasFed, IsFed, HasRead, GoesOn, I
 use Rattle.tre_tool.specs.Status.{trace_status}
 use Rattle.tre_tool.specs.declared.status.Status.{Status}
 use Rattle.tre_tool.specs.declared.status.Status.TheVariants.{Done, Usage, Expression, Trace, InputTooLong, ReadFault, WriteFault, Memory}
-use Rattle.tre_show.proofs.Lists.{take-over}
+use Rattle.tre_tool.proofs.Lists.{take-over}
 use Rattle.tre_tool.proofs.Feeding.{AllGrow, TellsAll-fault, TellsAll-end, fed_more}
 use Rattle.tre_tool.proofs.Stops.{kinds}
 

@@ -5,10 +5,10 @@ use Rattle.tre_show.specs.Line.{lines_of}
 use Rattle.tre_show.specs.Order.{IsRising}
 use Rattle.tre_syntax.specs.Meaning.{Matches}
 use Rattle.tre_syntax.specs.PatternTree.{PatternTree}
-use Rattle.tre_trace.specs.Trace.{end_of}
+use Rattle.tre_trace.specs.Trace.{end_of, IsTrace}
 use Rattle.tre_trace.specs.declared.segment.Segment.{Segment}
 use Rattle.tre_zone.specs.Zone.{Includes}
-use Rattle.tre_zone.specs.ZoneList.{SetHolds, IsApart, AreTight, HoldExactly}
+use Rattle.tre_zone.specs.ZoneList.{SetHolds, IsApart, AreCanonical, AreTight, HoldExactly}
 use Rattle.tre_zone.specs.declared.zone_bounds.ZoneBounds.{ZoneBounds}
 
 -- The text of a block: the lines of its zones, and then when its segment ends.
@@ -71,3 +71,15 @@ pub record IsTranscript (blocks : List (List ZoneBounds)) (tree : PatternTree)
     (trace : List Segment) : Type 0 where
   pub count : length blocks ≡ length trace
   pub each : (i : ℕ) → i < length trace → IsBlock blocks tree trace i
+
+-- The zones of each block have canonical bounds.
+abbrev pub AreCanonicalBlocks : List (List ZoneBounds) → Type 0
+AreCanonicalBlocks [] = Unit {0}
+AreCanonicalBlocks (zones ∷ blocks) = AreCanonical zones × AreCanonicalBlocks blocks
+
+-- One block for each segment of a trace, and the zones have canonical bounds, as those of a
+-- transcript have.
+pub record AreBlocksOf (blocks : List (List ZoneBounds)) (trace : List Segment) : Type 0 where
+  pub count : length blocks ≡ length trace
+  pub is_trace : IsTrace trace
+  pub canonical : AreCanonicalBlocks blocks

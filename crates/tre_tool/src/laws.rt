@@ -1,9 +1,15 @@
-//! Laws of the words of a command line, each as a function whose contract it is.
+//! Laws of the words of a command line, and of the text that is told as the input comes, each as a
+//! function whose contract it is.
 
-ghost use Rattle.std.specs.Prelude.{◌≡◌, ℕ, List, [], ◌∷◌, codes};
+ghost use Rattle.std.specs.Prelude.{◌≡◌, ℕ, Bool, List, [], ◌∷◌, codes, map};
 ghost use Rattle.tre_tool.specs.Job.{GivesJob, HaveNoFault, plain_job};
 ghost use Rattle.tre_tool.specs.Run.{Request, AsksFor};
+ghost use Rattle.tre_tool.specs.Transcript.{AreBlocksOf, online_text};
 ghost use Rattle.tre_tool.specs.declared.job.Mode.TheVariants.{Offline, Online};
+ghost use Rattle.tre_trace.specs.declared.segment.Segment.{Segment};
+ghost use Rattle.tre_zone.specs.declared.zone_bounds.ZoneBounds.{ZoneBounds};
+
+use tre_show::laws::one_front;
 
 /// Words ask for one thing at most: one job, and one pattern with its names.
 pub fn one_request()
@@ -23,3 +29,17 @@ pub fn typed_words()
     ensures flag_twice { ¬ HaveNoFault
         (codes "--online" ∷ codes "--online" ∷ codes "p" ∷ []) }
 {}
+
+/// A text that is told as the input comes is that of one list of blocks, of segments of one list of
+/// lengths. What was true on the segments it doesn't tell.
+pub fn one_online_text()
+    ensures blocks { (blocks others : List (List ZoneBounds)) (trace other : List Segment)
+        (closed ended : Bool) → AreBlocksOf blocks trace → AreBlocksOf others other →
+        online_text blocks trace closed ≡ online_text others other ended → blocks ≡ others }
+    ensures lengths { (blocks others : List (List ZoneBounds)) (trace other : List Segment)
+        (closed ended : Bool) → AreBlocksOf blocks trace → AreBlocksOf others other →
+        online_text blocks trace closed ≡ online_text others other ended →
+        map (λ segment. segment.len) trace ≡ map (λ segment. segment.len) other }
+{
+    one_front();
+}

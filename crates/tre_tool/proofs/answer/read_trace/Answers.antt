@@ -1,6 +1,6 @@
 use Rattle.std.proofs.Common.{◌≡◌, ◌∙◌, ℕ, Bool, true, false, [], Err, None, take, length, refl, ap, subst, arith}
 use Rattle.std.proofs.lemmas.Result.{err_from_is_err_and}
-use Rattle.tre_show.proofs.Lists.{take-over}
+use Rattle.tre_tool.proofs.Lists.{take-over}
 use Rattle.tre_tool.specs.Devices.{input_told}
 use Rattle.tre_tool.specs.Input.{HasReadCause}
 use Rattle.tre_tool.proofs.Readings.{HasRead-bounded, IsCollected-more, IsFed-start, fed_within, IsWhole-ended, StopsReading-turn, StopsReading-unread}

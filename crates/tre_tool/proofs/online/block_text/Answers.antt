@@ -1,7 +1,7 @@
 use Rattle.std.proofs.Common.{append_assoc, take, ◌≡◌}
 use Rattle.tre_show.specs.Line.{lines_of}
 use Rattle.tre_tool.specs.Transcript.{block_text}
-use Rattle.tre_show.proofs.Lists.{take-over}
+use Rattle.tre_tool.proofs.Lists.{take-over}
 use Rattle.tre_tool.proofs.online.block_text.Goals as goal
 
 pub returns : goal.returns

@@ -1,0 +1,6 @@
+use Rattle.tre_show.proofs.Printing.{lines_once}
+use Rattle.tre_show.proofs.Ranges.{number_line_once}
+use Rattle.tre_show.proofs.laws.one_front.Goals as goal
+
+pub returns : goal.returns
+returns c = record { lines = lines_once; number = number_line_once }

@@ -1,0 +1,15 @@
+use Rattle.tre_tool.proofs.OnlineTexts.{FrontTells, text_once}
+use Rattle.tre_tool.proofs.laws.one_online_text.Goals as goal
+
+pub returns : goal.returns
+returns c =
+    let tells : FrontTells = record {
+      lines = c.one_front.ensures.lines;
+      number = c.one_front.ensures.number;
+    } in
+    record {
+      blocks = λ blocks others trace other closed ended are are' same.
+          (text_once tells blocks others trace other closed ended are are' same).0;
+      lengths = λ blocks others trace other closed ended are are' same.
+          (text_once tells blocks others trace other closed ended are are' same).1;
+    }
