@@ -7,7 +7,7 @@
 use std::env;
 use std::process::ExitCode;
 use tre_io::{FileSource, StdSink};
-use tre_tool::run::run;
+use tre_tool::run;
 
 /// Where the system doesn't hand over the words; no run ends with this code.
 const NO_WORDS: u8 = 1;

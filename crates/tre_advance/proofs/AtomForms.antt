@@ -2,7 +2,7 @@
 use Rattle.std.proofs.Common.{◌*◌, List, [], inl, ⊎_elim}
 use Rattle.tre_pairs.specs.Pairs.{Composed, Either, Both}
 use Rattle.tre_pairs.proofs.Laws.{Agree}
-use Rattle.tre_residual.specs.Residual.{Held}
+use Rattle.tre_zone.specs.Held.{Held, IsSetOf}
 use Rattle.tre_syntax.specs.Meaning.{MatchesRest}
 use Rattle.tre_syntax.specs.PatternTree.{Atom, PatternTree, empty, literal, rise, fall, atom, sequence, alternation, intersection, repetition, restriction}
 use Rattle.tre_syntax.proofs.CutMeaning.{IsOrdered-rest}
@@ -15,7 +15,6 @@ use Rattle.tre_mark.specs.MarkTree.{atom_mark}
 use Rattle.tre_mark.specs.Marked.{EndBetween, IsWellAt}
 use Rattle.tre_mark.proofs.Agreeing.{agree_refl, agree_then, agree_composed, agree_either}
 use Rattle.tre_advance.specs.Moves.{StepsTo, EntersTo, IsBriefTree, IsLiteralTree}
-use Rattle.tre_advance.specs.Sets.{IsSetOf}
 use Rattle.tre_advance.proofs.AtomSteps.{IsBrief, brief_empty, brief_rise, brief_fall, here_part, literal_tells, brief_inner, brief_beside, literal_inner, literal_beside}
 use Rattle.tre_advance.proofs.Going.{alone}
 use Rattle.tre_advance.proofs.SetsOf.{set_agrees, set_exact}

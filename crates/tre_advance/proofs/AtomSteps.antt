@@ -7,9 +7,9 @@ use Rattle.tre_pairs.proofs.Chains.{Composed-at}
 use Rattle.tre_pairs.proofs.Laws.{IsInstant, Agree}
 use Rattle.tre_pairs.proofs.Scaling.{moved}
 use Rattle.tre_pairs.proofs.Ticks.{le_up}
-use Rattle.tre_residual.specs.Residual.{Held, EndAt}
-use Rattle.tre_residual.proofs.HeldSets.{Scales-Held, IsOrdered-Held, Held-empty}
-use Rattle.tre_residual.proofs.Meanings.{Scales-JoinedAt}
+use Rattle.tre_zone.specs.Held.{Held, EndAt}
+use Rattle.tre_zone.proofs.HeldSets.{Scales-Held, IsOrdered-Held, Held-empty}
+use Rattle.tre_zone.proofs.JoinedPairs.{Scales-JoinedAt}
 use Rattle.tre_state.specs.StateTree.{StateTree, HoldsOn}
 use Rattle.tre_syntax.specs.Meaning.{MatchesRest}
 use Rattle.tre_syntax.specs.PatternTree.{Atom, PatternTree, empty, literal, rise, fall, atom}

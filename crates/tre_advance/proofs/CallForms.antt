@@ -2,8 +2,8 @@
 use Rattle.std.proofs.Common.{◌≡◌, ◌*◌, List, [], inl, inr, ⊎_elim, Result, Ok, Err, IfOk, sym, subst, arith}
 use Rattle.tre_pairs.specs.Pairs.{Composed, Either, Both, Chain}
 use Rattle.tre_pairs.proofs.Laws.{Agree}
-use Rattle.tre_residual.specs.Residual.{Held, EndAt}
-use Rattle.tre_residual.proofs.HeldSets.{Held-empty}
+use Rattle.tre_zone.specs.Held.{Held, EndAt, IsSetOf}
+use Rattle.tre_zone.proofs.HeldSets.{Held-empty}
 use Rattle.tre_syntax.specs.Meaning.{MatchesRest}
 use Rattle.tre_syntax.specs.PatternTree.{PatternTree, sequence, alternation, repetition}
 use Rattle.tre_zone.specs.Zone.{IsInstantBetween, EndsAt}
@@ -15,7 +15,6 @@ use Rattle.tre_mark.specs.MarkTree.{MarkTree, sequence_mark, alternation_mark, r
 use Rattle.tre_mark.specs.Marked.{EndBetween, IsWellAt}
 use Rattle.tre_mark.proofs.Agreeing.{agree_refl, agree_then, agree_composed}
 use Rattle.tre_advance.specs.Moves.{StepsTo, EntersTo, KeepsHere}
-use Rattle.tre_advance.specs.Sets.{IsSetOf}
 use Rattle.tre_advance.proofs.AtomForms.{inside_agrees}
 use Rattle.tre_advance.proofs.FormSteps.{sequence_inner, sequence_beside, alternation_inner, alternation_beside}
 use Rattle.tre_advance.proofs.Going.{alone}

@@ -3,8 +3,8 @@ use Rattle.std.proofs.Common.{List, inl, inr, ⊎_elim}
 use Rattle.tre_pairs.specs.Cuts.{Crossing}
 use Rattle.tre_pairs.specs.Pairs.{Pairs, Composed, Either}
 use Rattle.tre_pairs.proofs.Laws.{Agree}
-use Rattle.tre_residual.specs.Residual.{Held}
-use Rattle.tre_residual.proofs.HeldSets.{Scales-Held, IsOrdered-Held}
+use Rattle.tre_zone.specs.Held.{Held}
+use Rattle.tre_zone.proofs.HeldSets.{Scales-Held, IsOrdered-Held}
 use Rattle.tre_syntax.specs.Meaning.{MatchesRest}
 use Rattle.tre_syntax.specs.PatternTree.{PatternTree, sequence, alternation}
 use Rattle.tre_syntax.specs.Rest.{Rest}

@@ -7,8 +7,8 @@ use Rattle.tre_pairs.specs.Pairs.{Pairs, Composed, Either, Both, Lasting}
 use Rattle.tre_pairs.proofs.Agreement.{Agree-Lasting, Agree-Both}
 use Rattle.tre_pairs.proofs.CutLaws.{crossing_lasting, crossing_both}
 use Rattle.tre_pairs.proofs.Laws.{Agree}
-use Rattle.tre_residual.specs.Residual.{Held}
-use Rattle.tre_residual.proofs.HeldSets.{IsOrdered-Held, Held-empty}
+use Rattle.tre_zone.specs.Held.{Held, IsLatest}
+use Rattle.tre_zone.proofs.HeldSets.{IsOrdered-Held, Held-empty}
 use Rattle.tre_syntax.specs.Meaning.{MatchesRest}
 use Rattle.tre_syntax.specs.PatternTree.{PatternTree, intersection, restriction}
 use Rattle.tre_syntax.specs.Rest.{Rest}
@@ -71,13 +71,13 @@ reach_of (Some high) to time never =
 
 -- ---- a restriction
 
-module _ (piece : Piece) (tree : PatternTree) (interval : IntervalEnds) (from to : ℕ)
+module _ (piece : Piece) (tree : PatternTree) (interval : IntervalEnds) (to : ℕ)
     (outer old_told told new_told : List ZoneBounds) (old_rest rest new_rest : MarkTree)
     (N : Rest → Pairs)
     (old_well : IsWellAt (end_of_piece piece) old_rest (restriction tree interval))
     (inner : Inner piece tree N told rest)
-    (entered : IsEntered (end_of_piece piece) from to outer)
-    (kept : KeepsLasting interval (end_of_piece piece) old_told old_rest from to outer told rest
+    (entered : IsEntered (end_of_piece piece) to outer)
+    (kept : KeepsLasting interval (end_of_piece piece) old_told old_rest to outer told rest
     new_told new_rest) where
   -- What the instance stands for.
   abbrev pub Lasts : Rest → Pairs
@@ -102,7 +102,7 @@ module _ (piece : Piece) (tree : PatternTree) (interval : IntervalEnds) (from to
         ⊎_elim
         (λ x. (bare_nothing rest x).never tree V m (k * b) (k * n) h.right.related)
         (λ past.
-        let end = entered.ends.end (k * a) m (k * n) finer h.left in
+        let end = entered.latest.ends.ends (k * a) m (k * n) finer h.left in
         let around = around_present V rest tree m (k * b) (k * n) h.right.related in
         let late = around.1 in
         let begin = around.0 in
@@ -115,7 +115,7 @@ module _ (piece : Piece) (tree : PatternTree) (interval : IntervalEnds) (from to
         (λ x. subst (λ (mark : MarkTree). Agree (Marked V mark (restriction tree interval))
         (Either (Marked V old_rest (restriction tree interval)) Part)) (sym x.0)
         (agree_then (join_lasting V tree interval
-        (restriction_one from to outer rest restriction_none) T' old_rest old_well.well)
+        (restriction_one to outer rest restriction_none) T' old_rest old_well.well)
         (agree_either (agree_refl (Marked V old_rest (restriction tree interval)))
         (record {
           at = λ a b n some. ((λ h. ⊎_elim (λ y. y) (λ y. absurd y) h), (λ h. inl h));
@@ -128,7 +128,7 @@ module _ (piece : Piece) (tree : PatternTree) (interval : IntervalEnds) (from to
   keeps_well : IsWell T' new_rest (restriction tree interval)
   keeps_well = ⊎_elim
       (λ x. subst (λ (mark : MarkTree). IsWell T' mark (restriction tree interval)) (sym x.0)
-      (join_lasting_well T' tree interval (restriction_one from to outer rest restriction_none)
+      (join_lasting_well T' tree interval (restriction_one to outer rest restriction_none)
       (entered, reach_of interval.high to T' x.1, inner.well.well, tt, x.2) old_rest
       old_well.well))
       (λ x. subst (λ (mark : MarkTree). IsWell T' mark (restriction tree interval)) (sym x.0)
@@ -137,7 +137,7 @@ module _ (piece : Piece) (tree : PatternTree) (interval : IntervalEnds) (from to
 
   entered_ends : (a b n : ℕ) → 0 < n → Held outer a b n → b ≤ T' * n
   entered_ends a b n some h =
-      let end = entered.ends.end a b n some h in
+      let end = entered.latest.ends.ends a b n some h in
       let later = mul-le-mul_right n entered.past in
       omega (arith, end, later)
 
@@ -168,13 +168,13 @@ module _ (piece : Piece) (tree : PatternTree) (interval : IntervalEnds) (from to
 
 -- ---- an intersection
 
-module _ (piece : Piece) (left right : PatternTree) (from to : ℕ)
+module _ (piece : Piece) (left right : PatternTree) (to : ℕ)
     (outer old_told told told' new_told : List ZoneBounds)
     (old_rest rest rest' new_rest : MarkTree) (N N' : Rest → Pairs)
     (old_well : IsWellAt (end_of_piece piece) old_rest (intersection left right))
     (inner : Inner piece left N told rest) (inner' : Inner piece right N' told' rest')
-    (entered : IsEntered (end_of_piece piece) from to outer)
-    (kept : KeepsBoth old_told old_rest from to outer told told' rest rest' new_told new_rest)
+    (entered : IsEntered (end_of_piece piece) to outer)
+    (kept : KeepsBoth old_told old_rest to outer told told' rest rest' new_told new_rest)
   where
     abbrev pub Met : Rest → Pairs
     Met rest = Composed (Held outer) (Both (N rest) (N' rest))
@@ -199,7 +199,7 @@ module _ (piece : Piece) (left right : PatternTree) (from to : ℕ)
           (λ x. subst (λ (mark : MarkTree). Agree (Marked V' mark (intersection left right))
           (Either (Marked V' old_rest (intersection left right)) Part')) (sym x.0)
           (agree_then (join_both V' left right
-          (intersection_one from to outer rest rest' intersection_none) (end_of_piece piece)
+          (intersection_one to outer rest rest' intersection_none) (end_of_piece piece)
           old_rest
           old_well.well)
           (agree_either (agree_refl (Marked V' old_rest (intersection left right)))
@@ -217,7 +217,7 @@ module _ (piece : Piece) (left right : PatternTree) (from to : ℕ)
         (intersection left right))
         (sym x.0)
         (join_both_well (end_of_piece piece) left right
-        (intersection_one from to outer rest rest' intersection_none)
+        (intersection_one to outer rest rest' intersection_none)
         (entered, inner.well.well, inner'.well.well, tt, x.1, x.2) old_rest old_well.well))
         (λ x. subst (λ (mark : MarkTree). IsWell (end_of_piece piece) mark
         (intersection left right))
@@ -237,7 +237,7 @@ module _ (piece : Piece) (left right : PatternTree) (from to : ℕ)
         (cross_outer piece outer (Both (N W) (N' W)) (Both (Marked V rest left)
         (Marked V rest' right))
         (λ a b n some h.
-        let end = entered.ends.end a b n some h in
+        let end = entered.latest.ends.ends a b n some h in
         let later = mul-le-mul_right n entered.past in
         omega (arith, end, later))
         (agree_then
@@ -258,37 +258,36 @@ module _ (piece : Piece) (left right : PatternTree) (from to : ℕ)
 
 -- ---- one instance more of those that a mark has
 
-module _ (piece : Piece) (tree : PatternTree) (interval : IntervalEnds) (from to : ℕ)
+module _ (piece : Piece) (tree : PatternTree) (interval : IntervalEnds) (to : ℕ)
     (outer old_told told new_told : List ZoneBounds) (is one old_rest rest new_rest : MarkTree)
     (well : IsWellAt piece.begin is (restriction tree interval))
-    (last : IsWellAt piece.begin (restriction_one from to outer one restriction_none)
+    (last : IsWellAt piece.begin (restriction_one to outer one restriction_none)
     (restriction tree interval))
     (steps : StepsTo is (restriction tree interval) piece old_told old_rest)
     (inner : StepsTo one tree piece told rest)
-    (kept : KeepsLasting interval (end_of_piece piece) old_told old_rest from to outer told rest
+    (kept : KeepsLasting interval (end_of_piece piece) old_told old_rest to outer told rest
     new_told new_rest) where
-  here_entered : IsEntered (end_of_piece piece) from to outer
+  here_entered : IsEntered (end_of_piece piece) to outer
   here_entered = record {
     some = last.well.0.some;
-    rising = last.well.0.rising;
     past = let past = last.well.0.past in omega (arith, past);
-    ends = last.well.0.ends;
+    latest = last.well.0.latest;
   }
 
   more_lasting : (r : Rest)
-      → Agree (Marked r (join is (restriction_one from to outer one restriction_none))
+      → Agree (Marked r (join is (restriction_one to outer one restriction_none))
       (restriction tree interval))
       (Either (Marked r is (restriction tree interval))
       (Composed (Held outer) (Lasting (LastsWithin interval) (Marked r one tree))))
   more_lasting r =
       agree_then (join_lasting r tree interval
-      (restriction_one from to outer one restriction_none) piece.begin is well.well)
+      (restriction_one to outer one restriction_none) piece.begin is well.well)
       (agree_either (agree_refl (Marked r is (restriction tree interval)))
       (record {
         at = λ a b n some. ((λ h. ⊎_elim (λ y. y) (λ y. absurd y) h), (λ h. inl h));
       }))
 
-  pub lasting_more : StepsTo (join is (restriction_one from to outer one restriction_none))
+  pub lasting_more : StepsTo (join is (restriction_one to outer one restriction_none))
       (restriction tree interval) piece new_told new_rest
   lasting_more =
       let N : Rest → Pairs = λ r. Marked r one tree in
@@ -296,9 +295,9 @@ module _ (piece : Piece) (tree : PatternTree) (interval : IntervalEnds) (from to
       let old = of_steps piece (restriction tree interval) old_told old_rest is steps in
       let T' = end_of_piece piece in
       steps_of piece (restriction tree interval) new_told new_rest
-      (join is (restriction_one from to outer one restriction_none))
+      (join is (restriction_one to outer one restriction_none))
       (record {
-        tells = agree_then (lasting_tells piece tree interval from to outer old_told told new_told
+        tells = agree_then (lasting_tells piece tree interval to outer old_told told new_told
             old_rest rest new_rest N old.well part here_entered kept)
             (agree_then
             (agree_either old.tells (agree_refl (Composed (Held outer)
@@ -307,48 +306,47 @@ module _ (piece : Piece) (tree : PatternTree) (interval : IntervalEnds) (from to
         leaves = λ segments long.
             let W = over piece segments in
             let A = Composed (Held outer) (Lasting (LastsWithin interval) (N W)) in
-            agree_then (lasting_leaves piece tree interval from to outer old_told told new_told
+            agree_then (lasting_leaves piece tree interval to outer old_told told new_told
             old_rest rest new_rest N old.well part here_entered kept segments long)
             (agree_then (agree_either (old.leaves segments long) (agree_refl (Crossing T' A)))
             (agree_then
             (agree_sym (cross_either T' (Marked W is (restriction tree interval)) A))
             (agree_crossing T' (agree_sym (more_lasting W)))));
-        well = lasting_well piece tree interval from to outer old_told told new_told old_rest rest
+        well = lasting_well piece tree interval to outer old_told told new_told old_rest rest
             new_rest N old.well part here_entered kept;
       })
 
-module _ (piece : Piece) (left right : PatternTree) (from to : ℕ)
+module _ (piece : Piece) (left right : PatternTree) (to : ℕ)
     (outer old_told told told' new_told : List ZoneBounds)
     (is one other old_rest rest rest' new_rest : MarkTree)
     (well : IsWellAt piece.begin is (intersection left right))
-    (last : IsWellAt piece.begin (intersection_one from to outer one other intersection_none)
+    (last : IsWellAt piece.begin (intersection_one to outer one other intersection_none)
     (intersection left right))
     (steps : StepsTo is (intersection left right) piece old_told old_rest)
     (inner : StepsTo one left piece told rest) (inner' : StepsTo other right piece told' rest')
-    (kept : KeepsBoth old_told old_rest from to outer told told' rest rest' new_told new_rest)
+    (kept : KeepsBoth old_told old_rest to outer told told' rest rest' new_told new_rest)
   where
-    both_entered : IsEntered (end_of_piece piece) from to outer
+    both_entered : IsEntered (end_of_piece piece) to outer
     both_entered = record {
       some = last.well.0.some;
-      rising = last.well.0.rising;
       past = let past = last.well.0.past in omega (arith, past);
-      ends = last.well.0.ends;
+      latest = last.well.0.latest;
     }
 
     more_both : (r : Rest)
-        → Agree (Marked r (join is (intersection_one from to outer one other intersection_none))
+        → Agree (Marked r (join is (intersection_one to outer one other intersection_none))
         (intersection left right))
         (Either (Marked r is (intersection left right))
         (Composed (Held outer) (Both (Marked r one left) (Marked r other right))))
     more_both r =
         agree_then (join_both r left right
-        (intersection_one from to outer one other intersection_none) piece.begin is well.well)
+        (intersection_one to outer one other intersection_none) piece.begin is well.well)
         (agree_either (agree_refl (Marked r is (intersection left right)))
         (record {
           at = λ a b n some. ((λ h. ⊎_elim (λ y. y) (λ y. absurd y) h), (λ h. inl h));
         }))
 
-    pub both_more : StepsTo (join is (intersection_one from to outer one other intersection_none))
+    pub both_more : StepsTo (join is (intersection_one to outer one other intersection_none))
         (intersection left right) piece new_told new_rest
     both_more =
         let N : Rest → Pairs = λ r. Marked r one left in
@@ -358,9 +356,9 @@ module _ (piece : Piece) (left right : PatternTree) (from to : ℕ)
         let old = of_steps piece (intersection left right) old_told old_rest is steps in
         let T' = end_of_piece piece in
         steps_of piece (intersection left right) new_told new_rest
-        (join is (intersection_one from to outer one other intersection_none))
+        (join is (intersection_one to outer one other intersection_none))
         (record {
-          tells = agree_then (both_tells piece left right from to outer old_told told told' new_told
+          tells = agree_then (both_tells piece left right to outer old_told told told' new_told
               old_rest rest rest' new_rest N N' old.well part part' both_entered kept)
               (agree_then
               (agree_either old.tells (agree_refl (Composed (Held outer)
@@ -369,27 +367,32 @@ module _ (piece : Piece) (left right : PatternTree) (from to : ℕ)
           leaves = λ segments long.
               let W = over piece segments in
               let A = Composed (Held outer) (Both (N W) (N' W)) in
-              agree_then (both_leaves piece left right from to outer old_told told told' new_told
+              agree_then (both_leaves piece left right to outer old_told told told' new_told
               old_rest rest rest' new_rest N N' old.well part part' both_entered kept segments long)
               (agree_then (agree_either (old.leaves segments long) (agree_refl (Crossing T' A)))
               (agree_then
               (agree_sym (cross_either T' (Marked W is (intersection left right)) A))
               (agree_crossing T' (agree_sym (more_both W)))));
-          well = both_well piece left right from to outer old_told told told' new_told old_rest rest
+          well = both_well piece left right to outer old_told told told' new_told old_rest rest
               rest' new_rest N N' old.well part part' both_entered kept;
         })
 
 -- ---- an instance that enters
 
--- What enters in a piece ends from its begin to its end.
-now_entered : (piece : Piece) (enter : List ZoneBounds)
-    → EndBetween piece.begin (end_of_piece piece) enter
-    → (enter ≡ [] → ⊥) → IsEntered (end_of_piece piece) piece.begin (end_of_piece piece) enter
-now_entered piece enter between filled = record {
+-- What enters in a piece has ended by the end of the piece.
+pub latest_past : (piece : Piece) (to : ℕ) (enter : List ZoneBounds)
+    → EndBetween piece.begin (end_of_piece piece) enter → IsLatest to enter
+    → to ≤ end_of_piece piece
+latest_past piece to enter between latest =
+    latest.first (end_of_piece piece) (record { ends = between.end })
+
+now_entered : (piece : Piece) (to : ℕ) (enter : List ZoneBounds)
+    → EndBetween piece.begin (end_of_piece piece) enter → (enter ≡ [] → ⊥) → IsLatest to enter
+    → IsEntered (end_of_piece piece) to enter
+now_entered piece to enter between filled latest = record {
   some = filled;
-  rising = omega arith;
-  past = omega arith;
-  ends = between;
+  past = latest_past piece to enter between latest;
+  latest = latest;
 }
 
 -- What is told of nothing and something is the something.
@@ -405,48 +408,49 @@ told_alone told R same = agree_then same (record {
 module _ (piece : Piece) (tree : PatternTree) (interval : IntervalEnds)
     (enter told new_told : List ZoneBounds) (old_rest rest new_rest : MarkTree)
     (between : EndBetween piece.begin (end_of_piece piece) enter) (filled : enter ≡ [] → ⊥)
+    (to : ℕ) (latest : IsLatest to enter)
     (old_well : IsWellAt (end_of_piece piece) old_rest (restriction tree interval))
     (begins : Begins tree piece told rest)
-    (kept : KeepsLasting interval (end_of_piece piece) [] old_rest piece.begin
-    (end_of_piece piece) enter told rest new_told new_rest) where
+    (kept : KeepsLasting interval (end_of_piece piece) [] old_rest to enter told rest new_told
+    new_rest) where
   pub lasting_enters : EntersTo old_rest (restriction tree interval) enter piece new_told new_rest
   lasting_enters =
       let N : Rest → Pairs = MatchesRest tree in
       let part = of_begins piece tree told rest begins in
-      let entered = now_entered piece enter between filled in
+      let entered = now_entered piece to enter between filled latest in
       enters_of piece (restriction tree interval) new_told new_rest old_rest enter
       (record {
         tells = told_alone new_told (Followed (Held enter) (restriction tree interval)
             (alone piece))
-            (lasting_tells piece tree interval piece.begin (end_of_piece piece) enter [] told
-            new_told old_rest rest new_rest N old_well part entered kept);
-        leaves = lasting_leaves piece tree interval piece.begin (end_of_piece piece) enter [] told
-            new_told old_rest rest new_rest N old_well part entered kept;
-        well = lasting_well piece tree interval piece.begin (end_of_piece piece) enter [] told
-            new_told old_rest rest new_rest N old_well part entered kept;
+            (lasting_tells piece tree interval to enter [] told new_told old_rest rest new_rest N
+            old_well part entered kept);
+        leaves = lasting_leaves piece tree interval to enter [] told new_told old_rest rest new_rest
+            N old_well part entered kept;
+        well = lasting_well piece tree interval to enter [] told new_told old_rest rest new_rest N
+            old_well part entered kept;
       })
 
 module _ (piece : Piece) (left right : PatternTree)
     (enter told told' new_told : List ZoneBounds) (old_rest rest rest' new_rest : MarkTree)
     (between : EndBetween piece.begin (end_of_piece piece) enter) (filled : enter ≡ [] → ⊥)
+    (to : ℕ) (latest : IsLatest to enter)
     (old_well : IsWellAt (end_of_piece piece) old_rest (intersection left right))
     (begins : Begins left piece told rest) (begins' : Begins right piece told' rest')
-    (kept : KeepsBoth [] old_rest piece.begin (end_of_piece piece) enter told told' rest rest'
-    new_told new_rest) where
+    (kept : KeepsBoth [] old_rest to enter told told' rest rest' new_told new_rest) where
   pub both_enters : EntersTo old_rest (intersection left right) enter piece new_told new_rest
   both_enters =
       let N : Rest → Pairs = MatchesRest left in
       let N' : Rest → Pairs = MatchesRest right in
       let part = of_begins piece left told rest begins in
       let part' = of_begins piece right told' rest' begins' in
-      let entered = now_entered piece enter between filled in
+      let entered = now_entered piece to enter between filled latest in
       enters_of piece (intersection left right) new_told new_rest old_rest enter
       (record {
         tells = told_alone new_told (Followed (Held enter) (intersection left right) (alone piece))
-            (both_tells piece left right piece.begin (end_of_piece piece) enter [] told told'
-            new_told old_rest rest rest' new_rest N N' old_well part part' entered kept);
-        leaves = both_leaves piece left right piece.begin (end_of_piece piece) enter [] told told'
-            new_told old_rest rest rest' new_rest N N' old_well part part' entered kept;
-        well = both_well piece left right piece.begin (end_of_piece piece) enter [] told told'
-            new_told old_rest rest rest' new_rest N N' old_well part part' entered kept;
+            (both_tells piece left right to enter [] told told' new_told old_rest rest rest'
+            new_rest N N' old_well part part' entered kept);
+        leaves = both_leaves piece left right to enter [] told told' new_told old_rest rest rest'
+            new_rest N N' old_well part part' entered kept;
+        well = both_well piece left right to enter [] told told' new_told old_rest rest rest'
+            new_rest N N' old_well part part' entered kept;
       })

@@ -25,19 +25,19 @@ end_intersection = record { joins = λ end. refl }
 pub end_restriction : IsEnd restriction_none
 end_restriction = record { joins = λ end. refl }
 
-join_behind : (right : Option (Box Mark Global)) (from to : ℕ) (outer : List ZoneBounds)
+join_behind : (right : Option (Box Mark Global)) (to : ℕ) (outer : List ZoneBounds)
     (left others end : MarkTree)
-    → join (behind right from to outer left others) end
-    ≡ behind right from to outer left (join others end)
-join_behind None from to outer left others end = refl
-join_behind (Some right) from to outer left others end = refl
+    → join (behind right to outer left others) end
+    ≡ behind right to outer left (join others end)
+join_behind None to outer left others end = refl
+join_behind (Some right) to outer left others end = refl
 
 pub joined_list : (list : List Instance) (none : MarkTree) → IsEnd none → (end : MarkTree)
     → list_before list end ≡ join (list_before list none) end
 joined_list [] none is end = sym (is.joins end)
 joined_list (one ∷ list) none is end =
     ap (instance_before one) (joined_list list none is end)
-    ∙ sym (join_behind one.right one.from one.to one.outer (mark_of one.left.value)
+    ∙ sym (join_behind one.right one.to one.outer (mark_of one.left.value)
     (list_before list none) end)
 
 pub joined_instances : (instances : Instances) (none : MarkTree) → IsEnd none → (end : MarkTree)
@@ -56,7 +56,7 @@ module _ (rest : Rest) (tree : PatternTree) (ends : IntervalEnds) (end : MarkTre
   join_lasting time restriction_none well = record {
     at = λ a b n some. ((λ h. inr h), (λ h. ⊎_elim (λ x. absurd x) (λ x. x) h));
   }
-  join_lasting time (restriction_one from to outer one others) well =
+  join_lasting time (restriction_one to outer one others) well =
       let inner = join_lasting time others well.3 in
       record {
         at = λ a b n some.
@@ -73,21 +73,21 @@ module _ (rest : Rest) (tree : PatternTree) (ends : IntervalEnds) (end : MarkTre
   join_lasting time (alternation_mark one other) well = absurd well
   join_lasting time (repetition_mark here body) well = absurd well
   join_lasting time intersection_none well = absurd well
-  join_lasting time (intersection_one from to outer one other others) well = absurd well
+  join_lasting time (intersection_one to outer one other others) well = absurd well
 
 module _ (time : ℕ) (tree : PatternTree) (ends : IntervalEnds) (end : MarkTree)
     (last : IsWell time end (restriction tree ends)) where
   pub join_lasting_well : (is : MarkTree) → IsWell time is (restriction tree ends)
       → IsWell time (join is end) (restriction tree ends)
   join_lasting_well restriction_none well = last
-  join_lasting_well (restriction_one from to outer one others) well =
+  join_lasting_well (restriction_one to outer one others) well =
       (well.0, well.1, well.2, join_lasting_well others well.3, well.4)
   join_lasting_well (atom_mark here begun) well = absurd well
   join_lasting_well (sequence_mark one other) well = absurd well
   join_lasting_well (alternation_mark one other) well = absurd well
   join_lasting_well (repetition_mark here body) well = absurd well
   join_lasting_well intersection_none well = absurd well
-  join_lasting_well (intersection_one from to outer one other others) well = absurd well
+  join_lasting_well (intersection_one to outer one other others) well = absurd well
 
 module _ (rest : Rest) (left right : PatternTree) (end : MarkTree) where
   pub join_both : (time : ℕ) (is : MarkTree) → IsWell time is (intersection left right)
@@ -97,7 +97,7 @@ module _ (rest : Rest) (left right : PatternTree) (end : MarkTree) where
   join_both time intersection_none well = record {
     at = λ a b n some. ((λ h. inr h), (λ h. ⊎_elim (λ x. absurd x) (λ x. x) h));
   }
-  join_both time (intersection_one from to outer one other others) well =
+  join_both time (intersection_one to outer one other others) well =
       let inner = join_both time others well.3 in
       record {
         at = λ a b n some.
@@ -114,21 +114,21 @@ module _ (rest : Rest) (left right : PatternTree) (end : MarkTree) where
   join_both time (alternation_mark one other) well = absurd well
   join_both time (repetition_mark here body) well = absurd well
   join_both time restriction_none well = absurd well
-  join_both time (restriction_one from to outer one others) well = absurd well
+  join_both time (restriction_one to outer one others) well = absurd well
 
 module _ (time : ℕ) (left right : PatternTree) (end : MarkTree)
     (last : IsWell time end (intersection left right)) where
   pub join_both_well : (is : MarkTree) → IsWell time is (intersection left right)
       → IsWell time (join is end) (intersection left right)
   join_both_well intersection_none well = last
-  join_both_well (intersection_one from to outer one other others) well =
+  join_both_well (intersection_one to outer one other others) well =
       (well.0, well.1, well.2, join_both_well others well.3, well.4, well.5)
   join_both_well (atom_mark here begun) well = absurd well
   join_both_well (sequence_mark one other) well = absurd well
   join_both_well (alternation_mark one other) well = absurd well
   join_both_well (repetition_mark here body) well = absurd well
   join_both_well restriction_none well = absurd well
-  join_both_well (restriction_one from to outer one others) well = absurd well
+  join_both_well (restriction_one to outer one others) well = absurd well
 
 -- ---- the parts of a list that is well
 
@@ -140,31 +140,31 @@ before_append (x ∷ one) other end = ap (instance_before x) (before_append one 
 -- One form of expression with instances, and the mark of it that has none.
 pub record IsListed (time : ℕ) (tree : PatternTree) (none : MarkTree) : Type 0 where
   pub empty : IsWell time none tree
-  pub first : (right : Option (Box Mark Global)) (from to : ℕ) (outer : List ZoneBounds)
-      (left others : MarkTree) → IsWell time (behind right from to outer left others) tree
+  pub first : (right : Option (Box Mark Global)) (to : ℕ) (outer : List ZoneBounds)
+      (left others : MarkTree) → IsWell time (behind right to outer left others) tree
       → IsWell time others tree × ((others' : MarkTree) → IsWell time others' tree
-      → IsWell time (behind right from to outer left others') tree)
+      → IsWell time (behind right to outer left others') tree)
 
 first_lasting : (time : ℕ) (tree : PatternTree) (ends : IntervalEnds)
-    (right : Option (Box Mark Global)) (from to : ℕ) (outer : List ZoneBounds)
+    (right : Option (Box Mark Global)) (to : ℕ) (outer : List ZoneBounds)
     (left others : MarkTree)
-    → IsWell time (behind right from to outer left others) (restriction tree ends)
+    → IsWell time (behind right to outer left others) (restriction tree ends)
     → IsWell time others (restriction tree ends) × ((others' : MarkTree)
     → IsWell time others' (restriction tree ends)
-    → IsWell time (behind right from to outer left others') (restriction tree ends))
-first_lasting time tree ends None from to outer left others well =
+    → IsWell time (behind right to outer left others') (restriction tree ends))
+first_lasting time tree ends None to outer left others well =
     (well.3, λ others' last. (well.0, well.1, well.2, last, well.4))
-first_lasting time tree ends (Some right) from to outer left others well = absurd well
+first_lasting time tree ends (Some right) to outer left others well = absurd well
 
 first_both : (time : ℕ) (left right : PatternTree)
-    (other : Option (Box Mark Global)) (from to : ℕ) (outer : List ZoneBounds)
+    (other : Option (Box Mark Global)) (to : ℕ) (outer : List ZoneBounds)
     (one others : MarkTree)
-    → IsWell time (behind other from to outer one others) (intersection left right)
+    → IsWell time (behind other to outer one others) (intersection left right)
     → IsWell time others (intersection left right) × ((others' : MarkTree)
     → IsWell time others' (intersection left right)
-    → IsWell time (behind other from to outer one others') (intersection left right))
-first_both time left right None from to outer one others well = absurd well
-first_both time left right (Some other) from to outer one others well =
+    → IsWell time (behind other to outer one others') (intersection left right))
+first_both time left right None to outer one others well = absurd well
+first_both time left right (Some other) to outer one others well =
     (well.3, λ others' last. (well.0, well.1, well.2, last, well.4, well.5))
 
 pub listed_lasting : (time : ℕ) (tree : PatternTree) (ends : IntervalEnds)
@@ -180,7 +180,7 @@ module _ (time : ℕ) (tree : PatternTree) (none : MarkTree) (listed : IsListed 
       → IsWell time (list_before list none) tree × IsWell time end tree
   list_parts [] end well = (listed.empty, well)
   list_parts (x ∷ list) end well =
-      let h = listed.first x.right x.from x.to x.outer (mark_of x.left.value)
+      let h = listed.first x.right x.to x.outer (mark_of x.left.value)
       (list_before list end) well in
       let inner = list_parts list end h.0 in
       (h.1 (list_before list none) inner.0, inner.1)

@@ -7,8 +7,8 @@ use Rattle.tre_pairs.proofs.Laws.{IsOrdered, IsInstant, Agree}
 use Rattle.tre_pairs.proofs.Order.{IsOrdered-Chain}
 use Rattle.tre_pairs.proofs.Scaling.{moved}
 use Rattle.tre_offline.proofs.Unions.{Agree-held}
-use Rattle.tre_residual.specs.Residual.{Held}
-use Rattle.tre_residual.proofs.HeldSets.{Scales-Held, IsOrdered-Held, Held-empty, composed_exact}
+use Rattle.tre_zone.specs.Held.{Held, IsSetOf}
+use Rattle.tre_zone.proofs.HeldSets.{Scales-Held, IsOrdered-Held, Held-empty}
 use Rattle.tre_star.proofs.Chaining.{Scales-instants}
 use Rattle.tre_zone.specs.Interval.{IntervalEnds, LastsWithin}
 use Rattle.tre_zone.specs.Zone.{IsInstantBetween, EndsAt}
@@ -18,7 +18,6 @@ use Rattle.tre_zone.proofs.ZoneListLemmas.{SetHolds-append}
 use Rattle.tre_zoneset.specs.ZoneSet.{IsZoneSet}
 use Rattle.tre_mark.specs.Marked.{EndBetween}
 use Rattle.tre_mark.proofs.Agreeing.{agree_refl, agree_then, agree_composed}
-use Rattle.tre_advance.specs.Sets.{IsSetOf}
 
 pub set_agrees : {zones : List ZoneBounds} {R : Pairs} → IsSetOf zones R → Agree (Held zones) R
 set_agrees set = record { at = set.pairs }
@@ -57,12 +56,6 @@ set_none zones R empty never = record {
 
 pub no_pair : (zones : List ZoneBounds) → zones ≡ [] → (a b n : ℕ) → Held zones a b n → ⊥
 no_pair zones empty a b n h = Held-empty a b n (subst (λ list. Held list a b n) empty h)
-
-pub composed_set : (first second zones : List ZoneBounds) → IsZoneSet first → IsZoneSet second
-    → HoldExactly zones (Composed (SetHolds first) (SetHolds second))
-    → IsSetOf zones (Composed (Held first) (Held second))
-composed_set first second zones one other held =
-    record { pairs = (composed_exact first second zones one other held).pairs }
 
 pub either_set : (zones one other : List ZoneBounds)
     → HoldExactly zones (Either (SetHolds one) (SetHolds other))

@@ -22,25 +22,25 @@ IsPlain (restriction tree ends) = ⊥
 plain_row : (time : ℕ) (tree : PatternTree) → IsPlain tree → {m : _} (row : Row_of-Instance m)
     (end : MarkTree) → (IsWell time end tree → ⊥) → IsWell time (row_before row end) tree → ⊥
 plain_row time tree plain end_of-Instance end none well = none well
-plain_row time (atom x) plain (more_of-Instance from to outer box left None' row) end none well =
+plain_row time (atom x) plain (more_of-Instance to outer box left None' row) end none well =
     well
-plain_row time (atom x) plain (more_of-Instance from to outer box left (Some' box' right) row) end
+plain_row time (atom x) plain (more_of-Instance to outer box left (Some' box' right) row) end
     none well = well
-plain_row time (sequence f g) plain (more_of-Instance from to outer box left None' row) end none
+plain_row time (sequence f g) plain (more_of-Instance to outer box left None' row) end none
     well = well
 plain_row time (sequence f g) plain
-    (more_of-Instance from to outer box left (Some' box' right) row) end none well = well
-plain_row time (alternation f g) plain (more_of-Instance from to outer box left None' row) end none
+    (more_of-Instance to outer box left (Some' box' right) row) end none well = well
+plain_row time (alternation f g) plain (more_of-Instance to outer box left None' row) end none
     well = well
 plain_row time (alternation f g) plain
-    (more_of-Instance from to outer box left (Some' box' right) row) end none well = well
-plain_row time (repetition f) plain (more_of-Instance from to outer box left None' row) end none
+    (more_of-Instance to outer box left (Some' box' right) row) end none well = well
+plain_row time (repetition f) plain (more_of-Instance to outer box left None' row) end none
     well = well
 plain_row time (repetition f) plain
-    (more_of-Instance from to outer box left (Some' box' right) row) end none well = well
-plain_row time (intersection f g) plain (more_of-Instance from to outer box left held row) end none
+    (more_of-Instance to outer box left (Some' box' right) row) end none well = well
+plain_row time (intersection f g) plain (more_of-Instance to outer box left held row) end none
     well = plain
-plain_row time (restriction f ends) plain (more_of-Instance from to outer box left held row) end
+plain_row time (restriction f ends) plain (more_of-Instance to outer box left held row) end
     none well = plain
 
 plain_instances : (time : ℕ) (tree : PatternTree) → IsPlain tree → (instances : Instances)
@@ -118,16 +118,16 @@ module _ (time : ℕ) where
   row_both : (left right : PatternTree) {m : _} (row : Row_of-Instance m)
       → IsWell time (row_before row restriction_none) (intersection left right) → ⊥
   row_both left right end_of-Instance well = well
-  row_both left right (more_of-Instance from to outer box one None' row) well = well
-  row_both left right (more_of-Instance from to outer box one (Some' box' other) row) well =
+  row_both left right (more_of-Instance to outer box one None' row) well = well
+  row_both left right (more_of-Instance to outer box one (Some' box' other) row) well =
       row_both left right row well.3
 
   row_lasting : (tree : PatternTree) (ends : IntervalEnds) {m : _} (row : Row_of-Instance m)
       → IsWell time (row_before row intersection_none) (restriction tree ends) → ⊥
   row_lasting tree ends end_of-Instance well = well
-  row_lasting tree ends (more_of-Instance from to outer box one None' row) well =
+  row_lasting tree ends (more_of-Instance to outer box one None' row) well =
       row_lasting tree ends row well.3
-  row_lasting tree ends (more_of-Instance from to outer box one (Some' box' other) row) well = well
+  row_lasting tree ends (more_of-Instance to outer box one (Some' box' other) row) well = well
 
   instances_both : (left right : PatternTree) (instances : Instances)
       → IsWell time (instances_before instances restriction_none) (intersection left right) → ⊥

@@ -9,9 +9,9 @@ use Rattle.tre_pairs.proofs.CutLaws.{Scales-Crossing}
 use Rattle.tre_pairs.proofs.Laws.{Scales, IsOrdered, Agree}
 use Rattle.tre_pairs.proofs.Order.{IsOrdered-Either}
 use Rattle.tre_pairs.proofs.Scaling.{moved, Scales-Composed, Scales-Either}
-use Rattle.tre_residual.specs.Residual.{Held, EndAt}
-use Rattle.tre_residual.proofs.HeldSets.{Scales-Held, IsOrdered-Held, Held-empty}
-use Rattle.tre_residual.proofs.Meanings.{Scales-JoinedAt}
+use Rattle.tre_zone.specs.Held.{Held, EndAt}
+use Rattle.tre_zone.proofs.HeldSets.{Scales-Held, IsOrdered-Held, Held-empty}
+use Rattle.tre_zone.proofs.JoinedPairs.{Scales-JoinedAt}
 use Rattle.tre_syntax.specs.Meaning.{MatchesRest}
 use Rattle.tre_syntax.specs.PatternTree.{PatternTree, empty, repetition}
 use Rattle.tre_syntax.specs.Rest.{Rest, AtomMatches}
@@ -29,7 +29,8 @@ use Rattle.tre_mark.proofs.Meanings.{Scales-Marked, IsOrdered-Marked, around_pre
 use Rattle.tre_mark.proofs.Starts.{end_at_none, nothing_restriction}
 use Rattle.tre_edges.specs.Piece.{end_of_piece, cut_behind}
 use Rattle.tre_advance.proofs.Crossings.{IsFront, agree_crossing, cross_followed, cross_after, distributes}
-use Rattle.tre_advance.proofs.Going.{over, alone, behind, cut_of, long_front, mark_grows, mark_early, mark_ends, begin_end, begin_le, ends_composed, tree_ends}
+use Rattle.tre_mark.proofs.Growth.{mark_grows, mark_early, mark_ends, ends_composed, tree_ends}
+use Rattle.tre_advance.proofs.Going.{over, alone, behind, cut_of, long_front, begin_end, begin_le}
 use Rattle.tre_advance.proofs.Steps.{Inner, Beside, Followed}
 
 module _ (piece : Piece) (here enter : List ZoneBounds) (body : MarkTree) (tree : PatternTree)
@@ -144,12 +145,14 @@ module _ (piece : Piece) (here enter : List ZoneBounds) (body : MarkTree) (tree 
       starts_front : IsFront (end_of_piece piece) (Starts W) (Starts P)
       starts_front = record {
         grows = record {
-          at = λ a b n h. ⊎_elim (λ x. inl ((mark_grows piece segments body tree).at a b n x))
+          at = λ a b n h. ⊎_elim
+              (λ x. inl ((mark_grows (cut_behind piece segments) body tree).at a b n x))
               (λ x. inr x) h;
         };
         early = record {
           at = λ a b n early h. ⊎_elim
-              (λ x. inl ((mark_early piece segments body tree).at a b n early x)) (λ x. inr x) h;
+              (λ x. inl ((mark_early (cut_behind piece segments) body tree).at a b n early x))
+              (λ x. inr x) h;
         };
         begins = λ a b n some h. ⊎_elim
             (λ x.

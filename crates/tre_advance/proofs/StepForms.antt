@@ -4,7 +4,7 @@ use Rattle.tre_syntax.specs.PatternTree.{PatternTree, intersection, restriction}
 use Rattle.tre_zone.specs.Interval.{IntervalEnds}
 use Rattle.tre_zone.specs.declared.zone_bounds.ZoneBounds.{ZoneBounds}
 use Rattle.tre_edges.specs.declared.piece.Piece.{Piece}
-use Rattle.tre_residual.specs.Residual.{Held}
+use Rattle.tre_zone.specs.Held.{Held, IsSetOf}
 use Rattle.tre_mark.proofs.Agreeing.{agree_then}
 use Rattle.tre_mark.specs.MarkTree.{MarkTree, intersection_none, intersection_one, restriction_none, restriction_one, mark_of, instance_before, behind}
 use Rattle.tre_mark.specs.Marked.{Marked, EndBetween, IsWell, IsWellAt}
@@ -13,46 +13,45 @@ use Rattle.tre_mark.specs.declared.mark.Mark.{Mark}
 use Rattle.tre_edges.specs.Piece.{end_of_piece}
 use Rattle.tre_advance.specs.Instances.{join, KeepsLasting, KeepsBoth}
 use Rattle.tre_advance.specs.Moves.{StepsTo, EntersTo}
-use Rattle.tre_advance.specs.Sets.{IsSetOf}
 use Rattle.tre_advance.proofs.Going.{alone}
 use Rattle.tre_advance.proofs.SetsOf.{set_agrees, set_of, set_none, no_pair}
 use Rattle.tre_advance.proofs.InstanceSteps.{lasting_more, both_more}
 
 -- An instance of a restriction has no right side.
-lasting_right : (time : ℕ) (right : Option (Box Mark Global)) (from to : ℕ)
+lasting_right : (time : ℕ) (right : Option (Box Mark Global)) (to : ℕ)
     (outer : List ZoneBounds) (left : MarkTree) (tree : PatternTree) (ends : IntervalEnds)
-    → IsWell time (behind right from to outer left restriction_none) (restriction tree ends)
-    → behind right from to outer left restriction_none
-    ≡ restriction_one from to outer left restriction_none
-lasting_right time None from to outer left tree ends well = refl
-lasting_right time (Some right) from to outer left tree ends well = absurd well
+    → IsWell time (behind right to outer left restriction_none) (restriction tree ends)
+    → behind right to outer left restriction_none
+    ≡ restriction_one to outer left restriction_none
+lasting_right time None to outer left tree ends well = refl
+lasting_right time (Some right) to outer left tree ends well = absurd well
 
-lasting_begun : (time : ℕ) (right : Option (Box Mark Global)) (from to : ℕ)
+lasting_begun : (time : ℕ) (right : Option (Box Mark Global)) (to : ℕ)
     (outer : List ZoneBounds) (left : MarkTree) (tree : PatternTree) (ends : IntervalEnds)
-    → IsWell time (behind right from to outer left restriction_none) (restriction tree ends)
+    → IsWell time (behind right to outer left restriction_none) (restriction tree ends)
     → (to ≤ time) × IsWell time left tree
-lasting_begun time None from to outer left tree ends well = (well.0.past, well.2)
-lasting_begun time (Some right) from to outer left tree ends well = absurd well
+lasting_begun time None to outer left tree ends well = (well.0.past, well.2)
+lasting_begun time (Some right) to outer left tree ends well = absurd well
 
 -- It began before, and its mark is well.
 pub instance_lasting : (time : ℕ) (x : Instance) (tree : PatternTree) (ends : IntervalEnds)
     → IsWell time (instance_before x restriction_none) (restriction tree ends)
     → (x.to ≤ time) × IsWell time (mark_of x.left.value) tree
 instance_lasting time x tree ends well =
-    lasting_begun time x.right x.from x.to x.outer (mark_of x.left.value) tree ends well
+    lasting_begun time x.right x.to x.outer (mark_of x.left.value) tree ends well
 
-both_left : (time : ℕ) (right : Option (Box Mark Global)) (from to : ℕ)
+both_left : (time : ℕ) (right : Option (Box Mark Global)) (to : ℕ)
     (outer : List ZoneBounds) (one : MarkTree) (tree tree' : PatternTree)
-    → IsWell time (behind right from to outer one intersection_none) (intersection tree tree')
+    → IsWell time (behind right to outer one intersection_none) (intersection tree tree')
     → IsWell time one tree
-both_left time None from to outer one tree tree' well = absurd well
-both_left time (Some right) from to outer one tree tree' well = well.1
+both_left time None to outer one tree tree' well = absurd well
+both_left time (Some right) to outer one tree tree' well = well.1
 
 pub instance_left : (time : ℕ) (x : Instance) (left right : PatternTree)
     → IsWell time (instance_before x intersection_none) (intersection left right)
     → IsWell time (mark_of x.left.value) left
 instance_left time x left right well =
-    both_left time x.right x.from x.to x.outer (mark_of x.left.value) left right well
+    both_left time x.right x.to x.outer (mark_of x.left.value) left right well
 
 module _ (piece : Piece) (tree : PatternTree) (interval : IntervalEnds) (x : Instance)
     (old_told told new_told : List ZoneBounds) (is old_rest rest new_rest : MarkTree) where
@@ -60,17 +59,17 @@ module _ (piece : Piece) (tree : PatternTree) (interval : IntervalEnds) (x : Ins
       → IsWellAt piece.begin (instance_before x restriction_none) (restriction tree interval)
       → StepsTo is (restriction tree interval) piece old_told old_rest
       → StepsTo (mark_of x.left.value) tree piece told rest
-      → KeepsLasting interval (end_of_piece piece) old_told old_rest x.from x.to x.outer told rest
+      → KeepsLasting interval (end_of_piece piece) old_told old_rest x.to x.outer told rest
       new_told new_rest
       → StepsTo (join is (instance_before x restriction_none)) (restriction tree interval) piece
       new_told new_rest
   lasting_goes_on well last steps inner kept =
       let one = mark_of x.left.value in
-      let shape = lasting_right piece.begin x.right x.from x.to x.outer one tree interval
+      let shape = lasting_right piece.begin x.right x.to x.outer one tree interval
       last.well in
       subst (λ (m : MarkTree). StepsTo (join is m) (restriction tree interval) piece new_told
       new_rest) (sym shape)
-      (lasting_more piece tree interval x.from x.to x.outer old_told told new_told is one old_rest
+      (lasting_more piece tree interval x.to x.outer old_told told new_told is one old_rest
       rest new_rest well
       (subst (λ (m : MarkTree). IsWellAt piece.begin m (restriction tree interval)) shape last)
       steps inner kept)
@@ -79,20 +78,20 @@ module _ (piece : Piece) (left right : PatternTree) (x : Instance)
     (old_told told told' new_told : List ZoneBounds)
     (is other old_rest rest rest' new_rest : MarkTree)
     (shape : (others : MarkTree) → instance_before x others
-    ≡ intersection_one x.from x.to x.outer (mark_of x.left.value) other others) where
+    ≡ intersection_one x.to x.outer (mark_of x.left.value) other others) where
   pub both_goes_on : IsWellAt piece.begin is (intersection left right)
       → IsWellAt piece.begin (instance_before x intersection_none) (intersection left right)
       → StepsTo is (intersection left right) piece old_told old_rest
       → StepsTo (mark_of x.left.value) left piece told rest
       → StepsTo other right piece told' rest'
-      → KeepsBoth old_told old_rest x.from x.to x.outer told told' rest rest' new_told new_rest
+      → KeepsBoth old_told old_rest x.to x.outer told told' rest rest' new_told new_rest
       → StepsTo (join is (instance_before x intersection_none)) (intersection left right) piece
       new_told new_rest
   both_goes_on well last steps inner inner' kept =
       let one = mark_of x.left.value in
       subst (λ (m : MarkTree). StepsTo (join is m) (intersection left right) piece new_told
       new_rest) (sym (shape intersection_none))
-      (both_more piece left right x.from x.to x.outer old_told told told' new_told is one other
+      (both_more piece left right x.to x.outer old_told told told' new_told is one other
       old_rest rest rest' new_rest well
       (subst (λ (m : MarkTree). IsWellAt piece.begin m (intersection left right))
       (shape intersection_none) last)

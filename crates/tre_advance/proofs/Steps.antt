@@ -7,7 +7,7 @@ use Rattle.tre_pairs.proofs.Chains.{Composed-at}
 use Rattle.tre_pairs.proofs.Laws.{Agree}
 use Rattle.tre_pairs.proofs.Scaling.{moved}
 use Rattle.tre_pairs.proofs.Ticks.{le_down}
-use Rattle.tre_residual.specs.Residual.{Held}
+use Rattle.tre_zone.specs.Held.{Held, IsSetOf}
 use Rattle.tre_syntax.specs.Meaning.{MatchesRest}
 use Rattle.tre_syntax.specs.PatternTree.{PatternTree}
 use Rattle.tre_syntax.specs.Rest.{Rest}
@@ -25,9 +25,9 @@ use Rattle.tre_mark.proofs.Meanings.{around_present}
 use Rattle.tre_edges.specs.Piece.{end_of_piece}
 use Rattle.tre_advance.specs.Advance.{GoesOver, MarkedBehind, Advances}
 use Rattle.tre_advance.specs.Moves.{StepsTo, EntersTo, Begins}
-use Rattle.tre_advance.specs.Sets.{IsSetOf}
 use Rattle.tre_advance.proofs.Crossings.{cross_either}
-use Rattle.tre_advance.proofs.Going.{over, alone, behind, begin_le, mark_ends, ends_composed, tree_ends}
+use Rattle.tre_mark.proofs.Growth.{mark_ends, ends_composed, tree_ends}
+use Rattle.tre_advance.proofs.Going.{over, alone, behind, begin_le}
 use Rattle.tre_advance.proofs.SetsOf.{exact_set}
 
 -- Told are the pairs of a relation over the piece, and what is left are those of the same over more

@@ -12,7 +12,7 @@ use Rattle.tre_syntax.specs.PatternTree.{PatternTree}
 use Rattle.tre_syntax.specs.Rest.{Rest}
 use Rattle.tre_edges.specs.Piece.{end_of_piece, cut_behind}
 use Rattle.tre_edges.specs.declared.piece.Piece.{Piece}
-use Rattle.tre_residual.specs.Residual.{Held}
+use Rattle.tre_zone.specs.Held.{Held}
 use Rattle.tre_mark.specs.MarkTree.{MarkTree}
 use Rattle.tre_mark.specs.Marked.{Marked, EndBetween, IsWellAt}
 

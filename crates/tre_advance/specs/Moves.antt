@@ -2,7 +2,7 @@
 use Rattle.std.specs.Prelude.{◌≡◌, ℕ, ◌<◌, ◌↔◌, List, []}
 use Rattle.tre_pairs.specs.Cuts.{Crossing}
 use Rattle.tre_pairs.specs.Pairs.{Composed, Either, Both}
-use Rattle.tre_residual.specs.Residual.{Held}
+use Rattle.tre_zone.specs.Held.{Held, IsSetOf}
 use Rattle.tre_zone.specs.Zone.{EndsAt}
 use Rattle.tre_zone.specs.declared.zone_bounds.ZoneBounds.{ZoneBounds}
 use Rattle.tre_trace.specs.Trace.{AreLong}
@@ -14,7 +14,6 @@ use Rattle.tre_edges.specs.declared.piece.Piece.{Piece}
 use Rattle.tre_mark.specs.MarkTree.{MarkTree, repetition_mark}
 use Rattle.tre_mark.specs.Marked.{Marked, EndBetween, IsWellAt}
 use Rattle.tre_edges.specs.Piece.{end_of_piece, cut_behind}
-use Rattle.tre_advance.specs.Sets.{IsSetOf}
 
 -- The mark went over the piece, and nothing entered.
 pub record StepsTo (mark : MarkTree) (tree : PatternTree) (piece : Piece) (told : List ZoneBounds)

@@ -1,8 +1,9 @@
 // What enters a mark in a piece.
-ghost use Rattle.std.specs.Prelude.{◌≡◌, ◌⊎◌, [], IfOk};
+ghost use Rattle.std.specs.Prelude.{◌≡◌, ◌≤◌, ◌⊎◌, [], IfOk};
 ghost use Rattle.tre_state.specs.declared.names.TheConstants.{NAMES_MAX};
 ghost use Rattle.tre_syntax.specs.Expr.{tree_of};
 ghost use Rattle.tre_syntax.specs.PatternTree.{PatternTree, NumbersBelow, sequence, alternation, intersection, repetition, restriction};
+ghost use Rattle.tre_zone.specs.Held.{IsLatest};
 ghost use Rattle.tre_zone.specs.Zone.{IsInstantBetween};
 ghost use Rattle.tre_zone.specs.ZoneList.{HoldExactly};
 ghost use Rattle.tre_mark.specs.MarkTree.{mark_of, intersection_none, restriction_none, instances_before};
@@ -18,7 +19,7 @@ use std::alloc::{AllocError, Global};
 use tre_edges::Piece;
 use tre_mark::{Instances, Mark, moments};
 use tre_syntax::Expr;
-use tre_zone::Interval;
+use tre_zone::{Interval, latest_end};
 use tre_zoneset::ZoneSet;
 
 /// What is told of the pairs that enter in the piece, and the mark at its end together with them.
@@ -242,6 +243,15 @@ fn unbegun(alloc: Global, expr: &Expr, piece: &Piece) -> Result<Mark, AllocError
     Mark::empty(alloc, expr)
 }
 
+// The first tick by which each pair that enters in the piece has ended.
+fn entered_by(zones: &ZoneSet, piece: &Piece) -> u64
+    requires { EndBetween piece.now.begin (end_of_piece piece.now) zones.now }
+    ensures latest { IsLatest result zones.now }
+    ensures past { result ≤ end_of_piece piece.now }
+{
+    latest_end(zones.zones())
+}
+
 // A restriction that begins behind each pair of the set.
 fn enter_lasting(
     alloc: Global,
@@ -261,11 +271,12 @@ fn enter_lasting(
         (restriction tree interval.now) zones.now piece.now r.told (mark_of r.rest)) }
 {
     let end = piece.begin + piece.segment.len;
+    let to = entered_by(zones, piece);
     let kept = Kept {
         told: Vec::new(alloc),
         rest: instances,
     };
-    let kept = keep_lasting(alloc, kept, piece.begin, end, zones, begun, interval, end)?;
+    let kept = keep_lasting(alloc, kept, to, zones, begun, interval, end)?;
     let told = united(alloc, kept.told)?;
     Ok(Advanced {
         told,
@@ -292,12 +303,12 @@ fn enter_both(
         → EntersTo (instances_before instances intersection_none) (intersection left right)
         zones.now piece.now r.told (mark_of r.rest)) }
 {
-    let end = piece.begin + piece.segment.len;
+    let to = entered_by(zones, piece);
     let kept = Kept {
         told: Vec::new(alloc),
         rest: instances,
     };
-    let kept = keep_both(alloc, kept, piece.begin, end, zones, one, other)?;
+    let kept = keep_both(alloc, kept, to, zones, one, other)?;
     let told = united(alloc, kept.told)?;
     Ok(Advanced {
         told,

@@ -3,10 +3,9 @@ ghost use Rattle.std.specs.Prelude.{◌≡◌, ◌≤◌, ◌↔◌, IfOk, IsTru
 ghost use Rattle.tre_pairs.specs.Pairs.{Composed, Either, Both, Lasting};
 ghost use Rattle.tre_pairs.specs.declared.TheConstants.{TIME_MAX};
 ghost use Rattle.tre_zone.specs.Interval.{LastsWithin};
-ghost use Rattle.tre_residual.specs.Residual.{Held};
+ghost use Rattle.tre_zone.specs.Held.{Held, IsSetOf};
 ghost use Rattle.tre_mark.specs.MarkTree.{mark_of, intersection_none, intersection_one, restriction_none, restriction_one, instances_before};
 ghost use Rattle.tre_advance.specs.Instances.{join, IsPast, KeepsLasting, KeepsBoth};
-ghost use Rattle.tre_advance.specs.Sets.{IsSetOf};
 
 use crate::sets::{followed, gathered, met, within};
 use crate::stepping::Advanced;
@@ -28,7 +27,6 @@ pub struct Kept {
 pub fn keep_lasting(
     alloc: Global,
     kept: Kept,
-    from: u64,
     to: u64,
     outer: &ZoneSet,
     next: Advanced,
@@ -37,7 +35,7 @@ pub fn keep_lasting(
 ) -> Result<Kept, AllocError>
     requires { to ≤ TIME_MAX }
     ensures { IfOk result (λ new. KeepsLasting interval.now time kept.told.items
-        (instances_before kept.rest restriction_none) from to outer.now next.told
+        (instances_before kept.rest restriction_none) to outer.now next.told
         (mark_of next.rest) new.told.items (instances_before new.rest restriction_none)) }
 {
     let told = tell_lasting(alloc, kept.told, outer, &next.told, interval)?;
@@ -47,7 +45,7 @@ pub fn keep_lasting(
             rest: kept.rest,
         });
     }
-    let rest = push_lasting(alloc, kept.rest, from, to, outer, next.rest)?;
+    let rest = push_lasting(alloc, kept.rest, to, outer, next.rest)?;
     Ok(Kept { told, rest })
 }
 
@@ -55,14 +53,13 @@ pub fn keep_lasting(
 pub fn keep_both(
     alloc: Global,
     kept: Kept,
-    from: u64,
     to: u64,
     outer: &ZoneSet,
     one: Advanced,
     other: Advanced,
 ) -> Result<Kept, AllocError>
     ensures { IfOk result (λ new. KeepsBoth kept.told.items
-        (instances_before kept.rest intersection_none) from to outer.now one.told other.told
+        (instances_before kept.rest intersection_none) to outer.now one.told other.told
         (mark_of one.rest) (mark_of other.rest) new.told.items
         (instances_before new.rest intersection_none)) }
 {
@@ -73,7 +70,7 @@ pub fn keep_both(
             rest: kept.rest,
         });
     }
-    let rest = push_both(alloc, kept.rest, from, to, outer, one.rest, other.rest)?;
+    let rest = push_both(alloc, kept.rest, to, outer, one.rest, other.rest)?;
     Ok(Kept { told, rest })
 }
 
@@ -124,17 +121,16 @@ fn is_past(to: u64, interval: &Interval, time: u64) -> bool
 fn push_lasting(
     alloc: Global,
     instances: Instances,
-    from: u64,
     to: u64,
     outer: &ZoneSet,
     body: Mark,
 ) -> Result<Instances, AllocError>
     ensures { IfOk result (λ new. instances_before new restriction_none
         ≡ join (instances_before instances restriction_none)
-        (restriction_one from to outer.now (mark_of body) restriction_none)) }
+        (restriction_one to outer.now (mark_of body) restriction_none)) }
 {
     let outer = outer.try_clone()?;
-    let instance = lasting(alloc, from, to, outer, body)?;
+    let instance = lasting(alloc, to, outer, body)?;
     let mut instances = instances;
     instances.push(instance)?;
     Ok(instances)
@@ -144,7 +140,6 @@ fn push_lasting(
 fn push_both(
     alloc: Global,
     instances: Instances,
-    from: u64,
     to: u64,
     outer: &ZoneSet,
     left: Mark,
@@ -152,10 +147,10 @@ fn push_both(
 ) -> Result<Instances, AllocError>
     ensures { IfOk result (λ new. instances_before new intersection_none
         ≡ join (instances_before instances intersection_none)
-        (intersection_one from to outer.now (mark_of left) (mark_of right) intersection_none)) }
+        (intersection_one to outer.now (mark_of left) (mark_of right) intersection_none)) }
 {
     let outer = outer.try_clone()?;
-    let instance = both(alloc, from, to, outer, left, right)?;
+    let instance = both(alloc, to, outer, left, right)?;
     let mut instances = instances;
     instances.push(instance)?;
     Ok(instances)

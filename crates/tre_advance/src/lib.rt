@@ -19,8 +19,6 @@ mod instances;
 mod sets;
 mod step;
 mod stepping;
-#[cfg(test)]
-mod tests;
 
 pub use advancing::advance;
 pub use stepping::Advanced;

@@ -3,14 +3,12 @@ ghost use Rattle.std.specs.Prelude.{◌≤◌, IfOk};
 ghost use Rattle.tre_pairs.specs.Pairs.{Composed, Either, Both, Lasting, Chain};
 ghost use Rattle.tre_pairs.specs.declared.TheConstants.{TIME_MAX};
 ghost use Rattle.tre_mark.specs.Marked.{EndBetween};
-ghost use Rattle.tre_residual.specs.Residual.{Held};
+ghost use Rattle.tre_zone.specs.Held.{Held, IsSetOf};
 ghost use Rattle.tre_zone.specs.Interval.{LastsWithin};
 ghost use Rattle.tre_zone.specs.Zone.{IsInstantBetween, EndsAt};
-ghost use Rattle.tre_advance.specs.Sets.{IsSetOf};
 
 use std::alloc::{AllocError, Global};
-use tre_star::closure::closure;
-use tre_star::compose_sets::compose_sets;
+use tre_star::{closure, compose_sets};
 use tre_zone::{Interval, Zone};
 use tre_zoneset::ZoneSet;
 

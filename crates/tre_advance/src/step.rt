@@ -259,16 +259,7 @@ fn go_on_lasting(
 {
     let end = piece.begin + piece.segment.len;
     let outer = &instance.outer;
-    keep_lasting(
-        alloc,
-        kept,
-        instance.from,
-        instance.to,
-        outer,
-        next,
-        interval,
-        end,
-    )
+    keep_lasting(alloc, kept, instance.to, outer, next, interval, end)
 }
 
 // The mark of what an instance restricts.
@@ -297,7 +288,7 @@ fn right_of<'a>(instance: &'a Instance, left: &Expr, right: &Expr, piece: &Piece
     requires { IsWellAt piece.now.begin (instance_before instance.now intersection_none)
         (intersection (tree_of left.now) (tree_of right.now)) }
     ensures shape { (others : MarkTree) → instance_before instance.now others
-        ≡ intersection_one instance.now.from instance.now.to instance.now.outer
+        ≡ intersection_one instance.now.to instance.now.outer
         (mark_of instance.now.left.value) (mark_of result.now) others }
     ensures well { IsWellAt piece.now.begin (mark_of result.now) (tree_of right.now) }
 {
@@ -320,7 +311,7 @@ fn go_on_both(
         → IsWellAt piece.begin (instance_before instance.now intersection_none)
         (intersection left right)
         → ((others : MarkTree) → instance_before instance.now others
-        ≡ intersection_one instance.now.from instance.now.to instance.now.outer
+        ≡ intersection_one instance.now.to instance.now.outer
         (mark_of instance.now.left.value) other others)
         → StepsTo is (intersection left right) piece kept.told.items
         (instances_before kept.rest intersection_none)
@@ -331,13 +322,5 @@ fn go_on_both(
         (instances_before new.rest intersection_none)) }
 {
     let outer = &instance.outer;
-    keep_both(
-        alloc,
-        kept,
-        instance.from,
-        instance.to,
-        outer,
-        first,
-        second,
-    )
+    keep_both(alloc, kept, instance.to, outer, first, second)
 }

@@ -8,12 +8,11 @@ ghost use Rattle.tre_syntax.specs.Meaning.{MatchesRest};
 ghost use Rattle.tre_syntax.specs.PatternTree.{PatternTree, NumbersBelow, sequence, alternation, repetition};
 ghost use Rattle.tre_zone.specs.declared.zone_bounds.ZoneBounds.{ZoneBounds};
 ghost use Rattle.tre_edges.specs.declared.piece.Piece.{Piece};
-ghost use Rattle.tre_residual.specs.Residual.{Held, EndAt};
+ghost use Rattle.tre_zone.specs.Held.{Held, EndAt, IsSetOf};
 ghost use Rattle.tre_mark.specs.MarkTree.{MarkTree, mark_of, sequence_mark, alternation_mark};
 ghost use Rattle.tre_mark.specs.Marked.{EndBetween};
 ghost use Rattle.tre_edges.specs.Piece.{end_of_piece, cut_behind};
 ghost use Rattle.tre_advance.specs.Moves.{StepsTo, EntersTo, KeepsHere};
-ghost use Rattle.tre_advance.specs.Sets.{IsSetOf};
 
 use crate::sets::{ending_at, joined, repeated};
 use std::alloc::{AllocError, Global};

@@ -20,9 +20,6 @@ ghost use Rattle.tre_compose.specs.Composition.{HasHalfway, Touch, composed_of};
 
 use tre_zone::{Bound, Zone, ZoneBounds};
 
-#[cfg(test)]
-mod tests;
-
 /// The pairs `(t,t')` for which some `m` has `(t,m)` in `first` and `(m,t')` in `second`, None
 /// where there is none.
 pub fn compose(first: &Zone, second: &Zone) -> Option<Zone>

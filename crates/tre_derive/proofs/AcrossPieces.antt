@@ -23,7 +23,8 @@ use Rattle.tre_syntax.proofs.AtomCuts.{crossing_empty, crossing_edge, crossing_l
 use Rattle.tre_syntax.proofs.CutMeaning.{IsOrdered-rest, crossing_sequence, crossing_repetition}
 use Rattle.tre_edges.specs.Piece.{rest_of_piece, end_of_piece, cut_behind}
 use Rattle.tre_edges.specs.declared.piece.Piece.{Piece}
-use Rattle.tre_residual.specs.Residual.{ResidualTree, here, joined, followed, either, both, lasting, Held, Builds}
+use Rattle.tre_zone.specs.Held.{Held}
+use Rattle.tre_residual.specs.Residual.{ResidualTree, here, joined, followed, either, both, lasting, Builds}
 use Rattle.tre_derive.specs.Derivative.{IsFresh, ComesAfter}
 use Rattle.tre_derive.proofs.Held.{Agree-self, Agree-sym, Agree-held, IsOrdered-Moment, held_ending, held_either}
 use Rattle.tre_derive.proofs.Standing.{stands_for, stands_built, stands_here, stands_joined, stands_followed, stands_either, stands_both, stands_lasting, stands_after}

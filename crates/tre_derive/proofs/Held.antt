@@ -11,8 +11,9 @@ use Rattle.tre_pairs.proofs.Shortening.{Agree-trans}
 use Rattle.tre_zone.specs.Zone.{EndsAt}
 use Rattle.tre_zone.specs.ZoneList.{SetHolds, HoldExactly}
 use Rattle.tre_zone.specs.declared.zone_bounds.ZoneBounds.{ZoneBounds}
-use Rattle.tre_residual.specs.Residual.{Held, IsComposition}
-use Rattle.tre_residual.proofs.HeldSets.{Scales-Held}
+use Rattle.tre_zone.specs.Held.{Held}
+use Rattle.tre_residual.specs.Residual.{IsComposition}
+use Rattle.tre_zone.proofs.HeldSets.{Scales-Held}
 
 pub Agree-self : (R : Pairs) → Agree R R
 Agree-self R = record { at = λ a b n some. ((λ h. h), (λ h. h)) }

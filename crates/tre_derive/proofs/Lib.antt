@@ -6,3 +6,4 @@ pub mod Standing
 -- and so what is fresh, and what a step makes of each form
 pub mod AcrossPieces
 pub mod StepsOfForms
+pub mod MarkSteps

@@ -15,7 +15,8 @@ use Rattle.tre_syntax.specs.PatternTree.{PatternTree, NumbersBelow}
 use Rattle.tre_syntax.proofs.CutMeaning.{IsOrdered-rest}
 use Rattle.tre_edges.specs.Piece.{rest_of_piece, end_of_piece, cut_behind}
 use Rattle.tre_edges.specs.declared.piece.Piece.{Piece}
-use Rattle.tre_residual.specs.Residual.{ResidualTree, nothing, here, joined, preceded, followed, either, both, lasting, Held, Means, EndAt, IsWell, Builds}
+use Rattle.tre_zone.specs.Held.{Held, EndAt}
+use Rattle.tre_residual.specs.Residual.{ResidualTree, nothing, here, joined, preceded, followed, either, both, lasting, Means, IsWell, Builds}
 use Rattle.tre_derive.specs.Derivative.{StandsBehind, ComesAfter}
 use Rattle.tre_derive.proofs.Held.{Agree-self, Agree-held}
 

@@ -22,7 +22,8 @@ use Rattle.tre_syntax.specs.PatternTree.{PatternTree, NumbersBelow}
 use Rattle.tre_syntax.proofs.CutMeaning.{IsOrdered-rest, Scales-rest, IsCut-Matches}
 use Rattle.tre_edges.specs.Piece.{rest_of_piece, end_of_piece, cut_behind}
 use Rattle.tre_edges.specs.declared.piece.Piece.{Piece}
-use Rattle.tre_residual.specs.Residual.{ResidualTree, nothing, here, joined, preceded, followed, either, both, lasting, Held, Means, EndAt, Builds, IsComposition}
+use Rattle.tre_zone.specs.Held.{Held, EndAt}
+use Rattle.tre_residual.specs.Residual.{ResidualTree, nothing, here, joined, preceded, followed, either, both, lasting, Means, Builds, IsComposition}
 use Rattle.tre_residual.proofs.Growth.{Means-grow, Means-early}
 use Rattle.tre_residual.proofs.Meanings.{IsOrdered-Means}
 use Rattle.tre_derive.specs.Derivative.{EndingFrom, IsFresh, StepsTo}

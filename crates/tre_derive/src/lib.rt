@@ -21,5 +21,3 @@ mod rows;
 mod sets;
 mod stepped;
 mod stepping;
-#[cfg(test)]
-mod tests;

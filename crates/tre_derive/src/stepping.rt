@@ -3,7 +3,7 @@ ghost use Rattle.std.specs.Prelude.{IfOk};
 ghost use Rattle.tre_residual.specs.Residual.{residual_tree, IsWellAt};
 ghost use Rattle.tre_derive.specs.Derivative.{StepsTo};
 
-use crate::forms::{begin_now, choose, follow, meet, precede, restrict};
+use crate::forms::{begin_now, choose, follow, go_on, meet, precede, restrict};
 use crate::stepped::Stepped;
 use std::alloc::{AllocError, Global};
 use tre_edges::Piece;
@@ -55,5 +55,6 @@ pub fn step(alloc: Global, residual: &Residual, piece: &Piece) -> Result<Stepped
             let inner = step(alloc, inner, piece)?;
             restrict(alloc, inner, interval)
         }
+        Residual::Mark(mark, expr) => go_on(alloc, mark, expr, piece),
     }
 }

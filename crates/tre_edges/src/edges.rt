@@ -15,7 +15,7 @@ use crate::next_place::next_place;
 use crate::truth_words::truth;
 use std::alloc::{AllocError, Global};
 use tre_state::{NAMES_MAX, State};
-use tre_trace::Trace;
+use tre_trace::{Start, Trace};
 use tre_zone::Zone;
 use tre_zoneset::ZoneSet;
 
@@ -54,12 +54,15 @@ fn changes(
     let words = truth(alloc, state, trace)?;
     let count = trace.segments().len();
     let mut zones = ZoneSet::new(alloc);
-    // All edges before the place `at` are in, and the one there is none.
+    // All edges before the place `at` are in, and the one there is none. Times were added up as far
+    // as `seen`.
     let mut at = 0;
+    let mut seen = Start { place: 0, time: 0 };
     while at < count {
         let other = next_place(&words, !becomes, at, count);
         let turn = next_place(&words, becomes, other, count);
-        add_edge(&mut zones, trace.start_of(turn), turn < count)?;
+        seen = trace.start_from(seen, turn);
+        add_edge(&mut zones, seen.time, turn < count)?;
         at = turn + 1;
     }
     Ok(zones)

@@ -1,10 +1,10 @@
 //! The atoms of a pattern over a trace, each as a set of zones.
 //!
-//! [`literal::literal`] holds exactly the stretches on which a state is true throughout, one zone
-//! for each longest run; [`rises`] and [`falls`] hold exactly the instants at which it changes, one
-//! zone each; [`moments::moments`] holds every moment. Their zones stand in the order of time.
-//! There is no edge at time 0, and none at the end of the trace. They are found in the words of
-//! [`truth`], which says where the state holds, 64 segments at a time.
+//! [`literal`] holds exactly the stretches on which a state is true throughout, one zone for each
+//! longest run; [`rises`] and [`falls`] hold exactly the instants at which it changes, one zone
+//! each; [`moments`] holds every moment. Their zones stand in the order of time. There is no edge
+//! at time 0, and none at the end of the trace. They are found in the words of [`truth`], which
+//! says where the state holds, 64 segments at a time.
 //!
 //! [`literal_in`], [`rise_in`], [`fall_in`] and [`moments_in`] are the same over one [`Piece`] of a
 //! trace: a segment with its begin and the valuation before it. Each gives one zone at most, and
@@ -19,17 +19,17 @@
 //! ```
 #![tactic(auto)]
 
+mod all_moments;
 mod edges;
 mod in_piece;
-pub mod literal;
-pub mod moments;
 mod next_place;
 mod piece;
-#[cfg(test)]
-mod tests;
+mod runs;
 mod truth_words;
 
+pub use all_moments::moments;
 pub use edges::{falls, rises};
 pub use in_piece::{fall_in, literal_in, moments_in, rise_in};
 pub use piece::Piece;
+pub use runs::literal;
 pub use truth_words::truth;

@@ -20,6 +20,4 @@ mod made_run;
 mod pattern;
 mod refusal;
 mod tally;
-#[cfg(test)]
-mod tests;
 mod told;

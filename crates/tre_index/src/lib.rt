@@ -15,6 +15,7 @@
 
 pub use row::{HasRow, Row};
 pub use row_index::RowIndex;
+pub use turn::{Stretch, are_in_turn, find_stretch};
 pub use zone_index::ZoneIndex;
 pub use zone_keys::{key_after, key_before, key_meeting};
 
@@ -22,7 +23,6 @@ mod level;
 mod row;
 mod row_index;
 mod search;
-#[cfg(test)]
-mod tests;
+mod turn;
 mod zone_index;
 mod zone_keys;

@@ -40,7 +40,7 @@ pub(crate) fn reaches(row: &Row, key: &Row) -> bool
     true
 }
 
-fn is_below(lane: i64, key: i64) -> bool
+pub(crate) fn is_below(lane: i64, key: i64) -> bool
     ensures { IsTrue result ↔ (lane <ℤ key) }
 {
     lane < key

@@ -93,11 +93,15 @@ impl<'a, R: Files + Input> Source for FileSource<'a, R> {
 
     ghost left = { λ source. source.left };
 
+    ghost found = { λ _. None };
+
     ghost opened = { λ source. source.opened };
 
     ghost sound = { λ _. false };
 
     ghost faults = { λ source. source.faults };
+
+    ghost found_told = { λ _ told. told };
 
     ghost told_together = { λ _. (λ told. told, λ told. told) };
 

@@ -22,8 +22,6 @@ mod put;
 mod sink;
 mod source;
 mod std_sink;
-#[cfg(test)]
-mod tests;
 
 pub use faults::Failed;
 pub use file_source::FileSource;

@@ -2,7 +2,7 @@
 ghost use Rattle.std.specs.Prelude.{◌≡◌, ◌<◌, ◌↔◌, ◌++◌, Some, IsTrue, IsOk, OnOk, OnErr, IfOk, length, min, take, drop, false, string_bytes, refl};
 ghost use Rattle.tre_io.specs.Calls.{is_next_failing};
 ghost use Rattle.tre_io.specs.Faults.{HasCause};
-ghost use Rattle.tre_io.specs.MemoryInput.{new_input, is_sound, CanOpen, after_open, after_read, after_failed_input};
+ghost use Rattle.tre_io.specs.MemoryInput.{new_input, is_sound, CanOpen, after_open, after_read, after_failed_open, after_failed_read};
 
 use crate::calls::Calls;
 use crate::faults::Failed;
@@ -18,6 +18,7 @@ pub struct MemSource {
     name: String,
     bytes: Vec<u8>,
     place: usize,
+    last_place: usize,
     opened: bool,
     most: usize,
     calls: Calls,
@@ -33,6 +34,7 @@ impl Model for MemSource {
       name = string_bytes source.name;
       bytes = source.bytes.items;
       left = drop source.place source.bytes.items;
+      found = drop source.last_place source.bytes.items;
       opened = source.opened;
       most = source.most;
       calls = source.calls;
@@ -53,6 +55,7 @@ impl MemSource {
             name,
             bytes,
             place: 0,
+            last_place: 0,
             opened: false,
             most,
             calls: Calls::new(fails),
@@ -67,11 +70,15 @@ impl Source for MemSource {
 
     ghost left = { λ source. Some source.left };
 
+    ghost found = { λ source. Some source.found };
+
     ghost opened = { λ source. source.opened };
 
     ghost sound = { is_sound };
 
     ghost faults = { λ source. source.calls.faults };
+
+    ghost found_told = { λ source told. told };
 
     ghost told_together = { λ source. (λ _. refl, λ _. refl) };
 
@@ -82,7 +89,7 @@ impl Source for MemSource {
         requires closed { self.old.opened ≡ false }
         ensures answer { IsOk result ↔ CanOpen self.old name.now }
         ensures ok { OnOk result (self.new ≡ after_open self.old) }
-        ensures err { OnErr result (self.new ≡ after_failed_input self.old) }
+        ensures err { OnErr result (self.new ≡ after_failed_open self.old) }
         ensures cause { HasCause self.old.calls.faults self.new.calls.faults result }
     {
         self.calls.begin()?;
@@ -90,6 +97,7 @@ impl Source for MemSource {
             return Err(self.calls.fail());
         }
         self.place = 0;
+        self.last_place = 0;
         self.opened = true;
         Ok(())
     }
@@ -106,9 +114,10 @@ impl Source for MemSource {
         ensures bytes { IfOk result (λ count.
             buffer.new ≡ take count self.old.left ++ drop count buffer.old) }
         ensures ok { IfOk result (λ count. self.new ≡ after_read self.old count) }
-        ensures err { OnErr result (self.new ≡ after_failed_input self.old) }
+        ensures err { OnErr result (self.new ≡ after_failed_read self.old) }
         ensures cause { HasCause self.old.calls.faults self.new.calls.faults result }
     {
+        self.last_place = self.place;
         self.calls.begin()?;
         let left = &self.bytes[self.place..];
         let count = self.most.min(buffer.len().min(left.len()));

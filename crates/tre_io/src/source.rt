@@ -20,6 +20,10 @@ pub trait Source {
     /// The bytes not yet read, where it tells them.
     ghost left: { Self → Option (List ℕ) };
 
+    /// The bytes that `read` found left when it was last called, where it tells them; those of the
+    /// whole file before the first call.
+    ghost found: { Self → Option (List ℕ) };
+
     /// An `open` has answered Ok.
     ghost opened: { Self → Bool };
 
@@ -36,6 +40,7 @@ pub trait Source {
         ensures opens { OnOk result (IsTrue (opened self.new)) }
         ensures by_name { OnOk result (IfSome (file_name self.old) (λ told. told ≡ name.now)) }
         ensures bytes { OnOk result (Keeps (file self.old) (left self.new)) }
+        ensures finds { OnOk result (Keeps (found self.new) (file self.old)) }
 
         // After a failure it stands where it stood.
         ensures opened_before { OnErr result (opened self.new ≡ opened self.old) }
@@ -57,6 +62,7 @@ pub trait Source {
 
         ensures within { ReadsAtMost result buffer.new }
         ensures bytes { ReadConsumes (left self.old) (left self.new) result buffer.new }
+        ensures finds { Keeps (found self.new) (left self.old) }
         ensures end { IfOk result (λ count.
             IfSome (left self.old) (λ left. (count ≡ 0) ↔ (left ≡ []))) }
         ensures cause { HasCause (faults self.old) (faults self.new) result }
@@ -66,6 +72,9 @@ pub trait Source {
         ensures same_name { file_name self.new ≡ file_name self.old }
         ensures same_file { file self.new ≡ file self.old }
         ensures same_sound { sound self.new ≡ sound self.old };
+
+    /// What the last read found is told where the file is.
+    ghost found_told: { (source : Self) → IsSome (file source) → IsSome (found source) };
 
     /// A name is told exactly where its bytes are.
     ghost told_together: { (source : Self) → IsSome (file_name source) ↔ IsSome (file source) };

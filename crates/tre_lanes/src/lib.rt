@@ -14,6 +14,4 @@ pub use rows::first_cover;
 pub use words::{and_into, not_into, or_into};
 
 mod rows;
-#[cfg(test)]
-mod tests;
 mod words;

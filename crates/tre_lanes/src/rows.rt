@@ -4,6 +4,10 @@ ghost use Rattle.tre_lanes.specs.Rows.{Reaches, FindsNext};
 use std::simd::prelude::*;
 
 /// The place of the first row that is at least the key in all eight lanes, None where no row is.
+///
+/// It looks at each of the rows, and at all lanes of each at once, so it serves lists of rows in no
+/// order of which the first lanes tell little. Those of zones do tell: an index over them compares
+/// lane by lane instead, and passes over most of them. So no run calls it.
 pub fn first_cover(rows: &[[i64; 8]], key: &[i64; 8]) -> Option<usize>
     ensures { FindsNext rows.now key.now 0 result }
 {

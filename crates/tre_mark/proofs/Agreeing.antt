@@ -7,8 +7,8 @@ use Rattle.tre_pairs.proofs.Agreement.{Agree-Composed}
 use Rattle.tre_pairs.proofs.Chains.{Composed-at, Composed-assoc}
 use Rattle.tre_pairs.proofs.Laws.{Scales, Agree}
 use Rattle.tre_pairs.proofs.Scaling.{moved}
-use Rattle.tre_residual.specs.Residual.{Held, EndAt}
-use Rattle.tre_residual.proofs.HeldSets.{Scales-Held}
+use Rattle.tre_zone.specs.Held.{Held, EndAt}
+use Rattle.tre_zone.proofs.HeldSets.{Scales-Held}
 use Rattle.tre_zone.specs.declared.zone_bounds.ZoneBounds.{ZoneBounds}
 
 pub agree_refl : (R : Pairs) → Agree R R

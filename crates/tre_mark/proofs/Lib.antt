@@ -4,6 +4,8 @@ pub mod Lists
 pub mod Agreeing
 -- what a mark means speaks of times
 pub mod Meanings
+-- what a mark means where the rest of a trace is cut
+pub mod Growth
 -- marks of which nothing has begun, and marks that start
 pub mod Starts
 -- results

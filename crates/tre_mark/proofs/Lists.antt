@@ -13,10 +13,10 @@ use Rattle.tre_zone.specs.declared.zone_bounds.ZoneBounds.{ZoneBounds}
 row_list : {m : _} (row : Row_of-Instance m) (end : MarkTree)
     → row_before row end ≡ list_before (items-the_row-Instance m row) end
 row_list end_of-Instance end = refl
-row_list (more_of-Instance from to outer box left None' row) end =
-    ap (restriction_one from to outer (mark_of left)) (row_list row end)
-row_list (more_of-Instance from to outer box left (Some' box' right) row) end =
-    ap (intersection_one from to outer (mark_of left) (mark_of right)) (row_list row end)
+row_list (more_of-Instance to outer box left None' row) end =
+    ap (restriction_one to outer (mark_of left)) (row_list row end)
+row_list (more_of-Instance to outer box left (Some' box' right) row) end =
+    ap (intersection_one to outer (mark_of left) (mark_of right)) (row_list row end)
 
 pub instances_list : (instances : Instances) (end : MarkTree)
     → instances_before instances end ≡ list_before (out-Instances instances).items.items end
@@ -47,15 +47,15 @@ list_more list i instance within is end =
 
 -- ---- nothing is left where the list is empty
 
-bare_behind : (right : Option (Box Mark Global)) (from to : ℕ) (outer : List ZoneBounds)
-    (left others : MarkTree) → IsBare (behind right from to outer left others) → ⊥
-bare_behind None from to outer left others bare = bare
-bare_behind (Some right) from to outer left others bare = bare
+bare_behind : (right : Option (Box Mark Global)) (to : ℕ) (outer : List ZoneBounds)
+    (left others : MarkTree) → IsBare (behind right to outer left others) → ⊥
+bare_behind None to outer left others bare = bare
+bare_behind (Some right) to outer left others bare = bare
 
 bare_none : (list : List Instance) (end : MarkTree) → IsBare (list_before list end) → list ≡ []
 bare_none [] end bare = refl
 bare_none (x ∷ list) end bare =
-    absurd (bare_behind x.right x.from x.to x.outer (mark_of x.left.value) (list_before list end)
+    absurd (bare_behind x.right x.to x.outer (mark_of x.left.value) (list_before list end)
     bare)
 
 pub bare_instances : (instances : Instances) (list : List Instance) (end mark : MarkTree)

@@ -8,9 +8,9 @@ use Rattle.tre_pairs.proofs.Laws.{Scales, IsOrdered}
 use Rattle.tre_pairs.proofs.Order.{IsOrdered-Either}
 use Rattle.tre_pairs.proofs.Scaling.{Scales-Composed, Scales-Either, Scales-Both, Scales-Lasting}
 use Rattle.tre_pairs.proofs.Ticks.{le_down, ge_down}
-use Rattle.tre_residual.specs.Residual.{Held}
-use Rattle.tre_residual.proofs.HeldSets.{Scales-Held, IsOrdered-Held}
-use Rattle.tre_residual.proofs.Meanings.{Scales-JoinedAt}
+use Rattle.tre_zone.specs.Held.{Held}
+use Rattle.tre_zone.proofs.HeldSets.{Scales-Held, IsOrdered-Held}
+use Rattle.tre_zone.proofs.JoinedPairs.{Scales-JoinedAt}
 use Rattle.tre_syntax.specs.Meaning.{MatchesRest}
 use Rattle.tre_syntax.specs.PatternTree.{Atom, PatternTree, empty, literal, rise, fall, atom, sequence, alternation, intersection, repetition, restriction}
 use Rattle.tre_syntax.specs.Rest.{Rest}
@@ -77,14 +77,14 @@ module _ (rest : Rest) where
       Scales-Either (JoinedAt T (Held here) R) (Composed (Marked rest body tree) R)
       (Scales-JoinedAt T (Held here) R (Scales-Held here) r)
       (Scales-Composed (Marked rest body tree) R (Scales-Marked body tree) r)
-  Scales-Marked (intersection_one from to outer one other others) (intersection left right) =
+  Scales-Marked (intersection_one to outer one other others) (intersection left right) =
       let R = Both (Marked rest one left) (Marked rest other right) in
       Scales-Either (Composed (Held outer) R) (Marked rest others (intersection left right))
       (Scales-Composed (Held outer) R (Scales-Held outer)
       (Scales-Both (Marked rest one left) (Marked rest other right) (Scales-Marked one left)
       (Scales-Marked other right)))
       (Scales-Marked others (intersection left right))
-  Scales-Marked (restriction_one from to outer one others) (restriction tree ends) =
+  Scales-Marked (restriction_one to outer one others) (restriction tree ends) =
       let R = Lasting (LastsWithin ends) (Marked rest one tree) in
       Scales-Either (Composed (Held outer) R) (Marked rest others (restriction tree ends))
       (Scales-Composed (Held outer) R (Scales-Held outer)
@@ -147,12 +147,12 @@ module _ (rest : Rest) where
       ⊎_elim
       (λ x. around_joined (Held here) R (IsOrdered-Held here) r a b n x)
       (λ x. around_composed (Marked rest body tree) R r a b n (around_present body tree) x) h
-  around_present (intersection_one from to outer one other others) (intersection left right)
+  around_present (intersection_one to outer one other others) (intersection left right)
       a b n h = ⊎_elim
       (λ x. around_behind (Held outer) (Both (Marked rest one left) (Marked rest other right))
       (IsOrdered-Held outer) a b n (λ a b n y. around_present one left a b n y.left) x)
       (λ x. around_present others (intersection left right) a b n x) h
-  around_present (restriction_one from to outer one others) (restriction tree ends) a b n h =
+  around_present (restriction_one to outer one others) (restriction tree ends) a b n h =
       ⊎_elim
       (λ x. around_behind (Held outer) (Lasting (LastsWithin ends) (Marked rest one tree))
       (IsOrdered-Held outer) a b n (λ a b n y. around_present one tree a b n y.related) x)

@@ -27,10 +27,10 @@ shaped time (alternation_mark one other) (alternation left right) well none =
 shaped time (repetition_mark here body) (repetition tree) well none =
     let inner = shaped time body tree well.1 none in
     omega (arith, inner)
-shaped time (intersection_one from to outer one other others) (intersection left right) well none =
+shaped time (intersection_one to outer one other others) (intersection left right) well none =
     absurd none
 shaped time intersection_none (intersection left right) well none = absurd none
-shaped time (restriction_one from to outer one others) (restriction tree ends) well none =
+shaped time (restriction_one to outer one others) (restriction tree ends) well none =
     absurd none
 shaped time restriction_none (restriction tree ends) well none = absurd none
 shaped time mark tree well none = absurd well

@@ -5,8 +5,8 @@ use Rattle.tre_pairs.specs.Cuts.{JoinedAt}
 use Rattle.tre_pairs.specs.Pairs.{Pairs, Composed, Both, Lasting}
 use Rattle.tre_pairs.proofs.Laws.{Scales, Agree}
 use Rattle.tre_pairs.proofs.Scaling.{moved, Scales-Composed, Scales-Both, Scales-Lasting}
-use Rattle.tre_residual.specs.Residual.{Held, EndAt}
-use Rattle.tre_residual.proofs.HeldSets.{Scales-Held, Held-empty}
+use Rattle.tre_zone.specs.Held.{Held, EndAt}
+use Rattle.tre_zone.proofs.HeldSets.{Scales-Held, Held-empty}
 use Rattle.tre_syntax.specs.Meaning.{MatchesRest}
 use Rattle.tre_syntax.specs.PatternTree.{Atom, PatternTree, empty, literal, rise, fall, atom, sequence, alternation, intersection, repetition, restriction}
 use Rattle.tre_syntax.specs.Rest.{Rest, rest_of}
@@ -15,11 +15,12 @@ use Rattle.tre_syntax.proofs.MeaningLaws.{DurationScales-LastsWithin}
 use Rattle.tre_trace.specs.declared.segment.Segment.{Segment}
 use Rattle.tre_zone.specs.Interval.{IntervalEnds, LastsWithin}
 use Rattle.tre_zone.specs.Zone.{IsInstantBetween}
-use Rattle.tre_zone.specs.ZoneList.{SetHolds, HoldExactly}
+use Rattle.tre_zone.specs.ZoneList.{SetHolds, AreTight, HoldExactly}
+use Rattle.tre_zone.proofs.LatestEnds.{latest_at}
 use Rattle.tre_zone.proofs.ZoneListLemmas.{SetHolds-empty}
 use Rattle.tre_zone.specs.declared.zone_bounds.ZoneBounds.{ZoneBounds}
 use Rattle.tre_mark.specs.MarkTree.{MarkTree, atom_mark, sequence_mark, alternation_mark, repetition_mark, intersection_none, intersection_one, restriction_none, restriction_one}
-use Rattle.tre_mark.specs.Marked.{Marked, IsBare, IsBegun, IsNothing, IsUnbegun, IsStart, IsEntered, IsInReach}
+use Rattle.tre_mark.specs.Marked.{Marked, IsBare, IsBegun, IsNothing, IsUnbegun, IsEntered, IsEnteredAt, IsInReach, IsStart}
 use Rattle.tre_mark.proofs.Agreeing.{agree_refl, agree_sym, agree_then, agree_composed, agree_assoc, joined_composed}
 
 pub end_at_none : (time : ℕ) → EndAt time []
@@ -88,9 +89,9 @@ bare_nothing (repetition_mark here body) bare =
     (sym (ap (λ list. repetition_mark list body) bare.0))
     (nothing_repetition body (bare_nothing body bare.1))
 bare_nothing intersection_none bare = nothing_intersection
-bare_nothing (intersection_one from to outer one other others) bare = absurd bare
+bare_nothing (intersection_one to outer one other others) bare = absurd bare
 bare_nothing restriction_none bare = nothing_restriction
-bare_nothing (restriction_one from to outer one others) bare = absurd bare
+bare_nothing (restriction_one to outer one others) bare = absurd bare
 
 begun_none : (time : ℕ) (x : Atom) → IsBegun time [] x
 begun_none time empty = refl
@@ -100,6 +101,7 @@ begun_none time (fall state) = refl
 
 pub unbegun_atom : (x : Atom) → IsUnbegun (atom_mark [] []) (atom x)
 unbegun_atom x = record {
+  bare = (refl, refl);
   nothing = nothing_atom;
   well = λ time. record { well = (end_at_none time, begun_none time x) };
 }
@@ -108,12 +110,14 @@ module _ (one other : MarkTree) (left right : PatternTree) (first : IsUnbegun on
     (second : IsUnbegun other right) where
   pub unbegun_sequence : IsUnbegun (sequence_mark one other) (sequence left right)
   unbegun_sequence = record {
+    bare = (first.bare, second.bare);
     nothing = nothing_sequence one other first.nothing second.nothing;
     well = λ time. record { well = ((first.well time).well, (second.well time).well) };
   }
 
   pub unbegun_alternation : IsUnbegun (alternation_mark one other) (alternation left right)
   unbegun_alternation = record {
+    bare = (first.bare, second.bare);
     nothing = nothing_alternation one other first.nothing second.nothing;
     well = λ time. record { well = ((first.well time).well, (second.well time).well) };
   }
@@ -121,11 +125,25 @@ module _ (one other : MarkTree) (left right : PatternTree) (first : IsUnbegun on
 pub unbegun_repetition : (body : MarkTree) (tree : PatternTree) → IsUnbegun body tree
     → IsUnbegun (repetition_mark [] body) (repetition tree)
 unbegun_repetition body tree inner = record {
+  bare = (refl, inner.bare);
   nothing = nothing_repetition body inner.nothing;
   well = λ time. record { well = (end_at_none time, (inner.well time).well) };
 }
 
 -- ---- marks that start
+
+-- What nothing is left of has no instance.
+bare_entered : (time : ℕ) (mark : MarkTree) → IsBare mark → IsEnteredAt time mark
+bare_entered time (atom_mark here begun) bare = tt
+bare_entered time (sequence_mark one other) bare =
+    (bare_entered time one bare.0, bare_entered time other bare.1)
+bare_entered time (alternation_mark one other) bare =
+    (bare_entered time one bare.0, bare_entered time other bare.1)
+bare_entered time (repetition_mark here body) bare = bare_entered time body bare.1
+bare_entered time intersection_none bare = tt
+bare_entered time (intersection_one to outer one other others) bare = absurd bare
+bare_entered time restriction_none bare = tt
+bare_entered time (restriction_one to outer one others) bare = absurd bare
 
 module _ (time : ℕ) (zones : List ZoneBounds) (ends : EndAt time zones) where
   pub start_atom : (x : Atom) → IsStart time zones (atom_mark zones []) (atom x)
@@ -135,6 +153,7 @@ module _ (time : ℕ) (zones : List ZoneBounds) (ends : EndAt time zones) where
       (λ h. inl h),
     );
     well = record { well = (ends, begun_none time x) };
+    entered = tt;
     some = λ filled bare. filled bare.0;
   }
 
@@ -161,6 +180,7 @@ module _ (time : ℕ) (zones : List ZoneBounds) (ends : EndAt time zones) where
           (λ h. inl (both.1 h)),
         );
     well = record { well = (first.well.well, (second.well time).well) };
+    entered = (first.entered, bare_entered time other second.bare);
     some = λ filled bare. first.some filled bare.0;
   }
 
@@ -179,6 +199,7 @@ module _ (time : ℕ) (zones : List ZoneBounds) (ends : EndAt time zones) where
               (λ x. inr (g.1 (record { left = h.left; right = x }))) h.right),
         );
     well = record { well = (first.well.well, second.well.well) };
+    entered = (first.entered, second.entered);
     some = λ filled bare. first.some filled bare.0;
   }
 
@@ -193,18 +214,15 @@ module _ (time : ℕ) (zones : List ZoneBounds) (ends : EndAt time zones) where
           (λ h. inl h),
         );
     well = record { well = (ends, (inner.well time).well) };
+    entered = bare_entered time body inner.bare;
     some = λ filled bare. filled bare.0;
   }
 
-  entered_now : (zones ≡ [] → ⊥) → IsEntered time time time zones
-  entered_now filled = record {
+  entered_now : AreTight zones → (zones ≡ [] → ⊥) → IsEntered time time zones
+  entered_now tight filled = record {
     some = filled;
-    rising = omega arith;
     past = omega arith;
-    ends = record {
-      begin = λ a b n some h. let e = ends.ends a b n some h in omega (arith, e);
-      end = λ a b n some h. let e = ends.ends a b n some h in omega (arith, e);
-    };
+    latest = latest_at time zones tight filled ends;
   }
 
   -- What follows the set at the time is what follows there from the moment of the time on.
@@ -247,6 +265,7 @@ start_nothing time zones mark tree none unbegun = record {
         (subst (λ (list : List ZoneBounds). Held list a (time * n) n) none h.left))),
   );
   well = unbegun.well time;
+  entered = bare_entered time mark unbegun.bare;
   some = λ filled bare. filled none;
 }
 
@@ -293,11 +312,12 @@ moment_some time moment held none =
     ((held.exact time time 1 (omega arith) (omega arith)).1
     (record { starts = omega arith; same = refl; ends = omega arith })))
 
-module _ (time : ℕ) (zones : List ZoneBounds) (filled : zones ≡ [] → ⊥) (ends : EndAt time zones)
+module _ (time : ℕ) (zones : List ZoneBounds) (tight : AreTight zones)
+    (filled : zones ≡ [] → ⊥) (ends : EndAt time zones)
     (moment : List ZoneBounds) (held : HoldExactly moment (IsInstantBetween time time)) where
   pub start_restriction : (body : MarkTree) (tree : PatternTree) (interval : IntervalEnds)
       → IsStart time moment body tree
-      → IsStart time zones (restriction_one time time zones body restriction_none)
+      → IsStart time zones (restriction_one time zones body restriction_none)
       (restriction tree interval)
   start_restriction body tree interval start = record {
     pairs = λ before segments a b n some.
@@ -320,19 +340,20 @@ module _ (time : ℕ) (zones : List ZoneBounds) (filled : zones ≡ [] → ⊥) 
         ((λ h. ⊎_elim (λ x. same.0 x) (λ x. absurd x) h), (λ h. inl (same.1 h)));
     well = record {
       well = (
-        entered_now time zones ends filled,
+        entered_now time zones ends tight filled,
         in_reach time interval,
         start.well.well,
         tt,
         start.some (moment_some time moment held),
       );
     };
+    entered = (refl, ends, start.entered, tt);
     some = λ filled bare. bare;
   }
 
   pub start_intersection : (one other : MarkTree) (left right : PatternTree)
       → IsStart time moment one left → IsStart time moment other right
-      → IsStart time zones (intersection_one time time zones one other intersection_none)
+      → IsStart time zones (intersection_one time zones one other intersection_none)
       (intersection left right)
   start_intersection one other left right first second = record {
     pairs = λ before segments a b n some.
@@ -355,7 +376,7 @@ module _ (time : ℕ) (zones : List ZoneBounds) (filled : zones ≡ [] → ⊥) 
         ((λ h. ⊎_elim (λ x. same.0 x) (λ x. absurd x) h), (λ h. inl (same.1 h)));
     well = record {
       well = (
-        entered_now time zones ends filled,
+        entered_now time zones ends tight filled,
         first.well.well,
         second.well.well,
         tt,
@@ -363,6 +384,7 @@ module _ (time : ℕ) (zones : List ZoneBounds) (filled : zones ≡ [] → ⊥) 
         second.some (moment_some time moment held),
       );
     };
+    entered = (refl, ends, first.entered, second.entered, tt);
     some = λ filled bare. bare;
   }
 

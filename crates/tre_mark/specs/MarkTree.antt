@@ -16,10 +16,9 @@ pub data MarkTree : Type 0 where
   alternation_mark : (left right : MarkTree) → MarkTree
   repetition_mark : (here : List ZoneBounds) (body : MarkTree) → MarkTree
   intersection_none : MarkTree
-  intersection_one : (from to : ℕ) (outer : List ZoneBounds) (left right others : MarkTree)
-      → MarkTree
+  intersection_one : (to : ℕ) (outer : List ZoneBounds) (left right others : MarkTree) → MarkTree
   restriction_none : MarkTree
-  restriction_one : (from to : ℕ) (outer : List ZoneBounds) (left others : MarkTree) → MarkTree
+  restriction_one : (to : ℕ) (outer : List ZoneBounds) (left others : MarkTree) → MarkTree
 
 -- The mark of the program as a tree, without its boxes. The instances stand before `end`.
 abbrev mutual
@@ -36,22 +35,22 @@ abbrev mutual
 
   pub row_before : {m : _} → Row_of-Instance m → MarkTree → MarkTree
   row_before end_of-Instance end = end
-  row_before (more_of-Instance from to outer box left right row) end =
-      right_before right from to outer (mark_of left) (row_before row end)
+  row_before (more_of-Instance to outer box left right row) end =
+      right_before right to outer (mark_of left) (row_before row end)
 
-  pub right_before : Held-Instance-right → ℕ → ℕ → List ZoneBounds → MarkTree → MarkTree → MarkTree
-  right_before None' from to outer left others = restriction_one from to outer left others
-  right_before (Some' box right) from to outer left others =
-      intersection_one from to outer left (mark_of right) others
+  pub right_before : Held-Instance-right → ℕ → List ZoneBounds → MarkTree → MarkTree → MarkTree
+  right_before None' to outer left others = restriction_one to outer left others
+  right_before (Some' box right) to outer left others =
+      intersection_one to outer left (mark_of right) others
 
 abbrev pub behind :
-    Option (Box Mark Global) → ℕ → ℕ → List ZoneBounds → MarkTree → MarkTree → MarkTree
-behind None from to outer left others = restriction_one from to outer left others
-behind (Some right) from to outer left others =
-    intersection_one from to outer left (mark_of right.value) others
+    Option (Box Mark Global) → ℕ → List ZoneBounds → MarkTree → MarkTree → MarkTree
+behind None to outer left others = restriction_one to outer left others
+behind (Some right) to outer left others =
+    intersection_one to outer left (mark_of right.value) others
 
 abbrev pub instance_before : Instance → MarkTree → MarkTree
-instance_before i others = behind i.right i.from i.to i.outer (mark_of i.left.value) others
+instance_before i others = behind i.right i.to i.outer (mark_of i.left.value) others
 
 -- The same of a list of instances.
 abbrev pub list_before : List Instance → MarkTree → MarkTree

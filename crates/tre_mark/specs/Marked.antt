@@ -2,7 +2,7 @@
 use Rattle.std.specs.Prelude.{◌≡◌, ℕ, ◌+◌, ◌*◌, ◌<◌, ◌≤◌, ◌↔◌, List, [], MatchOption, Option}
 use Rattle.tre_pairs.specs.Cuts.{IsMoment, JoinedAt}
 use Rattle.tre_pairs.specs.Pairs.{Pairs, Composed, Either, Both, Lasting}
-use Rattle.tre_residual.specs.Residual.{Held, EndAt}
+use Rattle.tre_zone.specs.Held.{Held, EndAt, IsLatest}
 use Rattle.tre_syntax.specs.Meaning.{MatchesRest}
 use Rattle.tre_syntax.specs.PatternTree.{Atom, PatternTree, empty, literal, rise, fall, atom, sequence, alternation, intersection, repetition, restriction}
 use Rattle.tre_syntax.specs.Rest.{Rest, rest_of}
@@ -33,10 +33,10 @@ Marked rest (alternation_mark one other) (alternation left right) a b n =
 Marked rest (repetition_mark here body) (repetition tree) a b n =
     Either (JoinedAt rest.start (Held here) (MatchesRest (repetition tree) rest))
     (Composed (Marked rest body tree) (MatchesRest (repetition tree) rest)) a b n
-Marked rest (intersection_one from to outer one other others) (intersection left right) a b n =
+Marked rest (intersection_one to outer one other others) (intersection left right) a b n =
     Either (Composed (Held outer) (Both (Marked rest one left) (Marked rest other right)))
     (Marked rest others (intersection left right)) a b n
-Marked rest (restriction_one from to outer one others) (restriction tree ends) a b n =
+Marked rest (restriction_one to outer one others) (restriction tree ends) a b n =
     Either (Composed (Held outer) (Lasting (LastsWithin ends) (Marked rest one tree)))
     (Marked rest others (restriction tree ends)) a b n
 Marked rest mark tree a b n = ⊥
@@ -46,12 +46,12 @@ pub record EndBetween (low high : ℕ) (zones : List ZoneBounds) : Type 0 where
   pub begin : (a b n : ℕ) → 0 < n → Held zones a b n → low * n ≤ b
   pub end : (a b n : ℕ) → 0 < n → Held zones a b n → b ≤ high * n
 
--- There are pairs in the set. Each ends from `from` to `to`, and that is not after the time.
-pub record IsEntered (time from to : ℕ) (outer : List ZoneBounds) : Type 0 where
+-- There are pairs in the set, and `to` is the first tick by which each of them has ended: that is
+-- not after the time.
+pub record IsEntered (time to : ℕ) (outer : List ZoneBounds) : Type 0 where
   pub some : outer ≡ [] → ⊥
-  pub rising : from ≤ to
   pub past : to ≤ time
-  pub ends : EndBetween from to outer
+  pub latest : IsLatest to outer
 
 -- What begins at `to` may still be in the interval where it ends at the time or later.
 abbrev pub IsInReach : ℕ → ℕ → IntervalEnds → Type 0
@@ -71,9 +71,9 @@ IsBare (sequence_mark one other) = IsBare one × IsBare other
 IsBare (alternation_mark one other) = IsBare one × IsBare other
 IsBare (repetition_mark here body) = (here ≡ []) × IsBare body
 IsBare intersection_none = Unit {0}
-IsBare (intersection_one from to outer one other others) = ⊥
+IsBare (intersection_one to outer one other others) = ⊥
 IsBare restriction_none = Unit {0}
-IsBare (restriction_one from to outer one others) = ⊥
+IsBare (restriction_one to outer one others) = ⊥
 
 -- The mark has the shape of the expression, each pair that is here or has begun ends at the time,
 -- and each instance was entered up to then, is not too old, and has something left of each of its
@@ -86,12 +86,12 @@ IsWell time (alternation_mark one other) (alternation left right) =
     IsWell time one left × IsWell time other right
 IsWell time (repetition_mark here body) (repetition tree) = EndAt time here × IsWell time body tree
 IsWell time intersection_none (intersection left right) = Unit {0}
-IsWell time (intersection_one from to outer one other others) (intersection left right) =
-    IsEntered time from to outer × IsWell time one left × IsWell time other right
+IsWell time (intersection_one to outer one other others) (intersection left right) =
+    IsEntered time to outer × IsWell time one left × IsWell time other right
     × IsWell time others (intersection left right) × (IsBare one → ⊥) × (IsBare other → ⊥)
 IsWell time restriction_none (restriction tree ends) = Unit {0}
-IsWell time (restriction_one from to outer one others) (restriction tree ends) =
-    IsEntered time from to outer × IsInReach time to ends × IsWell time one tree
+IsWell time (restriction_one to outer one others) (restriction tree ends) =
+    IsEntered time to outer × IsInReach time to ends × IsWell time one tree
     × IsWell time others (restriction tree ends) × (IsBare one → ⊥)
 IsWell time mark tree = ⊥
 
@@ -105,15 +105,32 @@ pub record IsNothing (mark : MarkTree) : Type 0 where
 
 -- The mark is one of the expression at every time, and nothing has begun.
 pub record IsUnbegun (mark : MarkTree) (tree : PatternTree) : Type 0 where
+  pub bare : IsBare mark
   pub nothing : IsNothing mark
   pub well : (time : ℕ) → IsWellAt time mark tree
 
+-- Each instance of the mark was entered at the time itself, behind pairs that end there.
+abbrev pub IsEnteredAt : ℕ → MarkTree → Type 0
+IsEnteredAt time (atom_mark here begun) = Unit {0}
+IsEnteredAt time (sequence_mark one other) = IsEnteredAt time one × IsEnteredAt time other
+IsEnteredAt time (alternation_mark one other) = IsEnteredAt time one × IsEnteredAt time other
+IsEnteredAt time (repetition_mark here body) = IsEnteredAt time body
+IsEnteredAt time intersection_none = Unit {0}
+IsEnteredAt time (intersection_one to outer one other others) =
+    (to ≡ time) × EndAt time outer × IsEnteredAt time one × IsEnteredAt time other
+    × IsEnteredAt time others
+IsEnteredAt time restriction_none = Unit {0}
+IsEnteredAt time (restriction_one to outer one others) =
+    (to ≡ time) × EndAt time outer × IsEnteredAt time one × IsEnteredAt time others
+
 -- The mark stands for a pair of the set up to the time, and then a match of what comes, and is well
--- there. Where there are pairs, something is left of it.
+-- there, each of its instances entered at that time. Where there are pairs, something is left of
+-- it.
 pub record IsStart (time : ℕ) (zones : List ZoneBounds) (mark : MarkTree) (tree : PatternTree)
     : Type 0 where
   pub pairs : (before : Option ℕ) (segments : List Segment) (a b n : ℕ) → 0 < n
       → Marked (rest_of time before segments) mark tree a b n
       ↔ JoinedAt time (Held zones) (MatchesRest tree (rest_of time before segments)) a b n
   pub well : IsWellAt time mark tree
+  pub entered : IsEnteredAt time mark
   pub some : (zones ≡ [] → ⊥) → IsBare mark → ⊥

@@ -10,10 +10,10 @@ mark_node_count (sequence_mark one other) = 1 + mark_node_count one + mark_node_
 mark_node_count (alternation_mark one other) = 1 + mark_node_count one + mark_node_count other
 mark_node_count (repetition_mark here body) = 1 + mark_node_count body
 mark_node_count intersection_none = 1
-mark_node_count (intersection_one from to outer one other others) =
+mark_node_count (intersection_one to outer one other others) =
     mark_node_count one + mark_node_count other + mark_node_count others
 mark_node_count restriction_none = 1
-mark_node_count (restriction_one from to outer one others) =
+mark_node_count (restriction_one to outer one others) =
     mark_node_count one + mark_node_count others
 
 -- How many forms an expression is made of, where each atom is one.

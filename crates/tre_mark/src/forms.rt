@@ -46,19 +46,17 @@ pub fn repetition(alloc: Global, here: ZoneSet, body: Mark) -> Result<Mark, Allo
 /// An instance of an intersection.
 pub fn both(
     alloc: Global,
-    from: u64,
     to: u64,
     outer: ZoneSet,
     left: Mark,
     right: Mark,
 ) -> Result<Instance, AllocError>
     ensures { IfOk result (λ instance. (others : MarkTree) → instance_before instance others
-        ≡ intersection_one from to outer (mark_of left) (mark_of right) others) }
+        ≡ intersection_one to outer (mark_of left) (mark_of right) others) }
 {
     let left = Box::new(alloc, left)?;
     let right = Box::new(alloc, right)?;
     Ok(Instance {
-        from,
         to,
         outer,
         left,
@@ -67,19 +65,12 @@ pub fn both(
 }
 
 /// An instance of a restriction.
-pub fn lasting(
-    alloc: Global,
-    from: u64,
-    to: u64,
-    outer: ZoneSet,
-    body: Mark,
-) -> Result<Instance, AllocError>
+pub fn lasting(alloc: Global, to: u64, outer: ZoneSet, body: Mark) -> Result<Instance, AllocError>
     ensures { IfOk result (λ instance. (others : MarkTree) → instance_before instance others
-        ≡ restriction_one from to outer (mark_of body) others) }
+        ≡ restriction_one to outer (mark_of body) others) }
 {
     let left = Box::new(alloc, body)?;
     Ok(Instance {
-        from,
         to,
         outer,
         left,

@@ -16,21 +16,21 @@ pub fn both_at(
     right: Mark,
 ) -> Result<Mark, AllocError>
     ensures { IfOk result (λ mark. mark_of mark
-        ≡ intersection_one time time zones.now (mark_of left) (mark_of right) intersection_none) }
+        ≡ intersection_one time zones.now (mark_of left) (mark_of right) intersection_none) }
 {
     let outer = zones.try_clone()?;
     let mut instances = Instances::new(alloc);
-    instances.push(both(alloc, time, time, outer, left, right)?)?;
+    instances.push(both(alloc, time, outer, left, right)?)?;
     Ok(Mark::Meet(instances))
 }
 
 /// The mark of a restriction with one instance.
 pub fn lasting_at(alloc: Global, zones: &ZoneSet, time: u64, body: Mark) -> Result<Mark, AllocError>
     ensures { IfOk result (λ mark. mark_of mark
-        ≡ restriction_one time time zones.now (mark_of body) restriction_none) }
+        ≡ restriction_one time zones.now (mark_of body) restriction_none) }
 {
     let outer = zones.try_clone()?;
     let mut instances = Instances::new(alloc);
-    instances.push(lasting(alloc, time, time, outer, body)?)?;
+    instances.push(lasting(alloc, time, outer, body)?)?;
     Ok(Mark::Within(instances))
 }

@@ -20,8 +20,6 @@ pub mod laws;
 mod mark;
 mod nothing;
 mod start;
-#[cfg(test)]
-mod tests;
 
 pub use forms::{alternation, atom, both, lasting, moments, repetition, sequence};
 pub use mark::{Instance, Instances, Mark};

@@ -32,13 +32,13 @@ pub struct Instances {
     items: Vec<Instance>,
 }
 
-/// What began in one stretch of time, `from` to `to`, in ticks.
+/// What began in one stretch of time.
 #[derive(Debug, Drop)]
 #[cycle(mark)]
 pub struct Instance {
-    pub from: u64,
+    /// The first tick by which each pair of `outer` has ended.
     pub to: u64,
-    /// The pairs behind which it began, one at least. Each ends from `from` to `to`.
+    /// The pairs behind which it began, one at least.
     pub outer: ZoneSet,
     /// How far it has come: of a restriction what is restricted, of an intersection its left side.
     pub left: Box<Mark>,

@@ -1,6 +1,6 @@
 ghost use Rattle.std.specs.Prelude.{ℕ, ◌≤◌, IfOk};
 ghost use Rattle.tre_pairs.specs.declared.TheConstants.{TIME_MAX};
-ghost use Rattle.tre_residual.specs.Residual.{EndAt};
+ghost use Rattle.tre_zone.specs.Held.{EndAt};
 ghost use Rattle.tre_syntax.specs.Expr.{tree_of};
 ghost use Rattle.tre_syntax.specs.PatternTree.{Atom, atom};
 ghost use Rattle.tre_mark.specs.MarkTree.{mark_of};
@@ -48,12 +48,16 @@ impl Mark {
                 repetition(alloc, here, body)
             }
             Expr::Meet(left, right) => {
+                // For the proof: the call says that each zone holds a pair.
+                let _zones = zones.zones();
                 let moment = moments(alloc, time, time)?;
                 let left = Mark::start(alloc, left, &moment, time)?;
                 let right = Mark::start(alloc, right, &moment, time)?;
                 both_at(alloc, zones, time, left, right)
             }
             Expr::Within(body, _) => {
+                // For the proof: the call says that each zone holds a pair.
+                let _zones = zones.zones();
                 let moment = moments(alloc, time, time)?;
                 let body = Mark::start(alloc, body, &moment, time)?;
                 lasting_at(alloc, zones, time, body)

@@ -12,9 +12,7 @@ ghost use Rattle.tre_zone.specs.ZoneList.{HoldExactly};
 ghost use Rattle.tre_edges.specs.Piece.{rest_of_piece};
 
 use std::alloc::{AllocError, Global};
-use tre_edges::literal::literal;
-use tre_edges::moments::moments;
-use tre_edges::{Piece, fall_in, falls, literal_in, moments_in, rise_in, rises};
+use tre_edges::{Piece, fall_in, falls, literal, literal_in, moments, moments_in, rise_in, rises};
 use tre_state::{NAMES_MAX, State};
 use tre_trace::Trace;
 use tre_zone::Zone;

@@ -18,5 +18,3 @@ pub use matching::{local, matches};
 mod atoms;
 mod matching;
 mod operators;
-#[cfg(test)]
-mod tests;

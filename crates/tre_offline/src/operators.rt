@@ -12,8 +12,7 @@ ghost use Rattle.tre_zone.specs.Longest.{LastsUpTo, IsLongest};
 ghost use Rattle.tre_zone.specs.ZoneList.{HoldExactly};
 
 use std::alloc::{AllocError, Global};
-use tre_star::closure::closure_up_to;
-use tre_star::compose_sets::compose_sets_up_to;
+use tre_star::{closure_up_to, compose_sets_up_to};
 use tre_zone::Interval;
 use tre_zoneset::ZoneSet;
 

@@ -7,7 +7,7 @@ use Rattle.tre_pairs.proofs.Chains.{Composed-at}
 use Rattle.tre_pairs.proofs.CutLaws.{cut_parts}
 use Rattle.tre_edges.specs.Piece.{end_of_piece}
 use Rattle.tre_edges.specs.declared.piece.Piece.{Piece}
-use Rattle.tre_residual.specs.Residual.{Held}
+use Rattle.tre_zone.specs.Held.{Held}
 use Rattle.tre_syntax.specs.Cut.{last_of, MatchesBehind, MatchesAcross}
 use Rattle.tre_syntax.specs.Meaning.{Matches, MatchesRest}
 use Rattle.tre_syntax.specs.Pattern.{pattern_tree}

@@ -3,14 +3,14 @@ use Rattle.std.specs.Prelude.{◌≡◌, ℕ, ◌+◌, ◌*◌, ◌<◌, ◌≤�
 use Rattle.std.specs.Coded.{Coded-set, ×_prop, Π_prop, →_prop, Unit-prop, le_prop, coded_list}
 use native.Mathlib.Nat.{ℕ_set}
 use mathlib.Core.Path.{ap}
-use Rattle.tre_residual.specs.Residual.{Held, EndAt}
+use Rattle.tre_zone.specs.Held.{Held, EndAt, EndBy, IsLatest}
 use Rattle.tre_syntax.specs.Pattern.{pattern_tree}
 use Rattle.tre_syntax.specs.PatternTree.{Atom, PatternTree, empty, literal, rise, fall, atom, sequence, alternation, intersection, repetition, restriction}
 use Rattle.tre_syntax.specs.declared.pattern.Pattern.{Pattern}
 use Rattle.tre_zone.specs.contracts.zone_bounds.ZoneBounds as zone_bounds
 use Rattle.tre_zone.specs.declared.zone_bounds.ZoneBounds.{ZoneBounds}
 use Rattle.tre_mark.specs.MarkTree.{MarkTree, atom_mark, sequence_mark, alternation_mark, repetition_mark, intersection_none, intersection_one, restriction_none, restriction_one, mark_of}
-use Rattle.tre_mark.specs.Marked.{EndBetween, IsBare, IsEntered, IsBegun, IsWell, IsWellAt}
+use Rattle.tre_mark.specs.Marked.{IsBare, IsEntered, IsBegun, IsWell, IsWellAt}
 use Rattle.tre_mark.specs.declared.mark.Mark.{Mark}
 
 zones_set : IsSet (List ZoneBounds)
@@ -21,25 +21,27 @@ IsProp-EndAt time zones x y =
     ap (λ (f : (a b n : ℕ) → 0 < n → Held zones a b n → b ≡ time * n). record { ends = f })
     (Π_prop (λ a. Π_prop (λ b. Π_prop (λ n. →_prop (→_prop (ℕ_set b (time * n)))))) x.ends y.ends)
 
-IsProp-EndBetween : (low high : ℕ) (zones : List ZoneBounds) → IsProp (EndBetween low high zones)
-IsProp-EndBetween low high zones x y =
-    let begin = Π_prop (λ a. Π_prop (λ b. Π_prop (λ n. →_prop (→_prop (le_prop)))))
-    x.begin y.begin in
-    let end = Π_prop (λ a. Π_prop (λ b. Π_prop (λ n. →_prop (→_prop (le_prop))))) x.end y.end in
-    λ i. record { begin = begin i; end = end i }
+IsProp-EndBy : (time : ℕ) (zones : List ZoneBounds) → IsProp (EndBy time zones)
+IsProp-EndBy time zones x y =
+    ap (λ (f : (a b n : ℕ) → 0 < n → Held zones a b n → b ≤ time * n). record { ends = f })
+    (Π_prop (λ a. Π_prop (λ b. Π_prop (λ n. →_prop (→_prop le_prop)))) x.ends y.ends)
+
+IsProp-IsLatest : (time : ℕ) (zones : List ZoneBounds) → IsProp (IsLatest time zones)
+IsProp-IsLatest time zones x y =
+    let ends = IsProp-EndBy time zones x.ends y.ends in
+    let first = Π_prop (λ bound. →_prop le_prop) x.first y.first in
+    λ i. record { ends = ends i; first = first i }
 
 IsProp-never : (A : Type 0) → IsProp (A → ⊥)
 IsProp-never A = →_prop (λ x. absurd x)
 
-IsProp-IsEntered : (time from to : ℕ) (outer : List ZoneBounds)
-    → IsProp (IsEntered time from to outer)
-IsProp-IsEntered time from to outer x y =
-    let ends = IsProp-EndBetween from to outer x.ends y.ends in
+IsProp-IsEntered : (time to : ℕ) (outer : List ZoneBounds) → IsProp (IsEntered time to outer)
+IsProp-IsEntered time to outer x y =
+    let latest = IsProp-IsLatest to outer x.latest y.latest in
     λ i. record {
       some = IsProp-never (outer ≡ []) x.some y.some i;
-      rising = le_prop x.rising y.rising i;
       past = le_prop x.past y.past i;
-      ends = ends i;
+      latest = latest i;
     }
 
 IsProp-reach : (time to : ℕ) (high : Option ℕ)
@@ -63,9 +65,9 @@ IsProp-form time (alternation_mark one other) (alternation left right) =
 IsProp-form time (repetition_mark here body) (repetition tree) =
     ×_prop (IsProp-EndAt time here) (IsProp-form time body tree)
 IsProp-form time intersection_none (intersection left right) = Unit-prop
-IsProp-form time (intersection_one from to outer one other others) (intersection left right) =
+IsProp-form time (intersection_one to outer one other others) (intersection left right) =
     λ u v.
-    let entered = IsProp-IsEntered time from to outer u.0 v.0 in
+    let entered = IsProp-IsEntered time to outer u.0 v.0 in
     let first = IsProp-form time one left u.1 v.1 in
     let second = IsProp-form time other right u.2 v.2 in
     let rest = IsProp-form time others (intersection left right) u.3 v.3 in
@@ -73,9 +75,9 @@ IsProp-form time (intersection_one from to outer one other others) (intersection
     let other_left = IsProp-never (IsBare other) u.5 v.5 in
     λ i. (entered i, first i, second i, rest i, one_left i, other_left i)
 IsProp-form time restriction_none (restriction tree ends) = Unit-prop
-IsProp-form time (restriction_one from to outer one others) (restriction tree ends) =
+IsProp-form time (restriction_one to outer one others) (restriction tree ends) =
     λ u v.
-    let entered = IsProp-IsEntered time from to outer u.0 v.0 in
+    let entered = IsProp-IsEntered time to outer u.0 v.0 in
     let reach = IsProp-reach time to ends.high u.1 v.1 in
     let first = IsProp-form time one tree u.2 v.2 in
     let rest = IsProp-form time others (restriction tree ends) u.3 v.3 in

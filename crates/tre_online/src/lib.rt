@@ -14,6 +14,4 @@
 pub use session::Session;
 
 mod session;
-#[cfg(test)]
-mod tests;
 mod told;

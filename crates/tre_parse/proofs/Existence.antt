@@ -1,22 +1,20 @@
 -- Every text has an outcome.
-use Rattle.std.proofs.Common.{◌≡◌, ℕ, ◌+◌, ◌<◌, ◌≤◌, zero, suc, Bool, true, false, Option, Some, None, Ok, Err, List, length, ◌-◌, drop, get_or, ◌⊎◌, inl, inr, refl, subst, arith}
-use Rattle.std.specs.Prelude.{MatchOption, Result}
+use Rattle.std.proofs.Common.{◌≡◌, ℕ, ◌+◌, ◌<◌, ◌≤◌, zero, suc, Bool, true, false, Option, Some, None, List, [], ◌∷◌, length, ◌-◌, drop, get_or, ◌⊎◌, inl, inr, refl, sym, subst, arith}
+use Rattle.std.specs.Prelude.{MatchOption}
 use Rattle.std.proofs.lemmas.Bool.{cases_lt}
 use Rattle.tre_zone.specs.Interval.{IntervalEnds, HasRoom}
 use Rattle.tre_zone.proofs.Durations.{Lasts, no_end, room, no_room}
 use Rattle.tre_syntax.specs.PatternTree.{PatternTree}
 use Rattle.tre_parse.specs.declared.token.Token.{Token}
 use Rattle.tre_parse.specs.declared.token.Token.TheVariants.{Percent}
-use Rattle.tre_parse.proofs.Machine.{Opening}
 use Rattle.tre_parse.specs.declared.fault.ParseFault.{ParseFault}
 use Rattle.tre_parse.specs.declared.fault.ParseFault.TheVariants.{Syntax, EmptyInterval}
-use Rattle.tre_parse.proofs.Machine.{start, read}
-use Rattle.tre_parse.proofs.ReadFrom.{read_ok}
+use Rattle.tre_parse.specs.Reader.{Reading, got, stop}
 use Rattle.tre_parse.specs.Parts.{IsEmptyInterval}
 use Rattle.tre_parse.specs.Outcome.{Outcome, refused, TextTokens, text_tokens_of, offset_of, byte_fault, limit_fault, HasEmptyAt, NoneEmptyBefore, IsFirstEmpty, limited_outcome, IsOutcomeOfTree, IsOutcomeOfTokens, IsOutcomeWithin, IsOutcome}
 use Rattle.tre_parse.proofs.Empties.{interval_from, stands_read, read_stands, none_before_one, none_before_more, none_empty}
-use Rattle.tre_parse.proofs.SyntaxFaults.{fault_at}
-use Rattle.tre_parse.proofs.Soundness.{spelt_read}
+use Rattle.tre_parse.proofs.Fixpoint.{left}
+use Rattle.tre_parse.proofs.Whole.{read_whole, IsCut, fault_at, spelt_read}
 
 -- A fact, or that it is none.
 abbrev Decided : Type 0 → Type 0
@@ -77,7 +75,7 @@ here_or : (tokens : List Token) (place : ℕ) → place < length tokens
 here_or tokens place lt = after (percent_or (get_or tokens place Percent))
   where
     judge : get_or tokens place Percent ≡ Percent → (ends : IntervalEnds)
-        → interval_from (drop (place + 1) tokens) Opening ≡ Some ends
+        → interval_from (drop (place + 1) tokens) ≡ Some ends
         → Decided (IsEmptyInterval ends) → Decided (HasEmptyAt tokens (place + 1))
     judge e ends q (inl empty) = inl (record {
       ends = ends;
@@ -93,7 +91,7 @@ here_or tokens place lt = after (percent_or (get_or tokens place Percent))
         lasts (subst P same k.empty))
 
     read : get_or tokens place Percent ≡ Percent → (made : Option IntervalEnds)
-        → interval_from (drop (place + 1) tokens) Opening ≡ made
+        → interval_from (drop (place + 1) tokens) ≡ made
         → Decided (HasEmptyAt tokens (place + 1))
     read e None q = inr (λ k. let s = (stands_read tokens place k.ends Percent lt k.stands).1 in
         (cc))
@@ -101,7 +99,7 @@ here_or tokens place lt = after (percent_or (get_or tokens place Percent))
 
     after : Decided (get_or tokens place Percent ≡ Percent)
         → Decided (HasEmptyAt tokens (place + 1))
-    after (inl e) = read e (interval_from (drop (place + 1) tokens) Opening) refl
+    after (inl e) = read e (interval_from (drop (place + 1) tokens)) refl
     after (inr never) = inr (λ k. never (stands_read tokens place k.ends Percent lt k.stands).0)
 
 -- The first empty interval that stands no further than a place, or that there is none.
@@ -132,22 +130,19 @@ judged_as words tree (inr none) = (
       (none_empty words.tokens (length words.tokens) (omega arith) none, refl),
 )
 
-read_as : (words : TextTokens) (made : Result PatternTree ℕ) → read words.tokens start ≡ made
+cut_as : (words : TextTokens) → IsCut (read_whole words.tokens)
     → (outcome : Outcome) × IsOutcomeOfTokens words outcome
-read_as words (Err left) e = (
-  refused (Syntax (offset_of words (length words.tokens - left))),
-  inl
-      (length words.tokens - left, fault_at words.tokens left e, refl),
-)
-read_as words (Ok tree) e =
-    let judged = judged_as words tree (first_or words.tokens (length words.tokens) (omega arith)) in (
-      judged.0,
-      inr (
-        tree,
-        spelt_read words.tokens tree (read_ok words.tokens start tree e),
-        judged.1,
-      ),
-    )
+cut_as words h =
+    let place = length words.tokens - length (left (read_whole words.tokens)) in
+    (refused (Syntax (offset_of words place)), inl (place, fault_at words.tokens h, refl))
+
+read_as : (words : TextTokens) (made : Reading PatternTree) → read_whole words.tokens ≡ made
+    → (outcome : Outcome) × IsOutcomeOfTokens words outcome
+read_as words (stop rest) e = cut_as words (subst IsCut (sym e) tt)
+read_as words (got tree (t ∷ rest)) e = cut_as words (subst IsCut (sym e) (λ q. cc))
+read_as words (got tree []) e =
+    let judged = judged_as words tree (first_or words.tokens (length words.tokens) (omega arith)) in
+    (judged.0, inr (tree, spelt_read words.tokens tree e, judged.1))
 
 fault_or : (made : Option ParseFault) (Rest : Outcome → Type 0) → (outcome : Outcome) × Rest outcome
     → (outcome : Outcome) × MatchOption made (Rest outcome) (λ fault. outcome ≡ refused fault)
@@ -156,7 +151,7 @@ fault_or (Some fault) Rest rest = (refused fault, refl)
 
 pub outcome_is : (text : List ℕ) → (outcome : Outcome) × IsOutcome text outcome
 outcome_is text =
-    let read = read_as (text_tokens_of text) (read (text_tokens_of text).tokens start) refl in
+    let read = read_as (text_tokens_of text) (read_whole (text_tokens_of text).tokens) refl in
     fault_or (byte_fault text) (IsOutcomeWithin (text_tokens_of text))
     (fault_or (limit_fault (text_tokens_of text)) (IsOutcomeOfTokens (text_tokens_of text))
     read)

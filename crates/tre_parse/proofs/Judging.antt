@@ -3,19 +3,21 @@ use Rattle.std.proofs.Common.{◌≡◌, ℕ, ◌<◌, ◌≤◌, ◌-◌, Bool,
 use Rattle.std.specs.Prelude.{IsSome, Result, MatchOption, position, nat_lt, min, if◌then◌else◌}
 use Rattle.std.specs.Option.{option_map}
 use Rattle.std.proofs.lemmas.Bool.Decides.{nat_tests}
-use Rattle.std.proofs.lemmas.List.{append-nil}
 use Rattle.tre_syntax.specs.declared.pattern.TheConstants.{NODES_MAX}
 use Rattle.tre_syntax.specs.declared.pattern.Pattern.{Pattern}
 use Rattle.tre_parse.specs.declared.limits.TheConstants.{TEXT_MAX, COUNT_MAX}
 use Rattle.tre_syntax.specs.Pattern.{pattern_tree, names_of}
 use Rattle.tre_syntax.specs.PatternTree.{PatternTree, node_count, IsNumbered}
 use Rattle.tre_parse.specs.declared.fault.ParseFault.{ParseFault}
-use Rattle.tre_parse.specs.declared.fault.ParseFault.TheVariants.{TooLong, BadByte, TooDeep, Number, TooManyNames, TooLarge, Memory}
+use Rattle.tre_parse.specs.declared.fault.ParseFault.TheVariants.{TooLong, BadByte, TooDeep, Number, EmptyInterval, TooManyNames, TooLarge, Syntax as Mistaken, Memory}
 use Rattle.tre_parse.specs.Operands.{Operand, Represents, HasFineIntervals}
 use Rattle.tre_parse.specs.declared.token.Token.{Token}
 use Rattle.tre_parse.specs.declared.scan.Scan.{Scan}
 use Rattle.tre_parse.specs.Grammar.{expr, Spells}
-use Rattle.tre_parse.specs.Reading.{Stops, ParsesBy}
+use Rattle.tre_parse.specs.Reader.{got}
+use Rattle.tre_parse.specs.Reading.{Goes, Stops}
+use Rattle.tre_parse.proofs.Fixpoint.{left}
+use Rattle.tre_parse.proofs.Whole.{read_whole, IsCut, fault_at, spelt_read}
 use Rattle.tre_parse.specs.declared.cursor.Stop.{Stop}
 use Rattle.tre_parse.specs.declared.cursor.Stop.TheVariants.{Syntax as Stuck, Memory as Lacking}
 use Rattle.tre_parse.specs.Tokens.{earlier, bad_byte}
@@ -25,11 +27,13 @@ use Rattle.tre_parse.specs.Joins.{Keeps}
 use Rattle.tre_parse.proofs.Counts.{kept_is}
 use Rattle.tre_parse.specs.Scan.{IsScan}
 use Rattle.tre_parse.specs.Numbering.{IsNumberedByUse}
-use Rattle.tre_parse.specs.Outcome.{Outcome, spelt, refused, TextTokens, text_tokens_of, offset_of, is_big, deep_place, byte_fault, limit_fault, NoneEmpty, past_or, limited_outcome, IsOutcomeOfTokens, IsOutcomeWithin, IsOutcome}
+use Rattle.tre_parse.specs.Outcome.{Outcome, spelt, refused, TextTokens, text_tokens_of, offset_of, is_big, deep_place, byte_fault, limit_fault, IsSyntaxFaultAt, IsFirstEmpty, NoneEmpty, past_or, limited_outcome, IsOutcomeOfTokens, IsOutcomeWithin, IsOutcome}
 use Rattle.tre_parse.specs.Answers.{Answers, text_tokens_in, IsFaultOf}
 use Rattle.tre_parse.proofs.Numbers.{counts_alike}
 use Rattle.tre_parse.proofs.NumberedWords.{text_numbered}
 use Rattle.tre_parse.proofs.Fine.{none_big, stand_fine, fine_intervals}
+use Rattle.tre_parse.specs.Unkept.{FindsUpTo}
+use Rattle.tre_parse.proofs.Unkept.{IsFound, finds_first}
 use Rattle.tre_parse.proofs.Outcomes.{outcome_once}
 
 -- What was read stands for the expression that the tokens spell.
@@ -47,24 +51,43 @@ pub read_outcome : (words : TextTokens) (outcome : Outcome) → limit_fault word
 read_outcome words outcome e h = along_none (limit_fault words) _ _ e h
 
 -- Tokens that are not read to an end have their fault where the reading stops.
-pub stop_outcome : (words : TextTokens) (stop : Stop) (fault : ParseFault) → limit_fault words
-    ≡ None → Stops (λ prior. prior ≡ []) stop words.tokens → IsFaultOf words stop fault →
-    (fault ≡ Memory) ⊎ IsOutcomeWithin words (refused fault)
-stop_outcome words Lacking fault e h f = inl f
-stop_outcome words (Stuck left) fault e h f =
+cut_outcome : (words : TextTokens) (fault : ParseFault) (rest : List Token) → limit_fault words
+    ≡ None → IsCut (read_whole words.tokens) → left (read_whole words.tokens) ≡ rest →
+    fault ≡ Mistaken (offset_of words (length words.tokens - length rest)) →
+    IsOutcomeWithin words (refused fault)
+cut_outcome words fault rest e h same f =
     let P = λ (g : ParseFault). IsOutcomeWithin words (refused g) in
-    inr (subst P (sym f) (read_outcome words _ e (inl
-    (length words.tokens - left, h [] refl, refl))))
+    let Q = λ (ts : List Token). IsSyntaxFaultAt words.tokens (length words.tokens - length ts) in
+    subst P (sym f) (read_outcome words _ e (inl
+    (length words.tokens - length rest, subst Q same (fault_at words.tokens h), refl)))
 
-pub is_whole : (words : TextTokens) (operand : Operand) → ParsesBy expr (Ok operand) words.tokens []
+pub stop_outcome : (words : TextTokens) (stopped : Stop) (fault : ParseFault) (rest : List Token)
+    → limit_fault words ≡ None → Stops (read_whole words.tokens) stopped rest
+    → IsFaultOf words stopped fault → (fault ≡ Memory) ⊎ IsOutcomeWithin words (refused fault)
+stop_outcome words Lacking fault rest e h f = inl f
+stop_outcome words (Stuck n) fault rest e h f =
+    inr (cut_outcome words fault rest e (subst IsCut (sym h.1) tt) (ap left h.1)
+    (f ∙ ap (λ m. Mistaken (offset_of words (length words.tokens - m))) h.0))
+
+-- So have those that are an expression with more behind it.
+pub rest_outcome : (words : TextTokens) (stopped : Stop) (fault : ParseFault) (operand : Operand)
+    (rest : List Token) → limit_fault words ≡ None →
+    Goes Represents operand (read_whole words.tokens) (λ e. got e rest) → (rest ≡ [] → ⊥) →
+    stopped ≡ Stuck (length rest) → IsFaultOf words stopped fault →
+    (fault ≡ Memory) ⊎ IsOutcomeWithin words (refused fault)
+rest_outcome words stopped fault operand rest e h some q f =
+    let P = λ (s : Stop). IsFaultOf words s fault in
+    inr (cut_outcome words fault rest e (subst IsCut (sym h.goes) some) (ap left h.goes)
+    (subst P q f))
+
+pub is_whole : (words : TextTokens) (operand : Operand)
+    → Goes Represents operand (read_whole words.tokens) (λ e. got e [])
     → IsRepresented words operand
-is_whole words operand h =
-    let P = λ (ts : List Token). Spells expr ts h.tree in
-    record {
-      tree = h.tree;
-      spells = subst P (sym (h.split ∙ append-nil h.taken)) h.spells;
-      represents = h.stands;
-    }
+is_whole words operand h = record {
+  tree = h.tree;
+  spells = spelt_read words.tokens h.tree h.goes;
+  represents = h.stands;
+}
 
 first_none : (words : TextTokens) (place : Option ℕ) (later : Option ParseFault)
     → earlier (option_map (λ at. Number (offset_of words at)) place) later ≡ None → place ≡ None
@@ -74,6 +97,18 @@ first_none words (Some at) later e = absurd (cc)
 pub no_big : (words : TextTokens) → limit_fault words ≡ None → position is_big words.tokens ≡ None
 no_big words e = first_none words (position is_big words.tokens) _ e
 
+-- What was found while the tokens were read is their first empty interval.
+pub none_found : (words : TextTokens) (operand : Operand) → limit_fault words ≡ None
+    → FindsUpTo words.tokens [] operand.unkept → operand.unkept ≡ None → NoneEmpty words.tokens
+none_found words operand e k none = subst (IsFound words.tokens) none
+    (finds_first words.tokens operand.unkept (no_big words e) k)
+
+pub first_found : (words : TextTokens) (operand : Operand) (left : ℕ) → limit_fault words ≡ None
+    → FindsUpTo words.tokens [] operand.unkept → operand.unkept ≡ Some left
+    → IsFirstEmpty words.tokens (length words.tokens - left)
+first_found words operand left e k some = subst (IsFound words.tokens) some
+    (finds_first words.tokens operand.unkept (no_big words e) k)
+
 -- The limits of an expression that is spelt.
 
 judged : (words : TextTokens) (operand : Operand) (outcome : Outcome) → limit_fault words ≡ None
@@ -81,6 +116,12 @@ judged : (words : TextTokens) (operand : Operand) (outcome : Outcome) → limit_
     ≡ limited_outcome words w.tree → IsOutcomeWithin words outcome
 judged words operand outcome e w h q = read_outcome words outcome e
     (inr (w.tree, w.spells, inr (h, q)))
+
+pub empty_outcome : (words : TextTokens) (operand : Operand) (place at : ℕ) → limit_fault words
+    ≡ None → IsRepresented words operand → IsFirstEmpty words.tokens place → at
+    ≡ offset_of words place → IsOutcomeWithin words (refused (EmptyInterval at))
+empty_outcome words operand place at e w h q = read_outcome words _ e
+    (inr (w.tree, w.spells, inl (place, h, ap (λ n. refused (EmptyInterval n)) q)))
 
 pub past_outcome : (words : TextTokens) (operand : Operand) (at : ℕ) → limit_fault words ≡ None
     → IsRepresented words operand → NoneEmpty words.tokens → words.past ≡ Some at →

@@ -6,8 +6,7 @@ use Rattle.tre_parse.specs.declared.token.Token.{Token}
 use Rattle.tre_parse.specs.declared.fault.ParseFault.{ParseFault}
 use Rattle.tre_parse.specs.declared.fault.ParseFault.TheVariants.{Syntax, EmptyInterval}
 use Rattle.tre_parse.specs.Outcome.{Outcome, refused, TextTokens, text_tokens_of, offset_of, byte_fault, limit_fault, IsFirstEmpty, IsOutcomeOfTree, IsOutcomeOfTokens, IsOutcomeWithin, IsOutcome}
-use Rattle.tre_parse.proofs.Completeness.{spelt_once}
-use Rattle.tre_parse.proofs.SyntaxFaults.{fault_once}
+use Rattle.tre_parse.proofs.Whole.{spelt_once, fault_once}
 
 -- There is one first empty interval.
 first_once : (tokens : List Token) (i j : ℕ) → IsFirstEmpty tokens i → IsFirstEmpty tokens j → i ≡ j

@@ -1,193 +1,131 @@
 -- What begins a rule is what some tokens complete: both directions.
-use Rattle.std.proofs.Common.{◌≡◌, List, [], ◌∷◌, ◌++◌, refl, sym, ◌∙◌, ap, subst, append_assoc}
+use Rattle.std.proofs.Common.{◌≡◌, ◌⊎◌, inl, inr, true, false, List, [], ◌∷◌, ◌++◌, refl, sym, ◌∙◌, ap, subst, arith, append_assoc}
 use Rattle.std.proofs.lemmas.List.{append-nil}
 use Rattle.tre_state.specs.StateTree.{StateTree, always, disjunction, conjunction, negation}
-use Rattle.tre_zone.specs.Interval.{IntervalEnds}
 use Rattle.tre_syntax.specs.PatternTree.{PatternTree, atom, literal, rise, fall, alternation, intersection, sequence, restriction}
 use Rattle.tre_parse.specs.declared.token.Token.{Token}
-use Rattle.tre_parse.specs.declared.token.Token.TheVariants.{Name, LeftParen, RightParen, LeftBrace, RightBrace, Semicolon, Bar, DoubleBar, Ampersand, DoubleAmpersand, Bang, Star, Plus, Question, Percent, Begins as BeginsSign, Ends, Eps, Rise, Fall, True}
+use Rattle.tre_parse.specs.declared.token.Token.TheVariants.{LeftParen, RightParen, LeftBrace, RightBrace, Semicolon, Bar, DoubleBar, Ampersand, DoubleAmpersand, Percent, Rise, Fall, True}
+use Rattle.tre_parse.specs.declared.connective.Connective.TheVariants.{And, Or}
+use Rattle.tre_parse.specs.declared.connective.Join.TheVariants.{Sequence, Intersection, Alternation}
 use Rattle.tre_parse.specs.Grammar as grammar
-use Rattle.tre_parse.specs.Grammar.{StateRule, lit, state, conj, neg, SpellsState, SpellsInterval, Rule, expr, meet, seq, post, primary, Spells}
+use Rattle.tre_parse.specs.Grammar.{StateRule, lit, state, conj, neg, SpellsState, Rule, expr, meet, seq, post, primary, Spells}
 use Rattle.tre_parse.specs.Begins as begin
-use Rattle.tre_parse.specs.Begins.{BeginsState, BeginsInterval, Begins, IsCompletable}
+use Rattle.tre_parse.specs.Begins.{BeginsState, Begins, IsCompletable}
+use Rattle.tre_parse.specs.Front.{front}
+use Rattle.tre_parse.specs.Reader.{Reading, got, stop, StateTask, state_by, state_operand, PatternTask, expression_by, operand, unsigned, Task, of_state, of_pattern, Made, read, read_state, read_pattern}
+use Rattle.tre_parse.proofs.Fixpoint.{left}
+use Rattle.tre_parse.proofs.Spelt.{state_is_read, whole_state, is_read, whole_expression, whole_operand}
+use Rattle.tre_parse.proofs.Says.{Spelt, Begun, before, Says, TaskSays}
+use Rattle.tre_parse.proofs.Rules.{task_says, begun_state, begun}
 
--- Two splits of one list: the first front lies in the second, or goes past it.
-pub data Fronts (xs ys us vs : List Token) : Type 0 where
-  within : (ws : List Token) → us ≡ xs ++ ws → Fronts xs ys us vs
-  past : (t : Token) (ws : List Token) → xs ≡ us ++ t ∷ ws → vs ≡ t ∷ (ws ++ ys)
-      → Fronts xs ys us vs
+-- ---- what is spelt is read to its end
 
-consed : (u : Token) (xs ys us vs : List Token) → Fronts xs ys us vs
-    → Fronts (u ∷ xs) ys (u ∷ us) vs
-consed u xs ys us vs (within ws e) = within ws (ap (λ l. u ∷ l) e)
-consed u xs ys us vs (past t ws e f) = past t ws (ap (λ l. u ∷ l) e) f
+abbrev pub state_task : StateRule → StateTask
+state_task lit = state_operand true
+state_task neg = state_operand false
+state_task conj = state_by And
+state_task state = state_by Or
 
-head_same : (a b : Token) (xs ys : List Token) → a ∷ xs ≡ b ∷ ys → a ≡ b
-head_same a b xs ys e = cc
+abbrev pub pattern_task : Rule → PatternTask
+pattern_task expr = expression_by Alternation
+pattern_task meet = expression_by Intersection
+pattern_task seq = expression_by Sequence
+pattern_task post = operand
+pattern_task primary = unsigned
 
-tail_same : (a b : Token) (xs ys : List Token) → a ∷ xs ≡ b ∷ ys → xs ≡ ys
-tail_same a b xs ys e = cc
+state_end : (r : StateRule) (xs : List Token) (s : StateTree) → SpellsState r xs s
+    → read_state (state_task r) (xs ++ []) ≡ got s []
+state_end lit xs s h = state_is_read lit xs s h []
+state_end neg xs s h = state_is_read neg xs s h []
+state_end conj xs s h = state_is_read conj xs s h [] (omega arith)
+    ∙ whole_state And s [] (omega arith)
+state_end state xs s h = state_is_read state xs s h [] (omega arith)
+    ∙ whole_state Or s [] (omega arith)
 
-pub fronts : (us vs xs ys : List Token) → us ++ vs ≡ xs ++ ys → Fronts xs ys us vs
-fronts us vs [] ys e = within us refl
-fronts [] vs (x ∷ xs) ys e = past x xs refl e
-fronts (u ∷ us) vs (x ∷ xs) ys e =
-    let P = λ (a : Token). Fronts (a ∷ xs) ys (u ∷ us) vs in
-    subst P (head_same u x (us ++ vs) (xs ++ ys) e) (consed u xs ys us vs
-    (fronts us vs xs ys (tail_same u x (us ++ vs) (xs ++ ys) e)))
+pattern_end : (r : Rule) (xs : List Token) (e : PatternTree) → Spells r xs e
+    → read_pattern (pattern_task r) (xs ++ []) ≡ got e []
+pattern_end expr xs e h = is_read expr xs e h [] (omega arith)
+    ∙ whole_expression Alternation e [] (omega arith)
+pattern_end meet xs e h = is_read meet xs e h [] (omega arith)
+    ∙ whole_expression Intersection e [] (omega arith)
+pattern_end seq xs e h = is_read seq xs e h [] (omega arith)
+    ∙ whole_expression Sequence e [] (omega arith)
+pattern_end post xs e h = is_read post xs e h [] (omega arith) ∙ whole_operand e [] (omega arith)
+pattern_end primary xs e h = is_read primary xs e h [] (omega arith)
 
-nothing_left : (ws ys : List Token) → [] ≡ ws ++ ys → ws ≡ []
-nothing_left [] ys e = refl
-nothing_left (w ∷ ws) ys e = absurd (cc)
+-- The same of the tokens alone.
+pub pattern_whole : (r : Rule) (xs : List Token) (e : PatternTree) → Spells r xs e
+    → read_pattern (pattern_task r) xs ≡ got e []
+pattern_whole r xs e h = ap (λ ts. read_pattern (pattern_task r) ts) (sym (append-nil xs))
+    ∙ pattern_end r xs e h
 
--- How a front of a list with a first token, with a last one, or with a sign inside may lie.
-after_first : (P : List Token → Type 0) (first : Token) (rest xs ys : List Token) → first ∷ rest
-    ≡ xs ++ ys → P [] → ((ws : List Token) → rest ≡ ws ++ ys → P (first ∷ ws)) → P xs
-after_first P first rest [] ys e none more = none
-after_first P first rest (x ∷ xs) ys e none more =
-    let Q = λ (a : Token). P (a ∷ xs) in
-    subst Q (head_same first x rest (xs ++ ys) e) (more xs (tail_same first x rest (xs ++ ys) e))
+-- ---- each front of what is spelt begins the rule
 
-at_sign : (P : List Token → Type 0) (us : List Token) (sign : Token) (vs xs ys : List Token)
-    → us ++ sign ∷ vs ≡ xs ++ ys →
-    ((ws : List Token) → us ≡ xs ++ ws → P xs) → ((ws : List Token) → vs ≡ ws ++ ys
-    → P (us ++ sign ∷ ws)) → P xs
-at_sign P us sign vs xs ys e left right = cases (fronts us (sign ∷ vs) xs ys e)
+-- What is read to its end with more tokens is read to its end without them.
+none_left : (task : Task) (xs ys taken rest : List Token) (o : Reading (Made task))
+    → xs ≡ taken ++ rest → left (read task (xs ++ ys)) ≡ [] →
+    ((other : List Token) → front other ≡ front rest
+    → read task (taken ++ other) ≡ before other o) → rest ≡ []
+none_left task xs ys taken [] o e q alike = refl
+none_left task xs ys taken (t ∷ rest) o e q alike =
+    let long = ap (λ ts. read task (ts ++ ys)) e
+    ∙ ap (λ ts. read task ts) (append_assoc taken (t ∷ rest) ys) ∙ alike (t ∷ (rest ++ ys)) refl in
+    never o (sym (ap left long) ∙ q)
   where
-    cases : Fronts xs ys us (sign ∷ vs) → P xs
-    cases (within ws f) = left ws f
-    cases (past a ws f g) =
-        let same = head_same sign a vs (ws ++ ys) g in
-        subst P (sym (f ∙ ap (λ b. us ++ b ∷ ws) (sym same)))
-        (right ws (tail_same sign a vs (ws ++ ys) g))
+    never : (r : Reading (Made task)) → left (before (t ∷ (rest ++ ys)) r) ≡ [] → t ∷ rest ≡ []
+    never (got x us) k = absurd (cc)
+    never (stop us) k = absurd (cc)
 
-at_last : (P : List Token → Type 0) (us : List Token) (last : Token) (xs ys : List Token)
-    → us ++ last ∷ [] ≡ xs ++ ys →
-    ((ws : List Token) → us ≡ xs ++ ws → P xs) → P (us ++ last ∷ []) → P xs
-at_last P us last xs ys e left whole =
-    at_sign P us last [] xs ys e left (λ ws f. let Q = λ (ts : List Token). P (us ++ last ∷ ts) in
-    subst Q (sym (nothing_left ws ys f)) whole)
+front_says : (task : Task) (xs ys : List Token) → left (read task (xs ++ ys)) ≡ []
+    → ((x : Made task) × Spelt task xs x) ⊎ Begun task xs
+front_says task xs ys q = let s = task_says task xs in
+    by s (read task xs) s.says (sym (s.split ∙ ap (λ ts. s.taken ++ ts)
+    (none_left task xs ys s.taken (left (read task xs)) (read task xs) s.split q s.alike)
+    ∙ append-nil s.taken))
+  where
+    by : (s : TaskSays task xs) (o : Reading (Made task))
+        → Says (Spelt task) (Begun task) s.taken o → s.taken ≡ xs →
+        ((x : Made task) × Spelt task xs x) ⊎ Begun task xs
+    by s (got x rest) h e = inl (x, subst (λ ts. Spelt task ts x) e h)
+    by s (stop rest) h e = inr (subst (λ ts. Begun task ts) e h)
 
-in_brackets : (P : List Token → Type 0) (first : Token) (us : List Token) (last : Token)
-    (xs ys : List Token) → first ∷ us ++ last ∷ [] ≡ xs ++ ys →
-    P [] → ((ws vs : List Token) → us ≡ ws ++ vs → P (first ∷ ws)) → P (first ∷ us ++ last ∷ [])
-    → P xs
-in_brackets P first us last xs ys e none inside whole =
-    after_first P first (us ++ last ∷ []) xs ys e none
-    (λ ws f. at_last (λ ts. P (first ∷ ts)) us last ws ys f (λ vs g. inside ws vs g) whole)
+-- What a rule's task spells and begins the rule does.
+state_begun : (r : StateRule) (xs : List Token) → ((s : StateTree)
+    × Spelt (of_state (state_task r)) xs s) ⊎ Begun (of_state (state_task r)) xs → BeginsState r xs
+state_begun lit xs (inl k) = begun_state lit xs k.0 k.1
+state_begun lit xs (inr k) = k
+state_begun neg xs (inl k) = begun_state neg xs k.0 k.1
+state_begun neg xs (inr k) = k
+state_begun conj xs (inl k) = begun_state conj xs k.0 k.1
+state_begun conj xs (inr k) = k
+state_begun state xs (inl k) = begun_state state xs k.0 k.1
+state_begun state xs (inr k) = k
 
-one_token : (P : List Token → Type 0) (first : Token) (xs ys : List Token) → first ∷ [] ≡ xs ++ ys
-    → P [] → P (first ∷ []) → P xs
-one_token P first xs ys e none whole =
-    after_first P first [] xs ys e none (λ ws f. let Q = λ (ts : List Token). P (first ∷ ts) in
-    subst Q (sym (nothing_left ws ys f)) whole)
-
--- Each front of what is spelt begins the rule.
 pub state_front : (r : StateRule) (ts : List Token) (s : StateTree) → SpellsState r ts s
     → (xs ys : List Token) → ts ≡ xs ++ ys → BeginsState r xs
-state_front _ _ _ (grammar.lit_name i) xs ys e = one_token (BeginsState lit) (Name i) xs ys e
-    (begin.none lit) (begin.lit_whole _ _ (grammar.lit_name i))
-state_front _ _ _ grammar.lit_true xs ys e = one_token (BeginsState lit) True xs ys e
-    (begin.none lit) (begin.lit_whole _ _ grammar.lit_true)
-state_front _ _ _ (grammar.lit_braces us s h) xs ys e =
-    in_brackets (BeginsState lit) LeftBrace us RightBrace xs ys e (begin.none lit)
-    (λ ws vs f. begin.lit_braces ws (state_front state us s h ws vs f))
-    (begin.lit_whole _ _ (grammar.lit_braces us s h))
-state_front _ _ _ (grammar.lit_bang us s h) xs ys e =
-    after_first (BeginsState lit) Bang us xs ys e (begin.none lit)
-    (λ ws f. begin.lit_bang ws (state_front lit us s h ws ys f))
-state_front _ _ _ (grammar.state_conj us s h) xs ys e =
-    begin.state_conj xs (state_front conj us s h xs ys e)
-state_front _ _ _ (grammar.state_bars us vs s t h k) xs ys e =
-    at_sign (BeginsState state) us DoubleBar vs xs ys e (λ ws f. state_front state us s h xs ws f)
-    (λ ws f. begin.state_bars us ws s h (state_front conj vs t k ws ys f))
-state_front _ _ _ (grammar.conj_neg us s h) xs ys e =
-    begin.conj_neg xs (state_front neg us s h xs ys e)
-state_front _ _ _ (grammar.conj_ampersands us vs s t h k) xs ys e =
-    at_sign (BeginsState conj) us DoubleAmpersand vs xs ys e
-    (λ ws f. state_front conj us s h xs ws f) (λ ws f. begin.conj_ampersands us ws s h
-    (state_front neg vs t k ws ys f))
-state_front _ _ _ (grammar.neg_name i) xs ys e = one_token (BeginsState neg) (Name i) xs ys e
-    (begin.none neg) (begin.neg_whole _ _ (grammar.neg_name i))
-state_front _ _ _ grammar.neg_true xs ys e = one_token (BeginsState neg) True xs ys e
-    (begin.none neg) (begin.neg_whole _ _ grammar.neg_true)
-state_front _ _ _ (grammar.neg_parens us s h) xs ys e =
-    in_brackets (BeginsState neg) LeftParen us RightParen xs ys e (begin.none neg)
-    (λ ws vs f. begin.neg_parens ws (state_front state us s h ws vs f))
-    (begin.neg_whole _ _ (grammar.neg_parens us s h))
-state_front _ _ _ (grammar.neg_bang us s h) xs ys e =
-    after_first (BeginsState neg) Bang us xs ys e (begin.none neg)
-    (λ ws f. begin.neg_bang ws (state_front neg us s h ws ys f))
+state_front r ts s h xs ys q = state_begun r xs (front_says (of_state (state_task r)) xs ys
+    (ap (λ us. left (read_state (state_task r) us)) (sym q ∙ sym (append-nil ts))
+    ∙ ap left (state_end r ts s h)))
 
-interval_front : (us vs ws ys : List Token) (e : PatternTree) (ends : IntervalEnds)
-    → Spells post us e → SpellsInterval vs ends → vs ≡ ws ++ ys → Begins post (us ++ Percent ∷ ws)
-interval_front us vs ws ys e ends h k f =
-    let P = λ (ts : List Token). SpellsInterval ts ends in
-    begin.post_percent us ws e h (record { more = ys; ends = ends; spells = subst P f k })
+pattern_begun : (r : Rule) (xs : List Token) → ((e : PatternTree)
+    × Spelt (of_pattern (pattern_task r)) xs e) ⊎ Begun (of_pattern (pattern_task r)) xs
+    → Begins r xs
+pattern_begun expr xs (inl k) = begun expr xs k.0 k.1
+pattern_begun expr xs (inr k) = k
+pattern_begun meet xs (inl k) = begun meet xs k.0 k.1
+pattern_begun meet xs (inr k) = k
+pattern_begun seq xs (inl k) = begun seq xs k.0 k.1
+pattern_begun seq xs (inr k) = k
+pattern_begun post xs (inl k) = begun post xs k.0 k.1
+pattern_begun post xs (inr k) = k
+pattern_begun primary xs (inl k) = begun primary xs k.0 k.1
+pattern_begun primary xs (inr k) = k
 
 pub front_begins : (r : Rule) (ts : List Token) (e : PatternTree) → Spells r ts e
     → (xs ys : List Token) → ts ≡ xs ++ ys → Begins r xs
-front_begins _ _ _ (grammar.expr_meet us e h) xs ys q =
-    begin.expr_meet xs (front_begins meet us e h xs ys q)
-front_begins _ _ _ (grammar.meet_seq us e h) xs ys q =
-    begin.meet_seq xs (front_begins seq us e h xs ys q)
-front_begins _ _ _ (grammar.seq_post us e h) xs ys q =
-    begin.seq_post xs (front_begins post us e h xs ys q)
-front_begins _ _ _ (grammar.post_primary us e h) xs ys q =
-    begin.post_primary xs (front_begins primary us e h xs ys q)
-front_begins _ _ _ (grammar.expr_bar us vs e g h k) xs ys q =
-    at_sign (Begins expr) us Bar vs xs ys q (λ ws f. front_begins expr us e h xs ws f)
-    (λ ws f. begin.expr_bar us ws e h (front_begins meet vs g k ws ys f))
-front_begins _ _ _ (grammar.meet_ampersand us vs e g h k) xs ys q =
-    at_sign (Begins meet) us Ampersand vs xs ys q (λ ws f. front_begins meet us e h xs ws f)
-    (λ ws f. begin.meet_ampersand us ws e h (front_begins seq vs g k ws ys f))
-front_begins _ _ _ (grammar.seq_semicolon us vs e g h k) xs ys q =
-    at_sign (Begins seq) us Semicolon vs xs ys q (λ ws f. front_begins seq us e h xs ws f)
-    (λ ws f. begin.seq_semicolon us ws e h (front_begins post vs g k ws ys f))
-front_begins _ _ _ (grammar.post_star us e h) xs ys q =
-    at_last (Begins post) us Star xs ys q (λ ws f. front_begins post us e h xs ws f)
-    (begin.post_whole _ _ (grammar.post_star us e h))
-front_begins _ _ _ (grammar.post_plus us e h) xs ys q =
-    at_last (Begins post) us Plus xs ys q (λ ws f. front_begins post us e h xs ws f)
-    (begin.post_whole _ _ (grammar.post_plus us e h))
-front_begins _ _ _ (grammar.post_question us e h) xs ys q =
-    at_last (Begins post) us Question xs ys q (λ ws f. front_begins post us e h xs ws f)
-    (begin.post_whole _ _ (grammar.post_question us e h))
-front_begins _ _ _ (grammar.post_percent us vs e ends h k) xs ys q =
-    at_sign (Begins post) us Percent vs xs ys q (λ ws f. front_begins post us e h xs ws f)
-    (λ ws f. interval_front us vs ws ys e ends h k f)
-front_begins _ _ _ grammar.primary_eps xs ys q = one_token (Begins primary) Eps xs ys q
-    (begin.none primary) (begin.primary_whole _ _ grammar.primary_eps)
-front_begins _ _ _ (grammar.primary_parens us e h) xs ys q =
-    in_brackets (Begins primary) LeftParen us RightParen xs ys q (begin.none primary)
-    (λ ws vs f. begin.primary_parens ws (front_begins expr us e h ws vs f))
-    (begin.primary_whole _ _ (grammar.primary_parens us e h))
-front_begins _ _ _ (grammar.primary_rise us s h) xs ys q =
-    after_first (Begins primary) Rise (LeftParen ∷ us ++ RightParen ∷ []) xs ys q
-    (begin.none primary)
-    (λ ts m. in_brackets (λ us. Begins primary (Rise ∷ us)) LeftParen us RightParen ts ys m
-    begin.primary_rise (λ ws vs f. begin.primary_rise_parens ws
-    (state_front state us s h ws vs f))
-    (begin.primary_whole _ _ (grammar.primary_rise us s h)))
-front_begins _ _ _ (grammar.primary_fall us s h) xs ys q =
-    after_first (Begins primary) Fall (LeftParen ∷ us ++ RightParen ∷ []) xs ys q
-    (begin.none primary)
-    (λ ts m. in_brackets (λ us. Begins primary (Fall ∷ us)) LeftParen us RightParen ts ys m
-    begin.primary_fall (λ ws vs f. begin.primary_fall_parens ws
-    (state_front state us s h ws vs f))
-    (begin.primary_whole _ _ (grammar.primary_fall us s h)))
-front_begins _ _ _ (grammar.primary_lit us s h) xs ys q =
-    begin.primary_lit xs (state_front lit us s h xs ys q)
-front_begins _ _ _ (grammar.primary_begins us s h) xs ys q =
-    after_first (Begins primary) BeginsSign us xs ys q (begin.none primary)
-    (λ ws f. begin.primary_begins ws (state_front lit us s h ws ys f))
-front_begins _ _ _ (grammar.primary_ends us s h) xs ys q =
-    at_last (Begins primary) us Ends xs ys q (λ ws f. begin.primary_lit xs
-    (state_front lit us s h xs ws f)) (begin.primary_whole _ _ (grammar.primary_ends us s h))
-front_begins _ _ _ (grammar.primary_begins_ends us s h) xs ys q =
-    in_brackets (Begins primary) BeginsSign us Ends xs ys q (begin.none primary)
-    (λ ws vs f. begin.primary_begins ws (state_front lit us s h ws vs f))
-    (begin.primary_whole _ _ (grammar.primary_begins_ends us s h))
+front_begins r ts e h xs ys q = pattern_begun r xs (front_says (of_pattern (pattern_task r)) xs ys
+    (ap (λ us. left (read_pattern (pattern_task r) us)) (sym q)
+    ∙ ap left (pattern_whole r ts e h)))
 
 -- Each front that begins a rule is completed by some tokens.
 abbrev pub CompletedState : StateRule → List Token → Type 0
@@ -202,9 +140,9 @@ true_state neg = grammar.neg_true
 true_state conj = grammar.conj_neg _ _ grammar.neg_true
 true_state state = grammar.state_conj _ _ (grammar.conj_neg _ _ grammar.neg_true)
 
-whole_state : (r : StateRule) (xs : List Token) (s : StateTree) → SpellsState r xs s
+alone_state : (r : StateRule) (xs : List Token) (s : StateTree) → SpellsState r xs s
     → CompletedState r xs
-whole_state r xs s h = let P = λ (ts : List Token). SpellsState r ts s in
+alone_state r xs s h = let P = λ (ts : List Token). SpellsState r ts s in
     record { rest = []; tree = s; spells = subst P (sym (append-nil xs)) h }
 
 regroup : (xs ys zs : List Token) (sign : Token) → xs ++ sign ∷ (ys ++ zs) ≡ (xs ++ sign ∷ ys) ++ zs
@@ -217,7 +155,7 @@ state_completes r _ (begin.none _) = record {
   spells =
       true_state r;
 }
-state_completes _ _ (begin.lit_whole xs s h) = whole_state lit xs s h
+state_completes _ _ (begin.lit_whole xs s h) = alone_state lit xs s h
 state_completes _ _ (begin.lit_bang xs h) =
     let c = state_completes lit xs h in record {
       rest = c.rest;
@@ -267,7 +205,7 @@ state_completes _ _ (begin.conj_ampersands xs ys s h k) =
           subst P (regroup xs ys c.rest DoubleAmpersand)
           (grammar.conj_ampersands _ _ _ _ h c.spells);
     }
-state_completes _ _ (begin.neg_whole xs s h) = whole_state neg xs s h
+state_completes _ _ (begin.neg_whole xs s h) = alone_state neg xs s h
 state_completes _ _ (begin.neg_bang xs h) =
     let c = state_completes neg xs h in record {
       rest = c.rest;
@@ -295,8 +233,8 @@ true_expression meet = grammar.meet_seq _ _ (grammar.seq_post _ _
 true_expression expr = grammar.expr_meet _ _ (grammar.meet_seq _ _
     (grammar.seq_post _ _ (grammar.post_primary _ _ (grammar.primary_lit _ _ grammar.lit_true))))
 
-whole_expression : (r : Rule) (xs : List Token) (e : PatternTree) → Spells r xs e → Completed r xs
-whole_expression r xs e h = let P = λ (ts : List Token). Spells r ts e in
+alone_expression : (r : Rule) (xs : List Token) (e : PatternTree) → Spells r xs e → Completed r xs
+alone_expression r xs e h = let P = λ (ts : List Token). Spells r ts e in
     record { rest = []; tree = e; spells = subst P (sym (append-nil xs)) h }
 
 pub completes : (r : Rule) (xs : List Token) → Begins r xs → Completed r xs
@@ -314,7 +252,7 @@ completes _ _ (begin.seq_post xs h) = let c = completes post xs h in
     record { rest = c.rest; tree = c.tree; spells = grammar.seq_post _ _ c.spells }
 completes _ _ (begin.post_primary xs h) = let c = completes primary xs h in
     record { rest = c.rest; tree = c.tree; spells = grammar.post_primary _ _ c.spells }
-completes _ _ (begin.post_whole xs e h) = whole_expression post xs e h
+completes _ _ (begin.post_whole xs e h) = alone_expression post xs e h
 completes _ _ (begin.expr_bar xs ys e h k) =
     let c = completes meet ys k in
     let P = λ (ts : List Token). Spells expr ts (alternation e c.tree) in
@@ -350,7 +288,7 @@ completes _ _ (begin.post_percent xs ys e h k) =
       spells =
           subst P (regroup xs ys k.more Percent) (grammar.post_percent _ _ _ _ h k.spells);
     }
-completes _ _ (begin.primary_whole xs e h) = whole_expression primary xs e h
+completes _ _ (begin.primary_whole xs e h) = alone_expression primary xs e h
 completes _ _ (begin.primary_parens xs h) =
     let c = completes expr xs h in
     let P = λ (ts : List Token). Spells primary (LeftParen ∷ ts) c.tree in

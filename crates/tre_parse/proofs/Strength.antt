@@ -6,7 +6,7 @@ use Rattle.tre_parse.specs.declared.token.Token.{Token}
 use Rattle.tre_parse.specs.declared.token.Token.TheVariants.{Semicolon, Bar, Ampersand}
 use Rattle.tre_parse.specs.Grammar.{expr, meet, seq, post, Spells, expr_meet, expr_bar, meet_seq, meet_ampersand, seq_post, seq_semicolon}
 use Rattle.tre_parse.specs.Strength.{Groups}
-use Rattle.tre_parse.proofs.Completeness.{spelt_once}
+use Rattle.tre_parse.proofs.Whole.{spelt_once}
 
 -- What the tokens spell they spell alone.
 alone : (tokens : List Token) (e : PatternTree) → Spells expr tokens e → Spells expr tokens e

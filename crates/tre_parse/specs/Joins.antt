@@ -4,8 +4,8 @@ use Rattle.tre_state.specs.StateTree.{StateTree, negation, conjunction, disjunct
 use Rattle.tre_syntax.specs.PatternTree.{PatternTree, literal, rise, fall, atom, sequence, alternation, intersection}
 use Rattle.tre_syntax.specs.declared.pattern.TheConstants.{NODES_MAX}
 use Rattle.tre_parse.specs.declared.token.Token.{Token}
-use Rattle.tre_parse.specs.declared.token.Token.TheVariants.{Semicolon, Bar, DoubleBar, Ampersand, DoubleAmpersand}
-use Rattle.tre_parse.specs.Grammar.{StateRule, state, conj, neg, Rule, expr, meet, seq, post}
+use Rattle.tre_parse.specs.declared.token.Token.TheVariants.{LeftParen, RightParen, LeftBrace, RightBrace, Semicolon, Bar, DoubleBar, Ampersand, DoubleAmpersand, Rise, Fall}
+use Rattle.tre_parse.specs.Grammar.{StateRule, lit, state, conj, neg, Rule, expr, meet, seq}
 use Rattle.tre_parse.specs.declared.connective.Connective.{Connective}
 use Rattle.tre_parse.specs.declared.connective.Connective.TheVariants.{And, Or}
 use Rattle.tre_parse.specs.declared.connective.Join.{Join}
@@ -15,7 +15,7 @@ abbrev pub connected : Connective → StateTree → StateTree → StateTree
 connected And s t = conjunction s t
 connected Or s t = disjunction s t
 
--- The sign between two states that are joined so, the rule for both together, and that for each.
+-- The sign between two states that are joined so, and the rule for both together.
 abbrev pub connective_sign : Connective → Token
 connective_sign And = DoubleAmpersand
 connective_sign Or = DoubleBar
@@ -24,9 +24,10 @@ abbrev pub connected_rule : Connective → StateRule
 connected_rule And = conj
 connected_rule Or = state
 
-abbrev pub connected_part : Connective → StateRule
-connected_part And = neg
-connected_part Or = conj
+-- An operand of a state: in braces a literal.
+abbrev pub operand_in : Bool → StateRule
+operand_in true = lit
+operand_in false = neg
 
 abbrev pub joined_by : Join → PatternTree → PatternTree → PatternTree
 joined_by Sequence e f = sequence e f
@@ -44,10 +45,15 @@ joined_rule Sequence = seq
 joined_rule Intersection = meet
 joined_rule Alternation = expr
 
-abbrev pub joined_part : Join → Rule
-joined_part Sequence = post
-joined_part Intersection = seq
-joined_part Alternation = meet
+-- `rise` or `fall`.
+abbrev pub edge_sign : Bool → Token
+edge_sign true = Rise
+edge_sign false = Fall
+
+-- The brackets around a state in an operand: in a literal, braces.
+abbrev pub brackets_of : Bool → Token × Token
+brackets_of true = (LeftBrace, RightBrace)
+brackets_of false = (LeftParen, RightParen)
 
 -- So many negations of the state.
 abbrev pub negated : ℕ → StateTree → StateTree

@@ -11,11 +11,15 @@ pub mod Numbering
 pub mod Strength
 pub mod Depth
 pub mod Blanks
+pub mod Ends
+pub mod Past
 -- What the functions inside promise each other.
 pub mod Front
 pub mod Scan
 pub mod Joins
 pub mod Parts
 pub mod Operands
+pub mod Reader
+pub mod Unkept
 pub mod Reading
 pub mod Answers

@@ -1,4 +1,4 @@
-ghost use Rattle.std.specs.Prelude.{◌≡◌, ◌≤◌, Some};
+ghost use Rattle.std.specs.Prelude.{◌≡◌, ◌≤◌, Some, None};
 ghost use Rattle.tre_parse.specs.declared.limits.TheConstants.{COUNT_MAX};
 ghost use Rattle.tre_parse.specs.Joins.{Keeps};
 
@@ -10,6 +10,8 @@ use tre_syntax::NODES_MAX;
 pub(crate) struct Counted<T> {
     pub(crate) nodes: u64,
     pub(crate) tree: Option<T>,
+    /// How many tokens are left at the first interval of it that can't be kept.
+    pub(crate) unkept: Option<usize>,
     ghost counted: { nodes ≤ COUNT_MAX },
 }
 
@@ -18,10 +20,12 @@ impl<T: Drop> Counted<T> {
     pub(crate) fn leaf(tree: T) -> Counted<T>
         ensures nodes { result.nodes ≡ 1 }
         ensures tree { result.tree ≡ Some tree }
+        ensures unkept { result.unkept ≡ None }
     {
         Counted {
             nodes: 1,
             tree: Some(tree),
+            unkept: None,
         }
     }
 

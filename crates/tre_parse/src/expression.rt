@@ -1,11 +1,12 @@
 //! Expressions, one function for each kind of rule.
-ghost use Rattle.std.specs.Prelude.{◌≡◌, ◌≤◌, length, IfOk};
+ghost use Rattle.std.specs.Prelude.{◌≡◌, ◌≤◌, None, length, IfOk};
 ghost use Rattle.tre_state.specs.StateTree.{StateTree};
-ghost use Rattle.tre_parse.specs.Grammar.{Rule, post};
-ghost use Rattle.tre_parse.specs.Joins.{joined_rule, joined_part, plain_literal, edged_literal};
+ghost use Rattle.tre_parse.specs.Joins.{edge_sign, plain_literal, edged_literal};
 ghost use Rattle.tre_parse.specs.Operands.{RepresentsState, Represents, Turns};
 ghost use Rattle.tre_parse.specs.Front.{front};
-ghost use Rattle.tre_parse.specs.Reading.{IsPast, OperandMayCome, BeginsLiteral, edge_sign, ParsesBy, RefusesEnds};
+ghost use Rattle.tre_parse.specs.Reader.{PatternTask, expression_part};
+ghost use Rattle.tre_parse.specs.Reading.{BeginsLiteral, Reads};
+ghost use Rattle.tre_parse.specs.Unkept.{FindsUpTo};
 
 use crate::connective::{Connective, Join};
 use crate::counted::Counted;
@@ -22,9 +23,9 @@ use tre_syntax::Expr;
 /// least, between them they are a whole expression.
 #[cycle(expression)]
 pub(crate) fn expression(alloc: Global, how: Join, tokens: &mut Cursor) -> Result<Operand, Stop>
-    ensures reads { ParsesBy (joined_rule how) result tokens.old tokens.new }
+    ensures reads { Reads (PatternTask.expression_by how) result tokens.old tokens.new }
     ensures shorter { IfOk result (λ _. length tokens.new ≤ length tokens.old) }
-    ensures ends { IfOk result (λ _. IsPast (joined_rule how) (front tokens.new)) }
+    ensures unkept { IfOk result (λ x. FindsUpTo tokens.old tokens.new x.unkept) }
 {
     let mut whole = part(alloc, how, tokens)?;
     while tokens.accept(how.sign()) {
@@ -37,9 +38,9 @@ pub(crate) fn expression(alloc: Global, how: Join, tokens: &mut Cursor) -> Resul
 // What stands between those signs.
 #[cycle(expression)]
 fn part(alloc: Global, how: Join, tokens: &mut Cursor) -> Result<Operand, Stop>
-    ensures reads { ParsesBy (joined_part how) result tokens.old tokens.new }
+    ensures reads { Reads (expression_part how) result tokens.old tokens.new }
     ensures shorter { IfOk result (λ _. length tokens.new ≤ length tokens.old) }
-    ensures ends { IfOk result (λ _. IsPast (joined_part how) (front tokens.new)) }
+    ensures unkept { IfOk result (λ x. FindsUpTo tokens.old tokens.new x.unkept) }
 {
     match how {
         Join::Alternation => expression(alloc, Join::Intersection, tokens),
@@ -52,9 +53,9 @@ fn part(alloc: Global, how: Join, tokens: &mut Cursor) -> Result<Operand, Stop>
 // part of the primary.
 #[cycle(expression)]
 fn operand(alloc: Global, tokens: &mut Cursor) -> Result<Operand, Stop>
-    ensures reads { ParsesBy post result tokens.old tokens.new }
+    ensures reads { Reads PatternTask.operand result tokens.old tokens.new }
     ensures shorter { IfOk result (λ _. length tokens.new ≤ length tokens.old) }
-    ensures ends { IfOk result (λ _. IsPast post (front tokens.new)) }
+    ensures unkept { IfOk result (λ x. FindsUpTo tokens.old tokens.new x.unkept) }
 {
     let mut whole = primary(alloc, tokens)?;
     loop {
@@ -74,8 +75,9 @@ fn operand(alloc: Global, tokens: &mut Cursor) -> Result<Operand, Stop>
             }
             Token::Percent => {
                 tokens.advance();
+                let at = tokens.left();
                 let within = interval(tokens)?;
-                whole = restricted(alloc, whole, within)?;
+                whole = restricted(alloc, whole, within, at)?;
             }
             Token::Ends => return Err(tokens.refused()),
             _ => return Ok(whole),
@@ -86,9 +88,9 @@ fn operand(alloc: Global, tokens: &mut Cursor) -> Result<Operand, Stop>
 // `eps`, an expression in parentheses, an edge, or a literal.
 #[cycle(expression)]
 fn primary(alloc: Global, tokens: &mut Cursor) -> Result<Operand, Stop>
-    ensures reads { ParsesBy Rule.primary result tokens.old tokens.new }
+    ensures reads { Reads PatternTask.unsigned result tokens.old tokens.new }
     ensures shorter { IfOk result (λ _. length tokens.new ≤ length tokens.old) }
-    ensures ends { IfOk result (λ _. RefusesEnds OperandMayCome tokens.old tokens.new) }
+    ensures unkept { IfOk result (λ x. FindsUpTo tokens.old tokens.new x.unkept) }
 {
     match tokens.peek() {
         Token::Eps => {
@@ -110,9 +112,9 @@ fn primary(alloc: Global, tokens: &mut Cursor) -> Result<Operand, Stop>
 // `rise` or `fall`, and a state in parentheses.
 fn edge(alloc: Global, rises: bool, tokens: &mut Cursor) -> Result<Operand, Stop>
     requires { front tokens.old ≡ edge_sign rises }
-    ensures reads { ParsesBy Rule.primary result tokens.old tokens.new }
+    ensures reads { Reads PatternTask.unsigned result tokens.old tokens.new }
     ensures shorter { IfOk result (λ _. length tokens.new ≤ length tokens.old) }
-    ensures ends { IfOk result (λ _. RefusesEnds OperandMayCome tokens.old tokens.new) }
+    ensures unkept { IfOk result (λ x. FindsUpTo tokens.old tokens.new x.unkept) }
 {
     tokens.advance();
     tokens.expect(Token::LeftParen)?;
@@ -124,9 +126,9 @@ fn edge(alloc: Global, rises: bool, tokens: &mut Cursor) -> Result<Operand, Stop
 // A literal, after `<:` or not, and `:>` after it or not.
 fn literal(alloc: Global, tokens: &mut Cursor) -> Result<Operand, Stop>
     requires { BeginsLiteral (front tokens.old) }
-    ensures reads { ParsesBy Rule.primary result tokens.old tokens.new }
+    ensures reads { Reads PatternTask.unsigned result tokens.old tokens.new }
     ensures shorter { IfOk result (λ _. length tokens.new ≤ length tokens.old) }
-    ensures ends { IfOk result (λ _. RefusesEnds OperandMayCome tokens.old tokens.new) }
+    ensures unkept { IfOk result (λ x. FindsUpTo tokens.old tokens.new x.unkept) }
 {
     let begins = tokens.accept(Token::Begins);
     let formula = states::operand(alloc, true, tokens)?;
@@ -137,7 +139,9 @@ fn literal(alloc: Global, tokens: &mut Cursor) -> Result<Operand, Stop>
 
 // A literal with its edges: the rise before it, and the fall after it.
 fn edged(alloc: Global, begins: bool, formula: Formula, ends: bool) -> Result<Operand, AllocError>
-    ensures { IfOk result (Turns RepresentsState Represents (edged_literal begins ends) formula) }
+    ensures stands { IfOk result (Turns RepresentsState Represents (edged_literal begins ends)
+        formula) }
+    ensures unkept { IfOk result (λ x. x.unkept ≡ None) }
 {
     if ends {
         let again = copied(alloc, &formula)?;
@@ -150,7 +154,8 @@ fn edged(alloc: Global, begins: bool, formula: Formula, ends: bool) -> Result<Op
 }
 
 fn plain(alloc: Global, begins: bool, formula: Formula) -> Result<Operand, AllocError>
-    ensures { IfOk result (Turns RepresentsState Represents (plain_literal begins) formula) }
+    ensures stands { IfOk result (Turns RepresentsState Represents (plain_literal begins) formula) }
+    ensures unkept { IfOk result (λ x. x.unkept ≡ None) }
 {
     if begins {
         let again = copied(alloc, &formula)?;

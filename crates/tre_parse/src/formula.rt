@@ -22,7 +22,11 @@ pub(crate) fn negated(alloc: Global, formula: Formula) -> Result<Formula, AllocE
         None => None,
         Some(state) => Some(State::Not(Box::new(alloc, state)?)),
     };
-    Ok(Counted { nodes, tree })
+    Ok(Counted {
+        nodes,
+        tree,
+        unkept: None,
+    })
 }
 
 /// The two states joined.
@@ -39,7 +43,11 @@ pub(crate) fn connected(
     let nodes = (left.nodes + right.nodes + 1).min(COUNT_MAX);
     let second = right.into_tree(nodes);
     match left.into_tree(nodes).zip(second) {
-        None => Ok(Counted { nodes, tree: None }),
+        None => Ok(Counted {
+            nodes,
+            tree: None,
+            unkept: None,
+        }),
         Some((first, second)) => {
             let left = Box::new(alloc, first)?;
             let right = Box::new(alloc, second)?;
@@ -47,7 +55,11 @@ pub(crate) fn connected(
                 Connective::And => State::And(left, right),
                 Connective::Or => State::Or(left, right),
             });
-            Ok(Counted { nodes, tree })
+            Ok(Counted {
+                nodes,
+                tree,
+                unkept: None,
+            })
         }
     }
 }
@@ -61,5 +73,9 @@ pub(crate) fn copied(alloc: Global, formula: &Formula) -> Result<Formula, AllocE
         None => None,
         Some(state) => Some(state.try_clone(alloc)?),
     };
-    Ok(Counted { nodes, tree })
+    Ok(Counted {
+        nodes,
+        tree,
+        unkept: None,
+    })
 }

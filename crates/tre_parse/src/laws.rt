@@ -10,7 +10,11 @@ ghost use Rattle.tre_parse.specs.Grammar.{StateRule, SpellsState, Rule, Spells};
 ghost use Rattle.tre_parse.specs.Begins.{BeginsState, Begins, IsCompletable};
 ghost use Rattle.tre_parse.specs.Depth.{open_from, IsDeepAt};
 ghost use Rattle.tre_parse.specs.Strength.{Groups, StateGroups};
-ghost use Rattle.tre_parse.specs.Lexeme.{is_blank, sign_lexeme};
+ghost use Rattle.std.specs.Char.{is_ascii_digit};
+ghost use Rattle.tre_state.specs.Name.{starts_name, continues_name};
+ghost use Rattle.tre_parse.specs.Ends.{bytes_in, EndsRun};
+ghost use Rattle.tre_parse.specs.Past.{UsesFew, IsOneTooMany};
+ghost use Rattle.tre_parse.specs.Lexeme.{is_blank, sign_lexeme, lexeme_of};
 ghost use Rattle.tre_parse.specs.Signs.{IsSign, TakesSign};
 ghost use Rattle.tre_parse.specs.declared.lexeme.Lexeme.TheVariants.{Sign};
 ghost use Rattle.tre_state.specs.Names.{place_of};
@@ -35,6 +39,14 @@ pub fn longest_sign()
         TakesSign (spelling ++ rest) (length spelling) }
     ensures only { (bytes : List ℕ) (token : Token) (len : ℕ) →
         sign_lexeme bytes ≡ Sign token len → IsSign (take len bytes) token }
+{}
+
+/// A word has as many bytes as can stand in a name, and a number as many digits as there are.
+pub fn longest_word()
+    ensures words { (byte : ℕ) (rest : List ℕ) → starts_name byte ≡ true →
+        EndsRun continues_name (byte ∷ rest) (bytes_in (lexeme_of (byte ∷ rest))) }
+    ensures numbers { (byte : ℕ) (rest : List ℕ) → is_ascii_digit byte ≡ true →
+        EndsRun is_ascii_digit (byte ∷ rest) (bytes_in (lexeme_of (byte ∷ rest))) }
 {}
 
 /// Tokens begin a rule exactly where some further tokens complete them to what it spells.
@@ -139,4 +151,11 @@ pub fn numbers_of_names()
         HasTokenAt (tokens_of text) (length front)
         (Name (unwrap_or (place_of (names_of text) bytes) NAMES_MAX)) }
     ensures first_use { (text : List ℕ) → IsNumberedByUse (text_tokens_of text) }
+{}
+
+/// A name is past the first `NAMES_MAX` where it is first used that is none of the `NAMES_MAX`
+/// different ones used before it, and no name is where no more than `NAMES_MAX` are used.
+pub fn one_name_too_many()
+    ensures { (text : List ℕ) → MatchOption (text_tokens_of text).past
+        (UsesFew (raw_tokens_of text)) (IsOneTooMany (raw_tokens_of text)) }
 {}

@@ -4,6 +4,7 @@ ghost use Rattle.std.specs.List.{prefix_len, AllPass};
 ghost use Rattle.tre_state.specs.Name.{continues_name, starts_name};
 ghost use Rattle.tre_parse.specs.Lexeme.{is_blank, reserved, word_lexeme, decimal, number_lexeme, first_sign, lexeme_of, FitsIn};
 
+use crate::sign;
 use crate::token::Token;
 use tre_pairs::TIME_MAX;
 use tre_state::{continues_name, starts_name};
@@ -23,25 +24,25 @@ pub(crate) enum Lexeme {
 
 /// The signs and their tokens. A sign stands before those that it begins with.
 pub(crate) const SIGNS: [(&str, Token); 19] = [
-    ("||", Token::DoubleBar),
-    ("&&", Token::DoubleAmpersand),
-    ("<:", Token::Begins),
-    (":>", Token::Ends),
-    ("(", Token::LeftParen),
-    (")", Token::RightParen),
-    ("[", Token::LeftBracket),
-    ("]", Token::RightBracket),
-    ("{", Token::LeftBrace),
-    ("}", Token::RightBrace),
-    (",", Token::Comma),
-    (";", Token::Semicolon),
-    ("|", Token::Bar),
-    ("&", Token::Ampersand),
-    ("!", Token::Bang),
-    ("*", Token::Star),
-    ("+", Token::Plus),
-    ("?", Token::Question),
-    ("%", Token::Percent),
+    (sign::DOUBLE_BAR, Token::DoubleBar),
+    (sign::DOUBLE_AMPERSAND, Token::DoubleAmpersand),
+    (sign::BEGINS, Token::Begins),
+    (sign::ENDS, Token::Ends),
+    (sign::LEFT_PAREN, Token::LeftParen),
+    (sign::RIGHT_PAREN, Token::RightParen),
+    (sign::LEFT_BRACKET, Token::LeftBracket),
+    (sign::RIGHT_BRACKET, Token::RightBracket),
+    (sign::LEFT_BRACE, Token::LeftBrace),
+    (sign::RIGHT_BRACE, Token::RightBrace),
+    (sign::COMMA, Token::Comma),
+    (sign::SEMICOLON, Token::Semicolon),
+    (sign::BAR, Token::Bar),
+    (sign::AMPERSAND, Token::Ampersand),
+    (sign::BANG, Token::Bang),
+    (sign::STAR, Token::Star),
+    (sign::PLUS, Token::Plus),
+    (sign::QUESTION, Token::Question),
+    (sign::PERCENT, Token::Percent),
 ];
 
 // A number for all those above the latest time.

@@ -29,7 +29,6 @@ mod limits;
 mod operand;
 mod parser;
 mod scan;
+pub mod sign;
 mod states;
-#[cfg(test)]
-mod tests;
 mod token;

@@ -1,8 +1,6 @@
-ghost use Rattle.std.specs.Prelude.{◌≡◌, ◌≤◌, None, MatchOption, position};
-ghost use Rattle.tre_parse.specs.Outcome.{is_big, open_after, deep_place, IsFirstEmpty, NoneEmpty};
+ghost use Rattle.std.specs.Prelude.{◌≡◌, ◌≤◌, position};
+ghost use Rattle.tre_parse.specs.Outcome.{is_big, open_after, deep_place};
 
-use crate::cursor::Cursor;
-use crate::interval::interval;
 use crate::token::Token;
 use tre_pairs::TIME_MAX;
 
@@ -49,24 +47,4 @@ fn open_after(depth: usize, token: Token) -> usize
         Token::RightParen | Token::RightBracket | Token::RightBrace => depth.saturating_sub(1),
         _ => depth,
     }
-}
-
-/// The place of the first interval that no duration is in.
-pub(crate) fn first_empty(tokens: &[Token]) -> Option<usize>
-    requires { position is_big tokens.now ≡ None }
-    ensures { MatchOption result (NoneEmpty tokens.now) (IsFirstEmpty tokens.now) }
-{
-    for place in 0..tokens.len() {
-        let mut rest = Cursor::new(&tokens[place..]);
-        if !rest.accept(Token::Percent) {
-            continue;
-        }
-        let Ok(kept) = interval(&mut rest) else {
-            continue;
-        };
-        if kept.is_none() {
-            return Some(place + 1);
-        }
-    }
-    None
 }

@@ -1,4 +1,4 @@
-ghost use Rattle.std.specs.Prelude.{◌≡◌, IfOk};
+ghost use Rattle.std.specs.Prelude.{◌≡◌, None, IfOk};
 ghost use Rattle.tre_state.specs.State.{tree_of as state_tree};
 ghost use Rattle.tre_state.specs.StateTree.{StateTree};
 ghost use Rattle.tre_zone.specs.Interval.{IntervalEnds};
@@ -7,6 +7,8 @@ ghost use Rattle.tre_syntax.specs.PatternTree.{PatternTree, atom, literal, seque
 ghost use Rattle.tre_parse.specs.Joins.{edge_of, joined_by};
 ghost use Rattle.tre_parse.specs.Operands.{RepresentsState, Represents, Turns};
 ghost use Rattle.tre_parse.specs.Parts.{IsMadeOf};
+ghost use Rattle.tre_parse.specs.Tokens.{earlier};
+ghost use Rattle.tre_parse.specs.Unkept.{unkept_at};
 
 use crate::connective::Join;
 use crate::counted::Counted;
@@ -22,17 +24,23 @@ pub(crate) type Operand = Counted<Expr>;
 
 /// A stretch on which the state holds.
 pub(crate) fn literal(formula: Formula) -> Operand
-    ensures { Turns RepresentsState Represents (λ s. atom (literal s)) formula result }
+    ensures stands { Turns RepresentsState Represents (λ s. atom (literal s)) formula result }
+    ensures unkept { result.unkept ≡ None }
 {
     let nodes = (formula.nodes + 1).min(COUNT_MAX);
     let tree = formula.into_tree(nodes).map(|state| Expr::Lit(state));
-    Counted { nodes, tree }
+    Counted {
+        nodes,
+        tree,
+        unkept: None,
+    }
 }
 
 /// A moment at which the state rises or falls.
 #[tactic(auto, using(crate::proofs::Counts::edge_count))]
 pub(crate) fn edge(rises: bool, formula: Formula) -> Operand
-    ensures { Turns RepresentsState Represents (edge_of rises) formula result }
+    ensures stands { Turns RepresentsState Represents (edge_of rises) formula result }
+    ensures unkept { result.unkept ≡ None }
 {
     let nodes = (formula.nodes + 1).min(COUNT_MAX);
     let tree = formula.into_tree(nodes).map(|state| {
@@ -42,7 +50,11 @@ pub(crate) fn edge(rises: bool, formula: Formula) -> Operand
             Expr::Fall(state)
         }
     });
-    Counted { nodes, tree }
+    Counted {
+        nodes,
+        tree,
+        unkept: None,
+    }
 }
 
 /// The two expressions joined.
@@ -53,13 +65,19 @@ pub(crate) fn joined(
     left: Operand,
     right: Operand,
 ) -> Result<Operand, AllocError>
-    ensures { IfOk result (λ r. (e f : PatternTree) → Represents left e → Represents right f →
-        Represents r (joined_by how e f)) }
+    ensures stands { IfOk result (λ r. (e f : PatternTree) → Represents left e →
+        Represents right f → Represents r (joined_by how e f)) }
+    ensures unkept { IfOk result (λ r. r.unkept ≡ earlier left.unkept right.unkept) }
 {
     let nodes = (left.nodes + right.nodes + 1).min(COUNT_MAX);
+    let unkept = left.unkept.or(right.unkept);
     let second = right.into_tree(nodes);
     match left.into_tree(nodes).zip(second) {
-        None => Ok(Counted { nodes, tree: None }),
+        None => Ok(Counted {
+            nodes,
+            tree: None,
+            unkept,
+        }),
         Some((first, second)) => {
             let left = Box::new(alloc, first)?;
             let right = Box::new(alloc, second)?;
@@ -68,28 +86,41 @@ pub(crate) fn joined(
                 Join::Intersection => Expr::Meet(left, right),
                 Join::Alternation => Expr::Alt(left, right),
             });
-            Ok(Counted { nodes, tree })
+            Ok(Counted {
+                nodes,
+                tree,
+                unkept,
+            })
         }
     }
 }
 
 /// Any number of times.
 pub(crate) fn repeated(alloc: Global, operand: Operand) -> Result<Operand, AllocError>
-    ensures { IfOk result (Turns Represents Represents repetition operand) }
+    ensures stands { IfOk result (Turns Represents Represents repetition operand) }
+    ensures unkept { IfOk result (λ r. r.unkept ≡ operand.unkept) }
 {
     let nodes = (operand.nodes + 1).min(COUNT_MAX);
+    let unkept = operand.unkept;
     let tree = match operand.into_tree(nodes) {
         None => None,
         Some(expr) => Some(Expr::Star(Box::new(alloc, expr)?)),
     };
-    Ok(Counted { nodes, tree })
+    Ok(Counted {
+        nodes,
+        tree,
+        unkept,
+    })
 }
 
 /// Once, and then any number of times. The nodes are counted before anything is written out.
 pub(crate) fn at_least_once(alloc: Global, operand: Operand) -> Result<Operand, AllocError>
-    ensures { IfOk result (Turns Represents Represents (λ e. sequence e (repetition e)) operand) }
+    ensures stands { IfOk result (Turns Represents Represents (λ e. sequence e (repetition e))
+        operand) }
+    ensures unkept { IfOk result (λ r. r.unkept ≡ operand.unkept) }
 {
     let nodes = (2 * operand.nodes + 2).min(COUNT_MAX);
+    let unkept = operand.unkept;
     let tree = match operand.into_tree(nodes) {
         None => None,
         Some(expr) => {
@@ -97,22 +128,44 @@ pub(crate) fn at_least_once(alloc: Global, operand: Operand) -> Result<Operand, 
             Some(Expr::Seq(Box::new(alloc, expr)?, Box::new(alloc, again)?))
         }
     };
-    Ok(Counted { nodes, tree })
+    Ok(Counted {
+        nodes,
+        tree,
+        unkept,
+    })
 }
 
 /// With its duration in the interval, which is None where no duration is in the one that is spelt.
+/// So many tokens are left at that.
 pub(crate) fn restricted(
     alloc: Global,
     operand: Operand,
     interval: Option<Interval>,
+    at: usize,
 ) -> Result<Operand, AllocError>
-    ensures { IfOk result (λ r. (e : PatternTree) (ends : IntervalEnds) →
+    ensures stands { IfOk result (λ r. (e : PatternTree) (ends : IntervalEnds) →
         IsMadeOf interval ends → Represents operand e → Represents r (restriction e ends)) }
+    ensures unkept { IfOk result (λ r. r.unkept ≡ earlier operand.unkept (unkept_at interval at)) }
 {
     let nodes = (operand.nodes + 1).min(COUNT_MAX);
+    let unkept = operand.unkept.or(unkept_at(&interval, at));
     let tree = match operand.into_tree(nodes).zip(interval) {
         None => None,
         Some((expr, interval)) => Some(Expr::Within(Box::new(alloc, expr)?, interval)),
     };
-    Ok(Counted { nodes, tree })
+    Ok(Counted {
+        nodes,
+        tree,
+        unkept,
+    })
+}
+
+// The place of an interval that can't be kept.
+fn unkept_at(interval: &Option<Interval>, at: usize) -> Option<usize>
+    ensures { result ≡ unkept_at interval.now at }
+{
+    match interval {
+        Some(_) => None,
+        None => Some(at),
+    }
 }

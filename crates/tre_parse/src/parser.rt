@@ -1,7 +1,8 @@
 ghost use Rattle.std.specs.Prelude.{◌≡◌, [], Ok, Some, None, IfOk, MatchResult};
 ghost use Rattle.tre_syntax.specs.Pattern.{pattern_tree, names_of};
-ghost use Rattle.tre_parse.specs.Grammar.{expr};
-ghost use Rattle.tre_parse.specs.Reading.{ParsesBy};
+ghost use Rattle.tre_parse.specs.Reader.{PatternTask};
+ghost use Rattle.tre_parse.specs.Reading.{Reads};
+ghost use Rattle.tre_parse.specs.Unkept.{FindsUpTo};
 ghost use Rattle.tre_parse.specs.Numbering.{IsNumberedByUse};
 ghost use Rattle.tre_parse.specs.Outcome.{IsSpelling, Outcome, limit_fault, IsOutcomeWithin, IsOutcome};
 ghost use Rattle.tre_parse.specs.Answers.{text_tokens_in, IsFaultOf, Answers};
@@ -10,7 +11,7 @@ use crate::connective::Join;
 use crate::cursor::{Cursor, Stop};
 use crate::expression::expression;
 use crate::fault::ParseFault;
-use crate::limits::{TEXT_MAX, first_big, first_deep, first_empty};
+use crate::limits::{TEXT_MAX, first_big, first_deep};
 use crate::operand::Operand;
 use crate::scan::{Scan, scan_text};
 use std::alloc::Global;
@@ -67,7 +68,7 @@ fn fault_of(scan: &Scan, stop: Stop) -> ParseFault
     match stop {
         Stop::Memory => ParseFault::Memory,
         Stop::Syntax { left } => ParseFault::Syntax {
-            at: scan.offset(scan.tokens.len().saturating_sub(left)),
+            at: scan.offset_of_left(left),
         },
     }
 }
@@ -76,11 +77,13 @@ fn fault_of(scan: &Scan, stop: Stop) -> ParseFault
 fn judge(scan: Scan, whole: Operand) -> Result<Pattern, ParseFault>
     requires numbered { IsNumberedByUse (text_tokens_in scan) }
     requires small { limit_fault (text_tokens_in scan) ≡ None }
-    requires whole { ParsesBy expr (Ok whole) scan.tokens.items [] }
+    requires whole { Reads (PatternTask.expression_by Join.Alternation) (Ok whole)
+        scan.tokens.items [] }
+    requires unkept { FindsUpTo scan.tokens.items [] whole.unkept }
     ensures { Answers (IsOutcomeWithin (text_tokens_in scan)) result }
 {
-    if let Some(place) = first_empty(&scan.tokens) {
-        let at = scan.offset(place);
+    if let Some(left) = whole.unkept {
+        let at = scan.offset_of_left(left);
         return Err(ParseFault::EmptyInterval { at });
     }
     if let Some(at) = scan.past {

@@ -1,4 +1,4 @@
-ghost use Rattle.std.specs.Prelude.{◌≡◌, ◌<◌, ◌≤◌, ℕ, ◌+◌, ◌++◌, [], ◌∷◌, Some, None, length, slice_index_or, OnOk, IfOk, IfErr};
+ghost use Rattle.std.specs.Prelude.{◌≡◌, ◌-◌, ◌<◌, ◌≤◌, ℕ, ◌+◌, ◌++◌, [], ◌∷◌, Some, None, length, take, drop, slice_index_or, OnOk, IfOk, IfErr};
 ghost use Rattle.tre_state.specs.Name.{IsName};
 ghost use Rattle.tre_state.specs.Names.{place_of};
 ghost use Rattle.tre_parse.specs.Tokens.{name, sign, names_with};
@@ -33,6 +33,14 @@ impl Scan {
         self.offsets.get(place).copied().unwrap_or(self.size)
     }
 
+    /// The offset of the token with which so many are left, the length of the text where none is.
+    pub(crate) fn offset_of_left(&self, left: usize) -> u64
+        ensures { result ≡ slice_index_or self.now.offsets.items
+            (length self.now.tokens.items - left) self.now.size }
+    {
+        self.offset(self.tokens.len().saturating_sub(left))
+    }
+
     // A token that is no name.
     fn put(&mut self, token: Token, at: usize) -> Result<(), AllocError>
         ensures { OnOk result (TakesToken self.old self.new at (sign token)) }
@@ -43,15 +51,12 @@ impl Scan {
     }
 
     // A name, which is numbered.
-    fn put_name(&mut self, word: &[u8], at: usize) -> Result<(), ParseFault>
+    fn put_name(&mut self, word: &str, at: usize) -> Result<(), ParseFault>
         requires { IsName word.now }
         ensures ok { OnOk result (TakesToken self.old self.new at (name word.now)) }
         ensures err { IfErr result (λ fault. fault ≡ ParseFault.Memory) }
     {
-        let Ok(text) = str::from_utf8(word) else {
-            unreachable!()
-        };
-        match self.names.number(text) {
+        match self.names.number(word) {
             Ok(number) => Ok(self.put(Token::Name(number), at)?),
             Err(NameFault::TooMany) => {
                 self.put(Token::Name(PAST), at)?;
@@ -63,16 +68,16 @@ impl Scan {
     }
 
     // What stands at an offset; answers the offset after it.
-    fn step(&mut self, bytes: &[u8], at: usize) -> Result<usize, ParseFault>
-        requires { at < length bytes.now }
-        ensures ok { IfOk result (GoesOn bytes.now self.old at self.new) }
-        ensures err { IfErr result (IsBadByte bytes.now at) }
+    fn step(&mut self, text: &str, at: usize) -> Result<usize, ParseFault>
+        requires { at < length text.now }
+        ensures ok { IfOk result (GoesOn text.now self.old at self.new) }
+        ensures err { IfErr result (IsBadByte text.now at) }
     {
-        match lexeme_of(&bytes[at..]) {
+        match lexeme_of(&text.as_bytes()[at..]) {
             Lexeme::Blank => Ok(at + 1),
             Lexeme::Wrong => Err(ParseFault::BadByte { at: at as u64 }),
             Lexeme::Name(len) => {
-                self.put_name(&bytes[at..at + len], at)?;
+                self.put_name(name_at(text, at, len), at)?;
                 Ok(at + len)
             }
             Lexeme::Sign(token, len) => {
@@ -83,22 +88,30 @@ impl Scan {
     }
 }
 
+// The name of so many bytes at an offset.
+fn name_at(text: &str, at: usize, len: usize) -> &str
+    requires within { at + len ≤ length text.now }
+    requires name { IsName (take len (drop at text.now)) }
+    ensures { result.now ≡ take len (drop at text.now) }
+{
+    &text[at..at + len]
+}
+
 /// The tokens of a text. Refuses the first byte at which no token begins.
 pub(crate) fn scan_text(alloc: Global, text: &str) -> Result<Scan, ParseFault>
     ensures ok { IfOk result (IsScan text.now) }
     ensures err { IfErr result (IsBadByte text.now 0) }
 {
-    let bytes = text.as_bytes();
     let mut scan = Scan {
         tokens: Vec::new(alloc),
         offsets: Vec::new(alloc),
         names: Names::new(alloc),
         past: None,
-        size: bytes.len() as u64,
+        size: text.len() as u64,
     };
     let mut at = 0;
-    while at < bytes.len() {
-        at = scan.step(bytes, at)?;
+    while at < text.len() {
+        at = scan.step(text, at)?;
     }
     Ok(scan)
 }

@@ -1,8 +1,9 @@
 //! States, one function for each kind of rule.
 ghost use Rattle.std.specs.Prelude.{◌≡◌, ◌≢◌, ◌≤◌, ◌++◌, length, replicate, IfOk};
 ghost use Rattle.tre_parse.specs.Front.{front};
-ghost use Rattle.tre_parse.specs.Joins.{connected_rule, connected_part};
-ghost use Rattle.tre_parse.specs.Reading.{IsPastState, ParsesState, ParsesStateOperand, brackets_of};
+ghost use Rattle.tre_parse.specs.Joins.{brackets_of};
+ghost use Rattle.tre_parse.specs.Reader.{StateTask, state_part};
+ghost use Rattle.tre_parse.specs.Reading.{ReadsState};
 
 use crate::connective::Connective;
 use crate::counted::Counted;
@@ -16,9 +17,8 @@ use tre_state::State;
 /// between them they are a whole state.
 #[cycle(state)]
 pub(crate) fn state(alloc: Global, how: Connective, tokens: &mut Cursor) -> Result<Formula, Stop>
-    ensures reads { ParsesState (connected_rule how) result tokens.old tokens.new }
+    ensures reads { ReadsState (StateTask.state_by how) result tokens.old tokens.new }
     ensures shorter { IfOk result (λ _. length tokens.new ≤ length tokens.old) }
-    ensures ends { IfOk result (λ _. IsPastState (connected_rule how) (front tokens.new)) }
 {
     let mut whole = part(alloc, how, tokens)?;
     while tokens.accept(how.sign()) {
@@ -31,9 +31,8 @@ pub(crate) fn state(alloc: Global, how: Connective, tokens: &mut Cursor) -> Resu
 // What stands between those signs.
 #[cycle(state)]
 fn part(alloc: Global, how: Connective, tokens: &mut Cursor) -> Result<Formula, Stop>
-    ensures reads { ParsesState (connected_part how) result tokens.old tokens.new }
+    ensures reads { ReadsState (state_part how) result tokens.old tokens.new }
     ensures shorter { IfOk result (λ _. length tokens.new ≤ length tokens.old) }
-    ensures ends { IfOk result (λ _. IsPastState (connected_part how) (front tokens.new)) }
 {
     match how {
         Connective::Or => state(alloc, Connective::And, tokens),
@@ -45,7 +44,7 @@ fn part(alloc: Global, how: Connective, tokens: &mut Cursor) -> Result<Formula, 
 /// parentheses.
 #[cycle(state)]
 pub(crate) fn operand(alloc: Global, braces: bool, tokens: &mut Cursor) -> Result<Formula, Stop>
-    ensures reads { ParsesStateOperand braces result tokens.old tokens.new }
+    ensures reads { ReadsState (StateTask.state_operand braces) result tokens.old tokens.new }
     ensures shorter { IfOk result (λ _. length tokens.new ≤ length tokens.old) }
 {
     let bangs = bangs(tokens);
@@ -59,7 +58,7 @@ pub(crate) fn operand(alloc: Global, braces: bool, tokens: &mut Cursor) -> Resul
 #[cycle(state)]
 fn without_bangs(alloc: Global, braces: bool, tokens: &mut Cursor) -> Result<Formula, Stop>
     requires { front tokens.old ≢ Token.Bang }
-    ensures reads { ParsesStateOperand braces result tokens.old tokens.new }
+    ensures reads { ReadsState (StateTask.state_operand braces) result tokens.old tokens.new }
     ensures shorter { IfOk result (λ _. length tokens.new ≤ length tokens.old) }
 {
     let (opening, closing) = brackets(braces);

@@ -18,8 +18,6 @@ mod part_reader;
 mod parts;
 mod said;
 mod spot;
-#[cfg(test)]
-mod tests;
 mod walk;
 
 pub use names::find_name;

@@ -13,8 +13,12 @@ use Rattle.tre_syntax.specs.Rest.{Rest}
 use Rattle.tre_syntax.proofs.CutMeaning.{Scales-rest}
 use Rattle.tre_zone.specs.Interval.{IntervalEnds}
 use Rattle.tre_zone.specs.declared.zone_bounds.ZoneBounds.{ZoneBounds}
-use Rattle.tre_residual.specs.Residual.{ResidualTree, nothing, here, joined, preceded, followed, either, lasting, Held, Means, EndAt, Builds, IsComposition}
-use Rattle.tre_residual.proofs.HeldSets.{Scales-Held, Held-empty}
+use Rattle.tre_zone.specs.Held.{Held, EndAt}
+use Rattle.tre_mark.specs.MarkTree.{MarkTree}
+use Rattle.tre_mark.specs.Marked.{IsBare}
+use Rattle.tre_mark.proofs.Starts.{bare_nothing}
+use Rattle.tre_residual.specs.Residual.{ResidualTree, nothing, here, joined, preceded, followed, either, lasting, marked, Means, Builds, IsComposition}
+use Rattle.tre_zone.proofs.HeldSets.{Scales-Held, Held-empty}
 use Rattle.tre_residual.proofs.Meanings.{Scales-Means}
 
 -- Any form stands for its own pairs.
@@ -78,6 +82,11 @@ nothing_joined tree = Builds-nothing (joined [] tree)
 
 pub nothing_lasting : (ends : IntervalEnds) → Builds nothing (lasting nothing ends)
 nothing_lasting ends = Builds-nothing (lasting nothing ends) (λ rest a b n some h. h.related)
+
+pub nothing_marked : (mark : MarkTree) (tree : PatternTree) → IsBare mark
+    → Builds nothing (marked mark tree)
+nothing_marked mark tree bare = Builds-nothing (marked mark tree)
+    (λ rest a b n some h. (bare_nothing mark bare).never tree rest a b n h)
 
 pub either_right : (other : ResidualTree) → Builds other (either nothing other)
 either_right other = record {

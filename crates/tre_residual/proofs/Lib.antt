@@ -1,4 +1,3 @@
-pub mod HeldSets
 pub mod Meanings
 pub mod Crossings
 pub mod Forms

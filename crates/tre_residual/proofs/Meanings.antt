@@ -1,41 +1,17 @@
 -- What a residual means speaks of times, the first of which is never after the second.
-use Rattle.std.proofs.Common.{ℕ, ◌*◌, refl, arith}
-use Rattle.std.proofs.Math.Nat.{mul_left_comm}
-use Rattle.tre_pairs.specs.Cuts.{JoinedAt}
-use Rattle.tre_pairs.specs.Pairs.{Pairs}
 use Rattle.tre_pairs.proofs.Laws.{Scales, IsOrdered}
 use Rattle.tre_pairs.proofs.Order.{IsOrdered-Composed, IsOrdered-Either, IsOrdered-Both, IsOrdered-Lasting}
-use Rattle.tre_pairs.proofs.Scaling.{moved, Scales-Composed, Scales-Either, Scales-Both, Scales-Lasting}
+use Rattle.tre_pairs.proofs.Scaling.{Scales-Composed, Scales-Either, Scales-Both, Scales-Lasting}
 use Rattle.tre_syntax.specs.Meaning.{MatchesRest}
 use Rattle.tre_syntax.specs.Rest.{Rest}
 use Rattle.tre_syntax.proofs.CutMeaning.{IsOrdered-rest, Scales-rest}
 use Rattle.tre_syntax.proofs.MeaningLaws.{DurationScales-LastsWithin}
+use Rattle.tre_zone.specs.Held.{Held}
 use Rattle.tre_zone.specs.Interval.{LastsWithin}
-use Rattle.tre_residual.specs.Residual.{ResidualTree, nothing, here, joined, preceded, followed, either, both, lasting, Held, Means}
-use Rattle.tre_residual.proofs.HeldSets.{Scales-Held, IsOrdered-Held}
-
-module _ (cut : ℕ) (R S : Pairs) where
-  pub Scales-JoinedAt : Scales R → Scales S → Scales (JoinedAt cut R S)
-  Scales-JoinedAt r s = record {
-    up = λ k a b n pos h. record {
-      left = moved R refl (mul_left_comm k cut n) refl (r.up k a (cut * n) n pos h.left);
-      right = moved S (mul_left_comm k cut n) refl refl (s.up k (cut * n) b n pos h.right);
-    };
-    down = λ k a b n pos h. record {
-      left = r.down k a (cut * n) n pos
-          (moved R refl (mul_left_comm cut k n) refl h.left);
-      right = s.down k (cut * n) b n pos
-          (moved S (mul_left_comm cut k n) refl refl h.right);
-    };
-  }
-
-  pub IsOrdered-JoinedAt : IsOrdered R → IsOrdered S → IsOrdered (JoinedAt cut R S)
-  IsOrdered-JoinedAt r s = record {
-    le = λ a b n h.
-        let first = r.le a (cut * n) n h.left in
-        let second = s.le (cut * n) b n h.right in
-        omega (arith, first, second);
-  }
+use Rattle.tre_zone.proofs.HeldSets.{Scales-Held, IsOrdered-Held}
+use Rattle.tre_zone.proofs.JoinedPairs.{Scales-JoinedAt, IsOrdered-JoinedAt}
+use Rattle.tre_mark.proofs.Meanings.{Scales-Marked, IsOrdered-Marked}
+use Rattle.tre_residual.specs.Residual.{ResidualTree, nothing, here, joined, preceded, followed, either, both, lasting, marked, Means}
 
 module _ (rest : Rest) where
   pub Scales-Means : (residual : ResidualTree) → Scales (Means residual rest)
@@ -56,6 +32,7 @@ module _ (rest : Rest) where
   Scales-Means (lasting residual ends) =
       Scales-Lasting (LastsWithin ends) (Means residual rest) (DurationScales-LastsWithin ends)
       (Scales-Means residual)
+  Scales-Means (marked mark tree) = Scales-Marked rest mark tree
 
   pub IsOrdered-Means : (residual : ResidualTree) → IsOrdered (Means residual rest)
   IsOrdered-Means nothing = record { le = λ a b n h. absurd h }
@@ -76,3 +53,4 @@ module _ (rest : Rest) where
       IsOrdered-Both (Means one rest) (Means other rest) (IsOrdered-Means one)
   IsOrdered-Means (lasting residual ends) =
       IsOrdered-Lasting (LastsWithin ends) (Means residual rest) (IsOrdered-Means residual)
+  IsOrdered-Means (marked mark tree) = IsOrdered-Marked rest mark tree

@@ -1,5 +1,5 @@
 -- Residuals: the matches that began before a time and may go on behind it, seen as trees.
-use Rattle.std.specs.Prelude.{◌≡◌, ℕ, ◌*◌, ◌<◌, ◌≤◌, ◌↔◌, List}
+use Rattle.std.specs.Prelude.{ℕ, ◌<◌, ◌↔◌, List}
 use Rattle.tre_pairs.specs.Cuts.{JoinedAt}
 use Rattle.tre_pairs.specs.Pairs.{Pairs, Composed, Either, Both, Lasting}
 use Rattle.tre_state.specs.declared.names.TheConstants.{NAMES_MAX}
@@ -7,13 +7,17 @@ use Rattle.tre_syntax.specs.Expr.{tree_of}
 use Rattle.tre_syntax.specs.Meaning.{MatchesRest}
 use Rattle.tre_syntax.specs.PatternTree.{PatternTree, NumbersBelow}
 use Rattle.tre_syntax.specs.Rest.{Rest}
+use Rattle.tre_zone.specs.Held.{Held, EndAt}
 use Rattle.tre_zone.specs.Interval.{IntervalEnds, LastsWithin}
-use Rattle.tre_zone.specs.ZoneList.{SetHolds}
 use Rattle.tre_zone.specs.declared.zone_bounds.ZoneBounds.{ZoneBounds}
+use Rattle.tre_mark.specs.MarkTree.{MarkTree, mark_of}
+use Rattle.tre_mark.specs.Marked.{Marked}
+use Rattle.tre_mark.specs.Marked as marks
 use Rattle.tre_residual.specs.declared.residual.Residual.{Residual}
-use Rattle.tre_residual.specs.declared.residual.Residual.TheVariants.{Nil, Here, At, Pre', Post', Or', Both', Dur'}
+use Rattle.tre_residual.specs.declared.residual.Residual.TheVariants.{Nil, Here, At, Pre', Post', Or', Both', Dur', Mark}
 
--- What a residual is made of: sets of zones, each seen as the list of its zones, and expressions.
+-- What a residual is made of: sets of zones, each seen as the list of its zones, expressions, and
+-- marks of these.
 pub data ResidualTree : Type 0 where
   nothing : ResidualTree
   here : List ZoneBounds → ResidualTree
@@ -23,6 +27,7 @@ pub data ResidualTree : Type 0 where
   either : ResidualTree → ResidualTree → ResidualTree
   both : ResidualTree → ResidualTree → ResidualTree
   lasting : ResidualTree → IntervalEnds → ResidualTree
+  marked : MarkTree → PatternTree → ResidualTree
 
 -- The residual of the program as a tree, without its boxes.
 abbrev pub residual_tree : Residual → ResidualTree
@@ -34,11 +39,7 @@ residual_tree (Post' box residual expr) = followed (residual_tree residual) (tre
 residual_tree (Or' box one box' other) = either (residual_tree one) (residual_tree other)
 residual_tree (Both' box one box' other) = both (residual_tree one) (residual_tree other)
 residual_tree (Dur' box residual interval) = lasting (residual_tree residual) interval
-
--- Some zone of the list holds the pair, the first time of which is not after the second.
-pub record Held (zones : List ZoneBounds) (a b n : ℕ) : Type 0 where
-  pub rising : a ≤ b
-  pub held : SetHolds zones a b n
+residual_tree (Mark mark expr) = marked (mark_of mark.value) (tree_of expr)
 
 -- The pairs that a residual stands for, where this rest of a trace comes.
 abbrev pub Means : ResidualTree → Rest → Pairs
@@ -53,12 +54,10 @@ Means (followed residual tree) rest a b n =
 Means (either one other) rest a b n = Either (Means one rest) (Means other rest) a b n
 Means (both one other) rest a b n = Both (Means one rest) (Means other rest) a b n
 Means (lasting residual ends) rest a b n = Lasting (LastsWithin ends) (Means residual rest) a b n
+Means (marked mark tree) rest a b n = Marked rest mark tree a b n
 
--- Each pair of the set ends at the time.
-pub record EndAt (time : ℕ) (zones : List ZoneBounds) : Type 0 where
-  pub ends : (a b n : ℕ) → 0 < n → Held zones a b n → b ≡ time * n
-
--- Each pair that is here ends at the time, and each expression names propositions that there are.
+-- Each pair that is here ends at the time, each mark is well there, and each expression names
+-- propositions that there are.
 abbrev pub IsWell : ℕ → ResidualTree → Type 0
 IsWell time nothing = Unit {0}
 IsWell time (here zones) = EndAt time zones
@@ -68,6 +67,7 @@ IsWell time (followed residual tree) = IsWell time residual × NumbersBelow NAME
 IsWell time (either one other) = IsWell time one × IsWell time other
 IsWell time (both one other) = IsWell time one × IsWell time other
 IsWell time (lasting residual ends) = IsWell time residual
+IsWell time (marked mark tree) = marks.IsWellAt time mark tree × NumbersBelow NAMES_MAX tree
 
 -- The residual is one at the time.
 pub record IsWellAt (time : ℕ) (residual : ResidualTree) : Type 0 where

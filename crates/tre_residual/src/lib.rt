@@ -14,5 +14,3 @@ pub use residual::{Residual, composed};
 
 pub mod laws;
 mod residual;
-#[cfg(test)]
-mod tests;

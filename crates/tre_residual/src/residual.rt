@@ -2,10 +2,12 @@ ghost use Rattle.std.specs.Prelude.{ℕ, ◌↔◌, ◌<◌, ◌≡◌, [], IfOk
 ghost use Rattle.tre_state.specs.declared.names.TheConstants.{NAMES_MAX};
 ghost use Rattle.tre_syntax.specs.Expr.{tree_of};
 ghost use Rattle.tre_syntax.specs.PatternTree.{NumbersBelow};
-ghost use Rattle.tre_residual.specs.Residual.{nothing, here, joined, preceded, followed, either, both, lasting, residual_tree, IsWellAt, Builds, IsComposition};
+ghost use Rattle.tre_mark.specs.MarkTree.{mark_of};
+ghost use Rattle.tre_residual.specs.Residual.{nothing, here, joined, preceded, followed, either, both, lasting, marked, residual_tree, IsWellAt, Builds, IsComposition};
 
 use std::alloc::{AllocError, Global};
-use tre_star::compose_sets::compose_sets;
+use tre_mark::Mark;
+use tre_star::compose_sets;
 use tre_syntax::Expr;
 use tre_zone::Interval;
 use tre_zoneset::ZoneSet;
@@ -30,6 +32,8 @@ pub enum Residual {
     Both(Box<Residual>, Box<Residual>),
     /// With its duration in the interval.
     Dur(Box<Residual>, Interval),
+    /// What a mark of the expression stands for: all of these forms in the shape of an expression.
+    Mark(Box<Mark>, Expr),
 }
 
 impl Residual {
@@ -83,6 +87,10 @@ impl Residual {
             }
             Residual::Dur(inner, interval) => {
                 let residual = Box::new(alloc, Residual::Dur(inner, interval))?;
+                Ok(Residual::Pre(zones, residual))
+            }
+            Residual::Mark(mark, expr) => {
+                let residual = Box::new(alloc, Residual::Mark(mark, expr))?;
                 Ok(Residual::Pre(zones, residual))
             }
         }
@@ -142,6 +150,18 @@ impl Residual {
         }
         let residual = Box::new(alloc, residual)?;
         Ok(Residual::Dur(residual, interval))
+    }
+
+    /// What a mark of the expression stands for.
+    pub fn mark(alloc: Global, mark: Mark, expr: Expr) -> Result<Residual, AllocError>
+        ensures { IfOk result (λ whole.
+            Builds (residual_tree whole) (marked (mark_of mark) (tree_of expr))) }
+    {
+        if mark.is_nothing() {
+            return Ok(Residual::Nil);
+        }
+        let mark = Box::new(alloc, mark)?;
+        Ok(Residual::Mark(mark, expr))
     }
 
     /// Whether it is `Nil`.

@@ -1,13 +1,7 @@
-pub mod Lists
 pub mod Orders
 pub mod Ranges
 pub mod Printing
 pub mod TreeTokens
-pub mod Lexing
-pub mod TextTokens
-pub mod Numbering
-pub mod Spelling
-pub mod ZoneLines
-pub mod TokenLimits
+pub mod ReadBack
 pub mod Outcomes
 pub mod LineOrder

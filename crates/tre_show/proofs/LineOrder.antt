@@ -45,24 +45,16 @@ same_test m n e = ap (λ k. k == 1) e
 low_by : (a b u v : ℕ) → u ≤ 1 → v ≤ 1 → 2 * a + v < 2 * b + u
     → (a < b) ⊎ ((a ≡ b) × ((u == 1) ≡ true) × ((v == 1) ≡ false))
 low_by a b u v p q h = ⊎_elim (λ below. inl below)
-    (λ above. inr (
-      omega (arith, above),
-      same_test u 1 (omega (arith, above)),
-      same_test v 0
-          (omega (arith, above)),
-    ))
+    (λ above.
+    let one : u ≡ 1 = omega (arith, above) in
+    let none : v ≡ 0 = omega (arith, above) in
+    inr (omega (arith, above), same_test u 1 one, same_test v 0 none))
     (cases_lt a b)
 
 high_by : (a b u v : ℕ) → u ≤ 1 → v ≤ 1 → 2 * a + u < 2 * b + v
     → (a < b) ⊎ ((a ≡ b) × ((u == 1) ≡ false) × ((v == 1) ≡ true))
-high_by a b u v p q h = ⊎_elim (λ below. inl below)
-    (λ above. inr (
-      omega (arith, above),
-      same_test u 0 (omega (arith, above)),
-      same_test v 1
-          (omega (arith, above)),
-    ))
-    (cases_lt a b)
+high_by a b u v p q h = ⊎_elim (λ below. inl below) (λ same. inr (same.0, same.2, same.1))
+    (low_by a b v u q p h)
 
 low_before : (low high low' high' : ℤ) → low ≤ℤ pos 1 → low' ≤ℤ pos 1 → neg_ℤ low <ℤ neg_ℤ low'
     → LowComesBefore (range_of low high) (range_of low' high')

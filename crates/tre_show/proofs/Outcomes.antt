@@ -1,115 +1,127 @@
 -- What becomes of the text of a pattern: it is read back.
-use Rattle.std.proofs.Common.{◌≡◌, ℕ, ◌≤◌, Bool, true, false, ◌⊎◌, ⊎_elim, inl, inr}
-use Rattle.std.proofs.Common.{Option, Some, None, List, length, sym, ap, ◌∙◌, subst, arith}
+use Rattle.std.proofs.Common.{◌≡◌, ℕ, ◌+◌, ◌≤◌, Bool, true, false, cond, not, inl, inr}
+use Rattle.std.proofs.Common.{Option, Some, None, List, [], ◌∷◌, ◌++◌, length, refl, sym, ap, ◌∙◌, subst, arith, append-nil}
 use Rattle.std.specs.Prelude.{nat_lt, min, MatchOption, if◌then◌else◌, position}
+use Rattle.std.specs.List.{position_or_len}
 use Rattle.std.specs.Option.{option_map}
+use Rattle.std.proofs.lemmas.Bool.{cond_above}
 use Rattle.std.proofs.lemmas.Bool.Decides.{nat_tests}
 use Rattle.tre_state.specs.Names.{IsNameList}
 use Rattle.tre_syntax.specs.Pattern.{IsPattern}
-use Rattle.tre_syntax.specs.PatternTree.{PatternTree, node_count, IsNumbered}
+use Rattle.tre_syntax.specs.PatternTree.{PatternTree, node_count}
 use Rattle.tre_parse.specs.declared.token.Token.{Token}
+use Rattle.tre_parse.specs.declared.token.Token.TheVariants.{Number, Percent}
 use Rattle.tre_parse.specs.declared.fault.ParseFault.TheVariants.{TooLong, BadByte, Number as TooBig, TooDeep, TooLarge}
 use Rattle.tre_parse.specs.Grammar.{expr, Spells}
-use Rattle.tre_parse.specs.Tokens.{earlier, tokens_of, bad_byte}
-use Rattle.tre_parse.specs.Outcome.{IsSpelling, Outcome, spelt, refused, TextTokens, text_tokens_of, is_big, deep_place, offset_of, past_or, NoneEmpty, IsOutcomeOfTokens, IsOutcomeWithin, IsOutcome}
-use Rattle.tre_parse.proofs.Completeness.{spelt_once}
+use Rattle.tre_parse.specs.Tokens.{raw_tokens_from, earlier, tokens_of, bad_byte}
+use Rattle.tre_parse.specs.Outcome.{IsSpelling, Outcome, spelt, refused, TextTokens, text_tokens_of, is_big, deep_place, offset_of, past_or, NoneEmpty, IsOutcomeOfTokens, IsOutcome}
 use Rattle.tre_show.specs.Intervals.{HasIntervals}
 use Rattle.tre_show.specs.PatternText.{expression_text}
 use Rattle.tre_show.specs.ReadBack.{IsReadBack}
-use Rattle.tre_show.proofs.TreeTokens.{tree_spelt}
-use Rattle.tre_show.proofs.TokenLimits.{AreWithin, tokens_within, none_big, none_empty}
-use Rattle.tre_show.proofs.Spelling.{IsReadAs, text_read, text_spells}
+use Rattle.tre_show.proofs.TreeTokens.{BeginsWell, Stand, tree_prints}
+use Rattle.tre_show.proofs.ReadBack.{AreRead, all_read}
 
--- a text without a byte that begins no token is too long, or its tokens decide
-by_bytes : (long : Bool) (bad : Option ℕ) (A : Type 0) (outcome : Outcome) → bad ≡ None
-    → MatchOption (if long then Some TooLong else option_map (λ at. BadByte at) bad) A
-    (λ fault. outcome ≡ refused fault)
-    → A ⊎ (outcome ≡ refused TooLong)
-by_bytes true bad A outcome good h = inr h
-by_bytes false None A outcome good h = inl h
-by_bytes false (Some at) A outcome good h = absurd (cc)
+-- ---- the limits on tokens
 
--- tokens without a number that is too big have too many open brackets, or are read
-by_limits : (big deep : Option ℕ) (at_of : ℕ → ℕ) (A : Type 0) (outcome : Outcome) → big ≡ None
-    → MatchOption (earlier (option_map (λ place. TooBig (at_of place)) big)
-    (option_map (λ place. TooDeep (at_of place)) deep)) A (λ fault. outcome ≡ refused fault)
-    → A ⊎ ((at : ℕ) × (outcome ≡ refused (TooDeep at)))
-by_limits None None at_of A outcome small h = inl h
-by_limits None (Some place) at_of A outcome small h = inr (at_of place, h)
-by_limits (Some place) deep at_of A outcome small h = absurd (cc)
+module _ (names : List (List ℕ)) where
+  one_small : (token : Token) (rest : List Token) → is_big token ≡ false
+      → position_or_len is_big rest ≡ length rest
+      → position_or_len is_big (token ∷ rest) ≡ length (token ∷ rest)
+  one_small token rest fails more =
+      ap (λ b. cond (not b) (1 + position_or_len is_big rest) 0) fails ∙ omega (arith, more)
 
-not_large : (nodes : ℕ) → nodes ≤ 1000 → nat_lt 1000 nodes ≡ false
-not_large nodes small = grind (arith, nat_tests)
+  none_big_len : (tokens : List Token) → Stand names tokens
+      → position_or_len is_big tokens ≡ length tokens
+  none_big_len [] stand = refl
+  none_big_len (Number n ∷ rest) stand =
+      let small : nat_lt 1099511627776 n ≡ false =
+      let within = stand.0.0 in grind (arith, nat_tests) in
+      one_small (Number n) rest small (none_big_len rest stand.1)
+  none_big_len (token ∷ rest) stand = one_small token rest refl (none_big_len rest stand.1)
 
--- words that spell an expression within the limits on names and nodes
-by_verdict : (past : Option ℕ) (tree : PatternTree) (names : List (List ℕ)) (outcome : Outcome)
-    → past ≡ None → node_count tree ≤ 1000
-    → outcome ≡ past_or past (if nat_lt 1000 (node_count tree)
-    then refused (TooLarge (min (node_count tree) 1000000000)) else spelt tree names)
-    → outcome ≡ spelt tree names
-by_verdict past tree names outcome none small e =
-    e ∙ ap (λ p. past_or p (if nat_lt 1000 (node_count tree)
-    then refused (TooLarge (min (node_count tree) 1000000000)) else spelt tree names)) none
-    ∙ ap (λ b. if b then refused (TooLarge (min (node_count tree) 1000000000)) else spelt tree
-    names)
-    (not_large (node_count tree) small)
+  none_big : (tokens : List Token) → Stand names tokens → position is_big tokens ≡ None
+  none_big tokens stand =
+      ap (λ n. cond (nat_lt n (length tokens)) (Some n) None) (none_big_len tokens stand)
+      ∙ sym (cond_above (length tokens) (length tokens) _ None None (omega arith) refl)
 
--- words that spell the tree, and nothing else
-by_reading : (words : TextTokens) (tree : PatternTree) (outcome : Outcome)
-    → Spells expr words.tokens tree
-    → NoneEmpty words.tokens → words.past ≡ None → node_count tree ≤ 1000
-    → IsOutcomeOfTokens words outcome
-    → outcome ≡ spelt tree words.names
-by_reading words tree outcome spells none past small read = ⊎_elim
-    (λ wrong. absurd (wrong.1.none tree spells))
-    (λ right.
-    let same : tree ≡ right.0 = spelt_once words.tokens tree right.0 spells right.1 in
-    ⊎_elim
-    (λ empty. absurd (none empty.0 empty.1.here.ends empty.1.here.stands empty.1.here.empty))
-    (λ full. by_verdict words.past tree words.names outcome past small
-    (subst (λ (t : PatternTree). outcome ≡ past_or words.past (if nat_lt 1000 (node_count t)
-    then refused (TooLarge (min (node_count t) 1000000000)) else spelt t words.names))
-    (sym same) full.1))
-    right.2)
-    read
+  -- behind each `%` there is no empty interval
+  well_behind : (front tokens rest : List Token) → Stand names tokens
+      → tokens ≡ front ++ Percent ∷ rest → BeginsWell rest
+  well_behind [] tokens rest stand e =
+      let all : Stand names (Percent ∷ rest) = subst (Stand names) e stand in all.0
+  well_behind (token ∷ front) [] rest stand e = absurd (cc)
+  well_behind (token ∷ front) (other ∷ others) rest stand e =
+      well_behind front others rest stand.1 (cc)
 
-pub read_back : (names : List (List ℕ)) (tree : PatternTree) → IsNameList names
-    → IsNumbered tree (length names) → HasIntervals tree → node_count tree ≤ 1000
-    → (outcome : Outcome) → IsOutcome (expression_text names tree) outcome
+  none_empty : (tokens : List Token) → Stand names tokens → NoneEmpty tokens
+  none_empty tokens stand = λ place ends at none.
+      well_behind at.front tokens (at.body ++ at.rest) stand at.split at.body at.rest ends refl
+      at.spelt none
+
+-- ---- the outcome
+
+-- Words of which nothing is refused but the length and the brackets.
+judged : (long : Bool) (bad big deep : Option ℕ) (words : TextTokens) (tree : PatternTree)
+    (names : List (List ℕ)) (outcome : Outcome) → bad ≡ None → big ≡ None
+    → let is = λ (o : Outcome). MatchOption (if long then Some TooLong
+    else option_map (λ at. BadByte at) bad) (MatchOption (earlier
+    (option_map (λ place. TooBig (offset_of words place)) big)
+    (option_map (λ place. TooDeep (offset_of words place)) deep)) (IsOutcomeOfTokens words o)
+    (λ fault. o ≡ refused fault)) (λ fault. o ≡ refused fault) in
+    IsOutcomeOfTokens words (spelt tree names) → ((o : Outcome) → is o → o ≡ outcome) → is outcome
     → IsReadBack tree names outcome
-read_back names tree list numbered fine small outcome is =
-    let text = expression_text names tree in
-    let words = text_tokens_of text in
-    let read : IsReadAs text tree names = text_read names tree list numbered fine in
-    let within : AreWithin (tokens_of text) = subst AreWithin (sym read.tokens)
-    (tokens_within tree fine) in
-    let spells : Spells expr (tokens_of text) tree =
-    subst (λ (ts : List Token). Spells expr ts tree) (sym read.tokens)
-    (tree_spelt tree fine).loosest in
-    ⊎_elim
-    (λ (of_words : IsOutcomeWithin words outcome). ⊎_elim
-    (λ (reading : IsOutcomeOfTokens words outcome). inl
-    (by_reading words tree outcome spells (none_empty
-    (tokens_of text) within) read.past small reading
-    ∙ ap (spelt tree) read.names_same))
-    (λ deep. inr (inr deep))
-    (by_limits (position is_big (tokens_of text)) (deep_place 0 0 (tokens_of text))
-    (offset_of words)
-    (IsOutcomeOfTokens words outcome) outcome (none_big (tokens_of text) within) of_words))
-    (λ long. inr (inl long))
-    (by_bytes (nat_lt 16384 (length text)) (bad_byte text) (IsOutcomeWithin words outcome) outcome
-    read.bad is)
+judged true bad big deep words tree names outcome p q read once is = inr (inl is)
+judged false None None (Some place) words tree names outcome p q read once is =
+    inr (inr (offset_of words place, is))
+judged false None None None words tree names outcome p q read once is =
+    inl (sym (once (spelt tree names) read))
+judged false None (Some place) deep words tree names outcome p q read once is = absurd (cc)
+judged false (Some at) big deep words tree names outcome p q read once is = absurd (cc)
+
+limited : (past : Option ℕ) (tree : PatternTree) (names : List (List ℕ)) → past ≡ None
+    → node_count tree ≤ 1000
+    → spelt tree names ≡ past_or past (if nat_lt 1000 (node_count tree)
+    then refused (TooLarge (min (node_count tree) 1000000000)) else spelt tree names)
+limited past tree names none small =
+    let few : nat_lt 1000 (node_count tree) ≡ false = grind (arith, nat_tests) in
+    rw (none, few) refl
 
 -- What is so of the text of a pattern.
 pub record IsTextOf (text : List ℕ) (tree : PatternTree) (names : List (List ℕ)) : Type 0 where
   pub spelling : IsSpelling text tree names
   pub outcome : (outcome : Outcome) → IsOutcome text outcome → IsReadBack tree names outcome
 
-pub text_of_pattern : (text : List ℕ) (names : List (List ℕ)) (tree : PatternTree)
-    → text ≡ expression_text names tree → IsNameList names → IsPattern tree names
-    → HasIntervals tree → IsTextOf text tree names
-text_of_pattern text names tree same list pattern fine =
-    subst (λ bytes. IsTextOf bytes tree names) (sym same) (record {
-      spelling = text_spells names tree list pattern.numbered fine;
-      outcome = read_back names tree list pattern.numbered fine pattern.small;
-    })
+pub text_of_tree : (names : List (List ℕ)) (tree : PatternTree) → IsNameList names
+    → IsPattern tree names → HasIntervals tree
+    → ((text : List ℕ) (o q : Outcome) → IsOutcome text o → IsOutcome text q → o ≡ q)
+    → IsTextOf (expression_text names tree) tree names
+text_of_tree names tree list pattern fine once =
+    let text = expression_text names tree in
+    let printed = tree_prints names tree fine 0 in
+    let tokens = printed.tokens in
+    let says = printed.says in
+    let stand : Stand names tokens =
+    subst (Stand names) (append-nil tokens) (says.stand [] tt tt) in
+    let is : AreRead names list [] tokens (raw_tokens_from 0 0 text) =
+    subst (λ t. AreRead names list [] tokens (raw_tokens_from 0 0 t)) says.text_same
+    (all_read names list tokens 0 0 stand (omega arith) (rw says.numbers_same pattern.numbered)) in
+    let spells : Spells expr (tokens_of text) tree =
+    subst (λ (ts : List Token). Spells expr ts tree) (sym is.tokens_same) printed.spells in
+    let words = text_tokens_of text in
+    let big : position is_big (tokens_of text) ≡ None =
+    ap (position is_big) is.tokens_same ∙ none_big names tokens stand in
+    let read : IsOutcomeOfTokens words (spelt tree names) = inr (
+      tree,
+      spells,
+      inr (
+        subst NoneEmpty (sym is.tokens_same) (none_empty names tokens stand),
+        ap (spelt tree) (sym is.names_same)
+            ∙ limited words.past tree words.names is.few pattern.small,
+      ),
+    ) in
+    record {
+      spelling = record { tokens_alone = is.good; spells = spells; numbered = sym is.names_same };
+      outcome = λ outcome said. judged (nat_lt 16384 (length text)) (bad_byte text)
+          (position is_big words.tokens) (deep_place 0 0 words.tokens) words tree names outcome
+          is.good big read (λ o so. once text o outcome so said) said;
+    }

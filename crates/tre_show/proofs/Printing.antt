@@ -1,9 +1,9 @@
 -- A printed text is that of one list of zones, and of one end.
-use Rattle.std.proofs.Common.{◌≡◌, ℕ, ◌≤◌, ◌==◌, List, [], ◌∷◌, ◌++◌, append_assoc, refl, sym, ◌∙◌, arith, ℤ, pos, ◌≤ℤ◌}
+use Rattle.std.proofs.Common.{◌≡◌, ℕ, ◌≤◌, ◌^◌, ◌==◌, List, [], ◌∷◌, ◌++◌, append_assoc, refl, sym, ◌∙◌, arith, ℤ, pos, ◌≤ℤ◌}
 use Rattle.std.specs.Prelude.{codes, decimal}
 use Rattle.std.proofs.lemmas.Int.{ints}
 use Rattle.tre_pairs.specs.declared.TheConstants.{TIME_MAX}
-use Rattle.tre_zone.specs.Bound.{weakness_of, sum_of}
+use Rattle.tre_zone.specs.Bound.{weakness_of, sum_of, IsKeyWithin}
 use Rattle.tre_zone.specs.Zone.{IsCanonical}
 use Rattle.tre_zone.specs.declared.zone_bounds.ZoneBounds.{ZoneBounds}
 use Rattle.tre_zone.proofs.Bounds.{split, split-sum}
@@ -22,39 +22,35 @@ up_from : (low high : ℤ) → pos 1 ≤ℤ sum_of low high → low ≤ℤ pos 1
 up_from low high loop down =
     let a = split low in let b = split high in let d = split-sum low high in omega (arith, ints)
 
+range_keys : (low high : ℤ) → low ≤ℤ pos 1 → pos 1 ≤ℤ sum_of low high
+    → IsKeyWithin (2 ^ 42) low → IsKeyWithin (2 ^ 42) high → AreRangeKeys low high
+range_keys low high down loop low_within high_within = record {
+  down = down;
+  up = up_from low high loop down;
+  low_within = low_within;
+  high_within = high_within;
+}
+
 -- the keys of each of its three ranges
 pub begin_keys : (zone : ZoneBounds) → IsCanonical zone
     → AreRangeKeys zone.begin_low zone.begin_high
 begin_keys zone canonical =
     let keys = canonical-keys zone canonical in
-    record {
-      down = canonical.framed.starts;
-      up = up_from zone.begin_low zone.begin_high canonical.room.begin_loop canonical.framed.starts;
-      low_within = keys.begin_low;
-      high_within = keys.begin_high;
-    }
+    range_keys zone.begin_low zone.begin_high canonical.framed.starts canonical.room.begin_loop
+    keys.begin_low keys.begin_high
 
 pub end_keys : (zone : ZoneBounds) → IsCanonical zone → AreRangeKeys zone.end_low zone.end_high
 end_keys zone canonical =
     let keys = canonical-keys zone canonical in
-    let down = lowered zone.end_low zone.begin_low zone.dur_low canonical.closed.end_low
-    canonical.framed.starts canonical.framed.lasts in
-    record {
-      down = down;
-      up = up_from zone.end_low zone.end_high canonical.room.end_loop down;
-      low_within = keys.end_low;
-      high_within = keys.end_high;
-    }
+    range_keys zone.end_low zone.end_high (lowered zone.end_low zone.begin_low zone.dur_low
+    canonical.closed.end_low canonical.framed.starts canonical.framed.lasts)
+    canonical.room.end_loop keys.end_low keys.end_high
 
 pub dur_keys : (zone : ZoneBounds) → IsCanonical zone → AreRangeKeys zone.dur_low zone.dur_high
 dur_keys zone canonical =
     let keys = canonical-keys zone canonical in
-    record {
-      down = canonical.framed.lasts;
-      up = up_from zone.dur_low zone.dur_high canonical.room.dur_loop canonical.framed.lasts;
-      low_within = keys.dur_low;
-      high_within = keys.dur_high;
-    }
+    range_keys zone.dur_low zone.dur_high canonical.framed.lasts canonical.room.dur_loop
+    keys.dur_low keys.dur_high
 
 -- ---- lines and texts
 

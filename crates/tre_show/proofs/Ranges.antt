@@ -1,5 +1,5 @@
 -- The text of a range tells its two bounds and what follows it.
-use Rattle.std.proofs.Common.{◌≡◌, ℕ, ◌<◌, ◌≤◌, ◌^◌, ◌==◌, Bool, true, false, List, [], ◌∷◌, ◌++◌, append_assoc, refl, sym, ap, ◌∙◌, arith, ℤ, pos, negsuc, neg_ℤ, ◌≤ℤ◌, nat_abs}
+use Rattle.std.proofs.Common.{◌≡◌, ◌≢◌, ℕ, ◌<◌, ◌≤◌, ◌^◌, ◌==◌, Bool, true, false, List, [], ◌∷◌, ◌++◌, append_assoc, refl, sym, ap, ◌∙◌, arith, ℤ, pos, negsuc, neg_ℤ, ◌≤ℤ◌, nat_abs}
 use Rattle.std.specs.Prelude.{codes, decimal, if◌then◌else◌}
 use Rattle.std.proofs.lemmas.Int.{ints}
 use Rattle.std.proofs.lemmas.Bool.Decides.{nat_tests}
@@ -70,19 +70,13 @@ pub no_range : (weak : Bool) (xs ys : List ℕ) → 101 ∷ ys ≡ left_of weak 
 no_range true xs ys e = let first = first_byte 101 91 ys xs e in absurd (omega arith)
 no_range false xs ys e = let first = first_byte 101 40 ys xs e in absurd (omega arith)
 
--- the left bracket tells whether the end is included
-left_once : (one other : Bool) → left_of one ≡ left_of other → one ≡ other
-left_once true true e = refl
-left_once true false e = absurd (omega arith)
-left_once false true e = absurd (omega arith)
-left_once false false e = refl
-
--- so does the right one
-right_once : (one other : Bool) → right_of one ≡ right_of other → one ≡ other
-right_once true true e = refl
-right_once true false e = absurd (omega arith)
-right_once false true e = absurd (omega arith)
-right_once false false e = refl
+-- a bracket tells whether the end is included
+bracket_once : (square round : ℕ) (one other : Bool) → square ≢ round
+    → (if one then square else round) ≡ (if other then square else round) → one ≡ other
+bracket_once square round true true differ e = refl
+bracket_once square round true false differ e = absurd (differ e)
+bracket_once square round false true differ e = absurd (differ (sym e))
+bracket_once square round false false differ e = refl
 
 -- the right bracket ends the digits before it
 right_no_digit : (weak : Bool) → 10 ≤ digit_value (right_of weak)
@@ -141,7 +135,9 @@ parts_once a b a' b' m n m' n' xs ys p q p' q' e =
     (right_no_digit b') behind_comma in
     let closed : right_of b ∷ xs ≡ right_of b' ∷ ys = high.1 in
     let last : right_of b ≡ right_of b' = cc in
-    (left_once a a' first, low.0, high.0, right_once b b' last, cc)
+    let left = bracket_once 91 40 a a' (λ e. absurd (omega (arith, e))) first in
+    let right = bracket_once 93 41 b b' (λ e. absurd (omega (arith, e))) last in
+    (left, low.0, high.0, right, cc)
 
 -- ---- the keys of a range
 

@@ -1,213 +1,417 @@
--- The tokens of a state and of an expression, and that they spell it.
-use Rattle.std.proofs.Common.{◌≡◌, ℕ, Bool, true, false, Option, Some, None, List, [], ◌∷◌, ◌++◌}
-use Rattle.std.proofs.Common.{refl}
-use Rattle.std.specs.Prelude.{nat_lt}
-use Rattle.tre_state.specs.StateTree.{StateTree, always, proposition, negation, conjunction}
-use Rattle.tre_state.specs.StateTree.{disjunction}
-use Rattle.tre_zone.specs.Interval.{IntervalEnds, IsInterval, kept_weak}
-use Rattle.tre_syntax.specs.PatternTree.{Atom, empty, literal, rise, fall, PatternTree, atom, sequence}
-use Rattle.tre_syntax.specs.PatternTree.{alternation, intersection, repetition, restriction}
-use Rattle.tre_show.specs.Intervals.{HasIntervals}
+-- The tokens of an expression: they spell it, its text is theirs, one after the other, and behind
+-- each of them stands what can stand there.
+use Rattle.std.proofs.Common.{◌≡◌, ℕ, ◌≤◌, ◌^◌, Bool, true, false, Option, Some, None, zero, suc, ◌+◌, ◌-◌, List, [], ◌∷◌, ◌++◌, flat_map, refl, sym, ap, ◌∙◌, subst, append_assoc, append-nil, arith}
+use Rattle.std.specs.Prelude.{nat_lt, codes, MatchOption}
+use Rattle.std.proofs.lemmas.Bool.Decides.{nat_tests}
+use Rattle.std.proofs.lemmas.Grind.{flat_map-append}
+use Rattle.tre_state.specs.Name.{continues_name}
+use Rattle.tre_state.specs.StateTree as state
+use Rattle.tre_state.specs.StateTree.{StateTree, always, proposition, negation, conjunction, disjunction}
+use Rattle.tre_zone.specs.Interval.{IntervalEnds, IsInterval, HasNoDuration, kept_weak}
+use Rattle.tre_syntax.specs.PatternTree.{Atom, empty, literal, rise, fall, PatternTree, atom, sequence, alternation, intersection, repetition, restriction, numbers_of, numbers_of_atom}
 use Rattle.tre_parse.specs.declared.token.Token.{Token}
-use Rattle.tre_parse.specs.declared.token.Token.TheVariants.{Name, Number, LeftParen, RightParen, LeftBrace, RightBrace, Comma, Semicolon, Bar, DoubleBar, Ampersand, DoubleAmpersand, Bang, Star, Percent, Eps, Rise, Fall, Inf, True}
-use Rattle.tre_parse.specs.Grammar.{SpellsState, lit, state as any_state, conj, neg, lit_name, lit_true, lit_braces, lit_bang, state_conj, state_bars, conj_neg, conj_ampersands, neg_name, neg_true, neg_parens, neg_bang}
+use Rattle.tre_parse.specs.declared.token.Token.TheVariants.{Name, Number, LeftParen, RightParen, LeftBracket, RightBracket, LeftBrace, RightBrace, Comma, Semicolon, Bar, DoubleBar, Ampersand, DoubleAmpersand, Bang, Star, Plus, Question, Percent, Begins, Ends, Eps, Rise, Fall, Inf, True, Event, EndOfText}
+use Rattle.tre_parse.specs.declared.sign.TheConstants.{LEFT_PAREN, RIGHT_PAREN, LEFT_BRACKET, RIGHT_BRACKET, LEFT_BRACE, RIGHT_BRACE, COMMA, SEMICOLON, BAR, DOUBLE_BAR, AMPERSAND, DOUBLE_AMPERSAND, BANG, STAR, PLUS, QUESTION, PERCENT, BEGINS, ENDS}
+use Rattle.tre_parse.specs.Grammar.{StateRule, SpellsState, lit, state as any_state, conj, neg, lit_name, lit_true, lit_braces, lit_bang, state_conj, state_bars, conj_neg, conj_ampersands, neg_name, neg_true, neg_parens, neg_bang}
 use Rattle.tre_parse.specs.Grammar.{opening, closing, SpellsInterval, with_high, without_high}
-use Rattle.tre_parse.specs.Grammar.{Spells, expr, meet, seq, post, primary, expr_meet, expr_bar, meet_seq, meet_ampersand, seq_post, seq_semicolon, post_primary, post_star, post_percent, primary_eps, primary_parens, primary_rise, primary_fall, primary_lit}
+use Rattle.tre_parse.specs.Grammar.{Rule, Spells, expr, meet, seq, post, primary, expr_meet, expr_bar, meet_seq, meet_ampersand, seq_post, seq_semicolon, post_primary, post_star, post_percent, primary_eps, primary_parens, primary_rise, primary_fall, primary_lit}
+use Rattle.tre_parse.specs.Numbering.{numbers_in}
+use Rattle.tre_show.specs.Interval.{number_text, lower_text, end_text, interval_text}
+use Rattle.tre_show.specs.Intervals.{HasIntervals}
+use Rattle.tre_show.specs.StateText.{in_parens, name_text, state_operand_text, state_text, literal_text}
+use Rattle.tre_show.specs.PatternText.{atom_text, operand_text}
 
--- ---- tokens
+-- ---- the text of tokens
 
-abbrev pub enclosed : Bool → List Token → List Token
-enclosed true xs = LeftParen ∷ xs ++ RightParen ∷ []
-enclosed false xs = xs
+-- What is printed of a token: a sign or a word, some of them between blanks, the bytes of a name,
+-- or digits.
+abbrev pub printed : List (List ℕ) → Token → List ℕ
+printed names (Name i) = name_text names i
+printed names (Number n) = number_text n
+printed names LeftParen = LEFT_PAREN.now
+printed names RightParen = RIGHT_PAREN.now
+printed names LeftBracket = LEFT_BRACKET.now
+printed names RightBracket = RIGHT_BRACKET.now
+printed names LeftBrace = LEFT_BRACE.now
+printed names RightBrace = RIGHT_BRACE.now
+printed names Comma = COMMA.now
+printed names Semicolon = SEMICOLON.now
+printed names Bar = codes " " ++ BAR.now ++ codes " "
+printed names DoubleBar = codes " " ++ DOUBLE_BAR.now ++ codes " "
+printed names Ampersand = codes " " ++ AMPERSAND.now ++ codes " "
+printed names DoubleAmpersand = codes " " ++ DOUBLE_AMPERSAND.now ++ codes " "
+printed names Bang = BANG.now
+printed names Star = STAR.now
+printed names Plus = PLUS.now
+printed names Question = QUESTION.now
+printed names Percent = codes " " ++ PERCENT.now ++ codes " "
+printed names Begins = BEGINS.now
+printed names Ends = ENDS.now
+printed names Eps = codes "eps"
+printed names Rise = codes "rise"
+printed names Fall = codes "fall"
+printed names Inf = codes "inf"
+printed names True = codes "true"
+printed names Event = codes "event"
+printed names EndOfText = []
 
-abbrev pub state_tokens : ℕ → StateTree → List Token
-state_tokens least always = True ∷ []
-state_tokens least (proposition i) = Name i ∷ []
-state_tokens least (negation s) = Bang ∷ state_tokens 2 s
-state_tokens least (conjunction s t) =
-    enclosed (nat_lt 1 least) (state_tokens 1 s ++ DoubleAmpersand ∷ state_tokens 2 t)
-state_tokens least (disjunction s t) =
-    enclosed (nat_lt 0 least) (state_tokens 0 s ++ DoubleBar ∷ state_tokens 1 t)
+abbrev pub text_of : List (List ℕ) → List Token → List ℕ
+text_of names tokens = flat_map (printed names) tokens
 
-abbrev pub literal_tokens : StateTree → List Token
-literal_tokens always = True ∷ []
-literal_tokens (proposition i) = Name i ∷ []
-literal_tokens (negation s) = Bang ∷ literal_tokens s
-literal_tokens (conjunction s t) = LeftBrace ∷ state_tokens 0 (conjunction s t) ++ RightBrace ∷ []
-literal_tokens (disjunction s t) = LeftBrace ∷ state_tokens 0 (disjunction s t) ++ RightBrace ∷ []
+-- The text doesn't go on with a word or a number.
+abbrev pub IsCut : List ℕ → Type 0
+IsCut [] = Unit {0}
+IsCut (byte ∷ rest) = continues_name byte ≡ false
 
-abbrev pub atom_tokens : Atom → List Token
-atom_tokens empty = Eps ∷ []
-atom_tokens (literal s) = literal_tokens s
-atom_tokens (rise s) = Rise ∷ LeftParen ∷ state_tokens 0 s ++ RightParen ∷ []
-atom_tokens (fall s) = Fall ∷ LeftParen ∷ state_tokens 0 s ++ RightParen ∷ []
+-- No interval of which the rest is the beginning is empty.
+abbrev pub BeginsWell : List Token → Type 0
+BeginsWell rest = (body left : List Token) (ends : IntervalEnds) → rest ≡ body ++ left
+    → SpellsInterval body ends → HasNoDuration ends → ⊥
 
-abbrev pub end_tokens : Option ℕ → Bool → List Token
+-- The token can stand before the rest: a word or a number isn't gone on with, a number isn't above
+-- the latest time, and behind `%` stands no empty interval.
+abbrev pub StandsBefore : List (List ℕ) → List Token → Token → Type 0
+StandsBefore names rest (Name i) = IsCut (text_of names rest)
+StandsBefore names rest (Number n) = (n ≤ 2 ^ 40) × IsCut (text_of names rest)
+StandsBefore names rest Eps = IsCut (text_of names rest)
+StandsBefore names rest Rise = IsCut (text_of names rest)
+StandsBefore names rest Fall = IsCut (text_of names rest)
+StandsBefore names rest Inf = IsCut (text_of names rest)
+StandsBefore names rest True = IsCut (text_of names rest)
+StandsBefore names rest Event = IsCut (text_of names rest)
+StandsBefore names rest Percent = BeginsWell rest
+StandsBefore names rest EndOfText = ⊥
+StandsBefore names rest _ = Unit {0}
+
+abbrev pub Stand : List (List ℕ) → List Token → Type 0
+Stand names [] = Unit {0}
+Stand names (token ∷ rest) = StandsBefore names rest token × Stand names rest
+
+-- ---- intervals
+
+abbrev end_tokens : Option ℕ → Bool → List Token
 end_tokens None weak = Inf ∷ RightParen ∷ []
 end_tokens (Some high) weak = Number high ∷ closing weak ∷ []
 
-abbrev pub interval_tokens : IntervalEnds → List Token
+abbrev interval_tokens : IntervalEnds → List Token
 interval_tokens ends =
     opening ends.low_weak ∷ Number ends.low ∷ Comma ∷ end_tokens ends.high ends.high_weak
 
-abbrev pub operand_tokens : ℕ → PatternTree → List Token
-operand_tokens least (atom x) = atom_tokens x
-operand_tokens least (sequence e f) =
-    enclosed (nat_lt 2 least) (operand_tokens 2 e ++ Semicolon ∷ operand_tokens 3 f)
-operand_tokens least (intersection e f) =
-    enclosed (nat_lt 1 least) (operand_tokens 1 e ++ Ampersand ∷ operand_tokens 2 f)
-operand_tokens least (alternation e f) =
-    enclosed (nat_lt 0 least) (operand_tokens 0 e ++ Bar ∷ operand_tokens 1 f)
-operand_tokens least (repetition e) = operand_tokens 3 e ++ Star ∷ []
-operand_tokens least (restriction e ends) = operand_tokens 3 e ++ Percent ∷ interval_tokens ends
-
--- ---- they spell it
-
--- The tokens of a state spell it, whatever strength is asked for.
-pub record AreStateTokens (s : StateTree) : Type 0 where
-  pub loose : SpellsState any_state (state_tokens 0 s) s
-  pub middle : SpellsState conj (state_tokens 1 s) s
-  pub tight : SpellsState neg (state_tokens 2 s) s
-
--- where one list of tokens spells it by the tightest rule
-from_tight : (xs : List Token) (s : StateTree) → state_tokens 0 s ≡ xs → state_tokens 1 s ≡ xs
-    → state_tokens 2 s ≡ xs → SpellsState neg xs s → AreStateTokens s
-from_tight xs s e f g spelt = record {
-  loose = rw e (state_conj xs s (conj_neg xs s spelt));
-  middle = rw f (conj_neg xs s spelt);
-  tight = rw g spelt;
-}
-
-pub state_spelt : (s : StateTree) → AreStateTokens s
-state_spelt always = from_tight _ always refl refl refl neg_true
-state_spelt (proposition i) = from_tight _ (proposition i) refl refl refl (neg_name i)
-state_spelt (negation s) =
-    from_tight _ (negation s) refl refl refl (neg_bang (state_tokens 2 s) s (state_spelt s).tight)
-state_spelt (conjunction s t) =
-    let xs = state_tokens 1 s ++ DoubleAmpersand ∷ state_tokens 2 t in
-    let whole = conjunction s t in
-    let spelt : SpellsState conj xs whole =
-    conj_ampersands (state_tokens 1 s) (state_tokens 2 t) s t
-    (state_spelt s).middle (state_spelt t).tight in
-    let loose : SpellsState any_state xs whole = state_conj xs whole spelt in
-    record { loose = loose; middle = spelt; tight = neg_parens xs whole loose }
-state_spelt (disjunction s t) =
-    let xs = state_tokens 0 s ++ DoubleBar ∷ state_tokens 1 t in
-    let whole = disjunction s t in
-    let loose : SpellsState any_state xs whole =
-    state_bars (state_tokens 0 s) (state_tokens 1 t) s t
-    (state_spelt s).loose (state_spelt t).middle in
-    let tight : SpellsState neg (enclosed true xs) whole = neg_parens xs whole loose in
-    record { loose = loose; middle = conj_neg (enclosed true xs) whole tight; tight = tight }
-
-pub literal_spelt : (s : StateTree) → SpellsState lit (literal_tokens s) s
-literal_spelt always = lit_true
-literal_spelt (proposition i) = lit_name i
-literal_spelt (negation s) = lit_bang (literal_tokens s) s (literal_spelt s)
-literal_spelt (conjunction s t) =
-    lit_braces (state_tokens 0 (conjunction s t)) (conjunction s t)
-    (state_spelt (conjunction s t)).loose
-literal_spelt (disjunction s t) =
-    lit_braces (state_tokens 0 (disjunction s t)) (disjunction s t)
-    (state_spelt (disjunction s t)).loose
-
-pub atom_spelt : (x : Atom) → Spells primary (atom_tokens x) (atom x)
-atom_spelt empty = primary_eps
-atom_spelt (literal s) = primary_lit (literal_tokens s) s (literal_spelt s)
-atom_spelt (rise s) = primary_rise (state_tokens 0 s) s (state_spelt s).loose
-atom_spelt (fall s) = primary_fall (state_tokens 0 s) s (state_spelt s).loose
-
-interval_by : (low : ℕ) (low_weak : Bool) (high : Option ℕ) (high_weak : Bool)
-    → kept_weak high high_weak ≡ high_weak
-    → SpellsInterval (opening low_weak ∷ Number low ∷ Comma ∷ end_tokens high high_weak)
-    (record { low = low; low_weak = low_weak; high = high; high_weak = high_weak })
-interval_by low low_weak (Some high) high_weak kept = with_high low high low_weak high_weak
-interval_by low low_weak None true kept = absurd (cc)
-interval_by low low_weak None false kept = without_high low low_weak
-
-pub interval_spelt : (ends : IntervalEnds) → IsInterval ends
+interval_spelt : (ends : IntervalEnds) → IsInterval ends
     → SpellsInterval (interval_tokens ends) ends
-interval_spelt ends kept = interval_by ends.low ends.low_weak ends.high ends.high_weak kept.kept
+interval_spelt ends is = by ends.low ends.low_weak ends.high ends.high_weak is.kept
+  where
+    by : (low : ℕ) (low_weak : Bool) (high : Option ℕ) (high_weak : Bool)
+        → kept_weak high high_weak ≡ high_weak
+        → SpellsInterval (opening low_weak ∷ Number low ∷ Comma ∷ end_tokens high high_weak)
+        (record { low = low; low_weak = low_weak; high = high; high_weak = high_weak })
+    by low low_weak (Some high) high_weak kept = with_high low high low_weak high_weak
+    by low low_weak None true kept = absurd (cc)
+    by low low_weak None false kept = without_high low low_weak
 
--- The tokens of an expression spell it, whatever strength is asked for.
-pub record AreTreeTokens (e : PatternTree) : Type 0 where
-  pub loosest : Spells expr (operand_tokens 0 e) e
-  pub meets : Spells meet (operand_tokens 1 e) e
-  pub sequences : Spells seq (operand_tokens 2 e) e
-  pub tight : Spells post (operand_tokens 3 e) e
+-- The interval that tokens begin with.
+weak_of : Token → Bool
+weak_of LeftBracket = true
+weak_of RightBracket = true
+weak_of _ = false
 
--- where one list of tokens spells it by the tightest rule
-tree_from_tight : (xs : List Token) (e : PatternTree) → operand_tokens 0 e ≡ xs
-    → operand_tokens 1 e ≡ xs → operand_tokens 2 e ≡ xs → operand_tokens 3 e ≡ xs
-    → Spells post xs e → AreTreeTokens e
-tree_from_tight xs e p q r s spelt =
-    let third = seq_post xs e spelt in
-    let second = meet_seq xs e third in
-    record {
-      loosest = rw p (expr_meet xs e second);
-      meets = rw q second;
-      sequences = rw r third;
-      tight = rw s spelt;
-    }
+ends_of : List Token → IntervalEnds
+ends_of (l ∷ Number low ∷ Comma ∷ Number high ∷ r ∷ _) =
+    record { low = low; low_weak = weak_of l; high = Some high; high_weak = weak_of r }
+ends_of (l ∷ Number low ∷ Comma ∷ Inf ∷ _) =
+    record { low = low; low_weak = weak_of l; high = None; high_weak = false }
+ends_of _ = record { low = 0; low_weak = false; high = None; high_weak = false }
 
--- in parentheses it is spelt by the tightest rule
-in_parentheses : (xs : List Token) (e : PatternTree) → Spells expr xs e
-    → Spells post (enclosed true xs) e
-in_parentheses xs e spelt = post_primary (enclosed true xs) e (primary_parens xs e spelt)
+ends_spelt : (body left : List Token) (ends : IntervalEnds) → SpellsInterval body ends
+    → ends_of (body ++ left) ≡ ends
+unfolding ends_of weak_of
+ends_spelt _ left _ (with_high low high true true) = refl
+ends_spelt _ left _ (with_high low high true false) = refl
+ends_spelt _ left _ (with_high low high false true) = refl
+ends_spelt _ left _ (with_high low high false false) = refl
+ends_spelt _ left _ (without_high low true) = refl
+ends_spelt _ left _ (without_high low false) = refl
 
-pub tree_spelt : (e : PatternTree) → HasIntervals e → AreTreeTokens e
-tree_spelt (atom x) kept =
-    tree_from_tight (atom_tokens x) (atom x) refl refl refl refl
-    (post_primary (atom_tokens x) (atom x) (atom_spelt x))
-tree_spelt (sequence e f) kept =
-    let xs = operand_tokens 2 e ++ Semicolon ∷ operand_tokens 3 f in
-    let whole = sequence e f in
-    let third : Spells seq xs whole =
-    seq_semicolon (operand_tokens 2 e) (operand_tokens 3 f) e f
-    (tree_spelt e kept.0).sequences (tree_spelt f kept.1).tight in
-    let second : Spells meet xs whole = meet_seq xs whole third in
-    let first : Spells expr xs whole = expr_meet xs whole second in
-    record {
-      loosest = first;
-      meets = second;
-      sequences = third;
-      tight =
-          in_parentheses xs whole first;
-    }
-tree_spelt (intersection e f) kept =
-    let xs = operand_tokens 1 e ++ Ampersand ∷ operand_tokens 2 f in
-    let whole = intersection e f in
-    let second : Spells meet xs whole =
-    meet_ampersand (operand_tokens 1 e) (operand_tokens 2 f) e f
-    (tree_spelt e kept.0).meets (tree_spelt f kept.1).sequences in
-    let first : Spells expr xs whole = expr_meet xs whole second in
-    let tight : Spells post (enclosed true xs) whole = in_parentheses xs whole first in
-    record {
-      loosest = first;
-      meets = second;
-      sequences = seq_post (enclosed true xs) whole tight;
-      tight = tight;
-    }
-tree_spelt (alternation e f) kept =
-    let xs = operand_tokens 0 e ++ Bar ∷ operand_tokens 1 f in
-    let whole = alternation e f in
-    let first : Spells expr xs whole =
-    expr_bar (operand_tokens 0 e) (operand_tokens 1 f) e f
-    (tree_spelt e kept.0).loosest (tree_spelt f kept.1).meets in
-    let tight : Spells post (enclosed true xs) whole = in_parentheses xs whole first in
-    let third : Spells seq (enclosed true xs) whole = seq_post (enclosed true xs) whole tight in
-    record {
-      loosest = first;
-      meets = meet_seq (enclosed true xs) whole third;
-      sequences = third;
-      tight = tight;
-    }
-tree_spelt (repetition e) kept =
-    let xs = operand_tokens 3 e ++ Star ∷ [] in
-    tree_from_tight xs (repetition e) refl refl refl refl
-    (post_star (operand_tokens 3 e) e (tree_spelt e kept).tight)
-tree_spelt (restriction e ends) kept =
-    let xs = operand_tokens 3 e ++ Percent ∷ interval_tokens ends in
-    tree_from_tight xs (restriction e ends) refl refl refl refl
-    (post_percent (operand_tokens 3 e) (interval_tokens ends) e ends (tree_spelt e kept.0).tight
-    (interval_spelt ends kept.1))
+begins_well : (ends : IntervalEnds) (more : List Token) → IsInterval ends
+    → BeginsWell (interval_tokens ends ++ more)
+begins_well ends more is = λ body left others e spelt none.
+    is.some (subst HasNoDuration (sym (ends_spelt body left others spelt) ∙ sym (ap ends_of e)
+    ∙ ends_spelt (interval_tokens ends) more ends (interval_spelt ends is)) none)
+
+-- ---- what tokens say
+
+numbers_join : (xs ys : List Token) → numbers_in (xs ++ ys) ≡ numbers_in xs ++ numbers_in ys
+numbers_join [] ys = refl
+numbers_join (Name i ∷ xs) ys = ap (λ l. i ∷ l) (numbers_join xs ys)
+numbers_join (_ ∷ xs) ys = numbers_join xs ys
+
+-- The tokens have this text and these numbers of names, and stand as they can before any that go on
+-- with no word.
+pub record Say (names : List (List ℕ)) (tokens : List Token) (text numbers : List ℕ) : Type 0 where
+  pub text_same : text_of names tokens ≡ text
+  pub numbers_same : numbers_in tokens ≡ numbers
+  pub stand : (more : List Token) → IsCut (text_of names more) → Stand names more
+      → Stand names (tokens ++ more)
+
+-- Some tokens that are of this kind say the text.
+pub record Prints (names : List (List ℕ)) (Spelt : List Token → Type 0) (text numbers : List ℕ)
+    : Type 0 where
+  pub tokens : List Token
+  pub spells : Spelt tokens
+  pub says : Say names tokens text numbers
+
+-- The sum in unary, which computes over a variable.
+abbrev raised : ℕ → ℕ → ℕ
+raised zero k = k
+raised (suc n) k = suc (raised n k)
+
+raised_sum : (n k : ℕ) → n + k ≡ raised n k
+raised_sum zero k = omega arith
+raised_sum (suc n) k = let more = raised_sum n k in omega (arith, more)
+
+-- What a tighter rule spells does a looser one, so many rules down.
+down : (Spelt : ℕ → List Token → Type 0)
+    → ((k : ℕ) (xs : List Token) → Spelt (suc k) xs → Spelt k xs) → (n k : ℕ) (xs : List Token)
+    → Spelt (raised n k) xs → Spelt k xs
+down Spelt looser zero k xs h = h
+down Spelt looser (suc n) k xs h = down Spelt looser n k xs (looser (raised n k) xs h)
+
+-- The rules by how strongly they bind.
+abbrev state_rule : ℕ → StateRule
+state_rule zero = any_state
+state_rule (suc zero) = conj
+state_rule (suc (suc k)) = neg
+
+abbrev StateSpelt : StateTree → ℕ → List Token → Type 0
+StateSpelt s k xs = SpellsState (state_rule k) xs s
+
+state_looser : (s : StateTree) (k : ℕ) (xs : List Token) → StateSpelt s (suc k) xs
+    → StateSpelt s k xs
+state_looser s zero xs h = state_conj xs s h
+state_looser s (suc zero) xs h = conj_neg xs s h
+state_looser s (suc (suc k)) xs h = h
+
+state_tight : (s : StateTree) (k : ℕ) (xs : List Token) → SpellsState neg xs s → StateSpelt s k xs
+state_tight s k xs h = down (StateSpelt s) (state_looser s) 2 k xs h
+
+abbrev rule_of : ℕ → Rule
+rule_of zero = expr
+rule_of (suc zero) = meet
+rule_of (suc (suc zero)) = seq
+rule_of (suc (suc (suc k))) = post
+
+abbrev TreeSpelt : PatternTree → ℕ → List Token → Type 0
+TreeSpelt e k xs = Spells (rule_of k) xs e
+
+looser : (e : PatternTree) (k : ℕ) (xs : List Token) → TreeSpelt e (suc k) xs → TreeSpelt e k xs
+looser e zero xs h = expr_meet xs e h
+looser e (suc zero) xs h = meet_seq xs e h
+looser e (suc (suc zero)) xs h = seq_post xs e h
+looser e (suc (suc (suc k))) xs h = h
+
+tight : (e : PatternTree) (k : ℕ) (xs : List Token) → Spells post xs e → TreeSpelt e k xs
+tight e k xs h = down (TreeSpelt e) (looser e) 3 k xs h
+
+module _ (names : List (List ℕ)) where
+  prints : {Spelt : List Token → Type 0} {text numbers : List ℕ} (tokens : List Token)
+      → Spelt tokens → Say names tokens text numbers → Prints names Spelt text numbers
+  prints tokens spells says = record { tokens = tokens; spells = spells; says = says }
+
+  -- A token by itself.
+  one : (token : Token)
+      → ((more : List Token) → IsCut (text_of names more) → StandsBefore names more token)
+      → Say names (token ∷ []) (printed names token) (numbers_in (token ∷ []))
+  one token stands = record {
+    text_same = append-nil (printed names token);
+    numbers_same = refl;
+    stand = λ more cut rest. (stands more cut, rest);
+  }
+
+  nothing : Say names [] [] []
+  nothing = record { text_same = refl; numbers_same = refl; stand = λ more cut rest. rest }
+
+  -- Two lists of tokens with a sign between them.
+  between : (mark : Token) (xs ys : List Token) {text other numbers others : List ℕ}
+      → ((rest : List Token) → numbers_in (mark ∷ rest) ≡ numbers_in rest)
+      → ((rest : List ℕ) → IsCut (printed names mark ++ rest))
+      → ((more : List Token) → StandsBefore names (ys ++ more) mark) → Say names xs text numbers
+      → Say names ys other others
+      → Say names (xs ++ mark ∷ ys) (text ++ printed names mark ++ other) (numbers ++ others)
+  between mark xs ys {text} {other} {numbers} {others} none cut stands is its = record {
+    text_same = flat_map-append (printed names) xs (mark ∷ ys)
+        ∙ ap (λ t. t ++ (printed names mark ++ text_of names ys)) is.text_same
+        ∙ ap (λ t. text ++ (printed names mark ++ t)) its.text_same
+        ∙ sym (append_assoc text (printed names mark) other);
+    numbers_same = numbers_join xs (mark ∷ ys)
+        ∙ ap (λ l. l ++ numbers_in (mark ∷ ys)) is.numbers_same
+        ∙ ap (λ l. numbers ++ l) (none ys ∙ its.numbers_same);
+    stand = λ more ends rest.
+        subst (Stand names) (sym (append_assoc xs (mark ∷ ys) more))
+        (is.stand (mark ∷ (ys ++ more)) (cut (text_of names (ys ++ more)))
+        (stands more, its.stand more ends rest));
+  }
+
+  -- Tokens with a sign behind them.
+  behind : (mark : Token) (xs : List Token) {text numbers : List ℕ}
+      → ((rest : List Token) → numbers_in (mark ∷ rest) ≡ numbers_in rest)
+      → ((rest : List ℕ) → IsCut (printed names mark ++ rest))
+      → ((more : List Token) → StandsBefore names more mark) → Say names xs text numbers
+      → Say names (xs ++ mark ∷ []) (text ++ printed names mark) numbers
+  behind mark xs {text} {numbers} none cut stands is =
+      subst (Say names (xs ++ mark ∷ []) (text ++ printed names mark)) (append-nil numbers)
+      (subst (λ t. Say names (xs ++ mark ∷ []) t (numbers ++ []))
+      (append-nil (text ++ printed names mark)) (between mark xs [] none cut stands is nothing))
+
+  -- Two that are printed with a sign between them, which together are of this kind.
+  both : (mark : Token) {One Other Spelt : List Token → Type 0} {text other numbers others : List ℕ}
+      → ((rest : List Token) → numbers_in (mark ∷ rest) ≡ numbers_in rest)
+      → ((rest : List ℕ) → IsCut (printed names mark ++ rest))
+      → ((rest : List Token) → StandsBefore names rest mark)
+      → ((xs ys : List Token) → One xs → Other ys → Spelt (xs ++ mark ∷ ys))
+      → Prints names One text numbers → Prints names Other other others
+      → Prints names Spelt (text ++ printed names mark ++ other) (numbers ++ others)
+  both mark none cut stands joined is its =
+      prints _ (joined is.tokens its.tokens is.spells its.spells)
+      (between mark is.tokens its.tokens none cut (λ more. stands (its.tokens ++ more)) is.says
+      its.says)
+
+  -- A word, and tokens in parentheses.
+  edge_says : {words xs : List Token} {word text numbers : List ℕ} → Say names words word []
+      → Say names xs text numbers
+      → Say names (words ++ (LeftParen ∷ (xs ++ RightParen ∷ [])))
+      (word ++ codes "(" ++ (text ++ codes ")")) numbers
+  edge_says is its = between LeftParen _ _ (λ _. refl) (λ _. refl) (λ _. tt) is
+      (behind RightParen _ (λ _. refl) (λ _. refl) (λ _. tt) its)
+
+  -- An operand of another strength than is asked for, in parentheses where it binds less.
+  bound : (Spelt : ℕ → List Token → Type 0)
+      → ((k : ℕ) (xs : List Token) → Spelt (suc k) xs → Spelt k xs)
+      → ((k : ℕ) (xs : List Token) → Spelt 0 xs → Spelt k (LeftParen ∷ xs ++ RightParen ∷ []))
+      → (k least : ℕ) {text numbers : List ℕ} → Prints names (Spelt k) text numbers
+      → Prints names (Spelt least) (in_parens (nat_lt k least) text) numbers
+  bound Spelt looser parens k least {text} {numbers} is = by (nat_lt k least) refl
+    where
+      loosen : (low : ℕ) → low ≤ k → Spelt low is.tokens
+      loosen low within =
+          let sum = raised_sum (k - low) low in
+          let same : k ≡ raised (k - low) low = omega (arith, within, sum) in
+          down Spelt looser (k - low) low is.tokens (subst (λ n. Spelt n is.tokens) same is.spells)
+
+      by : (asked : Bool) → nat_lt k least ≡ asked
+          → Prints names (Spelt least) (in_parens asked text) numbers
+      by true e =
+          prints _ (parens least is.tokens (loosen 0 (omega arith))) (edge_says nothing is.says)
+      by false e =
+          let within : least ≤ k = grind (arith, nat_tests) in
+          prints _ (loosen least within) is.says
+
+  state_bound : (s : StateTree) (k least : ℕ) {text numbers : List ℕ}
+      → Prints names (StateSpelt s k) text numbers
+      → Prints names (StateSpelt s least) (in_parens (nat_lt k least) text) numbers
+  state_bound s k least is = bound (StateSpelt s) (state_looser s)
+      (λ k xs h. state_tight s k _ (neg_parens xs s h)) k least is
+
+  tree_bound : (e : PatternTree) (k least : ℕ) {text numbers : List ℕ}
+      → Prints names (TreeSpelt e k) text numbers
+      → Prints names (TreeSpelt e least) (in_parens (nat_lt k least) text) numbers
+  tree_bound e k least is = bound (TreeSpelt e) (looser e)
+      (λ k xs h. tight e k _ (post_primary _ e (primary_parens xs e h))) k least is
+
+  state_prints : (s : StateTree) (least : ℕ)
+      → Prints names (StateSpelt s least) (state_operand_text least names s) (state.numbers_of s)
+  state_prints always least =
+      prints _ (state_tight always least _ neg_true) (one True (λ more cut. cut))
+  state_prints (proposition i) least =
+      prints _ (state_tight _ least _ (neg_name i)) (one (Name i) (λ more cut. cut))
+  state_prints (negation s) least =
+      let is = state_prints s 2 in
+      prints _ (state_tight _ least _ (neg_bang _ s is.spells))
+      (between Bang [] _ (λ _. refl) (λ _. refl) (λ _. tt) nothing is.says)
+  state_prints (conjunction s t) least =
+      state_bound (conjunction s t) 1 least (both DoubleAmpersand (λ _. refl) (λ _. refl) (λ _. tt)
+      (λ xs ys. conj_ampersands xs ys s t) (state_prints s 1) (state_prints t 2))
+  state_prints (disjunction s t) least =
+      state_bound (disjunction s t) 0 least (both DoubleBar (λ _. refl) (λ _. refl) (λ _. tt)
+      (λ xs ys. state_bars xs ys s t) (state_prints s 0) (state_prints t 1))
+
+  braces_print : (s : StateTree)
+      → Prints names (λ xs. SpellsState lit xs s) (codes "{" ++ state_text names s ++ codes "}")
+      (state.numbers_of s)
+  braces_print s =
+      let is = state_prints s 0 in
+      prints _ (lit_braces _ s is.spells)
+      (between LeftBrace [] _ (λ _. refl) (λ _. refl) (λ _. tt) nothing
+      (behind RightBrace _ (λ _. refl) (λ _. refl) (λ _. tt) is.says))
+
+  literal_prints : (s : StateTree)
+      → Prints names (λ xs. SpellsState lit xs s) (literal_text names s) (state.numbers_of s)
+  literal_prints always = prints _ lit_true (one True (λ more cut. cut))
+  literal_prints (proposition i) = prints _ (lit_name i) (one (Name i) (λ more cut. cut))
+  literal_prints (negation s) =
+      let is = literal_prints s in
+      prints _ (lit_bang _ s is.spells)
+      (between Bang [] _ (λ _. refl) (λ _. refl) (λ _. tt) nothing is.says)
+  literal_prints (conjunction s t) = braces_print (conjunction s t)
+  literal_prints (disjunction s t) = braces_print (disjunction s t)
+
+  atom_prints : (x : Atom)
+      → Prints names (λ xs. Spells primary xs (atom x)) (atom_text names x) (numbers_of_atom x)
+  atom_prints empty = prints _ primary_eps (one Eps (λ more cut. cut))
+  atom_prints (literal s) =
+      let is = literal_prints s in prints _ (primary_lit _ s is.spells) is.says
+  atom_prints (rise s) =
+      let is = state_prints s 0 in
+      prints _ (primary_rise _ s is.spells) (edge_says (one Rise (λ more cut. cut)) is.says)
+  atom_prints (fall s) =
+      let is = state_prints s 0 in
+      prints _ (primary_fall _ s is.spells) (edge_says (one Fall (λ more cut. cut)) is.says)
+
+  number_says : (n : ℕ) → n ≤ 2 ^ 40 → Say names (Number n ∷ []) (number_text n) []
+  number_says n small = one (Number n) (λ more cut. (small, cut))
+
+  end_says : (high : Option ℕ) (weak : Bool) → MatchOption high (Unit {0}) (λ h. h ≤ 2 ^ 40)
+      → Say names (end_tokens high weak) (end_text high weak) []
+  end_says None weak small =
+      behind RightParen _ (λ _. refl) (λ _. refl) (λ _. tt) (one Inf (λ more cut. cut))
+  end_says (Some high) true small =
+      behind RightBracket _ (λ _. refl) (λ _. refl) (λ _. tt) (number_says high small)
+  end_says (Some high) false small =
+      behind RightParen _ (λ _. refl) (λ _. refl) (λ _. tt) (number_says high small)
+
+  interval_by : (low : ℕ) (weak : Bool) (xs : List Token) (text : List ℕ) → low ≤ 2 ^ 40
+      → Say names xs text []
+      → Say names (opening weak ∷ Number low ∷ Comma ∷ xs) (lower_text low weak ++ text) []
+  interval_by low true xs text small end =
+      between LeftBracket [] _ (λ _. refl) (λ _. refl) (λ _. tt) nothing
+      (between Comma _ _ (λ _. refl) (λ _. refl) (λ _. tt) (number_says low small) end)
+  interval_by low false xs text small end =
+      between LeftParen [] _ (λ _. refl) (λ _. refl) (λ _. tt) nothing
+      (between Comma _ _ (λ _. refl) (λ _. refl) (λ _. tt) (number_says low small) end)
+
+  pub tree_prints : (e : PatternTree) → HasIntervals e → (least : ℕ)
+      → Prints names (TreeSpelt e least) (operand_text least names e) (numbers_of e)
+  tree_prints (atom x) fine least =
+      let is = atom_prints x in prints _ (tight _ least _ (post_primary _ _ is.spells)) is.says
+  tree_prints (sequence e f) fine least =
+      tree_bound (sequence e f) 2 least (both Semicolon (λ _. refl) (λ _. refl) (λ _. tt)
+      (λ xs ys. seq_semicolon xs ys e f) (tree_prints e fine.0 2) (tree_prints f fine.1 3))
+  tree_prints (intersection e f) fine least =
+      tree_bound (intersection e f) 1 least (both Ampersand (λ _. refl) (λ _. refl) (λ _. tt)
+      (λ xs ys. meet_ampersand xs ys e f) (tree_prints e fine.0 1) (tree_prints f fine.1 2))
+  tree_prints (alternation e f) fine least =
+      tree_bound (alternation e f) 0 least (both Bar (λ _. refl) (λ _. refl) (λ _. tt)
+      (λ xs ys. expr_bar xs ys e f) (tree_prints e fine.0 0) (tree_prints f fine.1 1))
+  tree_prints (repetition e) fine least =
+      let is = tree_prints e fine 3 in
+      prints _ (tight _ least _ (post_star _ e is.spells))
+      (behind Star _ (λ _. refl) (λ _. refl) (λ _. tt) is.says)
+  tree_prints (restriction e ends) fine least =
+      let is = tree_prints e fine.0 3 in
+      let interval = interval_by ends.low ends.low_weak _ _ fine.1.within.low
+      (end_says ends.high ends.high_weak fine.1.within.high) in
+      prints _
+      (tight _ least _ (post_percent _ _ e ends is.spells (interval_spelt ends fine.1)))
+      (subst (Say names (is.tokens ++ Percent ∷ interval_tokens ends)
+      (operand_text 3 names e ++ codes " % " ++ interval_text ends)) (append-nil (numbers_of e))
+      (between Percent _ _ (λ _. refl) (λ _. refl) (λ more. begins_well ends more fine.1) is.says
+      interval))

@@ -7,6 +7,7 @@ ghost use Rattle.tre_show.specs.Interval.{end_text, interval_text};
 
 use crate::decimal::number;
 use std::alloc::AllocError;
+use tre_parse::sign;
 use tre_zone::Interval;
 
 pub(crate) fn push_lower(text: &mut String, low: u64, weak: bool) -> Result<(), AllocError>
@@ -14,7 +15,7 @@ pub(crate) fn push_lower(text: &mut String, low: u64, weak: bool) -> Result<(), 
 {
     text.push_str(opening(weak))?;
     number(low, text)?;
-    text.push_str(",")?;
+    text.push_str(sign::COMMA)?;
     Ok(())
 }
 
@@ -48,18 +49,27 @@ fn push_end(text: &mut String, high: Option<u64>, weak: bool) -> Result<(), Allo
 fn push_infinite(text: &mut String) -> Result<(), AllocError>
     ensures { OnOk result (string_bytes text.new ≡ string_bytes text.old ++ codes "inf)") }
 {
-    text.push_str("inf)")?;
+    text.push_str("inf")?;
+    text.push_str(sign::RIGHT_PAREN)?;
     Ok(())
 }
 
 fn opening(weak: bool) -> &'static str
     ensures { result.now ≡ (if weak then codes "[" else codes "(") }
 {
-    if weak { "[" } else { "(" }
+    if weak {
+        sign::LEFT_BRACKET
+    } else {
+        sign::LEFT_PAREN
+    }
 }
 
 fn closing(weak: bool) -> &'static str
     ensures { result.now ≡ (if weak then codes "]" else codes ")") }
 {
-    if weak { "]" } else { ")" }
+    if weak {
+        sign::RIGHT_BRACKET
+    } else {
+        sign::RIGHT_PAREN
+    }
 }

@@ -1,10 +1,11 @@
 //! What Montre prints: the line of a zone, the text of a whole match, and the text of a pattern.
 //!
 //! [`zone_line`] appends the line of a zone: three ranges that tell exactly the pairs that the zone
-//! holds. [`offline_text`] is the text of a whole match, of zones that [`printed_order`] puts in
-//! order. [`pattern_text`] is the text of a pattern, which spells it. [`number`] appends the digits
-//! of a number. The layers above may rely on the definitions of the texts, and on the laws of them
-//! that stand in [`laws`]: one text is that of one list of zones and one end.
+//! holds; [`zone_lines`] appends those of many. [`offline_text`] is the text of a whole match, of
+//! zones that [`printed_order`] puts in order, or [`in_printed_order`] where they stand.
+//! [`pattern_text`] is the text of a pattern, which spells it. [`number`] appends the digits of a
+//! number. The layers above may rely on the definitions of the texts, and on the laws of them that
+//! stand in [`laws`]: one text is that of one list of zones and one end.
 //!
 //! ```text
 //! let zones = printed_order(alloc, &set)?;
@@ -15,8 +16,8 @@
 
 pub use decimal::number;
 pub use line::zone_line;
-pub use offline::offline_text;
-pub use order::printed_order;
+pub use offline::{offline_text, zone_lines};
+pub use order::{in_printed_order, printed_order};
 pub use pattern::pattern_text;
 
 mod decimal;
@@ -27,5 +28,3 @@ mod offline;
 mod order;
 mod pattern;
 mod state;
-#[cfg(test)]
-mod tests;

@@ -2,6 +2,7 @@
 ghost use Rattle.std.specs.Prelude.{◌≡◌, ℕ, neg_ℤ, ◌^◌, ◌↔◌, IfOk, IsPermutation};
 ghost use Rattle.tre_zone.specs.Bound.{IsKeyWithin};
 ghost use Rattle.tre_zone.specs.ZoneList.{SetHolds, IsApart, AreCanonical, AreTight};
+ghost use Rattle.tre_zoneset.specs.ZoneSet.{IsZoneSet};
 ghost use Rattle.tre_show.specs.Order.{sort_key, IsRising};
 
 use std::alloc::{AllocError, Global};
@@ -36,6 +37,23 @@ fn copy_of(alloc: Global, zones: &[Zone]) -> Result<Vec<Zone>, AllocError>
     zones.to_vec(alloc)
 }
 
+/// The zones in rising order of their lines, in the place where they stand. What no two of them
+/// include of each other they don't include in another order either.
+pub fn in_printed_order(zones: Vec<Zone>) -> Vec<Zone>
+    ensures same { IsPermutation zones.items result.items }
+    ensures held { (a b n : ℕ) → SetHolds result.items a b n ↔ SetHolds zones.items a b n }
+    ensures set { IsZoneSet zones.items → IsZoneSet result.items }
+    ensures rising { IsRising result.items }
+{
+    let mut zones = zones;
+    zones.sort_unstable_by_key(
+        |zone: &Zone| -> [i64; 6]
+            ensures { result ≡ sort_key zone.now }
+        { sort_key(zone) },
+    );
+    zones
+}
+
 /// The zones of the set in rising order of their lines.
 pub fn printed_order(alloc: Global, set: &ZoneSet) -> Result<Vec<Zone>, AllocError>
     ensures same { IfOk result (λ zones. IsPermutation set.now zones.items) }
@@ -46,11 +64,6 @@ pub fn printed_order(alloc: Global, set: &ZoneSet) -> Result<Vec<Zone>, AllocErr
     ensures tight { IfOk result (λ zones. AreTight zones.items) }
     ensures rising { IfOk result (λ zones. IsRising zones.items) }
 {
-    let mut zones = copy_of(alloc, set.zones())?;
-    zones.sort_unstable_by_key(
-        |zone: &Zone| -> [i64; 6]
-            ensures { result ≡ sort_key zone.now }
-        { sort_key(zone) },
-    );
-    Ok(zones)
+    let zones = copy_of(alloc, set.zones())?;
+    Ok(in_printed_order(zones))
 }

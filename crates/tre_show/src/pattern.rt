@@ -12,8 +12,10 @@ ghost use Rattle.tre_show.specs.StateText.{state_text};
 ghost use Rattle.tre_show.specs.PatternText.{operand_text, expression_text};
 
 use crate::interval::push_interval;
-use crate::state::{push_close, push_literal, push_open, push_state, push_text};
+use crate::state::{push_close, push_literal, push_open, push_spaced, push_state, push_text};
 use std::alloc::{AllocError, Global};
+use tre_parse::laws::one_outcome;
+use tre_parse::sign;
 use tre_state::{Names, State};
 use tre_syntax::{Expr, Pattern};
 use tre_zone::Interval;
@@ -42,6 +44,8 @@ pub fn pattern_text(alloc: Global, pattern: &Pattern) -> Result<String, AllocErr
     let names = pattern.names();
     // For the proof: the call says that the names are names, and no two of them the same.
     let _count = names.len();
+    // A text has one outcome.
+    one_outcome();
     let mut text = String::new(alloc);
     push_operand(&mut text, names, pattern.expr(), ALTERNATION)?;
     Ok(text)
@@ -56,32 +60,32 @@ fn push_operand(text: &mut String, names: &Names, expr: &Expr, least: u8) -> Res
     match expr {
         Expr::Eps => push_text(text, "eps"),
         Expr::Lit(state) => push_literal(text, names, state),
-        Expr::Rise(state) => push_edge(text, "rise(", names, state),
-        Expr::Fall(state) => push_edge(text, "fall(", names, state),
+        Expr::Rise(state) => push_edge(text, "rise", names, state),
+        Expr::Fall(state) => push_edge(text, "fall", names, state),
         Expr::Seq(e, f) => {
             push_open(text, SEQUENCE < least)?;
             push_operand(text, names, e, SEQUENCE)?;
-            push_text(text, ";")?;
+            push_text(text, sign::SEMICOLON)?;
             push_operand(text, names, f, POSTFIX)?;
             push_close(text, SEQUENCE < least)
         }
         Expr::Meet(e, f) => {
             push_open(text, INTERSECTION < least)?;
             push_operand(text, names, e, INTERSECTION)?;
-            push_text(text, " & ")?;
+            push_spaced(text, sign::AMPERSAND)?;
             push_operand(text, names, f, SEQUENCE)?;
             push_close(text, INTERSECTION < least)
         }
         Expr::Alt(e, f) => {
             push_open(text, ALTERNATION < least)?;
             push_operand(text, names, e, ALTERNATION)?;
-            push_text(text, " | ")?;
+            push_spaced(text, sign::BAR)?;
             push_operand(text, names, f, INTERSECTION)?;
             push_close(text, ALTERNATION < least)
         }
         Expr::Star(e) => {
             push_operand(text, names, e, POSTFIX)?;
-            push_text(text, "*")
+            push_text(text, sign::STAR)
         }
         Expr::Within(e, interval) => {
             push_operand(text, names, e, POSTFIX)?;
@@ -93,12 +97,13 @@ fn push_operand(text: &mut String, names: &Names, expr: &Expr, least: u8) -> Res
 // The text of an edge of a state.
 fn push_edge(text: &mut String, edge: &str, names: &Names, state: &State) -> Result<(), AllocError>
     ensures { OnOk result (string_bytes text.new ≡ string_bytes text.old
-        ++ (edge.now ++ state_text names.now (state_tree_of state.now) ++ codes ")")) }
+        ++ (edge.now ++ codes "(" ++ state_text names.now (state_tree_of state.now)
+        ++ codes ")")) }
 {
     push_text(text, edge)?;
+    push_text(text, sign::LEFT_PAREN)?;
     push_state(text, names, state)?;
-    push_text(text, ")")?;
-    Ok(())
+    push_text(text, sign::RIGHT_PAREN)
 }
 
 // The interval that durations are restricted to.
@@ -107,7 +112,6 @@ fn push_duration(text: &mut String, interval: &Interval) -> Result<(), AllocErro
         ≡ string_bytes text.old ++ (codes " % " ++ interval_text interval.now)) }
     ensures interval { OnOk result (IsInterval interval.now) }
 {
-    push_text(text, " % ")?;
-    push_interval(text, interval)?;
-    Ok(())
+    push_spaced(text, sign::PERCENT)?;
+    push_interval(text, interval)
 }

@@ -5,6 +5,7 @@ ghost use Rattle.tre_state.specs.State.{tree_of};
 ghost use Rattle.tre_show.specs.StateText.{name_text, state_operand_text, state_text, literal_text};
 
 use std::alloc::AllocError;
+use tre_parse::sign;
 use tre_state::{Names, State};
 
 // How strongly the operators of states bind.
@@ -36,20 +37,20 @@ fn push_state_operand(
         State::Yes => push_text(text, "true"),
         State::Prop(number) => push_name(text, names, *number),
         State::Not(s) => {
-            push_text(text, "!")?;
+            push_text(text, sign::BANG)?;
             push_state_operand(text, names, s, NEGATION)
         }
         State::And(s, t) => {
             push_open(text, CONJUNCTION < least)?;
             push_state_operand(text, names, s, CONJUNCTION)?;
-            push_text(text, " && ")?;
+            push_spaced(text, sign::DOUBLE_AMPERSAND)?;
             push_state_operand(text, names, t, NEGATION)?;
             push_close(text, CONJUNCTION < least)
         }
         State::Or(s, t) => {
             push_open(text, DISJUNCTION < least)?;
             push_state_operand(text, names, s, DISJUNCTION)?;
-            push_text(text, " || ")?;
+            push_spaced(text, sign::DOUBLE_BAR)?;
             push_state_operand(text, names, t, CONJUNCTION)?;
             push_close(text, DISJUNCTION < least)
         }
@@ -69,7 +70,7 @@ pub(crate) fn push_literal(
         State::Yes => push_text(text, "true"),
         State::Prop(number) => push_name(text, names, *number),
         State::Not(s) => {
-            push_text(text, "!")?;
+            push_text(text, sign::BANG)?;
             push_literal(text, names, s)
         }
         State::And(_, _) | State::Or(_, _) => push_braces(text, names, state),
@@ -81,10 +82,9 @@ fn push_braces(text: &mut String, names: &Names, state: &State) -> Result<(), Al
     ensures { OnOk result (string_bytes text.new ≡ string_bytes text.old
         ++ (codes "{" ++ state_text names.now (tree_of state.now) ++ codes "}")) }
 {
-    push_text(text, "{")?;
+    push_text(text, sign::LEFT_BRACE)?;
     push_state(text, names, state)?;
-    push_text(text, "}")?;
-    Ok(())
+    push_text(text, sign::RIGHT_BRACE)
 }
 
 fn push_name(text: &mut String, names: &Names, number: u8) -> Result<(), AllocError>
@@ -104,12 +104,22 @@ pub(crate) fn push_text(text: &mut String, piece: &str) -> Result<(), AllocError
     text.push_str(piece)
 }
 
+/// Appends a sign between two blanks.
+pub(crate) fn push_spaced(text: &mut String, sign: &str) -> Result<(), AllocError>
+    ensures { OnOk result (string_bytes text.new
+        ≡ string_bytes text.old ++ (codes " " ++ sign.now ++ codes " ")) }
+{
+    push_text(text, " ")?;
+    push_text(text, sign)?;
+    push_text(text, " ")
+}
+
 /// The left parenthesis, where it is asked for.
 pub(crate) fn push_open(text: &mut String, asked: bool) -> Result<(), AllocError>
     ensures { OnOk result (string_bytes text.new
         ≡ string_bytes text.old ++ (if asked then codes "(" else codes "")) }
 {
-    push_text(text, if asked { "(" } else { "" })
+    push_text(text, if asked { sign::LEFT_PAREN } else { "" })
 }
 
 /// The right parenthesis, where it is asked for.
@@ -117,5 +127,5 @@ pub(crate) fn push_close(text: &mut String, asked: bool) -> Result<(), AllocErro
     ensures { OnOk result (string_bytes text.new
         ≡ string_bytes text.old ++ (if asked then codes ")" else codes "")) }
 {
-    push_text(text, if asked { ")" } else { "" })
+    push_text(text, if asked { sign::RIGHT_PAREN } else { "" })
 }

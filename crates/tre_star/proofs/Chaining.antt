@@ -1,18 +1,19 @@
 -- The closure: what holds while it goes on, and at its end.
-use Rattle.std.proofs.Common.{◌≡◌, ℕ, zero, suc, ◌+◌, ◌-◌, ◌*◌, ◌<◌, ◌≤◌, ◌⊎◌, ◌↔◌, List, [], ◌∷◌, ◌++◌, length, length-append, take, get_or, refl, subst, ap, inl, inr, ⊎_elim, arith}
+use Rattle.std.proofs.Common.{◌≡◌, ℕ, zero, suc, ◌+◌, ◌-◌, ◌*◌, ◌<◌, ◌≤◌, ◌⊎◌, ◌↔◌, List, [], ◌∷◌, ◌++◌, length, length-append, take, get_or, subst, ap, inl, inr, ⊎_elim, arith}
 use Rattle.std.proofs.lemmas.List.{take-append-le, take_all}
 use Rattle.std.proofs.Math.Nat.{mul-pos, mul-le-mul_left, le_of_mul-le-mul_left, mul_left_comm}
 use Rattle.tre_pairs.specs.Pairs.{Pairs, Either, Composed, Lasting, LeadTo, Chain}
 use Rattle.tre_pairs.proofs.Laws.{Scales, DurationScales}
 use Rattle.tre_pairs.proofs.Shortening.{IsDownward, finer_duration}
-use Rattle.tre_pairs.proofs.Chains.{Composed-at, Chain-none, Chain-step}
-use Rattle.tre_zone.specs.Zone.{IsInstantBetween, IsCanonical, ZoneHolds}
+use Rattle.tre_pairs.proofs.Chains.{Composed-at, Chain-none, Chain-step, Chain-cases}
+use Rattle.tre_zone.specs.Zone.{IsInstantBetween, ZoneHolds}
 use Rattle.tre_zone.specs.ZoneList.{SetHolds, HoldExactly, AreCanonical}
 use Rattle.tre_zone.specs.declared.zone_bounds.ZoneBounds.{ZoneBounds}
-use Rattle.tre_zone.proofs.ZoneListLemmas.{SetHolds-empty, AreCanonical-empty}
+use Rattle.tre_zone.proofs.ZoneListLemmas.{SetHolds-empty}
 use Rattle.tre_zone.proofs.Scaling.{SetHolds-scale, SetHolds-rising}
 use Rattle.tre_zoneset.proofs.Members.{SetHolds-more}
 use Rattle.tre_star.specs.Growth.{HasGrown}
+use Rattle.tre_star.specs.Parts.{SomeSteps}
 
 -- ---- laws of sets and of instants
 
@@ -63,72 +64,68 @@ Scales-instants from to = record {
 pub instants-rising : (from to a b n : ℕ) → IsInstantBetween from to a b n → a ≤ b
 instants-rising from to a b n h = let same = h.same in omega arith
 
--- Lists behind one more zone.
-HoldExactly-behind : (zone : ZoneBounds) (old new : List ZoneBounds) (P : Pairs)
-    → HoldExactly new (Either (SetHolds old) P)
-    → HoldExactly (zone ∷ new) (Either (SetHolds (zone ∷ old)) P)
-unfolding SetHolds
-HoldExactly-behind zone old new P held = record {
+-- The chains of a step or more, and to them the instants.
+pub HoldExactly-with : (D : ℕ → ℕ → Type 0) (R E : Pairs) → Scales R → Scales E
+    → ((a b n : ℕ) → E a b n → D (b - a) n) → (zone : ZoneBounds) (chains new : List ZoneBounds)
+    → ((a b n : ℕ) → 0 < n → ZoneHolds zone a b n ↔ E a b n)
+    → HoldExactly chains (Lasting D (SomeSteps R E))
+    → HoldExactly new (Either (SetHolds chains) (ZoneHolds zone))
+    → HoldExactly new (Lasting D (Chain R E))
+HoldExactly-with D R E r e short zone chains new exact held more = record {
   exact = λ a b n some le.
-      let both = held.exact a b n some le in (
-        (λ h. ⊎_elim (λ x. inl (inl x))
-            (λ x. ⊎_elim (λ y. inl (inr y)) (λ y. inr y) (both.0 x)) h),
-        (λ h. ⊎_elim (λ x. ⊎_elim (λ y. inl y) (λ y. inr (both.1 (inl y))) x)
-            (λ x. inr (both.1 (inr x))) h),
-      );
-}
-
-pub AreCanonical-behind : (zone : ZoneBounds) (zones : List ZoneBounds)
-    → AreCanonical (zone ∷ zones) → AreCanonical zones
-unfolding AreCanonical
-AreCanonical-behind zone zones all = all.1
-
--- A set of what the zones of a list hold, to which one more was added.
-pub HoldExactly-with : (zone : ZoneBounds) (found set new : List ZoneBounds) (P : Pairs)
-    → HoldExactly (zone ∷ found) P → HoldExactly set (SetHolds found)
-    → HoldExactly new (Either (SetHolds set) (ZoneHolds zone)) → HoldExactly new P
-unfolding SetHolds
-HoldExactly-with zone found set new P whole set_is new_is = record {
-  exact = λ a b n some le.
-      let one = whole.exact a b n some le in
-      let two = set_is.exact a b n some le in
-      let three = new_is.exact a b n some le in (
-        (λ h. one.0 (⊎_elim (λ x. inr (two.0 x)) (λ x. inl x) (three.0 h))),
-        (λ h. three.1 (⊎_elim (λ x. inr x) (λ x. inl (two.1 x)) (one.1 h))),
+      let one = held.exact a b n some le in
+      let two = more.exact a b n some le in
+      let instant = exact a b n some in (
+        (λ h. ⊎_elim
+            (λ x. let steps = one.0 x in record {
+              related = Chain-step R E r e a b n steps.related;
+              admitted = steps.admitted;
+            })
+            (λ x. let same = instant.0 x in record {
+              related = Chain-none R E a b n same;
+              admitted = short a b n same;
+            })
+            (two.0 h)),
+        (λ h. two.1 (⊎_elim (λ x. inr (instant.1 x))
+            (λ x. inl (one.1 (record { related = x; admitted = h.admitted })))
+            (Chain-cases R E e a b n h.related))),
       );
 }
 
 -- ---- how far the closure has come
 
--- What was reached are chains of durations that D admits, and has the instants; and each pair of x
--- before one of the first zones that were reached, of such a duration, was reached too.
+-- What was reached are chains of a step or more, of durations that D admits; and each pair of x
+-- before an instant or one of the first zones that were reached, of such a duration, was reached
+-- too.
 pub record IsClosedTo (D : ℕ → ℕ → Type 0) (x : List ZoneBounds) (E : Pairs)
     (reached : List ZoneBounds) (place : ℕ) : Type 0 where
   pub set : AreCanonical reached
   pub within : place ≤ length reached
   pub sound : (a b n : ℕ) → 0 < n → SetHolds reached a b n
-      → Lasting D (Chain (SetHolds x) E) a b n
-  pub instants : (a b n : ℕ) → 0 < n → E a b n → SetHolds reached a b n
+      → Lasting D (SomeSteps (SetHolds x) E) a b n
+  pub first : (a b n : ℕ) → 0 < n → D (b - a) n → Composed (SetHolds x) E a b n
+      → SetHolds reached a b n
   pub closed : (a b n : ℕ) → 0 < n → D (b - a) n
       → Composed (SetHolds x) (SetHolds (take place reached)) a b n → SetHolds reached a b n
 
-composed_rising : (x y : List ZoneBounds) → AreCanonical x → AreCanonical y → (a b n : ℕ) → 0 < n
-    → Composed (SetHolds x) (SetHolds y) a b n → a ≤ b
-composed_rising x y left right a b n some h =
+Composed-rising : (R S : Pairs) → ((a b n : ℕ) → 0 < n → R a b n → a ≤ b)
+    → ((a b n : ℕ) → 0 < n → S a b n → a ≤ b) → (a b n : ℕ) → 0 < n
+    → Composed R S a b n → a ≤ b
+Composed-rising R S left right a b n some h =
     let finer = mul-pos h.positive some in
-    let first = SetHolds-rising x left (h.factor * a) h.midpoint (h.factor * n) finer h.left in
-    let second = SetHolds-rising y right h.midpoint (h.factor * b) (h.factor * n) finer h.right in
+    let first = left (h.factor * a) h.midpoint (h.factor * n) finer h.left in
+    let second = right h.midpoint (h.factor * b) (h.factor * n) finer h.right in
     let both : h.factor * a ≤ h.factor * b = omega (arith, first, second) in
     le_of_mul-le-mul_left both h.positive
 
-Composed-right : (R S T : Pairs) → ((a b n : ℕ) → S a b n → T a b n) → (a b n : ℕ)
-    → Composed R S a b n → Composed R T a b n
-Composed-right R S T implies a b n h = record {
+Composed-right : (R S T : Pairs) → ((a b n : ℕ) → 0 < n → S a b n → T a b n) → (a b n : ℕ)
+    → 0 < n → Composed R S a b n → Composed R T a b n
+Composed-right R S T implies a b n some h = record {
   factor = h.factor;
   positive = h.positive;
   midpoint = h.midpoint;
   left = h.left;
-  right = implies h.midpoint (h.factor * b) (h.factor * n) h.right;
+  right = implies h.midpoint (h.factor * b) (h.factor * n) (mul-pos h.positive some) h.right;
 }
 
 -- The first zones, and one more, of a list that has grown.
@@ -162,67 +159,73 @@ SetHolds-take (zone ∷ zones) (suc count) a b n h =
 
 module _ (D : ℕ → ℕ → Type 0) (x : List ZoneBounds) (E : Pairs) (zones : AreCanonical x)
     (scales : Scales E) (same : (a b n : ℕ) → E a b n → a ≤ b) where
-  -- At first the instants alone were reached.
-  pub IsClosedTo-first : (reached : List ZoneBounds) → AreCanonical reached
-      → HoldExactly reached E → ((a b n : ℕ) → E a b n → D (b - a) n)
+  steps_rising : (a b n : ℕ) → 0 < n → SetHolds x a b n → a ≤ b
+  steps_rising a b n some h = SetHolds-rising x zones a b n some h
+
+  -- The steps were put before the instants.
+  pub IsClosedTo-first : (instants : ZoneBounds)
+      → ((a b n : ℕ) → 0 < n → ZoneHolds instants a b n ↔ E a b n)
+      → (reached : List ZoneBounds) → HasGrown [] reached
+      → HoldExactly reached (Either (SetHolds [])
+      (Lasting D (Composed (SetHolds x) (ZoneHolds instants))))
       → IsClosedTo D x E reached 0
-  IsClosedTo-first reached set exact short = record {
-    set = set;
+  IsClosedTo-first instants exact reached grown held = record {
+    set = grown.canonical;
     within = omega arith;
     sound = λ a b n some h.
-        let instant = (exact.exact a b n some (SetHolds-rising reached set a b n some h)).0 h in
-        record {
-          related = Chain-none (SetHolds x) E a b n instant;
-          admitted = short a b n instant;
-        };
-    instants = λ a b n some h. (exact.exact a b n some (same a b n h)).1 h;
+        let le = SetHolds-rising reached grown.canonical a b n some h in
+        ⊎_elim (λ none. absurd (SetHolds-empty a b n none))
+        (λ new. record {
+          related = Composed-right (SetHolds x) (ZoneHolds instants) (Chain (SetHolds x) E)
+              (λ c d m pos y. Chain-none (SetHolds x) E c d m ((exact c d m pos).0 y))
+              a b n some new.related;
+          admitted = new.admitted;
+        })
+        ((held.exact a b n some le).0 h);
+    first = λ a b n some admitted h.
+        let le = Composed-rising (SetHolds x) E steps_rising (λ c d m pos y. same c d m y)
+        a b n some h in
+        (held.exact a b n some le).1 (inr (record {
+          related = Composed-right (SetHolds x) E (ZoneHolds instants)
+              (λ c d m pos y. (exact c d m pos).1 y) a b n some h;
+          admitted = admitted;
+        }));
     closed = λ a b n some admitted h. absurd (SetHolds-empty _ _ _ h.right);
   }
-
-  -- A pair of x before a pair that was reached is a chain.
-  longer_sound : (reached : List ZoneBounds) (place : ℕ) → IsClosedTo D x E reached place
-      → (a b n : ℕ) → 0 < n → Composed (SetHolds x) (SetHolds reached) a b n
-      → Chain (SetHolds x) E a b n
-  longer_sound reached place closed a b n some h =
-      Chain-step (SetHolds x) E (Scales-SetHolds x) scales a b n (record {
-        factor = h.factor;
-        positive = h.positive;
-        midpoint = h.midpoint;
-        left = h.left;
-        right = (closed.sound h.midpoint (h.factor * b) (h.factor * n)
-            (mul-pos h.positive some) h.right).related;
-      })
 
   -- What x and the zone at the place compose to was added.
   pub IsClosedTo-next : (reached next : List ZoneBounds) (place : ℕ) (zone : ZoneBounds)
       → place < length reached → zone ≡ get_or reached place zone
-      → IsClosedTo D x E reached place → AreCanonical next
-      → (more : List ZoneBounds) → next ≡ reached ++ more
+      → IsClosedTo D x E reached place → HasGrown reached next
       → HoldExactly next (Either (SetHolds reached)
       (Lasting D (Composed (SetHolds x) (ZoneHolds zone))))
       → IsClosedTo D x E next (place + 1)
-  IsClosedTo-next reached next place zone within is old canonical more behind held = record {
-    set = canonical;
+  IsClosedTo-next reached next place zone within is old grown held = record {
+    set = grown.canonical;
     within =
-        let longer = ap length behind in
-        omega (arith, within, longer, length-append reached more);
+        let longer = ap length grown.behind in
+        omega (arith, within, longer, length-append reached grown.more);
     sound = λ a b n some h.
-        let le = SetHolds-rising next canonical a b n some h in
+        let le = SetHolds-rising next grown.canonical a b n some h in
         ⊎_elim (λ before. old.sound a b n some before)
         (λ new. record {
-          related = longer_sound reached place old a b n some
-              (Composed-right (SetHolds x) (ZoneHolds zone) (SetHolds reached)
-              (holds_at reached place zone within is) a b n new.related);
+          related = Composed-right (SetHolds x) (ZoneHolds zone) (Chain (SetHolds x) E)
+              (λ c d m pos y. Chain-step (SetHolds x) E (Scales-SetHolds x) scales c d m
+              (old.sound c d m pos (holds_at reached place zone within is c d m y)).related)
+              a b n some new.related;
           admitted = new.admitted;
         })
         ((held.exact a b n some le).0 h);
-    instants = λ a b n some h. (held.exact a b n some (same a b n h)).1
-        (inl (old.instants a b n some h));
+    first = λ a b n some admitted h.
+        let le = Composed-rising (SetHolds x) E steps_rising (λ c d m pos y. same c d m y)
+        a b n some h in
+        (held.exact a b n some le).1 (inl (old.first a b n some admitted h));
     closed = λ a b n some admitted h.
-        let whole = composed_rising x next zones canonical a b n some
+        let le = Composed-rising (SetHolds x) (SetHolds next) steps_rising
+        (SetHolds-rising next grown.canonical) a b n some
         (Composed-right (SetHolds x) (SetHolds (take (place + 1) next)) (SetHolds next)
-        (SetHolds-take next (place + 1)) a b n h) in
-        let back = held.exact a b n some whole in
+        (λ c d m pos y. SetHolds-take next (place + 1) c d m y) a b n some h) in
+        let back = held.exact a b n some le in
         ⊎_elim
         (λ first. back.1 (inl (old.closed a b n some admitted (record {
           factor = h.factor;
@@ -241,82 +244,45 @@ module _ (D : ℕ → ℕ → Type 0) (x : List ZoneBounds) (E : Pairs) (zones :
           };
           admitted = admitted;
         })))
-        (first_more reached more next place zone behind within is
+        (first_more reached grown.more next place zone grown.behind within is
         h.midpoint (h.factor * b) (h.factor * n) h.right);
   }
 
-  -- The same of lists behind the zone of the instants, of which each step is put before it first.
-  module _ (instants : ZoneBounds) (canonical : IsCanonical instants)
-      (exact : (a b n : ℕ) → 0 < n → ZoneHolds instants a b n ↔ E a b n) where
-    behind_canonical : (list : List ZoneBounds) → AreCanonical list → AreCanonical (instants ∷ list)
-    unfolding AreCanonical
-    behind_canonical list all = (canonical, all)
-
-    instants_alone : HoldExactly (instants ∷ []) E
-    unfolding SetHolds
-    instants_alone = record {
-      exact = λ a b n some le.
-          let both = exact a b n some in (
-            (λ h. ⊎_elim both.0 (λ x. absurd x) h),
-            (λ h. inl (both.1 h)),
-          );
-    }
-
-    pub IsClosedTo-instants : (reached : List ZoneBounds) → HasGrown [] reached
-        → HoldExactly reached (Either (SetHolds [])
-        (Lasting D (Composed (SetHolds x) (ZoneHolds instants))))
-        → ((a b n : ℕ) → E a b n → D (b - a) n)
-        → IsClosedTo D x E (instants ∷ reached) 1
-    IsClosedTo-instants reached grown held short =
-        IsClosedTo-next (instants ∷ []) (instants ∷ reached) 0 instants (omega arith) refl
-        (IsClosedTo-first (instants ∷ []) (behind_canonical [] AreCanonical-empty) instants_alone
-        short)
-        (behind_canonical reached grown.canonical) reached refl
-        (HoldExactly-behind instants [] reached _ held)
-
-    pub IsClosedTo-more : (reached next : List ZoneBounds) (place : ℕ) (zone : ZoneBounds)
-        → place < length reached → zone ≡ get_or reached place zone
-        → IsClosedTo D x E (instants ∷ reached) (suc place) → HasGrown reached next
-        → HoldExactly next (Either (SetHolds reached)
-        (Lasting D (Composed (SetHolds x) (ZoneHolds zone))))
-        → IsClosedTo D x E (instants ∷ next) (suc (place + 1))
-    IsClosedTo-more reached next place zone within is old grown held =
-        let same : suc place + 1 ≡ suc (place + 1) = omega arith in
-        subst (λ (k : ℕ). IsClosedTo D x E (instants ∷ next) k) same
-        (IsClosedTo-next (instants ∷ reached) (instants ∷ next) (suc place) zone
-        (omega (arith, within)) is old
-        (behind_canonical next grown.canonical) grown.more
-        (ap (λ (list : List ZoneBounds). instants ∷ list) grown.behind)
-        (HoldExactly-behind instants reached next _ held))
-
-  -- At the end what was reached is every chain of such a duration.
+  -- At the end what was reached is every chain of a step or more, of such a duration.
   all_steps : IsDownward D → (reached : List ZoneBounds) (place : ℕ)
       → IsClosedTo D x E reached place → length reached ≤ place
-      → (n from : ℕ) → 0 < n → (cuts : List ℕ) (to : ℕ) → D (to - from) n
-      → LeadTo (SetHolds x) E n from cuts to → SetHolds reached from to n
-  all_steps down reached place closed all n from some [] to short h =
-      closed.instants from to n some h
-  all_steps down reached place closed all n from some (cut ∷ cuts) to short h =
-      let rises = SetHolds-rising x zones from cut n some h.0 in
+      → (n from cut : ℕ) → 0 < n → SetHolds x from cut n → (cuts : List ℕ) (to : ℕ)
+      → D (to - from) n → LeadTo (SetHolds x) E n cut cuts to → SetHolds reached from to n
+  all_steps down reached place closed all n from cut some step [] to short h =
+      closed.first from to n some short (Composed-at (SetHolds x) E from cut to n step h)
+  all_steps down reached place closed all n from cut some step (next ∷ cuts) to short h =
+      let rises = steps_rising from cut n some step in
       let less : to - cut ≤ to - from = omega (arith, rises) in
-      let rest = all_steps down reached place closed all n cut some cuts to
+      let rest = all_steps down reached place closed all n cut next some h.0 cuts to
       (down.at (to - cut) (to - from) n less short) h.1 in
       closed.closed from to n some short
       (rw (take_all place reached all)
-      (Composed-at (SetHolds x) (SetHolds reached) from cut to n h.0 rest))
+      (Composed-at (SetHolds x) (SetHolds reached) from cut to n step rest))
 
   pub IsClosedTo-last : IsDownward D → DurationScales D → (reached : List ZoneBounds) (place : ℕ)
       → IsClosedTo D x E reached place → length reached ≤ place
-      → HoldExactly reached (Lasting D (Chain (SetHolds x) E))
+      → HoldExactly reached (Lasting D (SomeSteps (SetHolds x) E))
   IsClosedTo-last down finer reached place closed all = record {
     exact = λ a b n some le. (
       (λ h. closed.sound a b n some h),
       (λ h.
-          let chain = h.related in
-          (SetHolds-scale reached chain.factor a b n chain.positive).1
-          (all_steps down reached place closed all (chain.factor * n) (chain.factor * a)
-          (mul-pos chain.positive some) chain.cuts (chain.factor * b)
-          (finer_duration D down finer chain.factor a b n chain.positive h.admitted)
-          chain.steps)),
+          let steps = h.related in
+          let chain = steps.right in
+          let f = steps.factor in
+          let g = chain.factor in
+          (SetHolds-scale reached f a b n steps.positive).1
+          ((SetHolds-scale reached g (f * a) (f * b) (f * n) chain.positive).1
+          (all_steps down reached place closed all (g * (f * n)) (g * (f * a))
+          (g * steps.midpoint) (mul-pos chain.positive (mul-pos steps.positive some))
+          ((Scales-SetHolds x).up g (f * a) steps.midpoint (f * n) chain.positive steps.left)
+          chain.cuts (g * (f * b))
+          (finer_duration D down finer g (f * a) (f * b) (f * n) chain.positive
+          (finer_duration D down finer f a b n steps.positive h.admitted))
+          chain.steps))),
     );
   }

@@ -4,3 +4,4 @@ pub mod Sums
 pub mod Reaching
 pub mod Chaining
 pub mod Powers
+pub mod Separate

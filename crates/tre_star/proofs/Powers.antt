@@ -45,7 +45,7 @@ is_short : (key : ℤ) (most p d m : ℕ) → value_of key ≡ pos most → d < 
 is_short key most p d m e lt = record { met = rw e (omega (arith, ints)) }
 
 -- An earlier time meets a bound from above, and a later one a bound from below.
-Meets-earlier : (key : ℤ) (p p' n : ℕ) → p' ≤ p → Meets key p 0 n → Meets key p' 0 n
+pub Meets-earlier : (key : ℤ) (p p' n : ℕ) → p' ≤ p → Meets key p 0 n → Meets key p' 0 n
 Meets-earlier key p p' n le m = let met = m.met in record { met = omega (arith, ints) }
 
 Meets-later : (key : ℤ) (q q' n : ℕ) → q ≤ q' → Meets key 0 q n → Meets key 0 q' n

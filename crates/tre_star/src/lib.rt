@@ -1,12 +1,11 @@
 //! Composition and closure of sets of zones.
 //!
-//! [`compose_sets::compose_sets`] gives the pairs of one set followed by one of another, as exact
-//! unions over the zones, and [`closure::closure`] those of any number of pairs of one set, one
-//! after another: it puts the steps once before each zone that it has reached; a step whose
-//! durations lie between two different ends has a power limit, a zone of chains that spares it
-//! most of them. Each has a form that keeps to pairs up to a longest duration, and looks at no
-//! other. The layer above may rely on all being exact at every denominator, and on each call
-//! returning.
+//! [`compose_sets`] gives the pairs of one set followed by one of another, as exact unions over the
+//! zones, and [`closure`] those of any number of pairs of one set, one after another: it puts the
+//! steps once before each zone that it has reached; a step whose durations lie between two
+//! different ends has a power limit, a zone of chains that spares it most of them. Each has a form
+//! that keeps to pairs up to a longest duration, and looks at no other. The layer above may rely on
+//! all being exact at every denominator, and on each call returning.
 //!
 //! ```
 //! let twice = compose_sets(alloc, &set, &set)?;
@@ -14,9 +13,11 @@
 //! ```
 #![tactic(auto)]
 
-pub mod closure;
-pub mod compose_sets;
+pub use chains::{closure, closure_up_to};
+pub use composition::{compose_sets, compose_sets_up_to};
+
+mod chains;
+mod composition;
 mod gather_up_to;
+mod parts;
 mod power_limit;
-#[cfg(test)]
-mod tests;

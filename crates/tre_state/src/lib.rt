@@ -18,5 +18,3 @@ pub use state::State;
 mod name;
 mod names;
 mod state;
-#[cfg(test)]
-mod tests;

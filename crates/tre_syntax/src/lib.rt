@@ -19,5 +19,3 @@ pub mod cut;
 mod expr;
 pub mod laws;
 mod pattern;
-#[cfg(test)]
-mod tests;

@@ -4,5 +4,6 @@ pub mod TextReading
 pub mod TraceLines
 -- What the functions inside promise each other.
 pub mod Lines
+pub mod Words
 -- Why the law of the format holds, which its impl cites.
 pub mod Times

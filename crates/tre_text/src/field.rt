@@ -1,12 +1,10 @@
-// The fields of a line, and what each of them spells.
+// The fields of a line.
 ghost use Rattle.std.specs.Prelude.{◌≡◌, ◌<◌, ◌≤◌, [], ◌∷◌, length, false, IfNone, IfSome, slice_index_or};
 ghost use Rattle.std.specs.List.{position_or_len};
-ghost use Rattle.tre_text.specs.TextReading.{is_blank, without_return, fields_among, spells_word};
+ghost use Rattle.tre_text.specs.TextReading.{is_blank, without_return, fields_among};
 
-use tre_state::is_word;
-
-// Whether the byte parts fields.
-fn is_blank(byte: u8) -> bool
+/// Whether the byte parts fields.
+pub fn is_blank(byte: u8) -> bool
     ensures { result ≡ is_blank byte }
 {
     byte == b' ' || byte == b'\t'
@@ -23,8 +21,8 @@ pub fn without_return(line: &[u8]) -> &[u8]
     line
 }
 
-// The bytes from the first on that is no blank.
-fn skip_blanks(bytes: &[u8]) -> &[u8]
+/// The bytes from the first on that is no blank.
+pub fn skip_blanks(bytes: &[u8]) -> &[u8]
     ensures fields { fields_among bytes.now ≡ fields_among result.now }
     ensures shorter { length result.now ≤ length bytes.now }
     ensures first { 0 < length result.now → is_blank (slice_index_or result.now 0 0) ≡ false }
@@ -66,11 +64,4 @@ pub fn next_field(bytes: &[u8]) -> Option<(&[u8], &[u8])>
         return Some((bytes, &[]));
     }
     Some((&bytes[..end], &bytes[end + 1..]))
-}
-
-/// Whether the field is spelt as a name is.
-pub fn spells_word(field: &[u8]) -> bool
-    ensures { result ≡ spells_word field.now }
-{
-    is_word(field)
 }

@@ -15,8 +15,7 @@ mod field;
 pub mod laws;
 mod line;
 mod line_reader;
-#[cfg(test)]
-mod tests;
 mod text_reader;
+mod word;
 
 pub use text_reader::TextReader;

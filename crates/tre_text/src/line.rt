@@ -4,7 +4,8 @@ ghost use Rattle.std.specs.List.{list_all};
 ghost use Rattle.tre_text.specs.TextReading.{fields_among, spells_word, with_name, valuation_of, line_says};
 ghost use Rattle.tre_text.specs.Lines.{Finds};
 
-use crate::field::{next_field, spells_word, without_return};
+use crate::field::{next_field, skip_blanks, without_return};
+use crate::word::{ends_word, word_end};
 use tre_pairs::TIME_MAX;
 use tre_parts::{Said, find_name, read_numeral};
 use tre_state::Names;
@@ -29,14 +30,15 @@ fn read_names(names: &Names, fields: &[u8]) -> Option<u64>
         (fields_among fields.now)) }
     ensures other { IfNone result (list_all spells_word (fields_among fields.now) ≡ false) }
 {
-    let mut rest = fields;
+    let mut rest = skip_blanks(fields);
     let mut valuation = 0;
-    while let Some((field, after)) = next_field(rest) {
-        if !spells_word(field) {
+    while !rest.is_empty() {
+        let end = word_end(rest);
+        if !ends_word(rest, end) {
             return None;
         }
-        valuation = with_name(names, valuation, field);
-        rest = after;
+        valuation = with_name(names, valuation, &rest[..end]);
+        rest = skip_blanks(&rest[end..]);
     }
     Some(valuation)
 }

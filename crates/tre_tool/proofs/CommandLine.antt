@@ -1,5 +1,5 @@
 -- The command line as `clap` sees it.
-use Rattle.std.proofs.Common.{◌≡◌, ◌∙◌, ap, ℕ, List, Option, Some, None, IfSome, IfNone, true, refl, sym, codes}
+use Rattle.std.proofs.Common.{◌≡◌, ◌≢◌, ◌∙◌, ◌⊎◌, ⊎_elim, ap, ℕ, List, [], Option, Some, None, IfSome, IfNone, true, refl, subst, sym, codes}
 use Rattle.std.specs.Borrow.{Bor}
 use Rattle.std.specs.Prelude.{option_map}
 use Rattle.clap.specs.Words.{first_of, first_value, rows_of, is_simple, is_simple_and_free}
@@ -7,7 +7,9 @@ use Rattle.clap.specs.declared.parser.matches.Found.{Found}
 use Rattle.clap.proofs.OnLiterals.{clap_on_literals}
 use Rattle.clap.proofs.WalkLemmas.{first_value-rows}
 use Rattle.clap.specs.Simple.{app_of_fields, on_top}
-use Rattle.clap.specs.Words.{app_of, new_app}
+use Rattle.clap.specs.Words.{app_of, new_app, IsAmong, Kinds}
+use Rattle.clap.specs.declared.error.kind.ErrorKind.{ErrorKind}
+use Rattle.clap.specs.declared.error.kind.ErrorKind.TheVariants.{OutOfMemory}
 use Rattle.clap.specs.declared.builder.command.Command.{Command}
 use Rattle.clap.specs.declared.builder.command.Command.TheViews.{out-Command}
 use Rattle.clap.specs.declared.builder.command.Command.TheOpen.{Command-F}
@@ -46,3 +48,9 @@ bare_command-app new named bare made words help =
     ∙ (ap (λ (fields : Command-F Command). app_of_fields
     (record fields { disable_help_flag = true })) words
     ∙ ap (on_top (λ s. record s { no_binary_name = true; disable_help_flag = true })) made)
+
+-- a fault that isn't want of memory is one that `clap` has of the words
+pub fault_told : (kinds : Kinds) (kind : ErrorKind) → (kind ≡ OutOfMemory) ⊎ IsAmong kind kinds
+    → kind ≢ OutOfMemory → kinds ≢ []
+fault_told kinds kind either told none = ⊎_elim (λ memory. told memory)
+    (λ among. subst (IsAmong kind) none among) either

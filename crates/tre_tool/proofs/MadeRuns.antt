@@ -12,7 +12,7 @@ use Rattle.tre_generate.specs.Summary.{IsSummary}
 use Rattle.tre_generate.specs.declared.made_run.TheConstants.{SEGMENTS_MAX}
 use Rattle.tre_tool.specs.Devices.{InputTold, OutputTold}
 use Rattle.tre_parts.specs.Numeral.{is_numeral}
-use Rattle.tre_tool.specs.Job.{GivesWhere, GivesJob, AreTakenWhere, AreTaken, command_line, is_made_run, made_count, made_job, mode_for, number_written, is_given, IsCount}
+use Rattle.tre_tool.specs.Job.{GivesWhere, GivesJob, HaveNoFaultWhere, HaveNoFault, command_line, is_made_run, made_count, made_job, mode_for, number_written, is_given, IsCount}
 use Rattle.tre_tool.specs.Run.{Request, AsksFor, AsksForMadeRun, EndsAs, EndsMadeRun, IsRefused, IsOutcomeIn, IsAnswerIn, StandsAtFault, StandsAtFailedRead, StandsAtFailedWrite, StandsAtMemory}
 use Rattle.tre_tool.specs.declared.job.Job.{Job}
 use Rattle.tre_tool.specs.declared.job.Mode.{Mode}
@@ -76,25 +76,30 @@ count_where false words job count gives mode =
 -- a made run has as many segments as it may have
 pub IsCount-given : (words : List (List ℕ)) (job : Job) (count : ℕ) → GivesJob words job
     → job.mode ≡ Generate count → IsCount count
-IsCount-given words = count_where (is_made_run words) words
+IsCount-given words job count gives mode =
+    count_where (is_made_run words) words job count gives.gives mode
 
 module _ (words : List (List ℕ)) (count : ℕ) (asks : AsksForMadeRun words count) where
   job_given : (job : Job) → GivesJob words job → job ≡ made_job count
   job_given job gives =
       let here : GivesWhere true words job =
-      subst (λ (made : Bool). GivesWhere made words job) asks.first gives in
+      subst (λ (made : Bool). GivesWhere made words job) asks.first gives.gives in
       one_value (sym here ∙ ap (option_map made_job) asks.second)
+
+  have_no_fault : HaveNoFault words
+  have_no_fault =
+      let here : HaveNoFaultWhere true words = tt in
+      subst (λ (made : Bool). HaveNoFaultWhere made words) (sym asks.first) here
 
   pub gives_one : GivesJob words (made_job count)
   gives_one =
       let here : GivesWhere true words (made_job count) =
       ap (option_map made_job) asks.second in
-      subst (λ (made : Bool). GivesWhere made words (made_job count)) (sym asks.first) here
-
-  are_taken : AreTaken words
-  are_taken =
-      let here : AreTakenWhere true words = tt in
-      subst (λ (made : Bool). AreTakenWhere made words) (sym asks.first) here
+      record {
+        faultless = have_no_fault;
+        gives = subst (λ (made : Bool). GivesWhere made words (made_job count)) (sym asks.first)
+            here;
+      }
 
   mode_given : (job : Job) → GivesJob words job → job.mode ≡ Generate count
   mode_given job gives = ap (λ (j : Job). j.mode) (job_given job gives)
@@ -106,12 +111,12 @@ module _ (words : List (List ℕ)) (count : ℕ) (asks : AsksForMadeRun words co
       (mode_given request.job asked.gives) asked.spells in
       cc
 
-  summary_asked : (request : Request) (file : Option (List ℕ)) (text : List ℕ)
-      → AsksFor words request → IsAnswerIn request.job.mode request file text
+  summary_asked : (request : Request) (input : InputTold) (text : List ℕ)
+      → AsksFor words request → IsAnswerIn request.job.mode request input text
       → IsSummary fixed_tree count text
-  summary_asked request file text asked right =
-      let here : IsAnswerIn (Generate count) request file text =
-      subst (λ (mode : Mode). IsAnswerIn mode request file text)
+  summary_asked request input text asked right =
+      let here : IsAnswerIn (Generate count) request input text =
+      subst (λ (mode : Mode). IsAnswerIn mode request input text)
       (mode_given request.job asked.gives) right in
       subst (λ (tree : PatternTree). IsSummary tree count text) (tree_asked request asked) here
 
@@ -127,17 +132,17 @@ module _ (words : List (List ℕ)) (count : ℕ) (asks : AsksForMadeRun words co
       → EndsAs words input output status → EndsMadeRun count output status
   EndsMadeRun-ends input output Done ends = record {
     text = ends.is_so.text;
-    right = summary_asked ends.request input.file ends.is_so.text ends.asks ends.is_so.right;
+    right = summary_asked ends.request input ends.is_so.text ends.asks ends.is_so.right;
     writes = ends.is_so.writes;
     written = ends.is_so.written;
   }
-  EndsMadeRun-ends input output Usage ends = ends.no_job are_taken (made_job count) gives_one
+  EndsMadeRun-ends input output Usage ends = ends.no_job (made_job count) gives_one
   EndsMadeRun-ends input output (Expression fault) ends = never_refused fault ends.refused
   EndsMadeRun-ends input output (Trace fault) ends =
-      subst (λ (mode : Mode). StandsAtFault mode ends.request input output)
+      subst (λ (mode : Mode). StandsAtFault mode ends.request ends.is_so.cause.bytes output)
       (mode_given ends.request.job ends.asks.gives) ends.is_so.stands
   EndsMadeRun-ends input output InputTooLong ends =
-      subst (λ (mode : Mode). StandsAtFault mode ends.request input output)
+      subst (λ (mode : Mode). StandsAtFault mode ends.request ends.is_so.cause.bytes output)
       (mode_given ends.request.job ends.asks.gives) ends.is_so.stands
   EndsMadeRun-ends input output ReadFault ends =
       subst (λ (mode : Mode). StandsAtFailedRead mode ends.request input output)
@@ -148,7 +153,7 @@ module _ (words : List (List ℕ)) (count : ℕ) (asks : AsksForMadeRun words co
       (mode_given ends.request.job ends.asks.gives) ends.is_so.stands in
       record {
         text = here.text;
-        right = summary_asked ends.request input.file here.text ends.asks here.right;
+        right = summary_asked ends.request input here.text ends.asks here.right;
         cause = ends.is_so.cause;
         written = here.written;
       }

@@ -16,27 +16,28 @@ pub EndsOver-telling : (request : Request) (input : InputTold) (output : OutputT
     → EndsOver request input output status
 EndsOver-telling request input output Done online ends = record {
   reads = ends.reads;
-  all_read = rw online ends.all_read;
   text = ends.text;
   right = rw online ends.right;
   writes = ends.writes;
   written = ends.written;
 }
 EndsOver-telling request input output (Trace fault) online ends = record {
-  kind = ends.cause.0;
-  cause = ends.cause.1;
-  reads = ends.reads;
-  stands = rw online ends.stands;
+  kind = ends.0;
+  opened = ends.1.decided.opened;
+  cause = ends.1.decided.cause;
+  reads = ends.1.decided.reads;
+  stands = rw online ends.1.stands;
 }
 EndsOver-telling request input output InputTooLong online ends = record {
-  cause = ends.cause;
-  reads = ends.reads;
+  opened = ends.decided.opened;
+  cause = ends.decided.cause;
+  reads = ends.decided.reads;
   stands = rw online ends.stands;
 }
 EndsOver-telling request input output ReadFault online ends = record {
-  cause = ends.cause;
-  unsound = ends.unsound;
-  goes_on = ends.goes_on;
+  cause = ends.unread.cause;
+  unsound = ends.unread.unsound;
+  goes_on = ends.unread.goes_on;
   stands = rw online ends.stands;
 }
 EndsOver-telling request input output WriteFault online ends = record {

@@ -9,11 +9,11 @@ use Rattle.tre_parse.specs.declared.fault.ParseFault.{ParseFault}
 use Rattle.tre_parse.specs.declared.fault.ParseFault.TheVariants.{TooLong, BadByte, Number, TooDeep, Syntax, EmptyInterval, TooManyNames, TooLarge, Memory as ParseMemory}
 use Rattle.tre_parse.proofs.Outcomes.{outcome_once}
 use Rattle.tre_syntax.specs.PatternTree.{PatternTree}
-use Rattle.tre_tool.specs.Job.{GivesWhere, GivesJob, AreTaken, is_made_run}
+use Rattle.tre_tool.specs.Job.{GivesWhere, GivesJob, GivesNoJob, is_made_run}
 use Rattle.tre_tool.specs.Outcome.{Outcome, completes, refuses, exceeds}
 use Rattle.tre_tool.specs.Answer.{EndsOver, StopsAs, IsFoundFor}
 use Rattle.tre_tool.specs.Devices.{InputTold, OutputTold, NothingWritten, NothingDone, AllWritesGood}
-use Rattle.tre_tool.specs.Run.{Request, request_for, IsOutcomeIn, AsksFor, Asks, IsRefused, AsksForNothing, EndsAs, EndsDone, EndsTrace, EndsTooLong, EndsReadFault, EndsWriteFault, StandsAtFault, StandsAtFailedRead, StandsAtFailedWrite, IsAnswerIn, IsAnswerTo, IsOnlineAnswerTo, outcome_for, IsStatusFor, IsStatusIn, ReadsInput, IsUnlessMemory, IsComplete, IsLineTold, IsReadToItsEnd}
+use Rattle.tre_tool.specs.Run.{Request, request_for, IsOutcomeIn, AsksFor, Asks, IsRefused, AsksForNothing, EndsAs, EndsDone, EndsTrace, EndsTooLong, EndsReadFault, EndsWriteFault, StandsAtFault, StandsAtFailedRead, StandsAtFailedWrite, PartIsWritten, IsAnswerTo, IsOnlineAnswerTo, outcome_for, IsStatusFor, IsStatusIn, ReadsInput, IsUnlessMemory, IsComplete, IsLineTold}
 use Rattle.tre_tool.specs.Status.{words_status, parse_status}
 use Rattle.tre_tool.specs.declared.job.WordsFault.{WordsFault}
 use Rattle.tre_tool.specs.declared.job.WordsFault.TheVariants.{Usage as WordsUsage, Memory as WordsMemory}
@@ -57,7 +57,8 @@ given_once false words job other gives gives' =
 
 pub job_unique : (words : List (List ℕ)) (job other : Job) → GivesJob words job
     → GivesJob words other → job ≡ other
-job_unique words = given_once (is_made_run words) words
+job_unique words job other gives gives' =
+    given_once (is_made_run words) words job other gives.gives gives'.gives
 
 -- a text becomes one thing
 outcome_once_in : (mode : Mode) (text : List ℕ) (one other : ParseOutcome)
@@ -168,10 +169,12 @@ done_in : (mode : Mode) (request : Request) (input : InputTold) (output : Output
     → request.job.mode ≡ mode → IsStatusIn mode request input Done
 done_in Offline request input output done same = λ reads.
     let right = rw same at done.right in
-    weaker input.file _ _ (λ bytes answer. done_completes request bytes done.text answer) right
+    weaker input.file _ _ (λ told is. rw is (done_completes request right.bytes done.text
+    right.is_so)) right.all.whole
 done_in Online request input output done same = λ reads.
     let right = rw same at done.right in
-    weaker input.file _ _ (λ bytes answer. online_completes request bytes done.text answer) right
+    weaker input.file _ _ (λ told is. rw is (online_completes request right.bytes done.text
+    right.is_so)) right.all.whole
 done_in Show request input output done same = inl refl
 done_in (Generate count) request input output done same = inl refl
 
@@ -185,12 +188,12 @@ memory_in Show request input = inr refl
 memory_in (Generate count) request input = inr refl
 
 -- a run that stops at a fault of the input, or couldn't read it, is one that reads it
-reads_at_fault : (mode : Mode) (request : Request) (input : InputTold) (output : OutputTold)
-    → StandsAtFault mode request input output → ReadsInput mode
-reads_at_fault Offline request input output stands = tt
-reads_at_fault Online request input output stands = tt
-reads_at_fault Show request input output stands = stands
-reads_at_fault (Generate count) request input output stands = stands
+reads_at_fault : (mode : Mode) (request : Request) (bytes : List ℕ) (output : OutputTold)
+    → StandsAtFault mode request bytes output → ReadsInput mode
+reads_at_fault Offline request bytes output stands = tt
+reads_at_fault Online request bytes output stands = tt
+reads_at_fault Show request bytes output stands = stands
+reads_at_fault (Generate count) request bytes output stands = stands
 
 reads_at_failed_read : (mode : Mode) (request : Request) (input : InputTold) (output : OutputTold)
     → StandsAtFailedRead mode request input output → ReadsInput mode
@@ -212,64 +215,78 @@ fault_in (Generate count) request input status reads told = absurd reads
 
 -- what must come of a request
 asked_as : (words : List (List ℕ)) (request : Request) (input : InputTold) (output : OutputTold)
-    (status : Status) → AreTaken words → AsksFor words request → EndsAs words input output status
+    (status : Status) → AsksFor words request → EndsAs words input output status
     → ¬ Rises output.faults_before output.faults_now
     → IsStatusIn request.job.mode request input status
-asked_as words request input output Done taken asks ends writes =
+asked_as words request input output Done asks ends writes =
     done_in request.job.mode request input output (the_request words request
     (λ r. EndsDone r input output) asks ends) refl
-asked_as words request input output Usage taken asks ends writes = absurd
-    (ends.no_job taken request.job asks.gives)
-asked_as words request input output (Expression fault) taken asks ends writes = absurd
+asked_as words request input output Usage asks ends writes = absurd
+    (ends.no_job request.job asks.gives)
+asked_as words request input output (Expression fault) asks ends writes = absurd
     (spelt_or_refused words request fault asks ends.refused)
-asked_as words request input output (Trace fault) taken asks ends writes =
+asked_as words request input output (Trace fault) asks ends writes =
     let found = the_request words request (λ r. EndsTrace r input output fault) asks ends in
     fault_in request.job.mode request input (Trace fault)
-    (reads_at_fault request.job.mode request input output found.stands)
-    (λ reads. weaker input.file _ _ (λ bytes e. rw e (inl refl)) found.cause)
-asked_as words request input output InputTooLong taken asks ends writes =
+    (reads_at_fault request.job.mode request found.cause.bytes output found.stands)
+    (λ reads. weaker input.file _ _ (λ bytes e. rw e (inl refl)) found.cause.whole)
+asked_as words request input output InputTooLong asks ends writes =
     let found = the_request words request (λ r. EndsTooLong r input output) asks ends in
     fault_in request.job.mode request input InputTooLong
-    (reads_at_fault request.job.mode request input output found.stands)
-    (λ reads. weaker input.file _ _ (λ bytes e. rw e (inl refl)) found.cause)
-asked_as words request input output ReadFault taken asks ends writes =
+    (reads_at_fault request.job.mode request found.cause.bytes output found.stands)
+    (λ reads. weaker input.file _ _ (λ bytes e. rw e (inl refl)) found.cause.whole)
+asked_as words request input output ReadFault asks ends writes =
     let found = the_request words request (λ r. EndsReadFault r input output) asks ends in
     fault_in request.job.mode request input ReadFault
     (reads_at_failed_read request.job.mode request input output found.stands)
     (λ reads. absurd (reads (one_more _ _ found.cause)))
-asked_as words request input output WriteFault taken asks ends writes =
+asked_as words request input output WriteFault asks ends writes =
     let found = the_request words request (λ r. EndsWriteFault r input output) asks ends in
     absurd (writes (one_more _ _ found.cause))
-asked_as words request input output Memory taken asks ends writes = memory_in request.job.mode
+asked_as words request input output Memory asks ends writes = memory_in request.job.mode
     request input
 
 -- what must come of a text that is refused
 refused_as : (words : List (List ℕ)) (input : InputTold) (output : OutputTold) (status : Status)
-    (fault : ParseFault) → AreTaken words → EndsAs words input output status
+    (fault : ParseFault) → EndsAs words input output status
     → IsRefused words fault → IsUnlessMemory (Expression fault) status
-refused_as words input output Usage fault taken ends told = absurd
-    (ends.no_job taken told.job told.gives)
-refused_as words input output (Expression other) fault taken ends told = inl (ap Expression
+refused_as words input output Usage fault ends told = absurd
+    (ends.no_job told.job told.gives)
+refused_as words input output (Expression other) fault ends told = inl (ap Expression
     (refused_once words fault other told ends.refused))
-refused_as words input output Memory fault taken ends told = inr refl
-refused_as words input output Done fault taken ends told = absurd
+refused_as words input output Memory fault ends told = inr refl
+refused_as words input output Done fault ends told = absurd
     (spelt_or_refused words ends.request fault ends.asks told)
-refused_as words input output (Trace at) fault taken ends told = absurd
+refused_as words input output (Trace at) fault ends told = absurd
     (spelt_or_refused words ends.request fault ends.asks told)
-refused_as words input output InputTooLong fault taken ends told = absurd
+refused_as words input output InputTooLong fault ends told = absurd
     (spelt_or_refused words ends.request fault ends.asks told)
-refused_as words input output ReadFault fault taken ends told = absurd
+refused_as words input output ReadFault fault ends told = absurd
     (spelt_or_refused words ends.request fault ends.asks told)
-refused_as words input output WriteFault fault taken ends told = absurd
+refused_as words input output WriteFault fault ends told = absurd
     (spelt_or_refused words ends.request fault ends.asks told)
+
+-- what must come of words that give no job
+no_job_as : (words : List (List ℕ)) (input : InputTold) (output : OutputTold) (status : Status)
+    → EndsAs words input output status → GivesNoJob words → IsUnlessMemory Usage status
+no_job_as words input output Usage ends none = inl refl
+no_job_as words input output Memory ends none = inr refl
+no_job_as words input output (Expression fault) ends none = absurd
+    (none ends.refused.job ends.refused.gives)
+no_job_as words input output Done ends none = absurd (none ends.request.job ends.asks.gives)
+no_job_as words input output (Trace at) ends none = absurd (none ends.request.job ends.asks.gives)
+no_job_as words input output InputTooLong ends none = absurd
+    (none ends.request.job ends.asks.gives)
+no_job_as words input output ReadFault ends none = absurd (none ends.request.job ends.asks.gives)
+no_job_as words input output WriteFault ends none = absurd (none ends.request.job ends.asks.gives)
 
 -- a run that ends so is complete
 pub IsComplete-ends : (words : List (List ℕ)) (input : InputTold) (output : OutputTold)
     (status : Status) → EndsAs words input output status → IsComplete words input output status
 IsComplete-ends words input output status ends = record {
-  refused = λ fault taken told. refused_as words input output status fault taken ends told;
-  asked = λ request taken asks writes. asked_as words request input output status taken asks ends
-      writes;
+  no_job = λ none. no_job_as words input output status ends none;
+  refused = λ fault told. refused_as words input output status fault ends told;
+  asked = λ request asks writes. asked_as words request input output status asks ends writes;
 }
 
 -- the end of a run over the request that the words ask for
@@ -362,40 +379,14 @@ pub AsksFor-of : (words : List (List ℕ)) (job : Job) (tree : PatternTree)
     (record { job = job; tree = tree; names = names })
 AsksFor-of words job tree names gives spells = record { gives = gives; spells = spells }
 
--- a text that is one of what the words ask for is refused for want of memory alone
-pub never_refused : (words : List (List ℕ)) (request : Request) (fault : ParseFault)
-    → AsksFor words request → (fault ≢ ParseMemory → IsRefused words fault)
-    → parse_status fault ≡ Memory
-never_refused words request fault asks told = elim (faults fault) [
-  | inl memory ↦ rw memory refl
-  | inr other ↦ absurd (spelt_or_refused words request fault asks (told other.0))
-]
-
 -- what stands in the output where the one write of an answer failed
 cut_in : (mode : Mode) (request : Request) (input : InputTold) (output : OutputTold)
-    (text : List ℕ) → request.job.mode ≡ mode → (mode ≡ Online → ⊥)
-    → IsReadToItsEnd mode input → IsAnswerIn mode request input.file text
-    → AppendsPart output.written_before output.written_now text
+    → (mode ≡ Online → ⊥) → PartIsWritten request input output
     → StandsAtFailedWrite mode request input output
-cut_in Offline request input output text is once all_read right part = record {
-  all_read = rw is all_read;
-  text = text;
-  right = rw is right;
-  written = part;
-}
-cut_in Online request input output text is once all_read right part = absurd (once refl)
-cut_in Show request input output text is once all_read right part = record {
-  all_read = rw is all_read;
-  text = text;
-  right = rw is right;
-  written = part;
-}
-cut_in (Generate count) request input output text is once all_read right part = record {
-  all_read = rw is all_read;
-  text = text;
-  right = rw is right;
-  written = part;
-}
+cut_in Offline request input output once part = part
+cut_in Online request input output once part = absurd (once refl)
+cut_in Show request input output once part = part
+cut_in (Generate count) request input output once part = part
 
 -- a run whose answer is written at once, and that stopped before it
 pub EndsOver-stopped : (request : Request) (input : InputTold) (output : OutputTold)
@@ -412,8 +403,8 @@ pub EndsOver-cut : (request : Request) (input : InputTold) (output : OutputTold)
 EndsOver-cut request input output text once found cause part = record {
   cause = cause;
   reads = found.reads;
-  stands = cut_in request.job.mode request input output text refl once found.all_read found.right
-      part;
+  stands = cut_in request.job.mode request input output once
+      (record { text = text; right = found.right; written = part });
 }
 
 -- a run whose answer was written
@@ -422,7 +413,6 @@ pub EndsOver-done : (request : Request) (input : InputTold) (output : OutputTold
     → Appends output.written_before output.written_now text → EndsOver request input output Done
 EndsOver-done request input output text found writes written = record {
   reads = found.reads;
-  all_read = found.all_read;
   text = text;
   right = found.right;
   writes = writes;
@@ -430,20 +420,18 @@ EndsOver-done request input output text found writes written = record {
 }
 
 -- the name is that of the job which the words give
-pub named_as : (words : List (List ℕ)) (job : Job) (request : Request) (name : Option (List ℕ))
-    → GivesJob words job → AsksFor words request
-    → (ReadsInput job.mode → IfSome name (λ told. told ≡ job.input))
-    → ReadsInput request.job.mode → IfSome name (λ told. told ≡ request.job.input)
-named_as words job request name gives asks named =
-    subst (λ (j : Job). ReadsInput j.mode
-    → IfSome name (λ told. told ≡ j.input))
-    (job_unique words job request.job gives asks.gives) named
+pub named_as : (words : List (List ℕ)) (job other : Job) (name : Option (List ℕ))
+    → GivesJob words job → GivesJob words other → IfSome name (λ told. told ≡ job.input)
+    → IfSome name (λ told. told ≡ other.input)
+named_as words job other name gives gives' named =
+    subst (λ (j : Job). IfSome name (λ told. told ≡ j.input))
+    (job_unique words job other gives gives') named
 
--- words that ask for something aren't refused but for want of memory, or because they aren't taken
-pub only_untaken : (fault : WordsFault) → words_status fault ≢ Usage
+-- words give no job where memory was wanting, or else are told as such
+pub told_as_such : (fault : WordsFault) → words_status fault ≢ Usage
     → words_status fault ≢ Memory → ⊥
-only_untaken WordsUsage usage memory = usage refl
-only_untaken WordsMemory usage memory = memory refl
+told_as_such WordsUsage usage memory = usage refl
+told_as_such WordsMemory usage memory = memory refl
 
 -- the mode is that of the job which the words give
 pub kept_as : (words : List (List ℕ)) (job other : Job) (Kept : Type 0) → GivesJob words job

@@ -1,22 +1,24 @@
 -- What was read of an input, from no bytes to its end.
-use Rattle.std.proofs.Common.{◌≡◌, ◌+◌, ◌≤◌, ℕ, Bool, true, false, List, [], ◌++◌, length, take, Option, None, IsTrue, refl, sym, subst, arith, length-take}
-use Rattle.std.specs.Io.KnownBytes.{Consumes, Keeps}
-use Rattle.std.proofs.KnownBytes.{Consumes-nil}
+use Rattle.std.proofs.Common.{◌≡◌, ◌≢◌, ◌+◌, ◌≤◌, ℕ, Bool, true, false, List, [], ◌++◌, length, take, Option, None, Some, IsTrue, IfErr, Result, Ok, Err, refl, sym, subst, arith, length-take}
+use Rattle.std.specs.Io.KnownBytes.{Consumes, Keeps, IsAtEnd}
+use Rattle.std.proofs.KnownBytes.{Consumes-nil, Consumes-whole}
 use Rattle.tre_parts.specs.Format.{reading_from}
 use Rattle.tre_text.specs.TextReading.{text_reading}
 use Rattle.tre_trace.specs.Reading.{Reading}
+use Rattle.tre_trace.specs.Trace.{IsTrace}
 use Rattle.tre_trace.specs.declared.segment.Segment.{Segment}
 use Rattle.tre_vcd.specs.VcdReading.{vcd_reading}
-use Rattle.tre_tool.specs.Feeding.{IsFed, HasRead, StopsTurn}
-use Rattle.tre_tool.specs.Devices.{InputTold, WereRead}
-use Rattle.tre_tool.specs.Input.{TakesAtMost, MayGoOn}
+use Rattle.tre_tool.specs.Feeding.{IsFed, HasRead, HasFailed, GoesOn, IsEnded, IsWhole, StopsTurn, StopsReading, EndsTurn}
+use Rattle.tre_tool.specs.Devices.{InputTold, WereRead, AllReadsGood, AreAllBytes}
+use Rattle.tre_tool.specs.Input.{TakesAtMost, MayGoOn, HasReadCause}
 use Rattle.tre_tool.specs.Outcome.{reading_in}
 use Rattle.tre_tool.specs.declared.job.Format.{Format}
 use Rattle.tre_tool.specs.declared.job.Format.TheVariants.{Text, Vcd}
 use Rattle.tre_tool.specs.declared.status.Status.{Status}
-use Rattle.tre_tool.specs.declared.status.Status.TheVariants.{ReadFault}
+use Rattle.tre_tool.specs.declared.status.Status.TheVariants.{Done, Usage, Expression, Trace, InputTooLong, ReadFault, WriteFault, Memory}
 use Rattle.tre_show.proofs.Lists.{take-over}
-use Rattle.tre_tool.proofs.Turns.{Consumes-keeps}
+use Rattle.tre_tool.proofs.Feeding.{Adds-now, same_reading}
+use Rattle.tre_tool.proofs.Turns.{Consumes-keeps, found_behind}
 
 pub text_reading-nothing : (names : List (List ℕ)) → (text_reading names false []).segments ≡ []
 unfolding reading_from
@@ -28,33 +30,43 @@ vcd_reading-nothing names = refl
 
 -- These segments were read of the bytes that were fed.
 pub record IsCollected (represents : List ℕ → Type 0) (reading : Bool → List ℕ → Reading)
-    (limit : ℕ) (file left : Option (List ℕ)) (count : ℕ) (segments : List Segment) : Type 0 where
+    (most limit : ℕ) (file left found : Option (List ℕ)) (count : ℕ) (segments : List Segment)
+    : Type 0 where
   pub bytes : List ℕ
-  pub fed : IsFed represents limit file left count bytes
+  pub fed : IsFed represents most limit file left found count bytes
   pub told : segments ≡ (reading false (take limit bytes)).segments
 
 -- no byte was read of an input that was opened
-pub IsFed-start : {represents : List ℕ → Type 0} (limit : ℕ) (file left : Option (List ℕ))
-    (count : ℕ) → represents [] → Keeps file left → count ≡ 0
-    → IsFed represents limit file left count []
-IsFed-start limit file left count fresh kept none = record {
+pub IsFed-start : {represents : List ℕ → Type 0} (most limit : ℕ)
+    (file left found : Option (List ℕ)) (count : ℕ) → represents [] → Keeps file left
+    → Keeps found file → count ≡ 0 → IsFed represents most limit file left found count []
+IsFed-start most limit file left found count fresh kept finds none = record {
   front = Consumes-keeps file file left [] (Consumes-nil file) kept;
+  last = record {
+    earlier = [];
+    piece = [];
+    split = refl;
+    short = omega arith;
+    behind = found_behind file file found [] (Consumes-nil file) finds;
+  };
   size = sym none;
   few = omega (arith, none);
   fed = rw (take-over {X = ℕ} limit [] (omega arith)) fresh;
 }
 
 -- a reader was fed no more than was taken
-pub fed_within : (represents : List ℕ → Type 0) (limit : ℕ) (file left : Option (List ℕ))
-    (count fed : ℕ) (bytes : List ℕ) → IsFed represents limit file left count bytes
+pub fed_within : (represents : List ℕ → Type 0) (most limit : ℕ)
+    (file left found : Option (List ℕ)) (count fed : ℕ) (bytes : List ℕ)
+    → IsFed represents most limit file left found count bytes
     → fed ≡ length (take limit bytes) → fed ≤ count
-fed_within represents limit file left count fed bytes so_far counts = omega
+fed_within represents most limit file left found count fed bytes so_far counts = omega
     (arith, counts, so_far.size, length-take {A = ℕ} limit bytes)
 
 -- however a turn ended, what was taken is at most one byte past the limit
-pub HasRead-bounded : {reading : Bool → List ℕ → Reading} {limit most : ℕ}
-    {file left : Option (List ℕ)} {bytes : List ℕ} {old new : List Segment}
-    → HasRead reading limit most file left bytes old new → TakesAtMost (limit + 1) file left
+pub HasRead-bounded : {reading : Bool → List ℕ → Reading} {most limit : ℕ}
+    {file left found : Option (List ℕ)} {bytes : List ℕ} {old new : List Segment}
+    → HasRead reading most limit file left found bytes old new
+    → TakesAtMost (limit + 1) file left
 HasRead-bounded {bytes = bytes} has = record {
   taken = bytes ++ has.piece;
   few = has.few;
@@ -69,6 +81,16 @@ were_read input bytes opened front = record {
   of_closed = λ closed. cc;
 }
 
+-- of one that was read to its end
+pub AreAllBytes-read : (input : InputTold) (bytes : List ℕ) → input.opened ≡ true
+    → Consumes input.file input.left bytes → IsAtEnd input.left → AreAllBytes input bytes
+AreAllBytes-read input bytes opened front all = record {
+  opened = opened;
+  read = were_read input bytes opened front;
+  all_read = all;
+  whole = Consumes-whole input.file input.left bytes _ front all refl;
+}
+
 pub none_read : (input : InputTold) → (IsTrue input.opened → Keeps input.file input.left)
     → WereRead input []
 none_read input kept = record {
@@ -79,18 +101,46 @@ none_read input kept = record {
 
 -- a read failed behind bytes that were all fed
 pub MayGoOn-stopped : (reading : Bool → List ℕ → Reading) (limit : ℕ) (input : InputTold)
-    (bytes : List ℕ) (old new : List Segment) (status : Status)
-    → StopsTurn reading limit input.file input.left bytes old new status → status ≡ ReadFault
+    (bytes : List ℕ) (old new : List Segment)
+    → HasFailed limit input.file input.left bytes old new
     → input.opened ≡ true → (reading false (take limit bytes)).fault ≡ None
     → MayGoOn reading limit input
-MayGoOn-stopped reading limit input bytes old new status stops failed opened none =
-    let here = subst (StopsTurn reading limit input.file input.left bytes old new) failed stops in
+MayGoOn-stopped reading limit input bytes old new failed opened none = record {
+  bytes = bytes;
+  read = were_read input bytes opened failed.front;
+  within = failed.within;
+  faultless = rw (take-over limit bytes failed.within) at none;
+}
+
+-- a turn stopped
+pub StopsReading-turn : (reading : Bool → List ℕ → Reading) (limit : ℕ) (name : List ℕ)
+    (input : InputTold) (bytes : List ℕ) (old new : List Segment) (status : Status)
+    → input.opened ≡ true
+    → HasReadCause {T = Bool} input.faults_before input.faults_now (Err status)
+    → (IsTrue input.sound → status ≢ ReadFault)
+    → (reading false (take limit bytes)).fault ≡ None
+    → StopsTurn reading limit input.file input.left bytes old new status
+    → StopsReading reading limit name input status
+StopsReading-turn reading limit name input bytes old new (Trace fault) opened cause sound none
+    stops = (stops.0, record { opened = opened; cause = stops.1.cause; reads = cause })
+StopsReading-turn reading limit name input bytes old new InputTooLong opened cause sound none
+    stops = record { opened = opened; cause = stops.cause; reads = cause }
+StopsReading-turn reading limit name input bytes old new ReadFault opened cause sound none stops =
     record {
-      bytes = bytes;
-      read = were_read input bytes opened here.0;
-      within = here.1.1;
-      faultless = rw (take-over limit bytes here.1.1) at none;
+      cause = cause;
+      unsound = λ good. absurd (sound good refl);
+      goes_on = MayGoOn-stopped reading limit input bytes old new stops opened none;
     }
+StopsReading-turn reading limit name input bytes old new Memory opened cause sound none stops =
+    cause
+StopsReading-turn reading limit name input bytes old new Done opened cause sound none stops =
+    absurd stops
+StopsReading-turn reading limit name input bytes old new Usage opened cause sound none stops =
+    absurd stops
+StopsReading-turn reading limit name input bytes old new (Expression fault) opened cause sound none
+    stops = absurd stops
+StopsReading-turn reading limit name input bytes old new WriteFault opened cause sound none stops =
+    absurd stops
 
 -- the input couldn't be opened
 pub MayGoOn-unread : (reading : Bool → List ℕ → Reading) (limit : ℕ) (input : InputTold)
@@ -102,6 +152,75 @@ MayGoOn-unread reading limit input none kept = record {
   within = omega arith;
   faultless = none;
 }
+
+-- the input couldn't be opened, or memory was wanting then
+pub StopsReading-unread : (reading : Bool → List ℕ → Reading) (limit : ℕ) (name : List ℕ)
+    (input : InputTold) (status : Status) → (reading false []).fault ≡ None
+    → (IsTrue input.opened → Keeps input.file input.left)
+    → HasReadCause {T = Bool} input.faults_before input.faults_now (Err status)
+    → (status ≢ ReadFault → status ≢ Memory → ⊥)
+    → (IsTrue input.sound → input.name ≡ Some name → status ≢ ReadFault)
+    → StopsReading reading limit name input status
+StopsReading-unread reading limit name input ReadFault none kept cause only sound = record {
+  cause = cause;
+  unsound = λ good named. sound good named refl;
+  goes_on = MayGoOn-unread reading limit input none kept;
+}
+StopsReading-unread reading limit name input Memory none kept cause only sound = cause
+StopsReading-unread reading limit name input Done none kept cause only sound = absurd
+    (only (λ e. cc) (λ e. cc))
+StopsReading-unread reading limit name input Usage none kept cause only sound = absurd
+    (only (λ e. cc) (λ e. cc))
+StopsReading-unread reading limit name input (Expression fault) none kept cause only sound = absurd
+    (only (λ e. cc) (λ e. cc))
+StopsReading-unread reading limit name input (Trace fault) none kept cause only sound = absurd
+    (only (λ e. cc) (λ e. cc))
+StopsReading-unread reading limit name input InputTooLong none kept cause only sound = absurd
+    (only (λ e. cc) (λ e. cc))
+StopsReading-unread reading limit name input WriteFault none kept cause only sound = absurd
+    (only (λ e. cc) (λ e. cc))
+
+-- the whole input was read, and its segments are all those of its bytes
+pub IsWhole-ended : (reading : Bool → List ℕ → Reading) (limit : ℕ) (input : InputTold)
+    (bytes : List ℕ) (old new : List Segment) → input.opened ≡ true → AllReadsGood input
+    → IsEnded reading limit input.file input.left bytes old new
+    → old ≡ (reading false (take limit bytes)).segments
+    → IsTrace (reading true bytes).segments → IsWhole reading limit input new
+IsWhole-ended reading limit input bytes old new opened reads ended told trace =
+    let same : new ≡ (reading true bytes).segments =
+    Adds-now old new (reading false (take limit bytes)) (reading true bytes) told ended.all in
+    record {
+      reads = reads;
+      bytes = bytes;
+      all = AreAllBytes-read input bytes opened ended.front ended.all_read;
+      within = ended.within;
+      reads_as = same_reading (reading true bytes) new same ended.whole;
+      is_trace = subst IsTrace (sym same) trace;
+    }
+
+-- a turn went on
+pub IsCollected-more : {represents : List ℕ → Type 0} (reading : Bool → List ℕ → Reading)
+    (most limit : ℕ) (file left found : Option (List ℕ)) (count : ℕ) (bytes : List ℕ)
+    (old new : List Segment)
+    → GoesOn represents reading most limit file left found count bytes old new
+    → old ≡ (reading false (take limit bytes)).segments
+    → IsCollected represents reading most limit file left found count new
+IsCollected-more reading most limit file left found count bytes old new more told = record {
+  bytes = bytes ++ more.piece;
+  fed = more.fed;
+  told = Adds-now old new (reading false (take limit bytes))
+      (reading false (take limit (bytes ++ more.piece))) told more.all;
+}
+
+-- how a turn stopped that did
+pub turn_stops : (represents : List ℕ → Type 0) (reading : Bool → List ℕ → Reading)
+    (most limit : ℕ) (file left found : Option (List ℕ)) (count : ℕ) (bytes : List ℕ)
+    (old new : List Segment) (result : Result Bool Status)
+    → EndsTurn represents reading most limit file left found count bytes old new result
+    → IfErr result (StopsTurn reading limit file left bytes old new)
+turn_stops represents reading most limit file left found count bytes old new (Ok more) ends = tt
+turn_stops represents reading most limit file left found count bytes old new (Err status) ends =
+    ends
 
 -- no bytes have no fault
 pub text_reading-faultless : (names : List (List ℕ)) → (text_reading names false []).fault ≡ None

@@ -1,14 +1,19 @@
 -- Why a run stopped before its answer.
-use Rattle.std.proofs.Common.{◌≡◌, ◌≢◌, ◌⊎◌, Some, Err, refl, inl, inr, IsTrue}
+use Rattle.std.proofs.Common.{◌≡◌, ◌≢◌, ◌⊎◌, ◌↔◌, ℕ, List, refl, inl, inr}
 use Rattle.tre_trace.specs.declared.fault.TraceFault.{TraceFault}
 use Rattle.tre_trace.specs.declared.fault.TraceKind.{TraceKind}
 use Rattle.tre_trace.specs.declared.fault.TraceKind.TheVariants.{LineTooLong, BadNumber, Zero, TooLate, BadName, BadToken, UnknownName, TimeBack, CutShort, Spent, Memory as KindMemory}
-use Rattle.tre_tool.specs.Answer.{StopsAs}
-use Rattle.tre_tool.specs.Feeding.{StopsReading}
-use Rattle.tre_tool.specs.Input.{HasReadCause, MayGoOn}
-use Rattle.tre_tool.specs.Outcome.{reading_in}
-use Rattle.tre_tool.specs.Devices.{InputTold, OutputTold, NothingWritten}
-use Rattle.tre_tool.specs.Run.{Request, reading_for, StandsAtFault, StandsAtFailedRead, StandsAtMemory}
+use Rattle.tre_trace.specs.Trace.{end_of}
+use Rattle.tre_trace.specs.declared.segment.Segment.{Segment}
+use Rattle.tre_offline.specs.MatchSet.{IsMatchSet}
+use Rattle.tre_show.specs.Line.{offline_text}
+use Rattle.tre_show.specs.Order.{IsRising}
+use Rattle.tre_zone.specs.ZoneList.{SetHolds, IsApart, AreTight}
+use Rattle.tre_zone.specs.declared.zone_bounds.ZoneBounds.{ZoneBounds}
+use Rattle.tre_tool.specs.Answer.{StopsAs, IsReadAs, IsFoundFor}
+use Rattle.tre_tool.specs.Feeding.{StopsReading, IsWhole}
+use Rattle.tre_tool.specs.Devices.{InputTold, OutputTold, NothingWritten, OfAllBytes}
+use Rattle.tre_tool.specs.Run.{Request, reading_for, IsAnswerTo, IsAnswerIn, StandsAtFault, StandsAtFailedRead, StandsAtMemory}
 use Rattle.tre_tool.specs.Status.{trace_status}
 use Rattle.tre_tool.specs.declared.job.Mode.{Mode}
 use Rattle.tre_tool.specs.declared.job.Mode.TheVariants.{Offline, Online, Show, Generate}
@@ -32,12 +37,12 @@ StopsAs-memory request input once reads = λ output unwritten. (
 )
 
 -- an offline run that stops before its answer has written nothing
-stands_in : (mode : Mode) (request : Request) (input : InputTold) (output : OutputTold)
-    → mode ≡ Offline → NothingWritten output → StandsAtFault mode request input output
-stands_in Offline request input output is unwritten = unwritten
-stands_in Online request input output is unwritten = cc
-stands_in Show request input output is unwritten = cc
-stands_in (Generate count) request input output is unwritten = cc
+stands_in : (mode : Mode) (request : Request) (bytes : List ℕ) (output : OutputTold)
+    → mode ≡ Offline → NothingWritten output → StandsAtFault mode request bytes output
+stands_in Offline request bytes output is unwritten = unwritten
+stands_in Online request bytes output is unwritten = cc
+stands_in Show request bytes output is unwritten = cc
+stands_in (Generate count) request bytes output is unwritten = cc
 
 unread_in : (mode : Mode) (request : Request) (input : InputTold) (output : OutputTold)
     → mode ≡ Offline → NothingWritten output → StandsAtFailedRead mode request input output
@@ -47,40 +52,89 @@ unread_in Show request input output is unwritten = cc
 unread_in (Generate count) request input output is unwritten = cc
 
 -- the input couldn't be read as a trace
-pub StopsAs-reading : (T : Type 0) (request : Request) (input : InputTold) (status : Status)
+pub StopsAs-reading : (request : Request) (input : InputTold) (status : Status)
     → request.job.mode ≡ Offline
-    → StopsReading (reading_in request.job.format request.names) request.job.max_bytes input.file
-    status
-    → HasReadCause {T = T} input.faults_before input.faults_now (Err status)
-    → (IsTrue input.sound → input.name ≡ Some request.job.input → status ≢ ReadFault)
-    → (status ≡ ReadFault → MayGoOn (reading_for request) request.job.max_bytes input)
+    → StopsReading (reading_for request) request.job.max_bytes request.job.input input status
     → StopsAs request input status
-StopsAs-reading T request input (Trace fault) offline stops cause sound more =
-    λ output unwritten. record {
-      kind = stops.0;
-      cause = stops.1;
-      reads = cause;
-      stands = stands_in request.job.mode request input output offline unwritten;
+StopsAs-reading request input (Trace fault) offline stops = λ output unwritten. record {
+  kind = stops.0;
+  opened = stops.1.opened;
+  cause = stops.1.cause;
+  reads = stops.1.reads;
+  stands = stands_in request.job.mode request stops.1.cause.bytes output offline unwritten;
+}
+StopsAs-reading request input InputTooLong offline stops = λ output unwritten. record {
+  opened = stops.opened;
+  cause = stops.cause;
+  reads = stops.reads;
+  stands = stands_in request.job.mode request stops.cause.bytes output offline unwritten;
+}
+StopsAs-reading request input ReadFault offline stops = λ output unwritten. record {
+  cause = stops.cause;
+  unsound = stops.unsound;
+  goes_on = stops.goes_on;
+  stands = unread_in request.job.mode request input output offline unwritten;
+}
+StopsAs-reading request input Memory offline stops =
+    StopsAs-memory request input (λ online. cc) stops
+StopsAs-reading request input Done offline stops = absurd stops
+StopsAs-reading request input Usage offline stops = absurd stops
+StopsAs-reading request input (Expression fault) offline stops = absurd stops
+StopsAs-reading request input WriteFault offline stops = absurd stops
+
+-- the input was read as a trace
+pub IsReadAs-whole : (request : Request) (input : InputTold) (trace : List Segment)
+    → IsWhole (reading_for request) request.job.max_bytes input trace
+    → IsReadAs request input trace
+IsReadAs-whole request input trace whole = record {
+  reads = whole.reads;
+  bytes = whole.bytes;
+  all = whole.all;
+  within = whole.within;
+  reads_as = whole.reads_as;
+  is_trace = whole.is_trace;
+}
+
+-- the text of an answer over a trace that was read
+found_in : (mode : Mode) (request : Request) (input : InputTold) (text : List ℕ) → mode ≡ Offline
+    → OfAllBytes input (λ bytes. IsAnswerTo request bytes text) → IsAnswerIn mode request input text
+found_in Offline request input text is right = right
+found_in Online request input text is right = cc
+found_in Show request input text is right = cc
+found_in (Generate count) request input text is right = cc
+
+pub IsFoundFor-read : (request : Request) (input : InputTold) (trace : List Segment)
+    (set zones : List ZoneBounds) (text : List ℕ) → request.job.mode ≡ Offline
+    → IsReadAs request input trace → IsMatchSet set request.tree trace
+    → ((a b n : ℕ) → SetHolds zones a b n ↔ SetHolds set a b n) → IsApart zones → AreTight zones
+    → IsRising zones → text ≡ offline_text zones (end_of 0 trace) → IsFoundFor request input text
+IsFoundFor-read request input trace set zones text offline read matches held apart tight rising
+    printed = record {
+      reads = read.reads;
+      right = found_in request.job.mode request input text offline (record {
+        bytes = read.bytes;
+        all = read.all;
+        is_so = record {
+          within = read.within;
+          trace = trace;
+          reads = read.reads_as;
+          is_trace = read.is_trace;
+          zones = zones;
+          matches = record {
+            apart = apart;
+            tight = tight;
+            exact = record {
+              exact = λ a b n positive rises.
+                  let found = matches.exact.exact a b n positive rises in
+                  let same = held a b n in
+                  ((λ h. found.0 (same.0 h)), (λ h. same.1 (found.1 h)));
+            };
+          };
+          rising = rising;
+          printed = printed;
+        };
+      });
     }
-StopsAs-reading T request input InputTooLong offline stops cause sound more =
-    λ output unwritten. record {
-      cause = stops;
-      reads = cause;
-      stands = stands_in request.job.mode request input output offline unwritten;
-    }
-StopsAs-reading T request input ReadFault offline stops cause sound more =
-    λ output unwritten. record {
-      cause = cause;
-      unsound = λ good named. sound good named refl;
-      goes_on = more refl;
-      stands = unread_in request.job.mode request input output offline unwritten;
-    }
-StopsAs-reading T request input Memory offline stops cause sound more =
-    StopsAs-memory request input (λ online. cc) cause
-StopsAs-reading T request input Done offline stops cause sound more = absurd stops
-StopsAs-reading T request input Usage offline stops cause sound more = absurd stops
-StopsAs-reading T request input (Expression fault) offline stops cause sound more = absurd stops
-StopsAs-reading T request input WriteFault offline stops cause sound more = absurd stops
 
 -- memory was wanting, or the kind is told
 pub kinds : (kind : TraceKind) (fault : TraceFault)

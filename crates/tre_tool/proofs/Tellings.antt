@@ -1,18 +1,19 @@
 -- How the telling of an input ends.
-use Rattle.std.proofs.Common.{◌≡◌, ◌≢◌, ◌∙◌, ℕ, ◌+◌, ◌-◌, ◌≤◌, Bool, true, false, List, [], ◌∷◌, ◌++◌, length, take, drop, Option, None, Some, IfSome, IfErr, IsTrue, Result, Ok, Err, refl, sym, ap, subst, inl, inr, arith, length-append, append-nil, append_assoc, take-append-drop}
-use Rattle.std.specs.Io.KnownBytes.{Appends, Consumes, Keeps}
-use Rattle.std.proofs.KnownBytes.{Appends-trans, Consumes-whole}
-use Rattle.std.proofs.lemmas.List.{take-append-le, take-take}
+use Rattle.std.proofs.Common.{◌≡◌, ◌≢◌, ◌∙◌, ℕ, ◌+◌, ◌-◌, ◌≤◌, Bool, true, false, List, [], ◌∷◌, ◌++◌, length, take, drop, Option, None, Some, IfErr, IsTrue, Result, Ok, Err, refl, sym, ap, subst, inl, inr, arith, length-append, append-nil, append_assoc, take-append-drop}
+use Rattle.std.specs.Io.KnownBytes.{Appends, Keeps}
+use Rattle.std.proofs.KnownBytes.{Appends-trans, Consumes-nil}
+use Rattle.std.proofs.Math.Seq.{take-append_seam}
+use Rattle.std.proofs.lemmas.List.{take-append-le}
 use Rattle.tre_online.specs.Session.{pattern_of, StandsFor}
 use Rattle.tre_online.specs.declared.session.Session.{Session}
 use Rattle.tre_syntax.specs.Pattern.{pattern_tree}
 use Rattle.tre_syntax.specs.PatternTree.{PatternTree}
-use Rattle.tre_trace.specs.Reading.{Reading}
+use Rattle.tre_trace.specs.Reading.{Reading, Adds}
 use Rattle.tre_trace.specs.Trace.{IsTrace, end_of}
 use Rattle.tre_trace.specs.declared.segment.Segment.{Segment}
 use Rattle.tre_zone.specs.declared.zone_bounds.ZoneBounds.{ZoneBounds}
 use Rattle.tre_tool.specs.Devices.{InputTold, OutputTold, AllReadsGood, AllWritesGood}
-use Rattle.tre_tool.specs.Feeding.{IsFed, HasRead, GoesOn, IsEnded, TellsAll, StopsTurn, StopsReading}
+use Rattle.tre_tool.specs.Feeding.{IsFed, HasRead, GoesOn, IsEnded, StopsTurn}
 use Rattle.tre_tool.specs.Input.{HasReadCause}
 use Rattle.tre_tool.specs.Online.{BlocksWritten, AreKnown, FirstBlocksStand, IsOnlineAnswer}
 use Rattle.tre_tool.specs.Outcome.{reading_within}
@@ -23,26 +24,28 @@ use Rattle.tre_tool.specs.declared.status.Status.{Status}
 use Rattle.tre_tool.specs.declared.status.Status.TheVariants.{Done, Usage, Expression, Trace, InputTooLong, ReadFault, WriteFault, Memory}
 use Rattle.tre_show.proofs.Lists.{take-over}
 use Rattle.tre_tool.proofs.Feeding.{AllGrow, same_reading}
-use Rattle.tre_tool.proofs.Readings.{IsFed-start, were_read, none_read, MayGoOn-stopped, MayGoOn-unread}
+use Rattle.tre_tool.proofs.Cuts.{take_split}
+use Rattle.tre_tool.proofs.Readings.{IsFed-start, AreAllBytes-read, were_read, none_read, MayGoOn-stopped, MayGoOn-unread}
+use Rattle.tre_tool.proofs.Turns.{found_behind}
 use Rattle.tre_tool.proofs.Told.{HasTold-start, IsCutBehind-after, Appends-none}
 use Rattle.tre_tool.proofs.Transcripts.{IsTranscript-none}
 
 -- These bytes were fed, and the blocks of the segments that they say were written.
 pub record IsTelling (represents : List ℕ → Type 0) (reading : Bool → List ℕ → Reading)
-    (limit : ℕ) (file left : Option (List ℕ)) (count : ℕ) (session : Session)
+    (most limit : ℕ) (file left found : Option (List ℕ)) (count : ℕ) (session : Session)
     (tree : PatternTree) (before now : Option (List ℕ)) : Type 0 where
   pub bytes : List ℕ
-  pub fed : IsFed represents limit file left count bytes
+  pub fed : IsFed represents most limit file left found count bytes
   pub told : HasTold session tree (reading false (take limit bytes)).segments before now
 
 -- what is known where a turn ended: the segments of the bytes before it and those that it told
-known_with : (reading : Bool → List ℕ → Reading) (limit most : ℕ) (input : InputTold)
+known_with : (reading : Bool → List ℕ → Reading) (most limit : ℕ) (input : InputTold)
     (bytes : List ℕ) (new : List Segment)
-    → (has : HasRead reading limit most input.file input.left bytes [] new)
+    → (has : HasRead reading most limit input.file input.left input.found bytes [] new)
     → input.opened ≡ true → (front rest : List Segment)
     → (reading false (take limit bytes)).segments ++ new ≡ front ++ rest
     → AreKnown reading limit input (bytes ++ has.piece) (front ++ (rest ++ has.some.left))
-known_with reading limit most input bytes new has opened front rest split = record {
+known_with reading most limit input bytes new has opened front rest split = record {
   read = were_read input (bytes ++ has.piece) opened has.front;
   closed = has.closed;
   all_read = has.all_read;
@@ -57,12 +60,12 @@ known_with reading limit most input bytes new has opened front rest split = reco
 }
 
 -- what a turn gave can be told
-pub CanTell-read : (reading : Bool → List ℕ → Reading) (limit most : ℕ)
-    (file left : Option (List ℕ)) (bytes : List ℕ) (new : List Segment) (session : Session)
+pub CanTell-read : (reading : Bool → List ℕ → Reading) (most limit : ℕ)
+    (file left found : Option (List ℕ)) (bytes : List ℕ) (new : List Segment) (session : Session)
     → ((closed : Bool) (bytes : List ℕ) → IsTrace (reading closed bytes).segments)
-    → HasRead reading limit most file left bytes [] new
+    → HasRead reading most limit file left found bytes [] new
     → StandsFor session (reading false (take limit bytes)).segments → CanTell session new
-CanTell-read reading limit most file left bytes new session traces has stands =
+CanTell-read reading most limit file left found bytes new session traces has stands =
     let told = (reading false (take limit bytes)).segments in
     let all : (reading has.closed (take limit (bytes ++ has.piece))).segments
     ≡ told ++ (new ++ has.some.left) =
@@ -75,29 +78,33 @@ CanTell-read reading limit most file left bytes new session traces has stands =
       is_trace = subst IsTrace all (traces has.closed (take limit (bytes ++ has.piece)));
     }
 
--- without the piece of the turn no segment is known that wasn't told before it
-prompt : (reading : Bool → List ℕ → Reading) → AllGrow reading → (limit most : ℕ)
-    (file left : Option (List ℕ)) (bytes : List ℕ) (new : List Segment)
-    → (has : HasRead reading limit most file left bytes [] new) → most ≡ PIECE
-    → length (reading false (take (length (bytes ++ has.piece) - PIECE)
-    (bytes ++ has.piece))).segments
+-- of two ways to cut a list, the shorter front is the front of the longer
+front_of : (xs ys zs ws : List ℕ) → xs ++ ys ≡ zs ++ ws → length zs ≤ length xs
+    → xs ≡ zs ++ drop (length zs) xs
+front_of xs ys zs ws same shorter =
+    sym (take-append-drop (length zs) xs)
+    ∙ ap (λ front. front ++ drop (length zs) xs)
+    (sym (take-append-le (length zs) xs ys shorter)
+    ∙ (ap (take (length zs)) same ∙ take-append_seam zs ws))
+
+-- no segment was complete when the last read began that wasn't told before the turn
+prompt : (reading : Bool → List ℕ → Reading) → AllGrow reading → (most limit : ℕ)
+    (file left found : Option (List ℕ)) (bytes : List ℕ) (new : List Segment)
+    → (has : HasRead reading most limit file left found bytes [] new)
+    → length (reading false (take limit has.last.earlier)).segments
     ≤ length (reading false (take limit bytes)).segments
-prompt reading grows limit most file left bytes new has room =
-    let whole = bytes ++ has.piece in
-    let early = length whole - PIECE in
-    let inside : early ≤ length bytes = omega
-    (arith, length-append bytes has.piece, has.short, room) in
-    let within : early ≤ limit = omega (arith, has.few) in
-    let front : take early whole ≡ take early bytes = take-append-le early bytes has.piece inside in
-    let cut : take limit bytes ≡ take early bytes ++ drop early (take limit bytes) =
-    sym (take-append-drop early (take limit bytes))
-    ∙ ap (λ xs. xs ++ drop early (take limit bytes)) (take-take early limit bytes within) in
-    let grown = grows false (take early bytes) (drop early (take limit bytes)) in
+prompt reading grows most limit file left found bytes new has =
+    let earlier = has.last.earlier in
+    let rest = drop (length earlier) bytes in
+    let cut : take limit bytes ≡ take limit earlier ++ take (limit - length earlier) rest =
+    ap (take limit) (front_of bytes has.piece earlier has.last.piece has.last.split has.early)
+    ∙ take_split limit earlier rest in
+    let grown = grows false (take limit earlier) (take (limit - length earlier) rest) in
     let count : length (reading false (take limit bytes)).segments
-    ≡ length (reading false (take early bytes)).segments + length grown.added =
+    ≡ length (reading false (take limit earlier)).segments + length grown.added =
     ap (λ xs. length (reading false xs).segments) cut
     ∙ (ap length grown.segments ∙ length-append _ grown.added) in
-    rw front (omega (arith, count))
+    omega (arith, count)
 
 no_middle : (front : List Segment) (segment : Segment) (rest : List Segment)
     → [] ≡ front ++ segment ∷ rest → ⊥
@@ -115,7 +122,7 @@ reads_good reading limit file left bytes new tree told before now status faults 
     cause stops within = cause
 reads_good reading limit file left bytes new tree told before now status faults faults'
     (Err ReadFault) cause stops within =
-    absurd (no_middle within.front within.segment within.rest (sym stops.1.0 ∙ within.split))
+    absurd (no_middle within.front within.segment within.rest (sym stops.same ∙ within.split))
 reads_good reading limit file left bytes new tree told before now status faults faults'
     (Err Done) cause stops within = cause
 reads_good reading limit file left bytes new tree told before now status faults faults'
@@ -138,10 +145,10 @@ split_behind told new front segment rest split =
 
 -- the telling stopped at a segment
 pub EndsTelling-within : (reading : Bool → List ℕ → Reading) → AllGrow reading
-    → (limit most : ℕ) (tree : PatternTree) (name : List ℕ) (input : InputTold)
+    → (most limit : ℕ) (tree : PatternTree) (name : List ℕ) (input : InputTold)
     (output : OutputTold) (bytes : List ℕ) (new : List Segment) (status : Status)
     (fed : Result Bool Status)
-    → HasRead reading limit most input.file input.left bytes [] new → most ≡ PIECE
+    → HasRead reading most limit input.file input.left input.found bytes [] new → most ≡ PIECE
     → input.opened ≡ true
     → HasReadCause input.faults_before input.faults_now fed
     → IfErr fed (StopsTurn reading limit input.file input.left bytes [] new)
@@ -149,30 +156,38 @@ pub EndsTelling-within : (reading : Bool → List ℕ → Reading) → AllGrow r
     → StopsWithin tree (reading false (take limit bytes)).segments new
     output.written_before output.written_now status
     → EndsTelling reading limit tree name input output status
-EndsTelling-within reading grows limit most tree name input output bytes new WriteFault fed has
+EndsTelling-within reading grows most limit tree name input output bytes new WriteFault fed has
     room opened read stops write within =
     let told = (reading false (take limit bytes)).segments in
-    let early = prompt reading grows limit most input.file input.left bytes new has room in
+    let early = prompt reading grows most limit input.file input.left input.found bytes new has in
     record {
       cause = write;
       reads = reads_good reading limit input.file input.left bytes new tree told _ _ WriteFault _ _
           fed read stops within;
       stands = inl (record {
+        opened = opened;
         bytes = bytes ++ has.piece;
         front = told ++ within.front;
         segment = within.segment;
         rest = within.rest ++ has.some.left;
-        known = known_with reading limit most input bytes new has opened (told ++ within.front)
+        known = known_with reading most limit input bytes new has opened (told ++ within.front)
             (within.segment ∷ within.rest)
             (split_behind told new within.front within.segment within.rest within.split);
         cut = within.stops;
+        last = record {
+          earlier = has.last.earlier;
+          piece = has.last.piece;
+          split = has.last.split;
+          short = omega (arith, has.last.short, room);
+          behind = λ is_open. has.last.behind;
+        };
         prompt = omega (arith, early, length-append told within.front);
       });
     }
-EndsTelling-within reading grows limit most tree name input output bytes new Memory fed has
+EndsTelling-within reading grows most limit tree name input output bytes new Memory fed has
     room opened read stops write within =
     let told = (reading false (take limit bytes)).segments in
-    let early = prompt reading grows limit most input.file input.left bytes new has room in
+    let early = prompt reading grows most limit input.file input.left input.found bytes new has in
     record {
       reads = reads_good reading limit input.file input.left bytes new tree told _ _ Memory _ _ fed
           read stops within;
@@ -181,130 +196,136 @@ EndsTelling-within reading grows limit most tree name input output bytes new Mem
         bytes = bytes ++ has.piece;
         front = told ++ within.front;
         rest = (within.segment ∷ within.rest) ++ has.some.left;
-        known = known_with reading limit most input bytes new has opened (told ++ within.front)
+        known = known_with reading most limit input bytes new has opened (told ++ within.front)
             (within.segment ∷ within.rest)
             (split_behind told new within.front within.segment within.rest within.split);
         stand = within.stops;
+        last = record {
+          earlier = has.last.earlier;
+          piece = has.last.piece;
+          split = has.last.split;
+          short = omega (arith, has.last.short, room);
+          behind = λ is_open. has.last.behind;
+        };
         prompt = omega (arith, early, length-append told within.front);
       };
     }
-EndsTelling-within reading grows limit most tree name input output bytes new Done fed has room
+EndsTelling-within reading grows most limit tree name input output bytes new Done fed has room
     opened read stops write within = absurd within.stops
-EndsTelling-within reading grows limit most tree name input output bytes new Usage fed has room
+EndsTelling-within reading grows most limit tree name input output bytes new Usage fed has room
     opened read stops write within = absurd within.stops
-EndsTelling-within reading grows limit most tree name input output bytes new (Expression fault)
+EndsTelling-within reading grows most limit tree name input output bytes new (Expression fault)
     fed has room opened read stops write within = absurd within.stops
-EndsTelling-within reading grows limit most tree name input output bytes new (Trace fault) fed
+EndsTelling-within reading grows most limit tree name input output bytes new (Trace fault) fed
     has room opened read stops write within = absurd within.stops
-EndsTelling-within reading grows limit most tree name input output bytes new InputTooLong fed
+EndsTelling-within reading grows most limit tree name input output bytes new InputTooLong fed
     has room opened read stops write within = absurd within.stops
-EndsTelling-within reading grows limit most tree name input output bytes new ReadFault fed has
+EndsTelling-within reading grows most limit tree name input output bytes new ReadFault fed has
     room opened read stops write within = absurd within.stops
 
--- all blocks of the input stand there
+-- all blocks of what decides stand there
 all_stand : (reading : Bool → List ℕ → Reading) (limit : ℕ) (tree : PatternTree)
-    (file before now : Option (List ℕ)) (bytes : List ℕ) (new : List Segment)
+    (before now : Option (List ℕ)) (bytes decisive : List ℕ) (new : List Segment)
     → BlocksWritten tree ((reading false (take limit bytes)).segments ++ new) before now
-    → TellsAll reading limit file bytes [] new
-    → IfSome file (λ whole. BlocksWritten tree (reading_within reading limit whole).segments
-    before now)
-all_stand reading limit tree None before now bytes new stand all = tt
-all_stand reading limit tree (Some whole) before now bytes new stand all =
+    → Adds [] new (reading false (take limit bytes)) (reading_within reading limit decisive)
+    → BlocksWritten tree (reading_within reading limit decisive).segments before now
+all_stand reading limit tree before now bytes decisive new stand all =
     let told = (reading false (take limit bytes)).segments in
-    let same : (reading_within reading limit whole).segments ≡ told ++ new =
+    let same : (reading_within reading limit decisive).segments ≡ told ++ new =
     all.beyond ∙ ap (λ added. told ++ added) (sym all.new_is) in
-    rw same stand
+    subst (λ segments. BlocksWritten tree segments before now) (sym same) stand
 
 -- the first blocks stand there
-first_stand : (reading : Bool → List ℕ → Reading) → AllGrow reading → (limit most : ℕ)
+first_stand : (reading : Bool → List ℕ → Reading) → AllGrow reading → (most limit : ℕ)
     (tree : PatternTree) (input : InputTold) (output : OutputTold) (bytes : List ℕ)
     (new : List Segment)
-    → HasRead reading limit most input.file input.left bytes [] new → most ≡ PIECE
+    → HasRead reading most limit input.file input.left input.found bytes [] new → most ≡ PIECE
     → input.opened ≡ true → AllWritesGood output
     → BlocksWritten tree ((reading false (take limit bytes)).segments ++ new)
     output.written_before output.written_now
     → FirstBlocksStand reading limit tree input output
-first_stand reading grows limit most tree input output bytes new has room opened writes stand =
+first_stand reading grows most limit tree input output bytes new has room opened writes stand =
     let told = (reading false (take limit bytes)).segments in
-    let early = prompt reading grows limit most input.file input.left bytes new has room in
+    let early = prompt reading grows most limit input.file input.left input.found bytes new has in
     record {
       writes = writes;
       bytes = bytes ++ has.piece;
       front = told ++ new;
       rest = has.some.left;
-      known = known_with reading limit most input bytes new has opened (told ++ new) []
+      known = known_with reading most limit input bytes new has opened (told ++ new) []
           (sym (append-nil (told ++ new)));
       stand = stand;
+      last = record {
+        earlier = has.last.earlier;
+        piece = has.last.piece;
+        split = has.last.split;
+        short = omega (arith, has.last.short, room);
+        behind = λ is_open. has.last.behind;
+      };
       prompt = omega (arith, early, length-append told new);
     }
 
 -- the input stopped, and all that it gave was told
 pub EndsTelling-stopped : (reading : Bool → List ℕ → Reading) → AllGrow reading
-    → (limit most : ℕ) (tree : PatternTree) (name : List ℕ) (input : InputTold)
+    → (most limit : ℕ) (tree : PatternTree) (name : List ℕ) (input : InputTold)
     (output : OutputTold) (bytes : List ℕ) (new : List Segment) (status : Status)
-    → HasRead reading limit most input.file input.left bytes [] new → most ≡ PIECE
+    → HasRead reading most limit input.file input.left input.found bytes [] new → most ≡ PIECE
     → input.opened ≡ true
     → HasReadCause {T = Bool} input.faults_before input.faults_now (Err status)
-    → (IsTrue input.sound → input.name ≡ Some name → status ≢ ReadFault)
-    → StopsReading reading limit input.file status
+    → (IsTrue input.sound → status ≢ ReadFault)
     → StopsTurn reading limit input.file input.left bytes [] new status
     → (reading false (take limit bytes)).fault ≡ None
     → AllWritesGood output
     → BlocksWritten tree ((reading false (take limit bytes)).segments ++ new)
     output.written_before output.written_now
     → EndsTelling reading limit tree name input output status
-EndsTelling-stopped reading grows limit most tree name input output bytes new (Trace fault) has room
-    opened
-    read sound cause stops none writes stand = record {
-      cause = cause;
-      reads = read;
+EndsTelling-stopped reading grows most limit tree name input output bytes new (Trace fault) has room
+    opened read sound stops none writes stand = (
+      stops.0,
+      record {
+        decided = record { opened = opened; cause = stops.1.cause; reads = read };
+        stands = record {
+          writes = writes;
+          stand = all_stand reading limit tree _ _ bytes stops.1.cause.bytes new stand stops.1.all;
+        };
+      },
+    )
+EndsTelling-stopped reading grows most limit tree name input output bytes new InputTooLong has room
+    opened read sound stops none writes stand = record {
+      decided = record { opened = opened; cause = stops.cause; reads = read };
       stands = record {
         writes = writes;
-        stand = all_stand reading limit tree input.file _ _ bytes new stand stops;
+        stand = all_stand reading limit tree _ _ bytes stops.cause.bytes new stand stops.all;
       };
     }
-EndsTelling-stopped reading grows limit most tree name input output bytes new InputTooLong has room
-    opened
-    read sound cause stops none writes stand = record {
-      cause = cause;
-      reads = read;
-      stands = record {
-        writes = writes;
-        stand = all_stand reading limit tree input.file _ _ bytes new stand stops;
+EndsTelling-stopped reading grows most limit tree name input output bytes new ReadFault has room
+    opened read sound stops none writes stand = record {
+      unread = record {
+        cause = read;
+        unsound = λ good. absurd (sound good refl);
+        goes_on = MayGoOn-stopped reading limit input bytes [] new stops opened none;
       };
-    }
-EndsTelling-stopped reading grows limit most tree name input output bytes new ReadFault has room
-    opened read
-    sound cause stops none writes stand = record {
-      cause = read;
-      unsound = λ good named. sound good named refl;
-      goes_on = MayGoOn-stopped reading limit input bytes [] new ReadFault stops refl opened none;
       stands = record {
         writes = writes;
         bytes = bytes;
-        read = were_read input bytes opened stops.0;
-        stand = rw (stops.1.0, append-nil (reading false (take limit bytes)).segments) at stand;
+        read = were_read input bytes opened stops.front;
+        stand = rw (stops.same, append-nil (reading false (take limit bytes)).segments) at stand;
       };
     }
-EndsTelling-stopped reading grows limit most tree name input output bytes new Memory has room
-    opened read
-    sound cause stops none writes stand = record {
+EndsTelling-stopped reading grows most limit tree name input output bytes new Memory has room
+    opened read sound stops none writes stand = record {
       reads = read;
-      stands = first_stand reading grows limit most tree input output bytes new has room opened
+      stands = first_stand reading grows most limit tree input output bytes new has room opened
           writes stand;
     }
-EndsTelling-stopped reading grows limit most tree name input output bytes new Done has room
-    opened read
-    sound cause stops none writes stand = absurd stops
-EndsTelling-stopped reading grows limit most tree name input output bytes new Usage has room
-    opened read
-    sound cause stops none writes stand = absurd stops
-EndsTelling-stopped reading grows limit most tree name input output bytes new (Expression fault)
-    has room
-    opened read sound cause stops none writes stand = absurd stops
-EndsTelling-stopped reading grows limit most tree name input output bytes new WriteFault has room
-    opened
-    read sound cause stops none writes stand = absurd stops
+EndsTelling-stopped reading grows most limit tree name input output bytes new Done has room
+    opened read sound stops none writes stand = absurd stops
+EndsTelling-stopped reading grows most limit tree name input output bytes new Usage has room
+    opened read sound stops none writes stand = absurd stops
+EndsTelling-stopped reading grows most limit tree name input output bytes new
+    (Expression fault) has room opened read sound stops none writes stand = absurd stops
+EndsTelling-stopped reading grows most limit tree name input output bytes new WriteFault has room
+    opened read sound stops none writes stand = absurd stops
 
 -- the trace of a whole input
 whole_trace : (reading : Bool → List ℕ → Reading) (limit : ℕ) (file left : Option (List ℕ))
@@ -345,7 +366,7 @@ right_answer reading limit tree file left before now bytes new ended trace stand
 pub EndsTelling-done : (reading : Bool → List ℕ → Reading) (limit : ℕ) (tree : PatternTree)
     (name : List ℕ) (input : InputTold) (output : OutputTold) (bytes : List ℕ)
     (new : List Segment) (middle : Option (List ℕ)) (end : ℕ)
-    → IsEnded reading limit input.file input.left bytes [] new
+    → input.opened ≡ true → IsEnded reading limit input.file input.left bytes [] new
     → IsTrace (reading true bytes).segments
     → AllReadsGood input → AllWritesGood output
     → BlocksWritten tree ((reading false (take limit bytes)).segments ++ new)
@@ -353,17 +374,20 @@ pub EndsTelling-done : (reading : Bool → List ℕ → Reading) (limit : ℕ) (
     → end ≡ end_of 0 ((reading false (take limit bytes)).segments ++ new)
     → Appends middle output.written_now (closing_line true end)
     → EndsTelling reading limit tree name input output Done
-EndsTelling-done reading limit tree name input output bytes new middle end ended trace reads
+EndsTelling-done reading limit tree name input output bytes new middle end opened ended trace reads
     writes stand at_end line =
     let same = whole_trace reading limit input.file input.left bytes new ended in
     let told : BlocksWritten tree (reading true bytes).segments output.written_before middle =
     rw same stand in
     record {
       reads = reads;
-      all_read = ended.all_read;
       text = online_text told.blocks (reading true bytes).segments true;
-      right = Consumes-whole input.file input.left bytes _ ended.front ended.all_read
-          (right_answer reading limit tree input.file input.left _ _ bytes new ended trace told);
+      right = record {
+        bytes = bytes;
+        all = AreAllBytes-read input bytes opened ended.front ended.all_read;
+        is_so = right_answer reading limit tree input.file input.left _ _ bytes new ended trace
+            told;
+      };
       writes = writes;
       written = rw (closed_text told.blocks (reading true bytes).segments)
           (Appends-trans output.written_before middle output.written_now _ _ told.written
@@ -371,10 +395,10 @@ EndsTelling-done reading limit tree name input output bytes new middle end ended
     }
 
 -- all was told, and the last line wasn't written
-pub EndsTelling-cut : (reading : Bool → List ℕ → Reading) → AllGrow reading → (limit most : ℕ)
+pub EndsTelling-cut : (reading : Bool → List ℕ → Reading) → AllGrow reading → (most limit : ℕ)
     (tree : PatternTree) (name : List ℕ) (input : InputTold) (output : OutputTold) (bytes : List ℕ)
     (new : List Segment) (middle : Option (List ℕ)) (end : ℕ) (status : Status)
-    → HasRead reading limit most input.file input.left bytes [] new → most ≡ PIECE
+    → HasRead reading most limit input.file input.left input.found bytes [] new → most ≡ PIECE
     → input.opened ≡ true
     → IsEnded reading limit input.file input.left bytes [] new
     → IsTrace (reading true bytes).segments
@@ -385,7 +409,7 @@ pub EndsTelling-cut : (reading : Bool → List ℕ → Reading) → AllGrow read
     → HasWriteCause {T = Unit {0}} output.faults_before output.faults_now (Err status)
     → StopsAtEnd end middle output.written_now status
     → EndsTelling reading limit tree name input output status
-EndsTelling-cut reading grows limit most tree name input output bytes new middle end WriteFault
+EndsTelling-cut reading grows most limit tree name input output bytes new middle end WriteFault
     has room opened ended trace reads stand at_end write stops =
     let same = whole_trace reading limit input.file input.left bytes new ended in
     let told : BlocksWritten tree (reading true bytes).segments output.written_before middle =
@@ -394,8 +418,9 @@ EndsTelling-cut reading grows limit most tree name input output bytes new middle
       cause = write;
       reads = reads;
       stands = inr (record {
-        all_read = ended.all_read;
-        cut = Consumes-whole input.file input.left bytes _ ended.front ended.all_read (record {
+        bytes = bytes;
+        all = AreAllBytes-read input bytes opened ended.front ended.all_read;
+        is_so = record {
           text = online_text told.blocks (reading true bytes).segments true;
           right = record {
             within = ended.within;
@@ -409,29 +434,29 @@ EndsTelling-cut reading grows limit most tree name input output bytes new middle
           cut = rw (closed_text told.blocks (reading true bytes).segments)
               (IsCutBehind-after output.written_before middle output.written_now _ _ told.written
               (rw (at_end ∙ ap (end_of 0) (sym same)) at stops));
-        });
+        };
       });
     }
-EndsTelling-cut reading grows limit most tree name input output bytes new middle end Memory
+EndsTelling-cut reading grows most limit tree name input output bytes new middle end Memory
     has room opened
     ended trace reads stand at_end write stops = record {
       reads = reads;
-      stands = first_stand reading grows limit most tree input output bytes new has room opened
+      stands = first_stand reading grows most limit tree input output bytes new has room opened
           write (rw stops stand);
     }
-EndsTelling-cut reading grows limit most tree name input output bytes new middle end Done
+EndsTelling-cut reading grows most limit tree name input output bytes new middle end Done
     has room opened
     ended trace reads stand at_end write stops = absurd stops
-EndsTelling-cut reading grows limit most tree name input output bytes new middle end Usage
+EndsTelling-cut reading grows most limit tree name input output bytes new middle end Usage
     has room opened
     ended trace reads stand at_end write stops = absurd stops
-EndsTelling-cut reading grows limit most tree name input output bytes new middle end
+EndsTelling-cut reading grows most limit tree name input output bytes new middle end
     (Expression fault) has room opened ended trace reads stand at_end write stops = absurd stops
-EndsTelling-cut reading grows limit most tree name input output bytes new middle end (Trace fault)
+EndsTelling-cut reading grows most limit tree name input output bytes new middle end (Trace fault)
     has room opened ended trace reads stand at_end write stops = absurd stops
-EndsTelling-cut reading grows limit most tree name input output bytes new middle end InputTooLong
+EndsTelling-cut reading grows most limit tree name input output bytes new middle end InputTooLong
     has room opened ended trace reads stand at_end write stops = absurd stops
-EndsTelling-cut reading grows limit most tree name input output bytes new middle end ReadFault
+EndsTelling-cut reading grows most limit tree name input output bytes new middle end ReadFault
     has room opened ended trace reads stand at_end write stops = absurd stops
 
 none_written : (tree : PatternTree) (segments : List Segment) (told : Option (List ℕ))
@@ -448,18 +473,21 @@ pub EndsTelling-unread : (reading : Bool → List ℕ → Reading) (limit : ℕ)
     (name : List ℕ) (input : InputTold) (output : OutputTold) (status : Status)
     → (reading false []).segments ≡ [] → (reading false []).fault ≡ None
     → (IsTrue input.opened → Keeps input.file input.left)
+    → (IsTrue input.opened → Keeps input.found input.file)
     → HasReadCause {T = Bool} input.faults_before input.faults_now (Err status)
     → (status ≢ ReadFault → status ≢ Memory → ⊥)
     → (IsTrue input.sound → input.name ≡ Some name → status ≢ ReadFault)
     → output.written_now ≡ output.written_before → AllWritesGood output
     → EndsTelling reading limit tree name input output status
 EndsTelling-unread reading limit tree name input output ReadFault nothing
-    faultless kept read only sound unwritten writes =
+    faultless kept finds read only sound unwritten writes =
     let none : take limit [] ≡ [] = take-over {X = ℕ} limit [] (omega arith) in
     record {
-      cause = read;
-      unsound = λ good named. sound good named refl;
-      goes_on = MayGoOn-unread reading limit input faultless kept;
+      unread = record {
+        cause = read;
+        unsound = λ good named. sound good named refl;
+        goes_on = MayGoOn-unread reading limit input faultless kept;
+      };
       stands = record {
         writes = writes;
         bytes = [];
@@ -468,7 +496,7 @@ EndsTelling-unread reading limit tree name input output ReadFault nothing
       };
     }
 EndsTelling-unread reading limit tree name input output Memory nothing
-    faultless kept read only sound unwritten writes =
+    faultless kept finds read only sound unwritten writes =
     let none : take limit [] ≡ [] = take-over {X = ℕ} limit [] (omega arith) in
     record {
       reads = read;
@@ -485,49 +513,56 @@ EndsTelling-unread reading limit tree name input output Memory nothing
           known = rw none (sym nothing);
         };
         stand = rw unwritten (none_written tree [] output.written_before refl);
-        prompt =
-            let early : take (0 - PIECE) [] ≡ [] =
-            take-over {X = ℕ} (0 - PIECE) [] (omega arith) in
-            rw (early, nothing) (omega arith);
+        last = record {
+          earlier = [];
+          piece = [];
+          split = refl;
+          short = omega arith;
+          behind = λ is_open. found_behind input.file input.file input.found []
+              (Consumes-nil input.file) (finds is_open);
+        };
+        prompt = rw (none, nothing) (omega arith);
       };
     }
 EndsTelling-unread reading limit tree name input output Done nothing
-    faultless kept read only sound unwritten writes = absurd (only (λ e. cc) (λ e. cc))
+    faultless kept finds read only sound unwritten writes = absurd (only (λ e. cc) (λ e. cc))
 EndsTelling-unread reading limit tree name input output Usage nothing
-    faultless kept read only sound unwritten writes = absurd (only (λ e. cc) (λ e. cc))
+    faultless kept finds read only sound unwritten writes = absurd (only (λ e. cc) (λ e. cc))
 EndsTelling-unread reading limit tree name input output (Expression fault) nothing
-    faultless kept read only sound unwritten writes = absurd (only (λ e. cc) (λ e. cc))
+    faultless kept finds read only sound unwritten writes = absurd (only (λ e. cc) (λ e. cc))
 EndsTelling-unread reading limit tree name input output (Trace fault) nothing
-    faultless kept read only sound unwritten writes = absurd (only (λ e. cc) (λ e. cc))
+    faultless kept finds read only sound unwritten writes = absurd (only (λ e. cc) (λ e. cc))
 EndsTelling-unread reading limit tree name input output InputTooLong nothing
-    faultless kept read only sound unwritten writes = absurd (only (λ e. cc) (λ e. cc))
+    faultless kept finds read only sound unwritten writes = absurd (only (λ e. cc) (λ e. cc))
 EndsTelling-unread reading limit tree name input output WriteFault nothing
-    faultless kept read only sound unwritten writes = absurd (only (λ e. cc) (λ e. cc))
+    faultless kept finds read only sound unwritten writes = absurd (only (λ e. cc) (λ e. cc))
 
 -- nothing was fed or told
 pub IsTelling-start : {represents : List ℕ → Type 0} (reading : Bool → List ℕ → Reading)
-    (limit : ℕ) (file left : Option (List ℕ)) (count : ℕ) (session : Session)
+    (most limit : ℕ) (file left found : Option (List ℕ)) (count : ℕ) (session : Session)
     (told : Option (List ℕ)) → represents [] → (reading false []).segments ≡ []
-    → Keeps file left → count ≡ 0 → StandsFor session []
-    → IsTelling represents reading limit file left count session
+    → Keeps file left → Keeps found file → count ≡ 0 → StandsFor session []
+    → IsTelling represents reading most limit file left found count session
     (pattern_tree (pattern_of session)) told told
-IsTelling-start reading limit file left count session told fresh nothing kept none stands =
+IsTelling-start reading most limit file left found count session told fresh nothing kept finds none
+    stands =
     let front : take limit [] ≡ [] = take-over {X = ℕ} limit [] (omega arith) in
     record {
       bytes = [];
-      fed = IsFed-start limit file left count fresh kept none;
+      fed = IsFed-start most limit file left found count fresh kept finds none;
       told = rw (front, nothing) (HasTold-start session told stands);
     }
 
 -- a turn went on, and what it gave was told
 pub IsTelling-more : {represents' : List ℕ → Type 0}
-    (reading : Bool → List ℕ → Reading) (limit : ℕ) (file left : Option (List ℕ)) (count : ℕ)
-    (session : Session) (tree : PatternTree) (bytes : List ℕ) (new : List Segment)
+    (reading : Bool → List ℕ → Reading) (most limit : ℕ) (file left found : Option (List ℕ))
+    (count : ℕ) (session : Session) (tree : PatternTree) (bytes : List ℕ) (new : List Segment)
     (before now : Option (List ℕ))
-    → GoesOn represents' reading limit file left count bytes [] new
+    → GoesOn represents' reading most limit file left found count bytes [] new
     → HasTold session tree ((reading false (take limit bytes)).segments ++ new) before now
-    → IsTelling represents' reading limit file left count session tree before now
-IsTelling-more reading limit file left count session tree bytes new before now more told =
+    → IsTelling represents' reading most limit file left found count session tree before now
+IsTelling-more reading most limit file left found count session tree bytes new before now more
+    told =
     let front = (reading false (take limit bytes)).segments in
     let same : (reading false (take limit (bytes ++ more.piece))).segments ≡ front ++ new =
     more.all.beyond ∙ ap (λ added. front ++ added) (sym more.all.new_is) in
@@ -554,7 +589,7 @@ pub EndsTelling-unopened : (reading : Bool → List ℕ → Reading) (limit : �
 EndsTelling-unopened reading limit tree name input output nothing faultless closed read unwritten
     writes =
     EndsTelling-unread reading limit tree name input output Memory nothing faultless
-    (λ is_open. cc) read
+    (λ is_open. cc) (λ is_open. cc) read
     (λ failed wanting. wanting refl) (λ good named is. cc) unwritten writes
 
 -- the same reading and the same pattern

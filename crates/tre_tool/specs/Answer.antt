@@ -1,11 +1,10 @@
 -- What the parts of a run promise each other: the end of a run over a request, and what was read.
-use Rattle.std.specs.Prelude.{ℕ, ◌≤◌, List, length, Result, Ok, Err, IfSome}
-use Rattle.std.specs.Io.KnownBytes.{IsAtEnd}
+use Rattle.std.specs.Prelude.{ℕ, ◌≤◌, List, length, Result, Ok, Err}
 use Rattle.tre_trace.specs.Trace.{IsTrace}
 use Rattle.tre_trace.specs.declared.segment.Segment.{Segment}
 use Rattle.tre_tool.specs.Outcome.{Reads}
-use Rattle.tre_tool.specs.Devices.{InputTold, OutputTold, AllReadsGood, NothingWritten}
-use Rattle.tre_tool.specs.Run.{Request, StandsAtMemory, IsAnswerIn, IsReadToItsEnd, EndsDone, EndsTrace, EndsTooLong, EndsReadFault, EndsWriteFault}
+use Rattle.tre_tool.specs.Devices.{InputTold, OutputTold, AllReadsGood, NothingWritten, AreAllBytes}
+use Rattle.tre_tool.specs.Run.{Request, StandsAtMemory, IsAnswerIn, EndsDone, EndsTrace, EndsTooLong, EndsReadFault, EndsWriteFault}
 use Rattle.tre_tool.specs.declared.status.Status.{Status}
 use Rattle.tre_tool.specs.declared.status.Status.TheVariants.{Done, Usage, Expression, Trace, InputTooLong, ReadFault, WriteFault, Memory}
 
@@ -34,13 +33,13 @@ StopsAs request input status =
 -- The whole input was read, and it is this trace.
 pub record IsReadAs (request : Request) (input : InputTold) (trace : List Segment) : Type 0 where
   pub reads : AllReadsGood input
-  pub all_read : IsAtEnd input.left
+  pub bytes : List ℕ
+  pub all : AreAllBytes input bytes
+  pub within : length bytes ≤ request.job.max_bytes
+  pub reads_as : Reads request.job.format request.names bytes trace
   pub is_trace : IsTrace trace
-  pub within : IfSome input.file (λ bytes. length bytes ≤ request.job.max_bytes)
-  pub reads_as : IfSome input.file (λ bytes. Reads request.job.format request.names bytes trace)
 
 -- The text is the answer to the request, and nothing of the input is left.
 pub record IsFoundFor (request : Request) (input : InputTold) (text : List ℕ) : Type 0 where
   pub reads : AllReadsGood input
-  pub all_read : IsReadToItsEnd request.job.mode input
-  pub right : IsAnswerIn request.job.mode request input.file text
+  pub right : IsAnswerIn request.job.mode request input text

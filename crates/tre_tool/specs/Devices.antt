@@ -1,6 +1,7 @@
 -- What the source and the output of a run tell and count.
-use Rattle.std.specs.Prelude.{◌≡◌, ℕ, false, List, [], Bool, Option, IsTrue}
-use Rattle.std.specs.Io.KnownBytes.{Consumes}
+use Rattle.std.specs.Prelude.{◌≡◌, ℕ, ◌≤◌, false, List, [], ◌++◌, length, Bool, Option, IfSome, IsTrue}
+use Rattle.std.specs.Io.KnownBytes.{Consumes, IsAtEnd}
+use Rattle.tre_tool.specs.declared.input.TheConstants.{PIECE}
 
 -- What the source of a run tells and counts, before the run and at its end.
 pub record InputTold : Type 0 where
@@ -9,6 +10,7 @@ pub record InputTold : Type 0 where
   pub sound : Bool
   pub opened : Bool
   pub left : Option (List ℕ)
+  pub found : Option (List ℕ)
   pub faults_before : ℕ
   pub faults_now : ℕ
 
@@ -21,13 +23,15 @@ pub record OutputTold : Type 0 where
 
 -- what these meanings of a source tell of it as it was and as it is
 abbrev pub input_told : {S : Type 0} → (S → Option (List ℕ)) → (S → Option (List ℕ)) →
-    (S → Bool) → (S → Bool) → (S → Option (List ℕ)) → (S → ℕ) → S → S → InputTold
-input_told name file sound opened left faults before now = record {
+    (S → Bool) → (S → Bool) → (S → Option (List ℕ)) → (S → Option (List ℕ)) → (S → ℕ) → S → S →
+    InputTold
+input_told name file sound opened left found faults before now = record {
   name = name before;
   file = file before;
   sound = sound before;
   opened = opened now;
   left = left now;
+  found = found now;
   faults_before = faults before;
   faults_now = faults now;
 }
@@ -65,3 +69,25 @@ pub record NothingDone (input : InputTold) (output : OutputTold) : Type 0 where
 pub record WereRead (input : InputTold) (bytes : List ℕ) : Type 0 where
   pub of_open : IsTrue input.opened → Consumes input.file input.left bytes
   pub of_closed : input.opened ≡ false → bytes ≡ []
+
+-- The input was read to its end, and these are all its bytes.
+pub record AreAllBytes (input : InputTold) (bytes : List ℕ) : Type 0 where
+  pub opened : IsTrue input.opened
+  pub read : WereRead input bytes
+  pub all_read : IsAtEnd input.left
+  pub whole : IfSome input.file (λ told. told ≡ bytes)
+
+-- The input was read to its end, and this is so of its bytes.
+pub record OfAllBytes (input : InputTold) (IsSo : List ℕ → Type 0) : Type 0 where
+  pub bytes : List ℕ
+  pub all : AreAllBytes input bytes
+  pub is_so : IsSo bytes
+
+-- What was read is what had been read when the last read began, and the piece that it gave.
+pub record HasLastPiece (input : InputTold) (bytes : List ℕ) : Type 0 where
+  pub earlier : List ℕ
+  pub piece : List ℕ
+  pub split : bytes ≡ earlier ++ piece
+  pub short : length piece ≤ PIECE
+  pub behind : IsTrue input.opened →
+      IfSome input.file (λ all. IfSome input.found (λ rest. all ≡ earlier ++ rest))

@@ -1,31 +1,49 @@
 -- What the parts of a run promise each other of the bytes that a reader is fed.
-use Rattle.std.specs.Prelude.{◌≡◌, ℕ, ◌+◌, ◌≤◌, Bool, true, false, List, ◌++◌, length, take, Option, None, Some, IfSome}
+use Rattle.std.specs.Prelude.{◌≡◌, ◌≢◌, ℕ, ◌+◌, ◌≤◌, Bool, true, false, List, ◌++◌, length, take, Option, None, Some, IfSome, IsTrue, Result, Ok, Err}
 use Rattle.std.specs.Io.KnownBytes.{Consumes, Keeps, IsAtEnd}
+use Rattle.tre_io.specs.Faults.{counted}
 use Rattle.tre_trace.specs.Reading.{Reading, Adds, AddsSome}
 use Rattle.tre_trace.specs.Trace.{IsTrace}
 use Rattle.tre_trace.specs.declared.segment.Segment.{Segment}
 use Rattle.tre_trace.specs.declared.fault.TraceFault.{TraceFault}
-use Rattle.tre_tool.specs.Outcome.{IsInputKind, outcome_of, reading_within, refuses, exceeds}
+use Rattle.tre_tool.specs.Devices.{InputTold, AllReadsGood, AreAllBytes}
+use Rattle.tre_tool.specs.Input.{MayGoOn}
+use Rattle.tre_tool.specs.Outcome.{Outcome, IsInputKind, ComesTo, reading_within, refuses, exceeds}
 use Rattle.tre_tool.specs.declared.status.Status.{Status}
 use Rattle.tre_tool.specs.declared.status.Status.TheVariants.{Trace, InputTooLong, ReadFault, Memory}
 
--- All bytes were read, they are within the limit, and they are this trace.
-pub record IsWhole (reading : Bool → List ℕ → Reading) (limit : ℕ) (file left : Option (List ℕ))
+-- The whole input was read, it is within the limit, and it is this trace.
+pub record IsWhole (reading : Bool → List ℕ → Reading) (limit : ℕ) (input : InputTold)
     (trace : List Segment) : Type 0 where
-  pub all_read : IsAtEnd left
-  pub within : IfSome file (λ bytes. length bytes ≤ limit)
-  pub reads : IfSome file (λ bytes. reading true bytes ≡ record { segments = trace; fault = None })
+  pub reads : AllReadsGood input
+  pub bytes : List ℕ
+  pub all : AreAllBytes input bytes
+  pub within : length bytes ≤ limit
+  pub reads_as : reading true bytes ≡ record { segments = trace; fault = None }
   pub is_trace : IsTrace trace
 
--- Why the bytes of an input are no trace within the limit.
-abbrev pub StopsReading : (Bool → List ℕ → Reading) → ℕ → Option (List ℕ) → Status → Type 0
-StopsReading reading limit file (Trace fault) =
-    IsInputKind fault.kind × IfSome file (λ bytes. outcome_of reading limit bytes ≡ refuses fault)
-StopsReading reading limit file InputTooLong =
-    IfSome file (λ bytes. outcome_of reading limit bytes ≡ exceeds)
-StopsReading reading limit file ReadFault = Unit {0}
-StopsReading reading limit file Memory = Unit {0}
-StopsReading reading limit file _ = ⊥
+-- The input comes to this, whatever of it is still to be read.
+pub record IsDecided (reading : Bool → List ℕ → Reading) (limit : ℕ) (input : InputTold)
+    (outcome : Outcome) : Type 0 where
+  pub opened : IsTrue input.opened
+  pub cause : ComesTo reading limit input.file input.left outcome
+  pub reads : AllReadsGood input
+
+-- The input of this name couldn't be opened or read where it might go on.
+pub record IsUnread (reading : Bool → List ℕ → Reading) (limit : ℕ) (name : List ℕ)
+    (input : InputTold) : Type 0 where
+  pub cause : input.faults_now ≡ counted input.faults_before
+  pub unsound : IsTrue input.sound → input.name ≢ Some name
+  pub goes_on : MayGoOn reading limit input
+
+-- Why an input of this name was read as no trace within the limit.
+abbrev pub StopsReading : (Bool → List ℕ → Reading) → ℕ → List ℕ → InputTold → Status → Type 0
+StopsReading reading limit name input (Trace fault) =
+    IsInputKind fault.kind × IsDecided reading limit input (refuses fault)
+StopsReading reading limit name input InputTooLong = IsDecided reading limit input exceeds
+StopsReading reading limit name input ReadFault = IsUnread reading limit name input
+StopsReading reading limit name input Memory = AllReadsGood input
+StopsReading reading limit name input _ = ⊥
 
 -- A piece was read behind these bytes and fed as far as it may be, and the segments are the first
 -- of those that it completes.
@@ -62,21 +80,31 @@ StopsPiece reading allowed room bytes before now old new Memory =
     HasFed reading allowed room bytes before now old new
 StopsPiece reading allowed room bytes before now old new _ = ⊥
 
+-- These bytes were read. When the last read began it was this front of them, and it gave the rest.
+pub record IsLastRead (most : ℕ) (file found : Option (List ℕ)) (bytes : List ℕ) : Type 0 where
+  pub earlier : List ℕ
+  pub piece : List ℕ
+  pub split : bytes ≡ earlier ++ piece
+  pub short : length piece ≤ most
+  pub behind : IfSome file (λ all. IfSome found (λ rest. all ≡ earlier ++ rest))
+
 -- The reader was fed these bytes of an input, as far as the limit, and found no fault in them.
-pub record IsFed (represents : List ℕ → Type 0) (limit : ℕ) (file left : Option (List ℕ))
-    (count : ℕ) (bytes : List ℕ) : Type 0 where
+pub record IsFed (represents : List ℕ → Type 0) (most limit : ℕ)
+    (file left found : Option (List ℕ)) (count : ℕ) (bytes : List ℕ) : Type 0 where
   pub front : Consumes file left bytes
+  pub last : IsLastRead most file found bytes
   pub size : length bytes ≡ count
   pub few : count ≤ limit + 1
   pub fed : represents (take limit bytes)
 
--- However a turn ended that read on behind these bytes: what was read, at most as much as one read
--- may ask for, and the first of the segments that are complete with it.
-pub record HasRead (reading : Bool → List ℕ → Reading) (limit room : ℕ)
-    (file left : Option (List ℕ)) (bytes : List ℕ) (old new : List Segment) : Type 0 where
+-- However a turn ended that read on behind these bytes: what was read, and the first of the
+-- segments that are complete with it.
+pub record HasRead (reading : Bool → List ℕ → Reading) (most limit : ℕ)
+    (file left found : Option (List ℕ)) (bytes : List ℕ) (old new : List Segment) : Type 0 where
   pub piece : List ℕ
   pub front : Consumes file left (bytes ++ piece)
-  pub short : length piece ≤ room
+  pub last : IsLastRead most file found (bytes ++ piece)
+  pub early : length last.earlier ≤ length bytes
   pub few : length (bytes ++ piece) ≤ limit + 1
   pub closed : Bool
   pub all_read : closed ≡ true → IsAtEnd left
@@ -85,11 +113,11 @@ pub record HasRead (reading : Bool → List ℕ → Reading) (limit room : ℕ)
       (reading false (take limit bytes)) (reading closed (take limit (bytes ++ piece)))
 
 -- A turn that fed a piece behind these bytes: the segments are those that it completes.
-pub record GoesOn (represents : List ℕ → Type 0) (reading : Bool → List ℕ → Reading) (limit : ℕ)
-    (file left : Option (List ℕ)) (count : ℕ) (bytes : List ℕ) (old new : List Segment)
-    : Type 0 where
+pub record GoesOn (represents : List ℕ → Type 0) (reading : Bool → List ℕ → Reading)
+    (most limit : ℕ) (file left found : Option (List ℕ)) (count : ℕ) (bytes : List ℕ)
+    (old new : List Segment) : Type 0 where
   pub piece : List ℕ
-  pub fed : IsFed represents limit file left count (bytes ++ piece)
+  pub fed : IsFed represents most limit file left found count (bytes ++ piece)
   pub all : Adds old new
       (reading false (take limit bytes)) (reading false (take limit (bytes ++ piece)))
 
@@ -103,21 +131,46 @@ pub record IsEnded (reading : Bool → List ℕ → Reading) (limit : ℕ) (file
   pub whole : (reading true bytes).fault ≡ None
   pub all : Adds old new (reading false (take limit bytes)) (reading true bytes)
 
--- The segments are all that the input has within the limit beyond those of these bytes.
-abbrev pub TellsAll : (Bool → List ℕ → Reading) → ℕ → Option (List ℕ) → List ℕ →
-    List Segment → List Segment → Type 0
-TellsAll reading limit file bytes old new = IfSome file (λ whole.
-    Adds old new (reading false (take limit bytes)) (reading_within reading limit whole))
+-- A turn that found what the input comes to: the segments are all that it has beyond those of these
+-- bytes.
+pub record TellsAll (reading : Bool → List ℕ → Reading) (limit : ℕ) (file left : Option (List ℕ))
+    (bytes : List ℕ) (old new : List Segment) (outcome : Outcome) : Type 0 where
+  pub cause : ComesTo reading limit file left outcome
+  pub all : Adds old new
+      (reading false (take limit bytes)) (reading_within reading limit cause.bytes)
 
--- What the segments are where a turn stopped behind these bytes. Where a read failed, the bytes are
--- within the limit; where memory was wanting, the segments are no more than the first.
+-- A turn of which the read failed: the bytes before it are within the limit.
+pub record HasFailed (limit : ℕ) (file left : Option (List ℕ)) (bytes : List ℕ)
+    (old new : List Segment) : Type 0 where
+  pub front : Consumes file left bytes
+  pub same : new ≡ old
+  pub within : length bytes ≤ limit
+
+-- What a turn found that stopped behind these bytes.
 abbrev pub StopsTurn : (Bool → List ℕ → Reading) → ℕ → Option (List ℕ) → Option (List ℕ) →
     List ℕ → List Segment → List Segment → Status → Type 0
 StopsTurn reading limit file left bytes old new (Trace fault) =
-    TellsAll reading limit file bytes old new
+    IsInputKind fault.kind × TellsAll reading limit file left bytes old new (refuses fault)
 StopsTurn reading limit file left bytes old new InputTooLong =
-    TellsAll reading limit file bytes old new
+    TellsAll reading limit file left bytes old new exceeds
 StopsTurn reading limit file left bytes old new ReadFault =
-    Consumes file left bytes × ((new ≡ old) × (length bytes ≤ limit))
+    HasFailed limit file left bytes old new
 StopsTurn reading limit file left bytes old new Memory = Unit {0}
 StopsTurn reading limit file left bytes old new _ = ⊥
+
+-- A turn says whether the input may go on.
+abbrev pub SaysMore : (List ℕ → Type 0) → (Bool → List ℕ → Reading) → ℕ → ℕ → Option (List ℕ) →
+    Option (List ℕ) → Option (List ℕ) → ℕ → List ℕ → List Segment → List Segment → Bool → Type 0
+SaysMore represents reading most limit file left found count bytes old new true =
+    GoesOn represents reading most limit file left found count bytes old new
+SaysMore represents reading most limit file left found count bytes old new false =
+    IsEnded reading limit file left bytes old new
+
+-- How a turn ended that read on behind these bytes.
+abbrev pub EndsTurn : (List ℕ → Type 0) → (Bool → List ℕ → Reading) → ℕ → ℕ → Option (List ℕ) →
+    Option (List ℕ) → Option (List ℕ) → ℕ → List ℕ → List Segment → List Segment →
+    Result Bool Status → Type 0
+EndsTurn represents reading most limit file left found count bytes old new (Ok more) =
+    SaysMore represents reading most limit file left found count bytes old new more
+EndsTurn represents reading most limit file left found count bytes old new (Err status) =
+    StopsTurn reading limit file left bytes old new status

@@ -4,7 +4,7 @@ use Rattle.std.specs.Option.{option_map_or}
 use Rattle.std.specs.Str.{bytes_eq}
 use Rattle.std.specs.Str.Parse.{digits_value}
 use Rattle.clap.specs.Simple.{on_top}
-use Rattle.clap.specs.Words.{App, Row, Rule, Text, fault_of, first_of, matches_of, new_app, new_rule, takes, with_rule}
+use Rattle.clap.specs.Words.{App, Row, Rule, Text, fault_of, first_of, matches_of, new_app, new_rule, with_rule}
 use Rattle.clap.specs.declared.builder.action.ArgAction.TheVariants.{Set, SetTrue}
 use Rattle.tre_parts.specs.Numeral.{is_numeral}
 use Rattle.tre_generate.specs.declared.made_run.TheConstants.{SEGMENTS_MAX}
@@ -95,41 +95,27 @@ pub record IsCount (count : ℕ) : Type 0 where
   pub some : 1 ≤ count
   pub few : count ≤ SEGMENTS_MAX
 
--- the job of a made run of so many segments; what it doesn't need is as where no word gives it
-abbrev pub made_job : ℕ → Job
-made_job count = record {
-  mode = Generate count;
+-- a job of which no word gives the format and the limit
+abbrev pub plain_job : Mode → Text → Text → Job
+plain_job mode input expr = record {
+  mode = mode;
   format = TextFormat;
-  input = codes "-";
+  input = input;
   max_bytes = LIMIT_DEFAULT;
-  expr = [];
+  expr = expr;
 }
 
--- Words of a made run give this job, or other words. Of others its parts are the matches that
--- `clap` promises of these words.
+-- the job of a made run of so many segments; what it doesn't need is as where no word gives it
+abbrev pub made_job : ℕ → Job
+made_job count = plain_job (Generate count) (codes "-") []
+
+-- What words of a made run give is this job, or what others do. Of others its parts are the matches
+-- that `clap` promises of these words.
 abbrev pub GivesWhere : Bool → List Text → Job → Type 0
 GivesWhere true words job = option_map made_job (made_count words) ≡ Some job
 GivesWhere false words job = GivesFrom (matches_of command_line words) job
 
--- The words give this job.
-abbrev pub GivesJob : List Text → Job → Type 0
-GivesJob words job = GivesWhere (is_made_run words) words job
-
--- The words give no job.
-abbrev pub GivesNoJob : List Text → Type 0
-GivesNoJob words = (job : Job) → GivesJob words job → ⊥
-
--- Words of a made run are always taken, since `clap` doesn't read them. Others are where `clap`
--- takes them. It answers words that it doesn't take with a fault of its own.
-abbrev pub AreTakenWhere : Bool → List Text → Type 0
-AreTakenWhere true words = Unit {0}
-AreTakenWhere false words = takes command_line words ≡ true
-
--- The words are taken.
-abbrev pub AreTaken : List Text → Type 0
-AreTaken words = AreTakenWhere (is_made_run words) words
-
--- `clap` has no fault of its own for words that it reads.
+-- `clap` has no fault of its own for words that it reads. Words of a made run it doesn't read.
 abbrev pub HaveNoFaultWhere : Bool → List Text → Type 0
 HaveNoFaultWhere true words = Unit {0}
 HaveNoFaultWhere false words = fault_of command_line words ≡ []
@@ -137,3 +123,12 @@ HaveNoFaultWhere false words = fault_of command_line words ≡ []
 -- The words have no fault.
 abbrev pub HaveNoFault : List Text → Type 0
 HaveNoFault words = HaveNoFaultWhere (is_made_run words) words
+
+-- The words have no fault, and give this job.
+pub record GivesJob (words : List Text) (job : Job) : Type 0 where
+  pub faultless : HaveNoFault words
+  pub gives : GivesWhere (is_made_run words) words job
+
+-- The words have a fault, or give no job.
+abbrev pub GivesNoJob : List Text → Type 0
+GivesNoJob words = (job : Job) → GivesJob words job → ⊥

@@ -1,6 +1,6 @@
 -- What an online run leaves in its output, however it ends. The bytes of the input say a trace by
 -- `reading`, closed or not yet, at most `limit` of them count, and `tree` is what is looked for.
-use Rattle.std.specs.Prelude.{◌≡◌, ℕ, ◌-◌, ◌≤◌, Bool, true, false, List, [], ◌∷◌, ◌++◌, length, take, Option, None, IfSome}
+use Rattle.std.specs.Prelude.{◌≡◌, ℕ, ◌≤◌, Bool, true, false, List, [], ◌∷◌, ◌++◌, length, take, Option, None, IsTrue}
 use Rattle.std.specs.Io.KnownBytes.{Appends, IsAtEnd}
 use Rattle.tre_io.specs.Written.{AppendsPart}
 use Rattle.tre_syntax.specs.PatternTree.{PatternTree}
@@ -8,10 +8,9 @@ use Rattle.tre_trace.specs.Reading.{Reading}
 use Rattle.tre_trace.specs.Trace.{IsTrace}
 use Rattle.tre_trace.specs.declared.segment.Segment.{Segment}
 use Rattle.tre_zone.specs.declared.zone_bounds.ZoneBounds.{ZoneBounds}
-use Rattle.tre_tool.specs.Devices.{InputTold, OutputTold, AllWritesGood, WereRead}
+use Rattle.tre_tool.specs.Devices.{InputTold, OutputTold, AllWritesGood, WereRead, OfAllBytes, HasLastPiece}
 use Rattle.tre_tool.specs.Outcome.{reading_within}
 use Rattle.tre_tool.specs.Transcript.{IsTranscript, online_text}
-use Rattle.tre_tool.specs.declared.input.TheConstants.{PIECE}
 
 -- The blocks of these segments were written, and nothing else.
 pub record BlocksWritten (tree : PatternTree) (segments : List Segment)
@@ -20,14 +19,13 @@ pub record BlocksWritten (tree : PatternTree) (segments : List Segment)
   pub transcript : IsTranscript blocks tree segments
   pub written : Appends before now (online_text blocks segments false)
 
--- The blocks of all segments before the first fault of the input stand there, or of all that the
--- bytes within the limit complete.
+-- The blocks of all segments before the first fault of these bytes stand there, or of all that
+-- those within the limit complete.
 pub record AllBlocksStand (reading : Bool → List ℕ → Reading) (limit : ℕ) (tree : PatternTree)
-    (input : InputTold) (output : OutputTold) : Type 0 where
+    (bytes : List ℕ) (output : OutputTold) : Type 0 where
   pub writes : AllWritesGood output
-  pub stand : IfSome input.file (λ bytes.
-      BlocksWritten tree (reading_within reading limit bytes).segments
-      output.written_before output.written_now)
+  pub stand : BlocksWritten tree (reading_within reading limit bytes).segments
+      output.written_before output.written_now
 
 -- The blocks of all segments that the bytes read complete stand there. The input wasn't seen to
 -- end, so the bytes behind its last complete segment say nothing.
@@ -49,8 +47,8 @@ pub record AreKnown (reading : Bool → List ℕ → Reading) (limit : ℕ) (inp
   pub within : closed ≡ true → length bytes ≤ limit
   pub known : segments ≡ (reading closed (take limit bytes)).segments
 
--- The blocks of the first of the segments that are known stand there. None was held back: what was
--- read, without as many bytes as one read may ask for, completes no other segment.
+-- The blocks of the first of the segments that are known stand there. None was held back: those of
+-- all segments that were complete when the last read began are among them.
 pub record FirstBlocksStand (reading : Bool → List ℕ → Reading) (limit : ℕ) (tree : PatternTree)
     (input : InputTold) (output : OutputTold) : Type 0 where
   pub writes : AllWritesGood output
@@ -59,7 +57,8 @@ pub record FirstBlocksStand (reading : Bool → List ℕ → Reading) (limit : �
   pub rest : List Segment
   pub known : AreKnown reading limit input bytes (front ++ rest)
   pub stand : BlocksWritten tree front output.written_before output.written_now
-  pub prompt : length (reading false (take (length bytes - PIECE) bytes)).segments ≤ length front
+  pub last : HasLastPiece input bytes
+  pub prompt : length (reading false (take limit last.earlier)).segments ≤ length front
 
 -- A first part of the text was written, with all of its front in it.
 pub record IsCutBehind (front text : List ℕ) (before now : Option (List ℕ)) : Type 0 where
@@ -76,16 +75,18 @@ pub record LastBlockIsCut (tree : PatternTree) (front : List Segment) (segment :
       (online_text (blocks ++ zones ∷ []) (front ++ segment ∷ []) false) before now
 
 -- The block of a segment is cut, and those of all segments before it stand there. It wasn't held
--- back: what was read, without as many bytes as one read may ask for, doesn't complete its segment.
+-- back: its segment wasn't complete when the last read began.
 pub record BlockIsCut (reading : Bool → List ℕ → Reading) (limit : ℕ) (tree : PatternTree)
     (input : InputTold) (output : OutputTold) : Type 0 where
+  pub opened : IsTrue input.opened
   pub bytes : List ℕ
   pub front : List Segment
   pub segment : Segment
   pub rest : List Segment
   pub known : AreKnown reading limit input bytes (front ++ segment ∷ rest)
   pub cut : LastBlockIsCut tree front segment output.written_before output.written_now
-  pub prompt : length (reading false (take (length bytes - PIECE) bytes)).segments ≤ length front
+  pub last : HasLastPiece input bytes
+  pub prompt : length (reading false (take limit last.earlier)).segments ≤ length front
 
 -- The text is right for an online run to the end over these bytes: they are within the limit and
 -- say a trace, and the text has a block for each of its segments and then its end.
@@ -107,8 +108,6 @@ pub record AnswerIsCut (reading : Bool → List ℕ → Reading) (limit : ℕ) (
   pub cut : IsCutBehind (online_text right.blocks right.trace false) text before now
 
 -- The whole input was read, and the end of its right answer is cut.
-pub record EndIsCut (reading : Bool → List ℕ → Reading) (limit : ℕ) (tree : PatternTree)
-    (input : InputTold) (output : OutputTold) : Type 0 where
-  pub all_read : IsAtEnd input.left
-  pub cut : IfSome input.file
-      (AnswerIsCut reading limit tree output.written_before output.written_now)
+abbrev pub EndIsCut : (Bool → List ℕ → Reading) → ℕ → PatternTree → InputTold → OutputTold → Type 0
+EndIsCut reading limit tree input output = OfAllBytes input
+    (AnswerIsCut reading limit tree output.written_before output.written_now)

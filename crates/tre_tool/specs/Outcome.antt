@@ -1,5 +1,6 @@
 -- What the bytes of an input come to, and the answer to a trace.
-use Rattle.std.specs.Prelude.{◌≡◌, ◌≢◌, ℕ, ◌≤◌, nat_le, Bool, true, false, List, length, take, Option, None, Some}
+use Rattle.std.specs.Prelude.{◌≡◌, ◌≢◌, ℕ, ◌≤◌, nat_le, Bool, true, false, List, length, take, Option, None, Some, IfSome}
+use Rattle.std.specs.Io.KnownBytes.{Consumes}
 use Rattle.tre_text.specs.TextReading.{text_reading}
 use Rattle.tre_trace.specs.Reading.{Reading}
 use Rattle.tre_trace.specs.Trace.{end_of, IsTrace}
@@ -56,6 +57,17 @@ reading_within reading limit bytes =
 unfoldable pub outcome_of : (Bool → List ℕ → Reading) → ℕ → List ℕ → Outcome
 outcome_of reading limit bytes =
     outcome_of_reading (nat_le (length bytes) limit) (reading_within reading limit bytes)
+
+-- The bytes that were read of an input come to this. So do all its bytes, where the source tells
+-- them, and within the limit they say the same segments.
+pub record ComesTo (reading : Bool → List ℕ → Reading) (limit : ℕ) (file left : Option (List ℕ))
+    (outcome : Outcome) : Type 0 where
+  pub bytes : List ℕ
+  pub front : Consumes file left bytes
+  pub comes : outcome_of reading limit bytes ≡ outcome
+  pub whole : IfSome file (λ all. outcome_of reading limit all ≡ outcome)
+  pub same : IfSome file (λ all. (reading_within reading limit all).segments
+      ≡ (reading_within reading limit bytes).segments)
 
 -- The text is right for a run to the end over these bytes: they are within the limit and say a
 -- trace, and the text is that of the matches of the pattern over it.

@@ -1,6 +1,6 @@
 -- The promise of a run: how it ends, what each status means, and what was written.
-use Rattle.std.specs.Prelude.{◌≡◌, ◌≢◌, ◌⊎◌, ℕ, List, Bool, true, Option, IfSome, IsTrue, Some, ◌++◌, codes}
-use Rattle.std.specs.Io.KnownBytes.{Appends, IsAtEnd}
+use Rattle.std.specs.Prelude.{◌≡◌, ◌≢◌, ◌⊎◌, ℕ, List, Bool, true, IfSome, IsTrue, Some, ◌++◌, codes}
+use Rattle.std.specs.Io.KnownBytes.{Appends}
 use Rattle.tre_io.specs.Faults.{counted, Rises}
 use Rattle.tre_io.specs.Written.{AppendsPart}
 use Rattle.tre_parse.specs.declared.fault.ParseFault.{ParseFault}
@@ -10,13 +10,13 @@ use Rattle.tre_syntax.specs.PatternTree.{PatternTree}
 use Rattle.tre_parse.specs.Outcome.{Outcome as ParseOutcome, IsOutcome, spelt, refused}
 use Rattle.tre_generate.specs.FixedPattern.{fixed_tree, fixed_names}
 use Rattle.tre_generate.specs.Summary.{IsSummary}
-use Rattle.tre_tool.specs.Job.{GivesJob, GivesNoJob, AreTaken, is_made_run, made_count}
+use Rattle.tre_tool.specs.Job.{GivesJob, GivesNoJob, is_made_run, made_count}
 use Rattle.tre_show.specs.PatternText.{expression_text}
 use Rattle.tre_trace.specs.Reading.{Reading}
-use Rattle.tre_tool.specs.Devices.{InputTold, OutputTold, AllReadsGood, AllWritesGood, NothingWritten, NothingDone}
+use Rattle.tre_tool.specs.Devices.{InputTold, OutputTold, AllReadsGood, AllWritesGood, NothingWritten, NothingDone, OfAllBytes}
 use Rattle.tre_tool.specs.Input.{MayGoOn}
 use Rattle.tre_tool.specs.Online.{AllBlocksStand, BlocksSoFarStand, FirstBlocksStand, BlockIsCut, IsOnlineAnswer, EndIsCut}
-use Rattle.tre_tool.specs.Outcome.{Outcome, completes, refuses, exceeds, reading_in, outcome_of, IsInputKind, IsAnswer}
+use Rattle.tre_tool.specs.Outcome.{Outcome, completes, refuses, exceeds, reading_in, outcome_of, ComesTo, IsInputKind, IsAnswer}
 use Rattle.tre_tool.specs.declared.job.Job.{Job}
 use Rattle.tre_tool.specs.declared.job.Mode.{Mode}
 use Rattle.tre_tool.specs.declared.job.Mode.TheVariants.{Offline, Online, Show, Generate}
@@ -60,7 +60,7 @@ pub record IsRefused (words : List (List ℕ)) (fault : ParseFault) : Type 0 whe
   pub refuses : IsOutcomeIn job.mode job.expr (refused fault)
   pub never_memory : fault ≢ ParseMemory
 
--- The words ask for nothing: they give no job, or its text is refused.
+-- The words ask for nothing: they have a fault, or give no job, or its text is refused.
 abbrev pub AsksForNothing : List (List ℕ) → Type 0
 AsksForNothing words = GivesNoJob words ⊎ ((fault : ParseFault) × IsRefused words fault)
 
@@ -74,6 +74,11 @@ abbrev pub outcome_for : Request → List ℕ → Outcome
 outcome_for request bytes =
     outcome_of (reading_for request) request.job.max_bytes bytes
 
+-- The bytes that were read of an input come to this for a request.
+abbrev pub InputComesTo : Request → InputTold → Outcome → Type 0
+InputComesTo request input outcome =
+    ComesTo (reading_for request) request.job.max_bytes input.file input.left outcome
+
 -- This text is right for a request and the bytes of its input.
 abbrev pub IsAnswerTo : Request → List ℕ → List ℕ → Type 0
 IsAnswerTo request bytes text =
@@ -84,27 +89,20 @@ abbrev pub IsOnlineAnswerTo : Request → List ℕ → List ℕ → Type 0
 IsOnlineAnswerTo request bytes text =
     IsOnlineAnswer (reading_for request) request.job.max_bytes request.tree bytes text
 
--- This is all that a run in this mode writes for a request, where the source has these bytes.
-abbrev pub IsAnswerIn : Mode → Request → Option (List ℕ) → List ℕ → Type 0
-IsAnswerIn Offline request file text = IfSome file (λ bytes. IsAnswerTo request bytes text)
-IsAnswerIn Online request file text = IfSome file (λ bytes. IsOnlineAnswerTo request bytes text)
-IsAnswerIn Show request file text =
+-- This is all that a run in this mode writes for a request, once all that is read was.
+abbrev pub IsAnswerIn : Mode → Request → InputTold → List ℕ → Type 0
+IsAnswerIn Offline request input text = OfAllBytes input (λ bytes. IsAnswerTo request bytes text)
+IsAnswerIn Online request input text =
+    OfAllBytes input (λ bytes. IsOnlineAnswerTo request bytes text)
+IsAnswerIn Show request input text =
     text ≡ expression_text request.names request.tree ++ codes "\n"
-IsAnswerIn (Generate count) request file text = IsSummary request.tree count text
-
--- Nothing is left of an input that a run in this mode reads.
-abbrev pub IsReadToItsEnd : Mode → InputTold → Type 0
-IsReadToItsEnd Offline input = IsAtEnd input.left
-IsReadToItsEnd Online input = IsAtEnd input.left
-IsReadToItsEnd Show input = Unit {0}
-IsReadToItsEnd (Generate count) input = Unit {0}
+IsAnswerIn (Generate count) request input text = IsSummary request.tree count text
 
 -- A first part of a right answer was written, once all that is read was.
 pub record PartIsWritten (request : Request)
     (input : InputTold) (output : OutputTold) : Type 0 where
-  pub all_read : IsReadToItsEnd request.job.mode input
   pub text : List ℕ
-  pub right : IsAnswerIn request.job.mode request input.file text
+  pub right : IsAnswerIn request.job.mode request input text
   pub written : AppendsPart output.written_before output.written_now text
 
 -- In an online run the block of a segment is cut, or the end of the whole text.
@@ -120,14 +118,14 @@ StandsAtFailedWrite Online request input output = OnlineIsCut request input outp
 StandsAtFailedWrite Show request input output = PartIsWritten request input output
 StandsAtFailedWrite (Generate count) request input output = PartIsWritten request input output
 
--- What stands in the output at a fault of the input, where a run in this mode reads one: in an
--- online run the blocks of all segments before the fault, or of all that the limit leaves.
-abbrev pub StandsAtFault : Mode → Request → InputTold → OutputTold → Type 0
-StandsAtFault Offline request input output = NothingWritten output
-StandsAtFault Online request input output =
-    AllBlocksStand (reading_for request) request.job.max_bytes request.tree input output
-StandsAtFault Show request input output = ⊥
-StandsAtFault (Generate count) request input output = ⊥
+-- What stands in the output at a fault of these bytes of the input, where a run in this mode reads
+-- one: in an online run the blocks of all segments before the fault, or of all within the limit.
+abbrev pub StandsAtFault : Mode → Request → List ℕ → OutputTold → Type 0
+StandsAtFault Offline request bytes output = NothingWritten output
+StandsAtFault Online request bytes output =
+    AllBlocksStand (reading_for request) request.job.max_bytes request.tree bytes output
+StandsAtFault Show request bytes output = ⊥
+StandsAtFault (Generate count) request bytes output = ⊥
 
 -- What stands in the output where the input couldn't be opened or read on: in an online run the
 -- blocks of all segments that the bytes read complete.
@@ -139,8 +137,8 @@ StandsAtFailedRead Show request input output = ⊥
 StandsAtFailedRead (Generate count) request input output = ⊥
 
 -- What stands in the output where memory was wanting: in an online run the blocks of some first
--- segments of those read, which may be all of them and are at least those that were complete before
--- the last read, and no end.
+-- segments of those read, which may be all of them and are at least those that were complete when
+-- the last read began, and no end.
 abbrev pub StandsAtMemory : Mode → Request → InputTold → OutputTold → Type 0
 StandsAtMemory Offline request input output = NothingWritten output
 StandsAtMemory Online request input output =
@@ -151,16 +149,15 @@ StandsAtMemory (Generate count) request input output = NothingWritten output
 -- `Done`: the input was read to its end, and the right answer was written.
 pub record EndsDone (request : Request) (input : InputTold) (output : OutputTold) : Type 0 where
   pub reads : AllReadsGood input
-  pub all_read : IsReadToItsEnd request.job.mode input
   pub text : List ℕ
-  pub right : IsAnswerIn request.job.mode request input.file text
+  pub right : IsAnswerIn request.job.mode request input text
   pub writes : AllWritesGood output
   pub written : Appends output.written_before output.written_now text
 
--- `Usage`: the words give no job, or `clap` doesn't take them.
+-- `Usage`: the words have a fault, or give no job.
 pub record EndsUsage (words : List (List ℕ))
     (input : InputTold) (output : OutputTold) : Type 0 where
-  pub no_job : AreTaken words → GivesNoJob words
+  pub no_job : GivesNoJob words
   pub nothing : NothingDone input output
 
 -- `Expression`: the words give a job, and its text is refused with this fault.
@@ -173,15 +170,17 @@ pub record EndsExpression (words : List (List ℕ)) (input : InputTold) (output 
 pub record EndsTrace (request : Request) (input : InputTold) (output : OutputTold)
     (fault : TraceFault) : Type 0 where
   pub kind : IsInputKind fault.kind
-  pub cause : IfSome input.file (λ bytes. outcome_for request bytes ≡ refuses fault)
+  pub opened : IsTrue input.opened
+  pub cause : InputComesTo request input (refuses fault)
   pub reads : AllReadsGood input
-  pub stands : StandsAtFault request.job.mode request input output
+  pub stands : StandsAtFault request.job.mode request cause.bytes output
 
 -- `InputTooLong`: the input has more bytes than the limit, and those within it no fault.
 pub record EndsTooLong (request : Request) (input : InputTold) (output : OutputTold) : Type 0 where
-  pub cause : IfSome input.file (λ bytes. outcome_for request bytes ≡ exceeds)
+  pub opened : IsTrue input.opened
+  pub cause : InputComesTo request input exceeds
   pub reads : AllReadsGood input
-  pub stands : StandsAtFault request.job.mode request input output
+  pub stands : StandsAtFault request.job.mode request cause.bytes output
 
 -- `ReadFault`: one failure to open or read was counted, and a source that is sound under the name
 -- of the job's input has none. What was read before it has no fault, and is within the limit.
@@ -247,13 +246,14 @@ IsStatusIn Online request input status =
 IsStatusIn Show request input status = IsUnlessMemory Done status
 IsStatusIn (Generate count) request input status = IsUnlessMemory Done status
 
--- What words that are taken ask for decides the status, where no fault was counted: a refused text
--- is told, and the bytes of the input come to one outcome.
+-- What the words ask for decides the status, where no fault was counted: that they give no job is
+-- told, and so is a refused text, and the bytes of the input come to one outcome.
 pub record IsComplete (words : List (List ℕ)) (input : InputTold) (output : OutputTold)
     (status : Status) : Type 0 where
-  pub refused : (fault : ParseFault) → AreTaken words → IsRefused words fault →
+  pub no_job : GivesNoJob words → IsUnlessMemory Usage status
+  pub refused : (fault : ParseFault) → IsRefused words fault →
       IsUnlessMemory (Expression fault) status
-  pub asked : (request : Request) → AreTaken words → AsksFor words request →
+  pub asked : (request : Request) → AsksFor words request →
       ¬ Rises output.faults_before output.faults_now →
       IsStatusIn request.job.mode request input status
 

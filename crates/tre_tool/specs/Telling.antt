@@ -1,6 +1,6 @@
 -- What the parts of an online run promise each other of what was told.
-use Rattle.std.specs.Prelude.{◌≡◌, ◌≢◌, ◌⊎◌, ℕ, Bool, true, false, List, ◌∷◌, ◌++◌, length, Option, Some, IfSome, IsTrue, Result, Ok, Err, IsPermutation}
-use Rattle.std.specs.Io.KnownBytes.{Appends, IsAtEnd}
+use Rattle.std.specs.Prelude.{◌≡◌, ◌⊎◌, ℕ, Bool, true, false, List, ◌∷◌, ◌++◌, length, Option, Result, Ok, Err, IsPermutation}
+use Rattle.std.specs.Io.KnownBytes.{Appends}
 use Rattle.tre_io.specs.Faults.{counted}
 use Rattle.tre_io.specs.Written.{AppendsPart}
 use Rattle.tre_online.specs.Session.{pattern_of, ended_of, StandsFor}
@@ -11,9 +11,9 @@ use Rattle.tre_trace.specs.Reading.{Reading}
 use Rattle.tre_trace.specs.Trace.{IsTrace}
 use Rattle.tre_trace.specs.declared.segment.Segment.{Segment}
 use Rattle.tre_zone.specs.declared.zone_bounds.ZoneBounds.{ZoneBounds}
-use Rattle.tre_tool.specs.Devices.{InputTold, OutputTold, AllReadsGood, AllWritesGood}
-use Rattle.tre_tool.specs.Feeding.{StopsReading}
-use Rattle.tre_tool.specs.Input.{MayGoOn}
+use Rattle.tre_tool.specs.Devices.{InputTold, OutputTold, AllReadsGood, AllWritesGood, OfAllBytes}
+use Rattle.tre_tool.specs.Feeding.{IsDecided, IsUnread}
+use Rattle.tre_tool.specs.Outcome.{Outcome, refuses, exceeds, IsInputKind}
 use Rattle.tre_tool.specs.Online.{BlocksWritten, AllBlocksStand, BlocksSoFarStand, FirstBlocksStand, LastBlockIsCut, BlockIsCut, IsOnlineAnswer, EndIsCut}
 use Rattle.tre_tool.specs.Transcript.{IsTranscript, block_before, closing_line, online_text}
 use Rattle.tre_tool.specs.declared.status.Status.{Status}
@@ -70,25 +70,21 @@ StopsAtEnd end before now _ = ⊥
 pub record IsTold (reading : Bool → List ℕ → Reading) (limit : ℕ) (tree : PatternTree)
     (input : InputTold) (output : OutputTold) : Type 0 where
   pub reads : AllReadsGood input
-  pub all_read : IsAtEnd input.left
   pub text : List ℕ
-  pub right : IfSome input.file (λ bytes. IsOnlineAnswer reading limit tree bytes text)
+  pub right : OfAllBytes input (λ bytes. IsOnlineAnswer reading limit tree bytes text)
   pub writes : AllWritesGood output
   pub written : Appends output.written_before output.written_now text
 
--- The bytes of the input are no trace within the limit, and all blocks before that were told.
+-- The bytes of the input come to no trace, and all blocks before that were told.
 pub record IsToldToFault (reading : Bool → List ℕ → Reading) (limit : ℕ) (tree : PatternTree)
-    (input : InputTold) (output : OutputTold) (status : Status) : Type 0 where
-  pub cause : StopsReading reading limit input.file status
-  pub reads : AllReadsGood input
-  pub stands : AllBlocksStand reading limit tree input output
+    (input : InputTold) (output : OutputTold) (outcome : Outcome) : Type 0 where
+  pub decided : IsDecided reading limit input outcome
+  pub stands : AllBlocksStand reading limit tree decided.cause.bytes output
 
 -- A read of the input of this name failed where it might go on, and all that was complete was told.
 pub record IsToldToFailedRead (reading : Bool → List ℕ → Reading) (limit : ℕ)
     (tree : PatternTree) (name : List ℕ) (input : InputTold) (output : OutputTold) : Type 0 where
-  pub cause : input.faults_now ≡ counted input.faults_before
-  pub unsound : IsTrue input.sound → input.name ≢ Some name
-  pub goes_on : MayGoOn reading limit input
+  pub unread : IsUnread reading limit name input
   pub stands : BlocksSoFarStand reading limit tree input output
 
 -- A write failed.
@@ -111,9 +107,9 @@ abbrev pub EndsTelling : (Bool → List ℕ → Reading) → ℕ → PatternTree
 EndsTelling reading limit tree name input output Done =
     IsTold reading limit tree input output
 EndsTelling reading limit tree name input output (Trace fault) =
-    IsToldToFault reading limit tree input output (Trace fault)
+    IsInputKind fault.kind × IsToldToFault reading limit tree input output (refuses fault)
 EndsTelling reading limit tree name input output InputTooLong =
-    IsToldToFault reading limit tree input output InputTooLong
+    IsToldToFault reading limit tree input output exceeds
 EndsTelling reading limit tree name input output ReadFault =
     IsToldToFailedRead reading limit tree name input output
 EndsTelling reading limit tree name input output WriteFault =

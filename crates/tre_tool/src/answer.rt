@@ -1,12 +1,12 @@
 // From a job to the text that answers it.
-ghost use Rattle.std.specs.Prelude.{◌≡◌, ◌≢◌, ℕ, ◌≤◌, ◌+◌, ◌++◌, [], codes, false, IsTrue, IsErrOf, IfOk, IfErr, IfSome, OnOk, Some, string_bytes};
+ghost use Rattle.std.specs.Prelude.{◌≡◌, ℕ, ◌≤◌, ◌+◌, ◌++◌, [], codes, false, IsTrue, IsErrOf, IfOk, IfErr, IfSome, Some, string_bytes};
 ghost use Rattle.tre_show.specs.PatternText.{expression_text};
 ghost use Rattle.tre_syntax.specs.Pattern.{pattern_tree, names_of};
 ghost use Rattle.tre_tool.specs.Answer.{status_of, EndsOver, IsReadAs, IsFoundFor, StopsAs};
 ghost use Rattle.tre_tool.specs.Devices.{input_told, output_told};
 ghost use Rattle.tre_tool.specs.Feeding.{IsWhole, StopsReading};
 ghost use Rattle.tre_tool.specs.Job.{IsCount};
-ghost use Rattle.tre_tool.specs.Input.{TakesAtMost, MayGoOn, HasReadCause};
+ghost use Rattle.tre_tool.specs.Input.{TakesAtMost};
 ghost use Rattle.tre_tool.specs.Run.{ReadsInput, request_for};
 ghost use Rattle.tre_tool.specs.declared.job.TheConstants.{LIMIT_MAX};
 
@@ -37,21 +37,16 @@ fn read_trace<S: Source, R: TraceReader>(
     requires fresh { R.represents reader.old [] }
     requires nothing { (R.reading (R.names reader.old) false []).segments ≡ [] }
     requires fits { limit ≤ LIMIT_MAX }
-    ensures named { IfErr result (λ status. status ≢ Status.ReadFault → status ≢ Status.Memory →
-        IfSome (S.file_name input.old) (λ told. told ≡ name.now)) }
-    ensures by_name { OnOk result (IfSome (S.file_name input.old) (λ told. told ≡ name.now)) }
+    ensures by_name { IsTrue (S.opened input.new) →
+        IfSome (S.file_name input.old) (λ told. told ≡ name.now) }
     ensures read { IfOk result (IsWhole (R.reading (R.names reader.old)) limit
-        (S.file input.old) (S.left input.new)) }
-    ensures stops { IfErr result
-        (StopsReading (R.reading (R.names reader.old)) limit (S.file input.old)) }
+        (input_told S.file_name S.file S.sound S.opened S.left S.found S.faults input.old
+        input.new)) }
+    ensures stops { IfErr result (StopsReading (R.reading (R.names reader.old)) limit name.now
+        (input_told S.file_name S.file S.sound S.opened S.left S.found S.faults input.old
+        input.new)) }
     ensures bounded { IsTrue (S.opened input.new) →
         TakesAtMost (limit + 1) (S.file input.old) (S.left input.new) }
-    ensures cause { HasReadCause (S.faults input.old) (S.faults input.new) result }
-    ensures goes_on { IsErrOf result Status.ReadFault →
-        MayGoOn (R.reading (R.names reader.old)) limit
-        (input_told S.file_name S.file S.sound S.opened S.left S.faults input.old input.new) }
-    ensures sound { IsTrue (S.sound input.old) → S.file_name input.old ≡ Some name.now →
-        IsErrOf result Status.ReadFault → ⊥ }
 {
     let mut feed = Feed::open(alloc, name, limit, input)?;
     let mut segments = Vec::new(alloc);
@@ -76,15 +71,16 @@ fn read_input<S: Source>(
     requires offline { job.now.mode ≡ Mode.Offline }
     ensures read { IfOk result (IsReadAs
         (request_for job.now (pattern_tree pattern.now) (names_of pattern.now))
-        (input_told S.file_name S.file S.sound S.opened S.left S.faults input.old input.new)) }
+        (input_told S.file_name S.file S.sound S.opened S.left S.found S.faults input.old
+        input.new)) }
     ensures stops { IfErr result (StopsAs
         (request_for job.now (pattern_tree pattern.now) (names_of pattern.now))
-        (input_told S.file_name S.file S.sound S.opened S.left S.faults input.old input.new)) }
+        (input_told S.file_name S.file S.sound S.opened S.left S.found S.faults input.old
+        input.new)) }
     ensures bounded { IsTrue (S.opened input.new) →
         TakesAtMost (job.now.max_bytes + 1) (S.file input.old) (S.left input.new) }
-    ensures named { IfErr result (λ status. status ≢ Status.ReadFault → status ≢ Status.Memory →
-        IfSome (S.file_name input.old) (λ told. told ≡ job.now.input)) }
-    ensures by_name { OnOk result (IfSome (S.file_name input.old) (λ told. told ≡ job.now.input)) }
+    ensures by_name { IsTrue (S.opened input.new) →
+        IfSome (S.file_name input.old) (λ told. told ≡ job.now.input) }
 {
     let names = pattern.names().try_clone()?;
     let limit = job.max_bytes as usize;
@@ -114,16 +110,16 @@ fn matches_text<S: Source>(
     requires offline { job.now.mode ≡ Mode.Offline }
     ensures found { IfOk result (λ text. IsFoundFor
         (request_for job.now (pattern_tree pattern.now) (names_of pattern.now))
-        (input_told S.file_name S.file S.sound S.opened S.left S.faults input.old input.new)
+        (input_told S.file_name S.file S.sound S.opened S.left S.found S.faults input.old input.new)
         (string_bytes text)) }
     ensures stops { IfErr result (StopsAs
         (request_for job.now (pattern_tree pattern.now) (names_of pattern.now))
-        (input_told S.file_name S.file S.sound S.opened S.left S.faults input.old input.new)) }
+        (input_told S.file_name S.file S.sound S.opened S.left S.found S.faults input.old
+        input.new)) }
     ensures bounded { IsTrue (S.opened input.new) →
         TakesAtMost (job.now.max_bytes + 1) (S.file input.old) (S.left input.new) }
-    ensures named { IfErr result (λ status. status ≢ Status.ReadFault → status ≢ Status.Memory →
-        IfSome (S.file_name input.old) (λ told. told ≡ job.now.input)) }
-    ensures by_name { OnOk result (IfSome (S.file_name input.old) (λ told. told ≡ job.now.input)) }
+    ensures by_name { IsTrue (S.opened input.new) →
+        IfSome (S.file_name input.old) (λ told. told ≡ job.now.input) }
 {
     let trace = read_input(alloc, pattern, job, input)?;
     let set = matches(alloc, pattern, &trace)?;
@@ -154,12 +150,11 @@ pub fn answer<S: Source, O: Sink>(
     requires fits { job.now.max_bytes ≤ LIMIT_MAX }
     requires counted { (count : ℕ) → job.now.mode ≡ Mode.Generate count → IsCount count }
     ensures ends { EndsOver (request_for job.now (pattern_tree pattern) (names_of pattern))
-        (input_told S.file_name S.file S.sound S.opened S.left S.faults input.old input.new)
+        (input_told S.file_name S.file S.sound S.opened S.left S.found S.faults input.old input.new)
         (output_told O.written O.faults out.old out.new) (status_of result) }
     ensures bounded { IsTrue (S.opened input.new) →
         TakesAtMost (job.now.max_bytes + 1) (S.file input.old) (S.left input.new) }
-    ensures by_name { ReadsInput job.now.mode → status_of result ≢ Status.ReadFault →
-        status_of result ≢ Status.Memory →
+    ensures by_name { IsTrue (S.opened input.new) →
         IfSome (S.file_name input.old) (λ told. told ≡ job.now.input) }
     ensures untouched { (ReadsInput job.now.mode → ⊥) → input.new ≡ input.old }
 {

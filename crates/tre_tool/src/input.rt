@@ -3,9 +3,9 @@ ghost use Rattle.std.specs.Prelude.{◌≡◌, ◌+◌, ◌<◌, ◌≤◌, ◌+
 ghost use Rattle.std.specs.Io.KnownBytes.{Consumes, IsAtEnd, Keeps};
 ghost use Rattle.tre_trace.specs.Reading.{Adds};
 ghost use Rattle.tre_trace.specs.declared.reader.TheConstants.{FED_MAX};
-ghost use Rattle.tre_tool.specs.Input.{TakesAtMost, HasReadCause};
+ghost use Rattle.tre_tool.specs.Input.{HasReadCause};
 ghost use Rattle.tre_tool.specs.declared.job.TheConstants.{LIMIT_MAX};
-ghost use Rattle.tre_tool.specs.Feeding.{StopsReading, StopsPiece, IsFed, HasRead, GoesOn, IsEnded, StopsTurn};
+ghost use Rattle.tre_tool.specs.Feeding.{StopsPiece, IsFed, HasRead, EndsTurn};
 
 use crate::status::Status;
 use std::alloc::{AllocError, Global};
@@ -30,7 +30,7 @@ fn read_piece<S: Source>(input: &mut S, buffer: &mut [u8]) -> Result<usize, Stat
     ensures within { IfOk result (λ count. count ≤ length buffer.new) }
     ensures end { IfOk result (λ count. count ≡ 0 → IsAtEnd (S.left input.new)) }
     ensures length { length buffer.new ≡ length buffer.old }
-    ensures bounded { TakesAtMost (length buffer.old) (S.left input.old) (S.left input.new) }
+    ensures finds { Keeps (S.found input.new) (S.left input.old) }
     ensures cause { HasReadCause (S.faults input.old) (S.faults input.new) result }
     ensures failed { IfErr result (λ status. status ≡ Status.ReadFault) }
     ensures kept { OnErr result (Keeps (S.left input.old) (S.left input.new)) }
@@ -69,7 +69,7 @@ fn feed_piece<S: Source, R: TraceReader>(
         (S.left input.old) (S.left input.new) segments.old.items segments.new.items) }
     ensures names { R.names reader.new ≡ R.names reader.old }
     ensures length { length buffer.new ≡ length buffer.old }
-    ensures bounded { TakesAtMost (length buffer.old) (S.left input.old) (S.left input.new) }
+    ensures finds { Keeps (S.found input.new) (S.left input.old) }
     ensures cause { HasReadCause (S.faults input.old) (S.faults input.new) result }
     ensures sound { IsTrue (S.sound input.old) → IsErrOf result Status.ReadFault → ⊥ }
     ensures same_opened { S.opened input.new ≡ S.opened input.old }
@@ -81,42 +81,33 @@ fn feed_piece<S: Source, R: TraceReader>(
 }
 
 // Reads a piece, and feeds it as far as the limit. Where none comes, the reader is told the end.
-// The segments that become complete are put behind the others, also before a fault. No byte comes
-// only at the end.
+// Says whether the input may go on. The segments that become complete are put behind the others,
+// also before a fault.
 fn feed_next<S: Source, R: TraceReader>(
     limit: usize,
-    taken: usize,
+    taken: &mut usize,
     buffer: &mut [u8],
     reader: &mut R,
     input: &mut S,
     segments: &mut Vec<Segment>,
-) -> Result<usize, Status>
+) -> Result<bool, Status>
     requires opened { IsTrue (S.opened input.old) }
     requires fits { limit ≤ LIMIT_MAX }
-    requires fed { R.fed_of reader.old ≤ taken }
+    requires fed { R.fed_of reader.old ≤ taken.old }
     requires room { 0 < length buffer.old }
     ensures read { (file : Option (List ℕ)) (bytes : List ℕ) →
-        IsFed (R.represents reader.old) limit file (S.left input.old) taken bytes →
-        HasRead (R.reading (R.names reader.old)) limit (length buffer.old) file (S.left input.new)
-        bytes segments.old.items segments.new.items }
-    ensures goes_on { (file : Option (List ℕ)) (bytes : List ℕ) →
-        IsFed (R.represents reader.old) limit file (S.left input.old) taken bytes →
-        IfOk result (λ count. 0 < count →
-        GoesOn (R.represents reader.new) (R.reading (R.names reader.old)) limit file
-        (S.left input.new) (taken + count) bytes segments.old.items segments.new.items) }
-    ensures ended { (file : Option (List ℕ)) (bytes : List ℕ) →
-        IsFed (R.represents reader.old) limit file (S.left input.old) taken bytes →
-        IfOk result (λ count. count ≡ 0 →
-        IsEnded (R.reading (R.names reader.old)) limit file (S.left input.new)
-        bytes segments.old.items segments.new.items) }
-    ensures cause_told { (file : Option (List ℕ)) (bytes : List ℕ) →
-        IsFed (R.represents reader.old) limit file (S.left input.old) taken bytes →
-        IfErr result (StopsReading (R.reading (R.names reader.old)) limit file) }
-    ensures stops { (file : Option (List ℕ)) (bytes : List ℕ) →
-        IsFed (R.represents reader.old) limit file (S.left input.old) taken bytes →
-        IfErr result (StopsTurn (R.reading (R.names reader.old)) limit file (S.left input.new)
-        bytes segments.old.items segments.new.items) }
-    ensures few { IfOk result (λ count. taken + count ≤ limit + 1) }
+        IsFed (R.represents reader.old) (length buffer.old) limit file (S.left input.old)
+        (S.found input.old) taken.old bytes →
+        HasRead (R.reading (R.names reader.old)) (length buffer.old) limit file (S.left input.new)
+        (S.found input.new) bytes segments.old.items segments.new.items }
+    ensures ends { (file : Option (List ℕ)) (bytes : List ℕ) →
+        IsFed (R.represents reader.old) (length buffer.old) limit file (S.left input.old)
+        (S.found input.old) taken.old bytes →
+        EndsTurn (R.represents reader.new) (R.reading (R.names reader.old)) (length buffer.old)
+        limit file (S.left input.new) (S.found input.new) taken.new bytes segments.old.items
+        segments.new.items result }
+    ensures rises { IfOk result (λ more. IsTrue more → taken.old < taken.new) }
+    ensures few { IfOk result (λ more. IsTrue more → taken.new ≤ limit + 1) }
     ensures names { R.names reader.new ≡ R.names reader.old }
     ensures length { length buffer.new ≡ length buffer.old }
     ensures cause { HasReadCause (S.faults input.old) (S.faults input.new) result }
@@ -124,16 +115,18 @@ fn feed_next<S: Source, R: TraceReader>(
     ensures same_opened { S.opened input.new ≡ S.opened input.old }
     ensures same_sound { S.sound input.new ≡ S.sound input.old }
 {
-    if taken > limit {
+    if *taken > limit {
         return Err(Status::InputTooLong);
     }
-    let allowed = limit - taken;
+    let allowed = limit - *taken;
     let room = buffer.len().min(allowed + 1);
     let count = feed_piece(allowed, &mut buffer[..room], reader, input, segments)?;
     if count == 0 {
         reader.finish(segments)?;
+        return Ok(false);
     }
-    Ok(count)
+    *taken += count;
+    Ok(true)
 }
 
 /// An open input, as far as it was read.
@@ -158,11 +151,14 @@ impl Feed {
         ensures start { IfOk result (λ feed. feed.taken ≡ 0) }
         ensures limit { IfOk result (λ feed. feed.limit ≡ limit) }
         ensures room { IfOk result (λ feed. length feed.buffer.items ≡ PIECE) }
-        ensures by_name { OnOk result (IfSome (S.file_name input.old) (λ told. told ≡ name.now)) }
+        ensures by_name { IsTrue (S.opened input.new) →
+            IfSome (S.file_name input.old) (λ told. told ≡ name.now) }
         ensures named { IfErr result (λ status. status ≢ Status.ReadFault →
             status ≢ Status.Memory → ⊥) }
         ensures nothing { OnErr result (IsTrue (S.opened input.new) →
             Keeps (S.file input.old) (S.left input.new)) }
+        ensures finds { IsTrue (S.opened input.new) →
+            Keeps (S.found input.new) (S.file input.old) }
         ensures cause { HasReadCause (S.faults input.old) (S.faults input.new) result }
         ensures sound { IsTrue (S.sound input.old) → S.file_name input.old ≡ Some name.now →
             IsErrOf result Status.ReadFault → ⊥ }
@@ -190,50 +186,36 @@ impl Feed {
         requires fits { self.old.limit ≤ LIMIT_MAX }
         requires fed { R.fed_of reader.old ≤ self.old.taken }
         requires room { 0 < length self.old.buffer.items }
-        requires few { self.old.taken ≤ self.old.limit + 1 }
         ensures read { (file : Option (List ℕ)) (bytes : List ℕ) →
-            IsFed (R.represents reader.old) self.old.limit file (S.left input.old)
-            self.old.taken bytes →
-            HasRead (R.reading (R.names reader.old)) self.old.limit (length self.old.buffer.items)
-            file (S.left input.new) bytes segments.old.items segments.new.items }
-        ensures goes_on { (file : Option (List ℕ)) (bytes : List ℕ) →
-            IsFed (R.represents reader.old) self.old.limit file (S.left input.old)
-            self.old.taken bytes → IfOk result (λ more. IsTrue more →
-            GoesOn (R.represents reader.new) (R.reading (R.names reader.old)) self.old.limit
-            file (S.left input.new) self.new.taken bytes segments.old.items segments.new.items) }
-        ensures ended { (file : Option (List ℕ)) (bytes : List ℕ) →
-            IsFed (R.represents reader.old) self.old.limit file (S.left input.old)
-            self.old.taken bytes → IfOk result (λ more. more ≡ false →
-            IsEnded (R.reading (R.names reader.old)) self.old.limit file (S.left input.new)
-            bytes segments.old.items segments.new.items) }
-        ensures cause_told { (file : Option (List ℕ)) (bytes : List ℕ) →
-            IsFed (R.represents reader.old) self.old.limit file (S.left input.old)
-            self.old.taken bytes →
-            IfErr result (StopsReading (R.reading (R.names reader.old)) self.old.limit file) }
-        ensures stops { (file : Option (List ℕ)) (bytes : List ℕ) →
-            IsFed (R.represents reader.old) self.old.limit file (S.left input.old)
-            self.old.taken bytes →
-            IfErr result (StopsTurn (R.reading (R.names reader.old)) self.old.limit file
-            (S.left input.new) bytes segments.old.items segments.new.items) }
+            IsFed (R.represents reader.old) (length self.old.buffer.items) self.old.limit file
+            (S.left input.old) (S.found input.old) self.old.taken bytes →
+            HasRead (R.reading (R.names reader.old)) (length self.old.buffer.items) self.old.limit
+            file (S.left input.new) (S.found input.new) bytes segments.old.items
+            segments.new.items }
+        ensures ends { (file : Option (List ℕ)) (bytes : List ℕ) →
+            IsFed (R.represents reader.old) (length self.old.buffer.items) self.old.limit file
+            (S.left input.old) (S.found input.old) self.old.taken bytes →
+            EndsTurn (R.represents reader.new) (R.reading (R.names reader.old))
+            (length self.old.buffer.items) self.old.limit file (S.left input.new)
+            (S.found input.new) self.new.taken bytes segments.old.items segments.new.items
+            result }
         ensures limit { self.new.limit ≡ self.old.limit }
         ensures length { length self.new.buffer.items ≡ length self.old.buffer.items }
         ensures rises { IfOk result (λ more. IsTrue more → self.old.taken < self.new.taken) }
-        ensures few { IfOk result (λ _. self.new.taken ≤ self.new.limit + 1) }
+        ensures few { IfOk result (λ more. IsTrue more → self.new.taken ≤ self.new.limit + 1) }
         ensures names { R.names reader.new ≡ R.names reader.old }
         ensures cause { HasReadCause (S.faults input.old) (S.faults input.new) result }
         ensures sound { IsTrue (S.sound input.old) → IsErrOf result Status.ReadFault → ⊥ }
         ensures same_opened { S.opened input.new ≡ S.opened input.old }
         ensures same_sound { S.sound input.new ≡ S.sound input.old }
     {
-        let count = feed_next(
+        feed_next(
             self.limit,
-            self.taken,
+            &mut self.taken,
             &mut self.buffer,
             reader,
             input,
             segments,
-        )?;
-        self.taken += count;
-        Ok(count > 0)
+        )
     }
 }

@@ -1,7 +1,7 @@
 //! One run of Montre, from the words of a command line and the bytes of an input to the bytes of an
 //! output.
 //!
-//! The central call is [`run::run`]: its clauses are the promise of a run, over any source and
+//! The central call is [`run`]: its clauses are the promise of a run, over any source and
 //! sinks, and the program `montre` makes it over the system's own. [`read_words`] reads the words
 //! into a [`Job`], and [`Status`] is how a run ends, with its code and its line on standard error.
 //! The input goes piece by piece to a reader of its format, and no byte of it is kept; online, no
@@ -21,16 +21,12 @@ pub mod laws;
 mod online;
 mod output;
 mod report;
-pub mod run;
 mod status;
+mod whole_run;
 mod words;
 
 pub use job::{Format, Job, LIMIT_MAX, Mode, Word, WordsFault};
 pub use report::tell_status;
 pub use status::Status;
+pub use whole_run::run;
 pub use words::read_words;
-
-#[cfg(test)]
-mod online_tests;
-#[cfg(test)]
-mod tests;

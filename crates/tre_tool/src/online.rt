@@ -149,11 +149,11 @@ fn tell_input<S: Source, R: TraceReader, O: Sink>(
     requires stands { StandsFor session.old [] }
     ensures ends { EndsTelling (R.reading (R.names reader.old)) job.now.max_bytes
         (pattern_tree (pattern_of session.old)) job.now.input
-        (input_told S.file_name S.file S.sound S.opened S.left S.faults input.old input.new)
+        (input_told S.file_name S.file S.sound S.opened S.left S.found S.faults input.old input.new)
         (output_told O.written O.faults out.old out.new) (status_of result) }
     ensures bounded { IsTrue (S.opened input.new) →
         TakesAtMost (job.now.max_bytes + 1) (S.file input.old) (S.left input.new) }
-    ensures by_name { status_of result ≢ Status.ReadFault → status_of result ≢ Status.Memory →
+    ensures by_name { IsTrue (S.opened input.new) →
         IfSome (S.file_name input.old) (λ told. told ≡ job.now.input) }
 {
     let mut feed = Feed::open(alloc, job.input.text(), job.max_bytes as usize, input)?;
@@ -182,11 +182,11 @@ pub fn tell_matches<S: Source, O: Sink>(
     requires fits { job.now.max_bytes ≤ LIMIT_MAX }
     ensures ends { EndsTelling (reading_in job.now.format (names_of pattern)) job.now.max_bytes
         (pattern_tree pattern) job.now.input
-        (input_told S.file_name S.file S.sound S.opened S.left S.faults input.old input.new)
+        (input_told S.file_name S.file S.sound S.opened S.left S.found S.faults input.old input.new)
         (output_told O.written O.faults out.old out.new) (status_of result) }
     ensures bounded { IsTrue (S.opened input.new) →
         TakesAtMost (job.now.max_bytes + 1) (S.file input.old) (S.left input.new) }
-    ensures by_name { status_of result ≢ Status.ReadFault → status_of result ≢ Status.Memory →
+    ensures by_name { IsTrue (S.opened input.new) →
         IfSome (S.file_name input.old) (λ told. told ≡ job.now.input) }
 {
     let names = pattern.names().try_clone()?;

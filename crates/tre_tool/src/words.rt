@@ -1,7 +1,7 @@
 // The words of the command line.
 ghost use Rattle.std.specs.Prelude.{◌≡◌, ◌≢◌, ℕ, ◌≤◌, ◌<◌, ◌^◌, ◌-◌, map, string_bytes, IfOk, OnOk, IsErrOf, IfSome, IfNone, Some, None, [], true, false, codes, option_and_then, option_map};
-ghost use Rattle.clap.specs.Words.{app_of, rule_of, found_of, rows_of, matches_of, fault_of, first_of, takes};
-ghost use Rattle.tre_tool.specs.Job.{flag_rule, option_rule, operand_rule, command_line, is_given, mode_for, mode_in, format_named, number_written, is_made_run, made_count, made_job, IsCount, GivesFrom, GivesJob, GivesNoJob, AreTaken, HaveNoFault};
+ghost use Rattle.clap.specs.Words.{app_of, rule_of, found_of, rows_of, matches_of, fault_of, first_of};
+ghost use Rattle.tre_tool.specs.Job.{flag_rule, option_rule, operand_rule, command_line, is_given, mode_for, mode_in, format_named, number_written, is_made_run, made_count, made_job, IsCount, GivesFrom, GivesJob, GivesNoJob};
 ghost use Rattle.tre_tool.specs.declared.job.Job.{Job};
 
 use crate::job::{Format, Job, LIMIT_DEFAULT, LIMIT_MAX, Mode, Word, WordsFault};
@@ -51,7 +51,7 @@ fn command_line<'a>(alloc: Global) -> Result<Command<'a>, AllocError>
     Ok(command)
 }
 
-// What `clap` answers to words that it didn't take.
+// What `clap` answers to words of which it has a fault.
 fn words_fault(kind: ErrorKind) -> WordsFault
     ensures memory { kind ≡ ErrorKind.OutOfMemory → result ≡ WordsFault.Memory }
     ensures others { kind ≢ ErrorKind.OutOfMemory → result ≡ WordsFault.Usage }
@@ -66,7 +66,7 @@ fn parse_words<'a>(alloc: Global, words: &'a [String]) -> Result<ArgMatches<'a>,
     ensures matches { IfOk result (λ matches.
         rows_of (found_of matches) ≡ matches_of command_line (map string_bytes words.entry.now)) }
     ensures usage { IsErrOf result WordsFault.Usage →
-        takes command_line (map string_bytes words.entry.now) ≡ true → ⊥ }
+        fault_of command_line (map string_bytes words.entry.now) ≢ [] }
     ensures faultless { OnOk result
         (fault_of command_line (map string_bytes words.entry.now) ≡ []) }
 {
@@ -177,7 +177,7 @@ fn job_in(alloc: Global, matches: &ArgMatches) -> Result<Job, WordsFault>
 fn read_options(alloc: Global, words: &[String]) -> Result<Job, WordsFault>
     ensures ok { IfOk result (GivesFrom (matches_of command_line (map string_bytes words.now))) }
     ensures usage { IsErrOf result WordsFault.Usage →
-        takes command_line (map string_bytes words.now) ≡ true → (job : Job) →
+        fault_of command_line (map string_bytes words.now) ≡ [] → (job : Job) →
         GivesFrom (matches_of command_line (map string_bytes words.now)) job → ⊥ }
     ensures faultless { OnOk result (fault_of command_line (map string_bytes words.now) ≡ []) }
 {
@@ -240,9 +240,7 @@ pub fn read_words(alloc: Global, words: &[String]) -> Result<Job, WordsFault>
     ensures small { IfOk result (λ job. job.max_bytes ≤ LIMIT_MAX) }
     ensures counted { IfOk result (λ job. (count : ℕ) → job.mode ≡ Mode.Generate count →
         IsCount count) }
-    ensures usage { IsErrOf result WordsFault.Usage → AreTaken (map string_bytes words.now) →
-        GivesNoJob (map string_bytes words.now) }
-    ensures faultless { OnOk result (HaveNoFault (map string_bytes words.now)) }
+    ensures usage { IsErrOf result WordsFault.Usage → GivesNoJob (map string_bytes words.now) }
 {
     if is_made_run(words) {
         let job = read_made_run(alloc, words)?;

@@ -17,11 +17,9 @@ mod plane;
 mod planes;
 mod reader;
 mod segment;
-#[cfg(test)]
-mod tests;
 mod trace;
 
 pub use fault::{PushFault, TraceFault, TraceKind};
 pub use reader::{FED_MAX, TraceReader};
 pub use segment::{Segment, generated};
-pub use trace::Trace;
+pub use trace::{Start, Trace};

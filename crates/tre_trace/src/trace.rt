@@ -18,6 +18,14 @@ pub struct Trace {
     planes: Planes,
 }
 
+/// A place of a trace, and when the segment there begins.
+#[derive(Clone, Copy, Debug, PartialEq, Eq)]
+pub struct Start {
+    pub place: usize,
+    /// In ticks; the end of the trace for the place behind the last segment.
+    pub time: u64,
+}
+
 impl Model for Trace {
     ghost use Rattle.std.specs.Prelude.{◌≡◌, List};
     ghost use Rattle.tre_trace.specs.declared.segment.Segment.{Segment};
@@ -132,15 +140,48 @@ impl Trace {
         requires { place ≤ length self.now }
         ensures { result ≡ end_of 0 (take place self.now) }
     {
+        self.start_from(Start { place: 0, time: 0 }, place).time
+    }
+
+    /// The start of the segment at the place, from one that was seen at it or before it. No more
+    /// lengths are added up than there are segments between, and at most 63.
+    pub fn start_from(&self, seen: Start, place: usize) -> Start
+        requires seen { seen.time ≡ end_of 0 (take seen.place self.now) }
+        requires order { seen.place ≤ place }
+        requires within { place ≤ length self.now }
+        ensures place { result.place ≡ place }
+        ensures time { result.time ≡ end_of 0 (take place self.now) }
+    {
+        let near = self.nearest(seen, place);
+        let mut time = near.time;
+        for segment in &self.segments[near.place..place] {
+            time += segment.len;
+        }
+        Start { place, time }
+    }
+
+    // The start of the block that the place is in, or the one that was seen where that is later.
+    fn nearest(&self, seen: Start, place: usize) -> Start
+        requires seen { seen.time ≡ end_of 0 (take seen.place self.now) }
+        requires order { seen.place ≤ place }
+        requires within { place ≤ length self.now }
+        ensures order { result.place ≤ place }
+        ensures time { result.time ≡ end_of 0 (take result.place self.now) }
+    {
         let block = place / WORD_BITS;
-        if block >= self.planes.starts.len() {
-            return self.end;
+        if block * WORD_BITS <= seen.place {
+            return seen;
         }
-        let mut start = self.planes.starts[block];
-        for segment in &self.segments[block * WORD_BITS..place] {
-            start += segment.len;
+        match self.planes.starts.get(block) {
+            Some(time) => Start {
+                place: block * WORD_BITS,
+                time: *time,
+            },
+            None => Start {
+                place,
+                time: self.end,
+            },
         }
-        start
     }
 
     /// The bits of the proposition of this number: bit j % 64 of word j / 64 is its value on the

@@ -1,8 +1,14 @@
 mod Deciding
+mod Dumps
+mod Groups
 mod Knowing
+mod Letters
 mod Naming
+mod NoRule
 mod Reading
 mod Rows
 mod Scoping
 mod Signals
+mod TokenRuns
 mod Tokens
+mod WhiteSpace

@@ -1,8 +1,10 @@
 -- What a reader must believe.
 pub mod VcdReading
 pub mod Deciding
+pub mod Dumps
 -- What the functions inside promise each other.
 pub mod Kept
+pub mod Letters
 pub mod Sections
 -- Why the law of the format holds, which its impl cites.
 pub mod Times

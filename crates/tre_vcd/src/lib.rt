@@ -20,8 +20,6 @@ pub mod laws;
 mod past;
 mod scopes;
 mod signal;
-#[cfg(test)]
-mod tests;
 mod token;
 mod token_reader;
 mod vcd_reader;

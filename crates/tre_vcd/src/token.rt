@@ -1,7 +1,7 @@
 // What stands in a token.
-ghost use Rattle.std.specs.Prelude.{◌≡◌, ◌||◌, ◌==◌, not, codes, IfNone, IfSome};
-ghost use Rattle.std.specs.List.{list_any};
-ghost use Rattle.tre_vcd.specs.VcdReading.{is, is_end, is_dump, is_command, is_scalar, is_signal, is_white, ends_true};
+ghost use Rattle.std.specs.Prelude.{◌≡◌, ◌||◌, not, IfNone, IfSome};
+ghost use Rattle.tre_vcd.specs.Letters.{letter_of};
+ghost use Rattle.tre_vcd.specs.VcdReading.{is, is_end, is_dump, is_command, is_signal, is_white, ends_true};
 ghost use Rattle.tre_parts.specs.Walk.{IsInside, EndsAt};
 
 // Whether the token is this word.
@@ -42,18 +42,31 @@ pub fn is_misplaced(token: &[u8]) -> bool
     !is_command(token) || is_end(token) || is_dump(token)
 }
 
-/// Whether a scalar change may begin with this letter.
-pub fn is_scalar(letter: u8) -> bool
-    ensures { result ≡ is_scalar letter }
-{
-    "01xXzZuUwWlLhH-".as_bytes().contains(&letter)
+/// What a token among the values is, by its first byte.
+#[derive(Clone, Copy, Debug, PartialEq, Eq)]
+pub enum Letter {
+    Time,
+    Keyword,
+    Vector,
+    /// Of a real or a string.
+    Number,
+    Scalar,
+    Other,
 }
 
-/// Whether a real or a string begins with this letter.
-pub fn is_number(letter: u8) -> bool
-    ensures { result ≡ list_any (λ other. letter == other) (codes "rRsS") }
+/// What a token is that begins with this byte.
+pub fn letter_of(byte: u8) -> Letter
+    ensures { result ≡ letter_of byte }
 {
-    "rRsS".as_bytes().contains(&letter)
+    match byte {
+        b'0' | b'1' | b'x' | b'X' | b'z' | b'Z' | b'u' | b'U' => Letter::Scalar,
+        b'#' => Letter::Time,
+        b'b' | b'B' => Letter::Vector,
+        b'r' | b'R' | b's' | b'S' => Letter::Number,
+        b'w' | b'W' | b'l' | b'L' | b'h' | b'H' | b'-' => Letter::Scalar,
+        b'$' => Letter::Keyword,
+        _ => Letter::Other,
+    }
 }
 
 /// Whether the value of a vector is true: its last byte is `1`.
@@ -75,7 +88,8 @@ pub fn is_signal(kind: &[u8], size: &[u8]) -> bool
 fn is_white(byte: u8) -> bool
     ensures { result ≡ is_white byte }
 {
-    byte == b' ' || (b'\t' <= byte && byte <= b'\r')
+    // Most bytes are none: one comparison tells.
+    byte <= b' ' && (byte == b' ' || (b'\t' <= byte && byte <= b'\r'))
 }
 
 /// The place of the first white space, where there is some.
@@ -83,10 +97,12 @@ pub fn first_white(bytes: &[u8]) -> Option<usize>
     ensures none { IfNone result (IsInside is_white bytes.now) }
     ensures first { IfSome result (EndsAt is_white bytes.now) }
 {
-    for (place, &byte) in bytes.iter().enumerate() {
-        if is_white(byte) {
+    let mut place = 0;
+    while place < bytes.len() {
+        if is_white(bytes[place]) {
             return Some(place);
         }
+        place += 1;
     }
     None
 }

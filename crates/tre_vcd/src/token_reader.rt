@@ -12,7 +12,7 @@ use crate::command::{Command, command_of};
 use crate::inside::Inside;
 use crate::past::Past;
 use crate::token::{
-    ends_true, first_white, is, is_dump, is_end, is_misplaced, is_number, is_scalar, is_signal,
+    Letter, ends_true, first_white, is, is_dump, is_end, is_misplaced, is_signal, letter_of,
 };
 use std::alloc::{AllocError, Global};
 use tre_pairs::TIME_MAX;
@@ -223,23 +223,17 @@ impl TokenReader {
             return Said::Nothing;
         };
         let letter = *first;
-        if letter == b'#' {
-            return self.read_time(rest);
+        match letter_of(letter) {
+            Letter::Scalar => self.read_scalar(letter, rest),
+            Letter::Time => self.read_time(rest),
+            Letter::Vector => self.read_vector(rest),
+            Letter::Number => {
+                self.inside = Inside::Number;
+                Said::Nothing
+            }
+            Letter::Keyword => self.read_keyword(token),
+            Letter::Other => Said::Wrong(TraceKind::BadToken),
         }
-        if letter == b'$' {
-            return self.read_keyword(token);
-        }
-        if letter == b'b' || letter == b'B' {
-            return self.read_vector(rest);
-        }
-        if is_number(letter) {
-            self.inside = Inside::Number;
-            return Said::Nothing;
-        }
-        if is_scalar(letter) {
-            return self.read_scalar(letter, rest);
-        }
-        Said::Wrong(TraceKind::BadToken)
     }
 
     // Reads a token where nothing is open.

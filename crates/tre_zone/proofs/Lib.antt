@@ -3,6 +3,9 @@ pub mod Durations
 pub mod Spans
 pub mod ZoneKeys
 pub mod ZoneListLemmas
+pub mod HeldSets
+pub mod JoinedPairs
+pub mod LatestEnds
 pub mod Ranges
 pub mod Paths
 pub mod Sums

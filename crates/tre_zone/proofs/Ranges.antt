@@ -16,7 +16,7 @@ below_zero (pos zero) le = refl
 below_zero (pos (suc n)) le = absurd (omega (arith, ints))
 below_zero (negsuc n) le = refl
 
-above_zero : (value : ℤ) → pos 0 ≤ℤ value → value ≡ pos (nat_abs value)
+pub above_zero : (value : ℤ) → pos 0 ≤ℤ value → value ≡ pos (nat_abs value)
 above_zero (pos n) le = refl
 above_zero (negsuc n) le = absurd (omega (arith, ints))
 

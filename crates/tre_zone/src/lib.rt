@@ -16,15 +16,15 @@
 
 pub use bound::Bound;
 pub use interval::Interval;
+pub use latest::latest_end;
 pub use tre_pairs::TIME_MAX;
 pub use zone::Zone;
 pub use zone_bounds::ZoneBounds;
 
 mod bound;
 mod interval;
+mod latest;
 pub mod laws;
 mod longest;
-#[cfg(test)]
-mod tests;
 mod zone;
 mod zone_bounds;

@@ -1,11 +1,13 @@
 -- The members that stay where a zone is added.
-use Rattle.std.proofs.Common.{◌≡◌, ℕ, ◌<◌, ◌≤◌, ◌⊎◌, Bool, true, false, List, [], ◌∷◌, length, Any, refl, sym, subst, inl, inr, ⊎_elim, arith}
+use Rattle.std.proofs.Common.{◌≡◌, ℕ, ◌<◌, ◌≤◌, ◌⊎◌, Bool, true, false, List, [], ◌∷◌, ◌++◌, length, Any, refl, sym, subst, inl, inr, ⊎_elim, arith}
 use Rattle.std.specs.List.{items_where_true}
 use Rattle.std.specs.List.Retain.{ReturnsInTurn, IsFiltered}
-use Rattle.tre_zone.specs.Zone.{ZoneHolds, HoldsSome, Includes}
-use Rattle.tre_zone.specs.ZoneList.{SetHolds, IsApartFrom, IsApart, AreCanonical}
+use Rattle.tre_pairs.specs.Pairs.{Both}
+use Rattle.tre_zone.specs.Zone.{ZoneHolds, HoldsSome, HasNoPair, Includes}
+use Rattle.tre_zone.specs.ZoneList.{SetHolds, IsApartFrom, IsApart, AreCanonical, AreTight}
 use Rattle.tre_zone.specs.declared.zone_bounds.ZoneBounds.{ZoneBounds}
 use Rattle.tre_zone.proofs.Tightness.{canonical-some}
+use Rattle.tre_zone.proofs.ZoneListLemmas.{AreCanonical-tight}
 use Rattle.tre_zoneset.specs.ZoneSet.{IsZoneSet, Without, Stays}
 use Rattle.tre_zoneset.proofs.Members.{Any-head, Any-tail}
 
@@ -138,3 +140,42 @@ IsApartFrom-disjoint zone (other ∷ zones) never some all =
       },
       IsApartFrom-disjoint zone zones (λ a b n pos le x. never a b n pos le (inr x)) some all.1,
     )
+
+-- ---- sets that share no pair
+
+IsApartFrom-append : (zone : ZoneBounds) (left right : List ZoneBounds) → IsApartFrom zone left
+    → IsApartFrom zone right → IsApartFrom zone (left ++ right)
+unfolding IsApartFrom
+IsApartFrom-append zone [] right first second = second
+IsApartFrom-append zone (other ∷ left) right first second =
+    (first.0, IsApartFrom-append zone left right first.1 second)
+
+pub IsApart-append : (left right : List ZoneBounds) → IsApart left → IsApart right
+    → AreTight left → AreCanonical right
+    → ((a b n : ℕ) → 0 < n → a ≤ b → SetHolds left a b n → SetHolds right a b n → ⊥)
+    → IsApart (left ++ right)
+unfolding IsApart AreTight SetHolds
+IsApart-append [] right first second tight canonical none = second
+IsApart-append (zone ∷ left) right first second tight canonical none = (
+  IsApartFrom-append zone left right first.0
+      (IsApartFrom-disjoint zone right (λ a b n some le x y. none a b n some le (inl y) x)
+      tight.0.0 canonical),
+  IsApart-append left right first.1 second tight.1 canonical
+      (λ a b n some le x y. none a b n some le (inr x) y),
+)
+
+pub AreCanonical-append : (left right : List ZoneBounds) → AreCanonical left → AreCanonical right
+    → AreCanonical (left ++ right)
+unfolding AreCanonical
+AreCanonical-append [] right first second = second
+AreCanonical-append (zone ∷ left) right first second =
+    (first.0, AreCanonical-append left right first.1 second)
+
+pub IsZoneSet-append : (left right : List ZoneBounds) → IsZoneSet left → IsZoneSet right
+    → HasNoPair (Both (SetHolds left) (SetHolds right)) → IsZoneSet (left ++ right)
+IsZoneSet-append left right first second none = record {
+  apart = IsApart-append left right first.apart second.apart
+      (AreCanonical-tight left first.canonical) second.canonical
+      (λ a b n some le x y. none.never a b n some le (record { left = x; right = y }));
+  canonical = AreCanonical-append left right first.canonical second.canonical;
+}

@@ -5,3 +5,4 @@ pub mod Rising
 pub mod Thinning
 pub mod Searching
 pub mod Short
+pub mod Stretches

@@ -83,6 +83,11 @@ module _ (F : Pairs → Pairs) (additive : IsAdditive F) (start zones now : List
       (pass d from (to - from)
       (subst (λ k. HasNone (map row_of zones) key from k) (sym same) none) old)
 
+  -- None of the first zones was found.
+  pub HoldsFirst-passed : (d : ZoneBounds) (to : ℕ) → HasNone (map row_of zones) key 0 to
+      → HoldsFirst F start zones 0 now → HoldsFirst F start zones to now
+  HoldsFirst-passed d to none old = pass_to d 0 to (omega arith) none old
+
   -- After the last that was found there is no other.
   pub HoldsFirst-end : (from : ℕ) → length zones ≤ from → HoldsFirst F start zones from now
       → HoldExactly now (Either (SetHolds start) (F (SetHolds zones)))

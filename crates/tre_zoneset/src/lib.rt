@@ -17,6 +17,4 @@
 pub use zone_set::{ZoneSet, are_few, gather, index_of};
 
 mod rise;
-#[cfg(test)]
-mod tests;
 mod zone_set;

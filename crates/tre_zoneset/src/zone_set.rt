@@ -1,21 +1,25 @@
-ghost use Rattle.std.specs.Prelude.{◌≡◌, ℕ, ◌+◌, ◌<◌, ◌≤◌, ◌↔◌, false, true, IsTrue, OnOk, OnErr, IfOk, Any, [], ◌∷◌, ◌++◌, take, vec_len, vec_capacity, pos, ◌≤ℤ◌, ◌^◌};
+ghost use Rattle.std.specs.Prelude.{◌≡◌, ℕ, ◌+◌, ◌<◌, ◌≤◌, ◌↔◌, false, true, IsTrue, OnOk, OnErr, IfOk, Any, [], ◌∷◌, ◌++◌, take, map, vec_len, vec_capacity, pos, ◌≤ℤ◌, ◌^◌};
 ghost use Rattle.tre_pairs.specs.Pairs.{Either, Both, Lasting};
 ghost use Rattle.tre_zone.specs.Interval.{LastsWithin};
 ghost use Rattle.tre_zone.specs.Longest.{LastsUpTo, IsLongest};
-ghost use Rattle.tre_zone.specs.Zone.{ZoneHolds, Includes, HasNoPair, EndsAt};
+ghost use Rattle.tre_zone.specs.Zone.{ZoneHolds, Includes, HasNoPair, EndsAt, row_of};
 ghost use Rattle.tre_zone.specs.ZoneList.{SetHolds, IsApartFrom, AreCanonical, AreTight, HoldExactly};
+ghost use Rattle.tre_index.specs.Turn.{AreInTurn};
 ghost use Rattle.tre_zoneset.specs.ZoneSet.{IsZoneSet, Without, Stays, IsAdded, FoundHolds, IsThinned, IsKept};
 ghost use Rattle.tre_zoneset.specs.Short.{AreUpTo, AreWithin, IsWithin};
 
 use crate::rise::all_rise;
 use std::alloc::{AllocError, Global};
 use std::marker::Model;
-use tre_index::{ZoneIndex, key_meeting};
+use tre_index::{ZoneIndex, are_in_turn, find_stretch, key_meeting};
 use tre_pairs::TIME_MAX;
 use tre_zone::{Interval, Zone};
 
 /// So few zones are looked at one by one, without an index.
 const FEW: usize = 8;
+
+// How many looks for each zone are no dearer than an index.
+const LOOKS_PER_ZONE: usize = 8;
 
 /// A finite union of zones, none of which is included in another.
 #[derive(Debug, Drop)]
@@ -165,18 +169,27 @@ impl ZoneSet {
         Ok(())
     }
 
+    /// `join`, for a set that shares no pair with this one: its zones come last, as they stand.
+    pub fn join_disjoint(&mut self, other: &ZoneSet) -> Result<(), AllocError>
+        requires { HasNoPair (Both (SetHolds self.old) (SetHolds other.now)) }
+        ensures ok { OnOk result (self.new ≡ self.old ++ other.now) }
+        ensures held { OnOk result
+            (HoldExactly self.new (Either (SetHolds self.old) (SetHolds other.now))) }
+        ensures err { OnErr result (self.new ≡ self.old) }
+    {
+        // For the proof: what the set is before the call.
+        let _zones = &self.zones;
+        self.zones.extend_from_slice(other.zones())?;
+        Ok(())
+    }
+
     /// The pairs in both sets.
     pub fn meet(&self, other: &ZoneSet) -> Result<ZoneSet, AllocError>
         ensures { IfOk result (λ set.
             HoldExactly set (Both (SetHolds self.now) (SetHolds other.now))) }
     {
         let alloc = *self.zones.allocator();
-        if self.is_empty() || are_few(other.zones()) {
-            let found = meets_of(alloc, self.zones(), other.zones())?;
-            let met = ZoneSet::of_zones(alloc, found)?;
-            return Ok(met);
-        }
-        let found = meets_by_index(alloc, self.zones(), other.zones())?;
+        let found = meets_of(alloc, self.zones(), other.zones())?;
         let met = ZoneSet::of_zones(alloc, found)?;
         Ok(met)
     }
@@ -337,14 +350,71 @@ fn is_within(zone: &Zone, interval: &Interval) -> bool
 
 // What the zones have in common with the others, two by two.
 fn meets_of(alloc: Global, zones: &[Zone], others: &[Zone]) -> Result<Vec<Zone>, AllocError>
+    requires { AreCanonical others.now }
+    ensures { IfOk result (λ found.
+        HoldExactly found.items (Both (SetHolds zones.now) (SetHolds others.now))) }
+{
+    if are_in_turn(others) && is_short_pass(zones, others) {
+        return meets_in_turn(alloc, zones, others);
+    }
+    meets_by_index(alloc, zones, others)
+}
+
+// Whether one pass over both looks at few zones, for each of all. Where many begin together and
+// differ by their ends or durations alone, it would look at most of them in vain.
+fn is_short_pass(zones: &[Zone], others: &[Zone]) -> bool
+    requires { AreInTurn (map row_of others.now) }
+{
+    let few = zones
+        .len()
+        .saturating_add(others.len())
+        .saturating_mul(LOOKS_PER_ZONE);
+    let mut near = 0;
+    let mut looks: usize = 0;
+    for zone in zones {
+        let stretch = find_stretch(others, near, &key_meeting(zone));
+        looks = looks.saturating_add(stretch.to - stretch.from);
+        if looks > few {
+            return false;
+        }
+        near = stretch.from;
+    }
+    true
+}
+
+// What the zones have in common with the others, which stand in the order of time: one pass over
+// both.
+fn meets_in_turn(alloc: Global, zones: &[Zone], others: &[Zone]) -> Result<Vec<Zone>, AllocError>
+    requires turn { AreInTurn (map row_of others.now) }
+    requires others { AreCanonical others.now }
     ensures { IfOk result (λ found.
         HoldExactly found.items (Both (SetHolds zones.now) (SetHolds others.now))) }
 {
     let mut found = Vec::new(alloc);
+    let mut near = 0;
     for zone in zones {
-        gather_each_meet(&mut found, zone, others)?;
+        near = gather_near_meets(&mut found, zone, others, near)?;
     }
     Ok(found)
+}
+
+// Adds what the zone has in common with the others to a list: by looking at those around the place
+// `near` that begin when it does. Gives the place of the first of them.
+fn gather_near_meets(
+    found: &mut Vec<Zone>,
+    zone: &Zone,
+    others: &[Zone],
+    near: usize,
+) -> Result<usize, AllocError>
+    requires turn { AreInTurn (map row_of others.now) }
+    requires others { AreCanonical others.now }
+    ensures { OnOk result (HoldExactly found.new.items
+        (Either (SetHolds found.old.items) (Both (ZoneHolds zone.now) (SetHolds others.now)))) }
+{
+    let key = key_meeting(zone);
+    let stretch = find_stretch(others, near, &key);
+    gather_each_meet(found, zone, &others[stretch.from..stretch.to])?;
+    Ok(stretch.from)
 }
 
 // Adds what the zone has in common with each of the others to a list: by looking at each.

@@ -1,10 +1,9 @@
 use Rattle.std.proofs.Common.{◌∙◌, ap, sym, subst}
 use Rattle.tre_pairs.specs.Pairs.{Either}
-use Rattle.tre_residual.specs.Residual.{Held}
+use Rattle.tre_zone.specs.Held.{Held, IsSetOf}
 use Rattle.tre_syntax.specs.Expr.{tree_of}
 use Rattle.tre_mark.specs.MarkTree.{MarkTree, atom_mark}
 use Rattle.tre_advance.specs.Moves.{StepsTo}
-use Rattle.tre_advance.specs.Sets.{IsSetOf}
 use Rattle.tre_advance.proofs.AtomForms.{literal_steps_to}
 use Rattle.tre_advance.proofs.atoms.step_literal.Goals as goal
 

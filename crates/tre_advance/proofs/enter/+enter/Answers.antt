@@ -1,7 +1,7 @@
 -- Each form is entered as its parts are.
 use Rattle.std.proofs.Common.{◌≡◌, ◌∙◌, List, ap, refl, sym, subst}
 use Rattle.std.proofs.lemmas.Result.{IfOk-weaker}
-use Rattle.tre_residual.specs.Residual.{Held}
+use Rattle.tre_zone.specs.Held.{Held, IsSetOf}
 use Rattle.tre_zone.specs.declared.zone_bounds.ZoneBounds.{ZoneBounds}
 use Rattle.tre_syntax.specs.Expr.{tree_of}
 use Rattle.tre_syntax.specs.PatternTree.{sequence, alternation, intersection, repetition, restriction}
@@ -9,7 +9,6 @@ use Rattle.tre_mark.specs.MarkTree.{MarkTree, mark_of, sequence_mark, alternatio
 use Rattle.tre_mark.specs.Marked.{IsWellAt}
 use Rattle.tre_edges.specs.Piece.{end_of_piece}
 use Rattle.tre_advance.specs.Moves.{EntersTo}
-use Rattle.tre_advance.specs.Sets.{IsSetOf}
 use Rattle.tre_advance.proofs.Going.{alone}
 use Rattle.tre_advance.proofs.Steps.{Followed, begins_of}
 use Rattle.tre_advance.proofs.CallForms.{IfOk-both, nothing_enters_to, enters_moved, repetition_enters_to}

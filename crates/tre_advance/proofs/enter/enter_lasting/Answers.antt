@@ -14,11 +14,13 @@ returns c tree well begins =
     let zones = c.args.zones.now in
     let begun = c.args.begun in
     let old = instances_before c.args.instances restriction_none in
+    let to = c.entered_by-to.result in
     let kept = c.in_ok-kept.kept in
     let new = instances_before kept.rest restriction_none in
     enters_united c.in_ok-told.ensures
     (lasting_enters piece tree interval zones begun.told kept.told.items old
-    (mark_of begun.rest) new c.requires.enter c.requires.some well begins
+    (mark_of begun.rest) new c.requires.enter c.requires.some to
+    c.entered_by-to.ensures.latest well begins
     (subst (λ (list : List ZoneBounds). KeepsLasting interval (end_of_piece piece) list old
-    piece.begin (end_of_piece piece) zones begun.told (mark_of begun.rest) kept.told.items new)
+    to zones begun.told (mark_of begun.rest) kept.told.items new)
     c.new.ensures.items c.in_ok-kept.ensures))

@@ -10,7 +10,7 @@ returns c =
     c.in_ok-push.ensures.pushed intersection_none
     ∙ ap (λ end. instances_before c.args.instances end)
     (c.in_ok-instance.ensures intersection_none
-    ∙ ap (λ outer. intersection_one c.args.from c.args.to outer left right intersection_none)
+    ∙ ap (λ outer. intersection_one c.args.to outer left right intersection_none)
     c.in_ok-outer.ensures)
     ∙ joined_instances c.args.instances intersection_none end_intersection
-    (intersection_one c.args.from c.args.to c.args.outer.now left right intersection_none)
+    (intersection_one c.args.to c.args.outer.now left right intersection_none)

@@ -9,7 +9,7 @@ returns c =
     c.in_ok-push.ensures.pushed restriction_none
     ∙ ap (λ end. instances_before c.args.instances end)
     (c.in_ok-instance.ensures restriction_none
-    ∙ ap (λ outer. restriction_one c.args.from c.args.to outer body restriction_none)
+    ∙ ap (λ outer. restriction_one c.args.to outer body restriction_none)
     c.in_ok-outer.ensures)
     ∙ joined_instances c.args.instances restriction_none end_restriction
-    (restriction_one c.args.from c.args.to c.args.outer.now body restriction_none)
+    (restriction_one c.args.to c.args.outer.now body restriction_none)

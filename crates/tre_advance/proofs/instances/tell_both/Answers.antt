@@ -1,5 +1,5 @@
 use Rattle.std.proofs.lemmas.Result.{IfOk-weaker}
-use Rattle.tre_residual.specs.Residual.{Held}
+use Rattle.tre_zone.specs.Held.{Held}
 use Rattle.tre_mark.proofs.Agreeing.{agree_refl, agree_then, agree_composed, agree_either}
 use Rattle.tre_advance.proofs.SetsOf.{set_agrees, set_of}
 use Rattle.tre_advance.proofs.instances.tell_both.Goals as goal

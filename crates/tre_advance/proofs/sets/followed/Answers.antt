@@ -1,6 +1,7 @@
 use Rattle.std.proofs.Common.{◌*◌}
 use Rattle.std.proofs.lemmas.Result.{IfOk-weaker}
-use Rattle.tre_advance.proofs.SetsOf.{set_none, no_pair, composed_set}
+use Rattle.tre_zone.proofs.HeldSets.{composed_set}
+use Rattle.tre_advance.proofs.SetsOf.{set_none, no_pair}
 use Rattle.tre_advance.proofs.sets.followed.Goals.{then-is_empty-via-then-is_empty, then-is_empty-via-else-is_empty+then-is_empty-2}
 use Rattle.tre_advance.proofs.sets.followed.Goals as goal
 
@@ -17,5 +18,6 @@ returns-then-is_empty c =
 
 pub returns : goal.returns
 returns c = IfOk-weaker c.compose_sets.result _ _
-    (λ zones held. composed_set c.args.first.now c.args.second.now zones c.zones-first.ensures.set
-    c.zones-second.ensures.set held) c.compose_sets.ensures
+    (λ zones held. composed_set c.args.first.now c.args.second.now zones
+    c.zones-first.ensures.set.canonical c.zones-second.ensures.set.canonical held)
+    c.compose_sets.ensures

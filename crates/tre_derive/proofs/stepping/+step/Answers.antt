@@ -2,7 +2,8 @@
 use Rattle.std.proofs.Common.{◌≡◌, ap, sym, subst}
 use Rattle.std.proofs.lemmas.Result.{IfOk-weaker}
 use Rattle.tre_syntax.specs.Expr.{tree_of}
-use Rattle.tre_residual.specs.Residual.{ResidualTree, nothing, here, joined, preceded, followed, either, both, lasting, residual_tree, IsWell}
+use Rattle.tre_mark.specs.MarkTree.{mark_of}
+use Rattle.tre_residual.specs.Residual.{ResidualTree, nothing, here, joined, preceded, followed, either, both, lasting, marked, residual_tree, IsWell}
 use Rattle.tre_derive.specs.Derivative.{StepsTo}
 use Rattle.tre_derive.proofs.StepsOfForms.{step_nothing, step_here}
 use Rattle.tre_derive.proofs.stepping.+step.Goals as goal
@@ -96,3 +97,14 @@ returns-in_ok-inner-in-Dur t c =
     StepsTo whole c.args.piece.now stepped.told (residual_tree stepped.rest)) (sym tree)
     (steps inner c.args.piece.now c.in_ok-inner-in-Dur.ensures))
     c.restrict.ensures
+
+pub returns-in-Mark : goal.returns-in-Mark
+returns-in-Mark t c =
+    let form = marked (mark_of c.deref-in-Mark.result.now) (tree_of c.in-Mark.expr) in
+    let tree : residual_tree c.args.residual.now ≡ form =
+    rw c.deref-in-Mark.ensures (ap residual_tree c.in-Mark.is) in
+    IfOk-weaker c.go_on.result _ _
+    (λ stepped steps.
+    subst (λ (whole : ResidualTree).
+    StepsTo whole c.args.piece.now stepped.told (residual_tree stepped.rest)) (sym tree) steps)
+    c.go_on.ensures

@@ -1,4 +1,4 @@
-use Rattle.std.proofs.Common.{◌+◌, length, ap, arith, inr, ⊎_elim}
+use Rattle.std.proofs.Common.{◌+◌, length, refl, ap, arith, inr, ⊎_elim}
 use Rattle.tre_state.specs.State.{tree_of}
 use Rattle.tre_zone.proofs.ZoneListLemmas.{SetHolds-empty}
 use Rattle.tre_edges.proofs.EndsOfLists.{EndBefore-empty, EndBefore-later}
@@ -16,6 +16,8 @@ loop-at-init c =
         λ either. ⊎_elim (λ held. absurd (SetHolds-empty a b n held)) (λ rest. rest) either,
       );
       instants = AreInstants-empty 0;
+      passed = omega arith;
+      seen = refl;
       ended = λ _. EndBefore-empty 0;
       calm = λ _ none. absurd none;
     })
@@ -34,7 +36,7 @@ pub add_edge-requires-clause-ended : goal.add_edge-requires-clause-ended
 add_edge-requires-clause-ended c =
     let trace = c.args.trace.now in
     let count = ap length c.segments-count.ensures.segments in
-    rw c.start_of.ensures
+    rw c.start_from-seen.ensures.time
     (EndBefore-later (time_of trace c.loop-at.at) (time_of trace c.next_place-turn.result)
     (time_of-mono trace c.loop-at.at c.next_place-turn.result
     (omega (arith, c.next_place-other.ensures.late, c.next_place-turn.ensures.late)))
@@ -44,7 +46,7 @@ pub add_edge-requires-clause-limit : goal.add_edge-requires-clause-limit
 add_edge-requires-clause-limit c =
     omega (
       arith,
-      c.start_of.ensures,
+      c.start_from-seen.ensures.time,
       time_of-limit c.args.trace.now c.next_place-turn.result c.segments-count.ensures.trace,
     )
 
@@ -61,7 +63,7 @@ loop-at-preserved c =
     let last =
     rw (c.deref-in-loop-at.ensures.value, c.segments-count.ensures.segments) at
     c.next_place-turn.ensures in
-    let held = rw (c.start_of.ensures, c.segments-count.ensures.segments) at
+    let held = rw (c.start_from-seen.ensures.time, c.segments-count.ensures.segments) at
     c.in_ok-add_edge.ensures.held in
     record {
       exact = λ a b n some rising.
@@ -70,10 +72,12 @@ loop-at-preserved c =
           _ (lt_test turn (length trace)) c.loop-at.invariant.calm a b n)
           (held.exact a b n some rising);
       instants = c.in_ok-add_edge.ensures.instants;
+      passed = omega (arith, c.start_from-seen.ensures.place);
+      seen = rw c.start_from-seen.ensures.place c.start_from-seen.ensures.time;
       ended = λ inside.
           EndBefore-later (time_of trace turn + 1) (time_of trace (turn + 1))
           (later trace turn (omega (arith, inside)) c.segments-count.ensures.trace) _
-          (rw c.start_of.ensures at c.in_ok-add_edge.ensures.ended);
+          (rw c.start_from-seen.ensures.time at c.in_ok-add_edge.ensures.ended);
       calm = λ inside.
           calm_then state trace words truth c.args.becomes c.loop-at.at other turn first last
           (omega (arith, inside));

@@ -1,4 +1,4 @@
-use Rattle.std.proofs.Common.{ℕ, ◌-◌, ◌<◌, ◌≤◌, ◌↔◌, ◌⊎◌, length, not, IsSomeAnd}
+use Rattle.std.proofs.Common.{◌≡◌, ℕ, ◌-◌, ◌<◌, ◌≤◌, ◌↔◌, ◌⊎◌, length, not, IsSomeAnd}
 use Rattle.tre_state.specs.State.{tree_of}
 use Rattle.tre_syntax.specs.Rest.{whole}
 use Rattle.tre_zone.specs.ZoneList.{SetHolds}
@@ -19,6 +19,8 @@ invariant-loop-at l =
           → ComesTo l.becomes (tree_of l.state) (whole l.trace) a b n
           ↔ (SetHolds l.zones a b n ⊎ EdgesFrom is_other is l.trace l.at a b n);
       instants : AreInstants 0 l.zones;
+      passed : l.seen.place ≤ l.at;
+      seen : l.seen.time ≡ time_of l.trace l.seen.place;
       ended : l.at < length l.trace → EndBefore (time_of l.trace l.at) l.zones;
       calm : l.at < length l.trace → IsSomeAnd (before_at l.trace l.at) is_other → ⊥;
     }

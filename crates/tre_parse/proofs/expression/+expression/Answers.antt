@@ -1,43 +1,82 @@
-use Rattle.std.proofs.Common.{arith, ◌∙◌, ◌∷◌, refl, ap}
+use Rattle.std.proofs.Common.{None, length, subst, arith, ◌∙◌, ◌∷◌, refl, sym, ap}
 use Rattle.std.proofs.lemmas.Result.{err_from_is_err_and}
-use Rattle.tre_syntax.specs.PatternTree.{atom, empty}
+use Rattle.tre_syntax.specs.PatternTree.{PatternTree, atom, empty, sequence, alternation, repetition, restriction}
 use Rattle.tre_parse.specs.declared.token.Token.TheVariants.{Eps, LeftParen, RightParen, Star, Plus, Question, Percent}
-use Rattle.tre_parse.specs.Joins.{join_sign}
+use Rattle.tre_parse.specs.declared.connective.Join.TheVariants.{Alternation}
+use Rattle.tre_parse.specs.Front.{front}
+use Rattle.tre_parse.specs.Joins.{joined_by, join_sign}
+use Rattle.tre_parse.specs.Reader.{got, give, expect, expression_by, expression_after, operand, operand_after, unsigned, of_interval, expression_part, run, read, read_pattern}
 use Rattle.tre_parse.proofs.Counts.{leaf_counts}
-use Rattle.tre_parse.proofs.Steps.{goes_past, one_shorter}
-use Rattle.tre_parse.proofs.ExpressionSteps.{star_sign, plus_sign, question_sign, percent_sign, star_refuses, plus_refuses, question_refuses, percent_refuses, percent_stop, first_part, more_parts, stop_parts, first_operand, more_operand, stop_operand, more_refuses, parens_read, parens_stop, parens_open, parens_refuse, eps_reads, eps_refuses}
+use Rattle.tre_parse.proofs.Equations.{not_sign, passed, unpassed, expression_begins, expression_goes_on, expression_ends, operand_begins, star_read, plus_read, question_read, percent_read, operand_ends, ends_stop, eps_read, parens_read, no_sign_behind}
+use Rattle.tre_parse.proofs.Steps.{goes_past, one_shorter, goes_here, goes_first, goes_turned, goes_on, goes_joined, stops_first, stops_joined, stops_at}
+use Rattle.tre_parse.specs.Tokens.{earlier}
+use Rattle.tre_parse.specs.Unkept.{FindsUpTo, unkept_at}
+use Rattle.tre_parse.proofs.Unkept.{earlier_none, up_to_past, up_to_end, up_to_joined, up_to_interval, join_no_percent}
 use Rattle.tre_parse.proofs.expression.+expression.Goals as goal
 
+pub expression-returns-in_err-whole-clause-reads : goal.expression-returns-in_err-whole-clause-reads
+expression-returns-in_err-whole-clause-reads t c =
+    let p = err_from_is_err_and c.from_residual.result c.from_residual.ensures.1 in
+    rw (p.1, p.2) (stops_first (read_pattern (expression_part c.args.how) c.args.tokens.now)
+    (read_pattern (expression_by c.args.how) c.args.tokens.now) c.in_err-whole.field-0.0
+    c.part.new.tokens (λ e us. read_pattern (expression_after c.args.how e) us)
+    (expression_begins c.args.how c.args.tokens.now) c.in_err-whole.ensures.reads)
+
 pub expression-loop-alloc-init : goal.expression-loop-alloc-init
-expression-loop-alloc-init t c =
-    record {
-      reads = first_part c.args.how c.in_ok-whole.whole c.args.tokens.now c.part.new.tokens
-          c.in_ok-whole.ensures.reads;
-      shorter = c.in_ok-whole.ensures.shorter;
-      ends =
-          c.in_ok-whole.ensures.ends;
-    }
+expression-loop-alloc-init t c = record {
+  reads = goes_first (read_pattern (expression_by c.args.how) c.args.tokens.now)
+      (λ e us. read_pattern (expression_after c.args.how e) us)
+      (expression_begins c.args.how c.args.tokens.now) c.in_ok-whole.ensures.reads;
+  shorter = c.in_ok-whole.ensures.shorter;
+  unkept = c.in_ok-whole.ensures.unkept;
+}
 
 pub expression-returns-in_err-next-clause-reads : goal.expression-returns-in_err-next-clause-reads
 expression-returns-in_err-next-clause-reads t c =
     let e = c.loop-alloc-test.ensures ∙ ap (λ s. s ∷ c.accept.new.self) c.sign.ensures in
     let p = err_from_is_err_and c.from_residual-in_err-next.result
     c.from_residual-in_err-next.ensures.1 in
-    rw (p.1, p.2) (stop_parts c.args.how c.in_err-next.field-0.0 c.loop-alloc.whole
-    c.args.tokens.now c.loop-alloc.tokens c.accept.new.self c.loop-alloc.invariant.reads e
-    c.in_err-next.ensures.reads)
+    rw (p.1, p.2) (stops_joined (read_pattern (expression_part c.args.how) c.accept.new.self)
+    c.in_err-next.field-0.0 c.part-in-loop-alloc.new.tokens
+    (λ x y us. read_pattern (expression_after c.args.how (joined_by c.args.how x y)) us)
+    c.loop-alloc.invariant.reads
+    (λ x. ap (λ ts. read_pattern (expression_after c.args.how x) ts) e
+    ∙ expression_goes_on c.args.how x c.accept.new.self) c.in_err-next.ensures.reads)
 
 pub expression-loop-alloc-preserved : goal.expression-loop-alloc-preserved
 expression-loop-alloc-preserved t c =
     let e = c.loop-alloc-test.ensures ∙ ap (λ s. s ∷ c.accept.new.self) c.sign.ensures in
     let n = one_shorter c.loop-alloc.tokens c.accept.new.self (join_sign c.args.how) e in
     record {
-      reads = more_parts c.args.how c.loop-alloc.whole c.in_ok-next.next c.in_ok-whole-2.whole
-          c.args.tokens.now c.loop-alloc.tokens c.accept.new.self c.part-in-loop-alloc.new.tokens
-          c.loop-alloc.invariant.reads e c.in_ok-next.ensures.reads c.in_ok-whole-2.ensures;
+      reads = goes_joined c.in_ok-whole-2.whole
+          (λ x. read_pattern (expression_after c.args.how x) c.part-in-loop-alloc.new.tokens)
+          (joined_by c.args.how)
+          (λ x y us. read_pattern (expression_after c.args.how (joined_by c.args.how x y)) us)
+          c.loop-alloc.invariant.reads c.in_ok-next.ensures.reads c.in_ok-whole-2.ensures.stands
+          (λ x. ap (λ ts. read_pattern (expression_after c.args.how x) ts) e
+          ∙ expression_goes_on c.args.how x c.accept.new.self) (λ x y. refl);
       shorter = omega (arith, n, c.in_ok-next.ensures.shorter, c.loop-alloc.invariant.shorter);
-      ends = c.in_ok-next.ensures.ends;
+      unkept = up_to_joined c.args.tokens.now c.loop-alloc.tokens c.part-in-loop-alloc.new.tokens
+          c.loop-alloc.whole.unkept c.in_ok-next.next.unkept c.in_ok-whole-2.whole.unkept
+          c.loop-alloc.invariant.unkept
+          (up_to_past (join_sign c.args.how) c.loop-alloc.tokens c.accept.new.self
+          c.part-in-loop-alloc.new.tokens c.in_ok-next.next.unkept e
+          (join_no_percent c.args.how) c.in_ok-next.ensures.unkept)
+          c.in_ok-whole-2.ensures.unkept;
     }
+
+pub expression-returns-clause-reads : goal.expression-returns-clause-reads
+expression-returns-clause-reads t c =
+    let h = c.loop-alloc-test.ensures in
+    let n = not_sign (join_sign c.args.how) (front c.loop-alloc.tokens)
+    (λ q. h.1 (q ∙ sym c.sign.ensures)) in
+    goes_on (λ e. got e c.accept.new.self) c.loop-alloc.invariant.reads
+    (λ e. expression_ends c.args.how e c.loop-alloc.tokens n ∙ ap (λ ts. got e ts) (sym h.0))
+
+pub expression-returns-clause-unkept : goal.expression-returns-clause-unkept
+expression-returns-clause-unkept t c =
+    subst (λ ts. FindsUpTo c.args.tokens.now ts c.loop-alloc.whole.unkept)
+    (sym c.loop-alloc-test.ensures.0) c.loop-alloc.invariant.unkept
 
 pub primary-expression-requires : goal.primary-expression-requires
 primary-expression-requires t c =
@@ -52,8 +91,12 @@ primary-returns-in_err-inside-in-LeftParen-clause-reads t c =
     let e = goes_past c.args.tokens.now c.advance-in-LeftParen.new.self LeftParen
     c.in-LeftParen.ensures (λ q. cc) c.advance-in-LeftParen.ensures in
     let p = err_from_is_err_and c.from_residual.result c.from_residual.ensures.1 in
-    rw (p.1, p.2) (parens_stop c.in_err-inside-in-LeftParen.field-0.0 c.args.tokens.now
-    c.advance-in-LeftParen.new.self e c.in_err-inside-in-LeftParen.ensures.reads)
+    rw (p.1, p.2) (stops_first
+    (read_pattern (expression_by Alternation) c.advance-in-LeftParen.new.self)
+    (read_pattern unsigned c.args.tokens.now) c.in_err-inside-in-LeftParen.field-0.0
+    c.expression.new.tokens (λ x us. run read (expect RightParen (give x)) us)
+    (ap (λ ts. read_pattern unsigned ts) e ∙ parens_read c.advance-in-LeftParen.new.self)
+    c.in_err-inside-in-LeftParen.ensures.reads)
 
 pub primary-returns-in_err-expect-in-LeftParen-clause-reads
     : goal.primary-returns-in_err-expect-in-LeftParen-clause-reads
@@ -62,19 +105,27 @@ primary-returns-in_err-expect-in-LeftParen-clause-reads t c =
     c.in-LeftParen.ensures (λ q. cc) c.advance-in-LeftParen.ensures in
     let p = err_from_is_err_and c.from_residual-in_err-expect-in-LeftParen.result
     c.from_residual-in_err-expect-in-LeftParen.ensures.1 in
-    rw (p.1, p.2) (parens_open c.in_err-expect-in-LeftParen.field-0.0
-    c.in_ok-inside-in-LeftParen.inside c.args.tokens.now c.advance-in-LeftParen.new.self
-    c.expression.new.tokens e c.in_ok-inside-in-LeftParen.ensures.reads
-    c.in_ok-inside-in-LeftParen.ensures.ends c.in_err-expect-in-LeftParen.ensures)
+    let stopped = λ (x : PatternTree). unpassed RightParen (give x)
+    c.in_err-expect-in-LeftParen.field-0.0 c.expression.new.tokens c.expect.new.self
+    c.in_err-expect-in-LeftParen.ensures in
+    rw (p.1, p.2) (stops_at c.in_err-expect-in-LeftParen.field-0.0 c.expect.new.self
+    (goes_first (read_pattern unsigned c.args.tokens.now)
+    (λ x us. run read (expect RightParen (give x)) us)
+    (ap (λ ts. read_pattern unsigned ts) e ∙ parens_read c.advance-in-LeftParen.new.self)
+    c.in_ok-inside-in-LeftParen.ensures.reads) (stopped (atom empty)).0 (λ x. (stopped x).1))
 
 pub primary-returns-in_ok-expect-in-LeftParen-clause-reads
     : goal.primary-returns-in_ok-expect-in-LeftParen-clause-reads
 primary-returns-in_ok-expect-in-LeftParen-clause-reads t c =
     let e = goes_past c.args.tokens.now c.advance-in-LeftParen.new.self LeftParen
     c.in-LeftParen.ensures (λ q. cc) c.advance-in-LeftParen.ensures in
-    parens_read c.in_ok-inside-in-LeftParen.inside c.args.tokens.now c.advance-in-LeftParen.new.self
-    c.expression.new.tokens c.expect.new.self e c.in_ok-inside-in-LeftParen.ensures.reads
-    c.in_ok-expect-in-LeftParen.ensures
+    goes_on (λ x. got x c.expect.new.self)
+    (goes_first (read_pattern unsigned c.args.tokens.now)
+    (λ x us. run read (expect RightParen (give x)) us)
+    (ap (λ ts. read_pattern unsigned ts) e ∙ parens_read c.advance-in-LeftParen.new.self)
+    c.in_ok-inside-in-LeftParen.ensures.reads)
+    (λ x. passed RightParen (give x) c.expression.new.tokens c.expect.new.self refl
+    c.in_ok-expect-in-LeftParen.ensures)
 
 pub primary-returns-in_ok-expect-in-LeftParen-clause-shorter
     : goal.primary-returns-in_ok-expect-in-LeftParen-clause-shorter
@@ -86,52 +137,64 @@ primary-returns-in_ok-expect-in-LeftParen-clause-shorter t c =
     c.in_ok-expect-in-LeftParen.ensures in
     omega (arith, n, m, c.in_ok-inside-in-LeftParen.ensures.shorter)
 
-pub primary-returns-in_ok-expect-in-LeftParen-clause-ends
-    : goal.primary-returns-in_ok-expect-in-LeftParen-clause-ends
-primary-returns-in_ok-expect-in-LeftParen-clause-ends t c =
+pub primary-returns-in_ok-expect-in-LeftParen-clause-unkept
+    : goal.primary-returns-in_ok-expect-in-LeftParen-clause-unkept
+primary-returns-in_ok-expect-in-LeftParen-clause-unkept t c =
     let e = goes_past c.args.tokens.now c.advance-in-LeftParen.new.self LeftParen
     c.in-LeftParen.ensures (λ q. cc) c.advance-in-LeftParen.ensures in
-    parens_refuse c.in_ok-inside-in-LeftParen.inside c.args.tokens.now
-    c.advance-in-LeftParen.new.self c.expression.new.tokens c.expect.new.self e
-    c.in_ok-inside-in-LeftParen.ensures.reads c.in_ok-expect-in-LeftParen.ensures
+    up_to_end RightParen c.args.tokens.now c.expression.new.tokens c.expect.new.self
+    c.in_ok-inside-in-LeftParen.inside.unkept c.in_ok-inside-in-LeftParen.inside.unkept
+    (up_to_past LeftParen c.args.tokens.now c.advance-in-LeftParen.new.self
+    c.expression.new.tokens c.in_ok-inside-in-LeftParen.inside.unkept e (λ q. cc)
+    c.in_ok-inside-in-LeftParen.ensures.unkept) c.in_ok-expect-in-LeftParen.ensures
+    (λ q. cc) refl
+
+pub primary-returns-in-Eps-clause-unkept : goal.primary-returns-in-Eps-clause-unkept
+primary-returns-in-Eps-clause-unkept t c =
+    let e = goes_past c.args.tokens.now c.advance.new.self Eps c.in-Eps.ensures (λ q. cc)
+    c.advance.ensures in
+    up_to_end Eps c.args.tokens.now c.args.tokens.now c.advance.new.self None c.leaf.result.unkept
+    (λ later h. h) e (λ q. cc) c.leaf.ensures.unkept
 
 pub primary-returns-in-Eps-clause-reads : goal.primary-returns-in-Eps-clause-reads
 primary-returns-in-Eps-clause-reads t c =
     let e = goes_past c.args.tokens.now c.advance.new.self Eps c.in-Eps.ensures (λ q. cc)
     c.advance.ensures in
-    eps_reads c.leaf.result c.args.tokens.now c.advance.new.self e
+    goes_here c.leaf.result (atom empty) (read_pattern unsigned c.args.tokens.now)
+    c.advance.new.self (ap (λ ts. read_pattern unsigned ts) e ∙ eps_read c.advance.new.self)
     (leaf_counts c.leaf.result _ c.leaf.ensures.nodes c.leaf.ensures.tree refl)
 
-pub primary-returns-in-Eps-clause-ends : goal.primary-returns-in-Eps-clause-ends
-primary-returns-in-Eps-clause-ends t c =
-    let e = goes_past c.args.tokens.now c.advance.new.self Eps c.in-Eps.ensures (λ q. cc)
-    c.advance.ensures in
-    eps_refuses c.args.tokens.now c.advance.new.self e
+pub operand-returns-in_err-whole-clause-reads : goal.operand-returns-in_err-whole-clause-reads
+operand-returns-in_err-whole-clause-reads t c =
+    let p = err_from_is_err_and c.from_residual.result c.from_residual.ensures.1 in
+    rw (p.1, p.2) (stops_first (read_pattern unsigned c.args.tokens.now)
+    (read_pattern operand c.args.tokens.now) c.in_err-whole.field-0.0 c.primary.new.tokens
+    (λ x us. read_pattern (operand_after x) us) (operand_begins c.args.tokens.now)
+    c.in_err-whole.ensures.reads)
 
 pub operand-loop-tokens-init : goal.operand-loop-tokens-init
-operand-loop-tokens-init t c =
-    record {
-      reads = first_operand c.in_ok-whole.whole c.args.tokens.now c.primary.new.tokens
-          c.in_ok-whole.ensures.reads;
-      shorter = c.in_ok-whole.ensures.shorter;
-      ends =
-          c.in_ok-whole.ensures.ends;
-    }
+operand-loop-tokens-init t c = record {
+  reads = goes_first (read_pattern operand c.args.tokens.now)
+      (λ x us. read_pattern (operand_after x) us) (operand_begins c.args.tokens.now)
+      c.in_ok-whole.ensures.reads;
+  shorter = c.in_ok-whole.ensures.shorter;
+  unkept = c.in_ok-whole.ensures.unkept;
+}
 
 pub operand-loop-tokens-preserved-in-Star : goal.operand-loop-tokens-preserved-in-Star
 operand-loop-tokens-preserved-in-Star t c =
     let e = goes_past c.loop-tokens.tokens c.advance.new.self Star c.in-Star.ensures (λ q. cc)
     c.advance.ensures in
     let n = one_shorter c.loop-tokens.tokens c.advance.new.self Star e in
-    let made = star_sign c.loop-tokens.whole c.in_ok-whole-in-Star.whole c.loop-tokens.tokens
-    c.advance.new.self e c.in_ok-whole-in-Star.ensures in
     record {
-      reads = more_operand c.loop-tokens.whole c.in_ok-whole-in-Star.whole c.args.tokens.now
-          c.loop-tokens.tokens c.advance.new.self c.loop-tokens.invariant.reads made;
+      reads = goes_turned c.in_ok-whole-in-Star.whole
+          (λ x. read_pattern (operand_after x) c.advance.new.self) repetition
+          c.loop-tokens.invariant.reads c.in_ok-whole-in-Star.ensures.stands
+          (λ x. ap (λ ts. read_pattern (operand_after x) ts) e ∙ star_read x c.advance.new.self);
       shorter = omega (arith, n, c.loop-tokens.invariant.shorter);
-      ends = more_refuses c.loop-tokens.whole c.args.tokens.now c.loop-tokens.tokens
-          c.advance.new.self c.loop-tokens.invariant.reads
-          (star_refuses c.loop-tokens.tokens c.advance.new.self e);
+      unkept = up_to_end Star c.args.tokens.now c.loop-tokens.tokens c.advance.new.self
+          c.loop-tokens.whole.unkept c.in_ok-whole-in-Star.whole.unkept
+          c.loop-tokens.invariant.unkept e (λ q. cc) c.in_ok-whole-in-Star.ensures.unkept;
     }
 
 pub operand-loop-tokens-preserved-in-Plus : goal.operand-loop-tokens-preserved-in-Plus
@@ -139,15 +202,17 @@ operand-loop-tokens-preserved-in-Plus t c =
     let e = goes_past c.loop-tokens.tokens c.advance-in-Plus.new.self Plus c.in-Plus.ensures
     (λ q. cc) c.advance-in-Plus.ensures in
     let n = one_shorter c.loop-tokens.tokens c.advance-in-Plus.new.self Plus e in
-    let made = plus_sign c.loop-tokens.whole c.in_ok-whole-in-Plus.whole c.loop-tokens.tokens
-    c.advance-in-Plus.new.self e c.in_ok-whole-in-Plus.ensures in
     record {
-      reads = more_operand c.loop-tokens.whole c.in_ok-whole-in-Plus.whole c.args.tokens.now
-          c.loop-tokens.tokens c.advance-in-Plus.new.self c.loop-tokens.invariant.reads made;
+      reads = goes_turned c.in_ok-whole-in-Plus.whole
+          (λ x. read_pattern (operand_after x) c.advance-in-Plus.new.self)
+          (λ x. sequence x (repetition x)) c.loop-tokens.invariant.reads
+          c.in_ok-whole-in-Plus.ensures.stands
+          (λ x. ap (λ ts. read_pattern (operand_after x) ts) e
+          ∙ plus_read x c.advance-in-Plus.new.self);
       shorter = omega (arith, n, c.loop-tokens.invariant.shorter);
-      ends = more_refuses c.loop-tokens.whole c.args.tokens.now c.loop-tokens.tokens
-          c.advance-in-Plus.new.self c.loop-tokens.invariant.reads
-          (plus_refuses c.loop-tokens.tokens c.advance-in-Plus.new.self e);
+      unkept = up_to_end Plus c.args.tokens.now c.loop-tokens.tokens c.advance-in-Plus.new.self
+          c.loop-tokens.whole.unkept c.in_ok-whole-in-Plus.whole.unkept
+          c.loop-tokens.invariant.unkept e (λ q. cc) c.in_ok-whole-in-Plus.ensures.unkept;
     }
 
 pub operand-loop-tokens-preserved-in-Question : goal.operand-loop-tokens-preserved-in-Question
@@ -155,18 +220,22 @@ operand-loop-tokens-preserved-in-Question t c =
     let e = goes_past c.loop-tokens.tokens c.advance-in-Question.new.self Question
     c.in-Question.ensures (λ q. cc) c.advance-in-Question.ensures in
     let n = one_shorter c.loop-tokens.tokens c.advance-in-Question.new.self Question e in
-    let made = question_sign c.loop-tokens.whole c.in_ok-whole-in-Question.whole
-    c.loop-tokens.tokens c.advance-in-Question.new.self e
-    (λ x h. c.in_ok-whole-in-Question.ensures x (atom empty) h
-    (leaf_counts c.leaf-empty.result _ c.leaf-empty.ensures.nodes c.leaf-empty.ensures.tree
-    refl)) in
     record {
-      reads = more_operand c.loop-tokens.whole c.in_ok-whole-in-Question.whole c.args.tokens.now
-          c.loop-tokens.tokens c.advance-in-Question.new.self c.loop-tokens.invariant.reads made;
+      reads = goes_turned c.in_ok-whole-in-Question.whole
+          (λ x. read_pattern (operand_after x) c.advance-in-Question.new.self)
+          (λ x. alternation x (atom empty)) c.loop-tokens.invariant.reads
+          (λ x h. c.in_ok-whole-in-Question.ensures.stands x (atom empty) h
+          (leaf_counts c.leaf-empty.result _ c.leaf-empty.ensures.nodes
+          c.leaf-empty.ensures.tree refl))
+          (λ x. ap (λ ts. read_pattern (operand_after x) ts) e
+          ∙ question_read x c.advance-in-Question.new.self);
       shorter = omega (arith, n, c.loop-tokens.invariant.shorter);
-      ends = more_refuses c.loop-tokens.whole c.args.tokens.now c.loop-tokens.tokens
-          c.advance-in-Question.new.self c.loop-tokens.invariant.reads
-          (question_refuses c.loop-tokens.tokens c.advance-in-Question.new.self e);
+      unkept = up_to_end Question c.args.tokens.now c.loop-tokens.tokens
+          c.advance-in-Question.new.self c.loop-tokens.whole.unkept
+          c.in_ok-whole-in-Question.whole.unkept c.loop-tokens.invariant.unkept e (λ q. cc)
+          (c.in_ok-whole-in-Question.ensures.unkept
+          ∙ ap (earlier c.loop-tokens.whole.unkept) c.leaf-empty.ensures.unkept
+          ∙ earlier_none c.loop-tokens.whole.unkept);
     }
 
 pub operand-returns-in_err-within-in-Percent-clause-reads
@@ -176,32 +245,57 @@ operand-returns-in_err-within-in-Percent-clause-reads t c =
     c.in-Percent.ensures (λ q. cc) c.advance-in-Percent.ensures in
     let p = err_from_is_err_and c.from_residual-in_err-within-in-Percent.result
     c.from_residual-in_err-within-in-Percent.ensures.1 in
-    let stop = percent_stop c.in_err-within-in-Percent.field-0.0 c.loop-tokens.tokens
-    c.advance-in-Percent.new.self e c.in_err-within-in-Percent.ensures.reads in
-    rw (p.1, p.2) (stop_operand c.in_err-within-in-Percent.field-0.0 c.loop-tokens.whole
-    c.args.tokens.now c.loop-tokens.tokens c.loop-tokens.invariant.reads stop)
+    rw (p.1, p.2) (stops_joined (read of_interval c.advance-in-Percent.new.self)
+    c.in_err-within-in-Percent.field-0.0 c.interval.new.tokens
+    (λ x ends us. read_pattern (operand_after (restriction x ends)) us)
+    c.loop-tokens.invariant.reads
+    (λ x. ap (λ ts. read_pattern (operand_after x) ts) e
+    ∙ percent_read x c.advance-in-Percent.new.self) c.in_err-within-in-Percent.ensures.reads)
 
 pub operand-loop-tokens-preserved : goal.operand-loop-tokens-preserved
 operand-loop-tokens-preserved t c =
     let e = goes_past c.loop-tokens.tokens c.advance-in-Percent.new.self Percent
     c.in-Percent.ensures (λ q. cc) c.advance-in-Percent.ensures in
     let n = one_shorter c.loop-tokens.tokens c.advance-in-Percent.new.self Percent e in
-    let made = percent_sign c.loop-tokens.whole c.in_ok-whole-in-Percent.whole
-    c.in_ok-within-in-Percent.within c.loop-tokens.tokens c.advance-in-Percent.new.self
-    c.interval.new.tokens e c.in_ok-within-in-Percent.ensures.reads
-    (λ x ends m h. c.in_ok-whole-in-Percent.ensures x ends m h) in
     record {
-      reads = more_operand c.loop-tokens.whole c.in_ok-whole-in-Percent.whole c.args.tokens.now
-          c.loop-tokens.tokens c.interval.new.tokens c.loop-tokens.invariant.reads made;
+      reads = goes_joined c.in_ok-whole-in-Percent.whole
+          (λ x. read_pattern (operand_after x) c.interval.new.tokens) restriction
+          (λ x ends us. read_pattern (operand_after (restriction x ends)) us)
+          c.loop-tokens.invariant.reads c.in_ok-within-in-Percent.ensures.reads
+          (λ x ends h m. c.in_ok-whole-in-Percent.ensures.stands x ends m h)
+          (λ x. ap (λ ts. read_pattern (operand_after x) ts) e
+          ∙ percent_read x c.advance-in-Percent.new.self) (λ x ends. refl);
       shorter = omega (
         arith,
         n,
         c.in_ok-within-in-Percent.ensures.shorter,
         c.loop-tokens.invariant.shorter,
       );
-      ends = more_refuses c.loop-tokens.whole c.args.tokens.now c.loop-tokens.tokens
-          c.interval.new.tokens c.loop-tokens.invariant.reads
-          (percent_refuses c.in_ok-within-in-Percent.within c.loop-tokens.tokens
-          c.advance-in-Percent.new.self c.interval.new.tokens e
-          c.in_ok-within-in-Percent.ensures.reads);
+      unkept = up_to_joined c.args.tokens.now c.loop-tokens.tokens c.interval.new.tokens
+          c.loop-tokens.whole.unkept
+          (unkept_at c.in_ok-within-in-Percent.within (length c.advance-in-Percent.new.self))
+          c.in_ok-whole-in-Percent.whole.unkept c.loop-tokens.invariant.unkept
+          (subst (λ ts. FindsUpTo ts c.interval.new.tokens
+          (unkept_at c.in_ok-within-in-Percent.within (length c.advance-in-Percent.new.self)))
+          (sym e) (up_to_interval c.in_ok-within-in-Percent.within c.advance-in-Percent.new.self
+          c.interval.new.tokens c.in_ok-within-in-Percent.ensures.reads))
+          (c.in_ok-whole-in-Percent.ensures.unkept
+          ∙ ap (λ k. earlier c.loop-tokens.whole.unkept
+          (unkept_at c.in_ok-within-in-Percent.within k)) c.left-at.ensures);
     }
+
+pub operand-returns-in-Ends-clause-reads : goal.operand-returns-in-Ends-clause-reads
+operand-returns-in-Ends-clause-reads t c =
+    stops_at c.refused.result c.loop-tokens.tokens c.loop-tokens.invariant.reads
+    c.refused.ensures (λ x. ends_stop x c.loop-tokens.tokens (sym c.in-Ends.ensures))
+
+pub operand-returns-in_default-clause-reads : goal.operand-returns-in_default-clause-reads
+operand-returns-in_default-clause-reads t c =
+    let none = no_sign_behind (front c.loop-tokens.tokens)
+    (λ q. c.in_default.not-Star (c.peek.ensures ∙ q))
+    (λ q. c.in_default.not-Plus (c.peek.ensures ∙ q))
+    (λ q. c.in_default.not-Question (c.peek.ensures ∙ q))
+    (λ q. c.in_default.not-Percent (c.peek.ensures ∙ q)) in
+    goes_on (λ x. got x c.loop-tokens.tokens) c.loop-tokens.invariant.reads
+    (λ x. operand_ends x c.loop-tokens.tokens none
+    (λ q. c.in_default.not-Ends (c.peek.ensures ∙ q)))

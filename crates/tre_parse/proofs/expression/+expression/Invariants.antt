@@ -1,11 +1,10 @@
 use Rattle.std.proofs.Common.{ℕ, ◌≤◌, ◌+◌, ◌*◌, length}
 use Rattle.tre_parse.specs.declared.connective.Join.{Join}
 use Rattle.tre_parse.specs.declared.connective.Join.TheVariants.{Sequence, Intersection, Alternation}
-use Rattle.tre_parse.specs.Grammar.{post, Spells}
-use Rattle.tre_parse.specs.Joins.{joined_rule, joined_part}
 use Rattle.tre_parse.specs.Operands.{Represents}
-use Rattle.tre_parse.specs.Front.{front}
-use Rattle.tre_parse.specs.Reading.{IsPast, OperandMayCome, Takes, RefusesEnds}
+use Rattle.tre_parse.specs.Reader.{expression_by, expression_after, operand, operand_after, read_pattern}
+use Rattle.tre_parse.specs.Reading.{Goes}
+use Rattle.tre_parse.specs.Unkept.{FindsUpTo}
 use Rattle.tre_parse.proofs.expression.+expression.Given as goal
 
 -- How far a function is from the innermost.
@@ -28,9 +27,10 @@ decreases-expression l = 8 * length l.tokens.now + 3 + rank l.how
 
 abbrev pub invariant-expression-loop-alloc : goal.invariant-expression-loop-alloc
 invariant-expression-loop-alloc l = record {
-  reads : Takes (Spells (joined_rule l.how)) Represents l.whole l.fn.tokens l.tokens;
+  reads : Goes Represents l.whole (read_pattern (expression_by l.how) l.fn.tokens)
+      (λ e. read_pattern (expression_after l.how e) l.tokens);
   shorter : length l.tokens ≤ length l.fn.tokens;
-  ends : IsPast (joined_part l.how) (front l.tokens);
+  unkept : FindsUpTo l.fn.tokens l.tokens l.whole.unkept;
 }
 
 abbrev pub decreases-expression-loop-alloc : goal.decreases-expression-loop-alloc
@@ -38,9 +38,10 @@ decreases-expression-loop-alloc l = length l.tokens
 
 abbrev pub invariant-operand-loop-tokens : goal.invariant-operand-loop-tokens
 invariant-operand-loop-tokens l = record {
-  reads : Takes (Spells post) Represents l.whole l.fn.tokens l.tokens;
+  reads : Goes Represents l.whole (read_pattern operand l.fn.tokens)
+      (λ e. read_pattern (operand_after e) l.tokens);
   shorter : length l.tokens ≤ length l.fn.tokens;
-  ends : RefusesEnds OperandMayCome l.fn.tokens l.tokens;
+  unkept : FindsUpTo l.fn.tokens l.tokens l.whole.unkept;
 }
 
 abbrev pub decreases-operand-loop-tokens : goal.decreases-operand-loop-tokens

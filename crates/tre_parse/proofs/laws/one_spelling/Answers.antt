@@ -1,6 +1,6 @@
 use Rattle.std.proofs.Common.{◌∙◌, sym}
 use Rattle.tre_parse.specs.Tokens.{tokens_of}
-use Rattle.tre_parse.proofs.Completeness.{spelt_once}
+use Rattle.tre_parse.proofs.Whole.{spelt_once}
 use Rattle.tre_parse.proofs.laws.one_spelling.Goals as goal
 
 pub returns : goal.returns

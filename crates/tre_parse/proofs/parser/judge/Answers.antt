@@ -1,36 +1,38 @@
-use Rattle.std.proofs.Common.{refl, List, ◌≡◌, ◌∙◌, ap, subst, arith, inr}
-use Rattle.std.specs.Prelude.{position}
-use Rattle.tre_parse.specs.declared.token.Token.{Token}
-use Rattle.tre_parse.specs.Outcome.{is_big, NoneEmpty}
+use Rattle.std.proofs.Common.{length, ◌-◌, refl, ◌∙◌, arith, inr}
 use Rattle.tre_parse.specs.Answers.{text_tokens_in}
-use Rattle.tre_parse.proofs.Judging.{is_whole, no_big, past_outcome, large_outcome, is_buildable, expr_is, expr_some, pattern_some, spelt_outcome}
+use Rattle.tre_parse.proofs.Judging.{is_whole, none_found, first_found, empty_outcome, past_outcome, large_outcome, is_buildable, expr_is, expr_some, pattern_some, spelt_outcome}
 use Rattle.tre_parse.proofs.parser.judge.Goals as goal
 
-none_along : (tokens other : List Token) → tokens ≡ other → NoneEmpty tokens → NoneEmpty other
-none_along tokens other e h = let P = λ (ts : List Token). NoneEmpty ts in subst P e h
-
-pub first_empty-requires : goal.first_empty-requires
-first_empty-requires c = ap (position is_big) c.deref.ensures.value
-    ∙ no_big (text_tokens_in c.args.scan) c.requires.small
+pub returns-in-Some : goal.returns-in-Some
+returns-in-Some c =
+    let words = text_tokens_in c.args.scan in
+    inr (empty_outcome words c.args.whole (length words.tokens - c.in-Some.left)
+    c.offset_of_left-at.result c.requires.small
+    (is_whole words c.args.whole c.requires.whole)
+    (first_found words c.args.whole c.in-Some.left c.requires.small c.requires.unkept c.in-Some.is)
+    c.offset_of_left-at.ensures)
 
 pub returns-in-Some-past : goal.returns-in-Some-past
 returns-in-Some-past c =
     inr (past_outcome (text_tokens_in c.args.scan) c.args.whole c.in-Some-past.at c.requires.small
     (is_whole (text_tokens_in c.args.scan) c.args.whole c.requires.whole)
-    (none_along _ _ c.deref.ensures.value c.in_default.ensures) c.in-Some-past.is)
+    (none_found (text_tokens_in c.args.scan) c.args.whole c.requires.small c.requires.unkept
+    c.in_default.is) c.in-Some-past.is)
 
 pub returns-then-nodes-gt-NODES_MAX : goal.returns-then-nodes-gt-NODES_MAX
 returns-then-nodes-gt-NODES_MAX c =
     inr (large_outcome (text_tokens_in c.args.scan) c.args.whole _ c.requires.small
     (is_whole (text_tokens_in c.args.scan) c.args.whole c.requires.whole)
-    (none_along _ _ c.deref.ensures.value c.in_default.ensures) c.in_default-past.is refl
+    (none_found (text_tokens_in c.args.scan) c.args.whole c.requires.small c.requires.unkept
+    c.in_default.is) c.in_default-past.is refl
     c.if-nodes-gt-NODES_MAX.true)
 
 pub unreachable-requires : goal.unreachable-requires
 unreachable-requires c =
     let w = is_whole (text_tokens_in c.args.scan) c.args.whole c.requires.whole in
     let b = is_buildable (text_tokens_in c.args.scan) c.args.whole c.requires.small w
-    (none_along _ _ c.deref.ensures.value c.in_default.ensures) c.in_default-past.is
+    (none_found (text_tokens_in c.args.scan) c.args.whole c.requires.small c.requires.unkept
+    c.in_default.is) c.in_default-past.is
     (omega arith) c.requires.numbered in
     expr_some c.args.scan.names c.args.whole w.tree c.into_tree.result b c.into_tree.ensures
     (omega arith) c.in_default-into_tree.is
@@ -39,7 +41,8 @@ pub unreachable-requires-in_default-new : goal.unreachable-requires-in_default-n
 unreachable-requires-in_default-new c =
     let w = is_whole (text_tokens_in c.args.scan) c.args.whole c.requires.whole in
     let b = is_buildable (text_tokens_in c.args.scan) c.args.whole c.requires.small w
-    (none_along _ _ c.deref.ensures.value c.in_default.ensures) c.in_default-past.is
+    (none_found (text_tokens_in c.args.scan) c.args.whole c.requires.small c.requires.unkept
+    c.in_default.is) c.in_default-past.is
     (omega arith) c.requires.numbered in
     let e = expr_is c.args.scan.names c.args.whole w.tree c.into_tree.result
     c.in-Some-into_tree.expr b c.into_tree.ensures c.in-Some-into_tree.is in
@@ -51,11 +54,13 @@ pub returns : goal.returns
 returns c =
     let w = is_whole (text_tokens_in c.args.scan) c.args.whole c.requires.whole in
     let b = is_buildable (text_tokens_in c.args.scan) c.args.whole c.requires.small w
-    (none_along _ _ c.deref.ensures.value c.in_default.ensures) c.in_default-past.is
+    (none_found (text_tokens_in c.args.scan) c.args.whole c.requires.small c.requires.unkept
+    c.in_default.is) c.in_default-past.is
     (omega arith) c.requires.numbered in
     let e = expr_is c.args.scan.names c.args.whole w.tree c.into_tree.result
     c.in-Some-into_tree.expr b c.into_tree.ensures c.in-Some-into_tree.is in
     spelt_outcome (text_tokens_in c.args.scan) c.args.whole _ _ c.requires.small w
-    (none_along _ _ c.deref.ensures.value c.in_default.ensures) c.in_default-past.is
+    (none_found (text_tokens_in c.args.scan) c.args.whole c.requires.small c.requires.unkept
+    c.in_default.is) c.in_default-past.is
     (omega arith)
     (c.in-Some-new.ensures.tree ∙ e) c.in-Some-new.ensures.names

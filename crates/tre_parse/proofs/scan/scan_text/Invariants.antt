@@ -4,10 +4,10 @@ use Rattle.tre_parse.proofs.scan.scan_text.Given as goal
 
 abbrev pub invariant-loop-at : goal.invariant-loop-at
 invariant-loop-at l = record {
-  leads : LeadsTo l.bytes l.initial.scan 0 l.scan l.at;
+  leads : LeadsTo l.text l.initial.scan 0 l.scan l.at;
   within : l.at ≤
-      length l.bytes;
+      length l.text;
 }
 
 abbrev pub decreases-loop-at : goal.decreases-loop-at
-decreases-loop-at l = length l.bytes - l.at
+decreases-loop-at l = length l.text - l.at

@@ -2,11 +2,10 @@ use Rattle.std.proofs.Common.{ℕ, ◌≤◌, ◌+◌, ◌*◌, length}
 use Rattle.tre_state.specs.StateTree.{StateTree}
 use Rattle.tre_parse.specs.declared.connective.Connective.{Connective}
 use Rattle.tre_parse.specs.declared.connective.Connective.TheVariants.{And, Or}
-use Rattle.tre_parse.specs.Grammar.{SpellsState}
-use Rattle.tre_parse.specs.Joins.{negated, connected_rule, connected_part}
+use Rattle.tre_parse.specs.Joins.{negated}
 use Rattle.tre_parse.specs.Operands.{RepresentsState}
-use Rattle.tre_parse.specs.Front.{front}
-use Rattle.tre_parse.specs.Reading.{IsPastState, Takes}
+use Rattle.tre_parse.specs.Reader.{state_by, state_after, read_state}
+use Rattle.tre_parse.specs.Reading.{Goes}
 use Rattle.tre_parse.proofs.states.+state.Given as goal
 
 -- How far a function is from the innermost.
@@ -28,9 +27,9 @@ decreases-state l = 6 * length l.tokens.now + 3 + rank l.how
 
 abbrev pub invariant-state-loop-alloc : goal.invariant-state-loop-alloc
 invariant-state-loop-alloc l = record {
-  reads : Takes (SpellsState (connected_rule l.how)) RepresentsState l.whole l.fn.tokens l.tokens;
+  reads : Goes RepresentsState l.whole (read_state (state_by l.how) l.fn.tokens)
+      (λ s. read_state (state_after l.how s) l.tokens);
   shorter : length l.tokens ≤ length l.fn.tokens;
-  ends : IsPastState (connected_part l.how) (front l.tokens);
 }
 
 abbrev pub decreases-state-loop-alloc : goal.decreases-state-loop-alloc

@@ -1,37 +1,15 @@
-use Rattle.std.proofs.Common.{rules}
-use Rattle.std.proofs.lemmas.List.Sorted.{answers_always}
 use Rattle.tre_zone.proofs.ZoneListLemmas.{AreCanonical-tight}
-use Rattle.tre_show.specs.Order.{sort_key, IsRising}
-use Rattle.tre_zoneset.proofs.Thinning.{SetHolds-permutation}
-use Rattle.tre_show.proofs.Orders.{IsApart-permutation, AreCanonical-permutation}
 use Rattle.tre_show.proofs.order.printed_order.Goals as goal
 
-pub returns-clause-same : goal.returns-clause-same
-returns-clause-same c =
-    rw (← c.zones.ensures.same, ← c.in_ok-zones.ensures) c.sort_unstable_by_key.ensures.permutation
-
-pub returns-clause-held : goal.returns-clause-held
-returns-clause-held c = λ a b n.
-    rw (← c.zones.ensures.same, ← c.in_ok-zones.ensures)
-    (SetHolds-permutation _ _ a b n c.sort_unstable_by_key.ensures.permutation)
-
-pub returns-clause-apart : goal.returns-clause-apart
-returns-clause-apart c =
-    IsApart-permutation _ _ c.sort_unstable_by_key.ensures.permutation
-    (rw (c.in_ok-zones.ensures, c.zones.ensures.same) c.zones.ensures.set.apart)
-
-pub returns-clause-canonical : goal.returns-clause-canonical
-returns-clause-canonical c =
-    AreCanonical-permutation _ _ c.sort_unstable_by_key.ensures.permutation
-    (rw (c.in_ok-zones.ensures, c.zones.ensures.same) c.zones.ensures.set.canonical)
-
-pub returns-clause-tight : goal.returns-clause-tight
-returns-clause-tight c =
-    AreCanonical-tight _ (AreCanonical-permutation _ _ c.sort_unstable_by_key.ensures.permutation
-    (rw (c.in_ok-zones.ensures, c.zones.ensures.same) c.zones.ensures.set.canonical))
-
-pub returns-clause-rising : goal.returns-clause-rising
-unfolding IsRising
-returns-clause-rising c =
-    c.sort_unstable_by_key.ensures.sorted sort_key
-    (answers_always _ _ _ (λ f a r g h. search rules))
+pub returns : goal.returns
+returns c =
+    let set = c.in_printed_order.ensures.set
+    (rw (c.in_ok-zones.ensures, c.zones.ensures.same) c.zones.ensures.set) in
+    record {
+      same = rw (← c.zones.ensures.same, ← c.in_ok-zones.ensures) c.in_printed_order.ensures.same;
+      held = rw (← c.zones.ensures.same, ← c.in_ok-zones.ensures) c.in_printed_order.ensures.held;
+      apart = set.apart;
+      canonical = set.canonical;
+      tight = AreCanonical-tight _ set.canonical;
+      rising = c.in_printed_order.ensures.rising;
+    }

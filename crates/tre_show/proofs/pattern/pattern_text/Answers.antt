@@ -1,35 +1,24 @@
-use Rattle.std.proofs.Common.{refl, subst}
-use Rattle.std.specs.Prelude.{string_bytes}
+use Rattle.std.proofs.Common.{◌≡◌, refl, sym, subst, string_bytes}
 use Rattle.tre_state.specs.Names.{IsNameList}
 use Rattle.tre_syntax.specs.Pattern.{pattern_tree, names_of}
+use Rattle.tre_show.specs.PatternText.{expression_text}
 use Rattle.tre_show.specs.Intervals.{HasIntervals}
-use Rattle.tre_show.proofs.Outcomes.{text_of_pattern}
+use Rattle.tre_show.proofs.Outcomes.{IsTextOf, text_of_tree}
 use Rattle.tre_show.proofs.pattern.pattern_text.Goals as goal
 
-pub returns-clause-spelling : goal.returns-clause-spelling
-returns-clause-spelling c =
-    let is = text_of_pattern (string_bytes c.push_operand.new.text) (names_of c.args.pattern.now)
-    (pattern_tree c.args.pattern.now)
-    (rw (
+pub returns : goal.returns
+returns c =
+    let text : string_bytes c.push_operand.new.text
+    ≡ expression_text (names_of c.args.pattern.now) (pattern_tree c.args.pattern.now) = rw (
       c.in_ok-push_operand.ensures.text,
       c.new-text.ensures.bytes,
       c.expr.ensures.tree,
       c.names-names.ensures.names,
-    ) refl)
+    ) refl in
+    let read = text_of_tree (names_of c.args.pattern.now) (pattern_tree c.args.pattern.now)
     (subst IsNameList c.names-names.ensures.names c.len-count.ensures.list) c.expr.ensures.pattern
-    (subst HasIntervals c.expr.ensures.tree c.in_ok-push_operand.ensures.intervals) in
-    is.spelling
-
-pub returns-clause-outcome : goal.returns-clause-outcome
-returns-clause-outcome c =
-    let is = text_of_pattern (string_bytes c.push_operand.new.text) (names_of c.args.pattern.now)
-    (pattern_tree c.args.pattern.now)
-    (rw (
-      c.in_ok-push_operand.ensures.text,
-      c.new-text.ensures.bytes,
-      c.expr.ensures.tree,
-      c.names-names.ensures.names,
-    ) refl)
-    (subst IsNameList c.names-names.ensures.names c.len-count.ensures.list) c.expr.ensures.pattern
-    (subst HasIntervals c.expr.ensures.tree c.in_ok-push_operand.ensures.intervals) in
-    is.outcome
+    (subst HasIntervals c.expr.ensures.tree c.in_ok-push_operand.ensures.intervals)
+    c.one_outcome.ensures in
+    let is = subst (λ bytes. IsTextOf bytes (pattern_tree c.args.pattern.now)
+    (names_of c.args.pattern.now)) (sym text) read in
+    record { text = text; spelling = is.spelling; outcome = is.outcome }

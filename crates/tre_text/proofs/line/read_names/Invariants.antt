@@ -1,17 +1,18 @@
-use Rattle.std.proofs.Common.{◌≡◌, length}
+use Rattle.std.proofs.Common.{◌≡◌, ◌<◌, length, false, slice_index}
 use Rattle.std.specs.List.{list_all}
-use Rattle.tre_text.specs.TextReading.{spells_word, fields_among, valuation_of, valuation_after}
+use Rattle.tre_text.specs.TextReading.{is_blank, spells_word, fields_among, valuation_of, valuation_after}
 use Rattle.tre_text.proofs.line.read_names.Given as goal
 
 -- the fields so far are names, and their propositions are true
-abbrev pub invariant-loop-field : goal.invariant-loop-field
-invariant-loop-field l =
+abbrev pub invariant-loop-rest : goal.invariant-loop-rest
+invariant-loop-rest l =
     let all = fields_among l.fn.fields in
     let left = fields_among l.rest in
     record {
       words : list_all spells_word all ≡ list_all spells_word left;
       value : valuation_of l.names all ≡ valuation_after l.names l.valuation left;
+      first : 0 < length l.rest → is_blank (slice_index l.rest 0) ≡ false;
     }
 
-abbrev pub decreases-loop-field : goal.decreases-loop-field
-decreases-loop-field l = length l.rest
+abbrev pub decreases-loop-rest : goal.decreases-loop-rest
+decreases-loop-rest l = length l.rest

@@ -53,7 +53,8 @@ returns-in_err-text-in-Show-clause-ends g c =
     let request = request_for c.args.job.now (pattern_tree c.args.pattern)
     (names_of c.args.pattern) in
     let input = input_told g.S.Source.file_name g.S.Source.file g.S.Source.sound
-    g.S.Source.opened g.S.Source.left g.S.Source.faults c.args.input.now c.args.input.now in
+    g.S.Source.opened g.S.Source.left g.S.Source.found g.S.Source.faults c.args.input.now
+    c.args.input.now in
     let output = output_told g.O.Sink.written g.O.Sink.faults c.args.out.now c.args.out.now in
     let once : c.args.job.now.mode ≡ Online → ⊥ = λ online. cc in
     rw (p.1, p.2) (EndsOver-stopped request input output Memory
@@ -67,7 +68,6 @@ returns-in_err-write_text-in-Show-clause-ends g c =
     rw (p.1, p.2, c.in_err-write_text-in-Show.ensures.status)
     (EndsOver-cut _ _ _ _ (λ online. cc) (record {
       reads = refl;
-      all_read = rw c.in-Show.is tt;
       right = rw c.in-Show.is c.in_ok-text-in-Show.ensures;
     }) c.in_err-write_text-in-Show.ensures.cause (rw c.as_str-in-Show.ensures.value at
     c.in_err-write_text-in-Show.ensures.part))
@@ -77,7 +77,6 @@ pub returns-in_ok-write_text-in-Show-clause-ends :
 returns-in_ok-write_text-in-Show-clause-ends g c =
     EndsOver-done _ _ _ _ (record {
       reads = refl;
-      all_read = rw c.in-Show.is tt;
       right = rw c.in-Show.is c.in_ok-text-in-Show.ensures;
     }) c.in_ok-write_text-in-Show.ensures.good
     (rw c.as_str-in-Show.ensures.value at c.in_ok-write_text-in-Show.ensures.all)
@@ -89,7 +88,8 @@ returns-in_err-text-in-Generate-clause-ends g c =
     let request = request_for c.args.job.now (pattern_tree c.args.pattern)
     (names_of c.args.pattern) in
     let input = input_told g.S.Source.file_name g.S.Source.file g.S.Source.sound
-    g.S.Source.opened g.S.Source.left g.S.Source.faults c.args.input.now c.args.input.now in
+    g.S.Source.opened g.S.Source.left g.S.Source.found g.S.Source.faults c.args.input.now
+    c.args.input.now in
     let output = output_told g.O.Sink.written g.O.Sink.faults c.args.out.now c.args.out.now in
     let once : c.args.job.now.mode ≡ Online → ⊥ = λ online. cc in
     rw (p.1, p.2) (EndsOver-stopped request input output Memory
@@ -103,7 +103,6 @@ returns-in_err-write_text-in-Generate-clause-ends g c =
     rw (p.1, p.2, c.in_err-write_text-in-Generate.ensures.status)
     (EndsOver-cut _ _ _ _ (λ online. cc) (record {
       reads = refl;
-      all_read = rw c.in-Generate.is tt;
       right = rw c.in-Generate.is c.in_ok-text-in-Generate.ensures;
     }) c.in_err-write_text-in-Generate.ensures.cause (rw c.as_str-in-Generate.ensures.value at
     c.in_err-write_text-in-Generate.ensures.part))
@@ -113,7 +112,6 @@ pub returns-in_ok-write_text-in-Generate-clause-ends :
 returns-in_ok-write_text-in-Generate-clause-ends g c =
     EndsOver-done _ _ _ _ (record {
       reads = refl;
-      all_read = rw c.in-Generate.is tt;
       right = rw c.in-Generate.is c.in_ok-text-in-Generate.ensures;
     }) c.in_ok-write_text-in-Generate.ensures.good
     (rw c.as_str-in-Generate.ensures.value at c.in_ok-write_text-in-Generate.ensures.all)

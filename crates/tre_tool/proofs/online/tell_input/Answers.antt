@@ -3,7 +3,7 @@ use Rattle.std.proofs.lemmas.Result.{err_from_is_err_and}
 use Rattle.tre_online.specs.Session.{pattern_of}
 use Rattle.tre_syntax.specs.Pattern.{pattern_tree}
 use Rattle.tre_tool.specs.Devices.{input_told, output_told}
-use Rattle.tre_tool.proofs.Readings.{fed_within, HasRead-bounded}
+use Rattle.tre_tool.proofs.Readings.{fed_within, turn_stops, HasRead-bounded}
 use Rattle.tre_tool.proofs.Tellings.{CanTell-read, IsTelling-start, IsTelling-more, EndsTelling-unread, EndsTelling-within, EndsTelling-stopped, EndsTelling-done, EndsTelling-cut, HasReadCause-from, HasWriteCause-from}
 use Rattle.tre_tool.proofs.Told.{HasTold-written}
 use Rattle.tre_tool.proofs.online.tell_input.Goals as goal
@@ -12,14 +12,15 @@ pub returns-in_err-feed-clause-ends : goal.returns-in_err-feed-clause-ends
 returns-in_err-feed-clause-ends g c =
     let p = err_from_is_err_and c.from_residual.result c.from_residual.ensures.1 in
     let input = input_told g.S.Source.file_name g.S.Source.file g.S.Source.sound
-    g.S.Source.opened g.S.Source.left g.S.Source.faults c.args.input.now c.open.new.input in
+    g.S.Source.opened g.S.Source.left g.S.Source.found g.S.Source.faults c.args.input.now
+    c.open.new.input in
     let output = output_told g.O.Sink.written g.O.Sink.faults c.args.out.now c.args.out.now in
     rw (p.1, p.2) (EndsTelling-unread
     (g.R.TraceReader.reading (g.R.TraceReader.names c.args.reader.now)) c.args.job.now.max_bytes
     (pattern_tree (pattern_of c.args.session.now)) c.args.job.now.input input output
     c.in_err-feed.field-0.0 c.requires.nothing
     (g.met.R.TraceReader.faultless c.args.reader.now [] c.requires.fresh)
-    c.in_err-feed.ensures.nothing
+    c.in_err-feed.ensures.nothing c.in_err-feed.ensures.finds
     c.in_err-feed.ensures.cause c.in_err-feed.ensures.named
     (λ good named is. c.in_err-feed.ensures.sound good (named ∙ ap Some (sym c.text.ensures))
     (ap Err is)) refl refl)
@@ -27,10 +28,12 @@ returns-in_err-feed-clause-ends g c =
 pub loop-segments-init : goal.loop-segments-init
 loop-segments-init g c = record {
   telling = IsTelling-start (g.R.TraceReader.reading (g.R.TraceReader.names c.args.reader.now))
-      c.args.job.now.max_bytes (g.S.Source.file c.args.input.now)
-      (g.S.Source.left c.open.new.input) c.in_ok-feed.feed.taken c.args.session.now
+      (length c.in_ok-feed.feed.buffer.items) c.args.job.now.max_bytes
+      (g.S.Source.file c.args.input.now) (g.S.Source.left c.open.new.input)
+      (g.S.Source.found c.open.new.input) c.in_ok-feed.feed.taken c.args.session.now
       (g.O.Sink.written c.args.out.now) c.requires.fresh c.requires.nothing
-      c.in_ok-feed.ensures.bytes c.in_ok-feed.ensures.start c.requires.stands;
+      c.in_ok-feed.ensures.bytes (c.in_ok-feed.ensures.finds c.in_ok-feed.ensures.opened)
+      c.in_ok-feed.ensures.start c.requires.stands;
   empty = c.new-segments.ensures.items;
   names = refl;
   opened = c.in_ok-feed.ensures.opened;
@@ -50,16 +53,11 @@ next-fed-requires-clause-fits g c = rw c.loop-segments.invariant.limit c.require
 pub next-fed-requires-clause-fed : goal.next-fed-requires-clause-fed
 next-fed-requires-clause-fed g c =
     let tel = c.loop-segments.invariant.telling in
-    fed_within _ _ _ _ _ _ tel.bytes tel.fed (g.met.R.TraceReader.counts c.loop-segments.reader
+    fed_within _ _ _ _ _ _ _ _ tel.bytes tel.fed (g.met.R.TraceReader.counts c.loop-segments.reader
     (take c.args.job.now.max_bytes tel.bytes) tel.fed.fed).0
 
 pub next-fed-requires-clause-room : goal.next-fed-requires-clause-room
 next-fed-requires-clause-room g c = rw c.loop-segments.invariant.room (omega arith)
-
-pub next-fed-requires-clause-few : goal.next-fed-requires-clause-few
-next-fed-requires-clause-few g c =
-    let tel = c.loop-segments.invariant.telling in
-    rw c.loop-segments.invariant.limit tel.fed.few
 
 pub tell_blocks-requires : goal.tell_blocks-requires
 tell_blocks-requires g c =
@@ -67,8 +65,9 @@ tell_blocks-requires g c =
     let tel = inv.telling in
     let names = g.R.TraceReader.names c.args.reader.now in
     rw c.deref.ensures.value (CanTell-read (g.R.TraceReader.reading names)
-    c.args.job.now.max_bytes (length c.loop-segments.feed.buffer.items)
-    (g.S.Source.file c.args.input.now) (g.S.Source.left c.next-fed.new.input) tel.bytes
+    (length c.loop-segments.feed.buffer.items) c.args.job.now.max_bytes
+    (g.S.Source.file c.args.input.now) (g.S.Source.left c.next-fed.new.input)
+    (g.S.Source.found c.next-fed.new.input) tel.bytes
     c.next-fed.new.segments.items c.loop-segments.session
     (λ closed bytes. g.met.R.TraceReader.is_trace names closed bytes)
     (rw (inv.names, inv.limit, inv.empty) at
@@ -89,16 +88,20 @@ returns-in_err-tell_blocks-clause-ends g c =
     let has = rw (inv.names, inv.limit, inv.empty) at
     c.next-fed.ensures.read file tel.bytes tel.fed in
     let input = input_told g.S.Source.file_name g.S.Source.file g.S.Source.sound
-    g.S.Source.opened g.S.Source.left g.S.Source.faults c.args.input.now c.next-fed.new.input in
+    g.S.Source.opened g.S.Source.left g.S.Source.found g.S.Source.faults c.args.input.now
+    c.next-fed.new.input in
     let output = output_told g.O.Sink.written g.O.Sink.faults c.args.out.now
     c.tell_blocks.new.out in
-    let stops = rw (inv.names, inv.limit, inv.empty) at
-    c.next-fed.ensures.stops file tel.bytes tel.fed in
+    let stops = turn_stops (g.R.TraceReader.represents c.next-fed.new.reader) reading
+    (length c.loop-segments.feed.buffer.items) limit file (g.S.Source.left c.next-fed.new.input)
+    (g.S.Source.found c.next-fed.new.input) c.next-fed.new.self.taken tel.bytes [] new
+    c.next-fed.result (rw (inv.names, inv.limit, inv.empty) at
+    c.next-fed.ensures.ends file tel.bytes tel.fed) in
     let within = rw c.deref.ensures.value at c.in_err-tell_blocks.ensures.stops tree
     (reading false (take limit tel.bytes)).segments (g.O.Sink.written c.args.out.now) tel.told in
     rw (p.1, p.2) (EndsTelling-within reading
     (λ closed first more. g.met.R.TraceReader.grows (g.R.TraceReader.names c.args.reader.now)
-    closed first more) limit (length c.loop-segments.feed.buffer.items) tree
+    closed first more) (length c.loop-segments.feed.buffer.items) limit tree
     c.args.job.now.input input output tel.bytes new c.in_err-tell_blocks.field-0.0
     c.next-fed.result has inv.room (c.next-fed.ensures.same_opened ∙ inv.opened)
     (HasReadCause-from _ _ input.faults_now c.next-fed.result inv.no_fault
@@ -127,24 +130,23 @@ returns-in_err-fed-clause-ends g c =
     let has = rw (inv.names, inv.limit, inv.empty) at
     c.next-fed.ensures.read file tel.bytes tel.fed in
     let input = input_told g.S.Source.file_name g.S.Source.file g.S.Source.sound
-    g.S.Source.opened g.S.Source.left g.S.Source.faults c.args.input.now c.next-fed.new.input in
+    g.S.Source.opened g.S.Source.left g.S.Source.found g.S.Source.faults c.args.input.now
+    c.next-fed.new.input in
     let output = output_told g.O.Sink.written g.O.Sink.faults c.args.out.now
     c.tell_blocks.new.out in
     let told = rw c.deref.ensures.value at c.in_ok-tell_blocks.ensures.told tree
     (reading false (take limit tel.bytes)).segments (g.O.Sink.written c.args.out.now) tel.told in
     let stops = rw (inv.names, inv.limit, inv.empty) at
-    c.in_err-fed.ensures.stops file tel.bytes tel.fed in
-    let cause = rw (inv.names, inv.limit) at
-    c.in_err-fed.ensures.cause_told file tel.bytes tel.fed in
+    c.in_err-fed.ensures.ends file tel.bytes tel.fed in
     rw (p.1, p.2) (EndsTelling-stopped reading
     (λ closed first more. g.met.R.TraceReader.grows (g.R.TraceReader.names c.args.reader.now)
-    closed first more) limit (length c.loop-segments.feed.buffer.items)
+    closed first more) (length c.loop-segments.feed.buffer.items) limit
     tree c.args.job.now.input input output tel.bytes new c.in_err-fed.field-0.0 has inv.room
     (c.next-fed.ensures.same_opened ∙ inv.opened)
     (HasReadCause-from {T = Bool} _ _ input.faults_now (Err c.in_err-fed.field-0.0) inv.no_fault
     c.in_err-fed.ensures.cause)
-    (λ good named is. c.in_err-fed.ensures.sound (rw inv.sound good) (ap Err is))
-    cause stops
+    (λ good is. c.in_err-fed.ensures.sound (rw inv.sound good) (ap Err is))
+    stops
     (subst (λ names. (g.R.TraceReader.reading names false (take limit tel.bytes)).fault ≡ None)
     inv.names (g.met.R.TraceReader.faultless c.loop-segments.reader (take limit tel.bytes)
     tel.fed.fed))
@@ -170,12 +172,14 @@ loop-segments-preserved g c =
     c.next-fed.ensures.read file tel.bytes tel.fed in
     let told = rw c.deref.ensures.value at c.in_ok-tell_blocks.ensures.told tree
     (reading false (take limit tel.bytes)).segments (g.O.Sink.written c.args.out.now) tel.told in
-    let more = rw (inv.names, inv.limit, inv.empty) at
-    c.in_ok-fed.ensures.goes_on file tel.bytes tel.fed c.if-not-branch.false in
+    let more = rw (inv.names, inv.limit, inv.empty, c.if-not-branch.false) at
+    c.in_ok-fed.ensures.ends file tel.bytes tel.fed in
     record {
-      telling = IsTelling-more reading limit file (g.S.Source.left c.next-fed.new.input)
+      telling = rw c.next-fed.ensures.length
+          (IsTelling-more reading (length c.loop-segments.feed.buffer.items) limit file
+          (g.S.Source.left c.next-fed.new.input) (g.S.Source.found c.next-fed.new.input)
           c.next-fed.new.self.taken c.tell_blocks.new.session tree tel.bytes new
-          (g.O.Sink.written c.args.out.now) (g.O.Sink.written c.tell_blocks.new.out) more told;
+          (g.O.Sink.written c.args.out.now) (g.O.Sink.written c.tell_blocks.new.out) more told);
       empty = c.clear.ensures.items;
       names = c.next-fed.ensures.names ∙ inv.names;
       opened = c.next-fed.ensures.same_opened ∙ inv.opened;
@@ -200,17 +204,18 @@ returns-in_err-tell_end-clause-ends g c =
     let has = rw (inv.names, inv.limit, inv.empty) at
     c.next-fed.ensures.read file tel.bytes tel.fed in
     let input = input_told g.S.Source.file_name g.S.Source.file g.S.Source.sound
-    g.S.Source.opened g.S.Source.left g.S.Source.faults c.args.input.now c.next-fed.new.input in
+    g.S.Source.opened g.S.Source.left g.S.Source.found g.S.Source.faults c.args.input.now
+    c.next-fed.new.input in
     let output = output_told g.O.Sink.written g.O.Sink.faults c.args.out.now c.tell_end.new.out in
     let told = rw c.deref.ensures.value at c.in_ok-tell_blocks.ensures.told tree
     (reading false (take limit tel.bytes)).segments (g.O.Sink.written c.args.out.now) tel.told in
-    let ended = rw (inv.names, inv.limit, inv.empty) at
-    c.in_ok-fed.ensures.ended file tel.bytes tel.fed c.if-not-branch.true in
+    let ended = rw (inv.names, inv.limit, inv.empty, c.if-not-branch.true) at
+    c.in_ok-fed.ensures.ends file tel.bytes tel.fed in
     let trace = g.met.R.TraceReader.is_trace (g.R.TraceReader.names c.args.reader.now) true
     tel.bytes in
     rw (p.1, p.2) (EndsTelling-cut reading
     (λ closed first more. g.met.R.TraceReader.grows (g.R.TraceReader.names c.args.reader.now)
-    closed first more) limit (length c.loop-segments.feed.buffer.items) tree
+    closed first more) (length c.loop-segments.feed.buffer.items) limit tree
     c.args.job.now.input input output tel.bytes new (g.O.Sink.written c.tell_blocks.new.out)
     c.at.result c.in_err-tell_end.field-0.0 has inv.room
     (c.next-fed.ensures.same_opened ∙ inv.opened) ended trace
@@ -240,17 +245,18 @@ returns-clause-ends g c =
     let has = rw (inv.names, inv.limit, inv.empty) at
     c.next-fed.ensures.read file tel.bytes tel.fed in
     let input = input_told g.S.Source.file_name g.S.Source.file g.S.Source.sound
-    g.S.Source.opened g.S.Source.left g.S.Source.faults c.args.input.now c.next-fed.new.input in
+    g.S.Source.opened g.S.Source.left g.S.Source.found g.S.Source.faults c.args.input.now
+    c.next-fed.new.input in
     let output = output_told g.O.Sink.written g.O.Sink.faults c.args.out.now c.tell_end.new.out in
     let told = rw c.deref.ensures.value at c.in_ok-tell_blocks.ensures.told tree
     (reading false (take limit tel.bytes)).segments (g.O.Sink.written c.args.out.now) tel.told in
-    let ended = rw (inv.names, inv.limit, inv.empty) at
-    c.in_ok-fed.ensures.ended file tel.bytes tel.fed c.if-not-branch.true in
+    let ended = rw (inv.names, inv.limit, inv.empty, c.if-not-branch.true) at
+    c.in_ok-fed.ensures.ends file tel.bytes tel.fed in
     let trace = g.met.R.TraceReader.is_trace (g.R.TraceReader.names c.args.reader.now) true
     tel.bytes in
     EndsTelling-done reading limit tree
     c.args.job.now.input input output tel.bytes new (g.O.Sink.written c.tell_blocks.new.out)
-    c.at.result ended trace
+    c.at.result (c.next-fed.ensures.same_opened ∙ inv.opened) ended trace
     (c.in_ok-fed.ensures.cause ∙ inv.no_fault)
     (c.in_ok-tell_end.ensures.cause ∙ (c.in_ok-tell_blocks.ensures.cause ∙ inv.good))
     (HasTold-written told) (c.at.ensures ∙ told.stands.at) c.in_ok-tell_end.ensures.all

@@ -1,6 +1,6 @@
 use Rattle.std.proofs.Common.{◌∙◌, ap, sym, map, string_bytes}
 use Rattle.clap.specs.Words.{is_simple, is_simple_and_free, fault_of, matches_of}
-use Rattle.tre_tool.proofs.CommandLine.{command_line-simple, command_line-free}
+use Rattle.tre_tool.proofs.CommandLine.{command_line-simple, command_line-free, fault_told}
 use Rattle.tre_tool.proofs.words.parse_words.Goals as goal
 
 pub returns-in-Ok-clause-matches : goal.returns-in-Ok-clause-matches
@@ -13,3 +13,11 @@ returns-in-Ok-clause-faultless c =
     ap (λ app. fault_of app (map string_bytes c.args.words.now)) (sym c.in_ok-command.ensures)
     ∙ c.in-Ok.ensures.kinds
     (ap is_simple_and_free c.in_ok-command.ensures ∙ command_line-free)
+
+pub returns-in-Err-clause-usage : goal.returns-in-Err-clause-usage
+returns-in-Err-clause-usage c =
+    let kinds = c.in-Err.ensures.kinds
+    (ap is_simple_and_free c.in_ok-command.ensures ∙ command_line-free) in
+    λ usage none. fault_told _ _ kinds
+    (λ memory. let wanting = c.words_fault.ensures.memory (c.kind.ensures ∙ memory) in cc)
+    (ap (λ app. fault_of app (map string_bytes c.args.words.now)) c.in_ok-command.ensures ∙ none)

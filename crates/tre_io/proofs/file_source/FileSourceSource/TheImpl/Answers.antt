@@ -14,6 +14,7 @@ open-tells g c =
       opens = c.ensures.opens;
       by_name = on_ok_weaker c.result (λ _. tt) c.ensures.opens;
       bytes = on_ok_weaker c.result (λ _. tt) c.ensures.opens;
+      finds = on_ok_weaker c.result (λ _. tt) c.ensures.opens;
       opened_before =
           on_err_weaker c.result (λ same. ap (λ source. source.opened) same) c.ensures.unchanged;
       left_before = on_err_weaker c.result (λ same.

@@ -60,9 +60,9 @@ returns-in_ok-right-in-Meet t c =
     ∙ ap (λ e. intersection left (tree_of e)) (sym c.deref-in-Meet-2.ensures) in
     IfOk-weaker c.both_at.result _ _
     (λ mark is. start_moved time zones
-    (intersection_one time time zones one other intersection_none) (mark_of mark)
+    (intersection_one time zones one other intersection_none) (mark_of mark)
     (intersection left right) (tree_of c.args.expr.now) is form
-    (start_intersection time zones
+    (start_intersection time zones c.zones-zones.ensures.tight
     (λ none. both_ways c.is_empty.result c.if-is_empty.false (c.is_empty.ensures.1 none))
     c.requires.ends c.in_ok-moment-in-Meet.moment
     c.in_ok-moment-in-Meet.ensures one other left right c.in_ok-left-in-Meet.ensures
@@ -80,9 +80,9 @@ returns-in_ok-body-in-Within t c =
     ap tree_of c.in-Within.is
     ∙ ap (λ e. restriction (tree_of e) ends) (sym c.deref-in-Within.ensures) in
     IfOk-weaker c.lasting_at.result _ _
-    (λ mark is. start_moved time zones (restriction_one time time zones body restriction_none)
+    (λ mark is. start_moved time zones (restriction_one time zones body restriction_none)
     (mark_of mark) (restriction tree ends) (tree_of c.args.expr.now) is form
-    (start_restriction time zones
+    (start_restriction time zones c.zones-zones-in-Within.ensures.tight
     (λ none. both_ways c.is_empty.result c.if-is_empty.false (c.is_empty.ensures.1 none))
     c.requires.ends c.in_ok-moment-in-Within.moment
     c.in_ok-moment-in-Within.ensures body tree ends c.in_ok-body-in-Within.ensures))

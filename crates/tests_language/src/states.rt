@@ -1,0 +1,104 @@
+// Tests of tre_state.
+ghost use Rattle.std.specs.Prelude.{IfOk};
+ghost use Rattle.tre_state.specs.State.{tree_of};
+ghost use Rattle.tre_state.specs.StateTree.{NumbersBelow};
+ghost use Rattle.tre_state.specs.declared.names.TheConstants.{NAMES_MAX};
+
+use std::alloc::{AllocError, Global};
+use std::test::Fail;
+use tre_state::{NAMES_MAX, NameFault, Names, State, is_name, is_word};
+
+// Texts, whether each is a word, and whether it is a name.
+const WORDS: [(&str, bool, bool); 16] = [
+    ("p", true, true),
+    ("_", true, true),
+    ("req.valid_2", true, true),
+    ("Rise", true, true),
+    ("rise", true, false),
+    ("event", true, false),
+    ("eps", true, false),
+    ("fall", true, false),
+    ("inf", true, false),
+    ("true", true, false),
+    ("", false, false),
+    ("2p", false, false),
+    (".p", false, false),
+    ("p-q", false, false),
+    ("p q", false, false),
+    ("é", false, false),
+];
+
+#[test]
+fn names_are_told_from_words(rt: HostRuntime) {
+    for (text, word, name) in &WORDS {
+        let same = is_word(text.as_bytes()) == *word && is_name(text) == *name;
+        assert!(rt; same, "{text}");
+    }
+}
+
+// Whether the second of two names is q.
+fn ends_with_q(names: &Names) -> bool {
+    names.len() == 2 && names.name(1) == Some("q") && names.name(2).is_none()
+}
+
+#[test]
+fn names_are_numbered_once(rt: HostRuntime) -> Result<(), Fail> {
+    let mut names = Names::new(rt.alloc());
+    assert!(rt; is_name("p") && is_name("q"));
+    assert!(rt; names.number("p") == Ok(0));
+    assert!(rt; names.number("q") == Ok(1));
+    assert!(rt; names.number("p") == Ok(0));
+    assert!(rt; names.find("r").is_none());
+    assert!(rt; ends_with_q(&names.try_clone()?));
+    Ok(())
+}
+
+// The names p0 to p63.
+fn sixty_four(alloc: Global) -> Result<Names, Fail> {
+    let mut names = Names::new(alloc);
+    for i in 0u32..64 {
+        let name = format!(in alloc; "p{i}")?;
+        if is_name(name.as_str()) {
+            names.number(name.as_str())?;
+        }
+    }
+    Ok(names)
+}
+
+#[test]
+fn the_sixty_fifth_name_is_refused(rt: HostRuntime) -> Result<(), Fail> {
+    let mut names = sixty_four(rt.alloc())?;
+    assert!(rt; is_name("p63") && is_name("q"));
+    assert!(rt; names.number("p63") == Ok(63));
+    assert!(rt; names.number("q") == Err(NameFault::TooMany));
+    assert!(rt; names.len() == 64);
+    Ok(())
+}
+
+#[test]
+fn a_fault_has_its_name(rt: HostRuntime) -> Result<(), Fail> {
+    let message = format!(in rt.alloc(); "{}", NameFault::TooMany)?;
+    assert!(rt; message.as_str() == "TooMany");
+    Ok(())
+}
+
+// `!(p && q)`
+fn not_both(alloc: Global) -> Result<State, AllocError>
+    ensures { IfOk result (λ state. NumbersBelow NAMES_MAX (tree_of state)) }
+{
+    let p = Box::new(alloc, State::Prop(0))?;
+    let q = Box::new(alloc, State::Prop(1))?;
+    let both = Box::new(alloc, State::And(p, q))?;
+    Ok(State::Not(both))
+}
+
+#[test]
+fn a_copy_of_a_state_is_the_state(rt: HostRuntime) -> Result<(), Fail> {
+    let state = not_both(rt.alloc())?;
+    let copy = state.try_clone(rt.alloc())?;
+    assert!(rt; copy == state);
+    for (valuation, want) in [(0b00, true), (0b01, true), (0b10, true), (0b11, false)] {
+        assert!(rt; copy.eval(valuation) == want);
+    }
+    Ok(())
+}

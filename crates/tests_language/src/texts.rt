@@ -1,0 +1,69 @@
+// Tests of tre_show.
+use std::alloc::Global;
+use std::test::Fail;
+use tests_support::set_of;
+use tre_parse::parse;
+use tre_show::{number, offline_text, pattern_text, printed_order, zone_line};
+use tre_zone::Zone;
+
+// Patterns as an engineer writes them, and as they are printed.
+const PATTERNS: [(&str, &str); 6] = [
+    ("<:p:> % [2,inf)", "(rise(p);p;fall(p)) % [2,inf)"),
+    ("p+?", "p;p* | eps"),
+    ("p|(q|p)", "p | (q | p)"),
+    ("(p|q);p&q", "(p | q);p & q"),
+    ("{p || q && !p}*", "{p || q && !p}*"),
+    ("fall(!(p && q)) % (0,4]", "fall(!(p && q)) % (0,4]"),
+];
+
+fn printed(alloc: Global, text: &str) -> Result<String, Fail> {
+    let pattern = parse(alloc, text)?;
+    let printed = pattern_text(alloc, &pattern)?;
+    Ok(printed)
+}
+
+#[test]
+fn the_text_of_a_pattern_has_only_the_brackets_that_it_needs(rt: HostRuntime) -> Result<(), Fail> {
+    for (text, want) in &PATTERNS {
+        let printed = printed(rt.alloc(), *text)?;
+        assert!(rt; printed.as_str() == *want, "{text}");
+    }
+    Ok(())
+}
+
+#[test]
+fn a_zone_is_a_line(rt: HostRuntime) -> Result<(), Fail> {
+    let mut out = String::from_str(rt.alloc(), "at 3\n")?;
+    zone_line(&Zone::span(0, 3), &mut out)?;
+    assert!(rt; out.as_str() == "at 3\n[0,3) (0,3] (0,3]\n");
+    Ok(())
+}
+
+// The text of a whole match of the zones of the lines.
+fn whole(alloc: Global, lines: &[&str], end: u64) -> Result<String, Fail> {
+    let zones = printed_order(alloc, &set_of(alloc, lines)?)?;
+    let text = offline_text(alloc, &zones, end)?;
+    Ok(text)
+}
+
+#[test]
+fn lines_are_in_rising_order(rt: HostRuntime) -> Result<(), Fail> {
+    let lines = [
+        "[5,9) (5,9] (0,4]",
+        "[2,2] [2,2] [0,0]",
+        "[0,3) (0,3] (0,3]",
+    ];
+    let text = whole(rt.alloc(), &lines, 9)?;
+    let want = "[0,3) (0,3] (0,3]\n[2,2] [2,2] [0,0]\n[5,9) (5,9] (0,4]\nend 9\n";
+    assert!(rt; text.as_str() == want);
+    Ok(())
+}
+
+#[test]
+fn a_number_is_its_digits(rt: HostRuntime) -> Result<(), Fail> {
+    let mut out = String::from_str(rt.alloc(), "end ")?;
+    number(0, &mut out)?;
+    number(18446744073709551615, &mut out)?;
+    assert!(rt; out.as_str() == "end 018446744073709551615");
+    Ok(())
+}

@@ -1,0 +1,186 @@
+// What derivatives and marks tell of the second and third piece of a trace, and what goes on.
+ghost use Rattle.std.specs.Prelude.{◌≡◌, ◌≤◌, IfOk};
+ghost use Rattle.tre_state.specs.declared.names.TheConstants.{NAMES_MAX};
+ghost use Rattle.tre_syntax.specs.Expr.{tree_of};
+ghost use Rattle.tre_syntax.specs.PatternTree.{NumbersBelow};
+ghost use Rattle.tre_edges.specs.Piece.{end_of_piece};
+ghost use Rattle.tre_residual.specs.Residual.{residual_tree, IsWellAt};
+
+use crate::given::{are_matches, pattern};
+use std::alloc::{AllocError, Global};
+use std::test::Fail;
+use tre_derive::{fresh, step};
+use tre_edges::Piece;
+use tre_offline::local;
+use tre_residual::Residual;
+use tre_state::NAMES_MAX;
+use tre_syntax::{Expr, Pattern};
+use tre_trace::{Segment, Trace};
+use tre_zoneset::ZoneSet;
+
+// The length of a segment, and its valuation: of 1 p is true, of 2 q, of 3 both.
+type Length = (u8, u64);
+
+// Only the edge behind the piece on which p holds makes it a match.
+const FALLING: &str = "(p;fall(p)) & p";
+
+// The segment of a row, which lasts a tick at least.
+fn segment(length: Length) -> Segment
+    ensures long { 1 ≤ result.len }
+    ensures short { result.len ≤ 256 }
+{
+    let (len, val) = length;
+    Segment {
+        len: u64::from(len).max(1),
+        val,
+    }
+}
+
+// The first piece of a trace.
+fn first_piece(length: Length) -> Piece
+    ensures begin { result.begin ≡ 0 }
+    ensures len { result.segment.len ≤ 256 }
+{
+    Piece {
+        begin: 0,
+        segment: segment(length),
+        before: None,
+    }
+}
+
+// The piece behind another.
+fn next_piece(last: &Piece, length: Length) -> Piece
+    requires { end_of_piece last.now ≤ 1024 }
+    ensures begin { result.begin ≡ end_of_piece last.now }
+    ensures len { result.segment.len ≤ 256 }
+{
+    Piece {
+        begin: last.begin + last.segment.len,
+        segment: segment(length),
+        before: Some(last.segment.val),
+    }
+}
+
+// What is told at the second of two pieces of what has begun in the first.
+fn told(alloc: Global, text: &str, first: Length, second: Length) -> Result<ZoneSet, Fail> {
+    let pattern = pattern(alloc, text)?;
+    let first = first_piece(first);
+    let begun = fresh(alloc, pattern.expr(), &first)?;
+    let stepped = step(alloc, &begun, &next_piece(&first, second))?;
+    Ok(stepped.told)
+}
+
+const PAIRS: [(&str, Length, Length, (u64, u64), bool); 5] = [
+    ("p", (2, 1), (3, 1), (0, 5), true),
+    ("p", (2, 1), (3, 1), (0, 2), true),
+    ("p", (2, 1), (3, 1), (0, 1), false),
+    // The first part ends inside the first piece.
+    ("(p % [1,1]);q", (2, 3), (2, 2), (0, 3), true),
+    (FALLING, (2, 1), (1, 2), (0, 2), true),
+];
+
+// Whether the pair is told at the second of two pieces.
+fn tells(
+    alloc: Global,
+    text: &str,
+    first: Length,
+    second: Length,
+    pair: &(u64, u64),
+) -> Result<bool, Fail> {
+    let (a, b) = *pair;
+    Ok(told(alloc, text, first, second)?.holds(a, b, 1))
+}
+
+#[test]
+fn pairs_across_two_pieces(rt: HostRuntime) -> Result<(), Fail> {
+    for (text, first, second, pair, want) in &PAIRS {
+        let tells = tells(rt.alloc(), *text, *first, *second, pair)?;
+        assert!(rt; tells == *want, "{text}");
+    }
+    Ok(())
+}
+
+#[test]
+fn no_pair_before_its_edge(rt: HostRuntime) -> Result<(), Fail> {
+    let pattern = pattern(rt.alloc(), FALLING)?;
+    let piece = first_piece((2, 1));
+    assert!(rt; local(rt.alloc(), pattern.expr(), &piece)?.is_empty());
+    Ok(())
+}
+
+// Reads a piece: adds the pairs that it tells to those told before, and gives what goes on.
+fn read(
+    alloc: Global,
+    expr: &Expr,
+    piece: &Piece,
+    begun: &Residual,
+    told: &mut ZoneSet,
+) -> Result<Residual, AllocError>
+    requires numbers { NumbersBelow NAMES_MAX (tree_of expr.now) }
+    requires well { IsWellAt piece.now.begin (residual_tree begun.now) }
+    ensures { IfOk result (λ rest. IsWellAt (end_of_piece piece.now) (residual_tree rest)) }
+{
+    told.join(&local(alloc, expr, piece)?)?;
+    let stepped = step(alloc, begun, piece)?;
+    told.join(&stepped.told)?;
+    let new = fresh(alloc, expr, piece)?;
+    Residual::or(alloc, stepped.rest, new)
+}
+
+// Whether what was told of the trace and one more piece are the matches so far.
+fn is_right(
+    alloc: Global,
+    pattern: &Pattern,
+    trace: &mut Trace,
+    piece: &Piece,
+    told: &ZoneSet,
+) -> Result<bool, Fail> {
+    trace.push(piece.segment)?;
+    let right = are_matches(alloc, pattern, trace, told, 14)?;
+    Ok(right)
+}
+
+// After how many of the pieces what was told so far were the matches so far.
+fn right(alloc: Global, text: &str, lengths: &[Length; 3]) -> Result<u8, Fail> {
+    let pattern = pattern(alloc, text)?;
+    let mut told = ZoneSet::new(alloc);
+    let mut trace = Trace::new(alloc);
+    let mut right = 0;
+    let one = first_piece(lengths[0]);
+    let begun = read(alloc, pattern.expr(), &one, &Residual::Nil, &mut told)?;
+    right += u8::from(is_right(alloc, &pattern, &mut trace, &one, &told)?);
+    let two = next_piece(&one, lengths[1]);
+    let begun = read(alloc, pattern.expr(), &two, &begun, &mut told)?;
+    right += u8::from(is_right(alloc, &pattern, &mut trace, &two, &told)?);
+    let three = next_piece(&two, lengths[2]);
+    let _begun = read(alloc, pattern.expr(), &three, &begun, &mut told)?;
+    right += u8::from(is_right(alloc, &pattern, &mut trace, &three, &told)?);
+    Ok(right)
+}
+
+const PATTERNS: [&str; 7] = [
+    "(p % [1,1]);q",
+    FALLING,
+    "rise(p);p",
+    "(p % [1,1])*",
+    "(p;q)*",
+    "(p;q) % [2,3]",
+    "(p;q) | (p % [1,1])*",
+];
+
+const TRACES: [[Length; 3]; 4] = [
+    [(1, 1), (2, 3), (1, 2)],
+    [(2, 3), (1, 0), (2, 1)],
+    [(1, 0), (3, 1), (2, 2)],
+    [(2, 1), (2, 3), (1, 1)],
+];
+
+#[test]
+fn told_by_each_piece_are_the_matches(rt: HostRuntime) -> Result<(), Fail> {
+    for text in &PATTERNS {
+        for lengths in &TRACES {
+            assert!(rt; right(rt.alloc(), *text, lengths)? == 3, "{text}");
+        }
+    }
+    Ok(())
+}

@@ -1,0 +1,82 @@
+// Runs over devices whose counts of faults stand at their last value.
+ghost use Rattle.std.specs.Prelude.{◌-◌, ◌^◌};
+
+use crate::memory::{Device, FIRST_FAILS, SOUND, sink_of, source_of, words_of};
+use std::alloc::{AllocError, Global};
+use std::test::Fail;
+use tre_io::{Failed, MemSink, MemSource, Sink, Source};
+use tre_tool::{Status, run};
+
+/// A source or a sink whose count of faults stands at its last value.
+#[derive(Drop)]
+struct AtLastCount<T> {
+    inner: T,
+}
+
+impl<S: Source> Source for AtLastCount<S> {
+    ghost file_name = { λ device. S.file_name device.inner };
+
+    ghost file = { λ device. S.file device.inner };
+
+    ghost left = { λ device. S.left device.inner };
+
+    ghost found = { λ device. S.found device.inner };
+
+    ghost opened = { λ device. S.opened device.inner };
+
+    ghost sound = { λ device. S.sound device.inner };
+
+    ghost faults = { λ _. 2 ^ 64 - 1 };
+
+    ghost found_told = { λ device. S.found_told device.inner };
+
+    ghost told_together = { λ device. S.told_together device.inner };
+
+    ghost sound_tells = { λ device. S.sound_tells device.inner };
+
+    fn open(&mut self, name: &str) -> Result<(), Failed> {
+        self.inner.open(name)
+    }
+
+    fn read(&mut self, buffer: &mut [u8]) -> Result<usize, Failed> {
+        self.inner.read(buffer)
+    }
+}
+
+impl<K: Sink> Sink for AtLastCount<K> {
+    ghost written = { λ device. K.written device.inner };
+
+    ghost faults = { λ _. 2 ^ 64 - 1 };
+
+    fn write(&mut self, bytes: &[u8]) -> Result<usize, Failed> {
+        self.inner.write(bytes)
+    }
+}
+
+/// Runs `p` over such devices.
+fn ended_at_last_count(alloc: Global, read: Device, write: Device) -> Result<Status, AllocError> {
+    let words = words_of(alloc, &["p"])?;
+    let mut input = AtLastCount {
+        inner: source_of(alloc, "-", b"3 p\n", read)?,
+    };
+    let mut out = AtLastCount {
+        inner: sink_of(alloc, write)?,
+    };
+    let mut err = AtLastCount {
+        inner: sink_of(alloc, SOUND)?,
+    };
+    Ok(run(alloc, &words, &mut input, &mut out, &mut err))
+}
+
+#[test]
+fn counts_that_stand(rt: HostRuntime) -> Result<(), Fail> {
+    let rows = [
+        (SOUND, SOUND, Status::Done),
+        (FIRST_FAILS, SOUND, Status::ReadFault),
+        (SOUND, FIRST_FAILS, Status::WriteFault),
+    ];
+    for (read, write, status) in rows {
+        assert!(rt; ended_at_last_count(rt.alloc(), read, write)? == status);
+    }
+    Ok(())
+}

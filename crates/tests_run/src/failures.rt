@@ -1,0 +1,123 @@
+// Runs over devices of which a call fails.
+ghost use Rattle.std.specs.Prelude.{◌<◌};
+
+use crate::memory::{
+    Device, FIRST_FAILS, Ran, SOUND, ran_over, ran_with, sink_of, source_of, words_of,
+};
+use std::alloc::{AllocError, Global};
+use std::io::Cursor;
+use std::test::Fail;
+use tre_io::StdSink;
+use tre_tool::{Status, run};
+
+/// How many calls take `len` bytes, at most `most` of them a call.
+fn calls_for(len: u64, most: usize) -> u64
+    requires { 0 < most }
+{
+    len.div_ceil(most as u64)
+}
+
+/// Whether the run ends as it should where this read fails, if there are so many. Of the calls, one
+/// opens, the others read, and the last of them sees the end.
+fn read_fails(alloc: Global, most: usize, fails: u64) -> Result<bool, AllocError>
+    requires { 0 < most }
+{
+    let read = Device { most, fails };
+    let ran = ran_with(alloc, &["p"], "3 p q\n", [read, SOUND, SOUND])?;
+    if fails <= calls_for(6, most).saturating_add(2) {
+        Ok(ran.is(6, "", "montre: read fault\n"))
+    } else {
+        Ok(ran.is(0, "[0,3) (0,3] (0,3]\nend 3\n", ""))
+    }
+}
+
+#[test]
+fn each_read_fails_in_turn(rt: HostRuntime) -> Result<(), Fail> {
+    for most in 1..8 {
+        for fails in 1..10 {
+            assert!(rt;
+                read_fails(rt.alloc(), most, fails)?,
+                "call {fails}, {most} bytes a call"
+            );
+        }
+    }
+    Ok(())
+}
+
+/// Whether the run ends as it should where this write fails, if there are so many: the calls before
+/// it have written what they took, and nothing else is there.
+fn write_fails(alloc: Global, most: usize, fails: u64) -> Result<bool, AllocError>
+    requires { 0 < most }
+{
+    let write = Device { most, fails };
+    let ran = ran_with(alloc, &["p"], "3 p\n", [SOUND, write, SOUND])?;
+    let out = "[0,3) (0,3] (0,3]\nend 3\n";
+    if fails > calls_for(24, most) {
+        return Ok(ran.is(0, out, ""));
+    }
+    let taken = (most as u64).saturating_mul(fails.saturating_sub(1));
+    Ok(is_cut(&ran, 7, out, taken) && ran.err.as_slice() == b"montre: write fault\n".as_slice())
+}
+
+/// Whether the run ended with this code and wrote so many of the first bytes of the text.
+fn is_cut(ran: &Ran, code: u8, text: &str, len: u64) -> bool {
+    ran.code == code
+        && ran.out.len() as u64 == len
+        && text.as_bytes().starts_with(ran.out.as_slice())
+}
+
+#[test]
+fn each_write_fails_in_turn(rt: HostRuntime) -> Result<(), Fail> {
+    for most in 1..6 {
+        for fails in 1..26 {
+            assert!(rt;
+                write_fails(rt.alloc(), most, fails)?,
+                "call {fails}, {most} bytes a call"
+            );
+        }
+    }
+    Ok(())
+}
+
+/// Whether a first part of the line is there, so many bytes, with the status of a sound standard
+/// error.
+fn tells_part(alloc: Global, fails: u64, len: usize) -> Result<bool, AllocError> {
+    let tell = Device { most: 4096, fails };
+    let ran = ran_with(alloc, &["p"], "x\n", [SOUND, SOUND, tell])?;
+    let line = b"montre: trace: BadNumber at 1\n".as_slice();
+    Ok(ran.code == 4 && ran.err.len() == len && line.starts_with(ran.err.as_slice()))
+}
+
+/// Of each row: the call of standard error that fails, and how many bytes are there.
+#[test]
+fn standard_error_fails(rt: HostRuntime) -> Result<(), Fail> {
+    for (fails, len) in [(1, 0), (2, 15), (3, 24), (4, 28), (5, 29), (6, 30)] {
+        assert!(rt; tells_part(rt.alloc(), fails, len)?, "call {fails}");
+    }
+    let ran = ran_with(rt.alloc(), &[], "", [SOUND, SOUND, FIRST_FAILS])?;
+    assert!(rt; ran.is(2, "", ""));
+    Ok(())
+}
+
+/// How a run ends of which both outputs take some bytes and then none.
+fn ended_full(alloc: Global) -> Result<Status, AllocError> {
+    let words = words_of(alloc, &["p"])?;
+    let mut input = source_of(alloc, "-", b"3 p\n", SOUND)?;
+    let mut out = StdSink::over(Cursor::new([0u8; 8]));
+    let mut err = StdSink::over(Cursor::new([0u8; 4]));
+    Ok(run(alloc, &words, &mut input, &mut out, &mut err))
+}
+
+#[test]
+fn outputs_that_take_no_more(rt: HostRuntime) -> Result<(), Fail> {
+    assert!(rt; ended_full(rt.alloc())? == Status::WriteFault);
+    Ok(())
+}
+
+#[test]
+fn another_file_is_not_read(rt: HostRuntime) -> Result<(), Fail> {
+    let file = ("other", b"3 p\n".as_slice());
+    let ran = ran_over(rt.alloc(), &["p"], file, [SOUND, SOUND, SOUND])?;
+    assert!(rt; ran.has_out(6, ""));
+    Ok(())
+}

@@ -1,0 +1,287 @@
+// Tests of tre_vcd.
+use crate::reading::{feed, read};
+use std::alloc::Global;
+use std::test::Fail;
+use tests_support::names_of;
+use tre_trace::TraceKind::{LineTooLong, Spent};
+use tre_trace::{TraceFault, TraceKind, TraceReader};
+use tre_vcd::VcdReader;
+
+fn reader(alloc: Global, names: &str) -> Result<VcdReader, Fail> {
+    Ok(VcdReader::new(alloc, names_of(alloc, names)?))
+}
+
+// Whether the dump, read in pieces of this many bytes, says this for the propositions of the names:
+// segments, each as its length and its valuation, and the fault with its place.
+fn says(alloc: Global, names: &str, dump: &[u8], most: usize, want: &str) -> Result<bool, Fail> {
+    let said = read(alloc, &mut reader(alloc, names)?, dump, most)?;
+    Ok(said.as_str() == want)
+}
+
+const WORKED: &str = "$date today $end\n$version worked $end\n$timescale 1 ns $end\n\
+    $scope module top $end\n$var wire 1 ! p $end\n$var reg 8 \" n [7:0] $end\n$upscope $end\n\
+    $enddefinitions $end\n#0\n$dumpvars\n0!\nb0 \"\n$end\n#5\n1!\nb101 \"\n#9\n0!\n#10\n";
+
+#[test]
+fn worked_dump(rt: HostRuntime) -> Result<(), Fail> {
+    let dump = WORKED.as_bytes();
+    assert!(rt; dump.len() == 213);
+    for most in [1, 2, 7, 213] {
+        assert!(rt;
+            says(rt.alloc(), "top.p", dump, most, "5:0 4:1 1:0 ")?,
+            "{most}"
+        );
+    }
+    Ok(())
+}
+
+// The first bytes of the worked dump, and what they say.
+const CUT: [(usize, &str); 14] = [
+    (0, "CutShort 0"),
+    (147, "BadToken 143"),
+    (150, "CutShort 150"),
+    (158, "CutShort 158"),
+    (163, ""),
+    (164, ""),
+    (165, "BadToken 164"),
+    (177, "CutShort 177"),
+    (192, "5:0 "),
+    (194, "5:0 BadToken 193"),
+    (200, "5:0 CutShort 200"),
+    (205, "5:0 4:1 "),
+    (211, "5:0 4:1 TimeBack 209"),
+    (213, "5:0 4:1 1:0 "),
+];
+
+#[test]
+fn cut_dumps(rt: HostRuntime) -> Result<(), Fail> {
+    for (len, want) in &CUT {
+        let first = WORKED.as_bytes().get(..*len).ok_or("no dump")?;
+        assert!(rt; says(rt.alloc(), "top.p", first, 5, *want)?, "{len}");
+    }
+    Ok(())
+}
+
+// The header of a dump, which declares p and q.
+const HEADER: &str = "$var wire 1 ! p $end $var wire 1 \" q $end $enddefinitions $end ";
+
+// What stands behind the header, and what it says.
+const VALUES: [(&str, &str); 22] = [
+    // Times and dump sections.
+    ("$dumpvars #0 1! $end #2", "2:1 "),
+    ("$dumpvars 1! $end #0 #2", "2:1 "),
+    ("1! #2", "2:1 "),
+    ("#3 1! #3 1\" #4", "3:0 1:3 "),
+    ("#5 0! 1\" 1! #6", "5:0 1:3 "),
+    ("#1 1! 0! #2", "1:0 1:0 "),
+    ("#1 1! #2 #4 0!", "1:0 1:1 2:1 "),
+    (
+        "#1 $dumpoff x! x\" $end #2 $dumpon 1! 1\" $end #3",
+        "1:0 1:0 1:3 ",
+    ),
+    ("#1 $comment 1! #9 x $end 1\" #2", "1:0 1:2 "),
+    ("$dumpvars $comment c $end 1! $end #2", "2:1 "),
+    // Letters and vectors.
+    (
+        "z! #1 x! #2 Z! #3 X! #4 H! #5 -! #6",
+        "1:0 1:0 1:0 1:0 1:0 1:0 ",
+    ),
+    (
+        "b1 ! #1 bx ! #2 B01 ! #3 b1x ! #4 b0xux ! #5 b10 ! #6",
+        "1:1 1:0 1:1 1:0 1:0 1:0 ",
+    ),
+    ("b0 #5 b1 $end b1 ! #1", "1:1 "),
+    ("r1.5e-09 ! sred ! R0 # 1! #1", "1:1 "),
+    ("1!! 1x #1", "1:0 "),
+    ("#1\r\n1!\t1\"\u{b}#2\u{c}", "1:0 1:3 "),
+    // Faults, whose places are 63 bytes behind the beginning.
+    ("#9 #7", "9:0 TimeBack 66"),
+    (
+        "#1099511627776 #1099511627777",
+        "1099511627776:0 TooLate 78",
+    ),
+    ("#18446744073709551617", "TooLate 63"),
+    ("$end", "BadToken 63"),
+    ("#2 b1", "2:0 CutShort 68"),
+    ("#2 rx", "2:0 CutShort 68"),
+];
+
+// The header, and what stands behind it.
+fn with_header(alloc: Global, values: &str) -> Result<String, Fail> {
+    let mut dump = String::from_str(alloc, HEADER)?;
+    dump.push_str(values)?;
+    Ok(dump)
+}
+
+#[test]
+fn values(rt: HostRuntime) -> Result<(), Fail> {
+    for (values, want) in &VALUES {
+        let dump = with_header(rt.alloc(), *values)?;
+        for most in [1, 1000] {
+            assert!(rt;
+                says(rt.alloc(), "p q", dump.as_bytes(), most, *want)?,
+                "{values} {most}"
+            );
+        }
+    }
+    Ok(())
+}
+
+// Tokens that are none behind the declarations.
+const NO_VALUES: [&str; 14] = [
+    "1", "b", "B", "#", "#x", "#1.5", "q!", "META", "+1!", "$dump", "$scope", "$var", "[", "\u{e9}",
+];
+
+// The header, and then the token between two times.
+fn with_token(alloc: Global, token: &str) -> Result<String, Fail> {
+    let mut dump = with_header(alloc, "#2 ")?;
+    dump.push_str(token)?;
+    dump.push_str(" #3")?;
+    Ok(dump)
+}
+
+#[test]
+fn tokens_refused(rt: HostRuntime) -> Result<(), Fail> {
+    for token in &NO_VALUES {
+        let dump = with_token(rt.alloc(), *token)?;
+        let want = "2:0 BadToken 66";
+        assert!(rt;
+            says(rt.alloc(), "p", dump.as_bytes(), 1000, want)?,
+            "{token}"
+        );
+    }
+    Ok(())
+}
+
+// Whole dumps for the proposition `t.p`, and what they say.
+const DUMPS: [(&str, &str); 20] = [
+    (
+        "$scope module t $end $var wire 1 a p $end $enddefinitions $end 1a #1",
+        "1:1 ",
+    ),
+    // A scope is opened again, and others of other types are in and beside it.
+    (
+        "$scope module t $end $scope task u $end $var wire 1 b p $end $upscope $end $upscope $end \
+         $scope vhdl_architecture t $end $var logic 1 a p $end $enddefinitions $end 1a 0b #1",
+        "1:1 ",
+    ),
+    // The first of two declarations counts, and a name has one identifier only.
+    (
+        "$scope module t $end $var wire 1 a p $end $var wire 1 b p $end $enddefinitions $end \
+         1a 0b #1",
+        "1:1 ",
+    ),
+    (
+        "$scope module t $end $var wire 1 aaaab p $end $var reg 1 aaaab q $end \
+      $enddefinitions $end 1aaaab #1",
+        "1:1 ",
+    ),
+    // Identifiers and references of any bytes.
+    (
+        "$scope module t $end $var wire 1 #\" p $end $var wire 1 # #5 $end $var wire 1 $ 1! $end \
+      $enddefinitions $end 1#\" 0# 0$ #1",
+        "1:1 ",
+    ),
+    // What says nothing: sections, and white space.
+    (
+        "$date a\n b $end $attrbegin misc $end $timezero 0 $end $comment $scope x y $end\n\
+      \t$scope  module\tt $end\r\n $var wire  1 a p $end $upscope x $end $enddefinitions z $end \
+      1a #1",
+        "1:1 ",
+    ),
+    // No signals: vectors, reals, events, a name of two tokens, another scope.
+    (
+        "$scope module t $end $var wire 2 a p $end $enddefinitions $end #1",
+        "UnknownName 42",
+    ),
+    (
+        "$scope module t $end $var real 1 a p $end $enddefinitions $end #1",
+        "UnknownName 42",
+    ),
+    (
+        "$scope module t $end $var realtime 1 a p $end $enddefinitions $end",
+        "UnknownName 46",
+    ),
+    (
+        "$scope module t $end $var event 1 a p $end $enddefinitions $end",
+        "UnknownName 43",
+    ),
+    (
+        "$scope module t $end $var wire 1 a p [0:0] $end $enddefinitions $end",
+        "UnknownName 48",
+    ),
+    (
+        "$scope module t $end $upscope $end $var wire 1 a p $end $enddefinitions $end",
+        "UnknownName 56",
+    ),
+    ("$var wire 1 a t.p $end $enddefinitions $end 1a #1", "1:1 "),
+    // Faults in the declarations.
+    ("x", "BadToken 0"),
+    (" $end", "BadToken 1"),
+    ("$dumpvars", "BadToken 0"),
+    ("$upscope $end", "BadToken 0"),
+    ("$scope module $end", "BadToken 14"),
+    ("$var wire 1 a $end", "BadToken 14"),
+    ("$scope module t $end", "CutShort 20"),
+];
+
+#[test]
+fn declarations(rt: HostRuntime) -> Result<(), Fail> {
+    for (dump, want) in &DUMPS {
+        for most in [1, 1000] {
+            assert!(rt;
+                says(rt.alloc(), "t.p", dump.as_bytes(), most, *want)?,
+                "{dump} {most}"
+            );
+        }
+    }
+    Ok(())
+}
+
+// The names of propositions, a dump, and what it says.
+const UNDECLARED: [(&str, &str, &str); 4] = [
+    ("", "$enddefinitions $end\n#9\n#7\n", "9:0 TimeBack 24"),
+    ("", "$enddefinitions $end\n$dumpvars\n", "CutShort 31"),
+    ("", "$enddefinitions", "CutShort 15"),
+    (
+        "clk",
+        "$scope module top $end\n$var wire 1 ! clk $end\n$upscope $end\n$enddefinitions $end\n",
+        "UnknownName 60",
+    ),
+];
+
+#[test]
+fn no_names(rt: HostRuntime) -> Result<(), Fail> {
+    for (names, dump, want) in &UNDECLARED {
+        assert!(rt;
+            says(rt.alloc(), *names, dump.as_bytes(), 1, *want)?,
+            "{dump}"
+        );
+    }
+    Ok(())
+}
+
+fn fault(place: u64, kind: TraceKind) -> Result<(), TraceFault> {
+    Err(TraceFault { place, kind })
+}
+
+// A token of as many bytes as one may have.
+fn long_token(alloc: Global) -> Result<Vec<u8>, Fail> {
+    let mut long = Vec::new(alloc);
+    long.resize(65_536, b'x')?;
+    Ok(long)
+}
+
+#[test]
+fn a_token_may_have_so_many_bytes(rt: HostRuntime) -> Result<(), Fail> {
+    let long = long_token(rt.alloc())?;
+    let mut segments = Vec::new(rt.alloc());
+    let mut reader = reader(rt.alloc(), "")?;
+    for piece in [b"$date ".as_slice(), &long, b" ".as_slice(), &long] {
+        assert!(rt; feed(&mut reader, piece, &mut segments).is_ok());
+    }
+    assert!(rt; feed(&mut reader, b"x", &mut segments) == fault(65_543, LineTooLong));
+    assert!(rt; feed(&mut reader, b" ", &mut segments) == fault(0, Spent));
+    assert!(rt; reader.finish(&mut segments) == fault(0, Spent));
+    Ok(())
+}

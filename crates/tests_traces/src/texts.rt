@@ -1,0 +1,130 @@
+// Tests of tre_text.
+use crate::reading::{feed, read, read_cut};
+use std::alloc::Global;
+use std::test::Fail;
+use tests_support::names_of;
+use tre_text::TextReader;
+use tre_trace::TraceKind::{LineTooLong, Spent};
+use tre_trace::{Segment, TraceFault, TraceKind, TraceReader};
+
+fn reader(alloc: Global, names: &str) -> Result<TextReader, Fail> {
+    Ok(TextReader::new(alloc, names_of(alloc, names)?))
+}
+
+// The names of propositions, a text, and what it says: segments, each as its length and its
+// valuation, and the fault with its line.
+const TEXTS: [(&str, &str, &str); 17] = [
+    ("p", "", ""),
+    ("p", "2 p\n3", "2:1 3:0 "),
+    ("p", "# c\n\n \t\n2 p\r\n\t1\tp  p zz \r\n", "2:1 1:1 "),
+    ("p", "0002 p p zz", "2:1 "),
+    ("q p", "2 p q\r\n1 true event q.\n1 p", "2:3 1:0 1:2 "),
+    ("p", "1 p\r", "1:1 "),
+    ("p", "0 p", "Zero 1"),
+    ("p", "x p", "BadNumber 1"),
+    ("p", "1 9p", "BadName 1"),
+    ("p", "1099511627776 p\n1 p\nx", "1099511627776:1 TooLate 2"),
+    ("p", "18446744073709551617 p", "TooLate 1"),
+    ("p", "  # c\n\n1\n0\nx", "1:0 Zero 4"),
+    ("p", "1 p\n2 #p", "1:1 BadName 2"),
+    ("p", "00 9", "Zero 1"),
+    ("p", "0x 9", "BadNumber 1"),
+    ("p", "1099511627777 9", "TooLate 1"),
+    ("p", "1\r\r\n", "BadNumber 1"),
+];
+
+// Whether the text says this, cut in two at each place.
+fn says_however_cut(alloc: Global, names: &str, text: &str, want: &str) -> Result<bool, Fail> {
+    let bytes = text.as_bytes();
+    for cut in 0..=bytes.len() {
+        let mut reader = reader(alloc, names)?;
+        let said = read_cut(alloc, &mut reader, &bytes[..cut], &bytes[cut..])?;
+        if said.as_str() != want {
+            return Ok(false);
+        }
+    }
+    Ok(true)
+}
+
+#[test]
+fn cut_at_each_place(rt: HostRuntime) -> Result<(), Fail> {
+    for (names, text, want) in &TEXTS {
+        assert!(rt;
+            says_however_cut(rt.alloc(), *names, *text, *want)?,
+            "{text}"
+        );
+    }
+    Ok(())
+}
+
+// Whether the text says this, byte by byte.
+fn says(alloc: Global, names: &str, text: &str, want: &str) -> Result<bool, Fail> {
+    let mut reader = reader(alloc, names)?;
+    let said = read(alloc, &mut reader, text.as_bytes(), 1)?;
+    Ok(said.as_str() == want)
+}
+
+#[test]
+fn byte_by_byte(rt: HostRuntime) -> Result<(), Fail> {
+    for (names, text, want) in &TEXTS {
+        assert!(rt; says(rt.alloc(), *names, *text, *want)?, "{text}");
+    }
+    Ok(())
+}
+
+fn fault(place: u64, kind: TraceKind) -> Result<(), TraceFault> {
+    Err(TraceFault { place, kind })
+}
+
+#[test]
+fn segments_come_with_their_line_ends(rt: HostRuntime) -> Result<(), Fail> {
+    let mut reader = reader(rt.alloc(), "p")?;
+    let mut segments = Vec::new(rt.alloc());
+    assert!(rt; feed(&mut reader, b"2 p", &mut segments).is_ok());
+    assert!(rt; segments.is_empty());
+    assert!(rt; feed(&mut reader, b"\n3", &mut segments).is_ok());
+    assert!(rt; segments.as_slice() == [Segment { len: 2, val: 1 }].as_slice());
+    assert!(rt; reader.finish(&mut segments).is_ok());
+    let both = [Segment { len: 2, val: 1 }, Segment { len: 3, val: 0 }];
+    assert!(rt; segments.as_slice() == both.as_slice());
+    Ok(())
+}
+
+#[test]
+fn a_finished_reader_is_spent(rt: HostRuntime) -> Result<(), Fail> {
+    let mut reader = reader(rt.alloc(), "p")?;
+    let mut segments = Vec::new(rt.alloc());
+    assert!(rt; feed(&mut reader, b"2 p\n3", &mut segments).is_ok());
+    assert!(rt; reader.finish(&mut segments).is_ok());
+    assert!(rt; feed(&mut reader, b"1\n", &mut segments) == fault(0, Spent));
+    assert!(rt; reader.finish(&mut segments) == fault(0, Spent));
+    assert!(rt; segments.len() == 2);
+    assert!(rt; reader.fed() == 5);
+    Ok(())
+}
+
+// As many spaces as a line may have bytes.
+fn spaces(alloc: Global) -> Result<Vec<u8>, Fail> {
+    let mut spaces = Vec::new(alloc);
+    spaces.resize(65_536, b' ')?;
+    Ok(spaces)
+}
+
+#[test]
+fn a_line_may_have_so_many_bytes(rt: HostRuntime) -> Result<(), Fail> {
+    let spaces = spaces(rt.alloc())?;
+    let said = read(rt.alloc(), &mut reader(rt.alloc(), "p")?, &spaces, 65_536)?;
+    assert!(rt; said.is_empty());
+    Ok(())
+}
+
+#[test]
+fn a_line_may_have_no_more_bytes(rt: HostRuntime) -> Result<(), Fail> {
+    let mut reader = reader(rt.alloc(), "p")?;
+    let mut segments = Vec::new(rt.alloc());
+    assert!(rt; feed(&mut reader, &spaces(rt.alloc())?, &mut segments).is_ok());
+    assert!(rt; feed(&mut reader, b" ", &mut segments) == fault(1, LineTooLong));
+    assert!(rt; feed(&mut reader, b"\n", &mut segments) == fault(0, Spent));
+    assert!(rt; segments.is_empty());
+    Ok(())
+}

@@ -1,0 +1,109 @@
+// Tests of tre_index.
+ghost use Rattle.std.specs.Prelude.{◌<◌};
+
+use std::alloc::{AllocError, Global};
+use std::test::Fail;
+use tre_index::{Row, RowIndex, ZoneIndex, key_after, key_before, key_meeting};
+use tre_zone::Zone;
+
+// How the rows stand, of which each is that of a stretch of three ticks.
+#[derive(Clone, Copy)]
+enum Order {
+    Time,
+    Reverse,
+    Random,
+}
+
+// How many rows there are: so many that blocks of blocks of blocks are.
+const ROWS: u64 = 601;
+
+// The time at which the stretch at the place begins.
+fn begin_at(order: Order, place: u64) -> u64
+    requires { place < ROWS }
+    ensures { result < ROWS }
+{
+    match order {
+        Order::Time => place,
+        Order::Reverse => ROWS - 1 - place,
+        Order::Random => place * 77 % ROWS,
+    }
+}
+
+fn rows(alloc: Global, order: Order) -> Result<Vec<Row>, AllocError> {
+    let mut rows = Vec::new(alloc);
+    for place in 0..ROWS {
+        let begin = begin_at(order, place);
+        rows.push(Zone::span(begin, begin + 3).row())?;
+    }
+    Ok(rows)
+}
+
+fn pushed(alloc: Global, rows: &[Row]) -> Result<RowIndex<Row>, AllocError> {
+    let mut index = RowIndex::new(alloc);
+    for row in rows {
+        index.push(*row)?;
+    }
+    Ok(index)
+}
+
+// The first place from `from` on whose row is at least the key, by looking at each.
+fn plain_next(rows: &[Row], from: usize, key: &Row) -> Option<usize> {
+    for (place, row) in rows.iter().enumerate() {
+        if place >= from && row.iter().zip(key).all(|(lane, least)| lane >= least) {
+            return Some(place);
+        }
+    }
+    None
+}
+
+// Whether the index finds in the rows what looking at each does, from many places on.
+fn finds(index: &RowIndex<Row>, rows: &[Row]) -> bool {
+    for begin in [0, 1, 300, 599, 600, 601] {
+        let key = key_after(&Zone::span(begin, begin + 1));
+        for from in [0, 1, 7, 8, 9, 63, 64, 65, 512, 600, 601] {
+            if index.next_at_least(from, &key) != plain_next(rows, from, &key) {
+                return false;
+            }
+        }
+    }
+    true
+}
+
+#[test]
+fn rows_in_any_order(rt: HostRuntime) -> Result<(), Fail> {
+    for order in [Order::Time, Order::Reverse, Order::Random] {
+        let rows = rows(rt.alloc(), order)?;
+        assert!(rt; finds(&pushed(rt.alloc(), &rows)?, &rows));
+        assert!(rt; finds(&RowIndex::of_list(rt.alloc(), rows.clone()?)?, &rows));
+    }
+    Ok(())
+}
+
+// The stretches from 0 to 2, from 3 to 5 and from 6 to 8.
+fn stretches(alloc: Global) -> Result<ZoneIndex, AllocError> {
+    let mut index = ZoneIndex::new(alloc);
+    index.push(Zone::span(0, 2))?;
+    index.push(Zone::span(3, 5))?;
+    index.push(Zone::span(6, 8))?;
+    Ok(index)
+}
+
+#[test]
+fn zones_that_touch(rt: HostRuntime) -> Result<(), Fail> {
+    let index = stretches(rt.alloc())?;
+    let (early, late) = (Zone::span(1, 3), Zone::span(8, 9));
+    let table = [
+        (1, key_after(&early), Some(1)),
+        (2, key_after(&early), None),
+        (0, key_before(&late), Some(2)),
+        (0, key_meeting(&Zone::span(7, 9)), Some(2)),
+        (0, key_meeting(&Zone::span(9, 10)), None),
+    ];
+    for (from, key, place) in &table {
+        assert!(rt; index.next_at_least(*from, key) == *place);
+    }
+    assert!(rt; index.includes(&Zone::span(6, 7)));
+    assert!(rt; !index.includes(&early));
+    assert!(rt; index.into_items().len() == 3);
+    Ok(())
+}

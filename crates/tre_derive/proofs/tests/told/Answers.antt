@@ -1,4 +1,0 @@
-use Rattle.tre_derive.proofs.tests.told.Goals as goal
-
-pub step-requires : goal.step-requires
-step-requires c = rw c.next_piece.ensures.begin c.in_ok-begun.ensures.across.well

@@ -1,0 +1,10 @@
+use Rattle.std.proofs.Common.{refl, arith}
+use Rattle.tre_index.proofs.Turns.{row_at, HasNone-late}
+use Rattle.tre_index.proofs.turn.first_late.Goals as goal
+
+pub returns-then-is_late-clause-none : goal.returns-then-is_late-clause-none
+returns-then-is_late-clause-none g c =
+    HasNone-late _ c.args.key.now c.row.result c.loop-place.place _ c.requires.turn
+    (row_at g.T.HasRow.row_of c.args.items.now c.loop-place.place c.index-items-place.result
+    c.row.result (omega arith) c.index-items-place.is c.row.ensures)
+    (c.if-is_late.ensures.0 refl)

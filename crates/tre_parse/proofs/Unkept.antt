@@ -1,0 +1,256 @@
+-- The first interval that can't be kept, from the tokens that one function reads to those of
+-- another; and that where no number is too big it is the first empty one.
+use Rattle.std.proofs.Common.{◌≡◌, ◌≢◌, ℕ, ◌+◌, ◌-◌, Bool, true, false, Option, Some, None, List, [], ◌∷◌, ◌++◌, length, inl, inr, refl, sym, ◌∙◌, ap, subst, arith, append_assoc, length-append}
+use Rattle.std.specs.Prelude.{MatchOption, position}
+use Rattle.std.proofs.lemmas.List.{append-nil}
+use Rattle.tre_state.specs.StateTree.{StateTree}
+use Rattle.tre_zone.specs.Interval.{IntervalEnds}
+use Rattle.tre_parse.specs.declared.token.Token.{Token}
+use Rattle.tre_parse.specs.declared.token.Token.TheVariants.{RightParen, RightBrace, DoubleBar, DoubleAmpersand, Percent}
+use Rattle.tre_parse.specs.declared.connective.Join.{Join}
+use Rattle.tre_parse.specs.declared.connective.Join.TheVariants.{Sequence, Intersection, Alternation}
+use Rattle.tre_parse.specs.Joins.{join_sign, edge_sign}
+use Rattle.tre_parse.specs.Grammar.{StateRule, lit, state, conj, neg, SpellsState, lit_name, lit_true, lit_braces, lit_bang, state_conj, state_bars, conj_neg, conj_ampersands, neg_name, neg_true, neg_parens, neg_bang, SpellsInterval, with_high, without_high}
+use Rattle.tre_parse.specs.Begins.{BeginsInterval}
+use Rattle.tre_parse.specs.Parts.{IsFineInterval, IsMadeOf}
+use Rattle.tre_parse.specs.Tokens.{earlier}
+use Rattle.tre_parse.specs.Operands.{Formula, RepresentsState}
+use Rattle.tre_parse.specs.Outcome.{is_big, HasEmptyAt, NoneEmptyBefore, NoneEmpty, IsFirstEmpty}
+use Rattle.tre_parse.specs.Reader.{Reading, got, StateTask, of_state, of_interval, read, read_state}
+use Rattle.tre_parse.specs.Reading.{Goes, Accepts}
+use Rattle.tre_parse.specs.Unkept.{BeginsUnkept, Finds, FindsUpTo, unkept_at}
+use Rattle.tre_parse.proofs.Empties.{none_before_one, none_before_more, none_empty, unkept_empty, same_ends}
+use Rattle.tre_parse.proofs.Fine.{none_big, ends_within}
+use Rattle.tre_parse.proofs.Fixpoint.{left}
+use Rattle.tre_parse.proofs.Says.{StateSpelt, StateBegun, Says}
+use Rattle.tre_parse.proofs.Rules.{task_says}
+
+finds_past : (t : Token) (rest : List Token) (found : Option ℕ) → t ≢ Percent → Finds rest found
+    → Finds (t ∷ rest) found
+finds_past Percent rest found n h = absurd (n refl)
+finds_past _ rest found n h = h
+
+earlier_grouped : (a b c : Option ℕ) → earlier (earlier a b) c ≡ earlier a (earlier b c)
+earlier_grouped None b c = refl
+earlier_grouped (Some n) b c = refl
+
+pub earlier_none : (a : Option ℕ) → earlier a None ≡ a
+earlier_none None = refl
+earlier_none (Some n) = refl
+
+pub join_no_percent : (how : Join) → join_sign how ≢ Percent
+join_no_percent Sequence q = cc
+join_no_percent Intersection q = cc
+join_no_percent Alternation q = cc
+
+pub edge_no_percent : (rises : Bool) → edge_sign rises ≢ Percent
+edge_no_percent true q = cc
+edge_no_percent false q = cc
+
+-- ---- one part behind the other
+
+pub up_to_past : (t : Token) (old us new : List Token) (found : Option ℕ) → old ≡ t ∷ us
+    → t ≢ Percent → FindsUpTo us new found → FindsUpTo old new found
+up_to_past t old us new found e n k = λ later h.
+    subst (λ l. Finds l (earlier found later)) (sym e)
+    (finds_past t us (earlier found later) n (k later h))
+
+pub up_to_end : (t : Token) (old ts new : List Token) (found now : Option ℕ)
+    → FindsUpTo old ts found → ts ≡ t ∷ new → t ≢ Percent → now ≡ found → FindsUpTo old new now
+up_to_end t old ts new found now k e n same = λ later h.
+    subst (λ o. Finds old (earlier o later)) (sym same)
+    (k later (subst (λ l. Finds l later) (sym e) (finds_past t new later n h)))
+
+pub up_to_joined : (old ts new : List Token) (a b c : Option ℕ) → FindsUpTo old ts a
+    → FindsUpTo ts new b → c ≡ earlier a b → FindsUpTo old new c
+up_to_joined old ts new a b c k m e = λ later h.
+    subst (λ o. Finds old o) (sym (ap (λ x. earlier x later) e ∙ earlier_grouped a b later))
+    (k (earlier b later) (m later h))
+
+pub up_to_accept : (t : Token) (is : Bool) (old us new : List Token) (found : Option ℕ)
+    → Accepts t is old us → t ≢ Percent → FindsUpTo us new found → FindsUpTo old new found
+up_to_accept t true old us new found a n k = up_to_past t old us new found a n k
+up_to_accept t false old us new found a n k = subst (λ l. FindsUpTo l new found) a.0 k
+
+pub up_to_accepted : (t : Token) (is : Bool) (old ts new : List Token) (found now : Option ℕ)
+    → FindsUpTo old ts found → Accepts t is ts new → t ≢ Percent → now ≡ found
+    → FindsUpTo old new now
+up_to_accepted t true old ts new found now k a n same =
+    up_to_end t old ts new found now k a n same
+up_to_accepted t false old ts new found now k a n same =
+    subst (λ o. FindsUpTo old new o) (sym same) (subst (λ l. FindsUpTo old l found) (sym a.0) k)
+
+-- ---- states and intervals
+
+skips_state : (r : StateRule) (xs : List Token) (s : StateTree) → SpellsState r xs s
+    → (ys : List Token) (found : Option ℕ) → Finds ys found → Finds (xs ++ ys) found
+skips_state _ _ _ (lit_name i) ys found h = h
+skips_state _ _ _ lit_true ys found h = h
+skips_state _ _ _ (lit_bang xs s k) ys found h = skips_state lit xs s k ys found h
+skips_state _ _ _ (lit_braces xs s k) ys found h =
+    subst (λ l. Finds l found) (sym (append_assoc xs (RightBrace ∷ []) ys))
+    (skips_state state xs s k (RightBrace ∷ ys) found h)
+skips_state _ _ _ (state_conj xs s k) ys found h = skips_state conj xs s k ys found h
+skips_state _ _ _ (state_bars xs zs s t k m) ys found h =
+    subst (λ l. Finds l found) (sym (append_assoc xs (DoubleBar ∷ zs) ys))
+    (skips_state state xs s k (DoubleBar ∷ (zs ++ ys)) found (skips_state conj zs t m ys found h))
+skips_state _ _ _ (conj_neg xs s k) ys found h = skips_state neg xs s k ys found h
+skips_state _ _ _ (conj_ampersands xs zs s t k m) ys found h =
+    subst (λ l. Finds l found) (sym (append_assoc xs (DoubleAmpersand ∷ zs) ys))
+    (skips_state conj xs s k (DoubleAmpersand ∷ (zs ++ ys)) found
+    (skips_state neg zs t m ys found h))
+skips_state _ _ _ (neg_name i) ys found h = h
+skips_state _ _ _ neg_true ys found h = h
+skips_state _ _ _ (neg_bang xs s k) ys found h = skips_state neg xs s k ys found h
+skips_state _ _ _ (neg_parens xs s k) ys found h =
+    subst (λ l. Finds l found) (sym (append_assoc xs (RightParen ∷ []) ys))
+    (skips_state state xs s k (RightParen ∷ ys) found h)
+
+pub up_to_state : (r : StateRule) (task : StateTask) (x : Formula) (old new : List Token)
+    → ((xs : List Token) (s : StateTree) → StateSpelt task xs s → SpellsState r xs s) →
+    Goes RepresentsState x (read_state task old) (λ s. got s new) → FindsUpTo old new None
+up_to_state r task x old new spelt k = λ later h.
+    let s = task_says (of_state task) old in
+    let P = λ (o : Reading StateTree). Says (StateSpelt task) (StateBegun task) s.taken o in
+    let split = s.split ∙ ap (λ o. s.taken ++ left o) k.goes in
+    subst (λ l. Finds l later) (sym split)
+    (skips_state r s.taken k.tree (spelt s.taken k.tree (subst P k.goes s.says)) new later h)
+
+skips_interval : (xs : List Token) (ends : IntervalEnds) → SpellsInterval xs ends
+    → (ys : List Token) (found : Option ℕ) → Finds ys found → Finds (xs ++ ys) found
+skips_interval _ _ (with_high low high true true) ys found h = h
+skips_interval _ _ (with_high low high true false) ys found h = h
+skips_interval _ _ (with_high low high false true) ys found h = h
+skips_interval _ _ (with_high low high false false) ys found h = h
+skips_interval _ _ (without_high low true) ys found h = h
+skips_interval _ _ (without_high low false) ys found h = h
+
+pub up_to_interval : (within : Option IntervalEnds) (us new : List Token)
+    → Goes IsMadeOf within (read of_interval us) (λ ends. got ends new) →
+    FindsUpTo (Percent ∷ us) new (unkept_at within (length us))
+up_to_interval within us new k =
+    let s = task_says of_interval us in
+    let P = λ (o : Reading IntervalEnds). Says SpellsInterval BeginsInterval s.taken o in
+    by within k.tree s.taken (s.split ∙ ap (λ o. s.taken ++ left o) k.goes) (subst P k.goes s.says)
+    k.stands
+  where
+    by : (within : Option IntervalEnds) (ends : IntervalEnds) (taken : List Token)
+        → us ≡ taken ++ new → SpellsInterval taken ends → IsMadeOf within ends
+        → FindsUpTo (Percent ∷ us) new (unkept_at within (length us))
+    by None ends taken split spells made = λ later h. inl (
+      record {
+        ends = ends;
+        body = taken;
+        rest = new;
+        split = split;
+        spells = spells;
+        unkept = λ fine. let some = made.made fine in (cc);
+      },
+      refl,
+    )
+    by (Some kept) ends taken split spells made = λ later h. inr (
+      (λ u. u.unkept (subst IsFineInterval (same_ends us taken u.body new u.rest ends u.ends split
+          u.split spells u.spells) (made.fine refl))),
+      subst (λ l. Finds l later) (sym split) (skips_interval taken ends spells new later h),
+    )
+
+-- ---- all the tokens
+
+same_place : (front other xs ys : List Token) → front ++ xs ≡ other ++ ys → length front
+    ≡ length other → xs ≡ ys
+same_place [] [] xs ys e n = e
+same_place [] (o ∷ other) xs ys e n = absurd (omega (arith, n))
+same_place (f ∷ front) [] xs ys e n = absurd (omega (arith, n))
+same_place (f ∷ front) (o ∷ other) xs ys e n = same_place front other xs ys (tail f o _ _ e)
+    (omega (arith, n))
+  where
+    tail : (a b : Token) (us vs : List Token) → a ∷ us ≡ b ∷ vs → us ≡ vs
+    tail a b us vs q = cc
+
+-- What is found in the rest, where no interval before it is empty.
+abbrev pub IsFound : List Token → Option ℕ → Type 0
+IsFound tokens found = MatchOption found (NoneEmpty tokens)
+    (λ left. IsFirstEmpty tokens (length tokens - left))
+
+no_empty_at : (front rest : List Token) (t : Token) → (t ≡ Percent → BeginsUnkept rest → ⊥)
+    → HasEmptyAt (front ++ t ∷ rest) (length front + 1) → ⊥
+no_empty_at front rest t never k =
+    let s = k.stands in
+    let same = same_place front s.front (t ∷ rest) (Percent ∷ (s.body ++ s.rest)) s.split
+    (omega (arith, s.here)) in
+    let first : t ≡ Percent = cc in
+    let later : rest ≡ s.body ++ s.rest = cc in
+    never first (record {
+      ends = k.ends;
+      body = s.body;
+      rest = s.rest;
+      split = later;
+      spells = s.spelt;
+      unkept = λ fine. fine.lasts k.empty;
+    })
+
+empty_at : (front rest : List Token) → position is_big (front ++ Percent ∷ rest) ≡ None
+    → NoneEmptyBefore (front ++ Percent ∷ rest) (length front + 1) → BeginsUnkept rest →
+    IsFirstEmpty (front ++ Percent ∷ rest) (length (front ++ Percent ∷ rest) - length rest)
+empty_at front rest big none u =
+    let tokens = front ++ Percent ∷ rest in
+    let split = ap (λ l. front ++ Percent ∷ l) u.split in
+    let count = length-append front (Percent ∷ rest) in
+    let here : length front + 1 ≡ length tokens - length rest = omega (arith, count) in
+    subst (IsFirstEmpty tokens) here (record {
+      here = record {
+        ends = u.ends;
+        stands = record {
+          front = front;
+          body = u.body;
+          rest = u.rest;
+          split = split;
+          spelt = u.spells;
+          here = refl;
+        };
+        empty = unkept_empty u.ends
+            (ends_within tokens front u.body u.rest u.ends (none_big tokens big) split u.spells)
+            u.unkept;
+      };
+      first = none;
+    })
+
+-- One token further.
+finds_more : (front rest : List Token) (t : Token) (found : Option ℕ)
+    → NoneEmptyBefore (front ++ t ∷ rest) (length front + 1)
+    → (t ≡ Percent → BeginsUnkept rest → ⊥) →
+    (NoneEmptyBefore ((front ++ t ∷ []) ++ rest) (length (front ++ t ∷ []) + 1)
+    → IsFound ((front ++ t ∷ []) ++ rest) found) → IsFound (front ++ t ∷ rest) found
+finds_more front rest t found none never go =
+    let same = append_assoc front (t ∷ []) rest in
+    let n = length-append front (t ∷ []) in
+    let more : length front + 1 + 1 ≡ length (front ++ t ∷ []) + 1 = omega (arith, n) in
+    let P = λ (k : ℕ). NoneEmptyBefore (front ++ t ∷ rest) k in
+    let Q = λ (l : List Token). NoneEmptyBefore l (length (front ++ t ∷ []) + 1) in
+    subst (λ l. IsFound l found) same (go (subst Q (sym same) (subst P more
+    (none_before_more (front ++ t ∷ rest) (length front) none
+    (no_empty_at front rest t never)))))
+
+finds_on : (front rest : List Token) (found : Option ℕ)
+    → position is_big (front ++ rest) ≡ None → NoneEmptyBefore (front ++ rest) (length front + 1)
+    → Finds rest found → IsFound (front ++ rest) found
+finds_on front [] found big none e =
+    let n = ap length (append-nil front) in
+    subst (IsFound (front ++ [])) (sym e)
+    (none_empty (front ++ []) (length front) (omega (arith, n)) none)
+finds_on front (Percent ∷ rest) found big none (inl h) =
+    subst (IsFound (front ++ Percent ∷ rest)) (sym h.1) (empty_at front rest big none h.0)
+finds_on front (Percent ∷ rest) found big none (inr h) =
+    finds_more front rest Percent found none (λ q. h.0)
+    (λ k. finds_on (front ++ Percent ∷ []) rest found
+    (ap (position is_big) (append_assoc front (Percent ∷ []) rest) ∙ big) k h.1)
+finds_on front (t ∷ rest) found big none h =
+    finds_more front rest t found none (λ q. absurd (cc))
+    (λ k. finds_on (front ++ t ∷ []) rest found
+    (ap (position is_big) (append_assoc front (t ∷ []) rest) ∙ big) k h)
+
+pub finds_first : (tokens : List Token) (found : Option ℕ) → position is_big tokens ≡ None
+    → FindsUpTo tokens [] found → IsFound tokens found
+finds_first tokens found big k =
+    finds_on [] tokens found big (none_before_one tokens)
+    (subst (Finds tokens) (earlier_none found) (k None refl))

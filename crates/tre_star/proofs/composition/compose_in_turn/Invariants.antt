@@ -1,0 +1,11 @@
+use Rattle.tre_zone.specs.Longest.{LastsUpTo}
+use Rattle.std.proofs.Common.{take}
+use Rattle.tre_pairs.specs.Pairs.{Composed, Lasting}
+use Rattle.tre_zone.specs.ZoneList.{SetHolds, HoldExactly}
+use Rattle.tre_star.proofs.composition.compose_in_turn.Given as goal
+
+abbrev pub invariant-loop-zone : goal.invariant-loop-zone
+invariant-loop-zone l =
+    HoldExactly l.found.items
+    (Lasting (LastsUpTo l.longest)
+    (Composed (SetHolds (take l.zone-index l.first)) (SetHolds l.second)))

@@ -1,0 +1,12 @@
+use Rattle.tre_zoneset.proofs.Unions.{HoldExactly-gathered}
+use Rattle.tre_star.proofs.composition.compose_sets_up_to.Goals as goal
+
+pub returns : goal.returns
+returns c =
+    HoldExactly-gathered c.in_ok-composed.composed c.in_ok-found.found.items _
+    c.in_ok-composed.ensures
+    (rw (c.zones.ensures.same, c.zones-2.ensures.same) at c.in_ok-found.ensures)
+
+pub compositions_of-requires-clause-seconds : goal.compositions_of-requires-clause-seconds
+compositions_of-requires-clause-seconds c = rw c.zones-2.ensures.same
+    c.zones-2.ensures.set.canonical

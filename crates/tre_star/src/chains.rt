@@ -1,0 +1,224 @@
+ghost use Rattle.std.specs.Prelude.{◌≤◌, OnOk, IfOk};
+ghost use Rattle.tre_pairs.specs.Pairs.{Either, Composed, Lasting, Chain};
+ghost use Rattle.tre_zone.specs.Longest.{LastsUpTo, IsLongest};
+ghost use Rattle.tre_zone.specs.Zone.{ZoneHolds, IsInstantBetween};
+ghost use Rattle.tre_zone.specs.ZoneList.{SetHolds, AreCanonical, HoldExactly};
+ghost use Rattle.tre_zoneset.specs.ZoneSet.{FoundHolds};
+ghost use Rattle.tre_star.specs.Growth.{HasGrown};
+ghost use Rattle.tre_star.specs.Parts.{SomeSteps};
+
+use crate::parts::{last_begins, part_end};
+use crate::power_limit::steps_of;
+use std::alloc::{AllocError, Global};
+use tre_compose::compose;
+use tre_index::{ZoneIndex, key_before};
+use tre_pairs::TIME_MAX;
+use tre_zone::Zone;
+use tre_zoneset::{ZoneSet, are_few, index_of};
+
+/// The pairs that any number of pairs of `steps`, one after another, lead through, to an end from
+/// `from` to `to`. Without a step these are the instants `(t,t)`.
+pub fn closure(alloc: Global, steps: &ZoneSet, from: u64, to: u64) -> Result<ZoneSet, AllocError>
+    requires rising { from ≤ to }
+    requires limit { to ≤ TIME_MAX }
+    ensures { IfOk result (λ set.
+        HoldExactly set (Chain (SetHolds steps.now) (IsInstantBetween from to))) }
+{
+    closure_up_to(alloc, steps, from, to, None)
+}
+
+/// Those of the pairs of [`closure`] that last at most `longest`: no longer one is looked at.
+pub fn closure_up_to(
+    alloc: Global,
+    steps: &ZoneSet,
+    from: u64,
+    to: u64,
+    longest: Option<u64>,
+) -> Result<ZoneSet, AllocError>
+    requires rising { from ≤ to }
+    requires limit { to ≤ TIME_MAX }
+    requires longest { IsLongest longest }
+    ensures { IfOk result (λ set. HoldExactly set (Lasting (LastsUpTo longest)
+        (Chain (SetHolds steps.now) (IsInstantBetween from to)))) }
+{
+    let steps = steps_of(alloc, steps.zones())?;
+    let mut chains = chains_in_parts(alloc, &steps, from, to, longest)?;
+    chains.add(Zone::instants(from, to))?;
+    Ok(chains)
+}
+
+// The chains of one step or more that last at most `longest`, part by part of steps that do not
+// touch.
+fn chains_in_parts(
+    alloc: Global,
+    steps: &[Zone],
+    from: u64,
+    to: u64,
+    longest: Option<u64>,
+) -> Result<ZoneSet, AllocError>
+    requires steps { AreCanonical steps.now }
+    requires rising { from ≤ to }
+    requires limit { to ≤ TIME_MAX }
+    requires longest { IsLongest longest }
+    ensures { IfOk result (λ set. HoldExactly set (Lasting (LastsUpTo longest)
+        (SomeSteps (SetHolds steps.now) (IsInstantBetween from to)))) }
+{
+    let begins = last_begins(alloc, steps)?;
+    let mut chains = ZoneSet::new(alloc);
+    let mut start = 0;
+    while start < steps.len() {
+        let end = part_end(steps, &begins, start);
+        let part = chains_of_part(alloc, &steps[start..end], from, to, longest)?;
+        chains.join_disjoint(&part)?;
+        start = end;
+    }
+    Ok(chains)
+}
+
+// The same of the steps of one part.
+fn chains_of_part(
+    alloc: Global,
+    steps: &[Zone],
+    from: u64,
+    to: u64,
+    longest: Option<u64>,
+) -> Result<ZoneSet, AllocError>
+    requires steps { AreCanonical steps.now }
+    requires rising { from ≤ to }
+    requires limit { to ≤ TIME_MAX }
+    requires longest { IsLongest longest }
+    ensures { IfOk result (λ set. HoldExactly set (Lasting (LastsUpTo longest)
+        (SomeSteps (SetHolds steps.now) (IsInstantBetween from to)))) }
+{
+    let index = index_of(alloc, steps)?;
+    let found = chains_of(alloc, &index, from, to, longest)?;
+    drop(index);
+    let chains = ZoneSet::of_zones(alloc, found)?;
+    Ok(chains)
+}
+
+// The zones of the chains of one step or more that last at most `longest`. The list of what was
+// reached is also that of what is still to do: before its zones from `place` on no step has been
+// put yet.
+//
+// The instants may begin and end at any time, so with them in the list each search would come down
+// to them.
+fn chains_of(
+    alloc: Global,
+    steps: &ZoneIndex,
+    from: u64,
+    to: u64,
+    longest: Option<u64>,
+) -> Result<Vec<Zone>, AllocError>
+    requires steps { AreCanonical steps.now }
+    requires rising { from ≤ to }
+    requires limit { to ≤ TIME_MAX }
+    requires longest { IsLongest longest }
+    ensures { IfOk result (λ chains. HoldExactly chains.items (Lasting (LastsUpTo longest)
+        (SomeSteps (SetHolds steps.now) (IsInstantBetween from to)))) }
+{
+    let instants = Zone::instants(from, to);
+    // For the proof: the call says that the zone is canonical.
+    let _bounds = instants.bounds();
+    let mut reached = ZoneIndex::new(alloc);
+    add_before(&mut reached, &instants, steps, longest)?;
+    let mut place = 0;
+    while place < reached.items().len() {
+        let items = reached.items();
+        let zone = items[place];
+        add_before(&mut reached, &zone, steps, longest)?;
+        place += 1;
+    }
+    Ok(reached.into_items())
+}
+
+// Adds the compositions of each of the steps that can come before the zone with it, as far as they
+// last at most `longest`.
+fn add_before(
+    reached: &mut ZoneIndex,
+    zone: &Zone,
+    steps: &ZoneIndex,
+    longest: Option<u64>,
+) -> Result<(), AllocError>
+    requires reached { AreCanonical reached.old }
+    requires steps { AreCanonical steps.now }
+    requires longest { IsLongest longest }
+    ensures held { OnOk result (HoldExactly reached.new (Either (SetHolds reached.old)
+        (Lasting (LastsUpTo longest) (Composed (SetHolds steps.now) (ZoneHolds zone.now))))) }
+    ensures grown { OnOk result (HasGrown reached.old reached.new) }
+{
+    if are_few(steps.items()) {
+        return add_each_before(reached, zone, steps.items(), longest);
+    }
+    let key = key_before(zone);
+    let items = steps.items();
+    let count = items.len();
+    let mut place = 0;
+    while place < count {
+        match steps.next_at_least(place, &key) {
+            Some(next) => {
+                add_found(reached, compose(&items[next], zone), longest)?;
+                place = next + 1;
+            }
+            None => return Ok(()),
+        }
+    }
+    Ok(())
+}
+
+// The same by looking at each of the steps.
+fn add_each_before(
+    reached: &mut ZoneIndex,
+    zone: &Zone,
+    steps: &[Zone],
+    longest: Option<u64>,
+) -> Result<(), AllocError>
+    requires reached { AreCanonical reached.old }
+    requires longest { IsLongest longest }
+    ensures held { OnOk result (HoldExactly reached.new (Either (SetHolds reached.old)
+        (Lasting (LastsUpTo longest) (Composed (SetHolds steps.now) (ZoneHolds zone.now))))) }
+    ensures grown { OnOk result (HasGrown reached.old reached.new) }
+{
+    for step in steps {
+        add_found(reached, compose(step, zone), longest)?;
+    }
+    Ok(())
+}
+
+// Adds the pairs of the zone that was found that last at most `longest`, if there are any.
+fn add_found(
+    reached: &mut ZoneIndex,
+    found: Option<Zone>,
+    longest: Option<u64>,
+) -> Result<(), AllocError>
+    requires reached { AreCanonical reached.old }
+    requires longest { IsLongest longest }
+    ensures held { OnOk result (HoldExactly reached.new
+        (Either (SetHolds reached.old) (Lasting (LastsUpTo longest) (FoundHolds found)))) }
+    ensures grown { OnOk result (HasGrown reached.old reached.new) }
+{
+    let Some(zone) = found else {
+        return Ok(());
+    };
+    let Some(short) = zone.up_to(longest) else {
+        return Ok(());
+    };
+    add_new(reached, &short)?;
+    Ok(())
+}
+
+// Adds a zone, where none of those reached includes it.
+fn add_new(reached: &mut ZoneIndex, zone: &Zone) -> Result<(), AllocError>
+    requires { AreCanonical reached.old }
+    ensures held { OnOk result
+        (HoldExactly reached.new (Either (SetHolds reached.old) (ZoneHolds zone.now))) }
+    ensures grown { OnOk result (HasGrown reached.old reached.new) }
+{
+    // For the proof: the call says that the zone is canonical.
+    let _bounds = zone.bounds();
+    if reached.includes(zone) {
+        return Ok(());
+    }
+    reached.push(*zone)?;
+    Ok(())
+}

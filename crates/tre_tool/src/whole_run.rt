@@ -1,0 +1,148 @@
+ghost use Rattle.std.specs.Prelude.{◌≡◌, ◌≢◌, ◌+◌, ℕ, IsTrue, IfSome, IfOk, IfErr, false, map, string_bytes};
+ghost use Rattle.std.specs.Io.KnownBytes.{Appends};
+ghost use Rattle.tre_io.specs.Faults.{Rises};
+ghost use Rattle.tre_parse.specs.Outcome.{spelt, refused};
+ghost use Rattle.tre_syntax.specs.Pattern.{pattern_tree, names_of};
+ghost use Rattle.tre_tool.specs.Answer.{status_of};
+ghost use Rattle.tre_tool.specs.Input.{TakesAtMost};
+ghost use Rattle.tre_tool.specs.Job.{GivesJob, HaveNoFault};
+ghost use Rattle.tre_tool.specs.Devices.{input_told, output_told};
+ghost use Rattle.tre_tool.specs.Run.{IsOutcomeIn, AsksForNothing, AsksForMadeRun, ReadsInput, EndsAs, EndsMadeRun, IsComplete, IsLineTold};
+ghost use Rattle.tre_tool.specs.Status.{error_line};
+ghost use Rattle.tre_tool.specs.declared.job.Job.{Job};
+
+use crate::answer::answer;
+use crate::job::{Job, Mode};
+use crate::report::tell_status;
+use crate::status::Status;
+use crate::words::read_words;
+use std::alloc::Global;
+use tre_generate::fixed_pattern;
+use tre_io::{Sink, Source};
+use tre_parse::{ParseFault, parse};
+use tre_syntax::Pattern;
+
+// The pattern of a job: a made run has its own, and others that of their text.
+fn pattern_of(alloc: Global, job: &Job) -> Result<Pattern, ParseFault>
+    ensures spells { IfOk result (λ pattern. IsOutcomeIn job.now.mode job.now.expr
+        (spelt (pattern_tree pattern) (names_of pattern))) }
+    ensures refuses { IfErr result (λ fault. fault ≢ ParseFault.Memory →
+        IsOutcomeIn job.now.mode job.now.expr (refused fault)) }
+{
+    match job.mode {
+        Mode::Generate { .. } => {
+            let pattern = fixed_pattern(alloc)?;
+            Ok(pattern)
+        }
+        _ => {
+            let pattern = parse(alloc, job.expr.text())?;
+            Ok(pattern)
+        }
+    }
+}
+
+// Runs, and leaves it to the caller to tell how the run ended.
+fn run_words<S: Source, O: Sink>(
+    alloc: Global,
+    words: &[String],
+    input: &mut S,
+    out: &mut O,
+) -> Result<(), Status>
+    requires { S.opened input.old ≡ false }
+    ensures ends { EndsAs (map string_bytes words.now)
+        (input_told S.file_name S.file S.sound S.opened S.left S.found S.faults input.old input.new)
+        (output_told O.written O.faults out.old out.new)
+        (status_of result) }
+    ensures untouched { AsksForNothing (map string_bytes words.now) →
+        (input.new ≡ input.old) × (out.new ≡ out.old) }
+    ensures source_untouched { (job : Job) → GivesJob (map string_bytes words.now) job →
+        (ReadsInput job.mode → ⊥) → input.new ≡ input.old }
+    ensures by_name { (job : Job) → GivesJob (map string_bytes words.now) job →
+        IsTrue (S.opened input.new) →
+        IfSome (S.file_name input.old) (λ told. told ≡ job.input) }
+    ensures reads_at_most { (job : Job) → GivesJob (map string_bytes words.now) job →
+        IsTrue (S.opened input.new) →
+        TakesAtMost (job.max_bytes + 1) (S.file input.old) (S.left input.new) }
+    ensures faultless { status_of result ≢ Status.Usage → status_of result ≢ Status.Memory →
+        HaveNoFault (map string_bytes words.now) }
+{
+    let job = read_words(alloc, words)?;
+    let pattern = pattern_of(alloc, &job)?;
+    answer(alloc, pattern, &job, input, out)?;
+    Ok(())
+}
+
+// The status of a run that ended so.
+fn ending(ended: Result<(), Status>) -> Status
+    ensures { result ≡ status_of ended }
+{
+    match ended {
+        Ok(()) => Status::Done,
+        Err(status) => status,
+    }
+}
+
+/// Matches the pattern in the words over the input that they name, writes the zones of all matches
+/// to `out`, and tells `err` how the run ended. With `--online` it writes a block of zones for each
+/// segment as soon as that is complete, and with `--show` the pattern's text instead. With
+/// `--generate` as the first word it reads no input, and writes the summary of a made trace.
+///
+/// The words are those after the program's name. What `ends` says of bytes holds where the source
+/// and the sinks tell their bytes; what it says of counts holds for every source and sink. A count
+/// that stands at 2^64 - 1 can't rise, and counts as one that rose.
+pub fn run<S: Source, O: Sink, E: Sink>(
+    alloc: Global,
+    words: &[String],
+    input: &mut S,
+    out: &mut O,
+    err: &mut E,
+) -> Status
+    requires { S.opened input.old ≡ false }
+
+    // What the status means, what was written, and why the run ended so.
+    ensures ends { EndsAs (map string_bytes words.now)
+        (input_told S.file_name S.file S.sound S.opened S.left S.found S.faults input.old input.new)
+        (output_told O.written O.faults out.old out.new) result }
+
+    // Where no fault was counted, what the words ask for and the input comes to decides the status.
+    ensures complete { IsComplete (map string_bytes words.now)
+        (input_told S.file_name S.file S.sound S.opened S.left S.found S.faults input.old input.new)
+        (output_told O.written O.faults out.old out.new) result }
+
+    // Words of which `clap` has a fault are told as such, whatever else they give.
+    ensures faultless { result ≢ Status.Usage → result ≢ Status.Memory →
+        HaveNoFault (map string_bytes words.now) }
+
+    // Words that ask for nothing leave the source and the output as they were.
+    ensures untouched { AsksForNothing (map string_bytes words.now) →
+        (input.new ≡ input.old) × (out.new ≡ out.old) }
+
+    // A run that shows the pattern's text, or makes its trace, reads no input.
+    ensures source_untouched { (job : Job) → GivesJob (map string_bytes words.now) job →
+        (ReadsInput job.mode → ⊥) → input.new ≡ input.old }
+
+    // A made run writes the summary of its segments, or a first part of it, and reads nothing.
+    ensures generated { (count : ℕ) → AsksForMadeRun (map string_bytes words.now) count →
+        EndsMadeRun count (output_told O.written O.faults out.old out.new) result
+        × (input.new ≡ input.old) }
+
+    // Standard error is told the status. A failure to tell it is one, counted once, and leaves a
+    // first part of the line.
+    ensures error_line { ¬ Rises (E.faults err.old) (E.faults err.new) →
+        Appends (E.written err.old) (E.written err.new) (error_line result) }
+    ensures error_part { IsLineTold (output_told E.written E.faults err.old err.new)
+        (error_line result) }
+
+    // An input that was opened is the one that the words name, and it is read to its end, or to one
+    // byte past the limit.
+    ensures reads_at_most { (job : Job) → GivesJob (map string_bytes words.now) job →
+        IsTrue (S.opened input.new) →
+        TakesAtMost (job.max_bytes + 1) (S.file input.old) (S.left input.new) }
+    ensures by_name { (job : Job) → GivesJob (map string_bytes words.now) job →
+        IsTrue (S.opened input.new) →
+        IfSome (S.file_name input.old) (λ told. told ≡ job.input) }
+{
+    let status = ending(run_words(alloc, words, input, out));
+    let _ = tell_status(&status, err);
+    status
+}

@@ -1,0 +1,345 @@
+-- Where a token stops the reading.
+use Rattle.std.proofs.Common.{◌≡◌, inl, inr, ⊎_elim, ℕ, ◌<◌, ◌≤◌, nat_lt, ◌==◌, ◌||◌, ◌&&◌, not, Bool, true, false, List, [], ◌∷◌, ◌++◌, append_assoc, append-nil, length, replicate, codes, Result, Err, refl, sym, ap, subst, ◌∙◌, arith, if◌then◌else◌}
+use Rattle.std.proofs.lemmas.Bool.{cases_Bool, or_parts}
+use Rattle.std.proofs.lemmas.Bool.Decides.{nat_tests}
+use Rattle.std.proofs.lemmas.List.Elements.{All-nil, All-head, All-tail, All-replicate}
+use Rattle.std.specs.Str.Parse.{digits_value}
+use Rattle.tre_pairs.specs.declared.TheConstants.{TIME_MAX}
+use Rattle.tre_parts.specs.Format.{Step}
+use Rattle.tre_parts.specs.Numeral.{is_numeral}
+use Rattle.tre_trace.specs.declared.fault.TraceKind.{TraceKind}
+use Rattle.tre_trace.specs.declared.fault.TraceKind.TheVariants.{LineTooLong, BadNumber, Zero, TooLate, BadName, BadToken, UnknownName, TimeBack, CutShort, Spent, Memory}
+use Rattle.tre_vcd.specs.Dumps.{AreInner, IsTime, is_vector, is_number, AreSilent, FitsNoRule, EndsEarly, LacksName, HasFault}
+use Rattle.tre_vcd.specs.VcdReading.{is, is_end, is_dump, is_command, is_scalar, ends_true, is_defined, in_dump, scopes_at, time_at, Statement, scope, upscope, var, definitions, time, change, dump, dump_end, Open, nothing, section, Place, goes_to, scope_says, section_says, command_says, time_says, ticks_say, dump_says, dump_end_says, keyword_says, scalar_says, vector_says, value_says, first_says, token_at}
+use Rattle.tre_vcd.proofs.Groups.{at, is_word}
+use Rattle.tre_vcd.proofs.TokenRuns.{with_front-none, then_run, stay, run}
+
+by_cases : (test : Bool) (one two want : Result (Step Place) TraceKind)
+    → (test ≡ true → one ≡ want) → (test ≡ false → two ≡ want)
+    → (if test then one else two) ≡ want
+by_cases true one two want first second = first refl
+by_cases false one two want first second = second refl
+
+byte_is : (a b : ℕ) → (a == b) ≡ true → a ≡ b
+byte_is a b same = grind (arith, nat_tests)
+
+some_scope : (scopes : List (List ℕ)) (here : Bool) → here ≡ true
+    → (here && length scopes == 0) ≡ false → 0 < length scopes
+some_scope scopes here is none = grind (arith, nat_tests)
+
+blanks_inner : (count : ℕ) → AreInner (replicate count [])
+blanks_inner count = All-replicate (λ t. is_end t ≡ false) count [] refl
+
+-- ---- among the declarations
+
+module _ (names : List (List ℕ)) (past : List Statement) (token : List ℕ)
+    (defined : is_defined past ≡ false) (none : FitsNoRule past token) where
+  never_scope : is token (codes "$scope") ≡ false
+  never_scope =
+      ⊎_elim
+      (λ is_one. absurd (none.says_nothing ([] ∷ [] ∷ codes "$end" ∷ []) (scope []) (record {
+        inner = [] ∷ [] ∷ [];
+        is = ap (λ t. t ∷ [] ∷ [] ∷ codes "$end" ∷ []) (is_word token (codes "$scope") is_one);
+        closed = blanks_inner 2;
+        holds = record { kind = []; more = []; is = refl };
+      }) defined))
+      (λ other. other)
+      (cases_Bool (is token (codes "$scope")))
+
+  never_upscope : (is token (codes "$upscope") && length (scopes_at past) == 0) ≡ false
+      → is token (codes "$upscope") ≡ false
+  never_upscope inside =
+      ⊎_elim
+      (λ is_one. absurd (none.says_nothing (codes "$end" ∷ []) upscope (record {
+        inner = [];
+        is = ap (λ t. t ∷ codes "$end" ∷ []) (is_word token (codes "$upscope") is_one);
+        closed = All-nil (λ t. is_end t ≡ false);
+        holds = tt;
+      }) (defined, some_scope (scopes_at past) (is token (codes "$upscope")) is_one inside)))
+      (λ other. other)
+      (cases_Bool (is token (codes "$upscope")))
+
+  never_var : is token (codes "$var") ≡ false
+  never_var =
+      ⊎_elim
+      (λ is_one. absurd (none.says_nothing ([] ∷ [] ∷ [] ∷ [] ∷ codes "$end" ∷ [])
+      (var ([] ∷ [] ∷ [] ∷ [] ∷ [])) (record {
+        inner = [] ∷ [] ∷ [] ∷ [] ∷ [];
+        is = ap (λ t. t ∷ [] ∷ [] ∷ [] ∷ [] ∷ codes "$end" ∷ [])
+            (is_word token (codes "$var") is_one);
+        closed = blanks_inner 4;
+        holds = record { is = refl; enough = omega arith };
+      }) defined))
+      (λ other. other)
+      (cases_Bool (is token (codes "$var")))
+
+  never_definitions : is token (codes "$enddefinitions") ≡ false
+  never_definitions =
+      ⊎_elim
+      (λ is_one. absurd (none.says_nothing (codes "$end" ∷ []) definitions (record {
+        inner = [];
+        is = ap (λ t. t ∷ codes "$end" ∷ []) (is_word token (codes "$enddefinitions") is_one);
+        closed = All-nil (λ t. is_end t ≡ false);
+        holds = tt;
+      }) defined))
+      (λ other. other)
+      (cases_Bool (is token (codes "$enddefinitions")))
+
+  never_other : (is_command token ≡ true) → (is_end token ≡ false) → (is_dump token ≡ false)
+      → (is token (codes "$upscope") && length (scopes_at past) == 0) ≡ false → ⊥
+  never_other command no_end no_dump inside =
+      none.not_silent (codes "$end" ∷ []) (subst (λ d. AreSilent d (token ∷ codes "$end" ∷ []))
+      (sym defined) (record {
+        command = token;
+        other = record {
+          begins = command;
+          no_end = no_end;
+          no_dump = no_dump;
+          no_scope = never_scope;
+          no_upscope = never_upscope inside;
+          no_var = never_var;
+          no_definitions = never_definitions;
+        };
+        whole = record {
+          inner = [];
+          is = refl;
+          closed = All-nil (λ t. is_end t ≡ false);
+          holds = tt;
+        };
+      }))
+
+  begun_not : (b : Bool) → not b ≡ false → b ≡ true
+  begun_not true is = refl
+  begun_not false is = absurd (cc (is))
+
+  pub opens_nothing : command_says names past token ≡ Err BadToken
+  opens_nothing =
+      by_cases (not (is_command token) || is_end token || is_dump token) _ _ (Err BadToken)
+      (λ misplaced. refl)
+      (λ placed. by_cases (is token (codes "$upscope") && length (scopes_at past) == 0) _ _
+      (Err BadToken) (λ outside. refl)
+      (λ inside.
+      let parts = or_parts (not (is_command token) || is_end token) (is_dump token) placed in
+      let front = or_parts (not (is_command token)) (is_end token) parts.0 in
+      absurd (never_other (begun_not (is_command token) front.0) front.1 parts.1 inside)))
+
+-- ---- behind them
+
+module _ (names : List (List ℕ)) (past : List Statement) (byte : ℕ) (bytes : List ℕ)
+    (defined : is_defined past ≡ true) (none : FitsNoRule past (byte ∷ bytes)) where
+  no_time : (byte == 35) ≡ true → ticks_say names past bytes ≡ Err BadToken
+  no_time hash =
+      by_cases (is_numeral bytes) _ _ (Err BadToken)
+      (λ numeral. absurd (none.says_nothing [] (time (digits_value 10 bytes)) (record {
+        digits = bytes;
+        is = ap (λ b. (b ∷ bytes) ∷ []) (byte_is byte 35 hash);
+        numeral = numeral;
+        value = refl;
+      }) defined))
+      (λ other. refl)
+
+  no_dump : is_dump (byte ∷ bytes) ≡ true → dump_says past ≡ Err BadToken
+  no_dump opens =
+      by_cases (in_dump past) _ _ (Err BadToken) (λ inside. refl)
+      (λ outside. absurd (none.says_nothing [] dump (record {
+        token = byte ∷ bytes;
+        is = refl;
+        opens = opens;
+      }) (defined, outside)))
+
+  no_end : is_end (byte ∷ bytes) ≡ true → dump_end_says past ≡ Err BadToken
+  no_end ends =
+      by_cases (in_dump past) _ _ (Err BadToken)
+      (λ inside. absurd (none.says_nothing [] dump_end
+      (ap (λ t. t ∷ []) (is_word (byte ∷ bytes) (codes "$end") ends)) (defined, inside)))
+      (λ outside. refl)
+
+  no_silence : (more : List (List ℕ)) → AreSilent true ((byte ∷ bytes) ∷ more) → ⊥
+  no_silence more silent =
+      none.not_silent more (subst (λ d. AreSilent d ((byte ∷ bytes) ∷ more)) (sym defined) silent)
+
+  no_keyword : keyword_says past (byte ∷ bytes) ≡ Err BadToken
+  no_keyword =
+      by_cases (is_dump (byte ∷ bytes)) _ _ (Err BadToken) no_dump
+      (λ _. by_cases (is_end (byte ∷ bytes)) _ _ (Err BadToken) no_end
+      (λ _. by_cases (is (byte ∷ bytes) (codes "$comment")) _ _ (Err BadToken)
+      (λ remark. absurd (no_silence (codes "$end" ∷ []) (inl (record {
+        inner = [];
+        is = ap (λ t. t ∷ codes "$end" ∷ []) (is_word (byte ∷ bytes) (codes "$comment") remark);
+        closed = All-nil (λ t. is_end t ≡ false);
+        holds = tt;
+      }))))
+      (λ _. refl)))
+
+  no_vector : is_vector byte ≡ true → (bits : List ℕ) → bits ≡ bytes
+      → vector_says past bits ≡ Err BadToken
+  no_vector letter [] same = refl
+  no_vector letter (bit ∷ bits) same =
+      absurd (none.says_nothing ([] ∷ []) (change [] (ends_true bytes)) (inr (record {
+        letter = byte;
+        bits = bytes;
+        is = refl;
+        vector = letter;
+        some = subst (λ all. 0 < length all) same (omega arith);
+        value_is = refl;
+      })) defined)
+
+  no_number : is_number byte ≡ true → ⊥
+  no_number letter =
+      no_silence ([] ∷ []) (inr (record {
+        letter = byte;
+        bytes = bytes;
+        identifier = [];
+        is = refl;
+        number = letter;
+      }))
+
+  no_scalar : is_scalar byte ≡ true → (identifier : List ℕ) → identifier ≡ bytes
+      → scalar_says past byte identifier ≡ Err BadToken
+  no_scalar letter [] same = refl
+  no_scalar letter (first ∷ identifier) same =
+      absurd (none.says_nothing [] (change bytes (byte == 49)) (inl (record {
+        letter = byte;
+        is = refl;
+        scalar = letter;
+        some = subst (λ all. 0 < length all) same (omega arith);
+        value_is = refl;
+      })) defined)
+
+  pub says_no_value : value_says names past (byte ∷ bytes) ≡ Err BadToken
+  says_no_value =
+      by_cases (byte == 35) _ _ (Err BadToken) no_time
+      (λ _. by_cases (byte == 36) _ _ (Err BadToken) (λ _. no_keyword)
+      (λ _. by_cases (is_vector byte) _ _ (Err BadToken) (λ letter. no_vector letter bytes refl)
+      (λ _. by_cases (is_number byte) _ _ (Err BadToken) (λ letter. absurd (no_number letter))
+      (λ _. by_cases (is_scalar byte) _ _ (Err BadToken) (λ letter. no_scalar letter bytes refl)
+      (λ _. refl)))))
+
+-- ---- every fault
+
+-- Behind these tokens something is open, and the token has this fault there.
+pub record Stops (names : List (List ℕ)) (past : List Statement) (begun : List (List ℕ))
+    (token : List ℕ) (kind : TraceKind) : Type 0 where
+  pub inside : Open
+  pub runs : run names (at past nothing) begun ≡ stay (at past inside)
+  pub stops : token_at names past inside token ≡ Err kind
+
+no_rule : (names : List (List ℕ)) (past : List Statement) (token : List ℕ) (defined : Bool)
+    → is_defined past ≡ defined → 0 < length token → FitsNoRule past token
+    → first_says names past token ≡ Err BadToken
+no_rule names past token false defined some none =
+    rw defined (opens_nothing names past token defined none)
+no_rule names past [] true defined some none = absurd (omega (arith, some))
+no_rule names past (byte ∷ bytes) true defined some none =
+    rw defined (says_no_value names past byte bytes defined none)
+
+first_stops : (names : List (List ℕ)) (past : List Statement) (begun : List (List ℕ))
+    (token : List ℕ) (kind : TraceKind) → begun ≡ [] → first_says names past token ≡ Err kind
+    → Stops names past begun token kind
+first_stops names past begun token kind none stops = record {
+  inside = nothing;
+  runs = rw none refl;
+  stops = stops;
+}
+
+inner_open : (names : List (List ℕ)) (past : List Statement) (command : List ℕ)
+    (kept inner : List (List ℕ)) → AreInner inner
+    → run names (at past (section command kept)) inner
+    ≡ stay (at past (section command (kept ++ inner)))
+inner_open names past command kept [] closed =
+    ap (λ all. stay (at past (section command all))) (sym (append-nil kept))
+inner_open names past command kept (token ∷ inner) closed =
+    ap (λ (ends : Bool). then_run (if ends then section_says past command kept
+    else goes_to past (section command (kept ++ token ∷ [])))
+    (λ now. run names now inner))
+    (All-head (λ t. is_end t ≡ false) token inner closed)
+    ∙ with_front-none (run names (at past (section command (kept ++ token ∷ []))) inner)
+    ∙ inner_open names past command (kept ++ token ∷ []) inner
+    (All-tail (λ t. is_end t ≡ false) token inner closed)
+    ∙ ap (λ all. stay (at past (section command all))) (append_assoc kept (token ∷ []) inner)
+
+section_open : (names : List (List ℕ)) (past : List Statement) (command : List ℕ)
+    (inner : List (List ℕ)) → is_defined past ≡ false
+    → command_says names past command ≡ goes_to past (section command []) → AreInner inner
+    → run names (at past nothing) (command ∷ inner) ≡ stay (at past (section command inner))
+section_open names past command inner defined opens closed =
+    ap (λ (is : Bool). then_run (if is then value_says names past command
+    else command_says names past command) (λ place. run names place inner)) defined
+    ∙ ap (λ said. then_run said (λ place. run names place inner)) opens
+    ∙ with_front-none (run names (at past (section command [])) inner)
+    ∙ inner_open names past command [] inner closed
+
+short_scope : (past : List Statement) (inner : List (List ℕ)) → length inner < 2
+    → scope_says past inner ≡ Err BadToken
+short_scope past [] few = refl
+short_scope past (kind ∷ []) few = refl
+short_scope past (kind ∷ name ∷ more) few = absurd (omega (arith, few))
+
+few_tokens : (count : ℕ) → count < 4 → nat_lt count 4 ≡ true
+few_tokens count few = grind (arith, nat_tests)
+
+early_stops : (names : List (List ℕ)) (past : List Statement) (begun : List (List ℕ))
+    (token : List ℕ) → EndsEarly past begun token → Stops names past begun token BadToken
+early_stops names past begun token early =
+    ⊎_elim
+    (λ one. record {
+      inside = section (codes "$scope") one.inner;
+      runs =
+          rw one.is
+          (section_open names past (codes "$scope") one.inner early.defined refl one.closed);
+      stops = rw early.ends (short_scope past one.inner one.few);
+    })
+    (λ one. record {
+      inside = section (codes "$var") one.inner;
+      runs =
+          rw one.is
+          (section_open names past (codes "$var") one.inner early.defined refl one.closed);
+      stops = rw (early.ends, few_tokens (length one.inner) one.few) refl;
+    })
+    early.short
+
+lacks_name : (names : List (List ℕ)) (past : List Statement) (token : List ℕ)
+    → LacksName names past token → first_says names past token ≡ Err UnknownName
+lacks_name names past token lacks = rw (lacks.defined, lacks.ends, lacks.lacks) refl
+
+below : (a b : ℕ) → a < b → nat_lt a b ≡ true
+below a b lt = grind (arith, nat_tests)
+
+not_below : (a b : ℕ) → b ≤ a → nat_lt a b ≡ false
+not_below a b le = grind (arith, nat_tests)
+
+timed : (names : List (List ℕ)) (past : List Statement) (token : List ℕ) (ticks : ℕ)
+    (said : Result (Step Place) TraceKind) → is_defined past ≡ true → IsTime ticks (token ∷ [])
+    → time_says names past ticks ≡ said → first_says names past token ≡ said
+timed names past token ticks said defined one says =
+    let token_is : token ≡ 35 ∷ one.digits = cc (one.is) in
+    rw (defined, token_is, one.numeral, ← one.value) says
+
+pub fault_stops : (names : List (List ℕ)) (past : List Statement) (begun : List (List ℕ))
+    (token : List ℕ) (kind : TraceKind) → 0 < length token → HasFault names past begun token kind
+    → Stops names past begun token kind
+fault_stops names past begun token BadToken some (inl none) =
+    first_stops names past begun token BadToken none.0
+    (no_rule names past token (is_defined past) refl some none.1)
+fault_stops names past begun token BadToken some (inr early) =
+    early_stops names past begun token early
+fault_stops names past begun token UnknownName some has =
+    first_stops names past begun token UnknownName has.0 (lacks_name names past token has.1)
+fault_stops names past begun token TimeBack some has =
+    let back = has.1 in
+    first_stops names past begun token TimeBack has.0
+    (timed names past token back.ticks (Err TimeBack) back.defined back.time
+    (rw (below back.ticks (time_at past) back.holds) refl))
+fault_stops names past begun token TooLate some has =
+    let late = has.1 in
+    first_stops names past begun token TooLate has.0
+    (timed names past token late.ticks (Err TooLate) late.defined late.time
+    (rw (not_below late.ticks (time_at past) late.holds.0, below TIME_MAX late.ticks late.holds.1)
+    refl))
+fault_stops names past begun token LineTooLong some has = absurd has
+fault_stops names past begun token BadNumber some has = absurd has
+fault_stops names past begun token Zero some has = absurd has
+fault_stops names past begun token BadName some has = absurd has
+fault_stops names past begun token CutShort some has = absurd has
+fault_stops names past begun token Spent some has = absurd has
+fault_stops names past begun token Memory some has = absurd has

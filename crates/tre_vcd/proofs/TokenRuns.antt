@@ -1,0 +1,201 @@
+-- What tokens say one after the other, and the bytes that they stand in.
+use Rattle.std.proofs.Common.{◌≡◌, ℕ, ◌+◌, Bool, true, false, List, [], ◌∷◌, ◌++◌, append_assoc, length, length-append, Result, Ok, Err, refl, sym, ap, subst, ◌∙◌, arith}
+use Rattle.std.proofs.lemmas.Bool.Decides.{nat_tests}
+use Rattle.std.proofs.lemmas.List.Elements.{All-nil, All-head, All-tail}
+use Rattle.tre_parts.proofs.Walks.{reading-part}
+use Rattle.tre_parts.specs.Growing.{short_enough}
+use Rattle.tre_parts.specs.Format.{Step, behind, read_on, after_part, part_says, reading_from}
+use Rattle.tre_parts.specs.declared.TheConstants.{PART_MAX}
+use Rattle.tre_parts.specs.declared.spot.Spot.{Spot}
+use Rattle.tre_trace.specs.declared.fault.TraceKind.{TraceKind}
+use Rattle.tre_trace.specs.declared.segment.Segment.{Segment}
+use Rattle.tre_vcd.specs.Dumps.{IsToken, AreWhite, BeginsWith, Spaced}
+use Rattle.tre_vcd.specs.VcdReading.{is_white, Place, token_at, token_says, vcd_format}
+use Rattle.tre_vcd.proofs.Reading.{says-token}
+
+-- ---- tokens
+
+-- the segments stand in front of what is said
+abbrev pub with_front : List Segment → Result (Step Place) TraceKind → Result (Step Place) TraceKind
+with_front segments (Err kind) = Err kind
+with_front segments (Ok step) =
+    Ok (record { segments = segments ++ step.segments; state = step.state })
+
+-- behind something without a fault more is said
+abbrev pub then_run : Result (Step Place) TraceKind → (Place → Result (Step Place) TraceKind)
+    → Result (Step Place) TraceKind
+then_run (Err kind) more = Err kind
+then_run (Ok step) more = with_front step.segments (more step.state)
+
+-- nothing is said, and this is the place
+abbrev pub stay : Place → Result (Step Place) TraceKind
+stay place = Ok (record { segments = []; state = place })
+
+-- what tokens say, one after the other
+abbrev pub run : List (List ℕ) → Place → List (List ℕ) → Result (Step Place) TraceKind
+run names place [] = stay place
+run names place (token ∷ tokens) =
+    then_run (token_at names place.past place.inside token) (λ now. run names now tokens)
+
+pub with_front-none : (said : Result (Step Place) TraceKind) → with_front [] said ≡ said
+with_front-none (Err kind) = refl
+with_front-none (Ok step) = refl
+
+with_front-twice : (xs ys : List Segment) (said : Result (Step Place) TraceKind)
+    → with_front (xs ++ ys) said ≡ with_front xs (with_front ys said)
+with_front-twice xs ys (Err kind) = refl
+with_front-twice xs ys (Ok step) =
+    ap (λ all. Ok (record { segments = all; state = step.state }))
+    (append_assoc xs ys step.segments)
+
+then_run-front : (xs : List Segment) (said : Result (Step Place) TraceKind)
+    (more : Place → Result (Step Place) TraceKind)
+    → then_run (with_front xs said) more ≡ with_front xs (then_run said more)
+then_run-front xs (Err kind) more = refl
+then_run-front xs (Ok step) more = with_front-twice xs step.segments (more step.state)
+
+-- the same is said behind a token and the tokens, and behind the token and then the tokens
+then_run-later : (said : Result (Step Place) TraceKind)
+    (one : Place → Result (Step Place) TraceKind) (other more : Place → Result (Step Place) TraceKind)
+    → ((now : Place) → one now ≡ then_run (other now) more)
+    → then_run said one ≡ then_run (then_run said other) more
+then_run-later (Err kind) one other more same = refl
+then_run-later (Ok step) one other more same =
+    ap (with_front step.segments) (same step.state)
+    ∙ sym (then_run-front step.segments (other step.state) more)
+
+pub run-append : (names : List (List ℕ)) (place : Place) (xs ys : List (List ℕ))
+    → run names place (xs ++ ys) ≡ then_run (run names place xs) (λ now. run names now ys)
+run-append names place [] ys = sym (with_front-none (run names place ys))
+run-append names place (x ∷ xs) ys =
+    then_run-later (token_at names place.past place.inside x) (λ now. run names now (xs ++ ys))
+    (λ now. run names now xs) (λ now. run names now ys)
+    (λ now. run-append names now xs ys)
+
+-- ---- their bytes
+
+-- Behind these bytes the reading goes on from this step.
+pub record ReadsTo (names : List (List ℕ)) (closed : Bool) (place : Place) (spot : Spot)
+    (bytes rest : List ℕ) (step : Step Place) : Type 0 where
+  pub at : Spot
+  pub offset : at.offset ≡ spot.offset + length bytes
+  pub reads : reading_from (vcd_format names) closed place spot (bytes ++ rest)
+      ≡ behind step.segments (reading_from (vcd_format names) closed step.state at rest)
+
+pub no_token : (names : List (List ℕ)) (place : Place) → part_says (vcd_format names) place []
+    ≡ stay place
+unfolding token_says
+no_token names place = refl
+
+pub white_reads : (names : List (List ℕ)) (closed : Bool) (place : Place) (spot : Spot)
+    (bytes rest : List ℕ) → AreWhite bytes
+    → ReadsTo names closed place spot bytes rest (record { segments = []; state = place })
+white_reads names closed place spot [] rest white = record {
+  at = spot;
+  offset = omega arith;
+  reads = refl;
+}
+white_reads names closed place spot (byte ∷ bytes) rest white =
+    let next =
+    white_reads names closed place (after_part spot 0) bytes rest
+    (All-tail (λ b. is_white b ≡ true) byte bytes white) in
+    record {
+      at = next.at;
+      offset = omega (arith, next.offset);
+      reads =
+          reading-part (vcd_format names) closed place spot [] byte (bytes ++ rest)
+          (All-nil (λ b. is_white b ≡ false))
+          (All-head (λ b. is_white b ≡ true) byte bytes white)
+          ∙ ap (λ said. read_on spot.offset said (λ now. reading_from (vcd_format names) closed now
+          (after_part spot 0) (bytes ++ rest))) (no_token names place)
+          ∙ next.reads;
+    }
+
+-- what a token says, which white space ends
+pub token_reads : (names : List (List ℕ)) (closed : Bool) (place : Place) (spot : Spot)
+    (token : List ℕ) (separator : ℕ) (rest : List ℕ) → IsToken token → is_white separator ≡ true
+    → reading_from (vcd_format names) closed place spot (token ++ separator ∷ rest)
+    ≡ read_on spot.offset (token_at names place.past place.inside token)
+    (λ now. reading_from (vcd_format names) closed now (after_part spot (length token)) rest)
+token_reads names closed place spot token separator rest is ends =
+    reading-part (vcd_format names) closed place spot token separator rest is.whole ends
+    ∙ ap (λ said. read_on spot.offset said (λ now. reading_from (vcd_format names) closed now
+    (after_part spot (length token)) rest))
+    (rw (short_enough (length token) PART_MAX is.short)
+    (says-token names place token (grind (arith, nat_tests, is.some))))
+
+-- One token, and what is known of the tokens behind it.
+module _ (names : List (List ℕ)) (closed : Bool) (place : Place) (spot : Spot) (token : List ℕ)
+    (tokens : List (List ℕ)) (bytes rest : List ℕ)
+    (spaced : BeginsWith token (Spaced tokens) bytes)
+    (later : (now : Place) (from : Spot) (more : Step Place) → run names now tokens ≡ Ok more
+    → ReadsTo names closed now from spaced.back rest more) where
+  white : ReadsTo names closed place spot spaced.front
+      (token ++ spaced.separator ∷ (spaced.back ++ rest)) (record { segments = []; state = place })
+  white = white_reads names closed place spot spaced.front _ spaced.blank
+
+  together : bytes ++ rest ≡ spaced.front ++ (token ++ spaced.separator ∷ (spaced.back ++ rest))
+  together =
+      ap (λ all. all ++ rest) spaced.is
+      ∙ append_assoc spaced.front (token ++ spaced.separator ∷ spaced.back) rest
+      ∙ ap (λ all. spaced.front ++ all) (append_assoc token (spaced.separator ∷ spaced.back) rest)
+
+  long : length bytes ≡ length spaced.front + (length token + (length spaced.back + 1))
+  long =
+      ap length spaced.is
+      ∙ omega (
+        arith,
+        length-append spaced.front (token ++ spaced.separator ∷ spaced.back),
+        length-append token (spaced.separator ∷ spaced.back),
+      )
+
+  go_on : (first more : Step Place) → token_at names place.past place.inside token ≡ Ok first
+      → run names first.state tokens ≡ Ok more
+      → ReadsTo names closed place spot bytes rest
+      (record { segments = first.segments ++ more.segments; state = more.state })
+  go_on first more said runs =
+      let next = later first.state (after_part white.at (length token)) more runs in
+      let end = reading_from (vcd_format names) closed more.state next.at rest in
+      record {
+        at = next.at;
+        offset = omega (arith, next.offset, white.offset, long);
+        reads =
+            ap (reading_from (vcd_format names) closed place spot) together
+            ∙ white.reads
+            ∙ token_reads names closed place white.at token spaced.separator (spaced.back ++ rest)
+            spaced.whole spaced.ends
+            ∙ ap (λ one. read_on white.at.offset one (λ now. reading_from (vcd_format names)
+            closed now (after_part white.at (length token)) (spaced.back ++ rest))) said
+            ∙ ap (behind first.segments) next.reads
+            ∙ ap (λ all. record { segments = all; fault = end.fault })
+            (sym (append_assoc first.segments more.segments end.segments));
+      }
+
+  behind_first : (first step : Step Place) → token_at names place.past place.inside token
+      ≡ Ok first → (said : Result (Step Place) TraceKind) → run names first.state tokens ≡ said
+      → with_front first.segments said ≡ Ok step → ReadsTo names closed place spot bytes rest step
+  behind_first first step one (Err kind) runs is = absurd (cc (is))
+  behind_first first step one (Ok more) runs is =
+      let same : record { segments = first.segments ++ more.segments; state = more.state } ≡ step =
+      cc (is) in
+      subst (ReadsTo names closed place spot bytes rest) same (go_on first more one runs)
+
+  pub token_first : (step : Step Place) (said : Result (Step Place) TraceKind)
+      → token_at names place.past place.inside token ≡ said
+      → then_run said (λ now. run names now tokens) ≡ Ok step
+      → ReadsTo names closed place spot bytes rest step
+  token_first step (Err kind) one is = absurd (cc (is))
+  token_first step (Ok first) one is =
+      behind_first first step one (run names first.state tokens) refl is
+
+pub tokens_read : (names : List (List ℕ)) (closed : Bool) (place : Place) (spot : Spot)
+    (tokens : List (List ℕ)) (bytes rest : List ℕ) (step : Step Place) → Spaced tokens bytes
+    → run names place tokens ≡ Ok step → ReadsTo names closed place spot bytes rest step
+tokens_read names closed place spot [] bytes rest step spaced runs =
+    let same : record { segments = []; state = place } ≡ step = cc (runs) in
+    subst (ReadsTo names closed place spot bytes rest) same
+    (white_reads names closed place spot bytes rest spaced)
+tokens_read names closed place spot (token ∷ tokens) bytes rest step spaced runs =
+    token_first names closed place spot token tokens bytes rest spaced
+    (λ now from more. tokens_read names closed now from tokens spaced.back rest more spaced.later)
+    step (token_at names place.past place.inside token) refl runs
