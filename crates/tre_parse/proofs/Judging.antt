@@ -232,7 +232,7 @@ pub good_bytes : (text : List ℕ) → length text ≤ TEXT_MAX → bad_byte tex
 good_bytes text le e = short_by (nat_lt TEXT_MAX (length text)) (length text) (Some TooLong) _ refl
     le ∙ ap (option_map (λ at. BadByte at)) e
 
--- A scan of a text holds its words.
+-- The tokens and the offsets of words that are listed together.
 placed_tokens : (known : List (List ℕ)) (raw_tokens : List RawTokenAt)
     → tokens_in (placed_from known raw_tokens) ≡ tokens_from known raw_tokens
 placed_tokens known [] = refl
@@ -245,6 +245,7 @@ placed_offsets known [] = refl
 placed_offsets known (raw ∷ rest) = ap (λ ns. raw.at ∷ ns)
     (placed_offsets (known_after known raw.word) rest)
 
+-- A scan of a text holds its words.
 pub same_words : (text : List ℕ) (scan : Scan) → IsScan text scan → text_tokens_in scan
     ≡ text_tokens_of text
 same_words text scan s =

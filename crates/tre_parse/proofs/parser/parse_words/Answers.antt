@@ -42,8 +42,8 @@ returns-then-left-gt0 c =
     (limits_met (text_tokens_in c.args.scan)
     (ap (λ ts. position is_big (tokens_in ts)) (sym c.deref.ensures.value)
     ∙ sym c.first_big.ensures ∙ c.in_default.is)
-    (ap (λ ts. deep_place 0 0 (tokens_in ts)) (sym c.deref-2.ensures.value) ∙ sym c.first_deep.ensures
-    ∙ c.in_default-first_deep.is))
+    (ap (λ ts. deep_place 0 0 (tokens_in ts)) (sym c.deref-2.ensures.value)
+    ∙ sym c.first_deep.ensures ∙ c.in_default-first_deep.is))
     (subst P (c.new-rest.ensures ∙ ap tokens_in c.deref-3.ensures.value) c.in-Ok.ensures.reads)
     (λ q. let n = ap length q in omega (arith, n, c.left.ensures, c.if-left-gt0.true))
     c.refused.ensures c.fault_of.ensures
@@ -56,7 +56,7 @@ returns-in-Err c =
     (limits_met (text_tokens_in c.args.scan)
     (ap (λ ts. position is_big (tokens_in ts)) (sym c.deref.ensures.value)
     ∙ sym c.first_big.ensures ∙ c.in_default.is)
-    (ap (λ ts. deep_place 0 0 (tokens_in ts)) (sym c.deref-2.ensures.value) ∙ sym c.first_deep.ensures
-    ∙ c.in_default-first_deep.is))
+    (ap (λ ts. deep_place 0 0 (tokens_in ts)) (sym c.deref-2.ensures.value)
+    ∙ sym c.first_deep.ensures ∙ c.in_default-first_deep.is))
     (subst P (c.new-rest.ensures ∙ ap tokens_in c.deref-3.ensures.value) c.in-Err.ensures.reads)
     c.fault_of-in-Err.ensures
