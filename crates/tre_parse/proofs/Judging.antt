@@ -1,5 +1,5 @@
 -- Which outcome each step of parsing comes to.
-use Rattle.std.proofs.Common.{◌≡◌, ℕ, ◌<◌, ◌≤◌, ◌-◌, Bool, true, false, Option, Some, None, Ok, Err, List, [], length, ◌⊎◌, inl, inr, refl, sym, ◌∙◌, ap, subst, arith}
+use Rattle.std.proofs.Common.{◌≡◌, ℕ, ◌<◌, ◌≤◌, ◌-◌, Bool, true, false, Option, Some, None, Ok, Err, List, [], ◌∷◌, length, ◌⊎◌, inl, inr, refl, sym, ◌∙◌, ap, subst, arith}
 use Rattle.std.specs.Prelude.{IsSome, Result, MatchOption, position, nat_lt, min, if◌then◌else◌}
 use Rattle.std.specs.Option.{option_map}
 use Rattle.std.proofs.lemmas.Bool.Decides.{nat_tests}
@@ -20,12 +20,13 @@ use Rattle.tre_parse.proofs.Fixpoint.{left}
 use Rattle.tre_parse.proofs.Whole.{read_whole, IsCut, fault_at, spelt_read}
 use Rattle.tre_parse.specs.declared.cursor.Stop.{Stop}
 use Rattle.tre_parse.specs.declared.cursor.Stop.TheVariants.{Syntax as Stuck, Memory as Lacking}
-use Rattle.tre_parse.specs.Tokens.{earlier, bad_byte}
+use Rattle.tre_parse.specs.Tokens.{RawTokenAt, token_of, known_after, tokens_from, offsets_of, raw_tokens_of, earlier, bad_byte}
 use Rattle.tre_syntax.specs.Expr.{tree_of}
 use Rattle.tre_syntax.specs.declared.expr.Expr.{Expr}
 use Rattle.tre_parse.specs.Joins.{Keeps}
 use Rattle.tre_parse.proofs.Counts.{kept_is}
-use Rattle.tre_parse.specs.Scan.{IsScan}
+use Rattle.tre_parse.specs.Scan.{placed_from, IsScan}
+use Rattle.tre_parse.specs.Front.{tokens_in, offsets_in}
 use Rattle.tre_parse.specs.Numbering.{IsNumberedByUse}
 use Rattle.tre_parse.specs.Outcome.{Outcome, spelt, refused, TextTokens, text_tokens_of, offset_of, is_big, deep_place, byte_fault, limit_fault, IsSyntaxFaultAt, IsFirstEmpty, NoneEmpty, past_or, limited_outcome, IsOutcomeOfTokens, IsOutcomeWithin, IsOutcome}
 use Rattle.tre_parse.specs.Answers.{Answers, text_tokens_in, IsFaultOf}
@@ -231,11 +232,28 @@ pub good_bytes : (text : List ℕ) → length text ≤ TEXT_MAX → bad_byte tex
 good_bytes text le e = short_by (nat_lt TEXT_MAX (length text)) (length text) (Some TooLong) _ refl
     le ∙ ap (option_map (λ at. BadByte at)) e
 
+-- The tokens and the offsets of words that are listed together.
+placed_tokens : (known : List (List ℕ)) (raw_tokens : List RawTokenAt)
+    → tokens_in (placed_from known raw_tokens) ≡ tokens_from known raw_tokens
+placed_tokens known [] = refl
+placed_tokens known (raw ∷ rest) = ap (λ ts. token_of known raw.word ∷ ts)
+    (placed_tokens (known_after known raw.word) rest)
+
+placed_offsets : (known : List (List ℕ)) (raw_tokens : List RawTokenAt)
+    → offsets_in (placed_from known raw_tokens) ≡ offsets_of raw_tokens
+placed_offsets known [] = refl
+placed_offsets known (raw ∷ rest) = ap (λ ns. raw.at ∷ ns)
+    (placed_offsets (known_after known raw.word) rest)
+
 -- A scan of a text holds its words.
 pub same_words : (text : List ℕ) (scan : Scan) → IsScan text scan → text_tokens_in scan
     ≡ text_tokens_of text
-same_words text scan s = let z = s.size in let a = s.tokens in let b = s.offsets in let c =
-    s.names in let d = s.past in (cc)
+same_words text scan s =
+    let raw_tokens = raw_tokens_of text in
+    let z = s.size in let c = s.names in let d = s.past in
+    let a = ap tokens_in s.tokens ∙ placed_tokens [] raw_tokens in
+    let b = ap offsets_in s.tokens ∙ placed_offsets [] raw_tokens in
+    (cc)
 
 pub scan_numbered : (text : List ℕ) (scan : Scan) → IsScan text scan
     → IsNumberedByUse (text_tokens_in scan)

@@ -6,8 +6,8 @@ use Rattle.tre_parse.specs.declared.token.Token.{Token}
 use Rattle.tre_parse.specs.declared.lexeme.Lexeme.TheVariants.{Blank, Name, Sign}
 use Rattle.tre_parse.specs.declared.scan.Scan.{Scan}
 use Rattle.tre_parse.specs.Lexeme.{lexeme_of}
-use Rattle.tre_parse.specs.Tokens.{RawToken, name, sign, RawTokens, raw_tokens_from, scanned, with_raw_token, token_of, known_after, tokens_from, names_from, past_from, is_past, offsets_of, earlier}
-use Rattle.tre_parse.specs.Scan.{rest_from, TakesToken, LeadsTo}
+use Rattle.tre_parse.specs.Tokens.{RawToken, name, sign, RawTokens, raw_tokens_from, scanned, with_raw_token, known_after, names_from, past_from, is_past, earlier}
+use Rattle.tre_parse.specs.Scan.{rest_from, placed, placed_from, TakesToken, LeadsTo}
 
 -- The bytes of a word are passed over.
 raw_tokens_skip : (k at : ℕ) (bytes : List ℕ) → k ≤ length bytes → raw_tokens_from k at bytes
@@ -83,14 +83,11 @@ leads_word bytes old new at next word t e =
     let rest = (rest_from bytes next).raw_tokens in
     let raw_tokens = ap (λ (l : RawTokens). l.raw_tokens) e in
     record {
-      tokens = ap (λ s. old.tokens.items ++ tokens_from old.names s) raw_tokens
-          ∙ sym (append_assoc old.tokens.items (token_of old.names word ∷ [])
-          (tokens_from (known_after old.names word) rest))
-          ∙ ap (λ l. l ++ tokens_from (known_after old.names word) rest) (sym t.tokens)
-          ∙ ap (λ k. new.tokens.items ++ tokens_from k rest) (sym t.names);
-      offsets = ap (λ s. old.offsets.items ++ offsets_of s) raw_tokens
-          ∙ sym (append_assoc old.offsets.items (at ∷ []) (offsets_of rest))
-          ∙ ap (λ l. l ++ offsets_of rest) (sym t.offsets);
+      tokens = ap (λ s. old.tokens.items ++ placed_from old.names s) raw_tokens
+          ∙ sym (append_assoc old.tokens.items (placed old.names at word ∷ [])
+          (placed_from (known_after old.names word) rest))
+          ∙ ap (λ l. l ++ placed_from (known_after old.names word) rest) (sym t.tokens)
+          ∙ ap (λ k. new.tokens.items ++ placed_from k rest) (sym t.names);
       names = ap (λ s. names_from old.names s) raw_tokens
           ∙ ap (λ k. names_from k rest) (sym t.names);
       past = ap (λ s. earlier old.past (past_from old.names s)) raw_tokens
@@ -111,8 +108,7 @@ pub leads_same : (bytes : List ℕ) (scan : Scan) (at next : ℕ) → rest_from 
     ≡ rest_from bytes next → LeadsTo bytes scan at scan next
 leads_same bytes scan at next e =
     record {
-      tokens = ap (λ (l : RawTokens). scan.tokens.items ++ tokens_from scan.names l.raw_tokens) e;
-      offsets = ap (λ (l : RawTokens). scan.offsets.items ++ offsets_of l.raw_tokens) e;
+      tokens = ap (λ (l : RawTokens). scan.tokens.items ++ placed_from scan.names l.raw_tokens) e;
       names = ap (λ (l : RawTokens). names_from scan.names l.raw_tokens) e;
       past = ap (λ (l : RawTokens). earlier scan.past (past_from scan.names l.raw_tokens)) e;
       bad = ap (λ (l : RawTokens). l.bad) e;

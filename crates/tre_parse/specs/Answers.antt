@@ -7,6 +7,7 @@ use Rattle.tre_parse.specs.declared.fault.ParseFault.TheVariants.{Syntax, Memory
 use Rattle.tre_parse.specs.declared.cursor.Stop.{Stop}
 use Rattle.tre_parse.specs.declared.cursor.Stop.TheVariants.{Syntax as Stuck, Memory as Lacking}
 use Rattle.tre_parse.specs.declared.scan.Scan.{Scan}
+use Rattle.tre_parse.specs.Front.{tokens_in, offsets_in}
 use Rattle.tre_parse.specs.Outcome.{Outcome, spelt, refused, TextTokens, offset_of}
 
 -- The answer is an outcome of which this is so, or want of memory.
@@ -19,8 +20,8 @@ abbrev pub text_tokens_in : Scan → TextTokens
 text_tokens_in scan =
     record {
       size = scan.size;
-      tokens = scan.tokens.items;
-      offsets = scan.offsets.items;
+      tokens = tokens_in scan.tokens.items;
+      offsets = offsets_in scan.tokens.items;
       names = scan.names;
       past = scan.past;
     }

@@ -1,27 +1,27 @@
 ghost use Rattle.std.specs.Prelude.{◌≡◌, ◌≢◌, ℕ, List, length};
 ghost use Rattle.tre_parse.specs.declared.token.Token.{Token};
-ghost use Rattle.tre_parse.specs.Front.{front, tail};
+ghost use Rattle.tre_parse.specs.Front.{tokens_in, front, tail};
 ghost use Rattle.tre_parse.specs.Reading.{Accepts, Passes};
 
-use crate::token::Token;
+use crate::token::{Token, TokenAt};
 use std::alloc::AllocError;
 use std::marker::Model;
 
 /// The tokens that are still to be read.
 #[derive(Drop)]
 pub(crate) struct Cursor<'a> {
-    tokens: &'a [Token],
+    tokens: &'a [TokenAt],
 }
 
 impl<'a> Model for Cursor<'a> {
     ghost Value = { List Token };
 
-    ghost view = { λ c. c.tokens.now };
+    ghost view = { λ c. tokens_in c.tokens.now };
 }
 
 impl<'a> Cursor<'a> {
-    pub(crate) fn new(tokens: &'a [Token]) -> Cursor<'a>
-        ensures { result ≡ tokens.now }
+    pub(crate) fn new(tokens: &'a [TokenAt]) -> Cursor<'a>
+        ensures { result ≡ tokens_in tokens.now }
     {
         Cursor { tokens }
     }
@@ -37,7 +37,10 @@ impl<'a> Cursor<'a> {
     pub(crate) fn peek(&self) -> Token
         ensures { result ≡ front self.now }
     {
-        self.tokens.first().copied().unwrap_or(Token::EndOfText)
+        match self.tokens.first() {
+            Some(next) => next.token,
+            None => Token::EndOfText,
+        }
     }
 
     /// Goes past the next token.

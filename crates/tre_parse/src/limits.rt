@@ -1,7 +1,8 @@
 ghost use Rattle.std.specs.Prelude.{◌≡◌, ◌≤◌, position};
+ghost use Rattle.tre_parse.specs.Front.{tokens_in};
 ghost use Rattle.tre_parse.specs.Outcome.{is_big, open_after, deep_place};
 
-use crate::token::Token;
+use crate::token::{Token, TokenAt};
 use tre_pairs::TIME_MAX;
 
 /// How many bytes the text of a pattern may have.
@@ -14,22 +15,25 @@ pub(crate) const DEPTH_MAX: usize = 200;
 pub(crate) const COUNT_MAX: u64 = 1_000_000_000;
 
 /// The place of the first number above the latest time.
-pub(crate) fn first_big(tokens: &[Token]) -> Option<usize>
-    ensures { result ≡ position is_big tokens.now }
+pub(crate) fn first_big(tokens: &[TokenAt]) -> Option<usize>
+    ensures { result ≡ position is_big (tokens_in tokens.now) }
 {
-    tokens.iter().position(|token| match token {
-        Token::Number(number) => *number > TIME_MAX,
-        _ => false,
-    })
+    tokens
+        .iter()
+        .map(|placed| placed.token)
+        .position(|token| match token {
+            Token::Number(number) => number > TIME_MAX,
+            _ => false,
+        })
 }
 
 /// The place of the first bracket at which more than `DEPTH_MAX` are open.
-pub(crate) fn first_deep(tokens: &[Token]) -> Option<usize>
-    ensures { result ≡ deep_place 0 0 tokens.now }
+pub(crate) fn first_deep(tokens: &[TokenAt]) -> Option<usize>
+    ensures { result ≡ deep_place 0 0 (tokens_in tokens.now) }
 {
     let mut depth = 0;
-    for (place, token) in tokens.iter().enumerate() {
-        depth = open_after(depth, *token);
+    for (place, placed) in tokens.iter().enumerate() {
+        depth = open_after(depth, placed.token);
         if depth > DEPTH_MAX {
             return Some(place);
         }

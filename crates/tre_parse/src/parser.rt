@@ -1,5 +1,6 @@
 ghost use Rattle.std.specs.Prelude.{◌≡◌, [], Ok, Some, None, IfOk, MatchResult};
 ghost use Rattle.tre_syntax.specs.Pattern.{pattern_tree, names_of};
+ghost use Rattle.tre_parse.specs.Front.{tokens_in};
 ghost use Rattle.tre_parse.specs.Reader.{PatternTask};
 ghost use Rattle.tre_parse.specs.Reading.{Reads};
 ghost use Rattle.tre_parse.specs.Unkept.{FindsUpTo};
@@ -68,7 +69,7 @@ fn fault_of(scan: &Scan, stop: Stop) -> ParseFault
     match stop {
         Stop::Memory => ParseFault::Memory,
         Stop::Syntax { left } => ParseFault::Syntax {
-            at: scan.offset_of_left(left),
+            at: scan.offset(scan.place_of_left(left)),
         },
     }
 }
@@ -78,12 +79,12 @@ fn judge(scan: Scan, whole: Operand) -> Result<Pattern, ParseFault>
     requires numbered { IsNumberedByUse (text_tokens_in scan) }
     requires small { limit_fault (text_tokens_in scan) ≡ None }
     requires whole { Reads (PatternTask.expression_by Join.Alternation) (Ok whole)
-        scan.tokens.items [] }
-    requires unkept { FindsUpTo scan.tokens.items [] whole.unkept }
+        (tokens_in scan.tokens.items) [] }
+    requires unkept { FindsUpTo (tokens_in scan.tokens.items) [] whole.unkept }
     ensures { Answers (IsOutcomeWithin (text_tokens_in scan)) result }
 {
     if let Some(left) = whole.unkept {
-        let at = scan.offset_of_left(left);
+        let at = scan.offset(scan.place_of_left(left));
         return Err(ParseFault::EmptyInterval { at });
     }
     if let Some(at) = scan.past {

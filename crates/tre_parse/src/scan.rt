@@ -1,23 +1,24 @@
-ghost use Rattle.std.specs.Prelude.{◌≡◌, ◌-◌, ◌<◌, ◌≤◌, ℕ, ◌+◌, ◌++◌, [], ◌∷◌, Some, None, length, take, drop, slice_index_or, OnOk, IfOk, IfErr};
+ghost use Rattle.std.specs.Prelude.{◌≡◌, ◌-◌, ◌<◌, ◌≤◌, ℕ, ◌+◌, ◌++◌, [], ◌∷◌, Some, None, length, take, drop, OnOk, IfOk, IfErr};
 ghost use Rattle.tre_state.specs.Name.{IsName};
 ghost use Rattle.tre_state.specs.Names.{place_of};
 ghost use Rattle.tre_parse.specs.Tokens.{name, sign, names_with};
+ghost use Rattle.tre_parse.specs.Outcome.{offset_of};
+ghost use Rattle.tre_parse.specs.Answers.{text_tokens_in};
 ghost use Rattle.tre_parse.specs.Scan.{TakesToken, GoesOn, IsBadByte, IsScan};
 
 use crate::fault::ParseFault;
 use crate::lexeme::{Lexeme, lexeme_of};
-use crate::token::Token;
+use crate::token::{Token, TokenAt};
 use std::alloc::{AllocError, Global};
 use tre_state::{NAMES_MAX, NameFault, Names};
 
 /// The number of a name past the first `NAMES_MAX`.
 pub(crate) const PAST: u8 = NAMES_MAX as u8;
 
-/// The tokens of a text, the offset of each, and the names among them.
+/// The tokens of a text, each with its offset, and the names among them.
 #[derive(Drop)]
 pub(crate) struct Scan {
-    pub(crate) tokens: Vec<Token>,
-    pub(crate) offsets: Vec<u64>,
+    pub(crate) tokens: Vec<TokenAt>,
     pub(crate) names: Names,
     /// Where the first name past the first `NAMES_MAX` stands, if there is one.
     pub(crate) past: Option<u64>,
@@ -28,25 +29,27 @@ pub(crate) struct Scan {
 impl Scan {
     /// The offset of the token at a place, the length of the text where there is none.
     pub(crate) fn offset(&self, place: usize) -> u64
-        ensures { result ≡ slice_index_or self.now.offsets.items place self.now.size }
+        ensures { result ≡ offset_of (text_tokens_in self.now) place }
     {
-        self.offsets.get(place).copied().unwrap_or(self.size)
+        match self.tokens.get(place) {
+            Some(placed) => placed.at,
+            None => self.size,
+        }
     }
 
-    /// The offset of the token with which so many are left, the length of the text where none is.
-    pub(crate) fn offset_of_left(&self, left: usize) -> u64
-        ensures { result ≡ slice_index_or self.now.offsets.items
-            (length self.now.tokens.items - left) self.now.size }
+    /// The place of the token with which so many are left.
+    pub(crate) fn place_of_left(&self, left: usize) -> usize
+        ensures { result ≡ length (text_tokens_in self.now).tokens - left }
     {
-        self.offset(self.tokens.len().saturating_sub(left))
+        self.tokens.len().saturating_sub(left)
     }
 
     // A token that is no name.
     fn put(&mut self, token: Token, at: usize) -> Result<(), AllocError>
         ensures { OnOk result (TakesToken self.old self.new at (sign token)) }
     {
-        self.tokens.push(token)?;
-        self.offsets.push(at as u64)?;
+        let at = at as u64;
+        self.tokens.push(TokenAt { token, at })?;
         Ok(())
     }
 
@@ -104,7 +107,6 @@ pub(crate) fn scan_text(alloc: Global, text: &str) -> Result<Scan, ParseFault>
 {
     let mut scan = Scan {
         tokens: Vec::new(alloc),
-        offsets: Vec::new(alloc),
         names: Names::new(alloc),
         past: None,
         size: text.len() as u64,

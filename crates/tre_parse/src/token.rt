@@ -58,3 +58,10 @@ pub enum Token {
     /// No token: the text is at its end.
     EndOfText,
 }
+
+/// A token of a text, and the offset of its first byte.
+#[derive(Clone, Copy)]
+pub(crate) struct TokenAt {
+    pub(crate) token: Token,
+    pub(crate) at: u64,
+}

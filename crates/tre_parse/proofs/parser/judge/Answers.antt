@@ -1,4 +1,5 @@
-use Rattle.std.proofs.Common.{length, ◌-◌, refl, ◌∙◌, arith, inr}
+use Rattle.std.proofs.Common.{length, ◌-◌, refl, ◌∙◌, ap, arith, inr}
+use Rattle.tre_parse.specs.Outcome.{offset_of}
 use Rattle.tre_parse.specs.Answers.{text_tokens_in}
 use Rattle.tre_parse.proofs.Judging.{is_whole, none_found, first_found, empty_outcome, past_outcome, large_outcome, is_buildable, expr_is, expr_some, pattern_some, spelt_outcome}
 use Rattle.tre_parse.proofs.parser.judge.Goals as goal
@@ -7,10 +8,10 @@ pub returns-in-Some : goal.returns-in-Some
 returns-in-Some c =
     let words = text_tokens_in c.args.scan in
     inr (empty_outcome words c.args.whole (length words.tokens - c.in-Some.left)
-    c.offset_of_left-at.result c.requires.small
+    c.offset-at.result c.requires.small
     (is_whole words c.args.whole c.requires.whole)
     (first_found words c.args.whole c.in-Some.left c.requires.small c.requires.unkept c.in-Some.is)
-    c.offset_of_left-at.ensures)
+    (c.offset-at.ensures ∙ ap (offset_of words) c.place_of_left.ensures))
 
 pub returns-in-Some-past : goal.returns-in-Some-past
 returns-in-Some-past c =

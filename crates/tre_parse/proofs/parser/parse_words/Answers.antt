@@ -2,6 +2,7 @@ use Rattle.std.proofs.Common.{sym, ◌≡◌, ◌≤◌, List, [], ◌∷◌, le
 use Rattle.std.specs.Prelude.{position}
 use Rattle.tre_parse.specs.declared.token.Token.{Token}
 use Rattle.tre_parse.specs.Operands.{Represents}
+use Rattle.tre_parse.specs.Front.{tokens_in}
 use Rattle.tre_parse.specs.Outcome.{is_big, deep_place}
 use Rattle.tre_parse.specs.Answers.{text_tokens_in}
 use Rattle.tre_parse.specs.Reader.{got}
@@ -20,16 +21,17 @@ judge-requires-clause-whole c =
     let P = λ (ts : List Token). Goes Represents c.in-Ok.whole (read_whole ts)
     (λ e. got e c.expression.new.tokens) in
     let Q = λ (ts : List Token). Goes Represents c.in-Ok.whole
-    (read_whole c.args.scan.tokens.items) (λ e. got e ts) in
+    (read_whole (text_tokens_in c.args.scan).tokens) (λ e. got e ts) in
     subst Q (none_left c.expression.new.tokens (omega (arith, c.left.ensures, c.if-left-gt0.false)))
-    (subst P (c.new-rest.ensures ∙ c.deref-3.ensures.value) c.in-Ok.ensures.reads)
+    (subst P (c.new-rest.ensures ∙ ap tokens_in c.deref-3.ensures.value) c.in-Ok.ensures.reads)
 
 pub judge-requires-clause-unkept : goal.judge-requires-clause-unkept
 judge-requires-clause-unkept c =
     let P = λ (ts : List Token). FindsUpTo ts c.expression.new.tokens c.in-Ok.whole.unkept in
-    let Q = λ (ts : List Token). FindsUpTo c.args.scan.tokens.items ts c.in-Ok.whole.unkept in
+    let Q = λ (ts : List Token). FindsUpTo (text_tokens_in c.args.scan).tokens ts
+    c.in-Ok.whole.unkept in
     subst Q (none_left c.expression.new.tokens (omega (arith, c.left.ensures, c.if-left-gt0.false)))
-    (subst P (c.new-rest.ensures ∙ c.deref-3.ensures.value) c.in-Ok.ensures.unkept)
+    (subst P (c.new-rest.ensures ∙ ap tokens_in c.deref-3.ensures.value) c.in-Ok.ensures.unkept)
 
 pub returns-then-left-gt0 : goal.returns-then-left-gt0
 returns-then-left-gt0 c =
@@ -37,11 +39,12 @@ returns-then-left-gt0 c =
     (λ e. got e c.expression.new.tokens) in
     rest_outcome (text_tokens_in c.args.scan) c.refused.result c.fault_of.result c.in-Ok.whole
     c.expression.new.tokens
-    (limits_met (text_tokens_in c.args.scan) (ap (position is_big) (sym c.deref.ensures.value)
+    (limits_met (text_tokens_in c.args.scan)
+    (ap (λ ts. position is_big (tokens_in ts)) (sym c.deref.ensures.value)
     ∙ sym c.first_big.ensures ∙ c.in_default.is)
-    (ap (deep_place 0 0) (sym c.deref-2.ensures.value) ∙ sym c.first_deep.ensures
-    ∙ c.in_default-first_deep.is))
-    (subst P (c.new-rest.ensures ∙ c.deref-3.ensures.value) c.in-Ok.ensures.reads)
+    (ap (λ ts. deep_place 0 0 (tokens_in ts)) (sym c.deref-2.ensures.value)
+    ∙ sym c.first_deep.ensures ∙ c.in_default-first_deep.is))
+    (subst P (c.new-rest.ensures ∙ ap tokens_in c.deref-3.ensures.value) c.in-Ok.ensures.reads)
     (λ q. let n = ap length q in omega (arith, n, c.left.ensures, c.if-left-gt0.true))
     c.refused.ensures c.fault_of.ensures
 
@@ -50,9 +53,10 @@ returns-in-Err c =
     let P = λ (ts : List Token). Stops (read_whole ts) c.in-Err.stop c.expression.new.tokens in
     stop_outcome (text_tokens_in c.args.scan) c.in-Err.stop c.fault_of-in-Err.result
     c.expression.new.tokens
-    (limits_met (text_tokens_in c.args.scan) (ap (position is_big) (sym c.deref.ensures.value)
+    (limits_met (text_tokens_in c.args.scan)
+    (ap (λ ts. position is_big (tokens_in ts)) (sym c.deref.ensures.value)
     ∙ sym c.first_big.ensures ∙ c.in_default.is)
-    (ap (deep_place 0 0) (sym c.deref-2.ensures.value) ∙ sym c.first_deep.ensures
-    ∙ c.in_default-first_deep.is))
-    (subst P (c.new-rest.ensures ∙ c.deref-3.ensures.value) c.in-Err.ensures.reads)
+    (ap (λ ts. deep_place 0 0 (tokens_in ts)) (sym c.deref-2.ensures.value)
+    ∙ sym c.first_deep.ensures ∙ c.in_default-first_deep.is))
+    (subst P (c.new-rest.ensures ∙ ap tokens_in c.deref-3.ensures.value) c.in-Err.ensures.reads)
     c.fault_of-in-Err.ensures
