@@ -1,5 +1,5 @@
 // What derivatives and marks tell of the second and third piece of a trace, and what goes on.
-ghost use Rattle.std.specs.Prelude.{◌≡◌, ◌≤◌, IfOk};
+ghost use Rattle.std.specs.Prelude.{IfOk};
 ghost use Rattle.tre_state.specs.declared.names.TheConstants.{NAMES_MAX};
 ghost use Rattle.tre_syntax.specs.Expr.{tree_of};
 ghost use Rattle.tre_syntax.specs.PatternTree.{NumbersBelow};
@@ -7,6 +7,7 @@ ghost use Rattle.tre_edges.specs.Piece.{end_of_piece};
 ghost use Rattle.tre_residual.specs.Residual.{residual_tree, IsWellAt};
 
 use crate::given::{are_matches, pattern};
+use crate::pieces::{Length, first_piece, next_piece};
 use std::alloc::{AllocError, Global};
 use std::test::Fail;
 use tre_derive::{fresh, step};
@@ -15,51 +16,11 @@ use tre_offline::local;
 use tre_residual::Residual;
 use tre_state::NAMES_MAX;
 use tre_syntax::{Expr, Pattern};
-use tre_trace::{Segment, Trace};
+use tre_trace::Trace;
 use tre_zoneset::ZoneSet;
-
-// The length of a segment, and its valuation: of 1 p is true, of 2 q, of 3 both.
-type Length = (u8, u64);
 
 // Only the edge behind the piece on which p holds makes it a match.
 const FALLING: &str = "(p;fall(p)) & p";
-
-// The segment of a row, which lasts a tick at least.
-fn segment(length: Length) -> Segment
-    ensures long { 1 ≤ result.len }
-    ensures short { result.len ≤ 256 }
-{
-    let (len, val) = length;
-    Segment {
-        len: u64::from(len).max(1),
-        val,
-    }
-}
-
-// The first piece of a trace.
-fn first_piece(length: Length) -> Piece
-    ensures begin { result.begin ≡ 0 }
-    ensures len { result.segment.len ≤ 256 }
-{
-    Piece {
-        begin: 0,
-        segment: segment(length),
-        before: None,
-    }
-}
-
-// The piece behind another.
-fn next_piece(last: &Piece, length: Length) -> Piece
-    requires { end_of_piece last.now ≤ 1024 }
-    ensures begin { result.begin ≡ end_of_piece last.now }
-    ensures len { result.segment.len ≤ 256 }
-{
-    Piece {
-        begin: last.begin + last.segment.len,
-        segment: segment(length),
-        before: Some(last.segment.val),
-    }
-}
 
 // What is told at the second of two pieces of what has begun in the first.
 fn told(alloc: Global, text: &str, first: Length, second: Length) -> Result<ZoneSet, Fail> {

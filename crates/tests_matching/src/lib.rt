@@ -17,8 +17,12 @@ mod long_traces;
 #[cfg(test)]
 mod marks;
 #[cfg(test)]
+mod pieces;
+#[cfg(test)]
 mod residuals;
 #[cfg(test)]
 mod sessions;
+#[cfg(test)]
+mod twins;
 #[cfg(test)]
 mod whole_traces;

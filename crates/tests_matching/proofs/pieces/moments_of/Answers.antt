@@ -1,6 +1,6 @@
 use Rattle.std.proofs.Common.{arith}
 use Rattle.std.proofs.lemmas.Result.{IfOk-weaker}
-use Rattle.tests_matching.proofs.marks.two_ticks.Goals as goal
+use Rattle.tests_matching.proofs.pieces.moments_of.Goals as goal
 
 pub returns : goal.returns
 returns c = IfOk-weaker c.moments.result _ _

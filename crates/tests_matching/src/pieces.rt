@@ -1,0 +1,57 @@
+// Pieces of a trace, one behind another.
+ghost use Rattle.std.specs.Prelude.{◌≡◌, ◌≤◌, IfOk};
+ghost use Rattle.tre_edges.specs.Piece.{end_of_piece};
+ghost use Rattle.tre_mark.specs.Marked.{EndBetween};
+
+use std::alloc::{AllocError, Global};
+use tre_edges::Piece;
+use tre_mark::moments;
+use tre_trace::Segment;
+use tre_zoneset::ZoneSet;
+
+/// The length of a segment, and its valuation: of 1 p is true, of 2 q, of 3 both.
+pub(crate) type Length = (u8, u64);
+
+// The segment of a row, which lasts a tick at least.
+fn segment(length: Length) -> Segment
+    ensures long { 1 ≤ result.len }
+    ensures short { result.len ≤ 256 }
+{
+    let (len, val) = length;
+    Segment {
+        len: u64::from(len).max(1),
+        val,
+    }
+}
+
+/// The first piece of a trace.
+pub(crate) fn first_piece(length: Length) -> Piece
+    ensures begin { result.begin ≡ 0 }
+    ensures len { result.segment.len ≤ 256 }
+{
+    Piece {
+        begin: 0,
+        segment: segment(length),
+        before: None,
+    }
+}
+
+/// The piece behind another.
+pub(crate) fn next_piece(last: &Piece, length: Length) -> Piece
+    requires { end_of_piece last.now ≤ 1024 }
+    ensures begin { result.begin ≡ end_of_piece last.now }
+    ensures len { result.segment.len ≤ 256 }
+{
+    Piece {
+        begin: last.begin + last.segment.len,
+        segment: segment(length),
+        before: Some(last.segment.val),
+    }
+}
+
+/// Every moment of the piece.
+pub(crate) fn moments_of(alloc: Global, piece: &Piece) -> Result<ZoneSet, AllocError>
+    ensures { IfOk result (λ all. EndBetween piece.now.begin (end_of_piece piece.now) all) }
+{
+    moments(alloc, piece.begin, piece.begin + piece.segment.len)
+}
