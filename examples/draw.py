@@ -139,19 +139,22 @@ def picture(signals, found, window):
     wide, rows = 900, []
 
     def at(tick):
-        return left if tick is None else left + (tick - window.start) * wide / (window.end - window.start)
+        if tick is None:
+            return left
+        return left + (tick - window.start) * wide / (window.end - window.start)
 
     top = 30
     for mark in window.marks(12):
-        rows.append('<path class="scale" d="M%.1f 22V@"/><text x="%.1f" y="16" text-anchor="middle">%d</text>'
-                    % (at(mark), at(mark), mark))
+        rows.append('<path class="scale" d="M%.1f 22V@"/>' % at(mark))
+        rows.append('<text x="%.1f" y="16" text-anchor="middle">%d</text>' % (at(mark), mark))
     for name, stretches in signals.items():
         inside = wave(joined(window.clip(stretches)), at, top)
         rows.append('<text x="4" y="%d">%s</text>' % (top + 17, escape(name)))
         rows.append('<polyline class="wave" points="%s %d,%d"/>' % (inside, left + wide, top + 20))
         top += 28
     for (pattern, stretches), colour in zip(found.items(), COLOURS * len(found)):
-        rows.append('<text x="%d" y="%d" fill="%s">%s</text>' % (left, top + 14, colour, escape(pattern)))
+        rows.append('<text x="%d" y="%d" fill="%s">%s</text>'
+                    % (left, top + 14, colour, escape(pattern)))
         top += 20
         for row in rows_of(window.clip(stretches)):
             for start, end in row:
@@ -160,7 +163,8 @@ def picture(signals, found, window):
             top += 14
     style = ("text{font:13px monospace}.wave{fill:none;stroke:#222;stroke-width:1.5}"
              ".scale{stroke:#ddd}rect{fill-opacity:.7}")
-    head = '<svg xmlns="http://www.w3.org/2000/svg" width="%d" height="%d">' % (left + wide + 20, top + 10)
+    head = ('<svg xmlns="http://www.w3.org/2000/svg" width="%d" height="%d">'
+            % (left + wide + 20, top + 10))
     ground = '<rect width="100%" height="100%" style="fill:#fff;fill-opacity:1"/>'
     body = "\n".join(rows).replace("V@", "V%d" % top)
     return "%s\n<style>%s</style>\n%s\n%s\n</svg>" % (head, style, ground, body)

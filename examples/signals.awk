@@ -1,7 +1,7 @@
 # Lists the signals of a dump that a pattern can ask for, by the names that it has for them.
 $1 == "$scope" { path = path $3 "." }
 $1 == "$upscope" { sub(/[^.]*[.]$/, "", path) }
-$1 == "$var" && $3 == 1 && NF == 6 && $2 !~ /^(real|realtime|event)$/ && path $5 ~ /^[A-Za-z_][A-Za-z0-9_.]*$/ {
-    print path $5
+$1 == "$var" && $3 == 1 && NF == 6 && $2 !~ /^(real|realtime|event)$/ {
+    if (path $5 ~ /^[A-Za-z_][A-Za-z0-9_.]*$/) print path $5
 }
 $1 == "$enddefinitions" { exit }
