@@ -3,12 +3,14 @@
 usage: python3 bench/gate.py [WORD..]        the command to run: `rt ci --anew` where none is given
 
 It runs the command, looks at the processes below it ten times a second, and prints a table at the
-end. What a process used after the last look at it is in the sum of the system alone.
+end, and whenever it is sent the signal USR1. What a process used after the last look at it is in
+the sum of the system alone.
 """
 
 import os
 import re
 import resource
+import signal
 import subprocess
 import sys
 import threading
@@ -53,11 +55,18 @@ def below(found, top):
     return reached
 
 
+def folder_of(process):
+    try:
+        return os.readlink("/proc/%d/cwd" % process)
+    except OSError:
+        return ""
+
+
 def work_of(process):
     """The crate that a process works on, and which kind of work it is."""
     words = read("/proc/%d/cmdline" % process).decode(errors="replace").split("\0")
     line = " ".join(words)
-    place = line + " " + os.path.realpath("/proc/%d/cwd" % process)
+    place = line + " " + folder_of(process)
     if "--crate-name" in words:
         crate = words[words.index("--crate-name") + 1]
         if "/rt-edit" in place:
@@ -81,10 +90,10 @@ class Meter(threading.Thread):
                 continue
             _, begin, ticks = found[process]
             key = process, begin
-            self.used[key] = ticks
             # (a process is another program once it has begun it)
             if self.works.get(key, ("rt", ""))[0] == "rt":
                 self.works[key] = work_of(process)
+            self.used[key] = ticks
 
     def run(self):
         while self.going:
@@ -94,7 +103,7 @@ class Meter(threading.Thread):
 
 def table(meter):
     sums = {}
-    for key, ticks in meter.used.items():
+    for key, ticks in list(meter.used.items()):
         crate, kind = meter.works[key]
         sums.setdefault(crate, dict.fromkeys(KINDS, 0))[kind] += ticks / TICKS / 60
     print("\nprocessor minutes\n\n| crate | %s | all |" % " | ".join(KINDS))
@@ -114,6 +123,7 @@ def main():
     run = subprocess.Popen(command)
     meter = Meter(run.pid)
     meter.start()
+    signal.signal(signal.SIGUSR1, lambda *_: table(meter))
     status = run.wait()
     meter.going = False
     meter.join()
