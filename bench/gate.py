@@ -91,7 +91,7 @@ class Meter(threading.Thread):
             _, begin, ticks = found[process]
             key = process, begin
             # (a process is another program once it has begun it)
-            if self.works.get(key, ("rt", ""))[0] == "rt":
+            if self.works.get(key, ("rt", "programs"))[1] == "programs":
                 self.works[key] = work_of(process)
             self.used[key] = ticks
 
