@@ -1,49 +1,147 @@
 -- From the mask of sixteen bytes to the first byte of a class.
-use Rattle.std.proofs.Common.{◌≡◌, ◌≢◌, ℕ, ◌+◌, ◌*◌, ◌<◌, ◌≤◌, Bool, true, false, not, cond, List, [], ◌∷◌, map, length, length-take-le, take, get_or, refl, ap, ◌∙◌, arith}
-use Rattle.std.specs.List.{All, prefix_len}
-use Rattle.std.proofs.lemmas.List.{get_or-take}
+use Rattle.std.proofs.Common.{◌≡◌, ◌≢◌, ℕ, ◌+◌, ◌-◌, ◌/◌, ◌%◌, ◌^◌, ◌<◌, ◌≤◌, Bool, true, false, cond, List, map, length, length-take-le, take, get_or, inl, inr, refl, sym, ap, subst, ◌∙◌, arith, w64}
+use Rattle.std.specs.Int.{bit_at, trailing_zeros}
+use Rattle.std.specs.List.{All}
+use Rattle.std.proofs.Math.Nat.{div-le_self}
+use Rattle.std.proofs.lemmas.Bool.{cases_lt}
+use Rattle.std.proofs.lemmas.List.{get_or-take, get_or-map, get_or_past, length-map}
 use Rattle.std.proofs.lemmas.List.Elements.{All-from_get_or}
-use Rattle.std.proofs.lemmas.List.Sums.{prefix_len-le-length}
-use Rattle.std.proofs.lemmas.Simd.{trailing_mask_l, length-chunk}
-use lib.Count.{count_trailing_zeros}
+use Rattle.std.proofs.lemmas.Nat.{shr-shr}
+use Rattle.std.proofs.lemmas.Nat.Bits.{bit_at-zero, bit_at-trailing_zeros}
+use Rattle.std.proofs.lemmas.Simd.{bit_mask_l, length-chunk, get_or-chunk}
+use Rattle.tre_parts.specs.Bytes.{NoneBetween, IsNextAt}
+use Rattle.tre_parts.specs.Walk.{EndsAt}
 use lib.Lanes.{mask_l, chunk}
 
-none_fails : (b : Bool) (n l m : ℕ) → n ≤ l → cond (not b) (1 + n) 0 ≡ 1 + l → (n ≡ l → m ≡ 0)
-    → cond b 1 0 + 2 * m ≡ 0
-none_fails true n l m le e rest = absurd (omega (arith, e))
-none_fails false n l m le e rest = omega (arith, rest (omega (arith, e)))
+no_one : (b : Bool) → ◌≡◌ {A = ℕ} 0 (cond b 1 0) → b ≡ false
+no_one true is = absurd (omega (arith, is))
+no_one false is = refl
 
--- where no lane passes, no bit is set
-none_set : (p : ℕ → Bool) (xs : List ℕ) → prefix_len (λ x. not (p x)) xs ≡ length xs
-    → mask_l (map p xs) ≡ 0
-none_set p [] e = refl
-none_set p (x ∷ xs) e =
-    none_fails (p x) _ (length xs) _ (prefix_len-le-length (λ y. not (p y)) xs) (omega (arith, e))
-    (none_set p xs)
+a_one : (b : Bool) → ◌≡◌ {A = ℕ} 1 (cond b 1 0) → b ≡ true
+a_one true is = refl
+a_one false is = absurd (omega (arith, is))
 
--- The lowest bit of a mask of sixteen bytes is that of the first byte that passes.
-pub record IsFirstIn (p : ℕ → Bool) (bytes : List ℕ) (i run : ℕ) : Type 0 where
-  pub counted : run ≡ prefix_len (λ x. not (p x)) (chunk i 16 bytes)
-  pub short : run < 16
+-- Each bit of the number, shifted by some, tells whether its byte is of the class.
+module _ (p : ℕ → Bool) (bytes : List ℕ) (i mask : ℕ) (room : i + 16 ≤ length bytes)
+    (is : mask ≡ mask_l (map p (chunk i 16 bytes))) where
+  abbrev lanes : List ℕ
+  lanes = chunk i 16 bytes
+
+  bit_is : (k : ℕ) → k < 16 → bit_at mask k ≡ cond (p (get_or bytes (i + k) 0)) 1 0
+  bit_is k small =
+      let long = length-chunk i 16 bytes room in
+      ap (λ m. bit_at m k) is ∙ bit_mask_l (map p lanes) k
+      ∙ ap (λ (b : Bool). cond b 1 0)
+      (get_or-map p lanes k 0 false (omega (arith, long, small))
+      ∙ ap p (get_or-chunk i 16 bytes k 0 small))
+
+  bit_past : (k : ℕ) → 16 ≤ k → bit_at mask k ≡ 0
+  bit_past k past =
+      let long = length-chunk i 16 bytes room in
+      ap (λ m. bit_at m k) is ∙ bit_mask_l (map p lanes) k
+      ∙ ap (λ (b : Bool). cond b 1 0)
+      (get_or_past (map p lanes) k false (omega (arith, long, length-map lanes p, past)))
+
+  bit_within : (k : ℕ) → bit_at mask k ≡ 1 → k < 16
+  bit_within k set = elim (cases_lt k 16) [
+    | inl small ↦ small
+    | inr past ↦ absurd (omega (arith, set, bit_past k past))
+  ]
+
+  module _ (by : ℕ) where
+    shifted : (k : ℕ) → bit_at (mask / 2 ^ by) k ≡ bit_at mask (by + k)
+    shifted k = ap (λ n. n % 2) (shr-shr mask by k)
+
+    -- a bit that is not set is that of another byte
+    clear_is : (place k : ℕ) → place ≡ i + by → by + k < 16 → bit_at (mask / 2 ^ by) k ≡ 0
+        → p (get_or bytes (place + k) 0) ≡ false
+    clear_is place k at small clear =
+        let same : place + k ≡ i + (by + k) = omega (arith, at) in
+        ap (λ j. p (get_or bytes j 0)) same
+        ∙ no_one _ (sym clear ∙ shifted k ∙ bit_is (by + k) small)
+
+    set_is : (place k : ℕ) → place ≡ i + by → by + k < 16 → bit_at (mask / 2 ^ by) k ≡ 1
+        → p (get_or bytes (place + k) 0) ≡ true
+    set_is place k at small set =
+        let same : place + k ≡ i + (by + k) = omega (arith, at) in
+        ap (λ j. p (get_or bytes j 0)) same
+        ∙ a_one _ (sym set ∙ shifted k ∙ bit_is (by + k) small)
+
+    -- no bit is set
+    pub none_found : (place : ℕ) → place ≡ i + by → mask / 2 ^ by ≡ 0
+        → NoneBetween p bytes place (i + 16)
+    none_found place at none = λ k from to.
+        let back : place + (k - place) ≡ k = omega (arith, from) in
+        subst (λ j. p (get_or bytes j 0) ≡ false) back
+        (clear_is place (k - place) at (omega (arith, from, to, at))
+        (ap (λ m. bit_at m (k - place)) none ∙ bit_at-zero (k - place)))
+
+    -- the lowest bit that is set is that of the first byte of the class
+    pub first_found : (place : ℕ) → place ≡ i + by → mask / 2 ^ by ≢ 0 → mask < 2 ^ 64
+        → IsNextAt p bytes place (place + trailing_zeros w64 (mask / 2 ^ by))
+    first_found place at some fits =
+        let found = mask / 2 ^ by in
+        let run = trailing_zeros w64 found in
+        let bit = bit_at-trailing_zeros w64 found (omega (arith, some)) (omega (arith, fits, div-le_self mask (2 ^ by))) in
+        let within : by + run < 16 = bit_within (by + run) (sym (shifted run) ∙ bit.1) in
+        record {
+          behind = omega arith;
+          within = omega (arith, at, within, room);
+          none = λ k from to.
+              let back : place + (k - place) ≡ k = omega (arith, from) in
+              subst (λ j. p (get_or bytes j 0) ≡ false) back
+              (clear_is place (k - place) at (omega (arith, from, to, within))
+              (bit.2 (k - place) (omega (arith, from, to))));
+          here = set_is place run at within bit.1;
+        }
+
+-- ---- one stretch after another
+
+pub none_joined : (p : ℕ → Bool) (bytes : List ℕ) (from place to : ℕ)
+    → NoneBetween p bytes from place → NoneBetween p bytes place to → NoneBetween p bytes from to
+none_joined p bytes from place to early late = λ k after before. elim (cases_lt k place) [
+  | inl below ↦ early k after below
+  | inr above ↦ late k above before
+]
+
+pub next_after : (p : ℕ → Bool) (bytes : List ℕ) (from place next : ℕ) → from ≤ place
+    → NoneBetween p bytes from place → IsNextAt p bytes place next → IsNextAt p bytes from next
+next_after p bytes from place next behind early is = record {
+  behind = omega (arith, behind, is.behind);
+  within = is.within;
+  none = none_joined p bytes from place next early is.none;
+  here = is.here;
+}
+
+-- the same of a whole vector
+pub none_in : (p : ℕ → Bool) (bytes : List ℕ) (i mask : ℕ) → i + 16 ≤ length bytes
+    → mask ≡ mask_l (map p (chunk i 16 bytes)) → mask ≡ 0 → NoneBetween p bytes i (i + 16)
+none_in p bytes i mask room is none =
+    none_found p bytes i mask room is 0 i (omega arith) (ap (λ m. m / 2 ^ 0) none)
 
 pub first_in : (p : ℕ → Bool) (bytes : List ℕ) (i mask : ℕ) → i + 16 ≤ length bytes
-    → mask ≡ mask_l (map p (chunk i 16 bytes)) → mask ≢ 0
-    → IsFirstIn p bytes i (count_trailing_zeros 64 mask)
-first_in p bytes i mask room is some =
-    let lanes = chunk i 16 bytes in
-    let long = length-chunk i 16 bytes room in
-    let counted : count_trailing_zeros 64 mask ≡ prefix_len (λ x. not (p x)) lanes =
-    ap (count_trailing_zeros 64) is
-    ∙ trailing_mask_l p 64 lanes (omega (arith, long)) (omega (arith, is, some)) in
-    let most = prefix_len-le-length (λ x. not (p x)) lanes in
-    let other : prefix_len (λ x. not (p x)) lanes ≢ length lanes =
-    λ all. some (is ∙ none_set p lanes all) in
-    record { counted = counted; short = omega (arith, counted, most, long, other) }
+    → mask ≡ mask_l (map p (chunk i 16 bytes)) → mask ≢ 0 → mask < 2 ^ 64
+    → IsNextAt p bytes i (i + trailing_zeros w64 mask)
+first_in p bytes i mask room is some fits =
+    let same : mask / 2 ^ 0 ≡ mask = omega arith in
+    subst (λ m. IsNextAt p bytes i (i + trailing_zeros w64 m)) same
+    (first_found p bytes i mask room is 0 i (omega arith) (λ none. some (sym same ∙ none)) fits)
 
--- none of the first bytes passes, where none of them does by its place
-pub none_among : (p : ℕ → Bool) (bytes : List ℕ) (n : ℕ) → n ≤ length bytes
-    → ((k : ℕ) → k < n → p (get_or bytes k 0) ≡ false) → All (λ byte. p byte ≡ false) (take n bytes)
-none_among p bytes n within none =
-    All-from_get_or (λ byte. p byte ≡ false) (take n bytes) 0 (λ k before.
-    let earlier : k < n = omega (arith, before, length-take-le n bytes within) in
-    ap p (get_or-take n bytes k 0 earlier) ∙ none k earlier)
+-- ---- from the first place on
+
+pub none_inside : (p : ℕ → Bool) (bytes : List ℕ) → NoneBetween p bytes 0 (length bytes)
+    → All (λ byte. p byte ≡ false) bytes
+none_inside p bytes none =
+    All-from_get_or (λ byte. p byte ≡ false) bytes 0 (λ k within. none k (omega arith) within)
+
+pub ends_at : (p : ℕ → Bool) (bytes : List ℕ) (place : ℕ) → IsNextAt p bytes 0 place
+    → EndsAt p bytes place
+ends_at p bytes place is = record {
+  within = is.within;
+  inside =
+      All-from_get_or (λ byte. p byte ≡ false) (take place bytes) 0 (λ k before.
+      let earlier : k < place =
+      omega (arith, before, length-take-le place bytes (omega (arith, is.within))) in
+      ap p (get_or-take place bytes k 0 earlier) ∙ is.none k (omega arith) earlier);
+  ends = is.here;
+}

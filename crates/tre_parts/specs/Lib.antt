@@ -2,6 +2,7 @@
 pub mod Format
 -- What the functions inside promise each other.
 pub mod Walk
+pub mod Bytes
 pub mod Parts
 -- Why a mask of sixteen bytes tells a class, which the impl of one cites.
 pub mod Lanes

@@ -1,6 +1,7 @@
 // The first byte of a class, looked for sixteen bytes at a time.
-ghost use Rattle.std.specs.Prelude.{◌≡◌, ◌≤◌, ◌<◌, ℕ, Bool, length, map, slice_index_or, false, IfNone, IfSome};
+ghost use Rattle.std.specs.Prelude.{◌≡◌, ◌+◌, ◌≤◌, ℕ, Bool, length, map, IfNone, IfSome};
 ghost use Rattle.std.specs.Simd.Lanes.{mask_l};
+ghost use Rattle.tre_parts.specs.Bytes.{NoneBetween, IsNextAt};
 ghost use Rattle.tre_parts.specs.Walk.{IsInside, EndsAt};
 
 use std::simd::prelude::*;
@@ -27,7 +28,20 @@ pub fn first_of<C: ByteClass>(bytes: &[u8]) -> Option<usize>
     ensures none { IfNone result (IsInside C.has bytes.now) }
     ensures first { IfSome result (EndsAt C.has bytes.now) }
 {
-    let mut place = 0;
+    match first_from::<C>(bytes, 0) {
+        Some(place) => Some(place),
+        None => None,
+    }
+}
+
+/// The place of the first byte of the class from this place on, where there is one.
+#[inline(always)]
+pub fn first_from<C: ByteClass>(bytes: &[u8], from: usize) -> Option<usize>
+    requires { from ≤ length bytes.now }
+    ensures none { IfNone result (NoneBetween C.has bytes.now from (length bytes.now)) }
+    ensures first { IfSome result (IsNextAt C.has bytes.now from) }
+{
+    let mut place = from;
     while bytes.len() - place >= LANES {
         let found = C::among(u8x16::from_slice(&bytes[place..]));
         if found != 0 {
@@ -35,15 +49,38 @@ pub fn first_of<C: ByteClass>(bytes: &[u8]) -> Option<usize>
         }
         place += LANES;
     }
-    first_behind::<C>(bytes, place)
+    if bytes.len() >= LANES {
+        return first_at_end::<C>(bytes, from, place);
+    }
+    first_of_few::<C>(bytes, from)
 }
 
-// The same, where none stands before this place.
-fn first_behind<C: ByteClass>(bytes: &[u8], from: usize) -> Option<usize>
-    requires within { from ≤ length bytes.now }
-    requires before { (k : ℕ) → k < from → C.has (slice_index_or bytes.now k 0) ≡ false }
-    ensures none { IfNone result (IsInside C.has bytes.now) }
-    ensures first { IfSome result (EndsAt C.has bytes.now) }
+// The same, where less than a vector is left behind this place: those before it are looked at once
+// more.
+#[inline(always)]
+fn first_at_end<C: ByteClass>(bytes: &[u8], from: usize, place: usize) -> Option<usize>
+    requires long { LANES ≤ length bytes.now }
+    requires behind { from ≤ place }
+    requires within { place ≤ length bytes.now }
+    requires short { length bytes.now ≤ place + LANES }
+    requires before { NoneBetween C.has bytes.now from place }
+    ensures none { IfNone result (NoneBetween C.has bytes.now from (length bytes.now)) }
+    ensures first { IfSome result (IsNextAt C.has bytes.now from) }
+{
+    let start = bytes.len() - LANES;
+    let all = C::among(u8x16::from_slice(&bytes[start..]));
+    let found = all >> (place - start);
+    if found == 0 {
+        return None;
+    }
+    Some(place + found.trailing_zeros() as usize)
+}
+
+// The same, one by one.
+fn first_of_few<C: ByteClass>(bytes: &[u8], from: usize) -> Option<usize>
+    requires { from ≤ length bytes.now }
+    ensures none { IfNone result (NoneBetween C.has bytes.now from (length bytes.now)) }
+    ensures first { IfSome result (IsNextAt C.has bytes.now from) }
 {
     let mut place = from;
     while place < bytes.len() {

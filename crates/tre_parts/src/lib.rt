@@ -21,7 +21,7 @@ mod said;
 mod spot;
 mod walk;
 
-pub use byte_class::{ByteClass, first_of};
+pub use byte_class::{ByteClass, first_from, first_of};
 pub use names::find_name;
 pub use part_reader::PartReader;
 pub use parts::Parts;

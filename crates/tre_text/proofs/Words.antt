@@ -1,18 +1,18 @@
 -- Names among the bytes of a line.
-use Rattle.std.proofs.Common.{◌≡◌, ℕ, zero, suc, ◌+◌, ◌<◌, ◌≤◌, nat_lt, Bool, true, false, not, ◌||◌, ◌==◌, List, [], ◌∷◌, ◌++◌, append-nil, length, length-take, length-take-le, take, drop, cond, drop-cons, get_or, ⊎_elim, refl, sym, ap, subst, ◌∙◌, arith, take-append-drop}
+use Rattle.std.proofs.Common.{◌≡◌, ℕ, zero, suc, ◌+◌, ◌-◌, ◌<◌, ◌≤◌, nat_lt, Bool, true, false, not, ◌||◌, ◌==◌, List, [], ◌∷◌, ◌++◌, append-nil, length, length-drop, length-take, take, drop, cond, drop-cons, get_or, ⊎_elim, refl, sym, ap, subst, ◌∙◌, arith, take-append-drop}
 use Rattle.std.proofs.Math.ListN.{drop_of_length-le}
 use Rattle.std.proofs.Math.Seq.{take-length}
 use Rattle.std.proofs.lemmas.Bool.{agree_below_at, and_from, and_parts, or_parts, or_cases, cases_lt, false_from_ne_true}
 use Rattle.std.proofs.lemmas.Bool.Decides.{nat_tests}
-use Rattle.std.proofs.lemmas.List.{get_or-take, take_more}
+use Rattle.std.proofs.lemmas.List.{get_or-take, get_or-drop, drop-drop, take_more}
 use Rattle.std.proofs.lemmas.List.Elements.{All-nil, All-cons}
 use Rattle.std.proofs.lemmas.List.Sums.{passes_at_first}
 use Rattle.std.specs.List.{All, list_all, position_or_len}
 use Rattle.tre_state.specs.Name.{starts_name, continues_name}
 use Rattle.tre_text.specs.TextReading.{is_blank, fields_among, spells_word}
 use Rattle.tre_text.specs.TraceLines.{IsField}
-use Rattle.tre_parts.specs.Walk.{IsInside, EndsAt}
-use Rattle.tre_text.specs.Words.{IsWordEnd, ends_word, stops_name}
+use Rattle.tre_parts.specs.Bytes.{NoneBetween, IsNextAt}
+use Rattle.tre_text.specs.Words.{IsRest, IsWordEnd, ends_word, stops_name}
 use Rattle.tre_text.proofs.Fields.{fields-one, fields-cut, fields-field, fields-parted, first_blank-later}
 
 -- ---- bytes
@@ -285,18 +285,56 @@ word_until bytes (suc n) fits some starts within goes stops = record {
   stops = λ _ below. not_true (continues_name (get_or bytes (suc n) 0)) (stops below);
 }
 
-pub word_to_stop : (bytes : List ℕ) (end : ℕ) → get_or bytes 0 0 < 256 → 0 < length bytes
-    → starts_name (get_or bytes 0 0) ≡ true → EndsAt stops_name bytes end → IsWordEnd bytes end
-word_to_stop bytes end fits some starts ends =
-    word_until bytes end fits some starts (omega (arith, ends.within)) (λ k below.
-    let within : k < length (take end bytes) =
-    omega (arith, below, length-take-le end bytes (omega (arith, ends.within))) in
-    ap stops_name (sym (get_or-take end bytes k 0 below)) ∙ ends.inside k 0 within)
-    (λ _. ends.ends)
+-- a byte of the rest of a line
+in_rest : (line rest : List ℕ) (k : ℕ) → IsRest line rest
+    → get_or rest k 0 ≡ get_or line (length line - length rest + k) 0
+in_rest line rest k is =
+    ap (λ bytes. get_or bytes k 0) is.is ∙ get_or-drop (length line - length rest) line k 0
 
-pub word_whole : (bytes : List ℕ) → get_or bytes 0 0 < 256 → 0 < length bytes
-    → starts_name (get_or bytes 0 0) ≡ true → IsInside stops_name bytes
-    → IsWordEnd bytes (length bytes)
-word_whole bytes fits some starts inside =
-    word_until bytes (length bytes) fits some starts (omega arith) (λ k below. inside k 0 below)
+pub word_to_stop : (line rest : List ℕ) (end : ℕ) → IsRest line rest → get_or rest 0 0 < 256
+    → 0 < length rest → starts_name (get_or rest 0 0) ≡ true
+    → IsNextAt stops_name line (length line - length rest) end
+    → IsWordEnd rest (end - (length line - length rest))
+word_to_stop line rest end is fits some starts next =
+    let start = length line - length rest in
+    let back : start + (end - start) ≡ end = omega (arith, next.behind) in
+    word_until rest (end - start) fits some starts (omega (arith, is.short, next.within))
+    (λ k below.
+    ap stops_name (in_rest line rest k is)
+    ∙ next.none (start + k) (omega arith) (omega (arith, below, next.behind)))
+    (λ _.
+    ap stops_name (in_rest line rest (end - start) is ∙ ap (λ k. get_or line k 0) back)
+    ∙ next.here)
+
+pub word_whole : (line rest : List ℕ) → IsRest line rest → get_or rest 0 0 < 256
+    → 0 < length rest → starts_name (get_or rest 0 0) ≡ true
+    → NoneBetween stops_name line (length line - length rest) (length line)
+    → IsWordEnd rest (length rest)
+word_whole line rest is fits some starts none =
+    let start = length line - length rest in
+    word_until rest (length rest) fits some starts (omega arith) (λ k below.
+    ap stops_name (in_rest line rest k is)
+    ∙ none (start + k) (omega arith) (omega (arith, below, is.short)))
     (λ past. absurd (omega (arith, past)))
+
+-- ---- what is left of a line
+
+pub rest_from : (bytes : List ℕ) (k : ℕ) → k ≤ length bytes → IsRest bytes (drop k bytes)
+rest_from bytes k within =
+    let long = length-drop k bytes in
+    let at : length bytes - length (drop k bytes) ≡ k = omega (arith, long, within) in
+    record { short = omega (arith, long); is = ap (λ n. drop n bytes) (sym at) }
+
+pub rest_later : (line front back : List ℕ) → IsRest line front → IsRest front back
+    → IsRest line back
+rest_later line front back one two =
+    let at : (length line - length front) + (length front - length back)
+    ≡ length line - length back =
+    omega (arith, one.short, two.short) in
+    record {
+      short = omega (arith, one.short, two.short);
+      is =
+          two.is ∙ ap (drop (length front - length back)) one.is
+          ∙ drop-drop (length front - length back) (length line - length front) line
+          ∙ ap (λ n. drop n line) at;
+    }

@@ -1,7 +1,12 @@
 -- How far a name reaches.
-use Rattle.std.specs.Prelude.{◌≡◌, ℕ, ◌≤◌, ◌<◌, nat_lt, Bool, true, false, not, ◌&&◌, ◌||◌, ◌==◌, List, length, take, slice_index}
+use Rattle.std.specs.Prelude.{◌≡◌, ℕ, ◌-◌, ◌≤◌, ◌<◌, nat_lt, Bool, true, false, not, ◌&&◌, ◌||◌, ◌==◌, List, length, take, drop, slice_index}
 use Rattle.tre_state.specs.Name.{starts_name, continues_name}
 use Rattle.tre_text.specs.TextReading.{is_blank, spells_word}
+
+-- What is left of the bytes from some place on.
+pub record IsRest (bytes rest : List ℕ) : Type 0 where
+  pub short : length rest ≤ length bytes
+  pub is : rest ≡ drop (length bytes - length rest) bytes
 
 -- The bytes up to this place are spelt as a name, and the one there doesn't go on with it. At 0
 -- none begins.

@@ -2,6 +2,7 @@
 ghost use Rattle.std.specs.Prelude.{◌≡◌, ◌<◌, ◌≤◌, [], ◌∷◌, length, false, IfNone, IfSome, slice_index_or};
 ghost use Rattle.std.specs.List.{position_or_len};
 ghost use Rattle.tre_text.specs.TextReading.{is_blank, without_return, fields_among};
+ghost use Rattle.tre_text.specs.Words.{IsRest};
 
 /// Whether the byte parts fields.
 pub fn is_blank(byte: u8) -> bool
@@ -22,10 +23,12 @@ pub fn without_return(line: &[u8]) -> &[u8]
 }
 
 /// The bytes from the first on that is no blank.
+#[inline(always)]
 pub fn skip_blanks(bytes: &[u8]) -> &[u8]
     ensures fields { fields_among bytes.now ≡ fields_among result.now }
     ensures shorter { length result.now ≤ length bytes.now }
     ensures first { 0 < length result.now → is_blank (slice_index_or result.now 0 0) ≡ false }
+    ensures rest { IsRest bytes.now result.now }
 {
     let mut start = 0;
     while start < bytes.len() && is_blank(bytes[start]) {

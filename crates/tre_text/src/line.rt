@@ -34,7 +34,7 @@ fn read_names(names: &Names, fields: &[u8]) -> Option<u64>
     let mut rest = skip_blanks(fields);
     let mut valuation = 0;
     while !rest.is_empty() {
-        let end = word_end(rest);
+        let end = word_end(fields, rest);
         if !ends_word(rest, end) {
             return None;
         }

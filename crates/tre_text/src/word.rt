@@ -1,10 +1,10 @@
 // How far a name reaches.
 ghost use Rattle.std.specs.Prelude.{◌≡◌, ◌≤◌, length};
-ghost use Rattle.tre_text.specs.Words.{IsWordEnd, ends_word, stops_name};
+ghost use Rattle.tre_text.specs.Words.{IsRest, IsWordEnd, ends_word, stops_name};
 
 use crate::field::is_blank;
 use std::simd::prelude::*;
-use tre_parts::{ByteClass, first_of};
+use tre_parts::{ByteClass, first_from};
 use tre_state::{continues_name, starts_name};
 
 // The bytes that no name goes on with.
@@ -27,17 +27,20 @@ impl ByteClass for Stop {
     }
 }
 
-/// Where the name ends that the bytes begin with; 0 where they begin with none.
+/// Where the name ends that the rest of the line begins with; 0 where it begins with none.
 #[inline(always)]
-pub fn word_end(bytes: &[u8]) -> usize
-    ensures { IsWordEnd bytes.now result }
+pub fn word_end(line: &[u8], rest: &[u8]) -> usize
+    requires { IsRest line.now rest.now }
+    ensures { IsWordEnd rest.now result }
 {
-    if bytes.is_empty() || !starts_name(bytes[0]) {
+    if rest.is_empty() || !starts_name(rest[0]) {
         return 0;
     }
-    match first_of::<Stop>(bytes) {
-        Some(end) => end,
-        None => bytes.len(),
+    // The bytes in front of the rest fill up a vector near the end.
+    let start = line.len() - rest.len();
+    match first_from::<Stop>(line, start) {
+        Some(end) => end - start,
+        None => rest.len(),
     }
 }
 

@@ -1,10 +1,10 @@
-use Rattle.std.proofs.Common.{◌≡◌, ◌∷◌, ◌&&◌, ◌<◌, Bool, true, length, take, sym, ap, ◌∙◌, arith}
+use Rattle.std.proofs.Common.{◌≡◌, ◌∷◌, ◌&&◌, ◌<◌, Bool, true, length, take, drop, sym, ap, subst, ◌∙◌, arith}
 use Rattle.std.proofs.lemmas.Bool.Decides.{nat_tests}
 use Rattle.std.specs.List.{list_all}
 use Rattle.tre_text.specs.TextReading.{fields_among, spells_word, valuation_after}
-use Rattle.tre_text.specs.Words.{ends_word}
+use Rattle.tre_text.specs.Words.{IsRest, ends_word}
 use Rattle.tre_text.proofs.Fields.{take-rest}
-use Rattle.tre_text.proofs.Words.{word_is_field, word_spells, no_word_field}
+use Rattle.tre_text.proofs.Words.{word_is_field, word_spells, no_word_field, rest_from, rest_later}
 use Rattle.tre_text.proofs.line.read_names.Goals as goal
 
 pub loop-rest-preserved : goal.loop-rest-preserved
@@ -28,6 +28,12 @@ loop-rest-preserved c =
           c.loop-rest.invariant.value ∙ ap (valuation_after names c.loop-rest.valuation) whole
           ∙ ap (λ valuation. valuation_after names valuation (fields_among next))
           (sym c.with_name-valuation.ensures);
+      rest =
+          rest_later c.args.fields.now rest next c.loop-rest.invariant.rest
+          (rest_later rest (drop end rest) next
+          (rest_from rest end c.word_end-end.ensures.within)
+          (subst (λ bytes. IsRest bytes next) (take-rest end rest)
+          c.skip_blanks-rest-in-loop-rest.ensures.rest));
       first = c.skip_blanks-rest-in-loop-rest.ensures.first;
     }
 

@@ -1,4 +1,4 @@
-use Rattle.std.proofs.Common.{◌<◌, List, ℕ, length, sym, subst, arith}
+use Rattle.std.proofs.Common.{◌<◌, List, ℕ, sym, subst, arith}
 use Rattle.tre_state.specs.Sieve.{MayBe}
 use Rattle.tre_state.proofs.Sieving.{sieve-added, sieve-kept}
 use Rattle.tre_state.proofs.sieve.Sieve.add.Goals as goal

@@ -1,5 +1,4 @@
-use Rattle.std.proofs.Common.{◌∷◌, sym, ap, subst, ◌∙◌}
-use Rattle.tre_vcd.specs.VcdReading.{change}
+use Rattle.std.proofs.Common.{sym, ap, ◌∙◌}
 use Rattle.tre_vcd.specs.Kept.{identifier_at}
 use Rattle.tre_vcd.proofs.Knowing.{known-changed, not_both}
 use Rattle.tre_vcd.proofs.Valuing.{values-changed}

@@ -1,11 +1,13 @@
-use Rattle.std.proofs.Common.{◌≡◌, ℕ, ◌-◌, ◌<◌, ◌≤◌, length, get_or, false}
-use Rattle.tre_parts.proofs.byte_class.first_of.Given as goal
+use Rattle.std.proofs.Common.{◌-◌, ◌≤◌, length}
+use Rattle.tre_parts.specs.Bytes.{NoneBetween}
+use Rattle.tre_parts.proofs.byte_class.first_from.Given as goal
 
 -- none stands before this place
 abbrev pub invariant-loop-place : goal.invariant-loop-place
 invariant-loop-place g l = record {
+  behind : l.from ≤ l.place;
   within : l.place ≤ length l.bytes;
-  before : (k : ℕ) → k < l.place → g.C.ByteClass.has (get_or l.bytes k 0) ≡ false;
+  before : NoneBetween g.C.ByteClass.has l.bytes l.from l.place;
 }
 
 abbrev pub decreases-loop-place : goal.decreases-loop-place
