@@ -133,5 +133,13 @@ if [ -c /dev/full ]; then
     fi
 fi
 
+# Every link of a page leads somewhere.
+if python3 examples/links.py ./*.md docs/*.md examples/*.md bench/*.md; then
+    good=$((good + 1))
+else
+    bad=$((bad + 1))
+    echo 'FAILED: a link of a page'
+fi
+
 echo "$good good, $bad failed"
 [ "$bad" -eq 0 ]
