@@ -50,7 +50,7 @@ split() {
         # a block that begins with no command, and a command outside a block, are faults of the page
         inside && wanted == "" || !inside && /^[ \t]*\$ montre/ { example("false") }
         inside { print > wanted; next }
-        /^\| pattern \| told \|/ { table = 1; next }
+        /^\| pattern \| printed \|/ { table = 1; next }
         !/^\|/ { table = 0 }
         table && /^\| `/ {
             gsub(/\\\|/, "\001")
