@@ -15,6 +15,8 @@ use tre_index::{ZoneIndex, are_in_turn, find_stretch, key_meeting};
 use tre_pairs::TIME_MAX;
 use tre_zone::{Interval, Zone};
 
+mod into_zones;
+
 /// So few zones are looked at one by one, without an index.
 const FEW: usize = 8;
 
