@@ -1,4 +1,3 @@
-mod Digits
 mod Naming
 mod Cuts
 pub mod Walks

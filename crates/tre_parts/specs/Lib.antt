@@ -1,6 +1,5 @@
 -- What a reader must believe.
 pub mod Format
-pub mod Numeral
 -- What the functions inside promise each other.
 pub mod Walk
 pub mod Parts

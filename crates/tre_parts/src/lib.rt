@@ -3,8 +3,8 @@
 //! A [`PartReader`] says what one part says. [`Parts`] makes a reader of pieces of it: a part
 //! that lies whole in a piece is read where it lies, and only one that a piece cuts is kept until
 //! its end comes. The layers above rely on [`Parts`] being a `TraceReader` of the format, however
-//! the bytes are cut. What the bytes of a format say is in specs/Format.antt. [`read_numeral`] and
-//! [`find_name`] read what parts of both formats have in common: numbers, and names of a pattern.
+//! the bytes are cut. What the bytes of a format say is in specs/Format.antt. [`find_name`]
+//! reads what parts of both formats have in common: names of a pattern.
 //!
 //! ```text
 //! let mut lines = Parts::new(alloc, LineReader { .. });
@@ -13,7 +13,6 @@
 #![tactic(auto)]
 
 mod names;
-mod numerals;
 mod part_reader;
 mod parts;
 mod said;
@@ -21,7 +20,6 @@ mod spot;
 mod walk;
 
 pub use names::find_name;
-pub use numerals::read_numeral;
 pub use part_reader::PartReader;
 pub use parts::Parts;
 pub use said::Said;

@@ -15,8 +15,9 @@ use crate::token::{
     Letter, ends_true, first_white, is, is_dump, is_end, is_misplaced, is_signal, letter_of,
 };
 use std::alloc::{AllocError, Global};
+use tre_decimal::read_numeral;
 use tre_pairs::TIME_MAX;
-use tre_parts::{PartReader, Said, Spot, read_numeral};
+use tre_parts::{PartReader, Said, Spot};
 use tre_state::Names;
 use tre_trace::{Segment, TraceKind};
 

@@ -1,7 +1,9 @@
-use Rattle.std.proofs.Common.{◌≡◌, ◌-◌, ◌<◌, ◌^◌, length, get_or, true, sym}
+use Rattle.std.proofs.Common.{◌≡◌, ◌-◌, ◌<◌, ◌^◌, length, get_or, true, refl, sym}
 use Rattle.std.specs.Char.{is_ascii_digit}
-use Rattle.tre_parts.proofs.Digits.{digits_value-take, list_all-take, digit_value-digit, capped_step}
-use Rattle.tre_parts.proofs.numerals.read_numeral.Goals as goal
+use Rattle.std.proofs.lemmas.List.Folds.{list_all_more}
+use Rattle.tre_decimal.proofs.Digits.{value-take, digit_value-digit}
+use Rattle.tre_decimal.proofs.Capped.{capped_step}
+use Rattle.tre_decimal.proofs.read.read_behind.Goals as goal
 
 pub loop-byte-preserved : goal.loop-byte-preserved
 loop-byte-preserved c =
@@ -11,15 +13,19 @@ loop-byte-preserved c =
     let here : is_ascii_digit (get_or field i 0) ≡ true = sym c.if-not-is_ascii_digit.ensures.value
     in
     record {
-      digits = list_all-take is_ascii_digit field i below c.loop-byte.invariant.digits here;
+      digits = rw (
+        list_all_more is_ascii_digit field i 0 below,
+        c.loop-byte.invariant.digits,
+        here,
+      ) refl;
       value = rw (
-        c.saturating_add-number.ensures,
+        c.saturating_add-longer.ensures,
         c.saturating_mul.ensures,
         c.from.ensures,
         ←
             digit_value-digit _ here,
         c.loop-byte.invariant.value,
-        digits_value-take field i below,
+        value-take c.args.number field i below,
       )
           (capped_step (2 ^ 64 - 1) _ _);
     }
