@@ -1,5 +1,5 @@
-mod Naming
 mod Cuts
 pub mod Walks
 mod Feeding
 mod Fed
+mod Lanes

@@ -3,6 +3,8 @@ pub mod Format
 -- What the functions inside promise each other.
 pub mod Walk
 pub mod Parts
+-- Why a mask of sixteen bytes tells a class, which the impl of one cites.
+pub mod Lanes
 -- Why the laws of a reader of pieces hold, which its impl cites.
 pub mod Joins
 pub mod Growing
