@@ -16,5 +16,6 @@
 
 pub use zone_set::{ZoneSet, are_few, gather, index_of};
 
+mod cut;
 mod rise;
 mod zone_set;
