@@ -4,7 +4,7 @@ use Rattle.tre_pairs.specs.Pairs.{Pairs, Composed, Lasting}
 use Rattle.tre_zone.specs.Zone.{ZoneHolds}
 use Rattle.tre_zoneset.proofs.Searching.{HoldsFirst}
 use Rattle.tre_star.specs.Growth.{HasGrown}
-use Rattle.tre_star.proofs.chains.add_before.Given as goal
+use Rattle.tre_star.proofs.chains.add_found_before.Given as goal
 
 abbrev pub invariant-loop-place : goal.invariant-loop-place
 invariant-loop-place l = record {
