@@ -48,8 +48,8 @@ abbrev pub last_digits : ℕ → ℕ → List ℕ
 last_digits zero number = []
 last_digits (suc count) number = last_digits count (number / 10) ++ (48 + number % 10) ∷ []
 
--- A number of units: all but the last digits, a point and those, as many as the scale is. At scale 0
--- there is no point.
+-- A number of units: all but the last digits, a point and those, as many as the scale is. At scale
+-- 0 there is no point.
 abbrev pub number_text : ℕ → ℕ → List ℕ
 number_text zero units = decimal units
 number_text (suc scale) units =

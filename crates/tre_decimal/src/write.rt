@@ -10,7 +10,8 @@ use std::alloc::AllocError;
 /// may stand at the end of the text.
 pub fn push_units(text: &mut String, units: u64, scale: u8) -> Result<(), AllocError>
     requires { scale ≤ SCALE_MAX }
-    ensures { OnOk result (string_bytes text.new ≡ string_bytes text.old ++ number_text scale units) }
+    ensures { OnOk result
+        (string_bytes text.new ≡ string_bytes text.old ++ number_text scale units) }
 {
     if scale == 0 {
         return push_decimal(text, units);
@@ -23,7 +24,8 @@ pub fn push_units(text: &mut String, units: u64, scale: u8) -> Result<(), AllocE
 
 // Appends the last digits of a number, so many of them.
 fn push_last(text: &mut String, number: u64, count: u8) -> Result<(), AllocError>
-    ensures { OnOk result (string_bytes text.new ≡ string_bytes text.old ++ last_digits count number) }
+    ensures { OnOk result
+        (string_bytes text.new ≡ string_bytes text.old ++ last_digits count number) }
 {
     if count == 0 {
         return Ok(());
