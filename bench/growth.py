@@ -22,6 +22,8 @@ PATTERNS = [
     "p;q;r",
     "<:req:> ; (!ack % [1,4]) ; rise(ack)",
     "(rise(p);true;fall(q)) % [0,20]",
+    "q;((rise(p);true;fall(q)) % [0,26])",
+    "((rise(p);true;fall(q)) % [0,26]) & ((<:p;true;q) % [0,26])",
     "((p % [1,2]);(q % [1,2]))+ % [5,20]",
     "(p % [1,1])*",
     "(p;q)*",

@@ -105,3 +105,17 @@ fn powers(rt: HostRuntime) -> Result<(), Fail> {
     assert!(rt; has_lines(&chains, &lines));
     Ok(())
 }
+
+// A step and then any more, of two steps that touch: the instants stand last among the chains.
+#[test]
+fn lengthened(rt: HostRuntime) -> Result<(), Fail> {
+    let steps = set_of(rt.alloc(), &["[0,0] [1,1] [1,1]", "[1,1] [2,2] [1,1]"])?;
+    let any = closure(rt.alloc(), &steps, 0, 2)?;
+    let lines = [
+        "[0,0] [1,1] [1,1]",
+        "[0,0] [2,2] [2,2]",
+        "[1,1] [2,2] [1,1]",
+    ];
+    assert!(rt; has_lines(&compose_sets(rt.alloc(), &steps, &any)?, &lines));
+    Ok(())
+}

@@ -3,7 +3,10 @@ ghost use Rattle.std.specs.Prelude.{◌<◌};
 
 use std::alloc::{AllocError, Global};
 use std::test::Fail;
-use tre_index::{Row, RowIndex, ZoneIndex, key_after, key_before, key_meeting};
+use tre_index::{
+    Row, RowIndex, ZoneIndex, are_in_turn, count_in_turn, find_stretch, key_after, key_before,
+    key_meeting,
+};
 use tre_zone::Zone;
 
 // How the rows stand, of which each is that of a stretch of three ticks.
@@ -105,5 +108,27 @@ fn zones_that_touch(rt: HostRuntime) -> Result<(), Fail> {
     assert!(rt; index.includes(&Zone::span(6, 7)));
     assert!(rt; !index.includes(&early));
     assert!(rt; index.into_items().len() == 3);
+    Ok(())
+}
+
+// Whether the rows stand in turn, and those that reach the key from the first place up to the other.
+fn has_stretch(rows: &[Row], near: usize, key: &Row, from: usize, to: usize) -> bool {
+    if !are_in_turn(rows) {
+        return false;
+    }
+    let stretch = find_stretch(rows, near, key);
+    stretch.from == from && stretch.to == to
+}
+
+#[test]
+fn found_stretch(rt: HostRuntime) -> Result<(), Fail> {
+    let mut rows = rows(rt.alloc(), Order::Time)?;
+    let key = key_after(&Zone::span(10, 11));
+    for near in [0, 7, 8, 9, 600, 700] {
+        assert!(rt; has_stretch(&rows, near, &key, 8, 12), "from {near}");
+    }
+    assert!(rt; has_stretch(&rows, 0, &key_after(&Zone::span(700, 701)), 601, 601));
+    rows.push(Zone::span(5, 6).row())?;
+    assert!(rt; count_in_turn(&rows) == 601 && !are_in_turn(&rows));
     Ok(())
 }

@@ -22,6 +22,7 @@ use tre_zone::{Bound, Zone, ZoneBounds};
 
 /// The pairs `(t,t')` for which some `m` has `(t,m)` in `first` and `(m,t')` in `second`, None
 /// where there is none.
+#[inline(always)]
 pub fn compose(first: &Zone, second: &Zone) -> Option<Zone>
     ensures pairs { GivesZone result (Composed (ZoneHolds first.now) (ZoneHolds second.now)) }
     ensures halfway { IfSome result (λ zone.

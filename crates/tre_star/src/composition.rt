@@ -130,6 +130,7 @@ fn gather_near(
 
 // Adds the compositions of the zone with each of the second ones to a list, as far as they last at
 // most `longest`: by looking at each.
+#[inline(always)]
 fn gather_each(
     found: &mut Vec<Zone>,
     zone: &Zone,

@@ -4,7 +4,7 @@ use Rattle.std.proofs.lemmas.List.{take_all}
 use Rattle.tre_pairs.specs.Pairs.{Pairs, Both, Lasting}
 use Rattle.tre_zone.specs.Interval.{IntervalEnds, LastsWithin}
 use Rattle.tre_pairs.specs.declared.TheConstants.{TIME_MAX}
-use Rattle.tre_zone.specs.Longest.{LastsUpTo, IsLongest}
+use Rattle.tre_zone.specs.Longest.{LastsUpTo, IsLongest, AllLastUpTo}
 use Rattle.tre_zone.specs.Zone.{ZoneHolds, Includes, EndsAt, IsZoneOf, GivesZone}
 use Rattle.tre_zone.specs.ZoneList.{SetHolds, HoldExactly}
 use Rattle.tre_zone.specs.declared.zone_bounds.ZoneBounds.{ZoneBounds}
@@ -41,6 +41,14 @@ pub LeavesAll-left : (cut : Cut) (zone rest : ZoneBounds)
 LeavesAll-left cut zone rest is includes = record {
   each = λ a b n some le h.
       ((is.exact a b n some le).0 (includes.every a b n some le h)).right;
+}
+
+-- A zone of which every pair is short enough.
+pub LeavesAll-up_to : (longest : Option ℕ) (zone : ZoneBounds) → AllLastUpTo longest zone
+    → LeavesAll (UpTo longest) (ZoneHolds zone)
+unfolding Leaves
+LeavesAll-up_to longest zone all = record {
+  each = λ a b n some le h. all.each a b n some le h;
 }
 
 pub HoldExactly-left : (cut : Cut) (zones : List ZoneBounds) → LeavesAll cut (SetHolds zones)

@@ -63,6 +63,9 @@ fn leaves_zone(cut: &Cut, zone: &Zone) -> bool
     requires { IsCut cut.now }
     ensures { IsTrue result → LeavesAll cut.now (ZoneHolds zone.now) }
 {
+    if let Cut::UpTo(longest) = cut {
+        return zone.is_up_to(*longest);
+    }
     match cut_zone(zone, cut) {
         Some(rest) => rest.includes(zone),
         None => false,

@@ -56,12 +56,8 @@ impl ZoneSet {
     pub fn of_zones(alloc: Global, zones: Vec<Zone>) -> Result<ZoneSet, AllocError>
         ensures { IfOk result (λ set. HoldExactly set (SetHolds zones.items)) }
     {
-        if stand_apart(&zones) {
+        if all_rise(&zones) {
             return Ok(ZoneSet { zones });
-        }
-        if are_few(&zones) {
-            let set = all_added(alloc, &zones)?;
-            return Ok(set);
         }
         let zones = none_included(alloc, zones)?;
         Ok(ZoneSet { zones })
@@ -156,7 +152,7 @@ impl ZoneSet {
     }
 
     /// Adds the zones of `other`: the set then has the zones that adding one by one would leave, in
-    /// the order of their begins where they are many and were mixed.
+    /// the order of their begins where they were mixed.
     pub fn join(&mut self, other: &ZoneSet) -> Result<(), AllocError>
         ensures held { OnOk result
             (HoldExactly self.new (Either (SetHolds self.old) (SetHolds other.now))) }
@@ -441,17 +437,6 @@ fn stand_apart(zones: &[Zone]) -> bool
     all_rise(zones) || are_few(zones) && all_apart(zones)
 }
 
-// The set to which the zones were added, one after another: for a few of them.
-fn all_added(alloc: Global, zones: &[Zone]) -> Result<ZoneSet, AllocError>
-    ensures { IfOk result (λ set. HoldExactly set (SetHolds zones.now)) }
-{
-    let mut set = ZoneSet::new(alloc);
-    for zone in zones {
-        set.add(*zone)?;
-    }
-    Ok(set)
-}
-
 // Those of the zones that no other includes.
 fn none_included(alloc: Global, zones: Vec<Zone>) -> Result<Vec<Zone>, AllocError>
     ensures held { IfOk result (λ kept. HoldExactly kept.items (SetHolds zones.items)) }
@@ -459,7 +444,7 @@ fn none_included(alloc: Global, zones: Vec<Zone>) -> Result<Vec<Zone>, AllocErro
 {
     let mut zones = zones;
     zones.sort_unstable_by_key(|zone| order_of(zone));
-    if all_rise(&zones) {
+    if stand_apart(&zones) {
         return Ok(zones);
     }
     let mut turned = thin(alloc, &zones)?;

@@ -16,7 +16,7 @@ returns-clause-set c =
     c.in_ok-turned.ensures.later
     (rw (c.deref-3.ensures.value, c.reverse.ensures.items) at c.in_ok-kept.ensures))
 
-pub returns-then-all_rise-clause-held : goal.returns-then-all_rise-clause-held
-returns-then-all_rise-clause-held c =
+pub returns-then-stand_apart-clause-held : goal.returns-then-stand_apart-clause-held
+returns-then-stand_apart-clause-held c =
     HoldExactly-moved c.args.zones.items c.sort_unstable_by_key.new.self.items
     c.sort_unstable_by_key.ensures.permutation
