@@ -97,12 +97,6 @@ set_held set zones held = record {
   );
 }
 
--- A set of what another holds is a set of the same pairs.
-pub set_again : (set zones : List ZoneBounds) (R : Pairs) → HoldExactly set (SetHolds zones)
-    → IsSetOf zones R → IsSetOf set R
-set_again set zones R held same =
-    set_of (agree_then (set_agrees (set_held set zones held)) (set_agrees same))
-
 -- One of the two has no pair.
 pub either_left : (one other : List ZoneBounds) → other ≡ []
     → IsSetOf one (Either (Held one) (Held other))

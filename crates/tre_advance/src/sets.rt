@@ -92,7 +92,7 @@ pub fn within(alloc: Global, zones: &ZoneSet, interval: &Interval) -> Result<Zon
     zones.within(interval)
 }
 
-/// The pairs of the set that end at the time, in as few zones as may be.
+/// The pairs of the set that end at the time.
 pub fn ending_at(alloc: Global, zones: &ZoneSet, time: u64) -> Result<ZoneSet, AllocError>
     requires { time ≤ TIME_MAX }
     ensures { IfOk result (λ ending. IsSetOf ending (Both (Held zones.now) (EndsAt time))) }
@@ -100,8 +100,7 @@ pub fn ending_at(alloc: Global, zones: &ZoneSet, time: u64) -> Result<ZoneSet, A
     if zones.is_empty() {
         return Ok(ZoneSet::new(alloc));
     }
-    let ending = zones.ending_at(time)?;
-    ending.touching_as_one(alloc)
+    zones.ending_at(time)
 }
 
 /// The pairs of the set, each of which ends from `begin` to `end`, followed by any number of the

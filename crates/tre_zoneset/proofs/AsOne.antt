@@ -6,9 +6,6 @@ use Rattle.tre_zone.specs.ZoneList.{SetHolds, HoldExactly}
 use Rattle.tre_zone.specs.declared.zone_bounds.ZoneBounds.{ZoneBounds}
 use Rattle.tre_zone.proofs.ZoneListLemmas.{SetHolds-empty, SetHolds-append, SetHolds-push}
 
-pub HoldExactly-same : (zones : List ZoneBounds) → HoldExactly zones (SetHolds zones)
-HoldExactly-same zones = record { exact = λ a b n some le. ((λ h. h), (λ h. h)) }
-
 -- Two zones were added as one.
 pub HoldExactly-as_one : (old : List ZoneBounds) (last zone whole : ZoneBounds)
     → IsZoneOf whole (Either (ZoneHolds last) (ZoneHolds zone))

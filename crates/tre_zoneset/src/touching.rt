@@ -25,20 +25,7 @@ impl ZoneSet {
         Ok(set)
     }
 
-    /// The same set, where none of its zones touch as it stands.
-    pub fn touching_as_one(self, alloc: Global) -> Result<ZoneSet, AllocError>
-        ensures { IfOk result (λ set. HoldExactly set (SetHolds self)) }
-    {
-        if all_rise(self.zones()) && !some_may_touch(self.zones()) {
-            return Ok(self);
-        }
-        let mut zones = Vec::new(alloc);
-        zones.extend_from_slice(self.zones())?;
-        let set = ZoneSet::of_touching(alloc, zones)?;
-        Ok(set)
-    }
-
-    /// The pairs of either set, as `of_touching` makes one of their zones.
+    /// The pairs of either set, as `of_touching` makes one of its zones.
     pub fn of_both(alloc: Global, one: &ZoneSet, other: &ZoneSet) -> Result<ZoneSet, AllocError>
         ensures { IfOk result (λ set.
             HoldExactly set (Either (SetHolds one.now) (SetHolds other.now))) }

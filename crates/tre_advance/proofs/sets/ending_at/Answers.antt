@@ -1,5 +1,5 @@
 use Rattle.std.proofs.lemmas.Result.{IfOk-weaker}
-use Rattle.tre_advance.proofs.SetsOf.{set_none, no_pair, set_again, ending_set}
+use Rattle.tre_advance.proofs.SetsOf.{set_none, no_pair, ending_set}
 use Rattle.tre_advance.proofs.sets.ending_at.Goals as goal
 
 pub returns-then-is_empty : goal.returns-then-is_empty
@@ -9,7 +9,5 @@ returns-then-is_empty c =
     h.left)
 
 pub returns : goal.returns
-returns c = IfOk-weaker c.touching_as_one.result _ _
-    (λ set held. set_again set c.in_ok-ending.ending _ held
-    (ending_set c.args.time c.in_ok-ending.ending c.args.zones.now c.in_ok-ending.ensures))
-    c.touching_as_one.ensures
+returns c = IfOk-weaker c.ending_at.result _ _
+    (λ zones held. ending_set c.args.time zones c.args.zones.now held) c.ending_at.ensures
