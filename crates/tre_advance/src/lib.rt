@@ -17,6 +17,7 @@ mod atoms;
 mod enter;
 mod instances;
 mod sets;
+mod shortening;
 mod step;
 mod stepping;
 
