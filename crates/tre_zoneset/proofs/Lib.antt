@@ -6,3 +6,4 @@ pub mod Thinning
 pub mod Searching
 pub mod Short
 pub mod Stretches
+pub mod AsOne

@@ -17,4 +17,5 @@
 pub use zone_set::{ZoneSet, are_few, gather, index_of};
 
 mod rise;
+mod touching;
 mod zone_set;

@@ -251,7 +251,7 @@ impl ZoneSet {
         Ok(lasting)
     }
 
-    /// The pairs that end at `time`.
+    /// The pairs that end at `time`, in as few zones as may be.
     pub fn ending_at(&self, time: u64) -> Result<ZoneSet, AllocError>
         requires { time ≤ TIME_MAX }
         ensures { IfOk result (λ set. HoldExactly set (Both (SetHolds self.now) (EndsAt time))) }
@@ -261,7 +261,7 @@ impl ZoneSet {
         for zone in self.zones() {
             gather(&mut found, zone.ending_at(time))?;
         }
-        let ending = ZoneSet::of_zones(alloc, found)?;
+        let ending = ZoneSet::of_touching(alloc, found)?;
         Ok(ending)
     }
 
