@@ -16,7 +16,7 @@ ghost use Rattle.tre_advance.specs.Moves.{EntersTo, IsBriefTree, IsLiteralTree};
 
 use crate::atoms::{enter_brief, enter_literal};
 use crate::instances::{leave_both, leave_lasting, tell_both, tell_lasting};
-use crate::sets::joined;
+use crate::sets::joined_ends;
 use crate::stepping::{Advanced, either, enter_in_turn, leave_again, repeat};
 use std::alloc::{AllocError, Global};
 use tre_edges::Piece;
@@ -333,7 +333,7 @@ fn begin_lasting(
 {
     let end = piece.begin + piece.segment.len;
     let told = tell_lasting(alloc, zones, &begun.told, interval)?;
-    let outer = entered(outer, zones, piece)?;
+    let outer = entered(alloc, outer, zones, piece)?;
     let rest = leave_lasting(alloc, outer, begun.rest, interval, end)?;
     Ok(Advanced { told, rest })
 }
@@ -359,18 +359,24 @@ fn begin_both(
 {
     let end = piece.begin + piece.segment.len;
     let told = tell_both(alloc, zones, &first.told, &second.told)?;
-    let outer = entered(outer, zones, piece)?;
+    let outer = entered(alloc, outer, zones, piece)?;
     let rest = leave_both(alloc, outer, first.rest, second.rest, end)?;
     Ok(Advanced { told, rest })
 }
 
-// The pairs behind which something began before or begins in the piece.
-fn entered(outer: ZoneSet, zones: &ZoneSet, piece: &Piece) -> Result<ZoneSet, AllocError>
+// The pairs behind which something began before or begins in the piece, in as few zones as may be.
+fn entered(
+    alloc: Global,
+    outer: ZoneSet,
+    zones: &ZoneSet,
+    piece: &Piece,
+) -> Result<ZoneSet, AllocError>
     requires ends { EndBy (end_of_piece piece.now) outer }
     requires enter { EndBetween piece.now.begin (end_of_piece piece.now) zones.now }
     ensures union { IfOk result (λ whole.
         IsSetOf whole (Either (Held outer) (Held zones.now))) }
     ensures ends { IfOk result (λ whole. EndBy (end_of_piece piece.now) whole) }
 {
-    joined(outer, zones)
+    let zones = zones.try_clone()?;
+    joined_ends(alloc, outer, zones)
 }

@@ -1,5 +1,5 @@
 -- Each form is entered as its parts are.
-use Rattle.std.proofs.Common.{◌≡◌, ◌∙◌, List, ap, refl, sym, subst}
+use Rattle.std.proofs.Common.{◌≡◌, ◌∙◌, ◌<◌, ◌*◌, ◌+◌, List, max, ap, refl, sym, subst, arith}
 use Rattle.std.proofs.lemmas.Result.{IfOk-weaker}
 use Rattle.tre_zone.specs.Held.{Held, IsSetOf}
 use Rattle.tre_zone.specs.declared.zone_bounds.ZoneBounds.{ZoneBounds}
@@ -116,19 +116,40 @@ enter_intersection-unreachable-requires t c =
     shape_intersection (end_of_piece c.args.piece.now) c.args.mark (tree_of c.args.left.now)
     (tree_of c.args.right.now) c.requires.well.well c.in_default.not-NoMeet c.in_default.not-Meet
 
-pub enter_intersection-take_both-requires-clause-ends :
-    goal.enter_intersection-take_both-requires-clause-ends
-enter_intersection-take_both-requires-clause-ends t c =
-    none_ends (end_of_piece c.args.piece.now) c.new.result c.new.ensures
+pub enter_intersection-take_both-requires : goal.enter_intersection-take_both-requires
+enter_intersection-take_both-requires t c = (
+  omega arith,
+  (
+    c.requires.numbers,
+    c.in_ok-one-in-NoMeet.ensures.well,
+    c.in_ok-other-in-NoMeet.ensures.well,
+    none_ends (end_of_piece c.args.piece.now) c.new.result c.new.ensures,
+    c.requires.enter,
+  ),
+)
 
-pub enter_intersection-take_both-requires-in-Meet-clause-ends :
-    goal.enter_intersection-take_both-requires-in-Meet-clause-ends
-enter_intersection-take_both-requires-in-Meet-clause-ends t c =
+pub enter_intersection-take_both-requires-in-Meet : goal.enter_intersection-take_both-requires-in-Meet
+enter_intersection-take_both-requires-in-Meet t c =
     let time = end_of_piece c.args.piece.now in
-    let tree = intersection (tree_of c.args.left.now) (tree_of c.args.right.now) in
-    let well = subst (λ (m : Mark). IsWell time (mark_of m) tree) c.in-Meet.is
-    c.requires.well.well in
-    entered_ends time c.in-Meet.to c.in-Meet.outer well.0
+    let left = tree_of c.args.left.now in
+    let right = tree_of c.args.right.now in
+    let well = subst (λ (m : Mark). IsWell time (mark_of m) (intersection left right)) c.in-Meet.is
+    c.requires.well.well in (
+      omega arith,
+      (
+        c.requires.numbers,
+        record {
+          well = subst (λ (m : Mark). IsWell time (mark_of m) left) (sym c.into_inner-one.ensures)
+              well.1;
+        },
+        record {
+          well = subst (λ (m : Mark). IsWell time (mark_of m) right)
+              (sym c.into_inner-other.ensures) well.2;
+        },
+        entered_ends time c.in-Meet.to c.in-Meet.outer well.0,
+        c.requires.enter,
+      ),
+    )
 
 pub enter_intersection-returns-in_ok-other-in-NoMeet :
     goal.enter_intersection-returns-in_ok-other-in-NoMeet
@@ -177,19 +198,16 @@ enter_restriction-unreachable-requires t c =
     shape_restriction (end_of_piece c.args.piece.now) c.args.mark (tree_of c.args.body.now)
     c.args.interval.now c.requires.well.well c.in_default.not-NoWithin c.in_default.not-Within
 
-pub enter_restriction-take_lasting-requires-clause-ends :
-    goal.enter_restriction-take_lasting-requires-clause-ends
-enter_restriction-take_lasting-requires-clause-ends t c =
-    none_ends (end_of_piece c.args.piece.now) c.new.result c.new.ensures
-
-pub enter_restriction-take_lasting-requires-in-Within-clause-ends :
-    goal.enter_restriction-take_lasting-requires-in-Within-clause-ends
-enter_restriction-take_lasting-requires-in-Within-clause-ends t c =
-    let time = end_of_piece c.args.piece.now in
-    let tree = restriction (tree_of c.args.body.now) c.args.interval.now in
-    let well = subst (λ (m : Mark). IsWell time (mark_of m) tree) c.in-Within.is
-    c.requires.well.well in
-    entered_ends time c.in-Within.to c.in-Within.outer well.0
+pub enter_restriction-take_lasting-requires : goal.enter_restriction-take_lasting-requires
+enter_restriction-take_lasting-requires t c = (
+  omega arith,
+  (
+    c.requires.numbers,
+    c.in_ok-inner-in-NoWithin.ensures.well,
+    none_ends (end_of_piece c.args.piece.now) c.new.result c.new.ensures,
+    c.requires.enter,
+  ),
+)
 
 pub enter_restriction-returns-in_ok-inner-in-NoWithin :
     goal.enter_restriction-returns-in_ok-inner-in-NoWithin

@@ -67,5 +67,5 @@ returns-in_ok-body-in-Star t c =
     c.in_ok-body-in-Star.ensures))
     c.repetition.ensures
 
-pub returns-in-default : goal.returns-in-default
-returns-in-default t c = shortens_same c.args.longest (mark_of c.args.mark)
+pub returns-in_default : goal.returns-in_default
+returns-in_default t c = shortens_same c.args.longest (mark_of c.args.mark)
