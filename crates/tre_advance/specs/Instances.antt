@@ -9,8 +9,8 @@ use Rattle.tre_syntax.specs.Rest.{Rest}
 use Rattle.tre_mark.specs.MarkTree.{MarkTree}
 use Rattle.tre_mark.specs.Marked.{Since, IsOpen, AnyDuration, CanTakeIn, Marked, IsWellAt}
 
--- The mark of a restriction stands for a pair of `outer` and then one of `body` that lasts as long as
--- the interval says. It can take in what begins later only where `body` can.
+-- The mark of a restriction stands for a pair of `outer` and then one of `body` that lasts as long
+-- as the interval says. It can take in what begins later only where `body` can.
 pub record IsRestriction (tree : PatternTree) (interval : IntervalEnds)
     (outer : List ZoneBounds) (body mark : MarkTree) : Type 0 where
   pub pairs : (rest : Rest) (a b n : ℕ) → 0 < n

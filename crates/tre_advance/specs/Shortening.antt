@@ -10,8 +10,8 @@ use Rattle.tre_syntax.specs.Rest.{Rest}
 use Rattle.tre_mark.specs.MarkTree.{MarkTree}
 use Rattle.tre_mark.specs.Marked.{Since, CanTakeIn, Marked, IsWellAt}
 
--- The short mark stands for pairs of the mark alone, and for all of them that last up to the longest
--- duration. It is well, and can take in what begins later, where the mark is and can.
+-- The short mark stands for pairs of the mark alone, and for all of them that last up to the
+-- longest duration. It is well, and can take in what begins later, where the mark is and can.
 pub record Shortens (longest : Option ℕ) (mark short : MarkTree) : Type 0 where
   pub less : (tree : PatternTree) (rest : Rest) (a b n : ℕ) → 0 < n
       → Marked rest short tree a b n → Marked rest mark tree a b n
@@ -34,7 +34,8 @@ pub record AreRecent (interval : IntervalEnds) (time : ℕ) (all recent : List Z
     pub more : (a m n : ℕ) → 0 < n → Held all a m n → MayStillLast interval time m n
         → Held recent a m n
 
--- The short pairs are those of the set that last up to the longest duration: none where it is empty.
+-- The short pairs are those of the set that last up to the longest duration: none where it is
+-- empty.
 pub record AreShort (longest : Option ℕ) (zones short : List ZoneBounds) : Type 0 where
   pub set : IsSetOf short (Lasting (LastsUpTo longest) (Held zones))
   pub none : zones ≡ [] → short ≡ []

@@ -165,7 +165,16 @@ fn enter_intersection(
         Mark::NoMeet => {
             let one = unbegun(alloc, left, piece)?;
             let other = unbegun(alloc, right, piece)?;
-            take_both(alloc, ZoneSet::new(alloc), one, other, left, right, zones, piece)
+            take_both(
+                alloc,
+                ZoneSet::new(alloc),
+                one,
+                other,
+                left,
+                right,
+                zones,
+                piece,
+            )
         }
         Mark::Meet {
             outer,
@@ -232,10 +241,20 @@ fn enter_restriction(
     match mark {
         Mark::NoWithin => {
             let inner = unbegun(alloc, body, piece)?;
-            take_lasting(alloc, ZoneSet::new(alloc), inner, body, interval, zones, piece)
+            take_lasting(
+                alloc,
+                ZoneSet::new(alloc),
+                inner,
+                body,
+                interval,
+                zones,
+                piece,
+            )
         }
         Mark::Within {
-            outer, body: inner, ..
+            outer,
+            body: inner,
+            ..
         } => {
             let inner = Box::into_inner(inner);
             take_lasting(alloc, outer, inner, body, interval, zones, piece)

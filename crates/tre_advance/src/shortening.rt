@@ -64,7 +64,11 @@ pub fn recent(
 ) -> Result<ZoneSet, AllocError>
     ensures { IfOk result (λ recent. AreRecent interval.now time zones recent) }
 {
-    if !zones.zones().iter().any(|zone| is_old(zone, interval, time)) {
+    if !zones
+        .zones()
+        .iter()
+        .any(|zone| is_old(zone, interval, time))
+    {
         return Ok(zones);
     }
     let mut kept = Vec::new(alloc);

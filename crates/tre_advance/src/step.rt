@@ -165,7 +165,9 @@ fn step_restriction(
     match mark {
         Mark::NoWithin => Ok(no_restriction(alloc)),
         Mark::Within {
-            outer, body: inner, ..
+            outer,
+            body: inner,
+            ..
         } => {
             let next = step(alloc, inner, body, piece)?;
             go_on_lasting(alloc, outer, next, interval, piece)

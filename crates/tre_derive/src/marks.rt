@@ -173,7 +173,9 @@ fn restriction_goes_on(
     match mark {
         Mark::NoWithin => Ok(nothing(alloc)),
         Mark::Within {
-            outer, body: inner, ..
+            outer,
+            body: inner,
+            ..
         } => {
             let next = go_on(alloc, inner, body, piece)?;
             let lasting = restrict(alloc, next, interval)?;

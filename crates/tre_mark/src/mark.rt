@@ -10,13 +10,19 @@ use tre_zoneset::ZoneSet;
 pub enum Mark {
     /// Of an atom: the pairs behind which it may begin now, and those whose literal holds until
     /// now. Each ends at the present time.
-    Atom { here: ZoneSet, begun: ZoneSet },
+    Atom {
+        here: ZoneSet,
+        begun: ZoneSet,
+    },
     /// Of the two parts of a sequence.
     Seq(Box<Mark>, Box<Mark>),
     /// Of the two sides of an alternation.
     Alt(Box<Mark>, Box<Mark>),
     /// Of a repetition: the pairs behind which it may go on now, and the mark of what is repeated.
-    Star { here: ZoneSet, body: Box<Mark> },
+    Star {
+        here: ZoneSet,
+        body: Box<Mark>,
+    },
     /// Of an intersection that has not begun, or of which nothing is left.
     NoMeet,
     /// Of an intersection that began behind each pair of `outer`, one at least, and of both its

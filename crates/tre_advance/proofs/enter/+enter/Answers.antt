@@ -117,39 +117,36 @@ enter_intersection-unreachable-requires t c =
     (tree_of c.args.right.now) c.requires.well.well c.in_default.not-NoMeet c.in_default.not-Meet
 
 pub enter_intersection-take_both-requires : goal.enter_intersection-take_both-requires
-enter_intersection-take_both-requires t c = (
-  omega arith,
-  (
-    c.requires.numbers,
-    c.in_ok-one-in-NoMeet.ensures.well,
-    c.in_ok-other-in-NoMeet.ensures.well,
-    none_ends (end_of_piece c.args.piece.now) c.new.result c.new.ensures,
-    c.requires.enter,
-  ),
-)
+enter_intersection-take_both-requires t c =
+    let ends = none_ends (end_of_piece c.args.piece.now) c.new.result c.new.ensures in (
+      omega arith,
+      (
+        c.requires.numbers,
+        (
+          c.in_ok-one-in-NoMeet.ensures.well,
+          (c.in_ok-other-in-NoMeet.ensures.well, (ends, c.requires.enter)),
+        ),
+      ),
+    )
 
-pub enter_intersection-take_both-requires-in-Meet : goal.enter_intersection-take_both-requires-in-Meet
+pub enter_intersection-take_both-requires-in-Meet :
+    goal.enter_intersection-take_both-requires-in-Meet
 enter_intersection-take_both-requires-in-Meet t c =
     let time = end_of_piece c.args.piece.now in
     let left = tree_of c.args.left.now in
     let right = tree_of c.args.right.now in
     let well = subst (λ (m : Mark). IsWell time (mark_of m) (intersection left right)) c.in-Meet.is
-    c.requires.well.well in (
-      omega arith,
-      (
-        c.requires.numbers,
-        record {
-          well = subst (λ (m : Mark). IsWell time (mark_of m) left) (sym c.into_inner-one.ensures)
-              well.1;
-        },
-        record {
-          well = subst (λ (m : Mark). IsWell time (mark_of m) right)
-              (sym c.into_inner-other.ensures) well.2;
-        },
-        entered_ends time c.in-Meet.to c.in-Meet.outer well.0,
-        c.requires.enter,
-      ),
-    )
+    c.requires.well.well in
+    let one : IsWellAt time (mark_of c.into_inner-one.result) left = record {
+      well = subst (λ (m : Mark). IsWell time (mark_of m) left) (sym c.into_inner-one.ensures)
+          well.1;
+    } in
+    let other : IsWellAt time (mark_of c.into_inner-other.result) right = record {
+      well = subst (λ (m : Mark). IsWell time (mark_of m) right) (sym c.into_inner-other.ensures)
+          well.2;
+    } in
+    let ends = entered_ends time c.in-Meet.to c.in-Meet.outer well.0 in
+    (omega arith, (c.requires.numbers, (one, (other, (ends, c.requires.enter)))))
 
 pub enter_intersection-returns-in_ok-other-in-NoMeet :
     goal.enter_intersection-returns-in_ok-other-in-NoMeet
@@ -199,15 +196,11 @@ enter_restriction-unreachable-requires t c =
     c.args.interval.now c.requires.well.well c.in_default.not-NoWithin c.in_default.not-Within
 
 pub enter_restriction-take_lasting-requires : goal.enter_restriction-take_lasting-requires
-enter_restriction-take_lasting-requires t c = (
-  omega arith,
-  (
-    c.requires.numbers,
-    c.in_ok-inner-in-NoWithin.ensures.well,
-    none_ends (end_of_piece c.args.piece.now) c.new.result c.new.ensures,
-    c.requires.enter,
-  ),
-)
+enter_restriction-take_lasting-requires t c =
+    let ends = none_ends (end_of_piece c.args.piece.now) c.new.result c.new.ensures in (
+      omega arith,
+      (c.requires.numbers, (c.in_ok-inner-in-NoWithin.ensures.well, (ends, c.requires.enter))),
+    )
 
 pub enter_restriction-returns-in_ok-inner-in-NoWithin :
     goal.enter_restriction-returns-in_ok-inner-in-NoWithin

@@ -6,7 +6,6 @@ use Rattle.tre_advance.specs.Instances.{LeavesRestriction}
 use Rattle.tre_advance.proofs.InstanceSteps.{later_ends, lasting_steps}
 use Rattle.tre_advance.proofs.step.go_on_lasting.Goals as goal
 
-
 pub returns : goal.returns
 returns c to one tree steps =
     let piece = c.args.piece.now in
