@@ -166,7 +166,7 @@ const REPEATED: Lengths<'static> = &[
     (1, 3),
 ];
 
-const PATTERNS: [&str; 13] = [
+const PATTERNS: [&str; 19] = [
     "p",
     "p;q",
     "(p % [1,1]);q",
@@ -180,6 +180,12 @@ const PATTERNS: [&str; 13] = [
     "p;rise(q) | (p % [1,1])*",
     "((p;q) % [2,3])*",
     "((p;q)* & (p % [1,1])*) | (p;fall(p)) & p",
+    "p;(q % [1,2])",
+    "rise(p);(p & (p;q))",
+    "(p & (true % [1,2]))*",
+    "(p|q) % [2,inf)",
+    "(p;q) & (p|q)",
+    "((p % [1,2]);(q % [1,2]))+ % [2,5]",
 ];
 
 #[test]
@@ -219,6 +225,7 @@ fn kept_after(alloc: Global, text: &str, ticks: u16) -> Result<u64, Fail> {
 #[test]
 fn what_is_kept_stays_small(rt: HostRuntime) -> Result<(), Fail> {
     assert!(rt; kept(rt.alloc(), "(p;q)*", [1, 2], 500)? == (4, 4));
-    assert!(rt; kept_after(rt.alloc(), "p % [0,3]", 100)? == 5);
+    assert!(rt; kept_after(rt.alloc(), "p % [0,3]", 100)? == 2);
+    assert!(rt; kept_after(rt.alloc(), "p & p", 100)? == 3);
     Ok(())
 }

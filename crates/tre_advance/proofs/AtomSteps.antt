@@ -432,15 +432,17 @@ two_marks rest x here begun one two three four heres beguns = record {
 
 pub brief_inner : (piece : Piece) (here begun told : List ZoneBounds) (x : Atom) → IsBrief x
     → Agree (Held told) (Marked (alone piece) (atom_mark here begun) (atom x))
-    → Inner piece (atom x) (λ r. Marked r (atom_mark here begun) (atom x)) told (atom_mark [] [])
+    → Inner (Unit {0}) piece (atom x) (λ r. Marked r (atom_mark here begun) (atom x)) told
+    (atom_mark [] [])
 brief_inner piece here begun told x brief whole = record {
   tells = whole;
-  leaves = λ segments long.
+  leaves = λ can segments long.
       agree_then (brief_leaves piece here begun [] [] x brief
       (between_none piece.begin (end_of_piece piece)) (none_kept (EndsAt (end_of_piece piece)))
       segments)
       (agree_crossing (end_of_piece piece)
       (nothing_enters (over piece segments) (atom_mark here begun) (atom x)));
+  takes = λ can. tt;
   well = record { well = (end_at_none (end_of_piece piece), brief.none (end_of_piece piece)) };
 }
 
@@ -450,11 +452,11 @@ pub brief_beside : (piece : Piece) (here begun enter told last here' : List Zone
     → Agree (Held told) (Followed (Held enter) (atom x) (alone piece))
     → Agree (Held last) (Both (Held enter) (EndsAt (end_of_piece piece)))
     → Agree (Held here') (Either (Held last) (Held here))
-    → Beside piece (atom x) (atom_mark here begun) (Followed (Held enter) (atom x)) told
+    → Beside (Unit {0}) piece (atom x) (atom_mark here begun) (Followed (Held enter) (atom x)) told
     (atom_mark here' begun)
 brief_beside piece here begun enter told last here' x brief between well whole kept union = record {
   tells = whole;
-  leaves = λ segments long.
+  leaves = λ can segments long.
       let V = behind piece segments in
       agree_then (two_marks V x here' begun last [] here begun union (record {
         at = λ a b n some. (
@@ -466,6 +468,7 @@ brief_beside piece here begun enter told last here' x brief between well whole k
       (agree_then (brief_leaves piece [] [] enter last x brief between kept segments)
       (agree_crossing (end_of_piece piece)
       (nothing_begun (over piece segments) x (Held enter)))));
+  takes = λ can. tt;
   well = record {
     well = (
       record {
@@ -480,13 +483,13 @@ brief_beside piece here begun enter told last here' x brief between well whole k
 pub literal_inner : (piece : Piece) (here begun told begun' : List ZoneBounds) (state : StateTree)
     → Agree (Held told) (Marked (alone piece) (atom_mark here begun) (atom (literal state)))
     → Agree (Held begun') (Both (Held told) (EndsAt (end_of_piece piece)))
-    → Inner piece (atom (literal state))
+    → Inner (Unit {0}) piece (atom (literal state))
     (λ r. Marked r (atom_mark here begun) (atom (literal state))) told (atom_mark [] begun')
 literal_inner piece here begun told begun' state whole kept =
     let tree = atom (literal state) in
     record {
       tells = whole;
-      leaves = λ segments long.
+      leaves = λ can segments long.
           agree_then (literal_leaves piece here begun [] told [] begun' state
           (between_none piece.begin (end_of_piece piece))
           (agree_then whole
@@ -494,6 +497,7 @@ literal_inner piece here begun told begun' state whole kept =
           (none_kept (EndsAt (end_of_piece piece))) kept segments long)
           (agree_crossing (end_of_piece piece)
           (nothing_enters (over piece segments) (atom_mark here begun) tree));
+      takes = λ can. tt;
       well = record {
         well = (
           end_at_none (end_of_piece piece),
@@ -511,14 +515,14 @@ pub literal_beside : (piece : Piece)
     → Agree (Held last') (Both (Held told) (EndsAt (end_of_piece piece)))
     → Agree (Held here') (Either (Held last) (Held here))
     → Agree (Held begun') (Either (Held last') (Held begun))
-    → Beside piece (atom (literal state)) (atom_mark here begun)
+    → Beside (Unit {0}) piece (atom (literal state)) (atom_mark here begun)
     (Followed (Held enter) (atom (literal state))) told (atom_mark here' begun')
 literal_beside piece here begun enter told last last' here' begun' state between well whole kept
     kept' union union' =
     let x = literal state in
     record {
       tells = whole;
-      leaves = λ segments long.
+      leaves = λ can segments long.
           let V = behind piece segments in
           agree_then (two_marks V x here' begun' last last' here begun union union')
           (agree_either (agree_refl (Marked V (atom_mark here begun) (atom x)))
@@ -527,6 +531,7 @@ literal_beside piece here begun enter told last last' here' begun' state between
           segments long)
           (agree_crossing (end_of_piece piece)
           (nothing_begun (over piece segments) x (Held enter)))));
+      takes = λ can. tt;
       well = record {
         well = (
           record {

@@ -87,7 +87,8 @@ nothing_enters_to piece mark tree enter told none empty well =
           (λ h. absurd (no_pair enter none (h.factor * a) h.midpoint (h.factor * n) h.left)),
         );
       };
-      leaves = λ segments long. record {
+      takes = λ can. can;
+      leaves = λ can segments long. record {
         at = λ a b n some. (
           (λ h. inl h),
           (λ h. ⊎_elim (λ x. x)

@@ -13,9 +13,10 @@ use Rattle.tre_trace.specs.declared.segment.Segment.{Segment}
 use Rattle.tre_zone.specs.declared.zone_bounds.ZoneBounds.{ZoneBounds}
 use Rattle.tre_edges.specs.declared.piece.Piece.{Piece}
 use Rattle.tre_mark.specs.MarkTree.{MarkTree, sequence_mark, alternation_mark}
-use Rattle.tre_mark.specs.Marked.{Marked, EndBetween}
+use Rattle.tre_mark.specs.Marked.{CanTakeIn, Marked, EndBetween}
 use Rattle.tre_mark.proofs.Agreeing.{agree_refl, agree_sym, agree_then, agree_composed, agree_either, agree_assoc}
 use Rattle.tre_edges.specs.Piece.{end_of_piece}
+use Rattle.tre_advance.specs.Moves.{with_piece}
 use Rattle.tre_advance.proofs.Crossings.{IsFront, agree_crossing, cross_either, cross_followed, distributes}
 use Rattle.tre_advance.proofs.Going.{over, alone, behind, cut_of, mark_front, followed_front}
 use Rattle.tre_advance.proofs.Steps.{Inner, Beside, Followed}
@@ -35,13 +36,14 @@ module _ (piece : Piece) (right : PatternTree) (segments : List Segment) (G F : 
       (MatchesRest right (behind piece segments)) front (cut_of piece segments right)
       (IsOrdered-rest right W)
 
-pub sequence_inner : (piece : Piece) (one other one' other' other'' : MarkTree)
+pub sequence_inner : {Q R : Type 0} → (piece : Piece) (one other one' other' other'' : MarkTree)
     (left right : PatternTree) (first second third told : List ZoneBounds)
-    → Inner piece left (λ r. Marked r one left) first one'
-    → Inner piece right (λ r. Marked r other right) second other'
-    → Beside piece right other' (Followed (Held first) right) third other''
+    → Inner Q piece left (λ r. Marked r one left) first one'
+    → Inner R piece right (λ r. Marked r other right) second other'
+    → Beside (CanTakeIn (with_piece piece) other' right) piece right other'
+    (Followed (Held first) right) third other''
     → Agree (Held told) (Either (Held second) (Held third))
-    → Inner piece (sequence left right) (λ r. Marked r (sequence_mark one other)
+    → Inner (Q × R) piece (sequence left right) (λ r. Marked r (sequence_mark one other)
     (sequence left right))
     told (sequence_mark one' other'')
 sequence_inner piece one other one' other' other'' left right first second third told f g e union =
@@ -58,7 +60,7 @@ sequence_inner piece one other one' other' other'' left right first second third
               (λ h. ⊎_elim (λ x. inr x) (λ x. inl x) h),
             );
           }));
-      leaves = λ segments long.
+      leaves = λ can segments long.
           let W = over piece segments in
           let V = behind piece segments in
           let X = MatchesRest right W in
@@ -67,9 +69,10 @@ sequence_inner piece one other one' other' other'' left right first second third
           (mark_front piece segments one left) in
           let whole = agree_then (cross_either T' (Composed M X) (Marked W other right))
           (agree_either split (agree_refl (Crossing T' (Marked W other right)))) in
-          let start = agree_composed (f.leaves segments long) (agree_refl (MatchesRest right V)) in
-          let last = agree_then (e.leaves segments long)
-          (agree_either (g.leaves segments long)
+          let start = agree_composed (f.leaves can.0 segments long)
+          (agree_refl (MatchesRest right V)) in
+          let last = agree_then (e.leaves (g.takes can.1) segments long)
+          (agree_either (g.leaves can.1 segments long)
           (agree_crossing T' (agree_composed f.tells (agree_refl X)))) in
           record {
             at = λ a b n some.
@@ -83,15 +86,16 @@ sequence_inner piece one other one' other' other'' left right first second third
                       (λ x. inr (l.1 (inl x))) (w.0 h)),
                 );
           };
+      takes = λ can. (f.takes can.0, e.takes (g.takes can.1));
       well = record { well = (f.well.well, e.well.well) };
     }
 
-pub sequence_beside : (piece : Piece) (one other one' other' : MarkTree)
+pub sequence_beside : {Q R : Type 0} → (piece : Piece) (one other one' other' : MarkTree)
     (left right : PatternTree) (enter first second : List ZoneBounds)
     → EndBetween piece.begin (end_of_piece piece) enter
-    → Beside piece left one (Followed (Held enter) left) first one'
-    → Beside piece right other (Followed (Held first) right) second other'
-    → Beside piece (sequence left right) (sequence_mark one other)
+    → Beside Q piece left one (Followed (Held enter) left) first one'
+    → Beside R piece right other (Followed (Held first) right) second other'
+    → Beside (Q × R) piece (sequence left right) (sequence_mark one other)
     (Followed (Held enter) (sequence left right)) second (sequence_mark one' other')
 sequence_beside piece one other one' other' left right enter first second between f g =
     let T' = end_of_piece piece in
@@ -105,7 +109,7 @@ sequence_beside piece one other one' other' left right enter first second betwee
     record {
       tells = agree_then g.tells
           (agree_then (agree_composed f.tells (agree_refl (MatchesRest right P))) (grouped P));
-      leaves = λ segments long.
+      leaves = λ can segments long.
           let W = over piece segments in
           let V = behind piece segments in
           let X = MatchesRest right W in
@@ -115,9 +119,9 @@ sequence_beside piece one other one' other' left right enter first second betwee
           (cross_second piece right segments G (Followed E left P)
           (followed_front piece segments left E (IsOrdered-Held enter) between.end)) in
           let start = agree_then
-          (agree_composed (f.leaves segments long) (agree_refl Y))
+          (agree_composed (f.leaves can.0 segments long) (agree_refl Y))
           (distributes (Marked V one left) (Crossing T' G) Y) in
-          let last = agree_then (g.leaves segments long)
+          let last = agree_then (g.leaves can.1 segments long)
           (agree_either (agree_refl (Marked V other right))
           (agree_crossing T' (agree_composed f.tells (agree_refl X)))) in
           record {
@@ -133,23 +137,25 @@ sequence_beside piece one other one' other' left right enter first second betwee
                       (λ x. ⊎_elim (λ y. inl (s.1 (inr y))) (λ y. inr (l.1 (inr y))) (w.0 x)) h),
                 );
           };
+      takes = λ can. (f.takes can.0, g.takes can.1);
       well = record { well = (f.well.well, g.well.well) };
     }
 
-pub alternation_inner : (piece : Piece) (one other one' other' : MarkTree)
+pub alternation_inner : {Q R : Type 0} → (piece : Piece) (one other one' other' : MarkTree)
     (left right : PatternTree) (first second told : List ZoneBounds)
-    → Inner piece left (λ r. Marked r one left) first one'
-    → Inner piece right (λ r. Marked r other right) second other'
+    → Inner Q piece left (λ r. Marked r one left) first one'
+    → Inner R piece right (λ r. Marked r other right) second other'
     → Agree (Held told) (Either (Held first) (Held second))
-    → Inner piece (alternation left right)
+    → Inner (Q × R) piece (alternation left right)
     (λ r. Marked r (alternation_mark one other) (alternation left right)) told
     (alternation_mark one' other')
 alternation_inner piece one other one' other' left right first second told f g union = record {
   tells = agree_then union (agree_either f.tells g.tells);
-  leaves = λ segments long.
+  leaves = λ can segments long.
       let W = over piece segments in
-      agree_then (agree_either (f.leaves segments long) (g.leaves segments long))
+      agree_then (agree_either (f.leaves can.0 segments long) (g.leaves can.1 segments long))
       (agree_sym (cross_either (end_of_piece piece) (Marked W one left) (Marked W other right)));
+  takes = λ can. (f.takes can.0, g.takes can.1);
   well = record { well = (f.well.well, g.well.well) };
 }
 
@@ -192,12 +198,12 @@ followed_either E left right rest = record {
   );
 }
 
-pub alternation_beside : (piece : Piece) (one other one' other' : MarkTree)
+pub alternation_beside : {Q R : Type 0} → (piece : Piece) (one other one' other' : MarkTree)
     (left right : PatternTree) (enter first second told : List ZoneBounds)
-    → Beside piece left one (Followed (Held enter) left) first one'
-    → Beside piece right other (Followed (Held enter) right) second other'
+    → Beside Q piece left one (Followed (Held enter) left) first one'
+    → Beside R piece right other (Followed (Held enter) right) second other'
     → Agree (Held told) (Either (Held first) (Held second))
-    → Beside piece (alternation left right) (alternation_mark one other)
+    → Beside (Q × R) piece (alternation left right) (alternation_mark one other)
     (Followed (Held enter) (alternation left right)) told (alternation_mark one' other')
 alternation_beside piece one other one' other' left right enter first second told f g union =
     let T' = end_of_piece piece in
@@ -206,15 +212,15 @@ alternation_beside piece one other one' other' left right enter first second tol
       tells = agree_then union
           (agree_then (agree_either f.tells g.tells)
           (agree_sym (followed_either E left right (alone piece))));
-      leaves = λ segments long.
+      leaves = λ can segments long.
           let W = over piece segments in
           let parts = agree_then (agree_crossing T' (followed_either E left right W))
           (cross_either T' (Followed E left W) (Followed E right W)) in
           record {
             at = λ a b n some.
                 let p = parts.at a b n some in
-                let l = (f.leaves segments long).at a b n some in
-                let r = (g.leaves segments long).at a b n some in (
+                let l = (f.leaves can.0 segments long).at a b n some in
+                let r = (g.leaves can.1 segments long).at a b n some in (
                   (λ h. ⊎_elim
                       (λ x. ⊎_elim (λ y. inl (inl y)) (λ y. inr (p.1 (inl y))) (l.0 x))
                       (λ x. ⊎_elim (λ y. inl (inr y)) (λ y. inr (p.1 (inr y))) (r.0 x)) h),
@@ -223,5 +229,6 @@ alternation_beside piece one other one' other' left right enter first second tol
                       (λ x. ⊎_elim (λ y. inl (l.1 (inr y))) (λ y. inr (r.1 (inr y))) (p.0 x)) h),
                 );
           };
+      takes = λ can. (f.takes can.0, g.takes can.1);
       well = record { well = (f.well.well, g.well.well) };
     }

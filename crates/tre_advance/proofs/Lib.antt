@@ -4,12 +4,17 @@ pub mod SetsOf
 pub mod Crossings
 -- what a mark goes on with, over a piece and alone
 pub mod Going
+-- marks that can take in what begins later
+pub mod Opening
 -- what a step does, form by form
 pub mod Steps
 pub mod FormSteps
 pub mod StarSteps
 pub mod AtomSteps
-pub mod Joins
+pub mod Takings
+-- marks without what lasts too long
+pub mod Shortenings
+pub mod Recent
 pub mod InstanceSteps
 -- and as the calls say it
 pub mod AtomForms

@@ -23,11 +23,12 @@ use Rattle.tre_zone.specs.Zone.{IsInstantBetween, EndsAt}
 use Rattle.tre_zone.specs.declared.zone_bounds.ZoneBounds.{ZoneBounds}
 use Rattle.tre_edges.specs.declared.piece.Piece.{Piece}
 use Rattle.tre_mark.specs.MarkTree.{MarkTree, repetition_mark, restriction_none}
-use Rattle.tre_mark.specs.Marked.{Marked, EndBetween, IsWellAt}
+use Rattle.tre_mark.specs.Marked.{CanTakeIn, Marked, EndBetween, IsWellAt}
 use Rattle.tre_mark.proofs.Agreeing.{agree_refl, agree_sym, agree_then, agree_composed, agree_either, agree_assoc, joined_composed}
 use Rattle.tre_mark.proofs.Meanings.{Scales-Marked, IsOrdered-Marked, around_present}
 use Rattle.tre_mark.proofs.Starts.{end_at_none, nothing_restriction}
 use Rattle.tre_edges.specs.Piece.{end_of_piece, cut_behind}
+use Rattle.tre_advance.specs.Moves.{with_piece}
 use Rattle.tre_advance.proofs.Crossings.{IsFront, agree_crossing, cross_followed, cross_after, distributes}
 use Rattle.tre_mark.proofs.Growth.{mark_grows, mark_early, mark_ends, ends_composed, tree_ends}
 use Rattle.tre_advance.proofs.Going.{over, alone, behind, cut_of, long_front, begin_end, begin_le}
@@ -414,28 +415,30 @@ module _ (piece : Piece) (here : List ZoneBounds) (body : MarkTree) (tree : Patt
         );
       }))) three four
 
-  pub repetition_inner : (told ended told' here' : List ZoneBounds) (body' body'' : MarkTree)
+  pub repetition_inner : {Q : Type 0} → (told ended told' here' : List ZoneBounds) (body' body'' : MarkTree)
       → Agree (Held told) (Composed (Started (alone piece))
       (MatchesRest (repetition tree) (alone piece)))
       → Agree (Held here') (Both (Held told) (EndsAt (end_of_piece piece)))
-      → Inner piece tree (λ r. Marked r body tree) ended body'
-      → Beside piece tree body' (Followed (Held told) tree) told' body''
-      → Inner piece (repetition tree)
+      → Inner Q piece tree (λ r. Marked r body tree) ended body'
+      → Beside (CanTakeIn (with_piece piece) body' tree) piece tree body'
+      (Followed (Held told) tree) told' body''
+      → Inner Q piece (repetition tree)
       (λ r. Marked r (repetition_mark here body) (repetition tree)) told
       (repetition_mark here' body'')
   repetition_inner told ended told' here' body' body'' whole kept f e =
       let T' = end_of_piece piece in
       record {
         tells = agree_then whole (agree_sym (marked_repetition []));
-        leaves = λ segments long.
+        leaves = λ can segments long.
             let W = over piece segments in
             agree_then (leaves_repetition piece here [] body tree ends none_enters told here'
             (λ segments. Marked (behind piece segments) body'' tree) whole kept
-            (λ segments long. agree_then (e.leaves segments long)
-            (agree_either (f.leaves segments long)
+            (λ segments long. agree_then (e.leaves (f.takes can) segments long)
+            (agree_either (f.leaves can segments long)
             (agree_refl (Crossing T' (Followed (Held told) tree (over piece segments))))))
             segments long)
             (agree_crossing T' (agree_sym (marked_repetition segments)));
+        takes = λ can. e.takes (f.takes can);
         well = record {
           well = (
             record { ends = λ a b n some h. ((kept.at a b n some).0 h).right.ends },
@@ -473,20 +476,20 @@ module _ (piece : Piece) (enter : List ZoneBounds) (tree : PatternTree)
       (agree_composed (entered_is (alone piece))
       (agree_refl (MatchesRest (repetition tree) (alone piece))))
 
-  pub repetition_beside : (old told told' last here' : List ZoneBounds) (body body' : MarkTree)
+  pub repetition_beside : {Q : Type 0} → (old told told' last here' : List ZoneBounds) (body body' : MarkTree)
       → IsWellAt (end_of_piece piece) (repetition_mark old body) (repetition tree)
       → Agree (Held told) (Followed (Held enter) (repetition tree) (alone piece))
       → Agree (Held last) (Both (Held told) (EndsAt (end_of_piece piece)))
       → Agree (Held here') (Either (Held last) (Held old))
-      → Beside piece tree body (Followed (Held told) tree) told' body'
-      → Beside piece (repetition tree) (repetition_mark old body)
+      → Beside Q piece tree body (Followed (Held told) tree) told' body'
+      → Beside Q piece (repetition tree) (repetition_mark old body)
       (Followed (Held enter) (repetition tree)) told (repetition_mark here' body')
   repetition_beside old told told' last here' body body' well whole kept union e =
       let T' = end_of_piece piece in
       let P = alone piece in
       record {
         tells = whole;
-        leaves = λ segments long.
+        leaves = λ can segments long.
             let W = over piece segments in
             let V = behind piece segments in
             let X = MatchesRest (repetition tree) V in
@@ -509,7 +512,7 @@ module _ (piece : Piece) (enter : List ZoneBounds) (tree : PatternTree)
             (agree_crossing T' (agree_composed (entered_is W)
             (agree_refl (MatchesRest (repetition tree) W)))) in
             let inside = agree_then
-            (agree_composed (e.leaves segments long) (agree_refl X))
+            (agree_composed (e.leaves can segments long) (agree_refl X))
             (distributes (Marked V body tree) Cross X) in
             record {
               at = λ a b n some.
@@ -530,6 +533,7 @@ module _ (piece : Piece) (enter : List ZoneBounds) (tree : PatternTree)
                         (λ y. inr (i.1 (inr y))) (f.1 x)) h),
                   );
             };
+        takes = e.takes;
         well = record {
           well = (
             record {

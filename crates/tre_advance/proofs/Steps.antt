@@ -1,5 +1,5 @@
 -- What a mark does over a piece, and what enters does, over all relations that they speak of.
-use Rattle.std.proofs.Common.{ℕ, ◌*◌, ◌<◌, ◌≤◌, List, [], inr, ⊎_elim, refl, sym, arith}
+use Rattle.std.proofs.Common.{ℕ, ◌*◌, ◌<◌, ◌≤◌, List, [], ⊎_elim, refl, sym, arith}
 use Rattle.std.proofs.Math.Nat.{mul-pos}
 use Rattle.tre_pairs.specs.Cuts.{Crossing}
 use Rattle.tre_pairs.specs.Pairs.{Pairs, Composed, Either}
@@ -19,35 +19,38 @@ use Rattle.tre_zone.specs.ZoneList.{HoldExactly}
 use Rattle.tre_zone.specs.declared.zone_bounds.ZoneBounds.{ZoneBounds}
 use Rattle.tre_edges.specs.declared.piece.Piece.{Piece}
 use Rattle.tre_mark.specs.MarkTree.{MarkTree}
-use Rattle.tre_mark.specs.Marked.{Marked, EndBetween, IsWellAt, IsUnbegun}
+use Rattle.tre_mark.specs.Marked.{CanTakeIn, Marked, EndBetween, IsWellAt}
 use Rattle.tre_mark.proofs.Agreeing.{agree_refl, agree_sym, agree_then, agree_either}
 use Rattle.tre_mark.proofs.Meanings.{around_present}
 use Rattle.tre_edges.specs.Piece.{end_of_piece}
-use Rattle.tre_advance.specs.Advance.{GoesOver, MarkedBehind, Advances}
-use Rattle.tre_advance.specs.Moves.{StepsTo, EntersTo, Begins}
+use Rattle.tre_advance.specs.Advance.{GoesOver, MarkedBehind, before_piece, Advances}
+use Rattle.tre_advance.specs.Moves.{with_piece, StepsTo, EntersTo}
 use Rattle.tre_advance.proofs.Crossings.{cross_either}
 use Rattle.tre_mark.proofs.Growth.{mark_ends, ends_composed, tree_ends}
 use Rattle.tre_advance.proofs.Going.{over, alone, behind, begin_le}
+use Rattle.tre_advance.proofs.Opening.{all_later}
 use Rattle.tre_advance.proofs.SetsOf.{exact_set}
 
--- Told are the pairs of a relation over the piece, and what is left are those of the same over more
--- that cross the end.
-pub record Inner (piece : Piece) (tree : PatternTree) (N : Rest → Pairs) (told : List ZoneBounds)
+-- Told are the pairs of a relation over the piece, and what is left, where Q is so, are those of the
+-- same over more that cross the end.
+pub record Inner (Q : Type 0) (piece : Piece) (tree : PatternTree) (N : Rest → Pairs) (told : List ZoneBounds)
     (rest : MarkTree) : Type 0 where
   pub tells : Agree (Held told) (N (alone piece))
-  pub leaves : (segments : List Segment) → AreLong segments
+  pub leaves : Q → (segments : List Segment) → AreLong segments
       → Agree (Marked (behind piece segments) rest tree)
       (Crossing (end_of_piece piece) (N (over piece segments)))
+  pub takes : Q → CanTakeIn (with_piece piece) rest tree
   pub well : IsWellAt (end_of_piece piece) rest tree
 
 -- The same beside what an old mark stands for.
-pub record Beside (piece : Piece) (tree : PatternTree) (old : MarkTree) (N : Rest → Pairs)
+pub record Beside (Q : Type 0) (piece : Piece) (tree : PatternTree) (old : MarkTree) (N : Rest → Pairs)
     (told : List ZoneBounds) (rest : MarkTree) : Type 0 where
   pub tells : Agree (Held told) (N (alone piece))
-  pub leaves : (segments : List Segment) → AreLong segments
+  pub leaves : Q → (segments : List Segment) → AreLong segments
       → Agree (Marked (behind piece segments) rest tree)
       (Either (Marked (behind piece segments) old tree)
       (Crossing (end_of_piece piece) (N (over piece segments))))
+  pub takes : Q → CanTakeIn (with_piece piece) rest tree
   pub well : IsWellAt (end_of_piece piece) rest tree
 
 -- What the pairs of E go on with, where a match follows.
@@ -78,56 +81,54 @@ module _ (piece : Piece) (tree : PatternTree) (told : List ZoneBounds) (rest : M
         (tree_ends (alone piece) tree) a b n ((same.at a b n some).0 h);
   }
 
-  pub steps_of : (mark : MarkTree) → Inner piece tree (λ r. Marked r mark tree) told rest
-      → StepsTo mark tree piece told rest
+  pub steps_of : (mark : MarkTree)
+      → Inner (CanTakeIn (before_piece piece) mark tree) piece tree (λ r. Marked r mark tree) told
+      rest → StepsTo mark tree piece told rest
   steps_of mark inner = record {
     tells = record { pairs = inner.tells.at };
-    leaves = λ segments long. (inner.leaves segments long).at;
+    leaves = λ can segments long. (inner.leaves can segments long).at;
+    takes = inner.takes;
     between = marked_between mark inner.tells;
     well = inner.well;
   }
 
   pub of_steps : (mark : MarkTree) → StepsTo mark tree piece told rest
-      → Inner piece tree (λ r. Marked r mark tree) told rest
+      → Inner (CanTakeIn (before_piece piece) mark tree) piece tree (λ r. Marked r mark tree) told
+      rest
   of_steps mark steps = record {
     tells = record { at = steps.tells.pairs };
-    leaves = λ segments long. record { at = steps.leaves segments long };
+    leaves = λ can segments long. record { at = steps.leaves can segments long };
+    takes = steps.takes;
     well = steps.well;
   }
 
   pub enters_of : (old : MarkTree) (enter : List ZoneBounds)
-      → Beside piece tree old (Followed (Held enter) tree) told rest
-      → EntersTo old tree enter piece told rest
+      → Beside (CanTakeIn (with_piece piece) old tree) piece tree old (Followed (Held enter) tree)
+      told rest → EntersTo old tree enter piece told rest
   enters_of old enter beside = record {
     tells = record { pairs = beside.tells.at };
-    leaves = λ segments long. (beside.leaves segments long).at;
+    leaves = λ can segments long. (beside.leaves can segments long).at;
+    takes = beside.takes;
     between = followed_between (Held enter) beside.tells;
     well = beside.well;
   }
 
   pub of_enters : (old : MarkTree) (enter : List ZoneBounds)
       → EntersTo old tree enter piece told rest
-      → Beside piece tree old (Followed (Held enter) tree) told rest
+      → Beside (CanTakeIn (with_piece piece) old tree) piece tree old (Followed (Held enter) tree)
+      told rest
   of_enters old enter enters = record {
     tells = record { at = enters.tells.pairs };
-    leaves = λ segments long. record { at = enters.leaves segments long };
+    leaves = λ can segments long. record { at = enters.leaves can segments long };
+    takes = enters.takes;
     well = enters.well;
   }
 
-  pub of_begins : Begins tree piece told rest → Inner piece tree (MatchesRest tree) told rest
-  of_begins begins = record {
-    tells = record { at = begins.tells.pairs };
-    leaves = λ segments long. record { at = begins.leaves segments long };
-    well = begins.well;
-  }
-
--- What enters at any moment of the piece, where nothing has begun before, is what begins in it.
-module _ (piece : Piece) (tree : PatternTree) (all told : List ZoneBounds) (old rest : MarkTree)
-    (held : HoldExactly all (IsInstantBetween piece.begin (end_of_piece piece)))
-    (nothing : IsUnbegun old tree)
-    (enters : EntersTo old tree all piece told rest) where
+-- What enters at any moment of the piece is what begins in it.
+module _ (piece : Piece) (tree : PatternTree) (all : List ZoneBounds)
+    (held : HoldExactly all (IsInstantBetween piece.begin (end_of_piece piece))) where
   -- From a moment of the piece the matches that begin there follow.
-  from_moment : (R : Rest) (a b n : ℕ) → 0 < n → Followed (Held all) tree R a b n
+  pub from_moment : (R : Rest) (a b n : ℕ) → 0 < n → Followed (Held all) tree R a b n
       → MatchesRest tree R a b n
   from_moment R a b n some h =
       let k = h.factor in
@@ -136,8 +137,8 @@ module _ (piece : Piece) (tree : PatternTree) (all told : List ZoneBounds) (old 
       (Scales-rest tree R).down k a b n h.positive
       (moved (MatchesRest tree R) (sym at.same) refl refl h.right)
 
-  to_moment : (R : Rest) (a b n : ℕ) → 0 < n → piece.begin * n ≤ a → a ≤ end_of_piece piece * n
-      → MatchesRest tree R a b n → Followed (Held all) tree R a b n
+  pub to_moment : (R : Rest) (a b n : ℕ) → 0 < n → piece.begin * n ≤ a
+      → a ≤ end_of_piece piece * n → MatchesRest tree R a b n → Followed (Held all) tree R a b n
   to_moment R a b n some low high h =
       Composed-at (Held all) (MatchesRest tree R) a a b n
       (record {
@@ -146,38 +147,18 @@ module _ (piece : Piece) (tree : PatternTree) (all told : List ZoneBounds) (old 
             (record { starts = low; same = refl; ends = high });
       }) h
 
-  pub begins_of : Begins tree piece told rest
-  begins_of = record {
-    tells = record {
-      pairs = λ a b n some.
-          let P = alone piece in
-          let same = enters.tells.pairs a b n some in (
-            (λ h. from_moment P a b n some (same.0 h)),
-            (λ h.
-                let low = (IsBounded-rest tree P).begin a b n h in
-                let rising = (IsOrdered-rest tree P).le a b n h in
-                let high = tree_ends P tree a b n h in
-                same.1 (to_moment P a b n some low (omega (arith, rising, high)) h)),
-          );
-    };
-    leaves = λ segments long a b n some.
-        let W = over piece segments in
-        let same = enters.leaves segments long a b n some in (
-          (λ h. ⊎_elim
-              (λ x. absurd (nothing.nothing.never tree (behind piece segments) a b n x))
-              (λ x. record {
-                related = from_moment W a b n some x.related;
-                begin = x.begin;
-                end = x.end;
-              }) (same.0 h)),
-          (λ h. same.1 (inr (record {
-            related = to_moment W a b n some ((IsBounded-rest tree W).begin a b n h.related)
-                h.begin h.related;
-            begin = h.begin;
-            end = h.end;
-          }))),
+  -- Over the piece alone these are all matches.
+  pub all_moments : Agree (Followed (Held all) tree (alone piece)) (MatchesRest tree (alone piece))
+  all_moments = record {
+    at = λ a b n some.
+        let P = alone piece in (
+          (λ h. from_moment P a b n some h),
+          (λ h.
+              let low = (IsBounded-rest tree P).begin a b n h in
+              let rising = (IsOrdered-rest tree P).le a b n h in
+              let high = tree_ends P tree a b n h in
+              to_moment P a b n some low (omega (arith, rising, high)) h),
         );
-    well = enters.well;
   }
 
 -- A step and what enters make the whole.
@@ -196,11 +177,12 @@ module _ (piece : Piece) (mark : MarkTree) (tree : PatternTree)
       (agree_either (record { at = steps.tells.pairs }) (record { at = enters.tells.pairs })) in
       record {
         tells = exact_set told (GoesOver mark tree enter piece []) (record { pairs = tells.at });
-        leaves = λ segments a b n long some.
+        leaves = λ can segments a b n long some.
             let W = over piece segments in
-            let same = (agree_then (record { at = enters.leaves segments long })
+            let same = (agree_then
+            (record { at = enters.leaves (steps.takes can) segments long })
             (agree_then
-            (agree_either (record { at = steps.leaves segments long })
+            (agree_either (record { at = steps.leaves can segments long })
             (agree_refl (Crossing T' (Followed (Held enter) tree W))))
             (agree_sym (cross_either T' (Marked W mark tree)
             (Followed (Held enter) tree W))))).at a b n some in (
@@ -215,5 +197,6 @@ module _ (piece : Piece) (mark : MarkTree) (tree : PatternTree)
           end = λ a b n some h. ⊎_elim (λ x. steps.between.end a b n some x)
               (λ x. enters.between.end a b n some x) ((union.pairs a b n some).0 h);
         };
+        takes = λ can. all_later piece rest tree (enters.takes (steps.takes can));
         well = enters.well;
       }

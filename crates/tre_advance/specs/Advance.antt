@@ -1,5 +1,5 @@
 -- What one more piece of a trace makes of a mark.
-use Rattle.std.specs.Prelude.{ℕ, ◌<◌, ◌↔◌, List, []}
+use Rattle.std.specs.Prelude.{ℕ, ◌<◌, ◌↔◌, Some, List, []}
 use Rattle.tre_pairs.specs.Cuts.{Crossing}
 use Rattle.tre_pairs.specs.Pairs.{Pairs, Composed, Either}
 use Rattle.tre_zone.specs.ZoneList.{HoldExactly}
@@ -14,7 +14,7 @@ use Rattle.tre_edges.specs.Piece.{end_of_piece, cut_behind}
 use Rattle.tre_edges.specs.declared.piece.Piece.{Piece}
 use Rattle.tre_zone.specs.Held.{Held}
 use Rattle.tre_mark.specs.MarkTree.{MarkTree}
-use Rattle.tre_mark.specs.Marked.{Marked, EndBetween, IsWellAt}
+use Rattle.tre_mark.specs.Marked.{Since, since, CanTakeIn, Marked, EndBetween, IsWellAt}
 
 -- The pairs of the mark, and those of the set that a match of the expression follows.
 abbrev pub Goes : Rest → MarkTree → PatternTree → List ZoneBounds → Pairs
@@ -31,14 +31,24 @@ unfoldable pub MarkedBehind : MarkTree → PatternTree → Piece → List Segmen
 MarkedBehind mark tree piece segments a b n =
     Marked (back_of (cut_behind piece segments)) mark tree a b n
 
+-- Where the piece begins, and where it ends, nothing more is read yet.
+abbrev pub before_piece : Piece → Since
+before_piece piece = since piece.begin piece.before []
+
+abbrev pub after_piece : Piece → Since
+after_piece piece = since (end_of_piece piece) (Some piece.segment.val) []
+
 -- The mark went over the piece, and the pairs of the set entered on the way. Told are exactly the
 -- pairs where the piece alone comes. What is left is a mark at the end of the piece, and whatever
--- comes behind the piece it stands for exactly those that end as the piece ends or later.
+-- comes behind the piece it stands for exactly those that end as the piece ends or later: so it is
+-- of a mark that can take in what begins later, and it can do so again.
 pub record Advances (mark : MarkTree) (tree : PatternTree) (enter : List ZoneBounds) (piece : Piece)
     (told : List ZoneBounds) (rest : MarkTree) : Type 0 where
   pub tells : HoldExactly told (GoesOver mark tree enter piece [])
-  pub leaves : (segments : List Segment) (a b n : ℕ) → AreLong segments → 0 < n
+  pub leaves : CanTakeIn (before_piece piece) mark tree → (segments : List Segment) (a b n : ℕ)
+      → AreLong segments → 0 < n
       → MarkedBehind rest tree piece segments a b n
       ↔ Crossing (end_of_piece piece) (GoesOver mark tree enter piece segments) a b n
+  pub takes : CanTakeIn (before_piece piece) mark tree → CanTakeIn (after_piece piece) rest tree
   pub between : EndBetween piece.begin (end_of_piece piece) told
   pub well : IsWellAt (end_of_piece piece) rest tree

@@ -1,48 +1,59 @@
--- What becomes of the instances of an intersection or a restriction.
-use Rattle.std.specs.Prelude.{◌≡◌, ℕ, ◌+◌, ◌<◌, ◌⊎◌, List, MatchOption}
-use Rattle.tre_pairs.specs.Pairs.{Composed, Either, Both, Lasting}
-use Rattle.tre_zone.specs.Held.{Held, IsSetOf}
+-- What an intersection or a restriction stands for that has begun, and what is left of it.
+use Rattle.std.specs.Prelude.{◌≡◌, ℕ, ◌+◌, ◌<◌, ◌↔◌, List, MatchOption}
+use Rattle.tre_pairs.specs.Pairs.{Composed, Both, Lasting}
+use Rattle.tre_zone.specs.Held.{Held}
 use Rattle.tre_zone.specs.Interval.{IntervalEnds, LastsWithin}
 use Rattle.tre_zone.specs.declared.zone_bounds.ZoneBounds.{ZoneBounds}
-use Rattle.tre_mark.specs.MarkTree.{MarkTree, atom_mark, sequence_mark, alternation_mark, repetition_mark, intersection_none, intersection_one, restriction_none, restriction_one}
-use Rattle.tre_mark.specs.Marked.{IsBare}
+use Rattle.tre_syntax.specs.PatternTree.{PatternTree, intersection, restriction}
+use Rattle.tre_syntax.specs.Rest.{Rest}
+use Rattle.tre_mark.specs.MarkTree.{MarkTree}
+use Rattle.tre_mark.specs.Marked.{Since, IsOpen, AnyDuration, CanTakeIn, Marked, IsWellAt}
 
--- The instances of the one, and then those of the other.
-abbrev pub join : MarkTree → MarkTree → MarkTree
-join (atom_mark here begun) end = atom_mark here begun
-join (sequence_mark one other) end = sequence_mark one other
-join (alternation_mark one other) end = alternation_mark one other
-join (repetition_mark here body) end = repetition_mark here body
-join intersection_none end = end
-join (intersection_one to outer one other others) end =
-    intersection_one to outer one other (join others end)
-join restriction_none end = end
-join (restriction_one to outer one others) end =
-    restriction_one to outer one (join others end)
+-- The mark of a restriction stands for a pair of `outer` and then one of `body` that lasts as long
+-- as the interval says. It can take in what begins later only where `body` can.
+pub record IsRestriction (tree : PatternTree) (interval : IntervalEnds)
+    (outer : List ZoneBounds) (body mark : MarkTree) : Type 0 where
+  pub pairs : (rest : Rest) (a b n : ℕ) → 0 < n
+      → Marked rest mark (restriction tree interval) a b n
+      ↔ Composed (Held outer) (Lasting (LastsWithin interval) (Marked rest body tree)) a b n
+  pub takes : (read : Since) → CanTakeIn read mark (restriction tree interval)
+      → IsOpen read (LastsWithin interval) outer body tree × CanTakeIn read body tree
+
+-- The same of an intersection, and of both its sides.
+pub record IsIntersection (left right : PatternTree) (outer : List ZoneBounds)
+    (one other mark : MarkTree) : Type 0 where
+  pub pairs : (rest : Rest) (a b n : ℕ) → 0 < n
+      → Marked rest mark (intersection left right) a b n
+      ↔ Composed (Held outer) (Both (Marked rest one left) (Marked rest other right)) a b n
+  pub takes : (read : Since) → CanTakeIn read mark (intersection left right)
+      → IsOpen read AnyDuration outer one left × IsOpen read AnyDuration outer other right
+      × CanTakeIn read one left × CanTakeIn read other right
+
+-- What is left at the time of a restriction stands for the same pairs, is well, and can take in
+-- what begins later where `body` can.
+pub record LeavesRestriction (time : ℕ) (interval : IntervalEnds) (outer : List ZoneBounds)
+    (body mark : MarkTree) : Type 0 where
+  pub pairs : (tree : PatternTree) (rest : Rest) → rest.start ≡ time → (a b n : ℕ) → 0 < n
+      → Marked rest mark (restriction tree interval) a b n
+      ↔ Composed (Held outer) (Lasting (LastsWithin interval) (Marked rest body tree)) a b n
+  pub well : (tree : PatternTree) → IsWellAt time body tree
+      → IsWellAt time mark (restriction tree interval)
+  pub takes : (tree : PatternTree) (read : Since)
+      → IsOpen read (LastsWithin interval) outer body tree → CanTakeIn read body tree
+      → CanTakeIn read mark (restriction tree interval)
+
+-- What is left of an intersection.
+pub record LeavesIntersection (time : ℕ) (outer : List ZoneBounds) (one other mark : MarkTree)
+    : Type 0 where
+  pub pairs : (left right : PatternTree) (rest : Rest) (a b n : ℕ) → 0 < n
+      → Marked rest mark (intersection left right) a b n
+      ↔ Composed (Held outer) (Both (Marked rest one left) (Marked rest other right)) a b n
+  pub well : (left right : PatternTree) → IsWellAt time one left → IsWellAt time other right
+      → IsWellAt time mark (intersection left right)
+  pub takes : (left right : PatternTree) (read : Since) → IsOpen read AnyDuration outer one left
+      → IsOpen read AnyDuration outer other right → CanTakeIn read one left
+      → CanTakeIn read other right → CanTakeIn read mark (intersection left right)
 
 -- What begins at `to` is too long for the interval where it ends at the time or later.
 abbrev pub IsPast : ℕ → IntervalEnds → ℕ → Type 0
 IsPast to interval time = MatchOption interval.high ⊥ (λ high. to + high < time)
-
--- Another instance of a restriction told what its mark did, as far as it is in the interval, and
--- was kept at the time unless it is too old or nothing is left of it.
-pub record KeepsLasting (interval : IntervalEnds) (time : ℕ) (old_told : List ZoneBounds)
-    (old_rest : MarkTree) (to : ℕ) (outer told : List ZoneBounds) (rest : MarkTree)
-    (new_told : List ZoneBounds) (new_rest : MarkTree) : Type 0 where
-  pub tells : IsSetOf new_told
-      (Either (Held old_told) (Composed (Held outer) (Lasting (LastsWithin interval) (Held told))))
-  pub keeps : ((new_rest ≡ join old_rest (restriction_one to outer rest restriction_none))
-      × (IsPast to interval time → ⊥) × (IsBare rest → ⊥))
-      ⊎ ((new_rest ≡ old_rest) × (IsBare rest ⊎ IsPast to interval time))
-
--- Another instance of an intersection told what both its marks did, and was kept unless nothing is
--- left of one of them.
-pub record KeepsBoth (old_told : List ZoneBounds) (old_rest : MarkTree) (to : ℕ)
-    (outer told told' : List ZoneBounds) (rest rest' : MarkTree) (new_told : List ZoneBounds)
-    (new_rest : MarkTree) : Type 0 where
-  pub tells : IsSetOf new_told
-      (Either (Held old_told) (Composed (Held outer) (Both (Held told) (Held told'))))
-  pub keeps :
-      ((new_rest ≡ join old_rest (intersection_one to outer rest rest' intersection_none))
-      × (IsBare rest → ⊥) × (IsBare rest' → ⊥))
-      ⊎ ((new_rest ≡ old_rest) × (IsBare rest ⊎ IsBare rest'))

@@ -1,8 +1,9 @@
 -- What a reader must believe: which pairs a mark goes on with over a piece of a trace, and what it
 -- tells of them and leaves (Advances).
 pub mod Advance
--- What the functions inside promise each other: what becomes of an instance (KeepsLasting,
--- KeepsBoth), and what a mark does where nothing enters (StepsTo), what enters does (EntersTo), and
--- what begins in a piece (Begins).
+-- What the functions inside promise each other: what an intersection or a restriction stands for
+-- and what is left of it (Instances), what can no longer count in an interval (Shortening), what a
+-- mark does where nothing enters (StepsTo), and what enters does (EntersTo).
 pub mod Instances
+pub mod Shortening
 pub mod Moves

@@ -1,5 +1,5 @@
 -- What a mark does over a piece where nothing enters, and what enters does.
-use Rattle.std.specs.Prelude.{◌≡◌, ℕ, ◌<◌, ◌↔◌, List, []}
+use Rattle.std.specs.Prelude.{◌≡◌, ℕ, ◌<◌, ◌↔◌, List, [], ◌∷◌}
 use Rattle.tre_pairs.specs.Cuts.{Crossing}
 use Rattle.tre_pairs.specs.Pairs.{Composed, Either, Both}
 use Rattle.tre_zone.specs.Held.{Held, IsSetOf}
@@ -7,21 +7,29 @@ use Rattle.tre_zone.specs.Zone.{EndsAt}
 use Rattle.tre_zone.specs.declared.zone_bounds.ZoneBounds.{ZoneBounds}
 use Rattle.tre_trace.specs.Trace.{AreLong}
 use Rattle.tre_trace.specs.declared.segment.Segment.{Segment}
-use Rattle.tre_syntax.specs.Cut.{uncut, back_of, MatchesAcross}
+use Rattle.tre_syntax.specs.Cut.{uncut, back_of}
 use Rattle.tre_syntax.specs.Meaning.{MatchesRest}
 use Rattle.tre_syntax.specs.PatternTree.{PatternTree, empty, literal, rise, fall, atom}
 use Rattle.tre_edges.specs.declared.piece.Piece.{Piece}
 use Rattle.tre_mark.specs.MarkTree.{MarkTree, repetition_mark}
-use Rattle.tre_mark.specs.Marked.{Marked, EndBetween, IsWellAt}
+use Rattle.tre_mark.specs.Marked.{Since, since, CanTakeIn, Marked, EndBetween, IsWellAt}
 use Rattle.tre_edges.specs.Piece.{end_of_piece, cut_behind}
+use Rattle.tre_advance.specs.Advance.{before_piece}
 
--- The mark went over the piece, and nothing entered.
+-- What is read with the piece, from its begin on.
+abbrev pub with_piece : Piece → Since
+with_piece piece = since piece.begin piece.before (piece.segment ∷ [])
+
+-- The mark went over the piece, and nothing entered. What is left is told of a mark that can take
+-- in what begins later, and can do so again.
 pub record StepsTo (mark : MarkTree) (tree : PatternTree) (piece : Piece) (told : List ZoneBounds)
     (rest : MarkTree) : Type 0 where
   pub tells : IsSetOf told (Marked (uncut (cut_behind piece [])) mark tree)
-  pub leaves : (segments : List Segment) → AreLong segments → (a b n : ℕ) → 0 < n
+  pub leaves : CanTakeIn (before_piece piece) mark tree → (segments : List Segment)
+      → AreLong segments → (a b n : ℕ) → 0 < n
       → Marked (back_of (cut_behind piece segments)) rest tree a b n
       ↔ Crossing (end_of_piece piece) (Marked (uncut (cut_behind piece segments)) mark tree) a b n
+  pub takes : CanTakeIn (before_piece piece) mark tree → CanTakeIn (with_piece piece) rest tree
   pub between : EndBetween piece.begin (end_of_piece piece) told
   pub well : IsWellAt (end_of_piece piece) rest tree
 
@@ -30,22 +38,14 @@ pub record StepsTo (mark : MarkTree) (tree : PatternTree) (piece : Piece) (told 
 pub record EntersTo (old : MarkTree) (tree : PatternTree) (enter : List ZoneBounds) (piece : Piece)
     (told : List ZoneBounds) (rest : MarkTree) : Type 0 where
   pub tells : IsSetOf told (Composed (Held enter) (MatchesRest tree (uncut (cut_behind piece []))))
-  pub leaves : (segments : List Segment) → AreLong segments → (a b n : ℕ) → 0 < n
+  pub leaves : CanTakeIn (with_piece piece) old tree → (segments : List Segment)
+      → AreLong segments → (a b n : ℕ) → 0 < n
       → Marked (back_of (cut_behind piece segments)) rest tree a b n
       ↔ Either (Marked (back_of (cut_behind piece segments)) old tree)
       (Crossing (end_of_piece piece)
       (Composed (Held enter) (MatchesRest tree (uncut (cut_behind piece segments))))) a b n
+  pub takes : CanTakeIn (with_piece piece) old tree → CanTakeIn (with_piece piece) rest tree
   pub between : EndBetween piece.begin (end_of_piece piece) told
-  pub well : IsWellAt (end_of_piece piece) rest tree
-
--- The matches that begin in the piece: told are those inside it, and the mark at its end stands for
--- those that begin up to there and end then or later.
-pub record Begins (tree : PatternTree) (piece : Piece) (told : List ZoneBounds) (rest : MarkTree)
-    : Type 0 where
-  pub tells : IsSetOf told (MatchesRest tree (uncut (cut_behind piece [])))
-  pub leaves : (segments : List Segment) → AreLong segments → (a b n : ℕ) → 0 < n
-      → Marked (back_of (cut_behind piece segments)) rest tree a b n
-      ↔ MatchesAcross tree (cut_behind piece segments) a b n
   pub well : IsWellAt (end_of_piece piece) rest tree
 
 -- The mark of a repetition has the pairs that it had and those of the set that end at the time.

@@ -1,25 +1,28 @@
 // What enters a mark in a piece.
-ghost use Rattle.std.specs.Prelude.{◌≡◌, ◌≤◌, ◌⊎◌, [], IfOk};
+ghost use Rattle.std.specs.Prelude.{List, ◌⊎◌, IfOk};
+ghost use Rattle.tre_pairs.specs.Pairs.{Either};
 ghost use Rattle.tre_state.specs.declared.names.TheConstants.{NAMES_MAX};
 ghost use Rattle.tre_syntax.specs.Expr.{tree_of};
 ghost use Rattle.tre_syntax.specs.PatternTree.{PatternTree, NumbersBelow, sequence, alternation, intersection, repetition, restriction};
-ghost use Rattle.tre_zone.specs.Held.{IsLatest};
+ghost use Rattle.tre_zone.specs.Held.{Held, EndBy, IsSetOf};
 ghost use Rattle.tre_zone.specs.Zone.{IsInstantBetween};
 ghost use Rattle.tre_zone.specs.ZoneList.{HoldExactly};
-ghost use Rattle.tre_mark.specs.MarkTree.{mark_of, intersection_none, restriction_none, instances_before};
+ghost use Rattle.tre_zone.specs.declared.zone_bounds.ZoneBounds.{ZoneBounds};
+ghost use Rattle.tre_mark.specs.MarkTree.{MarkTree, mark_of};
 ghost use Rattle.tre_mark.specs.Marked.{EndBetween, IsWellAt, IsUnbegun};
 ghost use Rattle.tre_edges.specs.Piece.{end_of_piece};
-ghost use Rattle.tre_advance.specs.Moves.{EntersTo, Begins, IsBriefTree, IsLiteralTree};
+ghost use Rattle.tre_advance.specs.Instances.{IsRestriction, IsIntersection};
+ghost use Rattle.tre_advance.specs.Moves.{EntersTo, IsBriefTree, IsLiteralTree};
 
 use crate::atoms::{enter_brief, enter_literal};
-use crate::instances::{Kept, keep_both, keep_lasting};
-use crate::sets::united;
+use crate::instances::{leave_both, leave_lasting, tell_both, tell_lasting};
+use crate::sets::joined_ends;
 use crate::stepping::{Advanced, either, enter_in_turn, leave_again, repeat};
 use std::alloc::{AllocError, Global};
 use tre_edges::Piece;
-use tre_mark::{Instances, Mark, moments};
+use tre_mark::{Mark, moments};
 use tre_syntax::Expr;
-use tre_zone::{Interval, latest_end};
+use tre_zone::Interval;
 use tre_zoneset::ZoneSet;
 
 /// What is told of the pairs that enter in the piece, and the mark at its end together with them.
@@ -153,23 +156,69 @@ fn enter_intersection(
         (intersection (tree_of left.now) (tree_of right.now)) }
     requires well { IsWellAt (end_of_piece piece.now) (mark_of mark)
         (intersection (tree_of left.now) (tree_of right.now)) }
-    requires some { zones.now ≡ [] → ⊥ }
     requires enter { EndBetween piece.now.begin (end_of_piece piece.now) zones.now }
     ensures { IfOk result (λ r. EntersTo (mark_of mark)
         (intersection (tree_of left.now) (tree_of right.now)) zones.now piece.now r.told
         (mark_of r.rest)) }
 {
     match mark {
-        Mark::Meet(instances) => {
-            let all = moments_of(alloc, piece)?;
-            let empty_left = unbegun(alloc, left, piece)?;
-            let one = enter(alloc, empty_left, left, &all, piece)?;
-            let empty_right = unbegun(alloc, right, piece)?;
-            let other = enter(alloc, empty_right, right, &all, piece)?;
-            enter_both(alloc, instances, one, other, zones, piece)
+        Mark::NoMeet => {
+            let one = unbegun(alloc, left, piece)?;
+            let other = unbegun(alloc, right, piece)?;
+            take_both(
+                alloc,
+                ZoneSet::new(alloc),
+                one,
+                other,
+                left,
+                right,
+                zones,
+                piece,
+            )
+        }
+        Mark::Meet {
+            outer,
+            left: one,
+            right: other,
+            ..
+        } => {
+            let one = Box::into_inner(one);
+            let other = Box::into_inner(other);
+            take_both(alloc, outer, one, other, left, right, zones, piece)
         }
         _ => unreachable!(),
     }
+}
+
+// An intersection that began behind each pair of `outer`, and begins behind each pair of the set
+// too: every moment of the piece enters both its sides.
+#[cycle(enter)]
+fn take_both(
+    alloc: Global,
+    outer: ZoneSet,
+    one: Mark,
+    other: Mark,
+    left: &Expr,
+    right: &Expr,
+    zones: &ZoneSet,
+    piece: &Piece,
+) -> Result<Advanced, AllocError>
+    requires numbers { NumbersBelow NAMES_MAX
+        (intersection (tree_of left.now) (tree_of right.now)) }
+    requires one { IsWellAt (end_of_piece piece.now) (mark_of one) (tree_of left.now) }
+    requires other { IsWellAt (end_of_piece piece.now) (mark_of other) (tree_of right.now) }
+    requires ends { EndBy (end_of_piece piece.now) outer }
+    requires enter { EndBetween piece.now.begin (end_of_piece piece.now) zones.now }
+    ensures { IfOk result (λ r. (mark : MarkTree)
+        → IsIntersection (tree_of left.now) (tree_of right.now) outer (mark_of one)
+        (mark_of other) mark
+        → EntersTo mark (intersection (tree_of left.now) (tree_of right.now)) zones.now piece.now
+        r.told (mark_of r.rest)) }
+{
+    let all = moments_of(alloc, piece)?;
+    let first = enter(alloc, one, left, &all, piece)?;
+    let second = enter(alloc, other, right, &all, piece)?;
+    begin_both(alloc, outer, first, second, zones, piece)
 }
 
 #[cycle(enter)]
@@ -184,21 +233,60 @@ fn enter_restriction(
     requires numbers { NumbersBelow NAMES_MAX (restriction (tree_of body.now) interval.now) }
     requires well { IsWellAt (end_of_piece piece.now) (mark_of mark)
         (restriction (tree_of body.now) interval.now) }
-    requires some { zones.now ≡ [] → ⊥ }
     requires enter { EndBetween piece.now.begin (end_of_piece piece.now) zones.now }
     ensures { IfOk result (λ r. EntersTo (mark_of mark)
         (restriction (tree_of body.now) interval.now) zones.now piece.now r.told
         (mark_of r.rest)) }
 {
     match mark {
-        Mark::Within(instances) => {
-            let all = moments_of(alloc, piece)?;
-            let empty = unbegun(alloc, body, piece)?;
-            let begun = enter(alloc, empty, body, &all, piece)?;
-            enter_lasting(alloc, instances, begun, interval, zones, piece)
+        Mark::NoWithin => {
+            let inner = unbegun(alloc, body, piece)?;
+            take_lasting(
+                alloc,
+                ZoneSet::new(alloc),
+                inner,
+                body,
+                interval,
+                zones,
+                piece,
+            )
+        }
+        Mark::Within {
+            outer,
+            body: inner,
+            ..
+        } => {
+            let inner = Box::into_inner(inner);
+            take_lasting(alloc, outer, inner, body, interval, zones, piece)
         }
         _ => unreachable!(),
     }
+}
+
+// A restriction that began behind each pair of `outer`, and begins behind each pair of the set too:
+// every moment of the piece enters its body.
+#[cycle(enter)]
+fn take_lasting(
+    alloc: Global,
+    outer: ZoneSet,
+    inner: Mark,
+    body: &Expr,
+    interval: &Interval,
+    zones: &ZoneSet,
+    piece: &Piece,
+) -> Result<Advanced, AllocError>
+    requires numbers { NumbersBelow NAMES_MAX (tree_of body.now) }
+    requires well { IsWellAt (end_of_piece piece.now) (mark_of inner) (tree_of body.now) }
+    requires ends { EndBy (end_of_piece piece.now) outer }
+    requires enter { EndBetween piece.now.begin (end_of_piece piece.now) zones.now }
+    ensures { IfOk result (λ r. (mark : MarkTree)
+        → IsRestriction (tree_of body.now) interval.now outer (mark_of inner) mark
+        → EntersTo mark (restriction (tree_of body.now) interval.now) zones.now piece.now r.told
+        (mark_of r.rest)) }
+{
+    let all = moments_of(alloc, piece)?;
+    let begun = enter(alloc, inner, body, &all, piece)?;
+    begin_lasting(alloc, outer, begun, interval, zones, piece)
 }
 
 fn enter_atom(
@@ -243,75 +331,71 @@ fn unbegun(alloc: Global, expr: &Expr, piece: &Piece) -> Result<Mark, AllocError
     Mark::empty(alloc, expr)
 }
 
-// The first tick by which each pair that enters in the piece has ended.
-fn entered_by(zones: &ZoneSet, piece: &Piece) -> u64
-    requires { EndBetween piece.now.begin (end_of_piece piece.now) zones.now }
-    ensures latest { IsLatest result zones.now }
-    ensures past { result ≤ end_of_piece piece.now }
-{
-    latest_end(zones.zones())
-}
-
-// A restriction that begins behind each pair of the set.
-fn enter_lasting(
+// A restriction begins behind each pair of the set, and began behind each pair of `outer`; its body
+// was entered at every moment of the piece.
+fn begin_lasting(
     alloc: Global,
-    instances: Instances,
+    outer: ZoneSet,
     begun: Advanced,
     interval: &Interval,
     zones: &ZoneSet,
     piece: &Piece,
 ) -> Result<Advanced, AllocError>
-    requires some { zones.now ≡ [] → ⊥ }
+    requires ends { EndBy (end_of_piece piece.now) outer }
     requires enter { EndBetween piece.now.begin (end_of_piece piece.now) zones.now }
-    ensures { IfOk result (λ r. (tree : PatternTree)
-        → IsWellAt (end_of_piece piece.now) (instances_before instances restriction_none)
-        (restriction tree interval.now)
-        → Begins tree piece.now begun.told (mark_of begun.rest)
-        → EntersTo (instances_before instances restriction_none)
-        (restriction tree interval.now) zones.now piece.now r.told (mark_of r.rest)) }
+    ensures { IfOk result (λ r. (tree : PatternTree) (all : List ZoneBounds) (one mark : MarkTree)
+        → HoldExactly all (IsInstantBetween piece.now.begin (end_of_piece piece.now))
+        → EntersTo one tree all piece.now begun.told (mark_of begun.rest)
+        → IsRestriction tree interval.now outer one mark
+        → EntersTo mark (restriction tree interval.now) zones.now piece.now r.told
+        (mark_of r.rest)) }
 {
     let end = piece.begin + piece.segment.len;
-    let to = entered_by(zones, piece);
-    let kept = Kept {
-        told: Vec::new(alloc),
-        rest: instances,
-    };
-    let kept = keep_lasting(alloc, kept, to, zones, begun, interval, end)?;
-    let told = united(alloc, kept.told)?;
-    Ok(Advanced {
-        told,
-        rest: Mark::Within(kept.rest),
-    })
+    let told = tell_lasting(alloc, zones, &begun.told, interval)?;
+    let outer = entered(alloc, outer, zones, piece)?;
+    let rest = leave_lasting(alloc, outer, begun.rest, interval, end)?;
+    Ok(Advanced { told, rest })
 }
 
-// An intersection that begins behind each pair of the set.
-fn enter_both(
+// The same of an intersection.
+fn begin_both(
     alloc: Global,
-    instances: Instances,
-    one: Advanced,
-    other: Advanced,
+    outer: ZoneSet,
+    first: Advanced,
+    second: Advanced,
     zones: &ZoneSet,
     piece: &Piece,
 ) -> Result<Advanced, AllocError>
-    requires some { zones.now ≡ [] → ⊥ }
+    requires ends { EndBy (end_of_piece piece.now) outer }
     requires enter { EndBetween piece.now.begin (end_of_piece piece.now) zones.now }
-    ensures { IfOk result (λ r. (left right : PatternTree)
-        → IsWellAt (end_of_piece piece.now) (instances_before instances intersection_none)
-        (intersection left right)
-        → Begins left piece.now one.told (mark_of one.rest)
-        → Begins right piece.now other.told (mark_of other.rest)
-        → EntersTo (instances_before instances intersection_none) (intersection left right)
-        zones.now piece.now r.told (mark_of r.rest)) }
+    ensures { IfOk result (λ r. (left right : PatternTree) (all : List ZoneBounds)
+        (one other mark : MarkTree)
+        → HoldExactly all (IsInstantBetween piece.now.begin (end_of_piece piece.now))
+        → EntersTo one left all piece.now first.told (mark_of first.rest)
+        → EntersTo other right all piece.now second.told (mark_of second.rest)
+        → IsIntersection left right outer one other mark
+        → EntersTo mark (intersection left right) zones.now piece.now r.told (mark_of r.rest)) }
 {
-    let to = entered_by(zones, piece);
-    let kept = Kept {
-        told: Vec::new(alloc),
-        rest: instances,
-    };
-    let kept = keep_both(alloc, kept, to, zones, one, other)?;
-    let told = united(alloc, kept.told)?;
-    Ok(Advanced {
-        told,
-        rest: Mark::Meet(kept.rest),
-    })
+    let end = piece.begin + piece.segment.len;
+    let told = tell_both(alloc, zones, &first.told, &second.told)?;
+    let outer = entered(alloc, outer, zones, piece)?;
+    let rest = leave_both(alloc, outer, first.rest, second.rest, end)?;
+    Ok(Advanced { told, rest })
+}
+
+// The pairs behind which something began before or begins in the piece, in as few zones as may be.
+fn entered(
+    alloc: Global,
+    outer: ZoneSet,
+    zones: &ZoneSet,
+    piece: &Piece,
+) -> Result<ZoneSet, AllocError>
+    requires ends { EndBy (end_of_piece piece.now) outer }
+    requires enter { EndBetween piece.now.begin (end_of_piece piece.now) zones.now }
+    ensures union { IfOk result (λ whole.
+        IsSetOf whole (Either (Held outer) (Held zones.now))) }
+    ensures ends { IfOk result (λ whole. EndBy (end_of_piece piece.now) whole) }
+{
+    let zones = zones.try_clone()?;
+    joined_ends(alloc, outer, zones)
 }

@@ -3,8 +3,9 @@
 //! [`advance`] goes once over a mark and its expression. It tells, as zones, exactly the pairs that
 //! are decided by the piece, and leaves the mark at the end of the piece: whatever comes behind it,
 //! that mark stands for exactly the pairs that are still open. Pairs may enter on the way, at any
-//! moment of the piece. The layer above may rely on the cost: that of the expression, and of the
-//! instances that are still alive, however long the trace was.
+//! moment of the piece: an intersection or a restriction that has begun takes them in. The layer
+//! above may rely on the cost: that of the expression and of the sets in its mark, however long the
+//! trace was.
 //!
 //! ```
 //! let advanced = advance(alloc, &mark, expr, &enter, &piece)?;
@@ -17,6 +18,7 @@ mod atoms;
 mod enter;
 mod instances;
 mod sets;
+mod shortening;
 mod step;
 mod stepping;
 

@@ -9,7 +9,7 @@ ghost use Rattle.tre_zone.specs.Zone.{IsInstantBetween, EndsAt};
 
 use std::alloc::{AllocError, Global};
 use tre_star::{closure, compose_sets};
-use tre_zone::{Interval, Zone};
+use tre_zone::Interval;
 use tre_zoneset::ZoneSet;
 
 /// The pairs of the first set, each followed by one of the second.
@@ -52,23 +52,6 @@ pub fn joined_ends(alloc: Global, one: ZoneSet, other: ZoneSet) -> Result<ZoneSe
         return Ok(other);
     }
     ZoneSet::of_both(alloc, &one, &other)
-}
-
-/// The list with the zones of the set at its end: lists that are to become a set.
-pub fn gathered(zones: Vec<Zone>, more: &ZoneSet) -> Result<Vec<Zone>, AllocError>
-    ensures { IfOk result (λ all.
-        IsSetOf all.items (Either (Held zones.items) (Held more.now))) }
-{
-    let mut all = zones;
-    all.extend_from_slice(more.zones())?;
-    Ok(all)
-}
-
-/// One set of what the zones of a list hold.
-pub fn united(alloc: Global, zones: Vec<Zone>) -> Result<ZoneSet, AllocError>
-    ensures { IfOk result (λ set. IsSetOf set (Held zones.items)) }
-{
-    ZoneSet::of_zones(alloc, zones)
 }
 
 /// The pairs of both sets.

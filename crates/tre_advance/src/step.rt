@@ -1,22 +1,22 @@
 // The step of a mark over a piece in which nothing enters.
-ghost use Rattle.std.specs.Prelude.{◌≡◌, ◌≤◌, ◌⊎◌, IfOk};
+ghost use Rattle.std.specs.Prelude.{ℕ, ◌⊎◌, IfOk};
 ghost use Rattle.tre_state.specs.declared.names.TheConstants.{NAMES_MAX};
 ghost use Rattle.tre_syntax.specs.Expr.{tree_of};
 ghost use Rattle.tre_syntax.specs.PatternTree.{PatternTree, NumbersBelow, sequence, alternation, intersection, repetition, restriction};
+ghost use Rattle.tre_zone.specs.Held.{EndBy};
 ghost use Rattle.tre_zone.specs.Interval.{IntervalEnds};
-ghost use Rattle.tre_mark.specs.MarkTree.{MarkTree, mark_of, intersection_none, intersection_one, restriction_none, instance_before, instances_before};
+ghost use Rattle.tre_mark.specs.MarkTree.{MarkTree, mark_of, intersection_none, intersection_one, restriction_none, restriction_one};
 ghost use Rattle.tre_mark.specs.Marked.{IsWellAt};
-ghost use Rattle.tre_advance.specs.Instances.{join};
+ghost use Rattle.tre_edges.specs.declared.piece.Piece.{Piece};
 ghost use Rattle.tre_advance.specs.Moves.{StepsTo, IsBriefTree, IsLiteralTree};
 
 use crate::atoms::{step_brief, step_literal};
 use crate::enter::enter;
-use crate::instances::{Kept, keep_both, keep_lasting};
-use crate::sets::united;
+use crate::instances::{leave_both, leave_lasting, tell_both, tell_lasting};
 use crate::stepping::{Advanced, either, leave_again, step_in_turn, tell_again};
 use std::alloc::{AllocError, Global};
 use tre_edges::Piece;
-use tre_mark::{Instance, Instances, Mark};
+use tre_mark::Mark;
 use tre_syntax::Expr;
 use tre_zone::Interval;
 use tre_zoneset::ZoneSet;
@@ -132,20 +132,20 @@ fn step_intersection(
         (intersection (tree_of left.now) (tree_of right.now)) piece.now r.told
         (mark_of r.rest)) }
 {
-    let instances = instances_of_both(mark, left, right, piece);
-    let mut kept = nothing_kept(alloc);
-    for instance in instances.items() {
-        let one = left_of(instance, left, right, piece);
-        let other = right_of(instance, left, right, piece);
-        let first = step(alloc, one, left, piece)?;
-        let second = step(alloc, other, right, piece)?;
-        kept = go_on_both(alloc, kept, instance, first, second)?;
+    match mark {
+        Mark::NoMeet => Ok(no_intersection(alloc)),
+        Mark::Meet {
+            outer,
+            left: one,
+            right: other,
+            ..
+        } => {
+            let first = step(alloc, one, left, piece)?;
+            let second = step(alloc, other, right, piece)?;
+            go_on_both(alloc, outer, first, second, piece)
+        }
+        _ => unreachable!(),
     }
-    let told = united(alloc, kept.told)?;
-    Ok(Advanced {
-        told,
-        rest: Mark::Meet(kept.rest),
-    })
 }
 
 #[cycle(step)]
@@ -162,18 +162,18 @@ fn step_restriction(
     ensures { IfOk result (λ r. StepsTo (mark_of mark.now)
         (restriction (tree_of body.now) interval.now) piece.now r.told (mark_of r.rest)) }
 {
-    let instances = instances_of_lasting(mark, body, interval, piece);
-    let mut kept = nothing_kept(alloc);
-    for instance in instances.items() {
-        let inner = body_of(instance, body, interval, piece);
-        let next = step(alloc, inner, body, piece)?;
-        kept = go_on_lasting(alloc, kept, instance, next, interval, piece)?;
+    match mark {
+        Mark::NoWithin => Ok(no_restriction(alloc)),
+        Mark::Within {
+            outer,
+            body: inner,
+            ..
+        } => {
+            let next = step(alloc, inner, body, piece)?;
+            go_on_lasting(alloc, outer, next, interval, piece)
+        }
+        _ => unreachable!(),
     }
-    let told = united(alloc, kept.told)?;
-    Ok(Advanced {
-        told,
-        rest: Mark::Within(kept.rest),
-    })
 }
 
 fn step_atom(alloc: Global, mark: &Mark, expr: &Expr, piece: &Piece) -> Result<Advanced, AllocError>
@@ -192,135 +192,69 @@ fn step_atom(alloc: Global, mark: &Mark, expr: &Expr, piece: &Piece) -> Result<A
     }
 }
 
-// The instances of an intersection.
-fn instances_of_both<'a>(mark: &'a Mark, left: &Expr, right: &Expr, piece: &Piece) -> &'a Instances
-    requires { IsWellAt piece.now.begin (mark_of mark.now)
-        (intersection (tree_of left.now) (tree_of right.now)) }
-    ensures { mark_of mark.now ≡ instances_before result.now intersection_none }
+// An intersection that has not begun tells nothing.
+fn no_intersection(alloc: Global) -> Advanced
+    ensures { (left right : PatternTree) (piece : Piece)
+        → StepsTo intersection_none (intersection left right) piece result.told
+        (mark_of result.rest) }
 {
-    match mark {
-        Mark::Meet(instances) => instances,
-        _ => unreachable!(),
+    Advanced {
+        told: ZoneSet::new(alloc),
+        rest: Mark::NoMeet,
     }
 }
 
-// The instances of a restriction.
-fn instances_of_lasting<'a>(
-    mark: &'a Mark,
-    body: &Expr,
-    interval: &Interval,
+// A restriction that has not begun tells nothing.
+fn no_restriction(alloc: Global) -> Advanced
+    ensures { (tree : PatternTree) (interval : IntervalEnds) (piece : Piece)
+        → StepsTo restriction_none (restriction tree interval) piece result.told
+        (mark_of result.rest) }
+{
+    Advanced {
+        told: ZoneSet::new(alloc),
+        rest: Mark::NoWithin,
+    }
+}
+
+// An intersection goes on as both its sides do.
+fn go_on_both(
+    alloc: Global,
+    outer: &ZoneSet,
+    first: Advanced,
+    second: Advanced,
     piece: &Piece,
-) -> &'a Instances
-    requires { IsWellAt piece.now.begin (mark_of mark.now)
-        (restriction (tree_of body.now) interval.now) }
-    ensures { mark_of mark.now ≡ instances_before result.now restriction_none }
+) -> Result<Advanced, AllocError>
+    requires { EndBy piece.now.begin outer.now }
+    ensures { IfOk result (λ r. (to : ℕ) (one other : MarkTree) (left right : PatternTree)
+        → StepsTo one left piece.now first.told (mark_of first.rest)
+        → StepsTo other right piece.now second.told (mark_of second.rest)
+        → StepsTo (intersection_one to outer.now one other) (intersection left right) piece.now
+        r.told (mark_of r.rest)) }
 {
-    match mark {
-        Mark::Within(instances) => instances,
-        _ => unreachable!(),
-    }
+    let end = piece.begin + piece.segment.len;
+    let told = tell_both(alloc, outer, &first.told, &second.told)?;
+    let outer = outer.try_clone()?;
+    let rest = leave_both(alloc, outer, first.rest, second.rest, end)?;
+    Ok(Advanced { told, rest })
 }
 
-// No instance has told anything, and none is left.
-fn nothing_kept(alloc: Global) -> Kept
-    ensures lasting { (tree : PatternTree) (interval : IntervalEnds) (piece : Piece)
-        → StepsTo restriction_none (restriction tree interval) piece result.told.items
-        (instances_before result.rest restriction_none) }
-    ensures both { (left right : PatternTree) (piece : Piece)
-        → StepsTo intersection_none (intersection left right) piece result.told.items
-        (instances_before result.rest intersection_none) }
-{
-    Kept {
-        told: Vec::new(alloc),
-        rest: Instances::new(alloc),
-    }
-}
-
-// One more instance of a restriction goes on.
+// A restriction goes on as its body does.
 fn go_on_lasting(
     alloc: Global,
-    kept: Kept,
-    instance: &Instance,
+    outer: &ZoneSet,
     next: Advanced,
     interval: &Interval,
     piece: &Piece,
-) -> Result<Kept, AllocError>
-    requires { instance.now.to ≤ piece.now.begin }
-    ensures { IfOk result (λ new. (is : MarkTree) (tree : PatternTree)
-        → IsWellAt piece.now.begin is (restriction tree interval.now)
-        → IsWellAt piece.now.begin (instance_before instance.now restriction_none)
-        (restriction tree interval.now)
-        → StepsTo is (restriction tree interval.now) piece.now kept.told.items
-        (instances_before kept.rest restriction_none)
-        → StepsTo (mark_of instance.now.left.value) tree piece.now next.told (mark_of next.rest)
-        → StepsTo (join is (instance_before instance.now restriction_none))
-        (restriction tree interval.now) piece.now new.told.items
-        (instances_before new.rest restriction_none)) }
+) -> Result<Advanced, AllocError>
+    requires { EndBy piece.now.begin outer.now }
+    ensures { IfOk result (λ r. (to : ℕ) (one : MarkTree) (tree : PatternTree)
+        → StepsTo one tree piece.now next.told (mark_of next.rest)
+        → StepsTo (restriction_one to outer.now one) (restriction tree interval.now) piece.now
+        r.told (mark_of r.rest)) }
 {
     let end = piece.begin + piece.segment.len;
-    let outer = &instance.outer;
-    keep_lasting(alloc, kept, instance.to, outer, next, interval, end)
-}
-
-// The mark of what an instance restricts.
-fn body_of<'a>(instance: &'a Instance, body: &Expr, interval: &Interval, piece: &Piece) -> &'a Mark
-    requires { IsWellAt piece.now.begin (instance_before instance.now restriction_none)
-        (restriction (tree_of body.now) interval.now) }
-    ensures same { result.now ≡ instance.now.left.value }
-    ensures well { IsWellAt piece.now.begin (mark_of result.now) (tree_of body.now) }
-    ensures begun { instance.now.to ≤ piece.now.begin }
-{
-    &instance.left
-}
-
-// The mark of the left side of an instance of an intersection.
-fn left_of<'a>(instance: &'a Instance, left: &Expr, right: &Expr, piece: &Piece) -> &'a Mark
-    requires { IsWellAt piece.now.begin (instance_before instance.now intersection_none)
-        (intersection (tree_of left.now) (tree_of right.now)) }
-    ensures same { result.now ≡ instance.now.left.value }
-    ensures well { IsWellAt piece.now.begin (mark_of result.now) (tree_of left.now) }
-{
-    &instance.left
-}
-
-// The mark of its right side.
-fn right_of<'a>(instance: &'a Instance, left: &Expr, right: &Expr, piece: &Piece) -> &'a Mark
-    requires { IsWellAt piece.now.begin (instance_before instance.now intersection_none)
-        (intersection (tree_of left.now) (tree_of right.now)) }
-    ensures shape { (others : MarkTree) → instance_before instance.now others
-        ≡ intersection_one instance.now.to instance.now.outer
-        (mark_of instance.now.left.value) (mark_of result.now) others }
-    ensures well { IsWellAt piece.now.begin (mark_of result.now) (tree_of right.now) }
-{
-    match &instance.right {
-        Some(other) => other,
-        None => unreachable!(),
-    }
-}
-
-// One more instance of an intersection goes on.
-fn go_on_both(
-    alloc: Global,
-    kept: Kept,
-    instance: &Instance,
-    first: Advanced,
-    second: Advanced,
-) -> Result<Kept, AllocError>
-    ensures { IfOk result (λ new. (is other : MarkTree) (left right : PatternTree) (piece : Piece)
-        → IsWellAt piece.begin is (intersection left right)
-        → IsWellAt piece.begin (instance_before instance.now intersection_none)
-        (intersection left right)
-        → ((others : MarkTree) → instance_before instance.now others
-        ≡ intersection_one instance.now.to instance.now.outer
-        (mark_of instance.now.left.value) other others)
-        → StepsTo is (intersection left right) piece kept.told.items
-        (instances_before kept.rest intersection_none)
-        → StepsTo (mark_of instance.now.left.value) left piece first.told (mark_of first.rest)
-        → StepsTo other right piece second.told (mark_of second.rest)
-        → StepsTo (join is (instance_before instance.now intersection_none))
-        (intersection left right) piece new.told.items
-        (instances_before new.rest intersection_none)) }
-{
-    let outer = &instance.outer;
-    keep_both(alloc, kept, instance.to, outer, first, second)
+    let told = tell_lasting(alloc, outer, &next.told, interval)?;
+    let outer = outer.try_clone()?;
+    let rest = leave_lasting(alloc, outer, next.rest, interval, end)?;
+    Ok(Advanced { told, rest })
 }

@@ -6,4 +6,5 @@ pub mod Standing
 -- and so what is fresh, and what a step makes of each form
 pub mod AcrossPieces
 pub mod StepsOfForms
-pub mod MarkSteps
+-- and what marks stand for, form by form
+pub mod MarkForms

@@ -10,7 +10,7 @@ use Rattle.tre_syntax.specs.Meaning.{MatchesRest}
 use Rattle.tre_syntax.specs.PatternTree.{PatternTree}
 use Rattle.tre_edges.specs.Piece.{rest_of_piece, end_of_piece, cut_behind}
 use Rattle.tre_edges.specs.declared.piece.Piece.{Piece}
-use Rattle.tre_residual.specs.Residual.{ResidualTree, preceded, Means, IsWellAt, Builds}
+use Rattle.tre_residual.specs.Residual.{ResidualTree, nothing, preceded, Means, IsWellAt, Builds}
 
 -- R, to the time or to a later one.
 pub record EndingFrom (time : ℕ) (R : Pairs) (a b n : ℕ) : Type 0 where
@@ -46,3 +46,7 @@ pub record ComesAfter (tree : PatternTree) (piece : Piece) (residual whole : Res
   pub zones : List ZoneBounds
   pub inside : HoldExactly zones (MatchesRest tree (rest_of_piece piece))
   pub builds : Builds whole (preceded zones residual)
+
+-- The same of a residual that stands for nothing.
+abbrev pub IsStepOfNothing : List ZoneBounds → ResidualTree → Type 0
+IsStepOfNothing told rest = (piece : Piece) → StepsTo nothing piece told rest

@@ -3,18 +3,14 @@ ghost use Rattle.std.specs.Prelude.{IfOk};
 ghost use Rattle.tre_syntax.specs.Expr.{tree_of};
 ghost use Rattle.tre_syntax.specs.PatternTree.{NumbersBelow};
 ghost use Rattle.tre_edges.specs.declared.piece.Piece.{Piece};
-ghost use Rattle.tre_residual.specs.Residual.{ResidualTree, joined, preceded, followed, either, both, lasting, marked, residual_tree};
-ghost use Rattle.tre_mark.specs.MarkTree.{mark_of};
-ghost use Rattle.tre_mark.specs.Marked.{IsWellAt};
+ghost use Rattle.tre_residual.specs.Residual.{ResidualTree, joined, preceded, followed, either, both, lasting, residual_tree};
 ghost use Rattle.tre_derive.specs.Derivative.{StepsTo};
 
 use crate::beginning::fresh;
 use crate::parts::followed_by;
 use crate::stepped::Stepped;
 use std::alloc::{AllocError, Global};
-use tre_advance::advance;
 use tre_edges::Piece;
-use tre_mark::Mark;
 use tre_offline::local;
 use tre_residual::{Residual, composed};
 use tre_state::NAMES_MAX;
@@ -110,21 +106,4 @@ pub fn restrict(alloc: Global, inner: Stepped, interval: &Interval) -> Result<St
     let told = inner.told.within(interval)?;
     let rest = Residual::dur(alloc, inner.rest, *interval)?;
     Ok(Stepped { told, rest })
-}
-
-/// What a mark stands for: it goes over the piece, and nothing enters.
-pub fn go_on(alloc: Global, mark: &Mark, expr: &Expr, piece: &Piece) -> Result<Stepped, AllocError>
-    requires numbers { NumbersBelow NAMES_MAX (tree_of expr.now) }
-    requires well { IsWellAt piece.now.begin (mark_of mark.now) (tree_of expr.now) }
-    ensures { IfOk result (λ whole.
-        StepsTo (marked (mark_of mark.now) (tree_of expr.now)) piece.now whole.told
-        (residual_tree whole.rest)) }
-{
-    let advanced = advance(alloc, mark, expr, &ZoneSet::new(alloc), piece)?;
-    let expr = expr.try_clone(alloc)?;
-    let rest = Residual::mark(alloc, advanced.rest, expr)?;
-    Ok(Stepped {
-        told: advanced.told,
-        rest,
-    })
 }

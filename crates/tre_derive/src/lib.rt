@@ -16,6 +16,7 @@ pub use stepping::step;
 
 mod beginning;
 mod forms;
+mod marks;
 mod parts;
 mod rows;
 mod sets;

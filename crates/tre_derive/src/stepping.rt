@@ -3,7 +3,8 @@ ghost use Rattle.std.specs.Prelude.{IfOk};
 ghost use Rattle.tre_residual.specs.Residual.{residual_tree, IsWellAt};
 ghost use Rattle.tre_derive.specs.Derivative.{StepsTo};
 
-use crate::forms::{begin_now, choose, follow, go_on, meet, precede, restrict};
+use crate::forms::{begin_now, choose, follow, meet, precede, restrict};
+use crate::marks::go_on;
 use crate::stepped::Stepped;
 use std::alloc::{AllocError, Global};
 use tre_edges::Piece;

@@ -112,24 +112,17 @@ module _ (cut : CutRest) where
       (Implies-Composed (Marked P body tree) (Marked W body tree)
       (MatchesRest (repetition tree) P) (MatchesRest (repetition tree) W) (mark_grows body tree)
       (tree_grows (repetition tree)))
-  mark_grows (intersection_one to outer one other others) (intersection left right) =
+  mark_grows (intersection_one to outer one other) (intersection left right) =
       let Rp = Both (Marked P one left) (Marked P other right) in
       let R = Both (Marked W one left) (Marked W other right) in
-      Implies-Either (Composed (Held outer) Rp) (Composed (Held outer) R)
-      (Marked P others (intersection left right)) (Marked W others (intersection left right))
-      (Implies-Composed (Held outer) (Held outer) Rp R (Implies-same (Held outer))
+      Implies-Composed (Held outer) (Held outer) Rp R (Implies-same (Held outer))
       (Implies-Both (Marked P one left) (Marked W one left) (Marked P other right)
-      (Marked W other right) (mark_grows one left) (mark_grows other right)))
-      (mark_grows others (intersection left right))
-  mark_grows (restriction_one to outer one others) (restriction tree ends) =
+      (Marked W other right) (mark_grows one left) (mark_grows other right))
+  mark_grows (restriction_one to outer body) (restriction tree ends) =
       let D = LastsWithin ends in
-      Implies-Either (Composed (Held outer) (Lasting D (Marked P one tree)))
-      (Composed (Held outer) (Lasting D (Marked W one tree)))
-      (Marked P others (restriction tree ends)) (Marked W others (restriction tree ends))
-      (Implies-Composed (Held outer) (Held outer) (Lasting D (Marked P one tree))
-      (Lasting D (Marked W one tree)) (Implies-same (Held outer))
-      (Implies-Lasting D (Marked P one tree) (Marked W one tree) (mark_grows one tree)))
-      (mark_grows others (restriction tree ends))
+      Implies-Composed (Held outer) (Held outer) (Lasting D (Marked P body tree))
+      (Lasting D (Marked W body tree)) (Implies-same (Held outer))
+      (Implies-Lasting D (Marked P body tree) (Marked W body tree) (mark_grows body tree))
   mark_grows mark tree = record { at = λ a b n h. absurd h }
 
   pub mark_early : (mark : MarkTree) (tree : PatternTree)
@@ -162,28 +155,21 @@ module _ (cut : CutRest) where
       (MatchesRest (repetition tree) W) (MatchesRest (repetition tree) P)
       (IsOrdered-rest (repetition tree) W) (mark_early body tree)
       (tree_early (repetition tree)))
-  mark_early (intersection_one to outer one other others) (intersection left right) =
+  mark_early (intersection_one to outer one other) (intersection left right) =
       let Rp = Both (Marked P one left) (Marked P other right) in
       let R = Both (Marked W one left) (Marked W other right) in
-      ImpliesBefore-Either T' (Composed (Held outer) R) (Composed (Held outer) Rp)
-      (Marked W others (intersection left right)) (Marked P others (intersection left right))
-      (ImpliesBefore-Composed T' (Held outer) (Held outer) R Rp
+      ImpliesBefore-Composed T' (Held outer) (Held outer) R Rp
       (record { le = λ a b n h. (IsOrdered-Marked W one left).le a b n h.left })
       (Before-same T' (Held outer))
       (ImpliesBefore-Both T' (Marked W one left) (Marked P one left) (Marked W other right)
-      (Marked P other right) (mark_early one left) (mark_early other right)))
-      (mark_early others (intersection left right))
-  mark_early (restriction_one to outer one others) (restriction tree ends) =
+      (Marked P other right) (mark_early one left) (mark_early other right))
+  mark_early (restriction_one to outer body) (restriction tree ends) =
       let D = LastsWithin ends in
-      ImpliesBefore-Either T' (Composed (Held outer) (Lasting D (Marked W one tree)))
-      (Composed (Held outer) (Lasting D (Marked P one tree)))
-      (Marked W others (restriction tree ends)) (Marked P others (restriction tree ends))
-      (ImpliesBefore-Composed T' (Held outer) (Held outer) (Lasting D (Marked W one tree))
-      (Lasting D (Marked P one tree))
-      (IsOrdered-Lasting D (Marked W one tree) (IsOrdered-Marked W one tree))
+      ImpliesBefore-Composed T' (Held outer) (Held outer) (Lasting D (Marked W body tree))
+      (Lasting D (Marked P body tree))
+      (IsOrdered-Lasting D (Marked W body tree) (IsOrdered-Marked W body tree))
       (Before-same T' (Held outer))
-      (ImpliesBefore-Lasting T' D (Marked W one tree) (Marked P one tree) (mark_early one tree)))
-      (mark_early others (restriction tree ends))
+      (ImpliesBefore-Lasting T' D (Marked W body tree) (Marked P body tree) (mark_early body tree))
   mark_early mark tree = record { at = λ a b n early h. absurd h }
 
 module _ (rest : Rest) where
@@ -225,13 +211,10 @@ module _ (rest : Rest) where
       (λ y. tree_ends (repetition tree) (rest.start * n) b n y.right)
       (λ y. ends_composed (Marked rest body tree) (MatchesRest (repetition tree) rest)
       (tree_ends (repetition tree)) a b n y) h
-  mark_ends le (intersection_one to outer one other others) (intersection left right) a b n h =
-      ⊎_elim
-      (λ y. ends_composed (Held outer) (Both (Marked rest one left) (Marked rest other right))
-      (λ a b n z. mark_ends le one left a b n z.left) a b n y)
-      (λ y. mark_ends le others (intersection left right) a b n y) h
-  mark_ends le (restriction_one to outer one others) (restriction tree ends) a b n h = ⊎_elim
-      (λ y. ends_composed (Held outer) (Lasting (LastsWithin ends) (Marked rest one tree))
-      (λ a b n z. mark_ends le one tree a b n z.related) a b n y)
-      (λ y. mark_ends le others (restriction tree ends) a b n y) h
+  mark_ends le (intersection_one to outer one other) (intersection left right) a b n h =
+      ends_composed (Held outer) (Both (Marked rest one left) (Marked rest other right))
+      (λ a b n z. mark_ends le one left a b n z.left) a b n h
+  mark_ends le (restriction_one to outer body) (restriction tree ends) a b n h =
+      ends_composed (Held outer) (Lasting (LastsWithin ends) (Marked rest body tree))
+      (λ a b n z. mark_ends le body tree a b n z.related) a b n h
   mark_ends le mark tree a b n h = absurd h

@@ -1,5 +1,3 @@
--- the instances of a mark as a list
-pub mod Lists
 -- relations that hold of the same pairs
 pub mod Agreeing
 -- what a mark means speaks of times
@@ -8,7 +6,5 @@ pub mod Meanings
 pub mod Growth
 -- marks of which nothing has begun, and marks that start
 pub mod Starts
--- results
-pub mod Results
 -- how large marks are
 pub mod NodeCounts

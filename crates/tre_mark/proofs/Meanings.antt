@@ -77,20 +77,16 @@ module _ (rest : Rest) where
       Scales-Either (JoinedAt T (Held here) R) (Composed (Marked rest body tree) R)
       (Scales-JoinedAt T (Held here) R (Scales-Held here) r)
       (Scales-Composed (Marked rest body tree) R (Scales-Marked body tree) r)
-  Scales-Marked (intersection_one to outer one other others) (intersection left right) =
-      let R = Both (Marked rest one left) (Marked rest other right) in
-      Scales-Either (Composed (Held outer) R) (Marked rest others (intersection left right))
-      (Scales-Composed (Held outer) R (Scales-Held outer)
+  Scales-Marked (intersection_one to outer one other) (intersection left right) =
+      Scales-Composed (Held outer) (Both (Marked rest one left) (Marked rest other right))
+      (Scales-Held outer)
       (Scales-Both (Marked rest one left) (Marked rest other right) (Scales-Marked one left)
-      (Scales-Marked other right)))
-      (Scales-Marked others (intersection left right))
-  Scales-Marked (restriction_one to outer one others) (restriction tree ends) =
-      let R = Lasting (LastsWithin ends) (Marked rest one tree) in
-      Scales-Either (Composed (Held outer) R) (Marked rest others (restriction tree ends))
-      (Scales-Composed (Held outer) R (Scales-Held outer)
-      (Scales-Lasting (LastsWithin ends) (Marked rest one tree) (DurationScales-LastsWithin ends)
-      (Scales-Marked one tree)))
-      (Scales-Marked others (restriction tree ends))
+      (Scales-Marked other right))
+  Scales-Marked (restriction_one to outer body) (restriction tree ends) =
+      Scales-Composed (Held outer) (Lasting (LastsWithin ends) (Marked rest body tree))
+      (Scales-Held outer)
+      (Scales-Lasting (LastsWithin ends) (Marked rest body tree) (DurationScales-LastsWithin ends)
+      (Scales-Marked body tree))
   Scales-Marked mark tree = record {
     up = λ k a b n pos h. absurd h;
     down =
@@ -147,16 +143,12 @@ module _ (rest : Rest) where
       ⊎_elim
       (λ x. around_joined (Held here) R (IsOrdered-Held here) r a b n x)
       (λ x. around_composed (Marked rest body tree) R r a b n (around_present body tree) x) h
-  around_present (intersection_one to outer one other others) (intersection left right)
-      a b n h = ⊎_elim
-      (λ x. around_behind (Held outer) (Both (Marked rest one left) (Marked rest other right))
-      (IsOrdered-Held outer) a b n (λ a b n y. around_present one left a b n y.left) x)
-      (λ x. around_present others (intersection left right) a b n x) h
-  around_present (restriction_one to outer one others) (restriction tree ends) a b n h =
-      ⊎_elim
-      (λ x. around_behind (Held outer) (Lasting (LastsWithin ends) (Marked rest one tree))
-      (IsOrdered-Held outer) a b n (λ a b n y. around_present one tree a b n y.related) x)
-      (λ x. around_present others (restriction tree ends) a b n x) h
+  around_present (intersection_one to outer one other) (intersection left right) a b n h =
+      around_behind (Held outer) (Both (Marked rest one left) (Marked rest other right))
+      (IsOrdered-Held outer) a b n (λ a b n y. around_present one left a b n y.left) h
+  around_present (restriction_one to outer body) (restriction tree ends) a b n h =
+      around_behind (Held outer) (Lasting (LastsWithin ends) (Marked rest body tree))
+      (IsOrdered-Held outer) a b n (λ a b n y. around_present body tree a b n y.related) h
   around_present mark tree a b n h = absurd h
 
   pub IsOrdered-Marked : (mark : MarkTree) (tree : PatternTree) → IsOrdered (Marked rest mark tree)

@@ -7,6 +7,7 @@ use Rattle.tre_pairs.proofs.Laws.{Scales, Agree}
 use Rattle.tre_pairs.proofs.Scaling.{moved, Scales-Composed, Scales-Both, Scales-Lasting}
 use Rattle.tre_zone.specs.Held.{Held, EndAt}
 use Rattle.tre_zone.proofs.HeldSets.{Scales-Held, Held-empty}
+use Rattle.tre_syntax.specs.Cut.{back_of}
 use Rattle.tre_syntax.specs.Meaning.{MatchesRest}
 use Rattle.tre_syntax.specs.PatternTree.{Atom, PatternTree, empty, literal, rise, fall, atom, sequence, alternation, intersection, repetition, restriction}
 use Rattle.tre_syntax.specs.Rest.{Rest, rest_of}
@@ -20,7 +21,7 @@ use Rattle.tre_zone.proofs.LatestEnds.{latest_at}
 use Rattle.tre_zone.proofs.ZoneListLemmas.{SetHolds-empty}
 use Rattle.tre_zone.specs.declared.zone_bounds.ZoneBounds.{ZoneBounds}
 use Rattle.tre_mark.specs.MarkTree.{MarkTree, atom_mark, sequence_mark, alternation_mark, repetition_mark, intersection_none, intersection_one, restriction_none, restriction_one}
-use Rattle.tre_mark.specs.Marked.{Marked, IsBare, IsBegun, IsNothing, IsUnbegun, IsEntered, IsEnteredAt, IsInReach, IsStart}
+use Rattle.tre_mark.specs.Marked.{Since, since, cut_since, IsOpen, AnyDuration, CanTakeIn, Marked, IsBare, IsBegun, IsNothing, IsUnbegun, IsEntered, IsEnteredAt, IsInReach, IsStart}
 use Rattle.tre_mark.proofs.Agreeing.{agree_refl, agree_sym, agree_then, agree_composed, agree_assoc, joined_composed}
 
 pub end_at_none : (time : ℕ) → EndAt time []
@@ -89,9 +90,9 @@ bare_nothing (repetition_mark here body) bare =
     (sym (ap (λ list. repetition_mark list body) bare.0))
     (nothing_repetition body (bare_nothing body bare.1))
 bare_nothing intersection_none bare = nothing_intersection
-bare_nothing (intersection_one to outer one other others) bare = absurd bare
+bare_nothing (intersection_one to outer one other) bare = absurd bare
 bare_nothing restriction_none bare = nothing_restriction
-bare_nothing (restriction_one to outer one others) bare = absurd bare
+bare_nothing (restriction_one to outer body) bare = absurd bare
 
 begun_none : (time : ℕ) (x : Atom) → IsBegun time [] x
 begun_none time empty = refl
@@ -132,7 +133,7 @@ unbegun_repetition body tree inner = record {
 
 -- ---- marks that start
 
--- What nothing is left of has no instance.
+-- Of what nothing is left, nothing has begun.
 bare_entered : (time : ℕ) (mark : MarkTree) → IsBare mark → IsEnteredAt time mark
 bare_entered time (atom_mark here begun) bare = tt
 bare_entered time (sequence_mark one other) bare =
@@ -141,9 +142,33 @@ bare_entered time (alternation_mark one other) bare =
     (bare_entered time one bare.0, bare_entered time other bare.1)
 bare_entered time (repetition_mark here body) bare = bare_entered time body bare.1
 bare_entered time intersection_none bare = tt
-bare_entered time (intersection_one to outer one other others) bare = absurd bare
+bare_entered time (intersection_one to outer one other) bare = absurd bare
 bare_entered time restriction_none bare = tt
-bare_entered time (restriction_one to outer one others) bare = absurd bare
+bare_entered time (restriction_one to outer body) bare = absurd bare
+
+-- It can take in whatever begins later.
+pub bare_open : (read : Since) (mark : MarkTree) (tree : PatternTree) → IsBare mark
+    → CanTakeIn read mark tree
+bare_open read (sequence_mark one other) (sequence left right) bare =
+    (bare_open read one left bare.0, bare_open read other right bare.1)
+bare_open read (alternation_mark one other) (alternation left right) bare =
+    (bare_open read one left bare.0, bare_open read other right bare.1)
+bare_open read (repetition_mark here body) (repetition tree) bare =
+    bare_open read body tree bare.1
+bare_open read (intersection_one to outer one other) (intersection left right) bare = absurd bare
+bare_open read (restriction_one to outer body) (restriction tree ends) bare = absurd bare
+bare_open read mark tree bare = tt
+
+-- So does a mark without any pair, behind no pair.
+pub nothing_open : (read : Since) (admitted : ℕ → ℕ → Type 0) (outer : List ZoneBounds)
+    (mark : MarkTree) (tree : PatternTree) → outer ≡ [] → IsNothing mark
+    → IsOpen read admitted outer mark tree
+nothing_open read admitted outer mark tree none nothing = record {
+  sound = λ segments a b n long some from h.
+      absurd (nothing.never tree (back_of (cut_since read segments)) a b n h);
+  complete = λ segments a m b n long some held from last h.
+      absurd (Held-empty a m n (subst (λ (list : List ZoneBounds). Held list a m n) none held));
+}
 
 module _ (time : ℕ) (zones : List ZoneBounds) (ends : EndAt time zones) where
   pub start_atom : (x : Atom) → IsStart time zones (atom_mark zones []) (atom x)
@@ -155,6 +180,7 @@ module _ (time : ℕ) (zones : List ZoneBounds) (ends : EndAt time zones) where
     well = record { well = (ends, begun_none time x) };
     entered = tt;
     some = λ filled bare. filled bare.0;
+    takes = λ before. tt;
   }
 
   pub start_sequence : (one other : MarkTree) (left right : PatternTree)
@@ -182,6 +208,8 @@ module _ (time : ℕ) (zones : List ZoneBounds) (ends : EndAt time zones) where
     well = record { well = (first.well.well, (second.well time).well) };
     entered = (first.entered, bare_entered time other second.bare);
     some = λ filled bare. first.some filled bare.0;
+    takes = λ before.
+        (first.takes before, bare_open (since time before []) other right second.bare);
   }
 
   pub start_alternation : (one other : MarkTree) (left right : PatternTree)
@@ -201,6 +229,7 @@ module _ (time : ℕ) (zones : List ZoneBounds) (ends : EndAt time zones) where
     well = record { well = (first.well.well, second.well.well) };
     entered = (first.entered, second.entered);
     some = λ filled bare. first.some filled bare.0;
+    takes = λ before. (first.takes before, second.takes before);
   }
 
   pub start_repetition : (body : MarkTree) (tree : PatternTree) → IsUnbegun body tree
@@ -216,6 +245,7 @@ module _ (time : ℕ) (zones : List ZoneBounds) (ends : EndAt time zones) where
     well = record { well = (ends, (inner.well time).well) };
     entered = bare_entered time body inner.bare;
     some = λ filled bare. filled bare.0;
+    takes = λ before. bare_open (since time before []) body tree inner.bare;
   }
 
   entered_now : AreTight zones → (zones ≡ [] → ⊥) → IsEntered time time zones
@@ -267,6 +297,7 @@ start_nothing time zones mark tree none unbegun = record {
   well = unbegun.well time;
   entered = bare_entered time mark unbegun.bare;
   some = λ filled bare. filled none;
+  takes = λ before. bare_open (since time before []) mark tree unbegun.bare;
 }
 
 in_reach_of : (time : ℕ) (high : Option ℕ)
@@ -304,6 +335,21 @@ module _ (time : ℕ) (moment : List ZoneBounds) (held : HoldExactly moment
         right = moved (MatchesRest tree (rest_of time before segments)) is refl refl h;
       })
 
+-- It can take in what begins later.
+module _ (time : ℕ) (moment : List ZoneBounds) (held : HoldExactly moment
+    (IsInstantBetween time time))
+    (mark : MarkTree) (tree : PatternTree) (start : IsStart time moment mark tree) where
+  pub start_open : (before : Option ℕ) (admitted : ℕ → ℕ → Type 0) (outer : List ZoneBounds)
+      → IsOpen (since time before []) admitted outer mark tree
+  start_open before admitted outer = record {
+    sound = λ segments a b n long some from h.
+        from_moment time moment held mark tree start before segments a b n some h;
+    complete = λ segments a m b n long some behind from last h.
+        let up_to = h.begin in
+        to_moment time moment held mark tree start before segments m b n some
+        (omega (arith, from, up_to)) h.related;
+  }
+
 -- There is a moment from a time to itself.
 moment_some : (time : ℕ) (moment : List ZoneBounds)
     → HoldExactly moment (IsInstantBetween time time) → moment ≡ [] → ⊥
@@ -317,15 +363,14 @@ module _ (time : ℕ) (zones : List ZoneBounds) (tight : AreTight zones)
     (moment : List ZoneBounds) (held : HoldExactly moment (IsInstantBetween time time)) where
   pub start_restriction : (body : MarkTree) (tree : PatternTree) (interval : IntervalEnds)
       → IsStart time moment body tree
-      → IsStart time zones (restriction_one time zones body restriction_none)
-      (restriction tree interval)
+      → IsStart time zones (restriction_one time zones body) (restriction tree interval)
   start_restriction body tree interval start = record {
     pairs = λ before segments a b n some.
         let rest = rest_of time before segments in
         let D = LastsWithin interval in
         let R = MatchesRest tree rest in
         let S = Marked rest body tree in
-        let same = (after_now time zones ends before segments (Lasting D R) (Lasting D S)
+        (after_now time zones ends before segments (Lasting D R) (Lasting D S)
         (Scales-Lasting D R (DurationScales-LastsWithin interval) (Scales-rest tree rest))
         (λ a b n some h. record {
           related = from_moment time moment held body tree start before segments a b n some
@@ -336,31 +381,32 @@ module _ (time : ℕ) (zones : List ZoneBounds) (tight : AreTight zones)
           related = to_moment time moment held body tree start before segments a b n some is
               h.related;
           admitted = h.admitted;
-        })).at a b n some in
-        ((λ h. ⊎_elim (λ x. same.0 x) (λ x. absurd x) h), (λ h. inl (same.1 h)));
+        })).at a b n some;
     well = record {
       well = (
         entered_now time zones ends tight filled,
         in_reach time interval,
         start.well.well,
-        tt,
         start.some (moment_some time moment held),
       );
     };
-    entered = (refl, ends, start.entered, tt);
+    entered = (refl, ends, start.entered);
     some = λ filled bare. bare;
+    takes = λ before. (
+      start_open time moment held body tree start before (LastsWithin interval) zones,
+      start.takes before,
+    );
   }
 
   pub start_intersection : (one other : MarkTree) (left right : PatternTree)
       → IsStart time moment one left → IsStart time moment other right
-      → IsStart time zones (intersection_one time zones one other intersection_none)
-      (intersection left right)
+      → IsStart time zones (intersection_one time zones one other) (intersection left right)
   start_intersection one other left right first second = record {
     pairs = λ before segments a b n some.
         let rest = rest_of time before segments in
         let R = Both (MatchesRest left rest) (MatchesRest right rest) in
         let S = Both (Marked rest one left) (Marked rest other right) in
-        let same = (after_now time zones ends before segments R S
+        (after_now time zones ends before segments R S
         (Scales-Both (MatchesRest left rest) (MatchesRest right rest) (Scales-rest left rest)
         (Scales-rest right rest))
         (λ a b n some h. record {
@@ -372,20 +418,24 @@ module _ (time : ℕ) (zones : List ZoneBounds) (tight : AreTight zones)
           left = to_moment time moment held one left first before segments a b n some is h.left;
           right = to_moment time moment held other right second before segments a b n some is
               h.right;
-        })).at a b n some in
-        ((λ h. ⊎_elim (λ x. same.0 x) (λ x. absurd x) h), (λ h. inl (same.1 h)));
+        })).at a b n some;
     well = record {
       well = (
         entered_now time zones ends tight filled,
         first.well.well,
         second.well.well,
-        tt,
         first.some (moment_some time moment held),
         second.some (moment_some time moment held),
       );
     };
-    entered = (refl, ends, first.entered, second.entered, tt);
+    entered = (refl, ends, first.entered, second.entered);
     some = λ filled bare. bare;
+    takes = λ before. (
+      start_open time moment held one left first before AnyDuration zones,
+      start_open time moment held other right second before AnyDuration zones,
+      first.takes before,
+      second.takes before,
+    );
   }
 
 -- ---- the same under other names

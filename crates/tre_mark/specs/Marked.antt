@@ -1,11 +1,13 @@
 -- What a mark means over a rest of a trace, and when it is well.
-use Rattle.std.specs.Prelude.{◌≡◌, ℕ, ◌+◌, ◌*◌, ◌<◌, ◌≤◌, ◌↔◌, List, [], MatchOption, Option}
+use Rattle.std.specs.Prelude.{◌≡◌, ℕ, ◌+◌, ◌-◌, ◌*◌, ◌<◌, ◌≤◌, ◌↔◌, List, [], MatchOption, Option}
 use Rattle.tre_pairs.specs.Cuts.{IsMoment, JoinedAt}
 use Rattle.tre_pairs.specs.Pairs.{Pairs, Composed, Either, Both, Lasting}
 use Rattle.tre_zone.specs.Held.{Held, EndAt, IsLatest}
+use Rattle.tre_syntax.specs.Cut.{CutRest, uncut, back_of, MatchesAcross}
 use Rattle.tre_syntax.specs.Meaning.{MatchesRest}
 use Rattle.tre_syntax.specs.PatternTree.{Atom, PatternTree, empty, literal, rise, fall, atom, sequence, alternation, intersection, repetition, restriction}
 use Rattle.tre_syntax.specs.Rest.{Rest, rest_of}
+use Rattle.tre_trace.specs.Trace.{AreLong}
 use Rattle.tre_trace.specs.declared.segment.Segment.{Segment}
 use Rattle.tre_zone.specs.Interval.{IntervalEnds, LastsWithin}
 use Rattle.tre_zone.specs.declared.zone_bounds.ZoneBounds.{ZoneBounds}
@@ -33,13 +35,60 @@ Marked rest (alternation_mark one other) (alternation left right) a b n =
 Marked rest (repetition_mark here body) (repetition tree) a b n =
     Either (JoinedAt rest.start (Held here) (MatchesRest (repetition tree) rest))
     (Composed (Marked rest body tree) (MatchesRest (repetition tree) rest)) a b n
-Marked rest (intersection_one to outer one other others) (intersection left right) a b n =
-    Either (Composed (Held outer) (Both (Marked rest one left) (Marked rest other right)))
-    (Marked rest others (intersection left right)) a b n
-Marked rest (restriction_one to outer one others) (restriction tree ends) a b n =
-    Either (Composed (Held outer) (Lasting (LastsWithin ends) (Marked rest one tree)))
-    (Marked rest others (restriction tree ends)) a b n
+Marked rest (intersection_one to outer one other) (intersection left right) a b n =
+    Composed (Held outer) (Both (Marked rest one left) (Marked rest other right)) a b n
+Marked rest (restriction_one to outer body) (restriction tree ends) a b n =
+    Composed (Held outer) (Lasting (LastsWithin ends) (Marked rest body tree)) a b n
 Marked rest mark tree a b n = ⊥
+
+-- What was read of a trace from the time `start` on, and what held before that.
+pub record Since : Type 0 where
+  pub start : ℕ
+  pub before : Option ℕ
+  pub front : List Segment
+
+abbrev pub since : ℕ → Option ℕ → List Segment → Since
+since start before front = record { start = start; before = before; front = front }
+
+-- The rest of the trace from there on, cut where what was read ends; these segments come behind it.
+abbrev pub cut_since : Since → List Segment → CutRest
+cut_since read segments = record {
+  start = read.start;
+  before = read.before;
+  front = read.front;
+  back = segments;
+}
+
+-- The mark serves the pairs of `outer` and those that come later and end at the start or then. Of
+-- what begins at the start or later it stands for matches alone, and where a pair of `outer` ends
+-- there, for all of them that last as long as is admitted.
+pub record IsOpen (read : Since) (admitted : ℕ → ℕ → Type 0) (outer : List ZoneBounds)
+    (mark : MarkTree) (tree : PatternTree) : Type 0 where
+  pub sound : (segments : List Segment) (a b n : ℕ) → AreLong segments → 0 < n
+      → read.start * n ≤ a → Marked (back_of (cut_since read segments)) mark tree a b n
+      → MatchesRest tree (uncut (cut_since read segments)) a b n
+  pub complete : (segments : List Segment) (a m b n : ℕ) → AreLong segments → 0 < n
+      → Held outer a m n → read.start * n ≤ m → admitted (b - m) n
+      → MatchesAcross tree (cut_since read segments) m b n
+      → Marked (back_of (cut_since read segments)) mark tree m b n
+
+-- Every duration.
+abbrev pub AnyDuration : ℕ → ℕ → Type 0
+AnyDuration d n = Unit {0}
+
+-- Each intersection and each restriction that has begun can take in what begins later.
+abbrev pub CanTakeIn : Since → MarkTree → PatternTree → Type 0
+CanTakeIn read (sequence_mark one other) (sequence left right) =
+    CanTakeIn read one left × CanTakeIn read other right
+CanTakeIn read (alternation_mark one other) (alternation left right) =
+    CanTakeIn read one left × CanTakeIn read other right
+CanTakeIn read (repetition_mark here body) (repetition tree) = CanTakeIn read body tree
+CanTakeIn read (intersection_one to outer one other) (intersection left right) =
+    IsOpen read AnyDuration outer one left × IsOpen read AnyDuration outer other right
+    × CanTakeIn read one left × CanTakeIn read other right
+CanTakeIn read (restriction_one to outer body) (restriction tree ends) =
+    IsOpen read (LastsWithin ends) outer body tree × CanTakeIn read body tree
+CanTakeIn read mark tree = Unit {0}
 
 -- Each pair of the set ends at one of the two times or between them.
 pub record EndBetween (low high : ℕ) (zones : List ZoneBounds) : Type 0 where
@@ -64,20 +113,21 @@ IsBegun time begun (literal state) = EndAt time begun
 IsBegun time begun (rise state) = begun ≡ []
 IsBegun time begun (fall state) = begun ≡ []
 
--- Nothing is left of the mark: each of its sets is empty, and it has no instance.
+-- Nothing is left of the mark: each of its sets is empty, and no intersection and no restriction in
+-- it has begun.
 abbrev pub IsBare : MarkTree → Type 0
 IsBare (atom_mark here begun) = (here ≡ []) × (begun ≡ [])
 IsBare (sequence_mark one other) = IsBare one × IsBare other
 IsBare (alternation_mark one other) = IsBare one × IsBare other
 IsBare (repetition_mark here body) = (here ≡ []) × IsBare body
 IsBare intersection_none = Unit {0}
-IsBare (intersection_one to outer one other others) = ⊥
+IsBare (intersection_one to outer one other) = ⊥
 IsBare restriction_none = Unit {0}
-IsBare (restriction_one to outer one others) = ⊥
+IsBare (restriction_one to outer body) = ⊥
 
--- The mark has the shape of the expression, each pair that is here or has begun ends at the time,
--- and each instance was entered up to then, is not too old, and has something left of each of its
--- marks.
+-- The mark has the shape of the expression, and each pair that is here or has begun ends at the
+-- time. Each intersection and each restriction that has begun was entered up to then, and has
+-- something left of each of its marks; a restriction is not too old.
 abbrev pub IsWell : ℕ → MarkTree → PatternTree → Type 0
 IsWell time (atom_mark here begun) (atom x) = EndAt time here × IsBegun time begun x
 IsWell time (sequence_mark one other) (sequence left right) =
@@ -86,13 +136,12 @@ IsWell time (alternation_mark one other) (alternation left right) =
     IsWell time one left × IsWell time other right
 IsWell time (repetition_mark here body) (repetition tree) = EndAt time here × IsWell time body tree
 IsWell time intersection_none (intersection left right) = Unit {0}
-IsWell time (intersection_one to outer one other others) (intersection left right) =
+IsWell time (intersection_one to outer one other) (intersection left right) =
     IsEntered time to outer × IsWell time one left × IsWell time other right
-    × IsWell time others (intersection left right) × (IsBare one → ⊥) × (IsBare other → ⊥)
+    × (IsBare one → ⊥) × (IsBare other → ⊥)
 IsWell time restriction_none (restriction tree ends) = Unit {0}
-IsWell time (restriction_one to outer one others) (restriction tree ends) =
-    IsEntered time to outer × IsInReach time to ends × IsWell time one tree
-    × IsWell time others (restriction tree ends) × (IsBare one → ⊥)
+IsWell time (restriction_one to outer body) (restriction tree ends) =
+    IsEntered time to outer × IsInReach time to ends × IsWell time body tree × (IsBare body → ⊥)
 IsWell time mark tree = ⊥
 
 -- The mark is one of the expression at the time.
@@ -109,23 +158,22 @@ pub record IsUnbegun (mark : MarkTree) (tree : PatternTree) : Type 0 where
   pub nothing : IsNothing mark
   pub well : (time : ℕ) → IsWellAt time mark tree
 
--- Each instance of the mark was entered at the time itself, behind pairs that end there.
+-- What has begun was entered at the time itself, behind pairs that end there.
 abbrev pub IsEnteredAt : ℕ → MarkTree → Type 0
 IsEnteredAt time (atom_mark here begun) = Unit {0}
 IsEnteredAt time (sequence_mark one other) = IsEnteredAt time one × IsEnteredAt time other
 IsEnteredAt time (alternation_mark one other) = IsEnteredAt time one × IsEnteredAt time other
 IsEnteredAt time (repetition_mark here body) = IsEnteredAt time body
 IsEnteredAt time intersection_none = Unit {0}
-IsEnteredAt time (intersection_one to outer one other others) =
+IsEnteredAt time (intersection_one to outer one other) =
     (to ≡ time) × EndAt time outer × IsEnteredAt time one × IsEnteredAt time other
-    × IsEnteredAt time others
 IsEnteredAt time restriction_none = Unit {0}
-IsEnteredAt time (restriction_one to outer one others) =
-    (to ≡ time) × EndAt time outer × IsEnteredAt time one × IsEnteredAt time others
+IsEnteredAt time (restriction_one to outer body) =
+    (to ≡ time) × EndAt time outer × IsEnteredAt time body
 
 -- The mark stands for a pair of the set up to the time, and then a match of what comes, and is well
--- there, each of its instances entered at that time. Where there are pairs, something is left of
--- it.
+-- there, entered at that time. Where there are pairs, something is left of it. It can take in what
+-- begins later, whatever held before.
 pub record IsStart (time : ℕ) (zones : List ZoneBounds) (mark : MarkTree) (tree : PatternTree)
     : Type 0 where
   pub pairs : (before : Option ℕ) (segments : List Segment) (a b n : ℕ) → 0 < n
@@ -134,3 +182,4 @@ pub record IsStart (time : ℕ) (zones : List ZoneBounds) (mark : MarkTree) (tre
   pub well : IsWellAt time mark tree
   pub entered : IsEnteredAt time mark
   pub some : (zones ≡ [] → ⊥) → IsBare mark → ⊥
+  pub takes : (before : Option ℕ) → CanTakeIn (since time before []) mark tree

@@ -3,18 +3,17 @@ use Rattle.std.specs.Prelude.{ℕ, ◌+◌}
 use Rattle.tre_syntax.specs.PatternTree.{PatternTree, atom, sequence, alternation, intersection, repetition, restriction}
 use Rattle.tre_mark.specs.MarkTree.{MarkTree, atom_mark, sequence_mark, alternation_mark, repetition_mark, intersection_none, intersection_one, restriction_none, restriction_one}
 
--- How many nodes a mark has, those in its instances among them.
+-- How many nodes a mark has.
 abbrev pub mark_node_count : MarkTree → ℕ
 mark_node_count (atom_mark here begun) = 1
 mark_node_count (sequence_mark one other) = 1 + mark_node_count one + mark_node_count other
 mark_node_count (alternation_mark one other) = 1 + mark_node_count one + mark_node_count other
 mark_node_count (repetition_mark here body) = 1 + mark_node_count body
 mark_node_count intersection_none = 1
-mark_node_count (intersection_one to outer one other others) =
-    mark_node_count one + mark_node_count other + mark_node_count others
+mark_node_count (intersection_one to outer one other) =
+    1 + mark_node_count one + mark_node_count other
 mark_node_count restriction_none = 1
-mark_node_count (restriction_one to outer one others) =
-    mark_node_count one + mark_node_count others
+mark_node_count (restriction_one to outer body) = 1 + mark_node_count body
 
 -- How many forms an expression is made of, where each atom is one.
 abbrev pub form_count : PatternTree → ℕ

@@ -5,7 +5,7 @@ ghost use Rattle.tre_mark.specs.MarkTree.{mark_of};
 ghost use Rattle.tre_mark.specs.Marked.{IsUnbegun};
 
 use crate::forms::{alternation, atom, repetition, sequence};
-use crate::mark::{Instances, Mark};
+use crate::mark::Mark;
 use std::alloc::{AllocError, Global};
 use tre_syntax::Expr;
 use tre_zoneset::ZoneSet;
@@ -36,8 +36,8 @@ impl Mark {
                 let body = Mark::empty(alloc, body)?;
                 repetition(alloc, ZoneSet::new(alloc), body)
             }
-            Expr::Meet(_, _) => Ok(Mark::Meet(Instances::new(alloc))),
-            Expr::Within(_, _) => Ok(Mark::Within(Instances::new(alloc))),
+            Expr::Meet(_, _) => Ok(Mark::NoMeet),
+            Expr::Within(_, _) => Ok(Mark::NoWithin),
         }
     }
 }

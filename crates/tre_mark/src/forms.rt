@@ -3,9 +3,9 @@ ghost use Rattle.std.specs.Prelude.{◌≡◌, ◌≤◌, IfOk};
 ghost use Rattle.tre_pairs.specs.declared.TheConstants.{TIME_MAX};
 ghost use Rattle.tre_zone.specs.Zone.{IsInstantBetween};
 ghost use Rattle.tre_zone.specs.ZoneList.{HoldExactly};
-ghost use Rattle.tre_mark.specs.MarkTree.{MarkTree, atom_mark, sequence_mark, alternation_mark, repetition_mark, intersection_one, restriction_one, mark_of, instance_before};
+ghost use Rattle.tre_mark.specs.MarkTree.{atom_mark, sequence_mark, alternation_mark, repetition_mark, intersection_one, restriction_one, mark_of};
 
-use crate::mark::{Instance, Mark};
+use crate::mark::Mark;
 use std::alloc::{AllocError, Global};
 use tre_zone::Zone;
 use tre_zoneset::ZoneSet;
@@ -43,39 +43,35 @@ pub fn repetition(alloc: Global, here: ZoneSet, body: Mark) -> Result<Mark, Allo
     Ok(Mark::Star { here, body })
 }
 
-/// An instance of an intersection.
-pub fn both(
+/// The mark of an intersection that began behind each pair of `outer`, the last of which has ended
+/// by `to`.
+pub fn intersection(
     alloc: Global,
     to: u64,
     outer: ZoneSet,
     left: Mark,
     right: Mark,
-) -> Result<Instance, AllocError>
-    ensures { IfOk result (λ instance. (others : MarkTree) → instance_before instance others
-        ≡ intersection_one to outer (mark_of left) (mark_of right) others) }
+) -> Result<Mark, AllocError>
+    ensures { IfOk result (λ mark.
+        mark_of mark ≡ intersection_one to outer (mark_of left) (mark_of right)) }
 {
     let left = Box::new(alloc, left)?;
     let right = Box::new(alloc, right)?;
-    Ok(Instance {
+    Ok(Mark::Meet {
         to,
         outer,
         left,
-        right: Some(right),
+        right,
     })
 }
 
-/// An instance of a restriction.
-pub fn lasting(alloc: Global, to: u64, outer: ZoneSet, body: Mark) -> Result<Instance, AllocError>
-    ensures { IfOk result (λ instance. (others : MarkTree) → instance_before instance others
-        ≡ restriction_one to outer (mark_of body) others) }
+/// The mark of a restriction that began behind each pair of `outer`, the last of which has ended by
+/// `to`.
+pub fn restriction(alloc: Global, to: u64, outer: ZoneSet, body: Mark) -> Result<Mark, AllocError>
+    ensures { IfOk result (λ mark. mark_of mark ≡ restriction_one to outer (mark_of body)) }
 {
-    let left = Box::new(alloc, body)?;
-    Ok(Instance {
-        to,
-        outer,
-        left,
-        right: None,
-    })
+    let body = Box::new(alloc, body)?;
+    Ok(Mark::Within { to, outer, body })
 }
 
 /// The moments from one time to another.

@@ -28,9 +28,12 @@ pub fn bare()
     ensures { (mark : MarkTree) → IsBare mark → IsNothing mark }
 {}
 
-/// Where the expression has neither an intersection nor a restriction, a mark of it that is well
-/// has one node for each of its forms: so no more than the expression has nodes.
+/// A mark that is well has no more nodes than its expression has forms, and these are no more than
+/// its nodes. Where the expression has neither an intersection nor a restriction, the mark has one
+/// node for each form.
 pub fn nodes()
+    ensures limit { (time : ℕ) (mark : MarkTree) (tree : PatternTree) → IsWellAt time mark tree →
+        mark_node_count mark ≤ form_count tree }
     ensures exact { (time : ℕ) (mark : MarkTree) (tree : PatternTree) → IsWellAt time mark tree →
         HasNoInstances tree → mark_node_count mark ≡ form_count tree }
     ensures bound { (tree : PatternTree) → form_count tree ≤ node_count tree }

@@ -1,11 +1,9 @@
 //! Marks: how far the matches of an expression have come, in the shape of the expression.
 //!
 //! A [`Mark`] at a time stands for the pairs of times of the matches that began up to then and go
-//! on, whatever comes next in the trace. It has one node for each form of the expression, and so
-//! never grows beyond it where the expression has neither `&` nor `%`; of these two it keeps a list
-//! of instances, each of one stretch of time in which they began, as long as something is left of
-//! it. [`Mark::start`] is where a match begins; the layer above advances a mark over a piece of a
-//! trace.
+//! on, whatever comes next in the trace. It has at most one node for each form of the expression,
+//! and so never grows beyond it. [`Mark::start`] is where a match begins; the layer above advances
+//! a mark over a piece of a trace.
 //!
 //! ```
 //! let mark = Mark::start(alloc, expr, &zones, 0)?;
@@ -15,11 +13,10 @@
 
 mod empty;
 mod forms;
-mod instance;
 pub mod laws;
 mod mark;
 mod nothing;
 mod start;
 
-pub use forms::{alternation, atom, both, lasting, moments, repetition, sequence};
-pub use mark::{Instance, Instances, Mark};
+pub use forms::{alternation, atom, intersection, moments, repetition, restriction, sequence};
+pub use mark::Mark;

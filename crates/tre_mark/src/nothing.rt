@@ -5,8 +5,8 @@ ghost use Rattle.tre_mark.specs.Marked.{IsBare};
 use crate::mark::Mark;
 
 impl Mark {
-    /// Whether nothing is left of the mark: every set is empty, and there is no instance. Then it
-    /// stands for no pair.
+    /// Whether nothing is left of the mark: every set is empty, and no intersection and no
+    /// restriction in it has begun. Then it stands for no pair.
     pub fn is_nothing(&self) -> bool
         ensures { IsTrue result ↔ IsBare (mark_of self.now) }
     {
@@ -15,8 +15,10 @@ impl Mark {
             Mark::Seq(left, right) => left.is_nothing() && right.is_nothing(),
             Mark::Alt(left, right) => left.is_nothing() && right.is_nothing(),
             Mark::Star { here, body } => here.is_empty() && body.is_nothing(),
-            Mark::Meet(instances) => instances.items().is_empty(),
-            Mark::Within(instances) => instances.items().is_empty(),
+            Mark::NoMeet => true,
+            Mark::Meet { .. } => false,
+            Mark::NoWithin => true,
+            Mark::Within { .. } => false,
         }
     }
 }

@@ -6,8 +6,7 @@ ghost use Rattle.tre_syntax.specs.PatternTree.{Atom, atom};
 ghost use Rattle.tre_mark.specs.MarkTree.{mark_of};
 ghost use Rattle.tre_mark.specs.Marked.{IsStart};
 
-use crate::forms::{alternation, atom, moments, repetition, sequence};
-use crate::instance::{both_at, lasting_at};
+use crate::forms::{alternation, atom, intersection, moments, repetition, restriction, sequence};
 use crate::mark::Mark;
 use std::alloc::{AllocError, Global};
 use tre_syntax::Expr;
@@ -53,14 +52,16 @@ impl Mark {
                 let moment = moments(alloc, time, time)?;
                 let left = Mark::start(alloc, left, &moment, time)?;
                 let right = Mark::start(alloc, right, &moment, time)?;
-                both_at(alloc, zones, time, left, right)
+                let outer = zones.try_clone()?;
+                intersection(alloc, time, outer, left, right)
             }
             Expr::Within(body, _) => {
                 // For the proof: the call says that each zone holds a pair.
                 let _zones = zones.zones();
                 let moment = moments(alloc, time, time)?;
                 let body = Mark::start(alloc, body, &moment, time)?;
-                lasting_at(alloc, zones, time, body)
+                let outer = zones.try_clone()?;
+                restriction(alloc, time, outer, body)
             }
         }
     }

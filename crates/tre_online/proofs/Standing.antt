@@ -24,8 +24,8 @@ use Rattle.tre_zone.proofs.ZoneListLemmas.{SetHolds-empty, AreCanonical-tight}
 use Rattle.tre_zoneset.specs.ZoneSet.{IsZoneSet, Without}
 use Rattle.tre_zoneset.proofs.Kept.{IsZoneSet-kept, SetHolds-kept}
 use Rattle.tre_mark.specs.MarkTree.{MarkTree, mark_of}
-use Rattle.tre_mark.specs.Marked.{Marked, IsStart, IsWellAt}
-use Rattle.tre_advance.specs.Advance.{GoesOver, MarkedBehind, Advances}
+use Rattle.tre_mark.specs.Marked.{since, CanTakeIn, Marked, IsStart, IsWellAt}
+use Rattle.tre_advance.specs.Advance.{GoesOver, MarkedBehind, before_piece, Advances}
 use Rattle.tre_online.specs.Reading.{AreMoments, IsPieceFor, Reads}
 use Rattle.tre_online.specs.Session.{cut_after, AwaitsMatches, StandsFor, TellsNew}
 use Rattle.tre_online.specs.Told.{WasTold}
@@ -145,7 +145,8 @@ module _ (tree : PatternTree) (u : List Segment) (piece : Piece) (before : MarkT
 
   module _ (entering found : List ZoneBounds) (rest : MarkTree)
       (moments : AreMoments piece.begin (end_of_piece piece) entering)
-      (advances : Advances before tree entering piece found rest) where
+      (advances : Advances before tree entering piece found rest)
+      (can : CanTakeIn (before_piece piece) before tree) where
     -- What is left stands for the matches that cross the end of the piece.
     crosses : (v : List Segment) (a b n : ℕ) → AreLong v → 0 < n
         → Marked (rest_of (piece.begin + piece.segment.len) (Some piece.segment.val) v) rest tree
@@ -153,7 +154,7 @@ module _ (tree : PatternTree) (u : List Segment) (piece : Piece) (before : MarkT
         ↔ Crossing (end_of_piece piece) (Matches tree (u ++ piece.segment ∷ v)) a b n
     unfolding MarkedBehind
     crosses v a b n long_v some =
-        let leaves = advances.leaves v a b n long_v some in
+        let leaves = advances.leaves can v a b n long_v some in
         let all = parts tree u long (piece.segment ∷ v) a b n some in (
           (λ h.
               let c = leaves.0 h in
@@ -338,6 +339,7 @@ stands_at_start session tree zones moments start pattern at last ended = record 
   at = at;
   last = last;
   awaits = rw pattern (start_awaits tree zones (mark_of session.mark) moments start);
+  takes = rw (pattern, at, last) (start.takes None);
   ended = λ a b n some le h. absurd
       (SetHolds-empty a b n (subst (λ (list : List ZoneBounds). SetHolds list a b n) ended h));
   unstarted = λ none. ended;
@@ -348,6 +350,13 @@ module _ (old : Session) (whole : MarkTree) (u : List Segment) (segment : Segmen
     (is_piece : IsPieceFor old segment piece)
     (reads : Reads (mark_of old.mark) (pattern_tree old.pattern) old.ended piece told
     whole) where
+  -- What begins in the piece can be taken in.
+  can_here : CanTakeIn (before_piece piece) (mark_of old.mark) (pattern_tree old.pattern)
+  can_here = subst (λ (time : ℕ). CanTakeIn (since time piece.before []) (mark_of old.mark)
+      (pattern_tree old.pattern)) (sym is_piece.begin)
+      (subst (λ (before : Option ℕ). CanTakeIn (since old.at before []) (mark_of old.mark)
+      (pattern_tree old.pattern)) (sym is_piece.before) standing.takes)
+
   -- A session that has read one more segment.
   pub tells_after : TellsNew (pattern_tree old.pattern) u segment old.ended told
   tells_after =
@@ -355,7 +364,7 @@ module _ (old : Session) (whole : MarkTree) (u : List Segment) (segment : Segmen
       is_piece.same
       (tells_new (pattern_tree old.pattern) u piece (mark_of old.mark)
       (is_piece.begin ∙ standing.at) (is_piece.before ∙ standing.last) standing.trace.long
-      standing.awaits reads.entering reads.found whole reads.moments reads.advances old.ended
+      standing.awaits reads.entering reads.found whole reads.moments reads.advances can_here old.ended
       told reads.set reads.without
       standing.ended standing.unstarted)
 
@@ -381,12 +390,15 @@ module _ (old : Session) (whole : MarkTree) (u : List Segment) (segment : Segmen
         trace = IsTrace-push u segment standing.trace fits_after;
         at = at ∙ ap (λ (t : ℕ). t + segment.len) (is_piece.begin ∙ standing.at) ∙ sym time;
         last = last ∙ sym value;
+        takes = rw (pattern, mark, at, last)
+            (subst (λ (s : Segment). CanTakeIn (since (piece.begin + s.len) (Some s.val) []) whole
+            (pattern_tree old.pattern)) is_piece.same (reads.advances.takes can_here));
         awaits = rw (pattern, mark)
             (subst (λ (s : Segment). AwaitsMatches whole
             (pattern_tree old.pattern) (u ++ s ∷ [])) is_piece.same
             (awaits_after (pattern_tree old.pattern) u piece (mark_of old.mark)
             (is_piece.begin ∙ standing.at) (is_piece.before ∙ standing.last) standing.trace.long
-            standing.awaits reads.entering reads.found whole reads.moments reads.advances));
+            standing.awaits reads.entering reads.found whole reads.moments reads.advances can_here));
         ended = λ a b n some le h. rw pattern
             ((tells_after.all a b n some le).0
             (inl (subst (λ (list : List ZoneBounds). SetHolds list a b n) ended h)));

@@ -2,7 +2,7 @@
 use Rattle.std.specs.Prelude.{◌≡◌, ℕ, ◌*◌, ◌<◌, ◌≤◌, ◌↔◌, None, Contains, List, [], ◌∷◌, ◌++◌}
 use Rattle.tre_pairs.specs.Pairs.{Either}
 use Rattle.tre_mark.specs.MarkTree.{MarkTree, mark_of}
-use Rattle.tre_mark.specs.Marked.{Marked}
+use Rattle.tre_mark.specs.Marked.{since, CanTakeIn, Marked}
 use Rattle.tre_syntax.specs.Cut.{CutRest, last_of, back_of, MatchesAcross}
 use Rattle.tre_syntax.specs.Meaning.{Matches}
 use Rattle.tre_syntax.specs.Pattern.{pattern_tree}
@@ -45,12 +45,14 @@ pub record AwaitsMatches (mark : MarkTree) (tree : PatternTree) (segments : List
 
 -- The session has read these segments. It keeps when they end, the last valuation and what it told
 -- last, which are matches; and its mark means, whatever comes next, the matches that begin no later
--- than they end and end no earlier.
+-- than they end and end no earlier. What begins later can be taken into it.
 pub record StandsFor (session : Session) (segments : List Segment) : Type 0 where
   pub trace : IsTrace segments
   pub at : at_of session ≡ end_of 0 segments
   pub last : session.last ≡ last_of None segments
   pub awaits : AwaitsMatches (kept_of session) (pattern_tree (pattern_of session)) segments
+  pub takes : CanTakeIn (since (at_of session) session.last []) (kept_of session)
+      (pattern_tree (pattern_of session))
   pub ended : (a b n : ℕ) → 0 < n → a ≤ b → SetHolds (ended_of session) a b n
       → Matches (pattern_tree (pattern_of session)) segments a b n
   pub unstarted : segments ≡ [] → ended_of session ≡ []

@@ -65,24 +65,22 @@ IsProp-form time (alternation_mark one other) (alternation left right) =
 IsProp-form time (repetition_mark here body) (repetition tree) =
     ×_prop (IsProp-EndAt time here) (IsProp-form time body tree)
 IsProp-form time intersection_none (intersection left right) = Unit-prop
-IsProp-form time (intersection_one to outer one other others) (intersection left right) =
+IsProp-form time (intersection_one to outer one other) (intersection left right) =
     λ u v.
     let entered = IsProp-IsEntered time to outer u.0 v.0 in
     let first = IsProp-form time one left u.1 v.1 in
     let second = IsProp-form time other right u.2 v.2 in
-    let rest = IsProp-form time others (intersection left right) u.3 v.3 in
-    let one_left = IsProp-never (IsBare one) u.4 v.4 in
-    let other_left = IsProp-never (IsBare other) u.5 v.5 in
-    λ i. (entered i, first i, second i, rest i, one_left i, other_left i)
+    let one_left = IsProp-never (IsBare one) u.3 v.3 in
+    let other_left = IsProp-never (IsBare other) u.4 v.4 in
+    λ i. (entered i, first i, second i, one_left i, other_left i)
 IsProp-form time restriction_none (restriction tree ends) = Unit-prop
-IsProp-form time (restriction_one to outer one others) (restriction tree ends) =
+IsProp-form time (restriction_one to outer body) (restriction tree ends) =
     λ u v.
     let entered = IsProp-IsEntered time to outer u.0 v.0 in
     let reach = IsProp-reach time to ends.high u.1 v.1 in
-    let first = IsProp-form time one tree u.2 v.2 in
-    let rest = IsProp-form time others (restriction tree ends) u.3 v.3 in
-    let one_left = IsProp-never (IsBare one) u.4 v.4 in
-    λ i. (entered i, reach i, first i, rest i, one_left i)
+    let first = IsProp-form time body tree u.2 v.2 in
+    let body_left = IsProp-never (IsBare body) u.3 v.3 in
+    λ i. (entered i, reach i, first i, body_left i)
 IsProp-form time mark tree = λ x. absurd x
 
 IsProp-IsWellAt : (time : ℕ) (mark : MarkTree) (tree : PatternTree)

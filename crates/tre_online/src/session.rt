@@ -29,7 +29,7 @@ pub struct Session {
 }
 
 impl Session {
-    ghost use Rattle.std.specs.Prelude.{◌-◌, ◌^◌, min, [], ◌∷◌, ◌++◌, List, IfOk, OnOk, OnErr, IfErr};
+    ghost use Rattle.std.specs.Prelude.{[], ◌∷◌, ◌++◌, List, IfOk, OnOk, OnErr, IfErr};
     ghost use Rattle.tre_edges.specs.declared.piece.Piece.{Piece};
     ghost use Rattle.tre_trace.specs.Trace.{end_of, Fits, IsRefusedFor};
     ghost use Rattle.tre_trace.specs.declared.segment.Segment.{Segment};
@@ -75,15 +75,13 @@ impl Session {
         &self.pattern
     }
 
-    /// How many nodes there are in what may still become a match, however many segments came, or
-    /// `u64::MAX` where there are more. For a pattern without `&` and `%` they are no more than the
-    /// pattern has.
+    /// How many nodes there are in what may still become a match: never more than the pattern has,
+    /// however many segments came.
     pub fn kept_nodes(&self) -> u64
-        ensures all { result ≡ min (mark_node_count (kept_of self.now)) (2 ^ 64 - 1) }
+        ensures all { result ≡ mark_node_count (kept_of self.now) }
         ensures same { HasNoInstances (pattern_tree (pattern_of self.now)) →
             result ≡ form_count (pattern_tree (pattern_of self.now)) }
-        ensures bound { HasNoInstances (pattern_tree (pattern_of self.now)) →
-            result ≤ node_count (pattern_tree (pattern_of self.now)) }
+        ensures bound { result ≤ node_count (pattern_tree (pattern_of self.now)) }
     {
         self.mark.nodes()
     }

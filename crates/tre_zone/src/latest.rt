@@ -5,8 +5,8 @@ ghost use Rattle.tre_zone.specs.Held.{IsLatest};
 use crate::zone::Zone;
 
 impl Zone {
-    // The first tick by which each pair of the zone has ended.
-    fn latest_end(&self) -> u64
+    /// The first tick by which each pair of the zone has ended.
+    pub fn latest_end(&self) -> u64
         ensures { IsLatest result (self.now ∷ []) }
     {
         self.bounds().end_high.value().unsigned_abs()

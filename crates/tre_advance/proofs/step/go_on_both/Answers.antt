@@ -1,14 +1,18 @@
-use Rattle.std.proofs.lemmas.Result.{IfOk-weaker}
-use Rattle.tre_mark.specs.MarkTree.{mark_of, intersection_none, instances_before}
-use Rattle.tre_advance.proofs.StepForms.{both_goes_on}
+use Rattle.std.proofs.Common.{List, subst}
+use Rattle.tre_zone.specs.declared.zone_bounds.ZoneBounds.{ZoneBounds}
+use Rattle.tre_mark.specs.MarkTree.{mark_of}
+use Rattle.tre_edges.specs.Piece.{end_of_piece}
+use Rattle.tre_advance.specs.Instances.{LeavesIntersection}
+use Rattle.tre_advance.proofs.InstanceSteps.{later_ends, both_steps}
 use Rattle.tre_advance.proofs.step.go_on_both.Goals as goal
 
 pub returns : goal.returns
-returns c =
-    IfOk-weaker c.keep_both.result _ _
-    (λ new kept is other left right piece well last shape steps inner inner'.
-    both_goes_on piece left right c.args.instance.now c.args.kept.told.items c.args.first.told
-    c.args.second.told new.told.items is other (instances_before c.args.kept.rest intersection_none)
-    (mark_of c.args.first.rest) (mark_of c.args.second.rest)
-    (instances_before new.rest intersection_none) shape well last steps inner inner' kept)
-    c.keep_both.ensures
+returns c to one other left right steps steps' =
+    let piece = c.args.piece.now in
+    let rest = mark_of c.args.first.rest in
+    let rest' = mark_of c.args.second.rest in
+    both_steps piece left right to c.args.outer.now c.args.first.told c.args.second.told
+    c.in_ok-told.told one other rest rest' (mark_of c.in_ok-rest.rest) c.requires steps steps'
+    c.in_ok-told.ensures
+    (subst (λ (list : List ZoneBounds). LeavesIntersection (end_of_piece piece) list rest rest'
+    (mark_of c.in_ok-rest.rest)) c.in_ok-outer.ensures c.in_ok-rest.ensures)

@@ -4,7 +4,7 @@ use Rattle.std.proofs.lemmas.Bool.{both_ways}
 use Rattle.std.proofs.lemmas.Result.{IfOk-weaker}
 use Rattle.tre_syntax.specs.Expr.{tree_of}
 use Rattle.tre_syntax.specs.PatternTree.{sequence, intersection, repetition, restriction}
-use Rattle.tre_mark.specs.MarkTree.{mark_of, sequence_mark, repetition_mark, intersection_none, intersection_one, restriction_none, restriction_one}
+use Rattle.tre_mark.specs.MarkTree.{mark_of, sequence_mark, repetition_mark, intersection_one, restriction_one}
 use Rattle.tre_mark.proofs.Starts.{start_moved, start_nothing, start_sequence, start_repetition, start_intersection, start_restriction}
 use Rattle.tre_mark.proofs.mark.Mark.+start.Goals as goal
 
@@ -45,8 +45,8 @@ returns-in_ok-here-in-Star t c =
     (start_repetition c.args.time zones c.requires.ends body tree c.in_ok-body-in-Star.ensures))
     c.repetition.ensures
 
-pub returns-in_ok-right-in-Meet : goal.returns-in_ok-right-in-Meet
-returns-in_ok-right-in-Meet t c =
+pub returns-in_ok-outer-in-Meet : goal.returns-in_ok-outer-in-Meet
+returns-in_ok-outer-in-Meet t c =
     let time = c.args.time in
     let zones = c.args.zones.now in
     let one = mark_of c.in_ok-left-in-Meet.left in
@@ -58,19 +58,20 @@ returns-in_ok-right-in-Meet t c =
     ∙ ap (λ e. intersection (tree_of e) (tree_of c.in-Meet.right.value))
     (sym c.deref-in-Meet.ensures)
     ∙ ap (λ e. intersection left (tree_of e)) (sym c.deref-in-Meet-2.ensures) in
-    IfOk-weaker c.both_at.result _ _
+    IfOk-weaker c.intersection.result _ _
     (λ mark is. start_moved time zones
-    (intersection_one time zones one other intersection_none) (mark_of mark)
-    (intersection left right) (tree_of c.args.expr.now) is form
+    (intersection_one time zones one other) (mark_of mark)
+    (intersection left right) (tree_of c.args.expr.now)
+    (is ∙ ap (λ outer. intersection_one time outer one other) c.in_ok-outer-in-Meet.ensures) form
     (start_intersection time zones c.zones-zones.ensures.tight
     (λ none. both_ways c.is_empty.result c.if-is_empty.false (c.is_empty.ensures.1 none))
     c.requires.ends c.in_ok-moment-in-Meet.moment
     c.in_ok-moment-in-Meet.ensures one other left right c.in_ok-left-in-Meet.ensures
     c.in_ok-right-in-Meet.ensures))
-    c.both_at.ensures
+    c.intersection.ensures
 
-pub returns-in_ok-body-in-Within : goal.returns-in_ok-body-in-Within
-returns-in_ok-body-in-Within t c =
+pub returns-in_ok-outer-in-Within : goal.returns-in_ok-outer-in-Within
+returns-in_ok-outer-in-Within t c =
     let time = c.args.time in
     let zones = c.args.zones.now in
     let body = mark_of c.in_ok-body-in-Within.body in
@@ -79,11 +80,12 @@ returns-in_ok-body-in-Within t c =
     let form : tree_of c.args.expr.now ≡ restriction tree ends =
     ap tree_of c.in-Within.is
     ∙ ap (λ e. restriction (tree_of e) ends) (sym c.deref-in-Within.ensures) in
-    IfOk-weaker c.lasting_at.result _ _
-    (λ mark is. start_moved time zones (restriction_one time zones body restriction_none)
-    (mark_of mark) (restriction tree ends) (tree_of c.args.expr.now) is form
+    IfOk-weaker c.restriction.result _ _
+    (λ mark is. start_moved time zones (restriction_one time zones body)
+    (mark_of mark) (restriction tree ends) (tree_of c.args.expr.now)
+    (is ∙ ap (λ outer. restriction_one time outer body) c.in_ok-outer-in-Within.ensures) form
     (start_restriction time zones c.zones-zones-in-Within.ensures.tight
     (λ none. both_ways c.is_empty.result c.if-is_empty.false (c.is_empty.ensures.1 none))
     c.requires.ends c.in_ok-moment-in-Within.moment
     c.in_ok-moment-in-Within.ensures body tree ends c.in_ok-body-in-Within.ensures))
-    c.lasting_at.ensures
+    c.restriction.ensures

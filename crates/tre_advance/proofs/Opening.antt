@@ -1,0 +1,80 @@
+-- Marks that can take in what begins later: over a piece, and where it ends.
+use Rattle.std.proofs.Common.{◌≡◌, ℕ, ◌*◌, ◌<◌, ◌≤◌, List, ◌∷◌, arith}
+use Rattle.tre_pairs.specs.Cuts.{Crossing}
+use Rattle.tre_pairs.specs.Pairs.{Pairs}
+use Rattle.tre_pairs.proofs.Laws.{Agree}
+use Rattle.tre_zone.specs.Held.{Held}
+use Rattle.tre_zone.specs.Interval.{LastsWithin}
+use Rattle.tre_zone.specs.declared.zone_bounds.ZoneBounds.{ZoneBounds}
+use Rattle.tre_syntax.specs.PatternTree.{PatternTree, atom, sequence, alternation, intersection, repetition, restriction}
+use Rattle.tre_trace.specs.Trace.{AreLong}
+use Rattle.tre_trace.specs.declared.segment.Segment.{Segment}
+use Rattle.tre_edges.specs.Piece.{end_of_piece}
+use Rattle.tre_edges.specs.declared.piece.Piece.{Piece}
+use Rattle.tre_mark.specs.MarkTree.{MarkTree, atom_mark, sequence_mark, alternation_mark, repetition_mark, intersection_none, intersection_one, restriction_none, restriction_one}
+use Rattle.tre_mark.specs.Marked.{IsOpen, AnyDuration, CanTakeIn, Marked}
+use Rattle.tre_advance.specs.Advance.{before_piece, after_piece}
+use Rattle.tre_advance.specs.Moves.{with_piece}
+use Rattle.tre_advance.proofs.Going.{over, behind, begin_end, cut_of}
+
+module _ (piece : Piece) (admitted : ℕ → ℕ → Type 0) (outer : List ZoneBounds) (mark : MarkTree)
+    (tree : PatternTree) where
+  -- What a step leaves serves the same pairs, and those that end in the piece.
+  pub stepped_open : (rest : MarkTree)
+      → ((a b n : ℕ) → 0 < n → Held outer a b n → b ≤ piece.begin * n)
+      → IsOpen (before_piece piece) admitted outer mark tree
+      → ((segments : List Segment) → AreLong segments
+      → Agree (Marked (behind piece segments) rest tree)
+      (Crossing (end_of_piece piece) (Marked (over piece segments) mark tree)))
+      → IsOpen (with_piece piece) admitted outer rest tree
+  stepped_open rest ends is leaves = record {
+    sound = λ segments a b n long some from h.
+        is.sound (piece.segment ∷ segments) a b n (piece.long, long) some from
+        (((leaves segments long).at a b n some).0 h).related;
+    complete = λ segments a m b n long some held from last h.
+        let early = ends a m n some held in
+        let later = begin_end piece n in
+        let end = h.end in
+        ((leaves segments long).at m b n some).1 (record {
+          related = is.complete (piece.segment ∷ segments) a m b n (piece.long, long) some held
+              from last
+              (record { related = h.related; begin = early; end = omega (arith, later, end) });
+          begin = h.begin;
+          end = h.end;
+        });
+  }
+
+  -- Where the piece ends it serves the pairs that end there.
+  pub later_open : IsOpen (with_piece piece) admitted outer mark tree
+      → IsOpen (after_piece piece) admitted outer mark tree
+  later_open is = record {
+    sound = λ segments a b n long some from h.
+        let later = begin_end piece n in
+        (cut_of piece segments tree).late.at a b n some from
+        (is.sound segments a b n long some (omega (arith, later, from)) h);
+    complete = λ segments a m b n long some held from last h.
+        let later = begin_end piece n in
+        is.complete segments a m b n long some held (omega (arith, later, from)) last (record {
+          related = (cut_of piece segments tree).behind.at m b n h.related;
+          begin = h.begin;
+          end = h.end;
+        });
+  }
+
+module _ (piece : Piece) where
+  pub all_later : (mark : MarkTree) (tree : PatternTree) → CanTakeIn (with_piece piece) mark tree
+      → CanTakeIn (after_piece piece) mark tree
+  all_later (sequence_mark one other) (sequence left right) can =
+      (all_later one left can.0, all_later other right can.1)
+  all_later (alternation_mark one other) (alternation left right) can =
+      (all_later one left can.0, all_later other right can.1)
+  all_later (repetition_mark here body) (repetition tree) can = all_later body tree can
+  all_later (intersection_one to outer one other) (intersection left right) can = (
+    later_open piece AnyDuration outer one left can.0,
+    later_open piece AnyDuration outer other right can.1,
+    all_later one left can.2,
+    all_later other right can.3,
+  )
+  all_later (restriction_one to outer body) (restriction tree ends) can =
+      (later_open piece (LastsWithin ends) outer body tree can.0, all_later body tree can.1)
+  all_later mark tree can = tt

@@ -1,0 +1,416 @@
+-- Marks without the pairs that last too long.
+use Rattle.std.proofs.Common.{◌≡◌, ℕ, ◌+◌, ◌-◌, ◌*◌, ◌<◌, ◌≤◌, List, [], Option, None, Some, MatchOption, Bool, true, false, MatchBool, inl, inr, ⊎_elim, subst, sym, arith}
+use Rattle.std.proofs.Math.Nat.{mul-pos}
+use Rattle.tre_pairs.specs.Cuts.{JoinedAt}
+use Rattle.tre_pairs.specs.Pairs.{Pairs, Lasting}
+use Rattle.tre_pairs.proofs.Laws.{IsOrdered}
+use Rattle.tre_pairs.proofs.Shortening.{finer_duration}
+use Rattle.tre_zone.specs.Held.{Held, EndAt}
+use Rattle.tre_zone.specs.Interval.{IntervalEnds, LastsWithin}
+use Rattle.tre_zone.specs.Longest.{LastsUpTo}
+use Rattle.tre_zone.specs.ZoneList.{SetHolds, HoldExactly}
+use Rattle.tre_zone.proofs.HeldSets.{IsOrdered-Held}
+use Rattle.tre_zone.proofs.Lasting.{LastsUpTo-downward, LastsUpTo-scales}
+use Rattle.tre_zone.specs.declared.zone_bounds.ZoneBounds.{ZoneBounds}
+use Rattle.tre_syntax.specs.Meaning.{MatchesRest}
+use Rattle.tre_syntax.specs.PatternTree.{Atom, PatternTree, empty, literal, rise, fall, atom, sequence, alternation, intersection, repetition, restriction}
+use Rattle.tre_syntax.specs.Rest.{Rest}
+use Rattle.tre_syntax.proofs.CutMeaning.{IsOrdered-rest}
+use Rattle.tre_mark.specs.MarkTree.{MarkTree, atom_mark, sequence_mark, alternation_mark, repetition_mark}
+use Rattle.tre_mark.specs.Marked.{GoesOn, Since, IsOpen, CanTakeIn, Marked, IsBegun, IsWellAt}
+use Rattle.tre_mark.proofs.Meanings.{IsOrdered-GoesOn, around_present}
+use Rattle.tre_advance.specs.Instances.{LeavesRestriction}
+use Rattle.tre_advance.proofs.SetsOf.{no_pair}
+use Rattle.tre_advance.specs.Shortening.{Shortens, MayStillLast, AreRecent, AreShort}
+
+pub shortens_same : (longest : Option ℕ) (mark : MarkTree) → Shortens longest mark mark
+shortens_same longest mark = record {
+  less = λ tree rest a b n some h. h;
+  all = λ tree rest a b n some last h. h;
+  well = λ tree time well. well;
+  takes = λ tree read can. can;
+}
+
+module _ (longest : Option ℕ) where
+  abbrev D : ℕ → ℕ → Type 0
+  D = LastsUpTo longest
+
+  -- The first part of what is short is short.
+  first_short : (a m b n : ℕ) → m ≤ b → D (b - a) n → D (m - a) n
+  first_short a m b n le last =
+      (LastsUpTo-downward longest).at (m - a) (b - a) n (omega (arith, le)) last
+
+  finer : (k a b n : ℕ) → 0 < k → D (b - a) n → D (k * b - k * a) (k * n)
+  finer = finer_duration D (LastsUpTo-downward longest) (LastsUpTo-scales longest)
+
+  module _ (zones short : List ZoneBounds) (is : AreShort longest zones short) (time : ℕ)
+      (X : Pairs) where
+    joined_less : (a b n : ℕ) → 0 < n → JoinedAt time (Held short) X a b n
+        → JoinedAt time (Held zones) X a b n
+    joined_less a b n some h = record {
+      left = ((is.set.pairs a (time * n) n some).0 h.left).related;
+      right = h.right;
+    }
+
+    joined_all : IsOrdered X → (a b n : ℕ) → 0 < n → D (b - a) n
+        → JoinedAt time (Held zones) X a b n → JoinedAt time (Held short) X a b n
+    joined_all ordered a b n some last h = record {
+      left = (is.set.pairs a (time * n) n some).1 (record {
+        related = h.left;
+        admitted = first_short a (time * n) b n (ordered.le (time * n) b n h.right) last;
+      });
+      right = h.right;
+    }
+
+  short_ends : (time : ℕ) (zones short : List ZoneBounds) → AreShort longest zones short
+      → EndAt time zones → EndAt time short
+  short_ends time zones short is ends = record {
+    ends = λ a b n some h. ends.ends a b n some ((is.set.pairs a b n some).0 h).related;
+  }
+
+  short_begun : (time : ℕ) (zones short : List ZoneBounds) → AreShort longest zones short
+      → (x : Atom) → IsBegun time zones x → IsBegun time short x
+  short_begun time zones short is empty begun = is.none begun
+  short_begun time zones short is (literal state) begun = short_ends time zones short is begun
+  short_begun time zones short is (rise state) begun = is.none begun
+  short_begun time zones short is (fall state) begun = is.none begun
+
+  -- ---- atoms
+
+  module _ (here here' begun begun' : List ZoneBounds) (first : AreShort longest here here')
+      (second : AreShort longest begun begun') where
+    atom_less : (tree : PatternTree) (rest : Rest) (a b n : ℕ) → 0 < n
+        → Marked rest (atom_mark here' begun') tree a b n
+        → Marked rest (atom_mark here begun) tree a b n
+    atom_less (atom x) rest a b n some h = ⊎_elim
+        (λ y. inl (joined_less here here' first rest.start (MatchesRest (atom x) rest) a b n some y))
+        (λ y. inr (joined_less begun begun' second rest.start (GoesOn rest x) a b n some y)) h
+    atom_less tree rest a b n some h = absurd h
+
+    atom_all : (tree : PatternTree) (rest : Rest) (a b n : ℕ) → 0 < n → D (b - a) n
+        → Marked rest (atom_mark here begun) tree a b n
+        → Marked rest (atom_mark here' begun') tree a b n
+    atom_all (atom x) rest a b n some last h = ⊎_elim
+        (λ y. inl (joined_all here here' first rest.start (MatchesRest (atom x) rest)
+        (IsOrdered-rest (atom x) rest) a b n some last y))
+        (λ y. inr (joined_all begun begun' second rest.start (GoesOn rest x)
+        (IsOrdered-GoesOn rest x) a b n some last y)) h
+    atom_all tree rest a b n some last h = absurd h
+
+    atom_well : (tree : PatternTree) (time : ℕ) → IsWellAt time (atom_mark here begun) tree
+        → IsWellAt time (atom_mark here' begun') tree
+    atom_well (atom x) time is = record {
+      well = (
+        short_ends time here here' first is.well.0,
+        short_begun time begun begun' second x is.well.1,
+      );
+    }
+    atom_well (sequence left right) time is = absurd is.well
+    atom_well (alternation left right) time is = absurd is.well
+    atom_well (intersection left right) time is = absurd is.well
+    atom_well (repetition tree) time is = absurd is.well
+    atom_well (restriction tree ends) time is = absurd is.well
+
+    pub shortens_atom : Shortens longest (atom_mark here begun) (atom_mark here' begun')
+    shortens_atom = record {
+      less = atom_less;
+      all = atom_all;
+      well = atom_well;
+      takes = λ tree read can. tt;
+    }
+
+  -- ---- two parts
+
+  module _ (one one' other other' : MarkTree) (first : Shortens longest one one')
+      (second : Shortens longest other other') where
+    sequence_less : (tree : PatternTree) (rest : Rest) (a b n : ℕ) → 0 < n
+        → Marked rest (sequence_mark one' other') tree a b n
+        → Marked rest (sequence_mark one other) tree a b n
+    sequence_less (sequence left right) rest a b n some h = ⊎_elim
+        (λ x. inl (record {
+          factor = x.factor;
+          positive = x.positive;
+          midpoint = x.midpoint;
+          left = first.less left rest (x.factor * a) x.midpoint (x.factor * n)
+              (mul-pos x.positive some) x.left;
+          right = x.right;
+        }))
+        (λ x. inr (second.less right rest a b n some x)) h
+    sequence_less tree rest a b n some h = absurd h
+
+    sequence_all : (tree : PatternTree) (rest : Rest) (a b n : ℕ) → 0 < n → D (b - a) n
+        → Marked rest (sequence_mark one other) tree a b n
+        → Marked rest (sequence_mark one' other') tree a b n
+    sequence_all (sequence left right) rest a b n some last h = ⊎_elim
+        (λ x.
+        let k = x.factor in
+        let m = x.midpoint in
+        inl (record {
+          factor = k;
+          positive = x.positive;
+          midpoint = m;
+          left = first.all left rest (k * a) m (k * n) (mul-pos x.positive some)
+              (first_short (k * a) m (k * b) (k * n)
+              ((IsOrdered-rest right rest).le m (k * b) (k * n) x.right)
+              (finer k a b n x.positive last)) x.left;
+          right = x.right;
+        }))
+        (λ x. inr (second.all right rest a b n some last x)) h
+    sequence_all tree rest a b n some last h = absurd h
+
+    alternation_less : (tree : PatternTree) (rest : Rest) (a b n : ℕ) → 0 < n
+        → Marked rest (alternation_mark one' other') tree a b n
+        → Marked rest (alternation_mark one other) tree a b n
+    alternation_less (alternation left right) rest a b n some h = ⊎_elim
+        (λ x. inl (first.less left rest a b n some x))
+        (λ x. inr (second.less right rest a b n some x)) h
+    alternation_less tree rest a b n some h = absurd h
+
+    alternation_all : (tree : PatternTree) (rest : Rest) (a b n : ℕ) → 0 < n → D (b - a) n
+        → Marked rest (alternation_mark one other) tree a b n
+        → Marked rest (alternation_mark one' other') tree a b n
+    alternation_all (alternation left right) rest a b n some last h = ⊎_elim
+        (λ x. inl (first.all left rest a b n some last x))
+        (λ x. inr (second.all right rest a b n some last x)) h
+    alternation_all tree rest a b n some last h = absurd h
+
+    sequence_well : (tree : PatternTree) (time : ℕ) → IsWellAt time (sequence_mark one other) tree
+        → IsWellAt time (sequence_mark one' other') tree
+    sequence_well (sequence left right) time is = record {
+      well = (
+        (first.well left time (record { well = is.well.0 })).well,
+        (second.well right time (record { well = is.well.1 })).well,
+      );
+    }
+    sequence_well (atom x) time is = absurd is.well
+    sequence_well (alternation left right) time is = absurd is.well
+    sequence_well (intersection left right) time is = absurd is.well
+    sequence_well (repetition tree) time is = absurd is.well
+    sequence_well (restriction tree ends) time is = absurd is.well
+
+    alternation_well : (tree : PatternTree) (time : ℕ)
+        → IsWellAt time (alternation_mark one other) tree
+        → IsWellAt time (alternation_mark one' other') tree
+    alternation_well (alternation left right) time is = record {
+      well = (
+        (first.well left time (record { well = is.well.0 })).well,
+        (second.well right time (record { well = is.well.1 })).well,
+      );
+    }
+    alternation_well (atom x) time is = absurd is.well
+    alternation_well (sequence left right) time is = absurd is.well
+    alternation_well (intersection left right) time is = absurd is.well
+    alternation_well (repetition tree) time is = absurd is.well
+    alternation_well (restriction tree ends) time is = absurd is.well
+
+    sequence_takes : (tree : PatternTree) (read : Since)
+        → CanTakeIn read (sequence_mark one other) tree
+        → CanTakeIn read (sequence_mark one' other') tree
+    sequence_takes (sequence left right) read can =
+        (first.takes left read can.0, second.takes right read can.1)
+    sequence_takes tree read can = tt
+
+    alternation_takes : (tree : PatternTree) (read : Since)
+        → CanTakeIn read (alternation_mark one other) tree
+        → CanTakeIn read (alternation_mark one' other') tree
+    alternation_takes (alternation left right) read can =
+        (first.takes left read can.0, second.takes right read can.1)
+    alternation_takes tree read can = tt
+
+    pub shortens_sequence : Shortens longest (sequence_mark one other) (sequence_mark one' other')
+    shortens_sequence = record {
+      less = sequence_less;
+      all = sequence_all;
+      well = sequence_well;
+      takes = sequence_takes;
+    }
+
+    pub shortens_alternation : Shortens longest (alternation_mark one other)
+        (alternation_mark one' other')
+    shortens_alternation = record {
+      less = alternation_less;
+      all = alternation_all;
+      well = alternation_well;
+      takes = alternation_takes;
+    }
+
+  -- ---- a repetition
+
+  module _ (here here' : List ZoneBounds) (body body' : MarkTree)
+      (first : AreShort longest here here') (inner : Shortens longest body body') where
+    repetition_less : (tree : PatternTree) (rest : Rest) (a b n : ℕ) → 0 < n
+        → Marked rest (repetition_mark here' body') tree a b n
+        → Marked rest (repetition_mark here body) tree a b n
+    repetition_less (repetition tree) rest a b n some h = ⊎_elim
+        (λ x. inl (joined_less here here' first rest.start (MatchesRest (repetition tree) rest) a b
+        n some x))
+        (λ x. inr (record {
+          factor = x.factor;
+          positive = x.positive;
+          midpoint = x.midpoint;
+          left = inner.less tree rest (x.factor * a) x.midpoint (x.factor * n)
+              (mul-pos x.positive some) x.left;
+          right = x.right;
+        })) h
+    repetition_less tree rest a b n some h = absurd h
+
+    repetition_all : (tree : PatternTree) (rest : Rest) (a b n : ℕ) → 0 < n → D (b - a) n
+        → Marked rest (repetition_mark here body) tree a b n
+        → Marked rest (repetition_mark here' body') tree a b n
+    repetition_all (repetition tree) rest a b n some last h =
+        let any = IsOrdered-rest (repetition tree) rest in
+        ⊎_elim
+        (λ x. inl (joined_all here here' first rest.start (MatchesRest (repetition tree) rest) any a
+        b n some last x))
+        (λ x.
+        let k = x.factor in
+        let m = x.midpoint in
+        inr (record {
+          factor = k;
+          positive = x.positive;
+          midpoint = m;
+          left = inner.all tree rest (k * a) m (k * n) (mul-pos x.positive some)
+              (first_short (k * a) m (k * b) (k * n) (any.le m (k * b) (k * n) x.right)
+              (finer k a b n x.positive last)) x.left;
+          right = x.right;
+        })) h
+    repetition_all tree rest a b n some last h = absurd h
+
+    repetition_well : (tree : PatternTree) (time : ℕ)
+        → IsWellAt time (repetition_mark here body) tree
+        → IsWellAt time (repetition_mark here' body') tree
+    repetition_well (repetition tree) time is = record {
+      well = (
+        short_ends time here here' first is.well.0,
+        (inner.well tree time (record { well = is.well.1 })).well,
+      );
+    }
+    repetition_well (atom x) time is = absurd is.well
+    repetition_well (sequence left right) time is = absurd is.well
+    repetition_well (alternation left right) time is = absurd is.well
+    repetition_well (intersection left right) time is = absurd is.well
+    repetition_well (restriction tree ends) time is = absurd is.well
+
+    repetition_takes : (tree : PatternTree) (read : Since)
+        → CanTakeIn read (repetition_mark here body) tree
+        → CanTakeIn read (repetition_mark here' body') tree
+    repetition_takes (repetition tree) read can = inner.takes tree read can
+    repetition_takes tree read can = tt
+
+    pub shortens_repetition : Shortens longest (repetition_mark here body)
+        (repetition_mark here' body')
+    shortens_repetition = record {
+      less = repetition_less;
+      all = repetition_all;
+      well = repetition_well;
+      takes = repetition_takes;
+    }
+
+-- ---- a restriction
+
+-- What begins before the time and ends then or later, in the interval, may still last.
+still : (high : Option ℕ) (weak : Bool) (time m b n : ℕ) → time * n ≤ b
+    → MatchOption high (Unit {0}) (λ high. MatchBool weak (b - m ≤ high * n) (b - m < high * n))
+    → MatchOption high (Unit {0}) (λ high. time * n ≤ m + high * n)
+still None weak time m b n late below = tt
+still (Some high) true time m b n late below = omega (arith, late, below)
+still (Some high) false time m b n late below = omega (arith, late, below)
+
+module _ (time : ℕ) (interval : IntervalEnds) (longest : Option ℕ)
+    (outer recent : List ZoneBounds) (body short mark : MarkTree)
+    (shortens : Shortens longest body short) (are : AreRecent interval time outer recent)
+    (lasts : (d n : ℕ) → LastsWithin interval d n → LastsUpTo longest d n)
+    (leaves : LeavesRestriction time interval recent short mark) where
+  -- Of the recent pairs and the short mark the same is left.
+  pub leaves_short : LeavesRestriction time interval outer body mark
+  leaves_short = record {
+    pairs = λ tree rest at a b n some.
+        let same = leaves.pairs tree rest at a b n some in (
+          (λ h.
+              let x = same.0 h in
+              let k = x.factor in
+              let finer : 0 < k * n = mul-pos x.positive some in
+              record {
+                factor = k;
+                positive = x.positive;
+                midpoint = x.midpoint;
+                left = are.less (k * a) x.midpoint (k * n) finer x.left;
+                right = record {
+                  related = shortens.less tree rest x.midpoint (k * b) (k * n) finer
+                      x.right.related;
+                  admitted = x.right.admitted;
+                };
+              }),
+          (λ h.
+              let k = h.factor in
+              let m = h.midpoint in
+              let finer : 0 < k * n = mul-pos h.positive some in
+              let around : (m ≤ time * (k * n)) × (time * (k * n) ≤ k * b) =
+              subst (λ (t : ℕ). (m ≤ t * (k * n)) × (t * (k * n) ≤ k * b)) at
+              (around_present rest body tree m (k * b) (k * n) h.right.related) in
+              same.1 (record {
+                factor = k;
+                positive = h.positive;
+                midpoint = m;
+                left = are.more (k * a) m (k * n) finer h.left
+                    (still interval.high interval.high_weak time m (k * b) (k * n) around.1
+                    h.right.admitted.1);
+                right = record {
+                  related = shortens.all tree rest m (k * b) (k * n) finer
+                      (lasts (k * b - m) (k * n) h.right.admitted) h.right.related;
+                  admitted = h.right.admitted;
+                };
+              })),
+        );
+    well = λ tree well. leaves.well tree (shortens.well tree time well);
+    takes = λ tree read is can.
+        leaves.takes tree read (record {
+          sound = λ segments a b n long some from h.
+              is.sound segments a b n long some from (shortens.less tree _ a b n some h);
+          complete = λ segments a m b n long some held from last h.
+              shortens.all tree _ m b n some (lasts (b - m) n last)
+              (is.complete segments a m b n long some (are.less a m n some held) from last h);
+        }) (shortens.takes tree read can);
+  }
+
+pub shortens_moved : (longest : Option ℕ) (mark mark' short short' : MarkTree) → mark' ≡ mark
+    → short' ≡ short → Shortens longest mark short → Shortens longest mark' short'
+shortens_moved longest mark mark' short short' e f h =
+    subst (λ (m : MarkTree). Shortens longest mark' m) (sym f)
+    (subst (λ (m : MarkTree). Shortens longest m short) (sym e) h)
+
+-- ---- sets
+
+pub short_none : (longest : Option ℕ) (zones : List ZoneBounds) → zones ≡ []
+    → AreShort longest zones zones
+short_none longest zones none = record {
+  set = record {
+    pairs = λ a b n some. (
+      (λ h. absurd (no_pair zones none a b n h)),
+      (λ h. h.related),
+    );
+  };
+  none = λ is. is;
+}
+
+pub short_some : (longest : Option ℕ) (zones short : List ZoneBounds) → (zones ≡ [] → ⊥)
+    → HoldExactly short (Lasting (LastsUpTo longest) (SetHolds zones))
+    → AreShort longest zones short
+short_some longest zones short filled exact = record {
+  set = record {
+    pairs = λ a b n some. (
+      (λ h.
+          let x = (exact.exact a b n some h.rising).0 h.held in
+          record {
+            related = record { rising = h.rising; held = x.related };
+            admitted = x.admitted;
+          }),
+      (λ h. record {
+        rising = h.related.rising;
+        held = (exact.exact a b n some h.related.rising).1
+            (record { related = h.related.held; admitted = h.admitted });
+      }),
+    );
+  };
+  none = λ none. absurd (filled none);
+}

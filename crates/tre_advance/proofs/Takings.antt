@@ -1,0 +1,249 @@
+-- What an intersection or a restriction that has begun becomes as it takes in what begins later.
+use Rattle.std.proofs.Common.{ℕ, ◌-◌, ◌*◌, ◌<◌, ◌≤◌, List, inl, inr, ⊎_elim, arith}
+use Rattle.std.proofs.Math.Nat.{mul-pos}
+use Rattle.tre_pairs.specs.Cuts.{Crossing}
+use Rattle.tre_pairs.specs.Pairs.{Pairs, Composed, Either, Both, Lasting}
+use Rattle.tre_pairs.proofs.Laws.{Agree}
+use Rattle.tre_zone.specs.Held.{Held, IsSetOf}
+use Rattle.tre_zone.proofs.HeldSets.{IsOrdered-Held}
+use Rattle.tre_zone.specs.Zone.{IsInstantBetween}
+use Rattle.tre_zone.specs.ZoneList.{HoldExactly}
+use Rattle.tre_zone.specs.declared.zone_bounds.ZoneBounds.{ZoneBounds}
+use Rattle.tre_syntax.specs.Meaning.{MatchesRest}
+use Rattle.tre_syntax.specs.PatternTree.{PatternTree}
+use Rattle.tre_syntax.proofs.CutMeaning.{IsBounded-rest}
+use Rattle.tre_trace.specs.Trace.{AreLong}
+use Rattle.tre_trace.specs.declared.segment.Segment.{Segment}
+use Rattle.tre_edges.specs.Piece.{end_of_piece}
+use Rattle.tre_edges.specs.declared.piece.Piece.{Piece}
+use Rattle.tre_mark.specs.MarkTree.{MarkTree}
+use Rattle.tre_mark.specs.Marked.{IsOpen, AnyDuration, Marked, EndBetween}
+use Rattle.tre_mark.proofs.Agreeing.{agree_refl, agree_sym, agree_then, agree_either}
+use Rattle.tre_mark.proofs.Meanings.{around_present}
+use Rattle.tre_advance.specs.Moves.{with_piece}
+use Rattle.tre_advance.proofs.Crossings.{cross_after}
+use Rattle.tre_advance.proofs.Going.{over, behind}
+use Rattle.tre_advance.proofs.Steps.{Followed, from_moment, to_moment}
+
+-- M' has what M has, and behind a pair that enters it has just what X has across the cut. Behind a
+-- pair of `outer` it has nothing more that is admitted.
+pub record Takes (cut : ℕ) (admitted : ℕ → ℕ → Type 0) (outer enter : List ZoneBounds)
+    (M M' X : Pairs) : Type 0 where
+  pub old : (a m b n : ℕ) → 0 < n → Held outer a m n → admitted (b - m) n → M' m b n → M m b n
+  pub new : (a m b n : ℕ) → 0 < n → Held enter a m n → M' m b n → Crossing cut X m b n
+  pub keeps : (a b n : ℕ) → 0 < n → M a b n → M' a b n
+  pub gains : (a m b n : ℕ) → 0 < n → Held enter a m n → Crossing cut X m b n → M' m b n
+
+module _ (cut : ℕ) (outer enter whole : List ZoneBounds)
+    (union : IsSetOf whole (Either (Held outer) (Held enter)))
+    (ends : (a b n : ℕ) → 0 < n → Held enter a b n → b ≤ cut * n) where
+  pub taken_lasting : (D : ℕ → ℕ → Type 0) (M M' X : Pairs) → Takes cut D outer enter M M' X
+      → Agree (Composed (Held whole) (Lasting D M'))
+      (Either (Composed (Held outer) (Lasting D M))
+      (Crossing cut (Composed (Held enter) (Lasting D X))))
+  taken_lasting D M M' X takes =
+      agree_then (record {
+        at = λ a b n some. (
+          (λ h.
+              let k = h.factor in
+              let m = h.midpoint in
+              let finer : 0 < k * n = mul-pos h.positive some in
+              let last = h.right.admitted in
+              ⊎_elim
+              (λ x. inl (record {
+                factor = k;
+                positive = h.positive;
+                midpoint = m;
+                left = x;
+                right = record {
+                  related = takes.old (k * a) m (k * b) (k * n) finer x last h.right.related;
+                  admitted = last;
+                };
+              }))
+              (λ x.
+              let c = takes.new (k * a) m (k * b) (k * n) finer x h.right.related in
+              inr (record {
+                factor = k;
+                positive = h.positive;
+                midpoint = m;
+                left = x;
+                right = record {
+                  related = record { related = c.related; admitted = last };
+                  begin = c.begin;
+                  end = c.end;
+                };
+              })) ((union.pairs (k * a) m (k * n) finer).0 h.left)),
+          (λ h. ⊎_elim
+              (λ x.
+              let k = x.factor in
+              let finer : 0 < k * n = mul-pos x.positive some in
+              record {
+                factor = k;
+                positive = x.positive;
+                midpoint = x.midpoint;
+                left = (union.pairs (k * a) x.midpoint (k * n) finer).1 (inl x.left);
+                right = record {
+                  related = takes.keeps x.midpoint (k * b) (k * n) finer x.right.related;
+                  admitted = x.right.admitted;
+                };
+              })
+              (λ x.
+              let k = x.factor in
+              let finer : 0 < k * n = mul-pos x.positive some in
+              record {
+                factor = k;
+                positive = x.positive;
+                midpoint = x.midpoint;
+                left = (union.pairs (k * a) x.midpoint (k * n) finer).1 (inr x.left);
+                right = record {
+                  related = takes.gains (k * a) x.midpoint (k * b) (k * n) finer x.left (record {
+                    related = x.right.related.related;
+                    begin = x.right.begin;
+                    end = x.right.end;
+                  });
+                  admitted = x.right.related.admitted;
+                };
+              }) h),
+        );
+      })
+      (agree_either (agree_refl (Composed (Held outer) (Lasting D M)))
+      (agree_sym (cross_after cut (Held enter) (Lasting D X) (IsOrdered-Held enter) ends)))
+
+  pub taken_both : (M M' X N N' Y : Pairs) → Takes cut AnyDuration outer enter M M' X
+      → Takes cut AnyDuration outer enter N N' Y
+      → Agree (Composed (Held whole) (Both M' N'))
+      (Either (Composed (Held outer) (Both M N))
+      (Crossing cut (Composed (Held enter) (Both X Y))))
+  taken_both M M' X N N' Y one other =
+      agree_then (record {
+        at = λ a b n some. (
+          (λ h.
+              let k = h.factor in
+              let m = h.midpoint in
+              let finer : 0 < k * n = mul-pos h.positive some in
+              ⊎_elim
+              (λ x. inl (record {
+                factor = k;
+                positive = h.positive;
+                midpoint = m;
+                left = x;
+                right = record {
+                  left = one.old (k * a) m (k * b) (k * n) finer x tt h.right.left;
+                  right = other.old (k * a) m (k * b) (k * n) finer x tt h.right.right;
+                };
+              }))
+              (λ x.
+              let c = one.new (k * a) m (k * b) (k * n) finer x h.right.left in
+              let d = other.new (k * a) m (k * b) (k * n) finer x h.right.right in
+              inr (record {
+                factor = k;
+                positive = h.positive;
+                midpoint = m;
+                left = x;
+                right = record {
+                  related = record { left = c.related; right = d.related };
+                  begin = c.begin;
+                  end = c.end;
+                };
+              })) ((union.pairs (k * a) m (k * n) finer).0 h.left)),
+          (λ h. ⊎_elim
+              (λ x.
+              let k = x.factor in
+              let finer : 0 < k * n = mul-pos x.positive some in
+              record {
+                factor = k;
+                positive = x.positive;
+                midpoint = x.midpoint;
+                left = (union.pairs (k * a) x.midpoint (k * n) finer).1 (inl x.left);
+                right = record {
+                  left = one.keeps x.midpoint (k * b) (k * n) finer x.right.left;
+                  right = other.keeps x.midpoint (k * b) (k * n) finer x.right.right;
+                };
+              })
+              (λ x.
+              let k = x.factor in
+              let finer : 0 < k * n = mul-pos x.positive some in
+              record {
+                factor = k;
+                positive = x.positive;
+                midpoint = x.midpoint;
+                left = (union.pairs (k * a) x.midpoint (k * n) finer).1 (inr x.left);
+                right = record {
+                  left = one.gains (k * a) x.midpoint (k * b) (k * n) finer x.left (record {
+                    related = x.right.related.left;
+                    begin = x.right.begin;
+                    end = x.right.end;
+                  });
+                  right = other.gains (k * a) x.midpoint (k * b) (k * n) finer x.left (record {
+                    related = x.right.related.right;
+                    begin = x.right.begin;
+                    end = x.right.end;
+                  });
+                };
+              }) h),
+        );
+      })
+      (agree_either (agree_refl (Composed (Held outer) (Both M N)))
+      (agree_sym (cross_after cut (Held enter) (Both X Y) (IsOrdered-Held enter) ends)))
+
+-- Every moment of the piece enters a mark that is open.
+module _ (piece : Piece) (tree : PatternTree) (all : List ZoneBounds)
+    (held : HoldExactly all (IsInstantBetween piece.begin (end_of_piece piece)))
+    (admitted : ℕ → ℕ → Type 0) (outer : List ZoneBounds) (mark rest : MarkTree)
+    (is : IsOpen (with_piece piece) admitted outer mark tree)
+    (leaves : (segments : List Segment) → AreLong segments
+    → Agree (Marked (behind piece segments) rest tree)
+    (Either (Marked (behind piece segments) mark tree)
+    (Crossing (end_of_piece piece) (Followed (Held all) tree (over piece segments))))) where
+  -- Then it serves whatever enters.
+  pub entered_open : (admitted' : ℕ → ℕ → Type 0) (outer' : List ZoneBounds)
+      → IsOpen (with_piece piece) admitted' outer' rest tree
+  entered_open admitted' outer' = record {
+    sound = λ segments a b n long some from h. ⊎_elim
+        (λ x. is.sound segments a b n long some from x)
+        (λ x. from_moment piece tree all held (over piece segments) a b n some x.related)
+        (((leaves segments long).at a b n some).0 h);
+    complete = λ segments a m b n long some before from last h.
+        ((leaves segments long).at m b n some).1 (inr (record {
+          related = to_moment piece tree all held (over piece segments) m b n some from h.begin
+              h.related;
+          begin = h.begin;
+          end = h.end;
+        }));
+  }
+
+  pub takes_of : (enter : List ZoneBounds) → EndBetween piece.begin (end_of_piece piece) enter
+      → (segments : List Segment) → AreLong segments
+      → Takes (end_of_piece piece) admitted outer enter (Marked (behind piece segments) mark tree)
+      (Marked (behind piece segments) rest tree) (MatchesRest tree (over piece segments))
+  takes_of enter between segments long =
+      let W = over piece segments in
+      let V = behind piece segments in
+      record {
+        old = λ a m b n some before last h. ⊎_elim (λ x. x)
+            (λ x.
+            let match = from_moment piece tree all held W m b n some x.related in
+            is.complete segments a m b n long some before ((IsBounded-rest tree W).begin m b n match)
+            last (record { related = match; begin = x.begin; end = x.end }))
+            (((leaves segments long).at m b n some).0 h);
+        new = λ a m b n some before h. ⊎_elim
+            (λ x.
+            let around = around_present V mark tree m b n x in
+            record {
+              related = is.sound segments m b n long some (between.begin a m n some before) x;
+              begin = around.0;
+              end = around.1;
+            })
+            (λ x. record {
+              related = from_moment piece tree all held W m b n some x.related;
+              begin = x.begin;
+              end = x.end;
+            }) (((leaves segments long).at m b n some).0 h);
+        keeps = λ a b n some h. ((leaves segments long).at a b n some).1 (inl h);
+        gains = λ a m b n some before h. ((leaves segments long).at m b n some).1 (inr (record {
+          related = to_moment piece tree all held W m b n some (between.begin a m n some before)
+              h.begin h.related;
+          begin = h.begin;
+          end = h.end;
+        }));
+      }
