@@ -1,6 +1,6 @@
-ghost use Rattle.std.specs.Prelude.{◌≡◌, ℕ, pos, neg_ℤ, ◌+◌, ◌*◌, ◌^◌, ◌+ℤ◌, ◌*ℤ◌, ◌≤ℤ◌, ◌<ℤ◌, ◌↔◌, max, IsTrue};
+ghost use Rattle.std.specs.Prelude.{◌≡◌, ℕ, pos, neg_ℤ, ◌+◌, ◌*◌, ◌^◌, ◌+ℤ◌, ◌-ℤ◌, ◌*ℤ◌, ◌≤ℤ◌, ◌<ℤ◌, ◌↔◌, max, IsTrue};
 ghost use Rattle.tre_zone.specs.Bound.{value_of, weakness_of, sum_of, Meets, IsKeyWithin};
-ghost use Rattle.std.specs.Int.{int_min};
+ghost use Rattle.std.specs.Int.{int_min, int_max};
 
 use std::marker::Model;
 
@@ -90,6 +90,23 @@ impl Bound {
         Bound {
             key: self.key.min(other.key),
         }
+    }
+
+    // The looser of two bounds.
+    pub(crate) fn looser(&self, other: &Bound) -> Bound
+        ensures { result ≡ int_max self.now other.now }
+    {
+        Bound {
+            key: self.key.max(other.key),
+        }
+    }
+
+    // The bound on `-x` that is met exactly where this one on `x` isn't.
+    pub(crate) fn opposite(&self) -> Bound
+        requires { IsKeyWithin (2 ^ 61) self.now }
+        ensures { result ≡ pos 1 -ℤ self.now }
+    {
+        Bound { key: 1 - self.key }
     }
 
     // Whether some `x` meets this bound while `-x` meets `other`.

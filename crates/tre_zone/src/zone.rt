@@ -186,7 +186,7 @@ impl Zone {
 
 // The zone of the pairs that meet the bounds, None where there is none.
 #[inline(always)]
-fn canonical(bounds: &ZoneBounds) -> Option<Zone>
+pub(crate) fn canonical(bounds: &ZoneBounds) -> Option<Zone>
     requires framed { IsFramed bounds.now }
     requires keys { AreKeysWithin (2 ^ 45) bounds.now }
     ensures { GivesZone result (ZoneHolds bounds.now) }

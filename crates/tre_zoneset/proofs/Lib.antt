@@ -6,3 +6,4 @@ pub mod Thinning
 pub mod Searching
 pub mod Cuts
 pub mod Stretches
+pub mod AsOne

@@ -18,4 +18,5 @@ pub use zone_set::{ZoneSet, are_few, gather, index_of};
 
 mod cut;
 mod rise;
+mod touching;
 mod zone_set;

@@ -16,6 +16,8 @@ use tre_index::{ZoneIndex, are_in_turn, find_stretch, key_meeting};
 use tre_pairs::TIME_MAX;
 use tre_zone::{Interval, Zone};
 
+mod into_zones;
+
 /// So few zones are looked at one by one, without an index.
 const FEW: usize = 8;
 
@@ -225,7 +227,7 @@ impl ZoneSet {
         Ok(lasting)
     }
 
-    /// The pairs that end at `time`.
+    /// The pairs that end at `time`, in as few zones as may be.
     pub fn ending_at(&self, time: u64) -> Result<ZoneSet, AllocError>
         requires { time ≤ TIME_MAX }
         ensures { IfOk result (λ set. HoldExactly set (Both (SetHolds self.now) (EndsAt time))) }
@@ -233,7 +235,7 @@ impl ZoneSet {
         let alloc = *self.zones.allocator();
         let cut = Cut::EndingAt(time);
         let found = cut_each(alloc, self.zones(), &cut)?;
-        let ending = ZoneSet::of_zones(alloc, found)?;
+        let ending = ZoneSet::of_touching(alloc, found)?;
         Ok(ending)
     }
 
