@@ -111,7 +111,7 @@ fn zones_that_touch(rt: HostRuntime) -> Result<(), Fail> {
     Ok(())
 }
 
-// Whether the rows stand in turn, and those that reach the key from the first place up to the other.
+// Whether the rows stand in turn, and those from the one place up to the other reach the key.
 fn has_stretch(rows: &[Row], near: usize, key: &Row, from: usize, to: usize) -> bool {
     if !are_in_turn(rows) {
         return false;

@@ -64,6 +64,7 @@ impl<T: HasRow> RowIndex<T> {
     }
 
     /// The first place, from `from` on, whose item's row is at least the key in every lane.
+    #[inline]
     pub fn next_at_least(&self, from: usize, key: &Row) -> Option<usize>
         ensures { FindsNext (map T.row_of self.now) key.now from result }
     {
@@ -93,6 +94,7 @@ impl<T: HasRow> RowIndex<T> {
 
     /// Puts one more level on top, where the topmost list is longer than a block, and says
     /// whether it was.
+    #[inline(always)]
     fn grow(&mut self) -> Result<bool, AllocError>
         ensures { self.new ≡ self.old }
     {

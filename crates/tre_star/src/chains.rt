@@ -198,6 +198,7 @@ fn add_each_before(
 }
 
 // Adds the pairs of the zone that was found that last at most `longest`, if there are any.
+#[inline(always)]
 fn add_found(
     reached: &mut ZoneIndex,
     found: Option<Zone>,

@@ -185,6 +185,7 @@ impl Zone {
 }
 
 // The zone of the pairs that meet the bounds, None where there is none.
+#[inline(always)]
 pub(crate) fn canonical(bounds: &ZoneBounds) -> Option<Zone>
     requires framed { IsFramed bounds.now }
     requires keys { AreKeysWithin (2 ^ 45) bounds.now }
@@ -198,6 +199,7 @@ pub(crate) fn canonical(bounds: &ZoneBounds) -> Option<Zone>
 }
 
 // The same, by the tightest of such bounds.
+#[inline(always)]
 fn tightened(bounds: &ZoneBounds) -> Option<Zone>
     requires framed { IsFramed bounds.now }
     requires keys { AreKeysWithin (2 ^ 45) bounds.now }

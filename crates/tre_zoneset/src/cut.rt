@@ -26,7 +26,7 @@ pub(crate) fn cut_each(alloc: Global, zones: &[Zone], cut: &Cut) -> Result<Vec<Z
     ensures { IfOk result (λ found.
         HoldExactly found.items (Both (SetHolds zones.now) (Leaves cut.now))) }
 {
-    let mut found = Vec::new(alloc);
+    let mut found = Vec::with_capacity(alloc, zones.len())?;
     for zone in zones {
         gather(&mut found, cut_zone(zone, cut))?;
     }
@@ -47,6 +47,7 @@ pub(crate) fn leaves_all(cut: &Cut, zones: &[Zone]) -> bool
 }
 
 // What the cut leaves of the zone.
+#[inline(always)]
 fn cut_zone(zone: &Zone, cut: &Cut) -> Option<Zone>
     requires { IsCut cut.now }
     ensures { GivesZone result (Both (ZoneHolds zone.now) (Leaves cut.now)) }

@@ -8,7 +8,7 @@ use Rattle.tre_zoneset.proofs.Unions.{HoldExactly-each, HoldExactly-none, HoldEx
 use Rattle.tre_zoneset.proofs.cut.cut_each.Goals as goal
 
 pub loop-zone-init : goal.loop-zone-init
-loop-zone-init c = rw c.new-found.ensures.items
+loop-zone-init c = rw c.in_ok-found.ensures.items
     (HoldExactly-none _ (λ a b n h. SetHolds-empty a b n h.left))
 
 pub loop-zone-preserved : goal.loop-zone-preserved
