@@ -10,10 +10,10 @@ use tre_trace::{Segment, Trace};
 use tre_zoneset::ZoneSet;
 
 /// How many segments a stretch has.
-const SEGMENTS_MAX: u64 = 12;
+const SEGMENTS_MAX: u64 = 8;
 
-/// Half ticks up to the end of it.
-const HALVES_MAX: u64 = 2 * (SEGMENTS_MAX + SEGMENTS_MAX / 2);
+/// How many half ticks it takes.
+const HALVES_MAX: u64 = 3 * SEGMENTS_MAX;
 
 // A session, and the trace that it has read.
 #[derive(Drop)]
@@ -41,11 +41,11 @@ impl Reading {
     // Whether what is told of the segment are, on half ticks, matches over the trace up to its end
     // which end within it, and all of them that end later than it begins.
     fn tells_all(&mut self, alloc: Global, len: u64, val: u64) -> Result<bool, Fail> {
-        let begin = self.session.at() * 2;
+        let begin = self.session.at().saturating_mul(2);
         let told = self.read(len, val)?;
         let all = matches(alloc, self.session.pattern(), &self.trace)?;
-        for a in 0..HALVES_MAX {
-            for b in 0..HALVES_MAX {
+        for a in 0..=HALVES_MAX {
+            for b in 0..=HALVES_MAX {
                 if !is_right(told.holds(a, b, 2), all.holds(a, b, 2), b, begin) {
                     return Ok(false);
                 }

@@ -20,4 +20,6 @@ mod sets;
 #[cfg(test)]
 mod support;
 #[cfg(test)]
+mod touching;
+#[cfg(test)]
 mod zones;
