@@ -23,8 +23,6 @@ mod residuals;
 #[cfg(test)]
 mod sessions;
 #[cfg(test)]
-mod steady;
-#[cfg(test)]
 mod twins;
 #[cfg(test)]
 mod whole_traces;
