@@ -24,8 +24,8 @@ use tre_trace::{Segment, Trace, TraceFault};
 /// The place of a fault is the number of its record, from 1. `UnknownName` at 1 comes first: a name
 /// has no definition, or the header no column for one. Then of each row `CutShort`, where it has
 /// fewer fields than the header, `BadNumber`, `Zero` and `TooLate` of its duration, and `BadNumber`
-/// of a field that isn't a whole number where a name reads one. Fields that no name reads, and those
-/// past the header's, may be anything.
+/// of a field that isn't a whole number where a name reads one. Fields that no name reads, and
+/// those past the header's, may be anything.
 pub fn read_rows(
     alloc: Global,
     bytes: &[u8],
@@ -77,12 +77,12 @@ fn read_behind(
 ) -> Result<Vec<Segment>, TraceFault>
     requires few { length columns.now ≤ NAMES_MAX }
     requires scale { scale ≤ SCALE_MAX }
-    ensures segments { (left : List (List (List ℕ))) → IsLeft rows.entry left → IfOk result (λ segments.
-        rows_from columns.now width scale 2 left 0
+    ensures segments { (left : List (List (List ℕ))) → IsLeft rows.entry left →
+        IfOk result (λ segments. rows_from columns.now width scale 2 left 0
         ≡ record { segments = segments.items; fault = None }) }
     ensures trace { IfOk result (λ segments. IsTrace segments.items) }
-    ensures fault { (left : List (List (List ℕ))) → IsLeft rows.entry left → IfErr result (λ fault.
-        fault.kind ≢ Memory →
+    ensures fault { (left : List (List (List ℕ))) → IsLeft rows.entry left →
+        IfErr result (λ fault. fault.kind ≢ Memory →
         (rows_from columns.now width scale 2 left 0).fault ≡ Some fault) }
     ensures placed { IfErr result IsPlaced }
 {
