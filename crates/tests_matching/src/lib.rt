@@ -23,6 +23,8 @@ mod residuals;
 #[cfg(test)]
 mod sessions;
 #[cfg(test)]
+mod steady;
+#[cfg(test)]
 mod twins;
 #[cfg(test)]
 mod whole_traces;
