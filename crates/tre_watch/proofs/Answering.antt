@@ -1,0 +1,56 @@
+-- What is answered of one check.
+use Rattle.std.proofs.Common.{◌≡◌, ℕ, ◌<◌, ◌⊎◌, true, false, Option, Some, None, is_some, List, [], ◌∷◌, ◌++◌, length, map, refl, sym, ap, subst, ◌∙◌, inl, inr, ⊎_elim, arith}
+use Rattle.tre_state.specs.Names.{place_of}
+use Rattle.tre_state.specs.declared.names.TheConstants.{NAMES_MAX}
+use Rattle.tre_parse.specs.Outcome.{spelt, refused, IsOutcome as ParsesTo}
+use Rattle.tre_parse.specs.declared.fault.ParseFault.{ParseFault}
+use Rattle.tre_syntax.specs.declared.pattern.Pattern.{Pattern}
+use Rattle.tre_watch.specs.declared.fault.WatchFault.{WatchFault}
+use Rattle.tre_watch.specs.declared.fault.WatchFault.TheVariants.{Pattern as PatternFault, Memory}
+use Rattle.tre_watch.specs.Lines.{Says, check}
+use Rattle.tre_watch.specs.Outcome.{SpeltPattern}
+use Rattle.tre_watch.specs.Steps.{spelt_of, spelt_in, Leads, Stops}
+use Rattle.tre_watch.proofs.Outcomes.{stops_memory, stops_text, leads_check}
+
+pub is_there : (place : Option ℕ) → is_some place ≡ true → (k : ℕ) × (place ≡ Some k)
+is_there None e = absurd (cc)
+is_there (Some k) e = (k, refl)
+
+pub is_absent : (place : Option ℕ) → is_some place ≡ false → place ≡ None
+is_absent None e = refl
+is_absent (Some k) e = absurd (cc)
+
+spelt_in-push : (patterns : List Pattern) (pattern : Pattern)
+    → spelt_in (patterns ++ pattern ∷ []) ≡ spelt_in patterns ++ spelt_of pattern ∷ []
+spelt_in-push [] pattern = refl
+spelt_in-push (first ∷ patterns) pattern =
+    ap (λ (rest : List SpeltPattern). spelt_of first ∷ rest) (spelt_in-push patterns pattern)
+
+module _ (number : ℕ) (line : List ℕ) (names : List (List ℕ)) (patterns : List Pattern)
+    (name text : List ℕ) (says : Says line (check name text)) (few : length names < NAMES_MAX)
+    (none : place_of names name ≡ None) where
+  -- the text's pattern was added
+  pub found_leads : (pattern : Pattern) → ParsesTo text (spelt (spelt_of pattern).tree (spelt_of pattern).names)
+      → (new_names : List (List ℕ)) (new_patterns : List Pattern)
+      → new_names ≡ names ++ name ∷ [] → new_patterns ≡ patterns ++ pattern ∷ []
+      → Leads number line names (spelt_in patterns) new_names (spelt_in new_patterns)
+  found_leads pattern parses new_names new_patterns is are =
+      subst (λ (list : List (List ℕ)).
+      Leads number line names (spelt_in patterns) list (spelt_in new_patterns)) (sym is)
+      (subst (λ (list : List SpeltPattern).
+      Leads number line names (spelt_in patterns) (names ++ name ∷ []) list)
+      (sym (ap (λ (list : List Pattern). spelt_in list) are ∙ spelt_in-push patterns pattern))
+      (leads_check number line names (spelt_in patterns) name text says few none
+      (spelt_of pattern) parses))
+
+  -- the text has a fault, or there was no memory
+  pub found_stops : (fault : WatchFault)
+      → (fault ≡ Memory) ⊎ ((parsed : ParseFault) × ParsesTo text (refused parsed)
+      × (fault ≡ PatternFault number parsed))
+      → Stops number line names (spelt_in patterns) fault
+  found_stops fault why =
+      ⊎_elim (λ e. record { why = inl e })
+      (λ h.
+      subst (λ (f : WatchFault). Stops number line names (spelt_in patterns) f) (sym h.2)
+      (stops_text number line names (spelt_in patterns) name text says few none h.0 h.1))
+      why

@@ -1,0 +1,8 @@
+-- the front of some bytes that passes a test, and what stands behind it
+pub mod Fronts
+-- where a check stands on a line
+pub mod Checks
+-- what becomes of a file
+pub mod Outcomes
+-- what is answered of one check
+pub mod Answering

@@ -1,0 +1,74 @@
+use Rattle.std.proofs.Common.{◌≡◌, ◌+◌, ◌-◌, [], length, map, refl, ap, subst, ◌∙◌, inr, arith}
+use Rattle.std.proofs.lemmas.List.{length-drop}
+use Rattle.std.proofs.lemmas.Result.{err_from_is_err_and}
+use Rattle.std.specs.List.{slice_split}
+use Rattle.tre_watch.specs.Lines.{is_line_end}
+use Rattle.tre_watch.specs.Outcome.{Outcome, IsOutcomeFrom}
+use Rattle.tre_watch.specs.Steps.{spelt_in}
+use Rattle.tre_watch.proofs.Outcomes.{Reaches-start, Reaches-next, Reaches-stop, Reaches-last_stop, Reaches-end, ended_empty, ended_some}
+use Rattle.tre_watch.proofs.reader.read_lines.Goals as goal
+
+pub loop-end-init : goal.loop-end-init
+loop-end-init c = record {
+  reaches = rw (c.new-names.ensures, c.new-patterns.ensures.items)
+      (Reaches-start c.args.bytes.now);
+  small = omega arith;
+}
+
+pub loop-end-preserved : goal.loop-end-preserved
+loop-end-preserved c =
+    let high = c.in-Some.ensures.0.high in
+    let shorter : length c.behind_line-rest.result.now
+    ≡ length c.loop-end.rest.now - (c.in-Some.end + 1) =
+    ap length c.behind_line-rest.ensures
+    ∙ length-drop (c.in-Some.end + 1) c.loop-end.rest.now in
+    let small = c.loop-end.invariant.small in
+    record {
+      reaches = rw c.behind_line-rest.ensures
+          (Reaches-next c.args.bytes.now c.loop-end.names
+          (spelt_in c.loop-end.patterns.items) c.loop-end.number c.loop-end.rest.now
+          c.loop-end.invariant.reaches c.in-Some.end c.in-Some.ensures.0 c.in-Some.ensures.1
+          c.add_line.new.names (spelt_in c.add_line.new.patterns.items)
+          c.in_ok-add_line.ensures);
+      small = omega arith;
+    }
+
+pub returns-in_err-add_line : goal.returns-in_err-add_line
+returns-in_err-add_line c =
+    let p = err_from_is_err_and c.from_residual.result c.from_residual.ensures.1 in
+    rw (p.1, p.2)
+    (Reaches-stop c.args.bytes.now c.loop-end.names (spelt_in c.loop-end.patterns.items)
+    c.loop-end.number c.loop-end.rest.now c.loop-end.invariant.reaches c.in-Some.end
+    c.in-Some.ensures.0 c.in-Some.ensures.1 c.in_err-add_line.field-0.0 c.in_err-add_line.ensures)
+
+pub returns-in_err-add_line-2 : goal.returns-in_err-add_line-2
+returns-in_err-add_line-2 c =
+    let p = err_from_is_err_and c.from_residual-in_err-add_line-2.result
+    c.from_residual-in_err-add_line-2.ensures.1 in
+    rw (p.1, p.2)
+    (Reaches-last_stop c.args.bytes.now c.loop-end.names (spelt_in c.loop-end.patterns.items)
+    c.loop-end.number c.loop-end.rest.now c.loop-end.invariant.reaches c.in_default.ensures
+    c.in_err-add_line-2.field-0.0 c.in_err-add_line-2.ensures)
+
+pub returns-then-is_empty : goal.returns-then-is_empty
+returns-then-is_empty c =
+    let none = c.is_empty.ensures.0 c.if-is_empty.true in
+    inr (subst (λ (outcome : Outcome).
+    IsOutcomeFrom [] [] 1 (slice_split is_line_end c.args.bytes.now) outcome)
+    (ended_empty c.add_line-2.new.names (spelt_in c.add_line-2.new.patterns.items) none)
+    (Reaches-end c.args.bytes.now c.loop-end.names (spelt_in c.loop-end.patterns.items)
+    c.loop-end.number c.loop-end.rest.now c.loop-end.invariant.reaches c.in_default.ensures
+    c.add_line-2.new.names (spelt_in c.add_line-2.new.patterns.items)
+    c.in_ok-add_line-2.ensures))
+
+pub returns : goal.returns
+returns c =
+    let some : c.add_line-2.new.names ≡ [] → ⊥ =
+    λ none. let told = c.is_empty.ensures.1 none in absurd (cc) in
+    subst (λ (outcome : Outcome).
+    IsOutcomeFrom [] [] 1 (slice_split is_line_end c.args.bytes.now) outcome)
+    (ended_some c.add_line-2.new.names (spelt_in c.add_line-2.new.patterns.items) some)
+    (Reaches-end c.args.bytes.now c.loop-end.names (spelt_in c.loop-end.patterns.items)
+    c.loop-end.number c.loop-end.rest.now c.loop-end.invariant.reaches c.in_default.ensures
+    c.add_line-2.new.names (spelt_in c.add_line-2.new.patterns.items)
+    c.in_ok-add_line-2.ensures)

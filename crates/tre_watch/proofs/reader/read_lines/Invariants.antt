@@ -1,0 +1,13 @@
+use Rattle.std.proofs.Common.{◌+◌, ◌≤◌, length}
+use Rattle.tre_watch.specs.Steps.{spelt_in}
+use Rattle.tre_watch.proofs.Outcomes.{Reaches}
+use Rattle.tre_watch.proofs.reader.read_lines.Given as goal
+
+abbrev pub invariant-loop-end : goal.invariant-loop-end
+invariant-loop-end l = record {
+  reaches : Reaches l.bytes l.names (spelt_in l.patterns.items) l.number l.rest;
+  small : l.number + length l.rest ≤ length l.bytes + 1;
+}
+
+abbrev pub decreases-loop-end : goal.decreases-loop-end
+decreases-loop-end l = length l.rest

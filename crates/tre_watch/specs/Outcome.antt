@@ -1,0 +1,76 @@
+-- What becomes of a file: the plan that it says, or the fault of the first line that has one.
+use Rattle.std.specs.Prelude.{◌≡◌, ℕ, ◌+◌, nat_lt, Bool, true, false, MatchBool, Option, None, Some, List, [], ◌∷◌, ◌++◌, length}
+use Rattle.std.specs.List.{slice_split}
+use Rattle.tre_state.specs.Names.{place_of}
+use Rattle.tre_state.specs.declared.names.TheConstants.{NAMES_MAX}
+use Rattle.tre_syntax.specs.PatternTree.{PatternTree}
+use Rattle.tre_parse.specs.Outcome.{Outcome as Parsed, spelt, refused, IsOutcome as ParsesTo}
+use Rattle.tre_watch.specs.declared.fault.WatchFault.{WatchFault}
+use Rattle.tre_watch.specs.declared.fault.WatchFault.TheVariants.{TooLarge, BadLine, TooMany, Twice, Pattern, Empty}
+use Rattle.tre_watch.specs.declared.reader.TheConstants.{FILE_MAX}
+use Rattle.tre_watch.specs.Lines.{is_line_end, Said, silence, mistake, check, Says}
+
+-- A pattern, by its tree and the names of its propositions.
+pub record SpeltPattern : Type 0 where
+  pub tree : PatternTree
+  pub names : List (List ℕ)
+
+-- The names of the checks and their patterns, in one order; or why there is no plan.
+pub data Outcome : Type 0 where
+  planned : List (List ℕ) → List SpeltPattern → Outcome
+  faulty : WatchFault → Outcome
+
+-- What becomes of the text of a check on this line. Where it spells a pattern, On goes on with it.
+abbrev pub AfterText : Parsed → ℕ → Outcome → (SpeltPattern → Type 0) → Type 0
+AfterText (refused fault) number outcome On =
+    outcome ≡ faulty (Pattern number fault)
+AfterText (spelt tree names) number outcome On = On (record { tree = tree; names = names })
+
+-- The text comes to this by the grammar of patterns.
+pub record ParsesOn (text : List ℕ) (number : ℕ) (outcome : Outcome) (On : SpeltPattern → Type 0)
+    : Type 0 where
+  pub parsed : Parsed
+  pub parses : ParsesTo text parsed
+  pub after : AfterText parsed number outcome On
+
+-- What becomes of a check, by the place of an earlier one of its name.
+abbrev pub AfterName : Option ℕ → List ℕ → ℕ → Outcome → (SpeltPattern → Type 0) → Type 0
+AfterName None text number outcome On = ParsesOn text number outcome On
+AfterName (Some place) text number outcome On = outcome ≡ faulty (Twice number)
+
+-- What becomes of a check, by whether there may be one more.
+abbrev pub AfterCount : Bool → Option ℕ → List ℕ → ℕ → Outcome → (SpeltPattern → Type 0) → Type 0
+AfterCount true place text number outcome On = AfterName place text number outcome On
+AfterCount false place text number outcome On = outcome ≡ faulty (TooMany number)
+
+-- What becomes of a line behind the checks with these names and patterns, by what it says. Where it
+-- has no fault, On goes on.
+abbrev pub Follows : Said → List (List ℕ) → List SpeltPattern → ℕ → Outcome
+    → (List (List ℕ) → List SpeltPattern → Type 0) → Type 0
+Follows silence names patterns number outcome On = On names patterns
+Follows mistake names patterns number outcome On = outcome ≡ faulty (BadLine number)
+Follows (check name text) names patterns number outcome On =
+    AfterCount (nat_lt (length names) NAMES_MAX) (place_of names name) text number outcome
+    (λ pattern. On (names ++ name ∷ []) (patterns ++ pattern ∷ []))
+
+-- What becomes of no more lines.
+abbrev pub ended : List (List ℕ) → List SpeltPattern → Outcome
+ended [] patterns = faulty Empty
+ended (name ∷ names) patterns = planned (name ∷ names) patterns
+
+-- What becomes of the lines from this one on, behind the checks with these names and patterns.
+unfoldable pub IsOutcomeFrom : List (List ℕ) → List SpeltPattern → ℕ → List (List ℕ) → Outcome
+    → Type 0
+IsOutcomeFrom names patterns number [] outcome = outcome ≡ ended names patterns
+IsOutcomeFrom names patterns number (line ∷ lines) outcome =
+    (said : Said) × Says line said
+    × Follows said names patterns number outcome
+    (λ names patterns. IsOutcomeFrom names patterns (number + 1) lines outcome)
+
+-- The file has this outcome. It has exactly one, and want of memory aside it is what `read_plan`
+-- answers.
+abbrev pub IsOutcome : List ℕ → Outcome → Type 0
+IsOutcome bytes outcome =
+    MatchBool (nat_lt FILE_MAX (length bytes))
+    (outcome ≡ faulty TooLarge)
+    (IsOutcomeFrom [] [] 1 (slice_split is_line_end bytes) outcome)

@@ -1,0 +1,33 @@
+use std::alloc::AllocError;
+use tre_parse::ParseFault;
+
+/// Why a file gives no plan. Lines are counted from 1. The fault is that of the first line that has
+/// one, and for one line the kinds are tried in this order.
+#[derive(Clone, Copy, Debug, PartialEq, Eq)]
+pub enum WatchFault {
+    /// The file has more than 1,048,576 bytes.
+    TooLarge,
+    /// The line is neither blank nor a comment nor a check, or has a byte above 127.
+    BadLine { line: u64 },
+    /// It is the 65th check.
+    TooMany { line: u64 },
+    /// A check before it has its name.
+    Twice { line: u64 },
+    /// Its text is no pattern. Offsets are counted from behind the `=`.
+    Pattern { line: u64, fault: ParseFault },
+    /// There is no check in the file.
+    Empty,
+    /// There was not enough memory. This may come at any point.
+    Memory,
+}
+
+impl From<AllocError> for WatchFault {
+    ghost use Rattle.std.specs.Prelude.{◌≡◌};
+    ghost use Rattle.tre_watch.specs.declared.fault.WatchFault.{WatchFault};
+
+    ghost from_gives = { λ _ fault. fault ≡ WatchFault.Memory };
+
+    fn from(_: AllocError) -> WatchFault {
+        WatchFault::Memory
+    }
+}

@@ -1,0 +1,65 @@
+ghost use Rattle.std.specs.Prelude.{◌≡◌, ◌+◌, ◌≤◌, ◌↔◌, ◌<◌, length, drop, IsTrue, []};
+ghost use Rattle.std.specs.List.{slice_split};
+ghost use Rattle.tre_watch.specs.Lines.{is_line_end};
+ghost use Rattle.tre_watch.specs.Outcome.{Outcome, IsOutcome, IsOutcomeFrom};
+ghost use Rattle.tre_watch.specs.Steps.{Answers};
+
+use crate::check::add_line;
+use crate::fault::WatchFault;
+use crate::plan::Plan;
+use memchr::memchr;
+use std::alloc::Global;
+use tre_state::Names;
+
+/// How many bytes a file may have.
+pub const FILE_MAX: usize = 1_048_576;
+
+/// The plan that the bytes of a file say.
+///
+/// The first 1,048,577 bytes of a file are enough to be given, since more make no other answer.
+pub fn read_plan(alloc: Global, bytes: &[u8]) -> Result<Plan, WatchFault>
+    ensures outcome { Answers (IsOutcome bytes.now) result }
+    ensures only { (outcome : Outcome) → IsOutcome bytes.now outcome →
+        Answers (λ answer. outcome ≡ answer) result }
+{
+    if is_too_large(bytes) {
+        return Err(WatchFault::TooLarge);
+    }
+    let plan = read_lines(alloc, bytes)?;
+    Ok(plan)
+}
+
+fn is_too_large(bytes: &[u8]) -> bool
+    ensures { IsTrue result ↔ (FILE_MAX < length bytes.now) }
+{
+    bytes.len() > FILE_MAX
+}
+
+// The plan that the lines of the bytes say.
+fn read_lines(alloc: Global, bytes: &[u8]) -> Result<Plan, WatchFault>
+    requires { length bytes.now ≤ FILE_MAX }
+    ensures { Answers (IsOutcomeFrom [] [] 1 (slice_split is_line_end bytes.now)) result }
+{
+    let mut names = Names::new(alloc);
+    let mut patterns = Vec::new(alloc);
+    let mut rest = bytes;
+    let mut number = 1;
+    while let Some(end) = memchr(b'\n', rest) {
+        add_line(alloc, &mut names, &mut patterns, number, &rest[..end])?;
+        rest = behind_line(rest, end);
+        number += 1;
+    }
+    add_line(alloc, &mut names, &mut patterns, number, rest)?;
+    if names.is_empty() {
+        return Err(WatchFault::Empty);
+    }
+    Ok(Plan { names, patterns })
+}
+
+// What stands behind a line that ends at this place.
+fn behind_line(rest: &[u8], end: usize) -> &[u8]
+    requires { end < length rest.now }
+    ensures { result.now ≡ drop (end + 1) rest.now }
+{
+    &rest[end + 1..]
+}
