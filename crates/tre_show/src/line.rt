@@ -10,7 +10,13 @@ use itoa::write_digits;
 use std::alloc::AllocError;
 use tre_zone::{Bound, Zone};
 
-/// How many bytes a line has at the most: six numbers of up to 20 digits, and 12 signs.
+/// How many numbers stand on a line.
+pub(crate) const LINE_NUMBERS: usize = 6;
+
+/// How many bytes a line has besides: brackets, commas, blanks and its end.
+pub(crate) const LINE_SIGNS: usize = 12;
+
+/// How many bytes a line has at the most, with numbers of up to 20 digits.
 pub(crate) const LINE_MAX: usize = 132;
 
 /// Appends the line of the zone: its begins, its ends and its durations, each as an interval.

@@ -3,7 +3,8 @@ ghost use Rattle.std.specs.Prelude.{◌≡◌, ◌++◌, string_bytes, IfOk, OnO
 ghost use Rattle.tre_show.specs.Line.{lines_of, offline_text};
 
 use crate::decimal::number;
-use crate::line::{LINE_MAX, push_line};
+use crate::line::{LINE_MAX, LINE_NUMBERS, LINE_SIGNS, push_line};
+use itoa::Buffer;
 use std::alloc::{AllocError, Global};
 use tre_zone::Zone;
 
@@ -19,11 +20,21 @@ pub fn zone_lines(zones: &[Zone], out: &mut String) -> Result<(), AllocError>
     Ok(())
 }
 
+// How many bytes so many lines have at the most, and one more, where no number is past the end.
+fn room_for(lines: usize, end: u64) -> usize {
+    let mut buffer = Buffer::new();
+    let digits = buffer.format(end).len();
+    lines
+        .saturating_add(1)
+        .saturating_mul(LINE_NUMBERS * digits + LINE_SIGNS)
+}
+
 /// The lines of the zones, and then the end of the trace.
 pub fn offline_text(alloc: Global, zones: &[Zone], end: u64) -> Result<String, AllocError>
     ensures { IfOk result (λ text. string_bytes text ≡ offline_text zones.now end) }
 {
-    let mut text = String::new(alloc);
+    // All of it at once: a text that grows is copied, and takes its memory twice meanwhile.
+    let mut text = String::with_capacity(alloc, room_for(zones.len(), end))?;
     zone_lines(zones, &mut text)?;
     text.push_str("end ")?;
     number(end, &mut text)?;

@@ -1,5 +1,5 @@
 -- Where a list is cut.
-use Rattle.std.proofs.Common.{◌≡◌, ℕ, zero, suc, min, ◌-◌, ◌<◌, ◌≤◌, List, [], ◌∷◌, ◌++◌, length, get_or, take, drop, refl, sym, ap, ◌∙◌, arith, drop-cons, take-append-drop}
+use Rattle.std.proofs.Common.{◌≡◌, ℕ, zero, suc, min, ◌-◌, ◌<◌, List, [], ◌∷◌, ◌++◌, length, get_or, take, drop, refl, sym, ap, ◌∙◌, arith, drop-cons, take-append-drop}
 
 pub split_around : {X : Type 0} (xs : List X) (k : ℕ) (d : X) → k < length xs
     → xs ≡ take k xs ++ get_or xs k d ∷ drop (suc k) xs

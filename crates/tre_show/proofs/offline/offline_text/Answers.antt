@@ -10,5 +10,5 @@ returns c =
       c.in_ok-number.ensures.text,
       c.in_ok-push_str.ensures.bytes,
       c.in_ok-zone_lines.ensures,
-      c.new-text.ensures.bytes,
+      c.in_ok-text.ensures.bytes,
     ) (simp append_assoc)

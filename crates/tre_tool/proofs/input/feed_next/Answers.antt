@@ -1,4 +1,4 @@
-use Rattle.std.proofs.Common.{◌≡◌, ℕ, ◌+◌, ◌-◌, ◌≤◌, length, take, arith, length-take, refl}
+use Rattle.std.proofs.Common.{◌≡◌, ℕ, ◌+◌, ◌-◌, ◌≤◌, length, take, arith, length-take}
 use Rattle.std.proofs.lemmas.Result.{err_from_is_err_and}
 use Rattle.tre_tool.proofs.Feeding.{TellsAll-exceeds}
 use Rattle.tre_tool.proofs.Turns.{Adds-some, IsFed-all, HasRead-nothing, HasRead-piece, HasRead-fed, HasRead-end, StopsTurn-piece, StopsTurn-end, IsAtEndOf-read, IsEnded-end, GoesOn-fed, Adds-none}
