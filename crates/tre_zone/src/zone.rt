@@ -190,6 +190,19 @@ pub(crate) fn canonical(bounds: &ZoneBounds) -> Option<Zone>
     requires keys { AreKeysWithin (2 ^ 45) bounds.now }
     ensures { GivesZone result (ZoneHolds bounds.now) }
 {
+    // Most bounds that no pair meets leave no room as they stand.
+    if !bounds.leaves_room() {
+        return None;
+    }
+    tightened(bounds)
+}
+
+// The same, by the tightest of such bounds.
+fn tightened(bounds: &ZoneBounds) -> Option<Zone>
+    requires framed { IsFramed bounds.now }
+    requires keys { AreKeysWithin (2 ^ 45) bounds.now }
+    ensures { GivesZone result (ZoneHolds bounds.now) }
+{
     let closed = bounds.closed();
     if closed.leaves_room() {
         Some(Zone { bounds: closed })
