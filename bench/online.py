@@ -1,17 +1,100 @@
 #!/usr/bin/env python3
-"""How time and memory of an online run grow with the trace: one markdown table.
+"""How time and memory of an online run grow with the trace, and what a run takes over a literal that
+stays true: two markdown tables.
 
     python3 bench/online.py PATH_OF_MONTRE [MOST_SEGMENTS]
 
-For Linux. Standard library alone.
+For Linux. Standard library alone, and valgrind for the second table.
 """
 
 import os
+import re
+import shutil
+import subprocess
 import sys
 import tempfile
 
 from growth import PATTERNS, SIZES, write_trace
 from measure import adopt_orphans, cell, measure, print_head, print_row, ratio
+
+
+# Over a literal that stays true: matches may begin at all times that went by.
+STEADY = [
+    "p",
+    "true",
+    "p;p",
+    "p % [2,inf)",
+    "p % [0,3]",
+    "(true)*",
+    "({p || q})+",
+    "p & p",
+    "true & true",
+]
+STEADY_SIZES = [10**3, 10**4, 10**5]
+BYTES = 10**8  # a run that writes more is stopped
+
+
+def write_steady(folder, size):
+    path = os.path.join(folder, "steady%d" % size)
+    if not os.path.exists(path):
+        with open(path, "w") as file:
+            file.writelines("1 p\n" for _ in range(size))
+    return path
+
+
+def write_clock(folder, size):
+    """A dump with a clock, and a signal that stays high."""
+    path = os.path.join(folder, "clock%d.vcd" % size)
+    if not os.path.exists(path):
+        with open(path, "w") as file:
+            file.write("$timescale 1 ns $end\n$scope module top $end\n"
+                       "$var wire 1 ! clk $end\n$var wire 1 \" req $end\n"
+                       "$upscope $end\n$enddefinitions $end\n#0\n0!\n1\"\n")
+            file.writelines("#%d\n%d!\n" % (time, time % 2) for time in range(1, size))
+            file.write("#%d\n" % size)
+    return path
+
+
+def counted(words, trace):
+    """The instructions of a run and the bytes that it writes, or why there are none."""
+    command = ["valgrind", "--tool=callgrind", "--callgrind-out-file=/dev/null"] + words
+    written = 0
+    with open(trace, "rb") as given:
+        with subprocess.Popen(command, stdin=given, stdout=subprocess.PIPE,
+                              stderr=subprocess.PIPE) as run:
+            while piece := run.stdout.read(1 << 16):
+                written += len(piece)
+                if written > BYTES:
+                    run.kill()
+                    return None, "over %d MB" % (BYTES // 10**6)
+            told = run.stderr.read().decode()
+    if run.returncode != 0:
+        return None, "status %d" % run.returncode
+    return int(re.search(r"Collected : (\d+)", told).group(1)), written
+
+
+def print_steady_row(label, words, write, folder, sizes):
+    """A row for each size: what a segment takes, and how that grew."""
+    before = None
+    for size in sizes:
+        instructions, written = counted(words, write(folder, size))
+        if instructions is None:
+            print_row([label, str(size), written, "-", "-", "-"])
+            return
+        each = instructions / size, written / size
+        print_row([label, str(size), "%.0f" % each[0], ratio(each[0], before[0]) if before else "-",
+                   "%.0f" % each[1], ratio(each[1], before[1]) if before else "-"])
+        before = each
+
+
+def print_steady(montre, folder, most):
+    sizes = [size for size in STEADY_SIZES if size <= most]
+    print_head(["pattern", "segments", "instructions a segment", "growth", "bytes a segment",
+                "growth of the bytes"])
+    for pattern in STEADY:
+        print_steady_row(cell(pattern), [montre, "--online", pattern], write_steady, folder, sizes)
+    print_steady_row("`top.req` of a dump with a clock",
+                     [montre, "--online", "--format", "vcd", "top.req"], write_clock, folder, sizes)
 
 
 def print_rows(montre, folder, sizes, pattern, of_p):
@@ -46,6 +129,9 @@ def main():
                     "times `p`", "times offline", "MB"])
         for pattern in PATTERNS:
             print_rows(montre, folder, [size for size in SIZES if size <= most], pattern, of_p)
+        if shutil.which("valgrind"):
+            print("")
+            print_steady(montre, folder, most)
 
 
 if __name__ == "__main__":

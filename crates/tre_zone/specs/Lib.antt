@@ -1,5 +1,5 @@
--- What a reader must believe: bounds, intervals, zones, the ranges that their bounds spell, what two
--- zones hold together, lists of zones, what they hold of ordered pairs and when these end, and
+-- What a reader must believe: bounds, intervals, zones, the ranges that their bounds spell, what
+-- two zones hold together, lists of zones, what they hold of ordered pairs and when these end, and
 -- durations up to a longest one.
 pub mod Bound
 pub mod Interval

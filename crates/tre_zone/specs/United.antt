@@ -10,5 +10,6 @@ pub record IsNoZone (relation : Pairs) : Type 0 where
 
 -- The answer is the zone of exactly the pairs of both, and None where there is no such zone.
 abbrev pub GivesUnion : Option ZoneBounds → ZoneBounds → ZoneBounds → Type 0
-GivesUnion answer one other = MatchOption answer (IsNoZone (Either (ZoneHolds one) (ZoneHolds other)))
+GivesUnion answer one other =
+    MatchOption answer (IsNoZone (Either (ZoneHolds one) (ZoneHolds other)))
     (λ zone. IsZoneOf zone (Either (ZoneHolds one) (ZoneHolds other)))

@@ -19,7 +19,7 @@ pub loop-zone-preserved : goal.loop-zone-preserved
 loop-zone-preserved c =
     new_next c.args.zones.now c.loop-zone.told c.loop-zone.zone-index c.zone-item.result
     c.loop-zone-test.true c.zone-item.is c.args.earlier.now c.keep_new.new.told
-    c.loop-zone.invariant c.in_ok-keep_new.ensures
+    c.loop-zone.invariant (c.in_ok-keep_new.ensures c.args.earlier.now c.is_among.ensures)
 
 pub returns : goal.returns
 returns c =

@@ -1,0 +1,7 @@
+use Rattle.tre_online.proofs.told.is_among.Goals as goal
+
+pub returns : goal.returns
+returns c = (
+  (λ yes. record { included = c.includes.ensures.0 yes }),
+  (λ told. c.includes.ensures.1 told.included),
+)
