@@ -81,6 +81,19 @@ steps_brief piece (intersection left right) set begun told rest is well steps = 
 steps_brief piece (repetition tree) set begun told rest is well steps = absurd is
 steps_brief piece (restriction tree ends) set begun told rest is well steps = absurd is
 
+-- What has begun of a literal ends at the time.
+pub literal_ends : (time : ℕ) (tree : PatternTree) (set begun : List ZoneBounds)
+    → IsLiteralTree tree → IsWell time (atom_mark set begun) tree → EndAt time begun
+literal_ends time (atom (literal state)) set begun is well = well.1
+literal_ends time (atom empty) set begun is well = absurd is
+literal_ends time (atom (rise state)) set begun is well = absurd is
+literal_ends time (atom (fall state)) set begun is well = absurd is
+literal_ends time (sequence left right) set begun is well = absurd is
+literal_ends time (alternation left right) set begun is well = absurd is
+literal_ends time (intersection left right) set begun is well = absurd is
+literal_ends time (repetition tree) set begun is well = absurd is
+literal_ends time (restriction tree ends) set begun is well = absurd is
+
 -- A literal that has begun.
 pub steps_literal : (piece : Piece) (tree : PatternTree) (set begun told : List ZoneBounds)
     (rest : ResidualTree) → IsLiteralTree tree → IsWell piece.begin (atom_mark set begun) tree
