@@ -1,5 +1,10 @@
 // One pass over time, from column to column.
+ghost use Rattle.std.specs.Prelude.{◌≡◌, ◌≤◌, List, IfOk, OnOk};
+ghost use Rattle.tre_zone.specs.declared.zone_bounds.ZoneBounds.{ZoneBounds};
+ghost use Rattle.tre_zone.specs.ZoneList.{SetHolds};
+
 use crate::bar::Bar;
+use crate::begins::{close_zones, first_waiting, next_begin};
 use crate::profiles::profile;
 use crate::times::Times;
 use std::alloc::{AllocError, Global};
@@ -16,20 +21,26 @@ pub(crate) struct Column {
 }
 
 /// Where a pass over zones in the order of their first begins stands: from `time` on pairs begin in
-/// the open zones alone, and in those that wait.
+/// the open zones alone, and in those that wait, from the place `waiting` on.
 #[derive(Drop)]
 pub(crate) struct Sweep {
     pub(crate) time: u64,
-    open: Vec<Zone>,
+    open_zones: Vec<Zone>,
     waiting: usize,
 }
 
 impl Sweep {
+    ghost use Rattle.tre_strips.specs.Sweep.{AreInTurn, IsSwept, IsColumn};
+
     /// The pass before the first column.
-    pub(crate) fn new(alloc: Global) -> Sweep {
+    pub(crate) fn new(alloc: Global) -> Sweep
+        ensures time { result.time ≡ 0 }
+        ensures swept { (zones : List ZoneBounds)
+            → IsSwept zones result.open_zones.items result.waiting result.time }
+    {
         Sweep {
             time: 0,
-            open: Vec::new(alloc),
+            open_zones: Vec::new(alloc),
             waiting: 0,
         }
     }
@@ -39,20 +50,33 @@ impl Sweep {
         &mut self,
         alloc: Global,
         zones: &[Zone],
-    ) -> Result<Column, AllocError> {
+    ) -> Result<Column, AllocError>
+        requires turn { AreInTurn zones.now }
+        requires limit { self.old.time ≤ TIME_MAX }
+        requires swept {
+            IsSwept zones.now self.old.open_zones.items self.old.waiting self.old.time }
+        ensures at { IfOk result (λ column. column.time ≡ self.old.time) }
+        ensures until { IfOk result (λ column. column.until ≡ self.new.time) }
+        ensures column { IfOk result (λ column. IsColumn (SetHolds zones.now) column) }
+        ensures swept { OnOk result (
+            IsSwept zones.now self.new.open_zones.items self.new.waiting self.new.time) }
+    {
         let time = self.time;
-        self.open_zones(zones)?;
+        let next = first_waiting(zones, self.waiting, time);
+        self.open_zones
+            .extend_from_slice(&zones[self.waiting..next])?;
+        self.waiting = next;
         let mut here = Times {
             from: time,
             until: time,
         };
-        let there = profile(alloc, &self.open, &mut here)?;
-        close_zones(&mut self.open, time);
+        let there = profile(alloc, &self.open_zones, &mut here)?;
+        close_zones(&mut self.open_zones, time);
         let mut times = Times {
             from: time,
-            until: next_begin(zones, self.waiting),
+            until: next_begin(zones, next, time),
         };
-        let behind = profile(alloc, &self.open, &mut times)?;
+        let behind = profile(alloc, &self.open_zones, &mut times)?;
         self.time = times.until;
         Ok(Column {
             time,
@@ -61,37 +85,4 @@ impl Sweep {
             until: times.until,
         })
     }
-
-    // Opens the zones that begin at the time.
-    fn open_zones(&mut self, zones: &[Zone]) -> Result<(), AllocError> {
-        while self.waiting < zones.len() && first_begin(&zones[self.waiting]) <= self.time {
-            self.open.push(zones[self.waiting])?;
-            self.waiting += 1;
-        }
-        Ok(())
-    }
-}
-
-// Drops the zones in which nothing begins behind the time.
-fn close_zones(open: &mut Vec<Zone>, time: u64) {
-    open.retain(|zone| last_begin(zone) > time);
-}
-
-// The first time at which a waiting zone begins, or the first past all times.
-fn next_begin(zones: &[Zone], waiting: usize) -> u64 {
-    if waiting < zones.len() {
-        first_begin(&zones[waiting])
-    } else {
-        TIME_MAX + 1
-    }
-}
-
-/// The time from which on pairs of the zone begin.
-pub(crate) fn first_begin(zone: &Zone) -> u64 {
-    zone.bounds().begin_low.value().unsigned_abs()
-}
-
-// The time up to which pairs of the zone begin.
-fn last_begin(zone: &Zone) -> u64 {
-    zone.bounds().begin_high.value().unsigned_abs()
 }

@@ -15,8 +15,10 @@
 pub use canonical::strips;
 
 mod bar;
+mod begins;
 mod canonical;
 mod column;
+pub mod laws;
 mod profiles;
 mod run;
 mod strip_zone;

@@ -1,9 +1,18 @@
 // Runs: stretches of begins over which one list of bars is the profile.
+ghost use Rattle.std.specs.Prelude.{◌≡◌, ◌*◌, ◌<◌, ◌↔◌, List, [], IsTrue, IfOk, OnOk};
+ghost use Rattle.tre_zone.specs.ZoneList.{SetHolds, AreCanonical};
+ghost use Rattle.tre_zone.specs.declared.zone_bounds.ZoneBounds.{ZoneBounds};
+ghost use Rattle.tre_strips.specs.Bar.{place_of, AreFilled};
+ghost use Rattle.tre_strips.specs.Spun.{Closes, FindsAlone, Begun, IsSpun};
+ghost use Rattle.tre_strips.specs.Sweep.{IsColumn};
+ghost use Rattle.tre_strips.specs.Times.{sample_of};
+ghost use Rattle.tre_strips.specs.Found.{StandAlike, AreSamePlaces, GoesOn, Agree, RiseAt};
+
 use crate::bar::Bar;
 use crate::column::Column;
 use crate::profiles::united;
 use crate::strip_zone::{Begins, push_strip};
-use crate::times::Times;
+use crate::times::{Times, place_at};
 use std::alloc::{AllocError, Global};
 use tre_zone::Zone;
 
@@ -21,8 +30,16 @@ impl Run {
         alloc: Global,
         found: &mut Vec<Zone>,
         column: Column,
-    ) -> Result<Run, AllocError> {
-        begin(alloc, found, column, false)
+    ) -> Result<Run, AllocError>
+        requires start { column.time ≡ 0 }
+        requires rise { RiseAt column.time column.there.items }
+        requires none { found.old.items ≡ [] }
+        ensures { IfOk result (λ run. (zones : List ZoneBounds) → AreCanonical zones
+            → IsColumn (SetHolds zones) column
+            → IsSpun zones run.bars.items run.from run.takes_from found.new.items column.until) }
+    {
+        let run = begin(alloc, found, column, false)?;
+        Ok(run)
     }
 
     /// The run behind the time of the next column: this one goes on, or is closed and its strip
@@ -32,17 +49,35 @@ impl Run {
         alloc: Global,
         found: &mut Vec<Zone>,
         column: Column,
-    ) -> Result<Run, AllocError> {
+    ) -> Result<Run, AllocError>
+        requires rising { column.time < column.until }
+        requires rise { RiseAt column.time column.there.items }
+        ensures { IfOk result (λ run. (zones : List ZoneBounds) → AreCanonical zones
+            → IsColumn (SetHolds zones) column
+            → IsSpun zones self.bars.items self.from self.takes_from found.old.items column.time
+            → IsSpun zones run.bars.items run.from run.takes_from found.new.items column.until) }
+    {
         if self.goes_on(&column) {
             return Ok(self);
         }
         let taken = self.close(alloc, found, &column)?;
-        begin(alloc, found, column, taken)
+        let run = begin(alloc, found, column, taken)?;
+        Ok(run)
     }
 
     // Whether the bars are the profile at the time of the column and behind it too.
-    fn goes_on(&self, column: &Column) -> bool {
-        self.bars == column.behind && are_same_at(column.time, &self.bars, &column.there)
+    fn goes_on(&self, column: &Column) -> bool
+        requires { column.now.time < column.now.until }
+        ensures { IsTrue result
+            ↔ GoesOn self.now.bars.items column.now.there.items column.now.behind.items
+            column.now.time }
+    {
+        let behind = Times {
+            from: column.time,
+            until: column.until,
+        };
+        are_alike(&behind, &self.bars, &column.behind)
+            && are_same_at(column.time, &self.bars, &column.there)
     }
 
     // Finds the strip of the run, which ends at the time of the column, and says whether it takes
@@ -52,7 +87,12 @@ impl Run {
         alloc: Global,
         found: &mut Vec<Zone>,
         column: &Column,
-    ) -> Result<bool, AllocError> {
+    ) -> Result<bool, AllocError>
+        requires { RiseAt column.now.time column.now.there.items }
+        ensures { IfOk result (λ taken.
+            Closes self.now.bars.items column.now.there.items self.now.from column.now.time
+            self.now.takes_from taken found.old.items found.new.items) }
+    {
         let fits = fit(alloc, column.time, &self.bars, &column.there)?;
         let begins = Begins {
             from: self.from,
@@ -72,17 +112,16 @@ fn begin(
     found: &mut Vec<Zone>,
     column: Column,
     taken: bool,
-) -> Result<Run, AllocError> {
+) -> Result<Run, AllocError>
+    requires { RiseAt column.time column.there.items }
+    ensures bars { IfOk result (λ run. run.bars.items ≡ column.behind.items) }
+    ensures from { IfOk result (λ run. run.from ≡ column.time) }
+    ensures begun { IfOk result (λ run.
+        Begun column.there.items column.behind.items column.time taken run.takes_from
+        found.old.items found.new.items) }
+{
     let fits = fit(alloc, column.time, &column.behind, &column.there)?;
-    if !taken && !fits {
-        let alone = Begins {
-            from: column.time,
-            takes_from: true,
-            until: column.time,
-            takes_until: true,
-        };
-        push_strip(found, &alone, &column.there)?;
-    }
+    push_alone(found, &column, taken, fits)?;
     Ok(Run {
         bars: column.behind,
         from: column.time,
@@ -90,8 +129,37 @@ fn begin(
     })
 }
 
+// Finds the strip of the time of the column, where no run takes it.
+fn push_alone(
+    found: &mut Vec<Zone>,
+    column: &Column,
+    taken: bool,
+    fits: bool,
+) -> Result<(), AllocError>
+    ensures { OnOk result (FindsAlone column.now.there.items column.now.time taken fits
+        found.old.items found.new.items) }
+{
+    if taken {
+        return Ok(());
+    }
+    if fits {
+        return Ok(());
+    }
+    let alone = Begins {
+        from: column.time,
+        takes_from: true,
+        until: column.time,
+        takes_until: true,
+    };
+    push_strip(found, &alone, &column.there)?;
+    Ok(())
+}
+
 // Whether over the time none of the bars is empty, and together they are what the profile there is.
-fn fit(alloc: Global, time: u64, bars: &[Bar], there: &[Bar]) -> Result<bool, AllocError> {
+fn fit(alloc: Global, time: u64, bars: &[Bar], there: &[Bar]) -> Result<bool, AllocError>
+    requires { RiseAt time there.now }
+    ensures { IfOk result (λ fits. IsTrue fits ↔ Agree time bars.now there.now) }
+{
     if !are_filled(time, bars) {
         return Ok(false);
     }
@@ -106,31 +174,52 @@ fn fit(alloc: Global, time: u64, bars: &[Bar], there: &[Bar]) -> Result<bool, Al
 }
 
 // Whether none of the bars is empty over the time.
-fn are_filled(time: u64, bars: &[Bar]) -> bool {
-    let times = Times {
-        from: time,
-        until: time,
-    };
-    bars.iter()
-        .all(|bar| times.place(&bar.low) < times.place(&bar.high))
-}
-
-// Whether the bars stand where the others do, one by one, over the time.
-fn are_same_at(time: u64, bars: &[Bar], others: &[Bar]) -> bool {
-    if bars.len() != others.len() {
-        return false;
-    }
-    let times = Times {
-        from: time,
-        until: time,
-    };
-    for place in 0..bars.len() {
-        let (bar, other) = (bars[place], others[place]);
-        if times.place(&bar.low) != times.place(&other.low)
-            || times.place(&bar.high) != times.place(&other.high)
-        {
+fn are_filled(time: u64, bars: &[Bar]) -> bool
+    ensures { IsTrue result ↔ AreFilled bars.now (2 * time) 2 }
+{
+    for bar in bars {
+        if !is_filled(time, bar) {
             return false;
         }
     }
     true
+}
+
+fn is_filled(time: u64, bar: &Bar) -> bool
+    ensures { IsTrue result ↔ (place_of bar.now.low (2 * time) 2 < place_of bar.now.high (2 * time) 2) }
+{
+    place_at(time, &bar.low) < place_at(time, &bar.high)
+}
+
+// Whether the bars stand where the others do, one by one, over the time.
+fn are_same_at(time: u64, bars: &[Bar], others: &[Bar]) -> bool
+    ensures { IsTrue result ↔ AreSamePlaces bars.now others.now (2 * time) 2 }
+{
+    let times = Times {
+        from: time,
+        until: time,
+    };
+    are_alike(&times, bars, others)
+}
+
+// Whether the bars stand where the others do, one by one, over one of the times.
+fn are_alike(times: &Times, bars: &[Bar], others: &[Bar]) -> bool
+    ensures { IsTrue result ↔ AreSamePlaces bars.now others.now (sample_of times.now) 2 }
+{
+    if bars.len() != others.len() {
+        return false;
+    }
+    for place in 0..bars.len() {
+        if !stand_alike(times, &bars[place], &others[place]) {
+            return false;
+        }
+    }
+    true
+}
+
+fn stand_alike(times: &Times, bar: &Bar, other: &Bar) -> bool
+    ensures { IsTrue result ↔ StandAlike (sample_of times.now) 2 bar.now other.now }
+{
+    times.place(&bar.low) == times.place(&other.low)
+        && times.place(&bar.high) == times.place(&other.high)
 }
