@@ -14,6 +14,7 @@ use Rattle.tre_strips.specs.Spun.{HaveSamePairs, AreFound}
 use Rattle.tre_strips.specs.declared.bar.Bar.{Bar}
 use Rattle.tre_strips.proofs.Apart.{strips_apart}
 use Rattle.tre_strips.proofs.Listing.{rising_again, apart_again, same_members_held, same_sorted, strictly_again}
+use Rattle.tre_strips.proofs.Spinning.{set_framed}
 use Rattle.tre_strips.proofs.Whole.{IsProfile-pairs}
 
 pub AreStrips-found : (set : List ZoneBounds) → AreCanonical set → (found zones : List ZoneBounds)
@@ -106,7 +107,7 @@ module _ (M N : Pairs) (same : (a b n : ℕ) → 0 < n → M a b n ↔ N a b n)
             (IsInStrip-pairs N M back same others from until time 1 strip);
       }) (IsProfile-pairs M N same bars time time own) has is
 
-pub same_strips : (one other : List ZoneBounds) → HaveSamePairs one other
+same_strips : (one other : List ZoneBounds) → HaveSamePairs one other
     → (zones zones' : List ZoneBounds) → AreStrips (SetHolds one) zones
     → AreStrips (SetHolds other) zones' → zones ≡ zones'
 same_strips one other same zones zones' are are' =
@@ -122,3 +123,16 @@ same_strips one other same zones zones' are are' =
           (are.exact zone).1 (is.0, IsStripZone-pairs (SetHolds other) (SetHolds one) back there
           zone is.1)),
     ))
+
+pub one_list : (set other : List ZoneBounds) → AreCanonical set → AreCanonical other
+    → HoldExactly set (SetHolds other) → (zones others : List ZoneBounds)
+    → AreStrips (SetHolds set) zones → AreStrips (SetHolds other) others → zones ≡ others
+one_list set other canonical canonical' held zones others =
+    same_strips set other (record {
+      same = λ a b n some. (
+        (λ h. let frame = set_framed set canonical a b n some h in
+            (held.exact a b n some frame.rising).0 h),
+        (λ h. let frame = set_framed other canonical' a b n some h in
+            (held.exact a b n some frame.rising).1 h),
+      );
+    }) zones others

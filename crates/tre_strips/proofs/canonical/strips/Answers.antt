@@ -1,8 +1,8 @@
 use Rattle.tre_strips.proofs.Answering.{AreStrips-found, HoldExactly-found}
 use Rattle.tre_strips.proofs.canonical.strips.Goals as goal
 
-pub in_turn-zones-requires : goal.in_turn-zones-requires
-in_turn-zones-requires c = rw c.zones.ensures.same c.zones.ensures.set.canonical
+pub in_turn-requires : goal.in_turn-requires
+in_turn-requires c = rw c.zones.ensures.same c.zones.ensures.set.canonical
 
 pub returns : goal.returns
 returns c =
