@@ -1,7 +1,7 @@
 -- The list of the strips, and that there is one.
 use Rattle.std.proofs.Common.{◌≡◌, ℕ, ◌*◌, ◌<◌, ◌≤◌, ◌↔◌, List, sym}
 use Rattle.std.specs.Prelude.{Contains}
-use Rattle.core.specs.List.Sorted.{IsStrictlySortedBy}
+use Rattle.std.specs.List.Sorted.{IsStrictlySortedBy}
 use Rattle.tre_pairs.specs.Pairs.{Pairs}
 use Rattle.tre_zone.specs.Zone.{IsCanonical, IsZoneOf}
 use Rattle.tre_zone.specs.ZoneList.{SetHolds, AreCanonical, HoldExactly}
@@ -117,11 +117,17 @@ same_strips one other same zones zones' are are' =
     same_sorted zones zones' (strictly_again zones are.rising are.apart)
     (strictly_again zones' are'.rising are'.apart) (λ zone. (
       (λ has. let is = (are.exact zone).0 has in
-          (are'.exact zone).1 (is.0, IsStripZone-pairs (SetHolds one) (SetHolds other) there back
-          zone is.1)),
+          (are'.exact zone).1 (
+            is.0,
+            IsStripZone-pairs (SetHolds one) (SetHolds other) there back
+                zone is.1,
+          )),
       (λ has. let is = (are'.exact zone).0 has in
-          (are.exact zone).1 (is.0, IsStripZone-pairs (SetHolds other) (SetHolds one) back there
-          zone is.1)),
+          (are.exact zone).1 (
+            is.0,
+            IsStripZone-pairs (SetHolds other) (SetHolds one) back there
+                zone is.1,
+          )),
     ))
 
 pub one_list : (set other : List ZoneBounds) → AreCanonical set → AreCanonical other

@@ -27,7 +27,8 @@ rises_from : (bars : List Bar) (least a n : ℕ) → RiseFrom least bars a n →
 unfolding RiseFrom
 rises_from [] least a n rising bar has = absurd (omega (arith, has.1))
 rises_from (first ∷ bars) least a n rising bar (zero, below, is) =
-    subst (λ (b : Bar). (least ≤ place_of b.low a n) × (place_of b.low a n < place_of b.high a n)) is
+    subst (λ (b : Bar). (least ≤ place_of b.low a n)
+    × (place_of b.low a n < place_of b.high a n)) is
     (rising.0, rising.1)
 rises_from (first ∷ bars) least a n rising bar (suc k, below, is) =
     let rest = rises_from bars _ a n rising.2 bar (k, omega (arith, below), is) in

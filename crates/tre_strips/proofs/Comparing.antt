@@ -82,7 +82,10 @@ Narrows-trans old mid new first second =
     record {
       from = omega arith;
       until = omega arith;
-      single = λ e. let kept = first.single e in let kept' = second.single (omega arith) in omega arith;
+      single = λ e.
+          let kept = first.single e in
+          let kept' = second.single (omega arith) in
+          omega arith;
       many = λ lt. second.many (first.many lt);
     }
 

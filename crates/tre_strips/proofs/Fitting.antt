@@ -206,7 +206,8 @@ AreFilled-all bars i a n past filled = rw (take_all i bars past) at filled
 pub AreFilled-not : (bars : List Bar) (i : ℕ) (d : Bar) (a n : ℕ) → AreFilled bars a n
     → i < length bars
     → (place_of (get_or bars i d).low a n < place_of (get_or bars i d).high a n → ⊥) → ⊥
-AreFilled-not bars i d a n filled within not_less = not_less (AreFilled-at bars i a n d filled within)
+AreFilled-not bars i d a n filled within not_less =
+    not_less (AreFilled-at bars i a n d filled within)
 
 -- ---- the test of two lists
 

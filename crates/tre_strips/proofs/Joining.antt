@@ -168,11 +168,13 @@ pub IsJoining-step : (start old new : Times) (first : Bar) (rest : List Bar) (i 
     → IsJoining start old first rest i joined last → Narrows old new
     → Extends new last bar joined joined' next
     → IsJoining start new first rest (i + 1) joined' next
-IsJoining-step start old new first rest i joined joined' last bar next order filled within is now cut (apart gap e e') =
+IsJoining-step start old new first rest i joined joined' last bar next order filled within is now
+    cut (apart gap e e') =
     subst (λ (l : List Bar). IsJoining start new first rest (i + 1) l next) (sym e)
     (subst (λ (b : Bar). IsJoining start new first rest (i + 1) (joined ++ last ∷ []) b) (sym e')
     (IsJoining-gap start old new first rest i joined last bar order filled within is now cut gap))
-IsJoining-step start old new first rest i joined joined' last bar next order filled within is now cut (touching near both e) =
+IsJoining-step start old new first rest i joined joined' last bar next order filled within is now
+    cut (touching near both e) =
     subst (λ (l : List Bar). IsJoining start new first rest (i + 1) l next) (sym e)
     (IsJoining-join start old new first rest i joined last bar next within is now cut near both)
 

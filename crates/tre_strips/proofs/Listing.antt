@@ -3,7 +3,7 @@ use Rattle.std.proofs.Common.{◌≡◌, ◌≢◌, ℕ, zero, suc, ◌+◌, ◌
 use Rattle.std.specs.Prelude.{All, Contains}
 use Rattle.std.specs.List.{dedup, AllByRecursion}
 use Rattle.std.specs.List.Sorted.{IsSortedByKey, IsPermutation}
-use Rattle.core.specs.List.Sorted.{IsStrictlySortedBy}
+use Rattle.std.specs.List.Sorted.{IsStrictlySortedBy}
 use Rattle.std.specs.Cmp.{IsTotalOrder, IsEquivalence, int_cmp_total, on_total, eq_by_cmp_equiv}
 use Rattle.std.specs.Cmp.Lexicographic.{slice_cmp, pointwise, lists_total, lists_ties}
 use Rattle.std.specs.Ordering.{int_cmp, int_eq, eq_by_cmp, ordering_reverse, is_lt, is_eq}

@@ -42,7 +42,8 @@ Keeps from until L R =
 flip : (from until : ℕ) (L R : ℕ → ℕ → ℕ) → Keeps from until L R → Keeps from until R L
 flip from until L R keeps =
     ⊎_elim (λ less. inr (inr less))
-    (λ rest. ⊎_elim (λ same. inr (inl (λ a n some i. sym (same a n some i)))) (λ more. inl more) rest)
+    (λ rest. ⊎_elim (λ same. inr (inl (λ a n some i. sym (same a n some i))))
+    (λ more. inl more) rest)
     keeps
 
 alike : (from until t f u g : ℕ) (x : ℕ → ℕ) → f ≤ 1 → g ≤ 1

@@ -55,11 +55,15 @@ IsProfile-join M bars from until start end one other first second = record {
       ⊎_elim (λ (low : from * n < a).
       ⊎_elim (λ (high : a < until * n). first.each a n some (inr (low, high)))
       (λ (past : until * n ≤ a).
-      second.each a n some (inr (omega arith,
-      ⊎_elim (λ x. absurd (omega arith)) (λ x. x) both.1))) (cases_lt a (until * n)))
+      second.each a n some (inr (
+        omega arith,
+        ⊎_elim (λ x. absurd (omega arith)) (λ x. x) both.1,
+      ))) (cases_lt a (until * n)))
       (λ (early : a ≤ from * n).
       second.each a n some (inr (
-      ⊎_elim (λ x. absurd (omega arith)) (λ x. x) both.0, omega arith)))
+        ⊎_elim (λ x. absurd (omega arith)) (λ x. x) both.0,
+        omega arith,
+      )))
       (cases_lt (from * n) a);
 }
   where
@@ -241,8 +245,7 @@ module _ (M : Pairs) (bars there behind : List Bar) (from time until : ℕ) (les
         let low = both.0 in
         let high = both.1 in
         let begins = first start (omega arith)
-        (IsProfile-part M bars start end start time (omega arith) (omega arith) (omega arith) own) in
-        (
+        (IsProfile-part M bars start end start time (omega arith) (omega arith) (omega arith) own) in (
           same,
           begins,
           ⊎_elim (λ (past : time < end).

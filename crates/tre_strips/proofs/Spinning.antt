@@ -243,8 +243,11 @@ module _ (zones : List ZoneBounds) (canonical : AreCanonical zones) (there behin
   sound_begun before sound zone has = ⊎_elim
       (λ x. sound zone (subst (λ (l : List ZoneBounds). Contains l zone) x.1 has))
       (λ x. ⊎_elim (λ y. sound zone y)
-      (λ y. (y.0, of_time there time y.1.0 (is_alone before x.0 x.1) at y.1.1
-      (column_zone zone y.1.0 y.1.1 y.1.2)))
+      (λ y. (
+        y.0,
+        of_time there time y.1.0 (is_alone before x.0 x.1) at y.1.1
+            (column_zone zone y.1.0 y.1.1 y.1.2),
+      ))
       (x.2.sound zone has)) begun.pushed
 
   -- A bar of the profile of the time stands where one of the bars there does.
@@ -434,9 +437,12 @@ module _ (zones : List ZoneBounds) (canonical : AreCanonical zones)
   sound_mid : (zone : ZoneBounds) → Contains mid zone
       → IsCanonical zone × IsStripZone (SetHolds zones) zone
   sound_mid zone has = ⊎_elim (λ x. spun.sound zone x)
-      (λ x. (x.0, of_run bars from time x.1.0 is_run x.1.1
-      (IsZoneOf-block zones canonical bars from time takes taken spun.profile spun.takes
-      last_fits x.1.0 zone x.1.1 x.1.2)))
+      (λ x. (
+        x.0,
+        of_run bars from time x.1.0 is_run x.1.1
+            (IsZoneOf-block zones canonical bars from time takes taken spun.profile spun.takes
+            last_fits x.1.0 zone x.1.1 x.1.2),
+      ))
       (closes.pushed.sound zone has)
 
   alone_again : (others : List Bar) (moment : ℕ) (bar : Bar) (zone : ZoneBounds)

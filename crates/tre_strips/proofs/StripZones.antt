@@ -71,8 +71,14 @@ one_of bar other (suc k, below, is) = absurd (omega (arith, below))
 pub same_zone : (zone other : ZoneBounds) (P : Pairs) → IsCanonical zone → IsCanonical other
     → IsZoneOf zone P → IsZoneOf other P → zone ≡ other
 same_zone zone other P canonical canonical' is is' = same_pairs zone other canonical canonical'
-    (record { every = λ a b n some le h. (is.exact a b n some le).1 ((is'.exact a b n some le).0 h) })
-    (record { every = λ a b n some le h. (is'.exact a b n some le).1 ((is.exact a b n some le).0 h) })
+    (record {
+      every = λ a b n some le h.
+          (is.exact a b n some le).1 ((is'.exact a b n some le).0 h);
+    })
+    (record {
+      every = λ a b n some le h.
+          (is'.exact a b n some le).1 ((is.exact a b n some le).0 h);
+    })
 
 pub Pushes-some : (begins : Begins) (bar : Bar) (zone : ZoneBounds) (zones : List ZoneBounds)
     → IsCanonical zone → IsZoneOf zone (IsInPart begins bar)
@@ -337,8 +343,8 @@ GivesZone-part begins bar zone found begin_low begin_high end_low end_high dur_l
           }),
     )) given
 
-pub same_flags : (m k : Bool) → beq m k ≡ true → m ≡ k
+pub same_flags : (m k : Bool) → not (beq m k) ≡ false → m ≡ k
 same_flags true true e = refl
-same_flags true false e = absurd (true≢false (sym e))
-same_flags false true e = absurd (true≢false (sym e))
+same_flags true false e = absurd (true≢false e)
+same_flags false true e = absurd (true≢false e)
 same_flags false false e = refl

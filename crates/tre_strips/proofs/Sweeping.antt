@@ -126,7 +126,8 @@ IsSwept-more zones here here' waiting next time rising count is now =
       held = λ a b n some from.
           let was = now.held a b n some from in
           let left = subst (λ (l : List ZoneBounds). SetHolds l a b n
-          ↔ (SetHolds here a b n ⊎ SetHolds part a b n)) (sym is) (SetHolds-append here part a b n) in
+          ↔ (SetHolds here a b n ⊎ SetHolds part a b n)) (sym is)
+          (SetHolds-append here part a b n) in
           let right = subst (λ (l : List ZoneBounds). SetHolds l a b n
           ↔ (SetHolds part a b n ⊎ SetHolds (drop next zones) a b n))
           (split zones waiting next rising) (SetHolds-append part (drop next zones) a b n) in (
@@ -186,25 +187,26 @@ pub IsProfile-there : (zones here : List ZoneBounds) (bars : List Bar)
     (waiting time next from until : ℕ) → from ≡ time → until ≡ time
     → IsSwept zones here waiting time → time < next → BeginFrom next (drop waiting zones)
     → IsProfile (SetHolds here) bars from until → IsProfile (SetHolds zones) bars time time
-IsProfile-there zones here bars waiting time next from until is is' now later ahead profile = record {
-  each = λ a n some inside.
-      let at = at_one time a n inside in
-      let start = ap (λ k. k * n) is in
-      let own = profile.each a n some (inl (omega arith, omega arith)) in
-      record {
-        rising = own.rising;
-        exact = λ b.
-            let one = own.exact b in
-            let both = now.held a b n some (omega arith) in (
-              (λ h. both.1 (inl (one.0 h))),
-              (λ h. ⊎_elim (λ x. one.1 x)
-                  (λ x.
-                  let begin = ahead.begin a b n some x in
-                  let wide = mul-le-mul_right n later in
-                  absurd (omega arith)) (both.0 h)),
-            );
-      };
-}
+IsProfile-there zones here bars waiting time next from until is is' now later ahead profile =
+    record {
+      each = λ a n some inside.
+          let at = at_one time a n inside in
+          let start = ap (λ k. k * n) is in
+          let own = profile.each a n some (inl (omega arith, omega arith)) in
+          record {
+            rising = own.rising;
+            exact = λ b.
+                let one = own.exact b in
+                let both = now.held a b n some (omega arith) in (
+                  (λ h. both.1 (inl (one.0 h))),
+                  (λ h. ⊎_elim (λ x. one.1 x)
+                      (λ x.
+                      let begin = ahead.begin a b n some x in
+                      let wide = mul-le-mul_right n later in
+                      absurd (omega arith)) (both.0 h)),
+                );
+          };
+    }
   where
     at_one : (time a n : ℕ) → IsIn time time a n → a ≡ time * n
     at_one time a n inside = ⊎_elim (λ one. one.1) (λ many.
@@ -215,28 +217,29 @@ pub IsProfile-behind : (zones here kept : List ZoneBounds) (bars : List Bar)
     → IsSwept zones here waiting time → SameBehind time here kept
     → BeginFrom next (drop waiting zones)
     → IsProfile (SetHolds kept) bars from until → IsProfile (SetHolds zones) bars time until
-IsProfile-behind zones here kept bars waiting time next from until is many within now same ahead profile = record {
-  each = λ a n some inside.
-      let at = at_many time until a n (omega arith) inside in
-      let low = at.0 in
-      let high = at.1 in
-      let start = ap (λ k. k * n) is in
-      let own = profile.each a n some (inr (omega arith, high)) in
-      record {
-        rising = own.rising;
-        exact = λ b.
-            let one = own.exact b in
-            let kept_same = same.same a b n some low in
-            let both = now.held a b n some (omega arith) in (
-              (λ h. both.1 (inl (kept_same.0 (one.0 h)))),
-              (λ h. ⊎_elim (λ x. one.1 (kept_same.1 x))
-                  (λ x.
-                  let begin = ahead.begin a b n some x in
-                  let wide = mul-le-mul_right n within in
-                  absurd (omega arith)) (both.0 h)),
-            );
-      };
-}
+IsProfile-behind zones here kept bars waiting time next from until is many within now same ahead
+    profile = record {
+      each = λ a n some inside.
+          let at = at_many time until a n (omega arith) inside in
+          let low = at.0 in
+          let high = at.1 in
+          let start = ap (λ k. k * n) is in
+          let own = profile.each a n some (inr (omega arith, high)) in
+          record {
+            rising = own.rising;
+            exact = λ b.
+                let one = own.exact b in
+                let kept_same = same.same a b n some low in
+                let both = now.held a b n some (omega arith) in (
+                  (λ h. both.1 (inl (kept_same.0 (one.0 h)))),
+                  (λ h. ⊎_elim (λ x. one.1 (kept_same.1 x))
+                      (λ x.
+                      let begin = ahead.begin a b n some x in
+                      let wide = mul-le-mul_right n within in
+                      absurd (omega arith)) (both.0 h)),
+                );
+          };
+    }
   where
     at_many : (from until a n : ℕ) → from < until → IsIn from until a n
         → (from * n < a) × (a < until * n)

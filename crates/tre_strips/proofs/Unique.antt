@@ -101,17 +101,19 @@ same_places (bar ∷ bars) (other ∷ others) least least' a n rising rising' sa
     ⊎_elim (λ less. absurd (not_less less))
     (λ above. ⊎_elim (λ more. absurd (not_more more)) (λ below. omega arith)
     (cases_lt (place_of other.high a n) (place_of bar.high a n)))
-    (cases_lt (place_of bar.high a n) (place_of other.high a n)) in
-    (record { low = low; high = high }, same_places bars others _ _ a n rising.2 rising'.2 (λ p. (
-      (λ h.
-          let from = covers_from bars _ a n p rising.2 h in
-          ⊎_elim (λ x. let below = x.1 in absurd (omega arith)) (λ x. x)
-          ((same p).0 (inr h))),
-      (λ h.
-          let from = covers_from others _ a n p rising'.2 h in
-          ⊎_elim (λ x. let below = x.1 in absurd (omega arith)) (λ x. x)
-          ((same p).1 (inr h))),
-    )))
+    (cases_lt (place_of bar.high a n) (place_of other.high a n)) in (
+      record { low = low; high = high },
+      same_places bars others _ _ a n rising.2 rising'.2 (λ p. (
+        (λ h.
+            let from = covers_from bars _ a n p rising.2 h in
+            ⊎_elim (λ x. let below = x.1 in absurd (omega arith)) (λ x. x)
+            ((same p).0 (inr h))),
+        (λ h.
+            let from = covers_from others _ a n p rising'.2 h in
+            ⊎_elim (λ x. let below = x.1 in absurd (omega arith)) (λ x. x)
+            ((same p).1 (inr h))),
+      )),
+    )
   where
     left_out : (bar : Bar) (bars : List Bar) (a n : ℕ)
         → RiseFrom (place_of bar.high a n + 1) bars a n

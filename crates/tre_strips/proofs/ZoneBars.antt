@@ -122,35 +122,36 @@ pub IsBarOf-some : (early mid late times : Times) (zone : ZoneBounds) (bar : Bar
     → IsLater mid (low_of zone.end_low false) (low_of zone.dur_low true) bar.low
     → IsEarlier late (high_of zone.end_high false) (high_of zone.dur_high true) bar.high
     → Compares true times bar.low bar.high → IsBarOf times zone (Some bar)
-IsBarOf-some early mid late times zone bar canonical cut cut' cut'' begins later earlier less = record {
-  each = λ a n time.
-      let one = later.place a n (Narrows-time mid times cut' a n time) in
-      let other = earlier.place a n (Narrows-time late times cut'' a n time) in
-      let within = begins.each a n (Narrows-time early times cut a n time) in (
-        less.told a n time,
-        (λ b.
-            let places = zone_places zone canonical a b n time.some in (
-              (λ h.
-                  let low = h.low in
-                  let high = h.high in
-                  places.1 (record {
-                    begin_low = within.0;
-                    begin_high = within.1;
-                    end_low = omega arith;
-                    end_high = omega arith;
-                    dur_low = omega arith;
-                    dur_high = omega arith;
-                  })),
-              (λ h.
-                  let p = places.0 h in
-                  let end_low = p.end_low in
-                  let end_high = p.end_high in
-                  let dur_low = p.dur_low in
-                  let dur_high = p.dur_high in
-                  record { low = omega arith; high = omega arith }),
-            )),
-      );
-}
+IsBarOf-some early mid late times zone bar canonical cut cut' cut'' begins later earlier less =
+    record {
+      each = λ a n time.
+          let one = later.place a n (Narrows-time mid times cut' a n time) in
+          let other = earlier.place a n (Narrows-time late times cut'' a n time) in
+          let within = begins.each a n (Narrows-time early times cut a n time) in (
+            less.told a n time,
+            (λ b.
+                let places = zone_places zone canonical a b n time.some in (
+                  (λ h.
+                      let low = h.low in
+                      let high = h.high in
+                      places.1 (record {
+                        begin_low = within.0;
+                        begin_high = within.1;
+                        end_low = omega arith;
+                        end_high = omega arith;
+                        dur_low = omega arith;
+                        dur_high = omega arith;
+                      })),
+                  (λ h.
+                      let p = places.0 h in
+                      let end_low = p.end_low in
+                      let end_high = p.end_high in
+                      let dur_low = p.dur_low in
+                      let dur_high = p.dur_high in
+                      record { low = omega arith; high = omega arith }),
+                )),
+          );
+    }
 
 -- The begin over the times, as an end that moves, tells whether it meets both bounds.
 abbrev pub the_begin : BarEnd

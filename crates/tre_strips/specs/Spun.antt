@@ -21,7 +21,8 @@ pub record Closes (bars there : List Bar) (from time : ℕ) (takes taken : Bool)
     takes_until = taken;
   }) bars old new
 
--- The strip of the time was found, where no run takes it: neither the one before nor the one behind.
+-- The strip of the time was found, where no run takes it: neither the one before it nor the one
+-- behind it.
 abbrev pub FindsAlone : List Bar → ℕ → Bool → Bool → List ZoneBounds → List ZoneBounds → Type 0
 FindsAlone there time taken takes old new =
     (((taken ≡ true) ⊎ (takes ≡ true)) × (new ≡ old))

@@ -53,8 +53,8 @@ impl Sweep {
     ) -> Result<Column, AllocError>
         requires turn { AreInTurn zones.now }
         requires limit { self.old.time ≤ TIME_MAX }
-        requires swept {
-            IsSwept zones.now self.old.open_zones.items self.old.waiting self.old.time }
+        requires swept { IsSwept zones.now self.old.open_zones.items self.old.waiting
+            self.old.time }
         ensures at { IfOk result (λ column. column.time ≡ self.old.time) }
         ensures until { IfOk result (λ column. column.until ≡ self.new.time) }
         ensures column { IfOk result (λ column. IsColumn (SetHolds zones.now) column) }

@@ -186,7 +186,8 @@ fn are_filled(time: u64, bars: &[Bar]) -> bool
 }
 
 fn is_filled(time: u64, bar: &Bar) -> bool
-    ensures { IsTrue result ↔ (place_of bar.now.low (2 * time) 2 < place_of bar.now.high (2 * time) 2) }
+    ensures { IsTrue result
+        ↔ (place_of bar.now.low (2 * time) 2 < place_of bar.now.high (2 * time) 2) }
 {
     place_at(time, &bar.low) < place_at(time, &bar.high)
 }

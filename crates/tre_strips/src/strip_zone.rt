@@ -73,7 +73,8 @@ fn zone_of(begins: &Begins, bar: &Bar) -> Option<Zone>
 fn low_bound(end: &BarEnd, moves: bool) -> Bound
     ensures value { IsValueWithin (2 ^ 42) result }
     ensures meaning { (a b n : ℕ) → 0 < n → a ≤ b → b ≤ TIME_MAX * n
-        → Meets result (cond moves a 0) b n ↔ (end.now.moves ≡ moves → place_of end.now a n ≤ 2 * b) }
+        → Meets result (cond moves a 0) b n
+        ↔ (end.now.moves ≡ moves → place_of end.now a n ≤ 2 * b) }
 {
     if end.moves != moves {
         return Bound::weak(0);
@@ -89,7 +90,8 @@ fn low_bound(end: &BarEnd, moves: bool) -> Bound
 fn high_bound(end: &BarEnd, moves: bool) -> Bound
     ensures value { IsValueWithin (2 ^ 42) result }
     ensures meaning { (a b n : ℕ) → 0 < n → a ≤ b → b ≤ TIME_MAX * n
-        → Meets result b (cond moves a 0) n ↔ (end.now.moves ≡ moves → 2 * b < place_of end.now a n) }
+        → Meets result b (cond moves a 0) n
+        ↔ (end.now.moves ≡ moves → 2 * b < place_of end.now a n) }
 {
     if end.moves != moves {
         return Bound::weak(TIME_MAX as i64);

@@ -52,7 +52,11 @@ impl Times {
         } else {
             ticks
         };
-        if end.after { 2 * moment + 1 } else { 2 * moment }
+        if end.after {
+            2 * moment + 1
+        } else {
+            2 * moment
+        }
     }
 
     // The first of the times, or half a tick later where they are many, in halves of a tick.
@@ -62,7 +66,11 @@ impl Times {
         ensures limit { result < 2 ^ 66 }
     {
         let from = 2 * u128::from(self.from);
-        if self.from < self.until { from + 1 } else { from }
+        if self.from < self.until {
+            from + 1
+        } else {
+            from
+        }
     }
 }
 

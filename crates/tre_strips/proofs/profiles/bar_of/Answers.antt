@@ -10,7 +10,8 @@ pub returns-then-not-begins-clause-bar : goal.returns-then-not-begins-clause-bar
 returns-then-not-begins-clause-bar c =
     let same = c.bounds-bounds.ensures.same in
     subst (λ (zone : ZoneBounds). IsBarOf c.begins.new.times zone None) same
-    (IsBarOf-outside c.begins.new.times c.bounds-bounds.result (subst IsCanonical (sym same) c.bounds-bounds.ensures.canonical)
+    (IsBarOf-outside c.begins.new.times c.bounds-bounds.result
+    (subst IsCanonical (sym same) c.bounds-bounds.ensures.canonical)
     c.if-not-begins.ensures.told)
 
 pub returns-then-is_before-clause-bar : goal.returns-then-is_before-clause-bar

@@ -8,5 +8,8 @@ pub returns-then-fits : goal.returns-then-fits
 returns-then-fits c = inl (inr c.if-fits.true, refl)
 
 pub returns : goal.returns
-returns c = inr (c.if-taken.false, c.if-fits.false,
-    rw c.deref.ensures.value at c.in_ok-push_strip.ensures)
+returns c = inr (
+  c.if-taken.false,
+  c.if-fits.false,
+  rw c.deref.ensures.value at c.in_ok-push_strip.ensures,
+)

@@ -12,7 +12,7 @@ returns-then-end-clause-meaning c =
     ≡ (pos 2 *ℤ pos (min c.args.end.now.ticks (TIME_MAX + 1))) +ℤ pos 1 =
     omega (arith, ints) in
     HighMeans-weak c.weak-then-end.result c.args.end.now c.args.moves is
-    (same_flags _ _ c.if-end-moves.false) c.if-end.true
+    (same_flags c.args.end.now.moves c.args.moves c.if-end-moves.false) c.if-end.true
 
 pub returns-else-end-clause-meaning : goal.returns-else-end-clause-meaning
 returns-else-end-clause-meaning c =
@@ -21,4 +21,4 @@ returns-else-end-clause-meaning c =
     let is : c.strict.result ≡ pos 2 *ℤ pos (min c.args.end.now.ticks (TIME_MAX + 1)) =
     omega (arith, ints) in
     HighMeans-strict c.strict.result c.args.end.now c.args.moves is
-    (same_flags _ _ c.if-end-moves.false) c.if-end.false
+    (same_flags c.args.end.now.moves c.args.moves c.if-end-moves.false) c.if-end.false

@@ -28,8 +28,11 @@ returns-then-are_alike c =
       c.deref-then-are_alike.ensures.value,
       c.deref-then-are_alike-2.ensures.value,
     ) at c.are_same_at.ensures in (
-      (λ e. (same_at times c.args.self.now.bars.items c.args.column.now.behind.items c.requires
-          (here.0 c.if-are_alike.true), there.0 e)),
+      (λ e. (
+        same_at times c.args.self.now.bars.items c.args.column.now.behind.items c.requires
+            (here.0 c.if-are_alike.true),
+        there.0 e,
+      )),
       (λ goes. there.1 goes.1),
     )
 

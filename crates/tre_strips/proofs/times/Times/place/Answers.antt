@@ -19,7 +19,7 @@ at end moves after_it sample moment e e' is =
 
 pub returns-then-end-2 : goal.returns-then-end-2
 returns-then-end-2 c = elim c.if-end.branch [
-    then-end w ↦
+  | then-end w ↦
       let is = w.moment-is in
       let ticks = c.from-ticks.ensures in
       let sample = w.sample.ensures.same in
@@ -34,7 +34,7 @@ returns-then-end-2 c = elim c.if-end.branch [
 
 pub returns-else-end-2 : goal.returns-else-end-2
 returns-else-end-2 c = elim c.if-end.branch [
-    then-end w ↦
+  | then-end w ↦
       let is = w.moment-is in
       let ticks = c.from-ticks.ensures in
       let sample = w.sample.ensures.same in

@@ -20,34 +20,36 @@ contrary' m p q = true≢false (sym p ∙ q)
 pub returns-then-one-other-clause-settled : goal.returns-then-one-other-clause-settled
 returns-then-one-other-clause-settled c =
     IsSettled-cut c.args.self.now c.args.one.now c.args.other.now (
-      (λ p q lt. absurd (contrary c.args.one.now.moves c.args.other.now.moves c.if-one-other.true p q)),
-      (λ p q lt. absurd (contrary'' c.args.one.now.moves c.args.other.now.moves c.if-one-other.true p q)),
+      (λ p q lt. absurd (contrary c.args.one.now.moves c.args.other.now.moves
+          c.if-one-other.true p q)),
+      (λ p q lt. absurd (contrary'' c.args.one.now.moves c.args.other.now.moves
+          c.if-one-other.true p q)),
     )
 
 pub returns-then-self-meeting-clause-settled : goal.returns-then-self-meeting-clause-settled
 returns-then-self-meeting-clause-settled c =
     let cut = c.min-self.ensures in
     IsSettled-cut _ c.args.one.now c.args.other.now (elim c.if-one.branch [
-      then-one w ↦
-        let meeting = w.saturating_sub-meeting.ensures in
-        let is = w.meeting-is in
-        ((λ p q lt. omega arith), (λ p q lt. absurd (contrary' _ w.if-one.true p)))
-    | else-one w ↦
-        let meeting = w.saturating_sub-meeting-else-one.ensures in
-        let is = w.meeting-is in
-        ((λ p q lt. absurd (contrary' _ p w.if-one.false)), (λ p q lt. omega arith))
+      | then-one w ↦
+          let meeting = w.saturating_sub-meeting.ensures in
+          let is = w.meeting-is in
+          ((λ p q lt. omega arith), (λ p q lt. absurd (contrary' _ w.if-one.true p)))
+      | else-one w ↦
+          let meeting = w.saturating_sub-meeting-else-one.ensures in
+          let is = w.meeting-is in
+          ((λ p q lt. absurd (contrary' _ p w.if-one.false)), (λ p q lt. omega arith))
     ])
 
 pub returns-else-self-meeting-clause-settled : goal.returns-else-self-meeting-clause-settled
 returns-else-self-meeting-clause-settled c =
     let past = c.if-self-meeting.false in
     IsSettled-cut c.args.self.now c.args.one.now c.args.other.now (elim c.if-one.branch [
-      then-one w ↦
-        let meeting = w.saturating_sub-meeting.ensures in
-        let is = w.meeting-is in
-        ((λ p q lt. absurd (omega arith)), (λ p q lt. absurd (contrary' _ w.if-one.true p)))
-    | else-one w ↦
-        let meeting = w.saturating_sub-meeting-else-one.ensures in
-        let is = w.meeting-is in
-        ((λ p q lt. absurd (contrary' _ p w.if-one.false)), (λ p q lt. absurd (omega arith)))
+      | then-one w ↦
+          let meeting = w.saturating_sub-meeting.ensures in
+          let is = w.meeting-is in
+          ((λ p q lt. absurd (omega arith)), (λ p q lt. absurd (contrary' _ w.if-one.true p)))
+      | else-one w ↦
+          let meeting = w.saturating_sub-meeting-else-one.ensures in
+          let is = w.meeting-is in
+          ((λ p q lt. absurd (contrary' _ p w.if-one.false)), (λ p q lt. absurd (omega arith)))
     ])
