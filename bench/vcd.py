@@ -51,6 +51,12 @@ def declaration(signal):
     return "$var wire %d %s s%d%s $end\n" % (size, sign_of(signal), signal, reach)
 
 
+def pattern_of_all():
+    """The same for all signals of one bit."""
+    return "{%s}" % " && ".join("top.u0.s%d" % signal for signal in range(SIGNALS)
+                                if not is_wide(signal))
+
+
 def head():
     return ("$date made by a rule $end\n$timescale 1ns $end\n$scope module top $end\n"
             "$scope module u0 $end\n" + "".join(map(declaration, range(SIGNALS)))
@@ -99,11 +105,13 @@ def write_dump(path, block, megabytes):
     return times + 1
 
 
-def report(montre, folder, name, block, megabytes):
+def report(montre, folder, name, block, megabytes, patterns=(PATTERN,)):
     dump, output = os.path.join(folder, "dump"), os.path.join(folder, "output")
     times = write_dump(dump, block, megabytes)
-    print_beside_words([name, str(megabytes), str(times)],
-                       [montre, "--format", "vcd", PATTERN], dump, output)
+    for pattern in patterns:
+        names = str(1 + pattern.count("&&"))
+        print_beside_words([name, names, str(megabytes), str(times)],
+                           [montre, "--format", "vcd", pattern], dump, output)
 
 
 def main():
@@ -113,8 +121,8 @@ def main():
     most = int(sys.argv[2]) if len(sys.argv) == 3 else MEGABYTES
     adopt_orphans()
     with tempfile.TemporaryDirectory() as folder:
-        print_head(["dump", "MB of input", "times"] + BESIDE_WORDS)
-        report(montre, folder, "64 signals", all_signals, most)
+        print_head(["dump", "names of the pattern", "MB of input", "times"] + BESIDE_WORDS)
+        report(montre, folder, "64 signals", all_signals, most, (PATTERN, pattern_of_all()))
         report(montre, folder, "hardly a time", no_time, max(1, most // 10))
         report(montre, folder, "hardly a time", no_time, most)
 

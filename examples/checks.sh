@@ -1,6 +1,6 @@
 # found WORDS..: as grep, 0 where the pattern has a match, 1 where it has none, and 2 where montre gave no answer.
 found() {
-    answer=$(montre "$@") || return 2
+    answer=$(montre "$@") || { printf 'no answer: %s\n' "$*" >&2; return 2; }
     case $answer in *,*) ;; *) return 1 ;; esac
 }
 

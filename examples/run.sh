@@ -50,7 +50,7 @@ split() {
         # a block that begins with no command, and a command outside a block, are faults of the page
         inside && wanted == "" || !inside && /^[ \t]*\$ montre/ { example("false") }
         inside { print > wanted; next }
-        /^\| pattern \| told \|/ { table = 1; next }
+        /^\| pattern \| printed \|/ { table = 1; next }
         !/^\|/ { table = 0 }
         table && /^\| `/ {
             gsub(/\\\|/, "\001")
@@ -131,6 +131,14 @@ if [ -c /dev/full ]; then
         bad=$((bad + 1))
         echo 'FAILED: montre p > /dev/full'
     fi
+fi
+
+# Every link of a page leads somewhere.
+if python3 examples/links.py ./*.md docs/*.md examples/*.md bench/*.md; then
+    good=$((good + 1))
+else
+    bad=$((bad + 1))
+    echo 'FAILED: a link of a page'
 fi
 
 echo "$good good, $bad failed"

@@ -1,5 +1,5 @@
-//! Tests of the language of patterns: tre_state, tre_syntax, tre_parse and tre_show, by their
-//! public calls.
+//! Tests of the language of patterns: tre_decimal, tre_state, tre_syntax, tre_parse and tre_show,
+//! by their public calls.
 //!
 //! What the contracts of these crates say holds of every pattern. The tests say whether that is
 //! what was meant: names, the outcomes of texts, and printed texts are compared with what an
@@ -9,6 +9,8 @@
 
 #[cfg(test)]
 mod checker;
+#[cfg(test)]
+mod decimal;
 #[cfg(test)]
 mod meaning;
 #[cfg(test)]

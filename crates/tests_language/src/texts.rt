@@ -3,7 +3,7 @@ use std::alloc::Global;
 use std::test::Fail;
 use tests_support::set_of;
 use tre_parse::parse;
-use tre_show::{number, offline_text, pattern_text, printed_order, zone_line};
+use tre_show::{number, offline_text, pattern_text, printed_order, zone_line, zone_lines};
 use tre_zone::Zone;
 
 // Patterns as an engineer writes them, and as they are printed.
@@ -36,6 +36,22 @@ fn a_zone_is_a_line(rt: HostRuntime) -> Result<(), Fail> {
     let mut out = String::from_str(rt.alloc(), "at 3\n")?;
     zone_line(&Zone::span(0, 3), &mut out)?;
     assert!(rt; out.as_str() == "at 3\n[0,3) (0,3] (0,3]\n");
+    Ok(())
+}
+
+#[test]
+fn nothing_of_a_long_line_stays_in_the_next(rt: HostRuntime) -> Result<(), Fail> {
+    let zones = [
+        Zone::span(1099511627774, 1099511627776),
+        Zone::instants(7, 7),
+    ];
+    let mut out = String::new(rt.alloc());
+    zone_lines(&zones, &mut out)?;
+    let mut lines = out.as_str().lines();
+    let long = "[1099511627774,1099511627776) (1099511627774,1099511627776] (0,2]";
+    assert!(rt; lines.next() == Some(long));
+    assert!(rt; lines.next() == Some("[7,7] [7,7] [0,0]"));
+    assert!(rt; lines.next() == None);
     Ok(())
 }
 

@@ -66,7 +66,7 @@ fn cut_dumps(rt: HostRuntime) -> Result<(), Fail> {
 const HEADER: &str = "$var wire 1 ! p $end $var wire 1 \" q $end $enddefinitions $end ";
 
 // What stands behind the header, and what it says.
-const VALUES: [(&str, &str); 22] = [
+const VALUES: [(&str, &str); 23] = [
     // Times and dump sections.
     ("$dumpvars #0 1! $end #2", "2:1 "),
     ("$dumpvars 1! $end #0 #2", "2:1 "),
@@ -91,6 +91,10 @@ const VALUES: [(&str, &str); 22] = [
         "1:1 1:0 1:1 1:0 1:0 1:0 ",
     ),
     ("b0 #5 b1 $end b1 ! #1", "1:1 "),
+    (
+        "b00000000000000000000000000000001 ! #1 b10000000000000000000000000000000 ! #2",
+        "1:1 1:0 ",
+    ),
     ("r1.5e-09 ! sred ! R0 # 1! #1", "1:1 "),
     ("1!! 1x #1", "1:0 "),
     ("#1\r\n1!\t1\"\u{b}#2\u{c}", "1:0 1:3 "),

@@ -11,6 +11,8 @@ mod bytes;
 #[cfg(test)]
 mod dumps;
 #[cfg(test)]
+mod num;
+#[cfg(test)]
 mod parts;
 #[cfg(test)]
 mod reading;

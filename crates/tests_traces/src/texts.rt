@@ -13,7 +13,7 @@ fn reader(alloc: Global, names: &str) -> Result<TextReader, Fail> {
 
 // The names of propositions, a text, and what it says: segments, each as its length and its
 // valuation, and the fault with its line.
-const TEXTS: [(&str, &str, &str); 17] = [
+const TEXTS: [(&str, &str, &str); 20] = [
     ("p", "", ""),
     ("p", "2 p\n3", "2:1 3:0 "),
     ("p", "# c\n\n \t\n2 p\r\n\t1\tp  p zz \r\n", "2:1 1:1 "),
@@ -31,6 +31,18 @@ const TEXTS: [(&str, &str, &str); 17] = [
     ("p", "0x 9", "BadNumber 1"),
     ("p", "1099511627777 9", "TooLate 1"),
     ("p", "1\r\r\n", "BadNumber 1"),
+    // Names of more bytes than are looked at in one go.
+    (
+        "abcdefghijklmnop",
+        "1 abcdefghijklmnopq abcdefghijklmno Abcdefghijklmnop\n2 abcdefghijklmnop",
+        "1:0 2:1 ",
+    ),
+    (
+        "Top._09AZaz.unit_0.is_ready_or_so p",
+        "1 Top._09AZaz.unit_0.is_ready_or_so\tp\n2 Top._09AZaz.unit_0.is_ready_or_s0 p",
+        "1:3 2:2 ",
+    ),
+    ("p", "1 p abcdefghijklmnopqrstuvwxyz012-", "BadName 1"),
 ];
 
 // Whether the text says this, cut in two at each place.

@@ -10,6 +10,8 @@ mod chains;
 #[cfg(test)]
 mod composition;
 #[cfg(test)]
+mod differences;
+#[cfg(test)]
 mod index;
 #[cfg(test)]
 mod lanes;

@@ -9,7 +9,7 @@ ghost use Rattle.tre_mark.specs.Marked.{EndBetween, IsWellAt};
 ghost use Rattle.tre_edges.specs.Piece.{end_of_piece};
 ghost use Rattle.tre_advance.specs.Moves.{StepsTo, EntersTo, IsBriefTree, IsLiteralTree};
 
-use crate::sets::{ending_at, followed, joined};
+use crate::sets::{ending_at, followed, joined, joined_ends};
 use crate::stepping::Advanced;
 use std::alloc::{AllocError, Global};
 use tre_edges::Piece;
@@ -55,7 +55,7 @@ pub fn step_literal(
         piece.now r.told (mark_of r.rest)) }
 {
     let inside = local(alloc, expr, piece)?;
-    let starts = joined(here.try_clone()?, begun)?;
+    let starts = joined_ends(alloc, here.try_clone()?, begun.try_clone()?)?;
     let going = followed(alloc, &starts, &inside)?;
     let told = joined(going, begun)?;
     let begun = ending_at(alloc, &told, piece.begin + piece.segment.len)?;
@@ -85,7 +85,7 @@ pub fn enter_brief(
     let inside = local(alloc, expr, piece)?;
     let told = followed(alloc, enter, &inside)?;
     let last = ending_at(alloc, enter, piece.begin + piece.segment.len)?;
-    let here = joined(last, &here)?;
+    let here = joined_ends(alloc, last, here)?;
     Ok(Advanced {
         told,
         rest: atom(here, begun),
@@ -112,9 +112,9 @@ pub fn enter_literal(
     let inside = local(alloc, expr, piece)?;
     let told = followed(alloc, enter, &inside)?;
     let last = ending_at(alloc, enter, end)?;
-    let here = joined(last, &here)?;
+    let here = joined_ends(alloc, last, here)?;
     let held = ending_at(alloc, &told, end)?;
-    let begun = joined(held, &begun)?;
+    let begun = joined_ends(alloc, held, begun)?;
     Ok(Advanced {
         told,
         rest: atom(here, begun),

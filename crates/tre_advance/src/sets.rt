@@ -41,6 +41,19 @@ pub fn joined(one: ZoneSet, other: &ZoneSet) -> Result<ZoneSet, AllocError>
     Ok(whole)
 }
 
+/// The same of sets whose pairs all end at one time: in as few zones as may be.
+pub fn joined_ends(alloc: Global, one: ZoneSet, other: ZoneSet) -> Result<ZoneSet, AllocError>
+    ensures { IfOk result (λ zones. IsSetOf zones (Either (Held one) (Held other))) }
+{
+    if other.is_empty() {
+        return Ok(one);
+    }
+    if one.is_empty() {
+        return Ok(other);
+    }
+    ZoneSet::of_both(alloc, &one, &other)
+}
+
 /// The list with the zones of the set at its end: lists that are to become a set.
 pub fn gathered(zones: Vec<Zone>, more: &ZoneSet) -> Result<Vec<Zone>, AllocError>
     ensures { IfOk result (λ all.

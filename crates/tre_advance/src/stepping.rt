@@ -14,7 +14,7 @@ ghost use Rattle.tre_mark.specs.Marked.{EndBetween};
 ghost use Rattle.tre_edges.specs.Piece.{end_of_piece, cut_behind};
 ghost use Rattle.tre_advance.specs.Moves.{StepsTo, EntersTo, KeepsHere};
 
-use crate::sets::{ending_at, joined, repeated};
+use crate::sets::{ending_at, joined, joined_ends, repeated};
 use std::alloc::{AllocError, Global};
 use tre_edges::Piece;
 use tre_mark::{Mark, alternation, repetition, sequence};
@@ -146,7 +146,7 @@ pub fn leave_again(
         KeepsHere (end_of_piece piece.now) here told (mark_of body) (mark_of r.rest)) }
 {
     let last = ending_at(alloc, &told, piece.begin + piece.segment.len)?;
-    let here = joined(last, &here)?;
+    let here = joined_ends(alloc, last, here)?;
     let rest = repetition(alloc, here, body)?;
     Ok(Advanced { told, rest })
 }

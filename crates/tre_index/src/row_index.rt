@@ -4,7 +4,7 @@ ghost use Rattle.tre_index.specs.Index.{IsOnTop};
 
 use crate::level::{FAN, Level, raise};
 use crate::row::{HasRow, Row};
-use crate::search::next_place;
+use crate::search::{next_of_few, next_place};
 use std::alloc::{AllocError, Global};
 use std::marker::Model;
 
@@ -67,6 +67,9 @@ impl<T: HasRow> RowIndex<T> {
     pub fn next_at_least(&self, from: usize, key: &Row) -> Option<usize>
         ensures { FindsNext (map T.row_of self.now) key.now from result }
     {
+        if self.above.is_empty() {
+            return next_of_few(&self.items, from, key);
+        }
         next_place(&self.items, &self.above, from, key)
     }
 
@@ -93,6 +96,9 @@ impl<T: HasRow> RowIndex<T> {
     fn grow(&mut self) -> Result<bool, AllocError>
         ensures { self.new ≡ self.old }
     {
+        if self.items.len() <= FAN {
+            return Ok(false);
+        }
         let alloc = *self.items.allocator();
         match next_level(alloc, &self.items, &self.above)? {
             Some(top) => {

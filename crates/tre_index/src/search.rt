@@ -83,6 +83,13 @@ fn block_end(block: usize, len: usize) -> usize
     }
 }
 
+/// The first place from `from` on whose item's row reaches the key: by looking at each.
+pub(crate) fn next_of_few<T: HasRow>(items: &[T], from: usize, key: &Row) -> Option<usize>
+    ensures { FindsNext (map T.row_of items.now) key.now from result }
+{
+    first_between(items, from, items.len(), key)
+}
+
 /// The first place from `from` on, and before `to`, whose item's row reaches the key.
 fn first_between<T: HasRow>(items: &[T], from: usize, to: usize, key: &Row) -> Option<usize>
     ensures { MatchOption result (HasNone (map T.row_of items.now) key.now from to)

@@ -1,8 +1,8 @@
 // Items in the order of time: those that can reach a key stand next to each other, and one pass
 // over them sees it, without an index.
-ghost use Rattle.std.specs.Prelude.{◌+◌, ◌<◌, ◌≤◌, ◌↔◌, length, map, IsTrue};
+ghost use Rattle.std.specs.Prelude.{◌+◌, ◌<◌, ◌≤◌, ◌↔◌, length, map, take, IsTrue};
 ghost use Rattle.tre_lanes.specs.Rows.{HasNone};
-ghost use Rattle.tre_index.specs.Turn.{AreInTurn, IsNoEarlier, IsEarly, IsLate, IsStretch};
+ghost use Rattle.tre_index.specs.Turn.{AreInTurn, AreInTurnTo, IsNoEarlier, IsEarly, IsLate, IsStretch, IsAround, IsFirst, AreNotLate};
 
 use crate::row::{HasRow, Row, is_below};
 
@@ -15,14 +15,29 @@ pub struct Stretch {
     pub to: usize,
 }
 
-/// Whether no item begins earlier than one before it, by the first two lanes of their rows.
-pub fn are_in_turn<T: HasRow>(items: &[T]) -> bool
-    ensures { IsTrue result → AreInTurn (map T.row_of items.now) }
+/// How many of the first items stand in turn: none of them begins earlier than one before it, by
+/// the first two lanes of their rows.
+pub fn count_in_turn<T: HasRow>(items: &[T]) -> usize
+    ensures within { result ≤ length items.now }
+    ensures turn { AreInTurn (map T.row_of (take result items.now)) }
+    ensures most { result < length items.now
+        → AreInTurnTo (result + 1) (map T.row_of items.now) → ⊥ }
 {
     for place in 1..items.len() {
         if !is_no_earlier(&items[place].row(), &items[place - 1].row()) {
-            return false;
+            return place;
         }
+    }
+    items.len()
+}
+
+/// Whether no item begins earlier than one before it, by the first two lanes of their rows.
+pub fn are_in_turn<T: HasRow>(items: &[T]) -> bool
+    ensures { IsTrue result ↔ AreInTurn (map T.row_of items.now) }
+{
+    let count = count_in_turn(items);
+    if count < items.len() {
+        return false;
     }
     true
 }
@@ -58,52 +73,49 @@ fn back_to_early<T: HasRow>(items: &[T], near: usize, key: &Row) -> usize
     0
 }
 
-// The first place from `from` on whose item is not too early: by the longest steps first.
+// The first place from `from` on whose item is not too early.
 fn first_not_early<T: HasRow>(items: &[T], from: usize, key: &Row) -> usize
     requires turn { AreInTurn (map T.row_of items.now) }
     requires within { from ≤ length items.now }
     requires none { HasNone (map T.row_of items.now) key.now 0 from }
-    ensures within { result ≤ length items.now }
-    ensures none { HasNone (map T.row_of items.now) key.now 0 result }
+    ensures { IsFirst (map T.row_of items.now) key.now result }
 {
-    let mut place = from;
-    let mut step = step_too_long(items, from, key);
-    while step > 0 {
-        if are_early(items, place, step, key) {
-            place += step;
+    let around = around_first(items, from, key);
+    let mut from = around.from;
+    let mut to = around.to;
+    while from < to {
+        let middle = from + (to - from) / 2;
+        if is_early(&items[middle].row(), key) {
+            from = middle + 1;
+        } else {
+            to = middle;
         }
-        step /= 2;
     }
-    place
+    from
 }
 
-// A power of two, and so many items from `from` on are not all too early.
-fn step_too_long<T: HasRow>(items: &[T], from: usize, key: &Row) -> usize
+// Two places, from `from` on, such that the first item that is not too early stands between them,
+// or at the second of them. Each step is twice as long as the one before it.
+fn around_first<T: HasRow>(items: &[T], from: usize, key: &Row) -> Stretch
     requires turn { AreInTurn (map T.row_of items.now) }
     requires within { from ≤ length items.now }
+    requires none { HasNone (map T.row_of items.now) key.now 0 from }
+    ensures { IsAround (map T.row_of items.now) key.now result.from result.to }
 {
+    let mut from = from;
     let mut step: usize = 1;
-    for _ in 0..usize::BITS - 1 {
-        if !are_early(items, from, step, key) {
-            return step;
+    while step <= items.len() - from {
+        let to = from + step - 1;
+        if !is_early(&items[to].row(), key) {
+            return Stretch { from, to };
         }
+        from = to + 1;
         step = step.saturating_mul(2);
     }
-    step
-}
-
-// Whether there are so many items from the place on, and each of them is too early.
-fn are_early<T: HasRow>(items: &[T], place: usize, count: usize, key: &Row) -> bool
-    requires turn { AreInTurn (map T.row_of items.now) }
-    requires within { place ≤ length items.now }
-    requires some { 0 < count }
-    ensures within { IsTrue result → place + count ≤ length items.now }
-    ensures none { IsTrue result → HasNone (map T.row_of items.now) key.now 0 (place + count) }
-{
-    if count > items.len() - place {
-        return false;
+    Stretch {
+        from,
+        to: items.len(),
     }
-    is_early(&items[place + count - 1].row(), key)
 }
 
 // The first place from `from` on whose item is too late.
@@ -113,6 +125,7 @@ fn first_late<T: HasRow>(items: &[T], from: usize, key: &Row) -> usize
     ensures rising { from ≤ result }
     ensures within { result ≤ length items.now }
     ensures none { HasNone (map T.row_of items.now) key.now result (length items.now) }
+    ensures near { AreNotLate (map T.row_of items.now) key.now from result }
 {
     for place in from..items.len() {
         if is_late(&items[place].row(), key) {
@@ -123,9 +136,12 @@ fn first_late<T: HasRow>(items: &[T], from: usize, key: &Row) -> usize
 }
 
 fn is_no_earlier(row: &Row, before: &Row) -> bool
-    ensures { IsTrue result → IsNoEarlier row.now before.now }
+    ensures { IsTrue result ↔ IsNoEarlier row.now before.now }
 {
-    !is_below(before[0], row[0]) && !is_below(row[1], before[1])
+    if is_late(before, row) {
+        return false;
+    }
+    !is_early(row, before)
 }
 
 fn is_early(row: &Row, key: &Row) -> bool

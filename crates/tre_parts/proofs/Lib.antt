@@ -1,6 +1,5 @@
-mod Digits
-mod Naming
 mod Cuts
 pub mod Walks
 mod Feeding
 mod Fed
+mod Lanes

@@ -3,8 +3,9 @@
 //! A [`PartReader`] says what one part says. [`Parts`] makes a reader of pieces of it: a part
 //! that lies whole in a piece is read where it lies, and only one that a piece cuts is kept until
 //! its end comes. The layers above rely on [`Parts`] being a `TraceReader` of the format, however
-//! the bytes are cut. What the bytes of a format say is in specs/Format.antt. [`read_numeral`] and
-//! [`find_name`] read what parts of both formats have in common: numbers, and names of a pattern.
+//! the bytes are cut. What the bytes of a format say is in specs/Format.antt. [`find_name`] and
+//! [`first_of`] read what parts of both formats have in common: names of a pattern, and bytes up
+//! to the first of a class.
 //!
 //! ```text
 //! let mut lines = Parts::new(alloc, LineReader { .. });
@@ -12,16 +13,16 @@
 //! ```
 #![tactic(auto)]
 
+mod byte_class;
 mod names;
-mod numerals;
 mod part_reader;
 mod parts;
 mod said;
 mod spot;
 mod walk;
 
+pub use byte_class::{ByteClass, first_of};
 pub use names::find_name;
-pub use numerals::read_numeral;
 pub use part_reader::PartReader;
 pub use parts::Parts;
 pub use said::Said;

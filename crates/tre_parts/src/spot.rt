@@ -14,6 +14,7 @@ pub struct Spot {
 
 impl Spot {
     // Where the next part begins, behind a part of this length and its separator.
+    #[inline(always)]
     pub fn after(self, len: usize) -> Spot
         ensures { self.offset + len + 1 ≤ FED_MAX → self.number ≤ self.offset + 1 →
             result ≡ record { number = self.number + 1; offset = self.offset + len + 1 } }

@@ -19,6 +19,7 @@ pub struct Walk<R> {
 }
 
 // Reads a part, and puts the segment that it says behind the others.
+#[inline(always)]
 fn add_part<R: PartReader>(
     reader: &mut R,
     spot: Spot,
@@ -85,6 +86,7 @@ impl<R: PartReader> Walk<R> {
     }
 
     // Reads a part that lies whole in these bytes, behind which a separator stands.
+    #[inline(always)]
     fn end_here(&mut self, part: &[u8], segments: &mut Vec<Segment>) -> Result<(), TraceFault>
         requires { self.old.part.items ≡ [] }
         ensures takes { (names : List (List ℕ)) (bytes : List ℕ) (separator : ℕ) →
@@ -126,6 +128,7 @@ impl<R: PartReader> Walk<R> {
         Ok(())
     }
     // Reads the part that ends behind these bytes, where a separator stands.
+    #[inline(always)]
     fn end_part(&mut self, front: &[u8], segments: &mut Vec<Segment>) -> Result<(), TraceFault>
         ensures takes { (names : List (List ℕ)) (bytes : List ℕ) (separator : ℕ) →
             IsAt R.names R.format R.holds names self.old.reader self.old.part.items self.old.spot

@@ -1,3 +1,4 @@
+pub mod LineBytes
 pub mod Orders
 pub mod Ranges
 pub mod Printing

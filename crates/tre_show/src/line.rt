@@ -1,52 +1,102 @@
-// The line of a zone.
-ghost use Rattle.std.specs.Prelude.{◌≡◌, ◌==◌, ◌++◌, nat_abs, string_bytes, IfOk, OnOk, OnErr};
+// The line of a zone, written from its end to its front into a buffer, and put at once.
+ghost use Rattle.std.specs.Prelude.{◌≡◌, ◌==◌, ◌+◌, ◌≤◌, ◌++◌, ◌∷◌, [], codes, drop, length, nat_abs, string_bytes, IsAscii, IsUtf8, OnOk, OnErr};
+ghost use Rattle.std.specs.Prelude.{if◌then◌else◌};
 ghost use Rattle.tre_zone.specs.Bound.{value_of, weakness_of};
 ghost use Rattle.tre_show.specs.Interval.{interval_text};
 ghost use Rattle.tre_zone.specs.Ranges.{range_of};
 ghost use Rattle.tre_show.specs.Line.{line_of};
 
-use crate::interval::{push_lower, push_upper};
-use std::alloc::{AllocError, Global};
+use itoa::write_digits;
+use std::alloc::AllocError;
 use tre_zone::{Bound, Zone};
+
+/// How many bytes a line has at the most: six numbers of up to 20 digits, and 12 signs.
+pub(crate) const LINE_MAX: usize = 132;
 
 /// Appends the line of the zone: its begins, its ends and its durations, each as an interval.
 pub fn zone_line(zone: &Zone, out: &mut String) -> Result<(), AllocError>
     ensures line { OnOk result (string_bytes out.new ≡ string_bytes out.old ++ line_of zone.now) }
     ensures err { OnErr result (string_bytes out.new ≡ string_bytes out.old) }
 {
-    let line = line_text(*out.allocator(), zone)?;
-    out.push_str(line.as_str())?;
-    Ok(())
+    let mut buffer = [0; LINE_MAX];
+    push_line(zone, &mut buffer, out)
 }
 
-fn line_text(alloc: Global, zone: &Zone) -> Result<String, AllocError>
-    ensures { IfOk result (λ line. string_bytes line ≡ line_of zone.now) }
+/// `zone_line`, by a buffer that many lines may use.
+pub(crate) fn push_line(
+    zone: &Zone,
+    buffer: &mut [u8; LINE_MAX],
+    out: &mut String,
+) -> Result<(), AllocError>
+    ensures line { OnOk result (string_bytes out.new ≡ string_bytes out.old ++ line_of zone.now) }
+    ensures err { OnErr result (string_bytes out.new ≡ string_bytes out.old) }
 {
-    let mut line = String::new(alloc);
-    push_line(&mut line, zone)?;
-    Ok(line)
+    let begin = write_line(zone, buffer);
+    out.push_str(text_of(&buffer[begin..]))
 }
 
-pub(crate) fn push_line(text: &mut String, zone: &Zone) -> Result<(), AllocError>
-    ensures { OnOk result (string_bytes text.new ≡ string_bytes text.old ++ line_of zone.now) }
+fn text_of(bytes: &[u8]) -> &str
+    requires { IsUtf8 bytes.now }
+    ensures { result.now ≡ bytes.now }
+{
+    match str::from_utf8(bytes) {
+        Ok(text) => text,
+        Err(_) => unreachable!(),
+    }
+}
+
+// Writes the line of the zone, so that it ends where the buffer does. Says where it begins.
+fn write_line(zone: &Zone, buffer: &mut [u8]) -> usize
+    requires { length buffer.old ≡ LINE_MAX }
+    ensures line { drop result buffer.new ≡ line_of zone.now }
+    ensures begin { result ≤ LINE_MAX }
+    ensures text { IsUtf8 (line_of zone.now) }
 {
     let bounds = zone.bounds();
-    push_between(text, &bounds.begin_low, &bounds.begin_high)?;
-    text.push_str(" ")?;
-    push_between(text, &bounds.end_low, &bounds.end_high)?;
-    text.push_str(" ")?;
-    push_between(text, &bounds.dur_low, &bounds.dur_high)?;
-    text.push_str("\n")?;
-    Ok(())
+    let end = buffer.len();
+    let end = write_sign(b'\n', buffer, end);
+    let end = write_between(&bounds.dur_low, &bounds.dur_high, buffer, end);
+    let end = write_sign(b' ', buffer, end);
+    let end = write_between(&bounds.end_low, &bounds.end_high, buffer, end);
+    let end = write_sign(b' ', buffer, end);
+    write_between(&bounds.begin_low, &bounds.begin_high, buffer, end)
 }
 
-fn push_between(text: &mut String, low: &Bound, high: &Bound) -> Result<(), AllocError>
-    ensures { OnOk result (string_bytes text.new
-        ≡ string_bytes text.old ++ interval_text (range_of low.now high.now)) }
+// Each of these writes a text so that it ends at `end`, and says where it begins.
+
+fn write_between(low: &Bound, high: &Bound, buffer: &mut [u8], end: usize) -> usize
+    requires { (43 ≤ end) × (end ≤ length buffer.old) }
+    ensures text { drop result buffer.new
+        ≡ interval_text (range_of low.now high.now) ++ drop end buffer.old }
+    ensures ascii { IsAscii (interval_text (range_of low.now high.now)) }
+    ensures begin { (end ≤ result + 43) × (result ≤ end) }
 {
-    push_lower(text, magnitude(low), is_weak(low))?;
-    push_upper(text, magnitude(high), is_weak(high))?;
-    Ok(())
+    let end = write_sign(closing(is_weak(high)), buffer, end);
+    let end = write_digits(magnitude(high), buffer, end);
+    let end = write_sign(b',', buffer, end);
+    let end = write_digits(magnitude(low), buffer, end);
+    write_sign(opening(is_weak(low)), buffer, end)
+}
+
+fn write_sign(sign: u8, buffer: &mut [u8], end: usize) -> usize
+    requires { (1 ≤ end) × (end ≤ length buffer.old) }
+    ensures text { drop result buffer.new ≡ sign ∷ drop end buffer.old }
+    ensures begin { result + 1 ≡ end }
+{
+    buffer[end - 1] = sign;
+    end - 1
+}
+
+fn opening(weak: bool) -> u8
+    ensures { result ∷ [] ≡ (if weak then codes "[" else codes "(") }
+{
+    if weak { b'[' } else { b'(' }
+}
+
+fn closing(weak: bool) -> u8
+    ensures { result ∷ [] ≡ (if weak then codes "]" else codes ")") }
+{
+    if weak { b']' } else { b')' }
 }
 
 // How far the bound's number is from 0.

@@ -3,7 +3,7 @@ ghost use Rattle.std.specs.Prelude.{◌≡◌, ◌++◌, string_bytes, IfOk, OnO
 ghost use Rattle.tre_show.specs.Line.{lines_of, offline_text};
 
 use crate::decimal::number;
-use crate::line::push_line;
+use crate::line::{LINE_MAX, push_line};
 use std::alloc::{AllocError, Global};
 use tre_zone::Zone;
 
@@ -12,8 +12,9 @@ use tre_zone::Zone;
 pub fn zone_lines(zones: &[Zone], out: &mut String) -> Result<(), AllocError>
     ensures { OnOk result (string_bytes out.new ≡ string_bytes out.old ++ lines_of zones.now) }
 {
+    let mut buffer = [0; LINE_MAX];
     for zone in zones {
-        push_line(out, zone)?;
+        push_line(zone, &mut buffer, out)?;
     }
     Ok(())
 }

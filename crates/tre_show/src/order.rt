@@ -43,6 +43,7 @@ pub fn in_printed_order(zones: Vec<Zone>) -> Vec<Zone>
     ensures same { IsPermutation zones.items result.items }
     ensures held { (a b n : ℕ) → SetHolds result.items a b n ↔ SetHolds zones.items a b n }
     ensures set { IsZoneSet zones.items → IsZoneSet result.items }
+    ensures tight { IsZoneSet zones.items → AreTight result.items }
     ensures rising { IsRising result.items }
 {
     let mut zones = zones;

@@ -300,7 +300,7 @@ SetHolds-behind zones start end rises a b n h =
     rw (drop_split zones start end rises)
     ((SetHolds-append (slice_range zones start end) (drop end zones) a b n).1 h)
 
-AreCanonical-parts : (left right : List ZoneBounds) → AreCanonical (left ++ right)
+pub AreCanonical-parts : (left right : List ZoneBounds) → AreCanonical (left ++ right)
     → AreCanonical left × AreCanonical right
 unfolding AreCanonical
 AreCanonical-parts [] right all = (tt, all)

@@ -1,12 +1,13 @@
-ghost use Rattle.std.specs.Prelude.{◌≤◌, OnOk, IfOk};
+ghost use Rattle.std.specs.Prelude.{◌≡◌, ◌≤◌, IfSome, OnOk, IfOk};
 ghost use Rattle.tre_pairs.specs.Pairs.{Either, Composed, Lasting, Chain};
 ghost use Rattle.tre_zone.specs.Longest.{LastsUpTo, IsLongest};
 ghost use Rattle.tre_zone.specs.Zone.{ZoneHolds, IsInstantBetween};
 ghost use Rattle.tre_zone.specs.ZoneList.{SetHolds, AreCanonical, HoldExactly};
 ghost use Rattle.tre_zoneset.specs.ZoneSet.{FoundHolds};
 ghost use Rattle.tre_star.specs.Growth.{HasGrown};
-ghost use Rattle.tre_star.specs.Parts.{SomeSteps};
+ghost use Rattle.tre_star.specs.Limits.{AreLimits, ChainsWithin};
 
+use crate::limits::Limits;
 use crate::parts::{last_begins, part_end};
 use crate::power_limit::steps_of;
 use std::alloc::{AllocError, Global};
@@ -42,33 +43,25 @@ pub fn closure_up_to(
         (Chain (SetHolds steps.now) (IsInstantBetween from to)))) }
 {
     let steps = steps_of(alloc, steps.zones())?;
-    let mut chains = chains_in_parts(alloc, &steps, from, to, longest)?;
+    let limits = Limits { from, to, longest };
+    let mut chains = chains_in_parts(alloc, &steps, &limits)?;
     chains.add(Zone::instants(from, to))?;
     Ok(chains)
 }
 
-// The chains of one step or more that last at most `longest`, part by part of steps that do not
-// touch.
-fn chains_in_parts(
-    alloc: Global,
-    steps: &[Zone],
-    from: u64,
-    to: u64,
-    longest: Option<u64>,
-) -> Result<ZoneSet, AllocError>
+// The chains of one step or more within the limits, part by part of steps that do not touch.
+fn chains_in_parts(alloc: Global, steps: &[Zone], limits: &Limits) -> Result<ZoneSet, AllocError>
     requires steps { AreCanonical steps.now }
-    requires rising { from ≤ to }
-    requires limit { to ≤ TIME_MAX }
-    requires longest { IsLongest longest }
-    ensures { IfOk result (λ set. HoldExactly set (Lasting (LastsUpTo longest)
-        (SomeSteps (SetHolds steps.now) (IsInstantBetween from to)))) }
+    requires limits { AreLimits limits.now }
+    ensures { IfOk result (λ set.
+        HoldExactly set (ChainsWithin limits.now (SetHolds steps.now))) }
 {
     let begins = last_begins(alloc, steps)?;
     let mut chains = ZoneSet::new(alloc);
     let mut start = 0;
     while start < steps.len() {
         let end = part_end(steps, &begins, start);
-        let part = chains_of_part(alloc, &steps[start..end], from, to, longest)?;
+        let part = chains_of_part(alloc, &steps[start..end], limits)?;
         chains.join_disjoint(&part)?;
         start = end;
     }
@@ -76,65 +69,87 @@ fn chains_in_parts(
 }
 
 // The same of the steps of one part.
-fn chains_of_part(
-    alloc: Global,
-    steps: &[Zone],
-    from: u64,
-    to: u64,
-    longest: Option<u64>,
-) -> Result<ZoneSet, AllocError>
+fn chains_of_part(alloc: Global, steps: &[Zone], limits: &Limits) -> Result<ZoneSet, AllocError>
     requires steps { AreCanonical steps.now }
-    requires rising { from ≤ to }
-    requires limit { to ≤ TIME_MAX }
-    requires longest { IsLongest longest }
-    ensures { IfOk result (λ set. HoldExactly set (Lasting (LastsUpTo longest)
-        (SomeSteps (SetHolds steps.now) (IsInstantBetween from to)))) }
+    requires limits { AreLimits limits.now }
+    ensures { IfOk result (λ set.
+        HoldExactly set (ChainsWithin limits.now (SetHolds steps.now))) }
 {
-    let index = index_of(alloc, steps)?;
-    let found = chains_of(alloc, &index, from, to, longest)?;
+    let index = index_of_many(alloc, steps)?;
+    let found = chains_of(alloc, steps, &index, limits)?;
     drop(index);
     let chains = ZoneSet::of_zones(alloc, found)?;
     Ok(chains)
 }
 
-// The zones of the chains of one step or more that last at most `longest`. The list of what was
-// reached is also that of what is still to do: before its zones from `place` on no step has been
-// put yet.
+// An index over the steps, None where they are few: then each of them is looked at.
+fn index_of_many(alloc: Global, steps: &[Zone]) -> Result<Option<ZoneIndex>, AllocError>
+    ensures { IfOk result (λ found. IfSome found (λ index. index ≡ steps.now)) }
+{
+    if are_few(steps) {
+        return Ok(None);
+    }
+    let index = index_of(alloc, steps)?;
+    Ok(Some(index))
+}
+
+// The zones of the chains of one step or more within the limits. The list of what was reached is
+// also that of what is still to do: before its zones from `place` on no step has been put yet.
 //
 // The instants may begin and end at any time, so with them in the list each search would come down
 // to them.
 fn chains_of(
     alloc: Global,
-    steps: &ZoneIndex,
-    from: u64,
-    to: u64,
-    longest: Option<u64>,
+    steps: &[Zone],
+    index: &Option<ZoneIndex>,
+    limits: &Limits,
 ) -> Result<Vec<Zone>, AllocError>
     requires steps { AreCanonical steps.now }
-    requires rising { from ≤ to }
-    requires limit { to ≤ TIME_MAX }
-    requires longest { IsLongest longest }
-    ensures { IfOk result (λ chains. HoldExactly chains.items (Lasting (LastsUpTo longest)
-        (SomeSteps (SetHolds steps.now) (IsInstantBetween from to)))) }
+    requires index { IfSome index.now (λ items. items ≡ steps.now) }
+    requires limits { AreLimits limits.now }
+    ensures { IfOk result (λ chains.
+        HoldExactly chains.items (ChainsWithin limits.now (SetHolds steps.now))) }
 {
-    let instants = Zone::instants(from, to);
+    let instants = Zone::instants(limits.from, limits.to);
     // For the proof: the call says that the zone is canonical.
     let _bounds = instants.bounds();
     let mut reached = ZoneIndex::new(alloc);
-    add_before(&mut reached, &instants, steps, longest)?;
+    add_before(&mut reached, &instants, steps, index, limits.longest)?;
     let mut place = 0;
     while place < reached.items().len() {
         let items = reached.items();
         let zone = items[place];
-        add_before(&mut reached, &zone, steps, longest)?;
+        add_before(&mut reached, &zone, steps, index, limits.longest)?;
         place += 1;
     }
     Ok(reached.into_items())
 }
 
 // Adds the compositions of each of the steps that can come before the zone with it, as far as they
-// last at most `longest`.
+// last at most `longest`: by the index over the steps, where there is one.
 fn add_before(
+    reached: &mut ZoneIndex,
+    zone: &Zone,
+    steps: &[Zone],
+    index: &Option<ZoneIndex>,
+    longest: Option<u64>,
+) -> Result<(), AllocError>
+    requires reached { AreCanonical reached.old }
+    requires steps { AreCanonical steps.now }
+    requires index { IfSome index.now (λ items. items ≡ steps.now) }
+    requires longest { IsLongest longest }
+    ensures held { OnOk result (HoldExactly reached.new (Either (SetHolds reached.old)
+        (Lasting (LastsUpTo longest) (Composed (SetHolds steps.now) (ZoneHolds zone.now))))) }
+    ensures grown { OnOk result (HasGrown reached.old reached.new) }
+{
+    match index {
+        Some(index) => add_found_before(reached, zone, index, longest),
+        None => add_each_before(reached, zone, steps, longest),
+    }
+}
+
+// The same by looking at those of the steps that the index finds.
+fn add_found_before(
     reached: &mut ZoneIndex,
     zone: &Zone,
     steps: &ZoneIndex,
@@ -147,9 +162,6 @@ fn add_before(
         (Lasting (LastsUpTo longest) (Composed (SetHolds steps.now) (ZoneHolds zone.now))))) }
     ensures grown { OnOk result (HasGrown reached.old reached.new) }
 {
-    if are_few(steps.items()) {
-        return add_each_before(reached, zone, steps.items(), longest);
-    }
     let key = key_before(zone);
     let items = steps.items();
     let count = items.len();

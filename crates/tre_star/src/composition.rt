@@ -1,4 +1,4 @@
-ghost use Rattle.std.specs.Prelude.{map, OnOk, IfOk};
+ghost use Rattle.std.specs.Prelude.{map, ◌++◌, OnOk, IfOk};
 ghost use Rattle.tre_pairs.specs.Pairs.{Either, Composed, Lasting};
 ghost use Rattle.tre_zone.specs.Longest.{LastsUpTo, IsLongest};
 ghost use Rattle.tre_zone.specs.Zone.{ZoneHolds, row_of};
@@ -8,9 +8,9 @@ ghost use Rattle.tre_index.specs.Turn.{AreInTurn};
 use crate::gather_up_to::gather_up_to;
 use std::alloc::{AllocError, Global};
 use tre_compose::compose;
-use tre_index::{ZoneIndex, are_in_turn, find_stretch, key_after};
+use tre_index::{ZoneIndex, count_in_turn, find_stretch, key_after};
 use tre_zone::Zone;
-use tre_zoneset::{ZoneSet, index_of};
+use tre_zoneset::{ZoneSet, are_few, index_of};
 
 /// The pairs `(t,t')` for which some `m` has `(t,m)` in `first` and `(m,t')` in `second`.
 pub fn compose_sets(alloc: Global, first: &ZoneSet, second: &ZoneSet) -> Result<ZoneSet, AllocError>
@@ -49,31 +49,60 @@ fn compositions_of(
     ensures { IfOk result (λ found. HoldExactly found.items
         (Lasting (LastsUpTo longest) (Composed (SetHolds first.now) (SetHolds second.now)))) }
 {
-    if are_in_turn(second) {
-        return compose_in_turn(alloc, first, second, longest);
+    let turned = count_in_turn(second);
+    if are_few(&second[turned..]) {
+        return compose_in_turn(alloc, first, &second[..turned], &second[turned..], longest);
     }
     compose_by_index(alloc, first, second, longest)
 }
 
-// The same where the second zones stand in the order of time: one pass over both.
+// The compositions of the first zones with those that stand in the order of time, in one pass over
+// both, and with a few others, by looking at each.
+//
+// The others are looked at first. So the instants of a closure, which come last in it, give each
+// zone before it is lengthened, and what is found rises.
 fn compose_in_turn(
     alloc: Global,
     first: &[Zone],
     second: &[Zone],
+    others: &[Zone],
     longest: Option<u64>,
 ) -> Result<Vec<Zone>, AllocError>
     requires turn { AreInTurn (map row_of second.now) }
     requires seconds { AreCanonical second.now }
     requires longest { IsLongest longest }
-    ensures { IfOk result (λ found. HoldExactly found.items
-        (Lasting (LastsUpTo longest) (Composed (SetHolds first.now) (SetHolds second.now)))) }
+    ensures { IfOk result (λ found. HoldExactly found.items (Lasting (LastsUpTo longest)
+        (Composed (SetHolds first.now) (SetHolds (second.now ++ others.now))))) }
 {
-    let mut found = Vec::new(alloc);
+    let mut found = Vec::with_capacity(alloc, first.len())?;
     let mut near = 0;
     for zone in first {
-        near = gather_near(&mut found, zone, second, near, longest)?;
+        near = gather_followed(&mut found, zone, second, others, near, longest)?;
     }
     Ok(found)
+}
+
+// Adds the compositions of the zone with the others, and with the second ones, to a list, as far as
+// they last at most `longest`. Of the second ones it looks at those around the place `near`, and
+// gives the place of the first that it looked at.
+fn gather_followed(
+    found: &mut Vec<Zone>,
+    zone: &Zone,
+    second: &[Zone],
+    others: &[Zone],
+    near: usize,
+    longest: Option<u64>,
+) -> Result<usize, AllocError>
+    requires turn { AreInTurn (map row_of second.now) }
+    requires seconds { AreCanonical second.now }
+    requires longest { IsLongest longest }
+    ensures { OnOk result (HoldExactly found.new.items
+        (Either (SetHolds found.old.items) (Lasting (LastsUpTo longest)
+        (Composed (ZoneHolds zone.now) (SetHolds (second.now ++ others.now)))))) }
+{
+    gather_each(found, zone, others, longest)?;
+    let near = gather_near(found, zone, second, near, longest)?;
+    Ok(near)
 }
 
 // Adds the compositions of the zone with the second ones to a list, as far as they last at most

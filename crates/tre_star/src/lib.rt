@@ -19,5 +19,6 @@ pub use composition::{compose_sets, compose_sets_up_to};
 mod chains;
 mod composition;
 mod gather_up_to;
+mod limits;
 mod parts;
 mod power_limit;

@@ -1,7 +1,7 @@
 -- Where a list first has an element that passes a test, and what an element at its end changes.
-use Rattle.std.proofs.Common.{◌≡◌, ◌≢◌, ℕ, suc, ◌+◌, ◌<◌, ◌≤◌, Bool, true, false, cond, not, List, [], ◌∷◌, ◌++◌, length, get_or, map, None, Some, refl, sym, ap, ◌∙◌, subst, arith, length-append}
+use Rattle.std.proofs.Common.{◌≡◌, ◌≢◌, ◌↔◌, ℕ, suc, ◌+◌, ◌<◌, ◌≤◌, Bool, true, false, cond, not, List, [], ◌∷◌, ◌++◌, length, get_or, map, Option, None, Some, refl, sym, ap, ◌∙◌, subst, arith, length-append}
 use Rattle.std.proofs.lemmas.Bool.{false≢true}
-use Rattle.std.specs.Prelude.{String, position, nat_lt, All, if◌then◌else◌}
+use Rattle.std.specs.Prelude.{String, position, nat_lt, All, AllPairs, slice_get, if◌then◌else◌}
 use Rattle.std.specs.List.{position_or_len, prefix_len, AllZip}
 use Rattle.std.specs.String.{string_bytes, string_eq}
 use Rattle.indexmap.specs.IndexSet.{insert_key}
@@ -11,7 +11,8 @@ use Rattle.std.proofs.lemmas.List.{map-append, length-map}
 use Rattle.std.proofs.lemmas.List.Elements.{All-push, All-nil, All-cons}
 use Rattle.std.proofs.lemmas.List.Folds.{list_any_none, position_or_len_push}
 use Rattle.std.proofs.lemmas.List.Quantifiers.{all_pairs_push}
-use Rattle.std.proofs.lemmas.List.Sums.{prefix_len-le-length}
+use Rattle.std.proofs.lemmas.List.Sums.{prefix_len-le-length, position_or_len_is}
+use Rattle.std.proofs.lemmas.Option.{slice_get_within, get_or_from_slice_get, slice_get-get_or}
 use Rattle.std.proofs.lemmas.Slice.Eq.{bytes_eq-Decides}
 use Rattle.tre_state.specs.Name.{IsName}
 use Rattle.tre_state.specs.Names.{place_of, IsNameList}
@@ -122,3 +123,57 @@ texts-clone [] (t ∷ ts) h = absurd h
 texts-clone (s ∷ ss) [] h = absurd h
 texts-clone (s ∷ ss) (t ∷ ts) h = ap (λ b. b ∷ map string_bytes ts) h.0
     ∙ ap (λ l. string_bytes s ∷ l) (texts-clone ss ts h.1)
+
+false_of : (b : Bool) → (b ≡ true → ⊥) → b ≡ false
+false_of true wrong = absurd (wrong refl)
+false_of false wrong = refl
+
+yes : (a b : ℕ) → a < b → nat_lt a b ≡ true
+yes a b h = grind (arith, nat_tests)
+
+no : (a b : ℕ) → b ≤ a → nat_lt a b ≡ false
+no a b h = grind (arith, nat_tests)
+
+-- the number of the name that has some bytes, where names differ
+pub place-held : (names : List (List ℕ)) (bytes : List ℕ) (i : ℕ)
+    → AllPairs (λ name other. name ≢ other) names → slice_get names i ≡ Some bytes
+    → Some i ≡ place_of names bytes
+place-held names bytes i distinct held =
+    let within = slice_get_within names i bytes held in
+    let here : get_or names i [] ≡ bytes = get_or_from_slice_get names i bytes [] held in
+    rw (
+      position_or_len_is (bytes_eq bytes) names i [] (omega (arith, within)) (λ k before.
+          false_of (bytes_eq bytes (get_or names k [])) (λ same.
+          distinct k i [] before within
+          (sym ((bytes_eq-Decides bytes (get_or names k [])).0 same) ∙ sym here)))
+          (λ _. (bytes_eq-Decides bytes (get_or names i [])).1 (sym here)),
+      yes i (length names) within,
+    ) refl
+
+-- no name has them
+pub place-none : (names : List (List ℕ)) (bytes : List ℕ)
+    → ((k : ℕ) → slice_get names k ≡ Some bytes → ⊥) → None ≡ place_of names bytes
+place-none names bytes none =
+    rw (
+      position_or_len_is (bytes_eq bytes) names (length names) [] (omega arith) (λ k within.
+          false_of (bytes_eq bytes (get_or names k [])) (λ same.
+          none k (slice_get-get_or names k [] within
+          ∙ ap Some (sym ((bytes_eq-Decides bytes (get_or names k [])).0 same)))))
+          (λ past. absurd (omega (arith, past))),
+      no (length names) (length names) (omega arith),
+    ) refl
+
+-- whether a name that was asked for has some bytes
+pub has_these : (held : Option (List ℕ)) (bytes name : List ℕ) (same : Bool) → Some name ≡ held
+    → same ≡ bytes_eq bytes name → (same ≡ true) ↔ (held ≡ Some bytes)
+has_these held bytes name same some is = (
+  λ yes. sym some ∙ ap Some (sym ((bytes_eq-Decides bytes name).0 (sym is ∙ yes))),
+  λ equal.
+      let both : Some name ≡ Some bytes = some ∙ equal in
+      let alike : name ≡ bytes = cc in
+      is ∙ (bytes_eq-Decides bytes name).1 (sym alike),
+)
+
+pub has_none : (held : Option (List ℕ)) (bytes : List ℕ) → None ≡ held
+    → (false ≡ true) ↔ (held ≡ Some bytes)
+has_none held bytes none = (λ wrong. cc, λ some. cc)

@@ -3,3 +3,4 @@ pub mod StateTree
 pub mod State
 pub mod Name
 pub mod Names
+pub mod Sieve

@@ -13,8 +13,10 @@
 
 pub use name::{RESERVED, continues_name, is_name, is_word, starts_name};
 pub use names::{NAMES_MAX, NameFault, Names};
+pub use sieve::{Sieve, lowest, without};
 pub use state::State;
 
 mod name;
 mod names;
+mod sieve;
 mod state;

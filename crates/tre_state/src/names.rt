@@ -1,9 +1,10 @@
-ghost use Rattle.std.specs.Prelude.{◌≡◌, ◌<◌, ◌↔◌, [], ◌∷◌, ◌++◌, length, map, slice_get, IsTrue, IsSome, IsOk, IfOk, OnOk, OnErr};
+ghost use Rattle.std.specs.Prelude.{◌≡◌, ◌<◌, ◌↔◌, [], ◌∷◌, ◌++◌, length, map, slice_get, true, Some, IsTrue, IsSome, IsOk, IfOk, OnOk, OnErr};
 ghost use Rattle.std.specs.String.{string_bytes};
 ghost use Rattle.std.specs.Option.{option_map};
 ghost use Rattle.tre_state.specs.Name.{IsName};
 ghost use Rattle.tre_state.specs.Names.{place_of, IsNameList};
 
+use crate::sieve::{Sieve, lowest, without};
 use indexmap::IndexSet;
 use std::alloc::{AllocError, Global};
 use std::marker::Model;
@@ -37,18 +38,22 @@ impl From<AllocError> for NameFault {
 #[derive(Debug, Drop)]
 pub struct Names {
     names: IndexSet<String>,
+    // It was told of each name.
+    sieve: Sieve,
 }
 
 impl Model for Names {
     ghost use Rattle.std.specs.Prelude.{ℕ, List, map};
     ghost use Rattle.std.specs.String.{string_bytes};
     ghost use Rattle.tre_state.specs.Names.{IsNameList};
+    ghost use Rattle.tre_state.specs.Sieve.{AreSifted};
 
     ghost Value = { List (List ℕ) };
 
     ghost view = { λ held. map string_bytes held.names.keys };
 
-    ghost invariant = { λ held. IsNameList (map string_bytes held.names.keys) };
+    ghost invariant = { λ held. IsNameList (map string_bytes held.names.keys)
+        × AreSifted (map string_bytes held.names.keys) held.sieve };
 }
 
 impl Names {
@@ -58,6 +63,7 @@ impl Names {
     {
         Names {
             names: IndexSet::new(alloc),
+            sieve: Sieve::new(),
         }
     }
 
@@ -80,9 +86,32 @@ impl Names {
     pub fn find(&self, name: &str) -> Option<u8>
         ensures { result ≡ place_of self.now name.now }
     {
-        match self.names.get_index_of(name) {
-            Some(place) => Some(place as u8),
-            None => None,
+        self.find_bytes(name.as_bytes())
+    }
+
+    /// The number of the name that has these bytes, if it is held. They need not be text.
+    pub fn find_bytes(&self, bytes: &[u8]) -> Option<u8>
+        ensures place { result ≡ place_of self.now bytes.now }
+        ensures list { IsNameList self.now }
+    {
+        let mut left = self.sieve.numbers(bytes);
+        while left != 0 {
+            let number = lowest(left);
+            if self.has_bytes(number, bytes) {
+                return Some(number);
+            }
+            left = without(left, number);
+        }
+        None
+    }
+
+    // Whether the name of this number has these bytes.
+    fn has_bytes(&self, number: u8, bytes: &[u8]) -> bool
+        ensures { (result ≡ true) ↔ (slice_get self.now number ≡ Some bytes.now) }
+    {
+        match self.name(number) {
+            Some(name) => bytes == name.as_bytes(),
+            None => false,
         }
     }
 
@@ -116,6 +145,7 @@ impl Names {
             return Err(NameFault::TooMany);
         }
         let place = insert_last(&mut self.names, name)?;
+        self.sieve.add(name.as_bytes(), place);
         Ok(place)
     }
 
@@ -125,6 +155,7 @@ impl Names {
     {
         Ok(Names {
             names: self.names.clone()?,
+            sieve: self.sieve.copy(),
         })
     }
 }

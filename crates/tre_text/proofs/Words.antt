@@ -1,8 +1,8 @@
 -- Names among the bytes of a line.
-use Rattle.std.proofs.Common.{◌≡◌, ℕ, zero, suc, ◌+◌, ◌<◌, ◌≤◌, nat_lt, Bool, true, false, not, ◌||◌, ◌==◌, List, [], ◌∷◌, ◌++◌, append-nil, length, length-take, take, drop, cond, drop-cons, get_or, ⊎_elim, refl, sym, ap, subst, ◌∙◌, arith, take-append-drop}
+use Rattle.std.proofs.Common.{◌≡◌, ℕ, zero, suc, ◌+◌, ◌<◌, ◌≤◌, nat_lt, Bool, true, false, not, ◌||◌, ◌==◌, List, [], ◌∷◌, ◌++◌, append-nil, length, length-take, length-take-le, take, drop, cond, drop-cons, get_or, ⊎_elim, refl, sym, ap, subst, ◌∙◌, arith, take-append-drop}
 use Rattle.std.proofs.Math.ListN.{drop_of_length-le}
 use Rattle.std.proofs.Math.Seq.{take-length}
-use Rattle.std.proofs.lemmas.Bool.{and_from, and_parts, or_parts, or_cases, cases_lt, false_from_ne_true}
+use Rattle.std.proofs.lemmas.Bool.{agree_below_at, and_from, and_parts, or_parts, or_cases, cases_lt, false_from_ne_true}
 use Rattle.std.proofs.lemmas.Bool.Decides.{nat_tests}
 use Rattle.std.proofs.lemmas.List.{get_or-take, take_more}
 use Rattle.std.proofs.lemmas.List.Elements.{All-nil, All-cons}
@@ -11,7 +11,8 @@ use Rattle.std.specs.List.{All, list_all, position_or_len}
 use Rattle.tre_state.specs.Name.{starts_name, continues_name}
 use Rattle.tre_text.specs.TextReading.{is_blank, fields_among, spells_word}
 use Rattle.tre_text.specs.TraceLines.{IsField}
-use Rattle.tre_text.specs.Words.{IsWordEnd, ends_word}
+use Rattle.tre_parts.specs.Walk.{IsInside, EndsAt}
+use Rattle.tre_text.specs.Words.{IsWordEnd, ends_word, stops_name}
 use Rattle.tre_text.proofs.Fields.{fields-one, fields-cut, fields-field, fields-parted, first_blank-later}
 
 -- ---- bytes
@@ -240,3 +241,62 @@ module _ (bytes : List ℕ) (end : ℕ) (is : IsWordEnd bytes end) where
         let none : spells_word bytes ≡ false = rw (← whole) (no_word short) in
         rw (fields-one bytes some all, none) refl)
         (cases_lt k (length bytes))
+
+-- ---- a name up to the first byte that no name goes on with
+
+not_true : (b : Bool) → not b ≡ true → b ≡ false
+not_true true is = cc (is)
+not_true false is = refl
+
+not_false : (b : Bool) → not b ≡ false → b ≡ true
+not_false true is = refl
+not_false false is = cc (is)
+
+started : (byte : ℕ) → byte < 256 → starts_name byte ≡ true → continues_name byte ≡ true
+started byte fits starts =
+    sym (ap (λ (b : Bool). not b || continues_name byte) starts)
+    ∙ agree_below_at (λ b. not (starts_name b) || continues_name b) (λ _. true) 256 byte refl fits
+
+-- bytes of which the first starts a name, and the others go on with it
+word_of : (bytes : List ℕ) (n : ℕ) → starts_name (get_or bytes 0 0) ≡ true → suc n ≤ length bytes
+    → ((k : ℕ) → k < suc n → continues_name (get_or bytes k 0) ≡ true)
+    → spells_word (take (suc n) bytes) ≡ true
+word_of bytes zero starts within goes = word_one bytes (omega (arith, within)) starts
+word_of bytes (suc n) starts within goes =
+    let one : suc (suc n) ≡ suc n + 1 = omega arith in
+    ap (λ m. spells_word (take m bytes)) one
+    ∙ word_more bytes (suc n) (omega (arith, within))
+    (word_of bytes n starts (omega (arith, within)) (λ k below. goes k (omega (arith, below))))
+    (goes (suc n) (omega arith))
+
+word_until : (bytes : List ℕ) (end : ℕ) → get_or bytes 0 0 < 256 → 0 < length bytes
+    → starts_name (get_or bytes 0 0) ≡ true → end ≤ length bytes
+    → ((k : ℕ) → k < end → stops_name (get_or bytes k 0) ≡ false)
+    → (end < length bytes → stops_name (get_or bytes end 0) ≡ true) → IsWordEnd bytes end
+word_until bytes zero fits some starts within goes stops =
+    let stop = not_true (continues_name (get_or bytes 0 0)) (stops some) in
+    let on = started (get_or bytes 0 0) fits starts in
+    absurd (cc (stop, on))
+word_until bytes (suc n) fits some starts within goes stops = record {
+  within = within;
+  word = λ _. word_of bytes n starts within (λ k below.
+      not_false (continues_name (get_or bytes k 0)) (goes k below));
+  first = λ none. absurd (omega (arith, none));
+  stops = λ _ below. not_true (continues_name (get_or bytes (suc n) 0)) (stops below);
+}
+
+pub word_to_stop : (bytes : List ℕ) (end : ℕ) → get_or bytes 0 0 < 256 → 0 < length bytes
+    → starts_name (get_or bytes 0 0) ≡ true → EndsAt stops_name bytes end → IsWordEnd bytes end
+word_to_stop bytes end fits some starts ends =
+    word_until bytes end fits some starts (omega (arith, ends.within)) (λ k below.
+    let within : k < length (take end bytes) =
+    omega (arith, below, length-take-le end bytes (omega (arith, ends.within))) in
+    ap stops_name (sym (get_or-take end bytes k 0 below)) ∙ ends.inside k 0 within)
+    (λ _. ends.ends)
+
+pub word_whole : (bytes : List ℕ) → get_or bytes 0 0 < 256 → 0 < length bytes
+    → starts_name (get_or bytes 0 0) ≡ true → IsInside stops_name bytes
+    → IsWordEnd bytes (length bytes)
+word_whole bytes fits some starts inside =
+    word_until bytes (length bytes) fits some starts (omega arith) (λ k below. inside k 0 below)
+    (λ past. absurd (omega (arith, past)))

@@ -5,7 +5,7 @@ use Rattle.std.specs.Str.Parse.{digits_value}
 use Rattle.std.specs.Int.Bits.{bit_or}
 use Rattle.tre_pairs.specs.declared.TheConstants.{TIME_MAX}
 use Rattle.tre_parts.specs.Format.{Format, Step, reading_of}
-use Rattle.tre_parts.specs.Numeral.{is_numeral}
+use Rattle.tre_decimal.specs.Decimal.{is_numeral}
 use Rattle.tre_state.specs.Name.{starts_name, continues_name}
 use Rattle.tre_state.specs.Names.{place_of}
 use Rattle.tre_trace.specs.Reading.{Reading}

@@ -4,7 +4,7 @@ use Rattle.std.specs.List.{All, list_all}
 use Rattle.std.specs.Str.Parse.{digits_value}
 use Rattle.tre_pairs.specs.declared.TheConstants.{TIME_MAX}
 use Rattle.tre_parts.specs.declared.TheConstants.{PART_MAX}
-use Rattle.tre_parts.specs.Numeral.{is_numeral}
+use Rattle.tre_decimal.specs.Decimal.{is_numeral}
 use Rattle.tre_text.specs.TextReading.{is_line_end, is_blank, fields_of, begins_comment, spells_word, valuation_of}
 use Rattle.tre_trace.specs.declared.segment.Segment.{Segment}
 use Rattle.tre_trace.specs.declared.fault.TraceKind.{TraceKind}

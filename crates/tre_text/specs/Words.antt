@@ -1,5 +1,5 @@
 -- How far a name reaches.
-use Rattle.std.specs.Prelude.{◌≡◌, ℕ, ◌≤◌, ◌<◌, nat_lt, Bool, true, false, ◌&&◌, ◌||◌, ◌==◌, List, length, take, slice_index}
+use Rattle.std.specs.Prelude.{◌≡◌, ℕ, ◌≤◌, ◌<◌, nat_lt, Bool, true, false, not, ◌&&◌, ◌||◌, ◌==◌, List, length, take, slice_index}
 use Rattle.tre_state.specs.Name.{starts_name, continues_name}
 use Rattle.tre_text.specs.TextReading.{is_blank, spells_word}
 
@@ -10,6 +10,10 @@ pub record IsWordEnd (bytes : List ℕ) (end : ℕ) : Type 0 where
   pub word : 0 < end → spells_word (take end bytes) ≡ true
   pub first : end ≡ 0 → 0 < length bytes → starts_name (slice_index bytes 0) ≡ false
   pub stops : 0 < end → end < length bytes → continues_name (slice_index bytes end) ≡ false
+
+-- no name goes on with the byte
+abbrev pub stops_name : ℕ → Bool
+stops_name byte = not (continues_name byte)
 
 -- a name of some bytes ends there: a blank follows, or nothing
 abbrev pub ends_word : List ℕ → ℕ → Bool

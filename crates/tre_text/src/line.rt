@@ -6,8 +6,9 @@ ghost use Rattle.tre_text.specs.Lines.{Finds};
 
 use crate::field::{next_field, skip_blanks, without_return};
 use crate::word::{ends_word, word_end};
+use tre_decimal::read_numeral;
 use tre_pairs::TIME_MAX;
-use tre_parts::{Said, find_name, read_numeral};
+use tre_parts::{Said, find_name};
 use tre_state::Names;
 use tre_trace::{Segment, TraceKind};
 

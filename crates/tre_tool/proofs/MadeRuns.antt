@@ -11,7 +11,7 @@ use Rattle.tre_generate.specs.FixedPattern.{fixed_tree}
 use Rattle.tre_generate.specs.Summary.{IsSummary}
 use Rattle.tre_generate.specs.declared.made_run.TheConstants.{SEGMENTS_MAX}
 use Rattle.tre_tool.specs.Devices.{InputTold, OutputTold}
-use Rattle.tre_parts.specs.Numeral.{is_numeral}
+use Rattle.tre_decimal.specs.Decimal.{is_numeral}
 use Rattle.tre_tool.specs.Job.{GivesWhere, GivesJob, HaveNoFaultWhere, HaveNoFault, command_line, is_made_run, made_count, made_job, mode_for, number_written, is_given, IsCount}
 use Rattle.tre_tool.specs.Run.{Request, AsksFor, AsksForMadeRun, EndsAs, EndsMadeRun, IsRefused, IsOutcomeIn, IsAnswerIn, StandsAtFault, StandsAtFailedRead, StandsAtFailedWrite, StandsAtMemory}
 use Rattle.tre_tool.specs.declared.job.Job.{Job}

@@ -6,7 +6,7 @@ use Rattle.std.specs.Str.Parse.{digits_value}
 use Rattle.clap.specs.Simple.{on_top}
 use Rattle.clap.specs.Words.{App, Row, Rule, Text, fault_of, first_of, matches_of, new_app, new_rule, with_rule}
 use Rattle.clap.specs.declared.builder.action.ArgAction.TheVariants.{Set, SetTrue}
-use Rattle.tre_parts.specs.Numeral.{is_numeral}
+use Rattle.tre_decimal.specs.Decimal.{is_numeral}
 use Rattle.tre_generate.specs.declared.made_run.TheConstants.{SEGMENTS_MAX}
 use Rattle.tre_tool.specs.declared.job.TheConstants.{LIMIT_MAX, LIMIT_DEFAULT}
 use Rattle.tre_tool.specs.declared.job.Format.{Format}

@@ -19,7 +19,7 @@ use std::alloc::{AllocError, Global};
 use tre_generate::summary;
 use tre_io::{Sink, Source};
 use tre_offline::matches;
-use tre_show::{offline_text, pattern_text, printed_order};
+use tre_show::{in_printed_order, offline_text, pattern_text};
 use tre_syntax::Pattern;
 use tre_text::TextReader;
 use tre_trace::{Trace, TraceReader};
@@ -122,9 +122,12 @@ fn matches_text<S: Source>(
         IfSome (S.file_name input.old) (λ told. told ≡ job.now.input) }
 {
     let trace = read_input(alloc, pattern, job, input)?;
+    let end = trace.end();
     let set = matches(alloc, pattern, &trace)?;
-    let zones = printed_order(alloc, &set)?;
-    let text = offline_text(alloc, &zones, trace.end())?;
+    // The text needs the memory that the trace took.
+    drop(trace);
+    let zones = in_printed_order(set.into_zones());
+    let text = offline_text(alloc, &zones, end)?;
     Ok(text)
 }
 

@@ -20,7 +20,7 @@ use crate::status::Status;
 use std::alloc::{AllocError, Global};
 use tre_io::{Sink, Source};
 use tre_online::Session;
-use tre_show::{number, offline_text, printed_order, zone_line};
+use tre_show::{in_printed_order, number, offline_text, zone_lines};
 use tre_syntax::Pattern;
 use tre_text::TextReader;
 use tre_trace::{PushFault, Segment, TraceReader};
@@ -33,9 +33,7 @@ fn block_text(alloc: Global, zones: &[Zone], at: u64) -> Result<String, AllocErr
     ensures { IfOk result (λ text. string_bytes text ≡ block_text zones.now at) }
 {
     let mut text = String::new(alloc);
-    for zone in zones {
-        zone_line(zone, &mut text)?;
-    }
+    zone_lines(zones, &mut text)?;
     text.push_str("at ")?;
     number(at, &mut text)?;
     text.push_str("\n")?;
@@ -92,7 +90,7 @@ fn tell_block<O: Sink>(
     ensures cause { HasWriteCause (O.faults out.old) (O.faults out.new) result }
 {
     let told = told_of(segment, session)?;
-    let zones = printed_order(alloc, &told)?;
+    let zones = in_printed_order(told.into_zones());
     let text = block_text(alloc, &zones, session.at())?;
     write_text(text.as_str(), out)?;
     Ok(())

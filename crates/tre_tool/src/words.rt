@@ -8,8 +8,8 @@ use crate::job::{Format, Job, LIMIT_DEFAULT, LIMIT_MAX, Mode, Word, WordsFault};
 use clap::error::ErrorKind;
 use clap::{Arg, ArgAction, ArgMatches, Command};
 use std::alloc::{AllocError, Global};
+use tre_decimal::read_numeral;
 use tre_generate::SEGMENTS_MAX;
-use tre_parts::read_numeral;
 
 fn flag<'a>(alloc: Global, name: &'a str) -> Arg<'a>
     ensures rule { rule_of result ≡ flag_rule name.entry.now }

@@ -4,3 +4,4 @@ pub mod Bits
 pub mod Words
 pub mod Starts
 pub mod Beside
+pub mod Blocks

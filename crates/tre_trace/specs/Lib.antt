@@ -6,4 +6,5 @@ pub mod Planes
 -- What the functions inside promise each other.
 pub mod Starts
 pub mod Words
+pub mod Block
 pub mod Beside

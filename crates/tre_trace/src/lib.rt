@@ -12,6 +12,7 @@
 //! ```
 #![tactic(auto)]
 
+mod block;
 mod fault;
 mod plane;
 mod planes;

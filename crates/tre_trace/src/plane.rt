@@ -1,4 +1,5 @@
 ghost use Rattle.std.specs.Prelude.{◌≡◌, ◌≢◌, ◌+◌, ◌/◌, ◌*◌, ◌<◌, ◌≤◌, ℕ, [], length, OnOk, OnErr};
+ghost use Rattle.tre_trace.specs.Block.{IsPut};
 ghost use Rattle.tre_trace.specs.Planes.{bit_in};
 ghost use Rattle.tre_trace.specs.Words.{HasRoom, IsStretched, IsWritten};
 
@@ -59,6 +60,18 @@ impl Plane {
         if bit == 1 || !self.words.is_empty() {
             self.stretch(place / WORD_BITS + 1)?;
         }
+        Ok(())
+    }
+
+    /// Puts the word that begins at the place, where it has a bit or the plane has words already.
+    pub(crate) fn put_word(&mut self, place: usize, word: u64) -> Result<(), AllocError>
+        ensures { OnOk result (IsPut (place / 64) word self.old self.new) }
+    {
+        if word == 0 && self.words.is_empty() {
+            return Ok(());
+        }
+        self.stretch(place / WORD_BITS + 1)?;
+        self.words[place / WORD_BITS] = word;
         Ok(())
     }
 

@@ -1,12 +1,14 @@
 // What a trace keeps beside its segments: planes of bits, and times.
-ghost use Rattle.std.specs.Prelude.{◌≡◌, ◌+◌, ◌*◌, ◌/◌, ◌≤◌, ◌<◌, [], ◌∷◌, ◌++◌, ℕ, List, length, OnOk};
+ghost use Rattle.std.specs.Prelude.{◌≡◌, ◌+◌, ◌*◌, ◌/◌, ◌%◌, ◌≤◌, ◌<◌, [], ◌∷◌, ◌++◌, ℕ, List, length, OnOk};
 ghost use Rattle.std.specs.Int.{bit_at};
 ghost use Rattle.tre_trace.specs.Trace.{end_of};
+ghost use Rattle.tre_trace.specs.Block.{IsUnion, IsToldIn};
 ghost use Rattle.tre_trace.specs.Planes.{IsPlane};
 ghost use Rattle.tre_trace.specs.Starts.{AreStarts};
 ghost use Rattle.tre_trace.specs.Words.{words_at, HasRoom, IsStretched, IsWritten};
 
 use crate::Segment;
+use crate::block::{bit_of, union_of, word_of};
 use crate::plane::{Plane, WORD_BITS};
 use std::alloc::{AllocError, Global};
 
@@ -58,6 +60,27 @@ impl Planes {
         Ok(())
     }
 
+    /// Adds what is beside a block of segments, behind whole blocks that end at `end`.
+    pub(crate) fn add_block(
+        &mut self,
+        front: &[Segment],
+        block: &[Segment],
+        end: u64,
+    ) -> Result<(), AllocError>
+        requires beside { AreBeside front.now self.old }
+        requires whole { length front.now % 64 ≡ 0 }
+        requires few { length block.now ≤ 64 }
+        requires end { end ≡ end_of 0 front.now }
+        ensures { OnOk result (AreBeside (front.now ++ block.now) self.new) }
+    {
+        let union = union_of(block);
+        begin_block(&mut self.starts, front, end)?;
+        self.blank.stretch(front.len() / WORD_BITS + 1)?;
+        widen(&mut self.own, union)?;
+        put_words(&mut self.own, front.len(), block, union)?;
+        Ok(())
+    }
+
     /// Writes the valuation of the segment at the place, behind all others.
     pub(crate) fn write(&mut self, place: usize, valuation: u64)
         requires few { length self.old.own.items ≤ 64 }
@@ -92,14 +115,6 @@ fn words_of(own: &[Plane], number: usize) -> &[u64]
         Some(plane) => plane.words(),
         None => &[],
     }
-}
-
-/// The bit of the proposition of this number.
-fn bit_of(valuation: u64, number: usize) -> u64
-    requires { number < 64 }
-    ensures { result ≡ bit_at valuation number }
-{
-    valuation >> number & 1
 }
 
 /// Notes when the next block begins, where the segments fill all blocks so far.
@@ -140,6 +155,26 @@ fn make_room(own: &mut [Plane], place: usize, valuation: u64) -> Result<(), Allo
 {
     for number in 0..own.len() {
         own[number].make_room(place, bit_of(valuation, number))?;
+    }
+    Ok(())
+}
+
+/// Puts in each plane the word of its proposition on a block that begins at the place.
+fn put_words(
+    own: &mut [Plane],
+    place: usize,
+    block: &[Segment],
+    union: u64,
+) -> Result<(), AllocError>
+    requires few { length own.old ≤ 64 }
+    requires few_segments { length block.now ≤ 64 }
+    requires union { IsUnion block.now union }
+    ensures { OnOk result ((number : ℕ) → number < length own.new →
+        IsToldIn number (place / 64) block.now (words_at own.old number)
+        (words_at own.new number)) }
+{
+    for number in 0..own.len() {
+        own[number].put_word(place, word_of(block, union, number))?;
     }
     Ok(())
 }

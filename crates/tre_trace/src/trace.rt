@@ -1,5 +1,6 @@
 ghost use Rattle.std.specs.Prelude.{◌≡◌, ◌+◌, ◌≤◌, ◌<◌, List, [], ◌∷◌, ◌++◌, IfErr, IfOk, OnOk, OnErr, length, sum_by, take};
 
+use crate::block::end_of;
 use crate::plane::WORD_BITS;
 use crate::planes::Planes;
 use crate::{PushFault, Segment};
@@ -64,10 +65,11 @@ impl Trace {
     {
         let mut planes = Planes::new(alloc);
         let mut end = 0;
-        for (place, segment) in segments.iter().enumerate() {
-            planes.make_room(&segments[..place], end, segment.val)?;
-            planes.write(place, segment.val);
-            end += segment.len;
+        for block in 0..segments.len().div_ceil(WORD_BITS) {
+            let from = block * WORD_BITS;
+            let to = from + WORD_BITS.min(segments.len() - from);
+            planes.add_block(&segments[..from], &segments[from..to], end)?;
+            end = end_of(&segments[from..to], end);
         }
         Ok(Trace {
             segments,

@@ -242,7 +242,7 @@ declared-is past name identifier = (
 -- ---- valuations
 
 -- whether the proposition at the place is true
-abbrev value_in : List Statement → List (List ℕ) → ℕ → Bool
+abbrev pub value_in : List Statement → List (List ℕ) → ℕ → Bool
 value_in past [] i = false
 value_in past (name ∷ names) zero = value_of past (identifier_of past name)
 value_in past (name ∷ names) (suc i) = value_in past names i
@@ -281,7 +281,7 @@ others : (value : Bool) (rest : ℕ) → ((if value then 1 else 0) + rest * 2) /
 others true rest = omega arith
 others false rest = omega arith
 
-bit_in : (past : List Statement) (names : List (List ℕ)) (i : ℕ)
+pub bit_in : (past : List Statement) (names : List (List ℕ)) (i : ℕ)
     → bit_at (valuation_from past 0 names) i ≡ (if value_in past names i then 1 else 0)
 bit_in past [] i = bit_at-zero i
 bit_in past (name ∷ names) zero =

@@ -8,7 +8,7 @@ mod NoRule
 mod Reading
 mod Rows
 mod Scoping
-mod Signals
 mod TokenRuns
 mod Tokens
+mod Valuing
 mod WhiteSpace

@@ -6,7 +6,7 @@ use Rattle.std.proofs.lemmas.List.Elements.{All-nil, All-head, All-tail, All-rep
 use Rattle.std.specs.Str.Parse.{digits_value}
 use Rattle.tre_pairs.specs.declared.TheConstants.{TIME_MAX}
 use Rattle.tre_parts.specs.Format.{Step}
-use Rattle.tre_parts.specs.Numeral.{is_numeral}
+use Rattle.tre_decimal.specs.Decimal.{is_numeral}
 use Rattle.tre_trace.specs.declared.fault.TraceKind.{TraceKind}
 use Rattle.tre_trace.specs.declared.fault.TraceKind.TheVariants.{LineTooLong, BadNumber, Zero, TooLate, BadName, BadToken, UnknownName, TimeBack, CutShort, Spent, Memory}
 use Rattle.tre_vcd.specs.Dumps.{AreInner, IsTime, is_vector, is_number, AreSilent, FitsNoRule, EndsEarly, LacksName, HasFault}

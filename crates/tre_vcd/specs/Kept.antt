@@ -1,8 +1,9 @@
 -- What the reader keeps of the past: each field is what a look back over it finds.
-use Rattle.std.specs.Prelude.{◌≡◌, ℕ, ◌+◌, ◌^◌, Bool, false, List, [], ◌∷◌, ◌++◌, length, Option, None, Some, if◌then◌else◌}
+use Rattle.std.specs.Prelude.{◌≡◌, ℕ, zero, suc, Bool, false, List, [], ◌∷◌, ◌++◌, length, Option, None, Some, if◌then◌else◌}
 use Rattle.std.specs.Option.{option_map}
 use Rattle.std.specs.Str.{bytes_eq}
-use Rattle.tre_vcd.specs.VcdReading.{Statement, is_defined, time_at, scopes_at, in_dump, value_at, identifier_of, identifier_in, value_of, path}
+use Rattle.tre_state.specs.Sieve.{MayBe}
+use Rattle.tre_vcd.specs.VcdReading.{Statement, is_defined, time_at, scopes_at, in_dump, value_at, identifier_of, identifier_in, valuation_from, path}
 use Rattle.tre_vcd.specs.declared.signal.Signal.{Signal}
 use Rattle.tre_vcd.specs.declared.past.Past.{Past}
 
@@ -32,28 +33,23 @@ abbrev pub has_identifier : Option (List ℕ) → List ℕ → Bool
 has_identifier None identifier = false
 has_identifier (Some own) identifier = bytes_eq own identifier
 
--- the signal, where this identifier changed to this value
-abbrev pub changed : List ℕ → Bool → Signal → Signal
-changed identifier value signal = record signal {
-  value = if has_identifier (identifier_kept signal) identifier then value else signal.value;
-}
+-- the identifier of the signal at a place; none where there is no such signal
+abbrev pub identifier_at : List Signal → ℕ → Option (List ℕ)
+identifier_at [] k = None
+identifier_at (signal ∷ signals) zero = identifier_kept signal
+identifier_at (signal ∷ signals) (suc k) = identifier_at signals k
 
--- the sum of the bits of the true ones, the first of which has bit i
-abbrev pub value_from : ℕ → List Signal → ℕ
-value_from i [] = 0
-value_from i (signal ∷ signals) = (if signal.value then 2 ^ i else 0) + value_from (i + 1) signals
-
--- This is known of the proposition of this name.
-pub record IsSignal (past : List Statement) (name : List ℕ) (signal : Signal) : Type 0 where
-  pub identifier : identifier_kept signal ≡ identifier_of past name
-  pub value : signal.value ≡ value_of past (identifier_of past name)
+-- Each identifier may have the place of its signal.
+pub record IsSieveOf (signals : List Signal) (sieve : List ℕ) : Type 0 where
+  pub each : (k : ℕ) (identifier : List ℕ) → identifier_at signals k ≡ Some identifier
+      → MayBe sieve identifier k
 
 -- The signals are those of the first names, and the names behind them are undeclared.
 abbrev pub AreKnown : List Statement → List (List ℕ) → List Signal → Type 0
 AreKnown past [] signals = signals ≡ []
 AreKnown past (name ∷ names) [] = (identifier_of past name ≡ None) × AreKnown past names []
 AreKnown past (name ∷ names) (signal ∷ signals) =
-    IsSignal past name signal × AreKnown past names signals
+    (identifier_kept signal ≡ identifier_of past name) × AreKnown past names signals
 
 -- Each field is its look-back. Before the declarations end nothing has changed.
 pub record Knows (names : List (List ℕ)) (kept : Past) (past : List Statement) : Type 0 where
@@ -62,6 +58,8 @@ pub record Knows (names : List (List ℕ)) (kept : Past) (past : List Statement)
   pub time : kept.time ≡ time_at past
   pub scopes : AreScopes (scopes_at past) kept.scopes.prefix.items kept.scopes.lens.items
   pub signals : AreKnown past names kept.signals.items
+  pub sieve : IsSieveOf kept.signals.items kept.sieve
+  pub values : kept.values ≡ valuation_from past 0 names
   pub quiet : is_defined past ≡ false → (identifier : List ℕ) → value_at past identifier ≡ false
 
 -- The tokens declare the proposition of this path alone.

@@ -4,7 +4,7 @@ use Rattle.std.proofs.lemmas.Bool.Decides.{nat_tests}
 use Rattle.std.specs.List.{list_all, list_any}
 use Rattle.std.specs.Str.Parse.{digits_value}
 use Rattle.tre_pairs.specs.declared.TheConstants.{TIME_MAX}
-use Rattle.tre_parts.specs.Numeral.{is_numeral}
+use Rattle.tre_decimal.specs.Decimal.{is_numeral}
 use Rattle.tre_parts.specs.Format.{Step, Leads, KeepsTime}
 use Rattle.tre_trace.specs.declared.fault.TraceKind.{TraceKind}
 use Rattle.tre_trace.specs.declared.fault.TraceKind.TheVariants.{TooLate, BadToken, UnknownName, TimeBack}

@@ -23,5 +23,6 @@ mod signal;
 mod token;
 mod token_reader;
 mod vcd_reader;
+mod white;
 
 pub use vcd_reader::VcdReader;

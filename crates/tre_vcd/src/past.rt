@@ -6,10 +6,10 @@ ghost use Rattle.tre_vcd.specs.VcdReading.{Statement, scope, upscope, var, defin
 ghost use Rattle.tre_vcd.specs.Kept.{Knows, AreKnown, Declares};
 
 use crate::scopes::Scopes;
-use crate::signal::{Signal, are_declared, change, valuation_of};
+use crate::signal::{Signal, are_declared, having, with_value};
 use std::alloc::{AllocError, Global};
 use tre_parts::find_name;
-use tre_state::Names;
+use tre_state::{Names, Sieve};
 
 // Each field is what a look back over the statements finds.
 #[derive(Drop)]
@@ -21,6 +21,10 @@ pub struct Past {
     pub scopes: Scopes,
     // Those of the first names; a name that has none yet isn't declared.
     pub signals: Vec<Signal>,
+    // It was told of the identifier of each signal.
+    pub sieve: Sieve,
+    // Bit k is the value of signal k.
+    pub values: u64,
 }
 
 impl Past {
@@ -35,6 +39,8 @@ impl Past {
             time: 0,
             scopes: Scopes::new(alloc),
             signals: Vec::new(alloc),
+            sieve: Sieve::new(),
+            values: 0,
         }
     }
 
@@ -82,9 +88,10 @@ impl Past {
         let name = self.scopes.path(self.alloc, reference)?;
         self.fill(names)?;
         if let Some(place) = find_name(names, &name) {
-            let place = usize::from(place);
-            if place < self.signals.as_slice().len() {
-                self.signals[place].declare(self.alloc, identifier)?;
+            let number = usize::from(place);
+            if number < self.signals.as_slice().len() {
+                self.signals[number].declare(self.alloc, identifier)?;
+                self.sieve.add(identifier, place);
             }
         }
         Ok(())
@@ -115,12 +122,15 @@ impl Past {
     }
 
     // An identifier changes to this value.
+    #[inline(always)]
     pub fn change(&mut self, identifier: &[u8], value: bool)
         ensures { (names : List (List ℕ)) (past : List Statement) → Knows names self.old past →
             is_defined past ≡ true →
             Knows names self.new (change identifier.now value ∷ past) }
     {
-        change(&mut self.signals, identifier, value);
+        let numbers = self.sieve.numbers(identifier);
+        let changed = having(&self.signals, numbers, identifier);
+        self.values = with_value(self.values, changed, value);
     }
 
     // A dump section opens.
@@ -140,12 +150,10 @@ impl Past {
     }
 
     // The values of the propositions now.
-    pub fn valuation(&self, names: &Names) -> u64
-        ensures { (past : List Statement) → Knows names.now self.now past →
-            result ≡ valuation_from past 0 names.now }
+    pub fn valuation(&self) -> u64
+        ensures { (names : List (List ℕ)) (past : List Statement) → Knows names self.now past →
+            result ≡ valuation_from past 0 names }
     {
-        // For the proof: the call says that there are at most 64 names.
-        let _ = names.len();
-        valuation_of(&self.signals)
+        self.values
     }
 }

@@ -1,35 +1,31 @@
-ghost use Rattle.std.specs.Prelude.{◌≡◌, ◌≤◌, length, map, false, OnOk};
+ghost use Rattle.std.specs.Prelude.{◌≡◌, ◌≢◌, ◌↔◌, ◌<◌, ℕ, Some, true, if◌then◌else◌, OnOk};
+ghost use Rattle.std.specs.Int.{bit_at};
 ghost use Rattle.std.specs.List.{list_all};
 ghost use Rattle.std.specs.Option.{is_some};
 ghost use Rattle.tre_vcd.specs.VcdReading.{first_of};
-ghost use Rattle.tre_vcd.specs.Kept.{identifier_kept, has_identifier, changed, value_from};
+ghost use Rattle.tre_vcd.specs.Kept.{identifier_kept, has_identifier, identifier_at};
 
 use std::alloc::{AllocError, Global};
-use tre_state::NAMES_MAX;
+use tre_state::{lowest, without};
 
-// What is known of one proposition: its identifier, once it is declared, and its value.
+// The identifier of one proposition, once it is declared.
 #[derive(Drop)]
 pub struct Signal {
     pub identifier: Option<Vec<u8>>,
-    pub value: bool,
 }
 
 impl Signal {
     // It isn't declared yet.
     pub fn new() -> Signal
-        ensures { result ≡ record { identifier = None; value = false } }
+        ensures { result ≡ record { identifier = None } }
     {
-        Signal {
-            identifier: None,
-            value: false,
-        }
+        Signal { identifier: None }
     }
 
     // It is declared with this identifier. The first declaration counts.
     pub fn declare(&mut self, alloc: Global, identifier: &[u8]) -> Result<(), AllocError>
-        ensures identifier { OnOk result (identifier_kept self.new
+        ensures { OnOk result (identifier_kept self.new
             ≡ first_of (identifier_kept self.old) (Some identifier.now)) }
-        ensures value { self.new.value ≡ self.old.value }
     {
         if self.identifier.is_none() {
             self.identifier = Some(Vec::from_slice(alloc, identifier)?);
@@ -46,25 +42,62 @@ impl Signal {
             None => false,
         }
     }
-
-    // An identifier changes to this value.
-    fn change(&mut self, identifier: &[u8], value: bool)
-        ensures { self.new ≡ changed identifier.now value self.old }
-    {
-        if self.has_identifier(identifier) {
-            self.value = value;
-        }
-    }
 }
 
-// An identifier changes to this value. Propositions are few (at most `NAMES_MAX`), so each of them
-// is asked for its identifier.
-pub fn change(signals: &mut [Signal], identifier: &[u8], value: bool)
-    ensures { signals.new ≡ map (changed identifier.now value) signals.old }
+// Whether the signal of this number has this identifier.
+fn has_identifier_at(signals: &[Signal], number: u8, identifier: &[u8]) -> bool
+    ensures { (result ≡ true) ↔ (identifier_at signals.now number ≡ Some identifier.now) }
 {
-    for signal in signals.iter_mut() {
-        signal.change(identifier, value);
+    let place = usize::from(number);
+    if place >= signals.len() {
+        return false;
     }
+    signals[place].has_identifier(identifier)
+}
+
+// The bits without this one, unless the signal of this number has this identifier.
+fn tested(bits: u64, number: u8, signals: &[Signal], identifier: &[u8]) -> u64
+    requires within { number < 64 }
+    requires set { bit_at bits number ≡ 1 }
+    ensures others { (k : ℕ) → k ≢ number → (bit_at result k ≡ 1) ↔ (bit_at bits k ≡ 1) }
+    ensures this { (bit_at result number ≡ 1)
+        ↔ (identifier_at signals.now number ≡ Some identifier.now) }
+{
+    if has_identifier_at(signals, number, identifier) {
+        return bits;
+    }
+    without(bits, number)
+}
+
+// Which signals of these numbers have this identifier: bit k stands for number k.
+#[inline(always)]
+pub fn having(signals: &[Signal], numbers: u64, identifier: &[u8]) -> u64
+    ensures sound { (k : ℕ) → bit_at result k ≡ 1 →
+        identifier_at signals.now k ≡ Some identifier.now }
+    ensures whole { (k : ℕ) → bit_at numbers k ≡ 1 →
+        identifier_at signals.now k ≡ Some identifier.now → bit_at result k ≡ 1 }
+{
+    let mut left = numbers;
+    let mut having = numbers;
+    while left != 0 {
+        let number = lowest(left);
+        having = tested(having, number, signals, identifier);
+        left = without(left, number);
+    }
+    having
+}
+
+// The values, where those of the bits become this one.
+#[inline(always)]
+pub fn with_value(values: u64, bits: u64, value: bool) -> u64
+    ensures changed { (k : ℕ) → bit_at bits k ≡ 1 →
+        bit_at result k ≡ (if value then 1 else 0) }
+    ensures kept { (k : ℕ) → bit_at bits k ≢ 1 → bit_at result k ≡ bit_at values k }
+{
+    if value {
+        return values | bits;
+    }
+    values ^ (values & bits)
 }
 
 // Whether each of the signals is declared.
@@ -72,19 +105,4 @@ pub fn are_declared(signals: &[Signal]) -> bool
     ensures { result ≡ list_all (λ signal. is_some signal.identifier) signals.now }
 {
     signals.iter().all(|signal| signal.identifier.is_some())
-}
-
-// The valuation on which bit i is the value of the i-th of the signals.
-pub fn valuation_of(signals: &[Signal]) -> u64
-    ensures { length signals.now ≤ NAMES_MAX → result ≡ value_from 0 signals.now }
-{
-    let mut valuation = 0u64;
-    let mut bit = 1u64;
-    for signal in signals {
-        if signal.value {
-            valuation |= bit;
-        }
-        bit <<= 1;
-    }
-    valuation
 }

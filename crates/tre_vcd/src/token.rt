@@ -1,8 +1,7 @@
 // What stands in a token.
-ghost use Rattle.std.specs.Prelude.{◌≡◌, ◌||◌, not, IfNone, IfSome};
+ghost use Rattle.std.specs.Prelude.{◌≡◌, ◌||◌, not};
 ghost use Rattle.tre_vcd.specs.Letters.{letter_of};
-ghost use Rattle.tre_vcd.specs.VcdReading.{is, is_end, is_dump, is_command, is_signal, is_white, ends_true};
-ghost use Rattle.tre_parts.specs.Walk.{IsInside, EndsAt};
+ghost use Rattle.tre_vcd.specs.VcdReading.{is, is_end, is_dump, is_command, is_signal, ends_true};
 
 // Whether the token is this word.
 pub fn is(token: &[u8], word: &str) -> bool
@@ -55,6 +54,7 @@ pub enum Letter {
 }
 
 /// What a token is that begins with this byte.
+#[inline(always)]
 pub fn letter_of(byte: u8) -> Letter
     ensures { result ≡ letter_of byte }
 {
@@ -82,27 +82,4 @@ pub fn is_signal(kind: &[u8], size: &[u8]) -> bool
     ensures { result ≡ is_signal kind.now size.now }
 {
     is(size, "1") && !(is(kind, "real") || is(kind, "realtime") || is(kind, "event"))
-}
-
-// Whether the byte is white space.
-fn is_white(byte: u8) -> bool
-    ensures { result ≡ is_white byte }
-{
-    // Most bytes are none: one comparison tells.
-    byte <= b' ' && (byte == b' ' || (b'\t' <= byte && byte <= b'\r'))
-}
-
-/// The place of the first white space, where there is some.
-pub fn first_white(bytes: &[u8]) -> Option<usize>
-    ensures none { IfNone result (IsInside is_white bytes.now) }
-    ensures first { IfSome result (EndsAt is_white bytes.now) }
-{
-    let mut place = 0;
-    while place < bytes.len() {
-        if is_white(bytes[place]) {
-            return Some(place);
-        }
-        place += 1;
-    }
-    None
 }

@@ -11,12 +11,12 @@ ghost use Rattle.tre_vcd.specs.Times.{vcd-keeps_time};
 use crate::command::{Command, command_of};
 use crate::inside::Inside;
 use crate::past::Past;
-use crate::token::{
-    Letter, ends_true, first_white, is, is_dump, is_end, is_misplaced, is_signal, letter_of,
-};
+use crate::token::{Letter, ends_true, is, is_dump, is_end, is_misplaced, is_signal, letter_of};
+use crate::white::White;
 use std::alloc::{AllocError, Global};
+use tre_decimal::read_numeral;
 use tre_pairs::TIME_MAX;
-use tre_parts::{PartReader, Said, Spot, read_numeral};
+use tre_parts::{PartReader, Said, Spot, first_of};
 use tre_state::Names;
 use tre_trace::{Segment, TraceKind};
 
@@ -119,7 +119,7 @@ impl TokenReader {
             return Said::Nothing;
         }
         let len = ticks - self.past.time;
-        let val = self.past.valuation(&self.names);
+        let val = self.past.valuation();
         self.past.reach(ticks);
         Said::Says(Segment { len, val })
     }
@@ -179,6 +179,7 @@ impl TokenReader {
     }
 
     // Reads a scalar change: the letter of its value, and its identifier.
+    #[inline(always)]
     fn read_scalar(&mut self, letter: u8, identifier: &[u8]) -> Said
         ensures tells { (past : List Statement) →
             Holds self.old (record { past = past; inside = nothing }) →
@@ -195,6 +196,7 @@ impl TokenReader {
     }
 
     // Reads a vector, whose identifier is the next token.
+    #[inline(always)]
     fn read_vector(&mut self, value: &[u8]) -> Said
         ensures tells { (past : List Statement) →
             Holds self.old (record { past = past; inside = nothing }) →
@@ -211,6 +213,7 @@ impl TokenReader {
     }
 
     // Reads a token among the values, where nothing is open, by its first byte.
+    #[inline(always)]
     fn read_value(&mut self, token: &[u8]) -> Said
         ensures tells { (past : List Statement) →
             Holds self.old (record { past = past; inside = nothing }) →
@@ -237,6 +240,7 @@ impl TokenReader {
     }
 
     // Reads a token where nothing is open.
+    #[inline(always)]
     fn read_first(&mut self, token: &[u8]) -> Said
         ensures tells { (past : List Statement) →
             Holds self.old (record { past = past; inside = nothing }) →
@@ -251,6 +255,7 @@ impl TokenReader {
     }
 
     // Reads the identifier that a vector waits for.
+    #[inline(always)]
     fn read_identifier(&mut self, value: bool, identifier: &[u8]) -> Said
         ensures tells { (past : List Statement) →
             Holds self.old (record { past = past; inside = vector value }) →
@@ -398,10 +403,12 @@ impl PartReader for TokenReader {
 
     ghost keeps_time = { vcd-keeps_time };
 
+    #[inline(always)]
     fn separator_in(&self, bytes: &[u8]) -> Option<usize> {
-        first_white(bytes)
+        first_of::<White>(bytes)
     }
 
+    #[inline(always)]
     fn read(&mut self, part: &[u8]) -> Said {
         if part.is_empty() {
             return Said::Nothing;

@@ -1,6 +1,6 @@
 -- A bound as a value and a weakness, the sum of bounds, and what a difference of times meets.
-use Rattle.std.proofs.Common.{◌≡◌, ℕ, ◌+◌, ◌-◌, ◌*◌, ◌≤◌, ◌<◌, min, arith, ℤ, pos, negsuc, ◌+ℤ◌, ◌-ℤ◌, ◌*ℤ◌, ◌≤ℤ◌, ◌<ℤ◌, refl}
-use Rattle.std.proofs.Common.{◌^◌, ◌↔◌, zero, suc, neg_ℤ, bit_and, to_z, of_z, w64}
+use Rattle.std.proofs.Common.{◌≡◌, ℕ, ◌+◌, ◌-◌, ◌*◌, ◌≤◌, ◌<◌, min, max, arith, ℤ, pos, negsuc, ◌+ℤ◌, ◌-ℤ◌, ◌*ℤ◌, ◌≤ℤ◌, ◌<ℤ◌, refl}
+use Rattle.std.proofs.Common.{◌^◌, ◌↔◌, zero, suc, neg_ℤ, bit_and, bit_or, to_z, of_z, w64}
 use Rattle.std.proofs.lemmas.Int.{ints}
 use Rattle.std.proofs.lemmas.Nat.{and_mask}
 use mir.Val.{SFits}
@@ -68,6 +68,17 @@ low_bit (pos key) fits = rw (and_mask key 1) (omega (arith, ints))
 low_bit (negsuc key) fits =
     let small : key < 2 ^ 63 = omega (arith, ints) in
     rw (and_mask (2 ^ 64 - suc key) 1) (omega (arith, ints))
+
+-- The greater of two weaknesses, as the machine has it.
+pub either_bit : (one other : ℕ) → one ≤ 1 → other ≤ 1
+    → to_z w64 (bit_or (of_z w64 (pos one)) (of_z w64 (pos other))) ≡ pos (max one other)
+either_bit zero zero first second = refl
+either_bit zero (suc zero) first second = refl
+either_bit (suc zero) zero first second = refl
+either_bit (suc zero) (suc zero) first second = refl
+either_bit (suc (suc one)) other first second = absurd (omega (arith, first))
+either_bit zero (suc (suc other)) first second = absurd (omega (arith, second))
+either_bit (suc zero) (suc (suc other)) first second = absurd (omega (arith, second))
 
 -- A key shifted by one place is its value.
 pub half : (key : ℤ) → SFits w64 key → to_z w64 (of_z w64 (shr_z key 2)) ≡ value_of key

@@ -17,3 +17,5 @@ pub mod Instants
 pub mod Scaling
 pub mod TightBounds
 pub mod Lasting
+pub mod Opposites
+pub mod Unions

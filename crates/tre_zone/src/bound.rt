@@ -1,6 +1,6 @@
-ghost use Rattle.std.specs.Prelude.{◌≡◌, ℕ, pos, neg_ℤ, ◌+◌, ◌*◌, ◌^◌, ◌+ℤ◌, ◌*ℤ◌, ◌≤ℤ◌, ◌<ℤ◌, ◌↔◌, IsTrue};
+ghost use Rattle.std.specs.Prelude.{◌≡◌, ℕ, pos, neg_ℤ, ◌+◌, ◌*◌, ◌^◌, ◌+ℤ◌, ◌-ℤ◌, ◌*ℤ◌, ◌≤ℤ◌, ◌<ℤ◌, ◌↔◌, max, IsTrue};
 ghost use Rattle.tre_zone.specs.Bound.{value_of, weakness_of, sum_of, Meets, IsKeyWithin};
-ghost use Rattle.std.specs.Int.{int_min};
+ghost use Rattle.std.specs.Int.{int_min, int_max};
 
 use std::marker::Model;
 
@@ -79,7 +79,7 @@ impl Bound {
             ↔ (weakness_of self.now ≡ 1) × (weakness_of other.now ≡ 1) }
     {
         Bound {
-            key: self.key + other.key - self.weakness().max(other.weakness()),
+            key: self.key + other.key - self.either_weakness(other),
         }
     }
 
@@ -90,6 +90,23 @@ impl Bound {
         Bound {
             key: self.key.min(other.key),
         }
+    }
+
+    // The looser of two bounds.
+    pub(crate) fn looser(&self, other: &Bound) -> Bound
+        ensures { result ≡ int_max self.now other.now }
+    {
+        Bound {
+            key: self.key.max(other.key),
+        }
+    }
+
+    // The bound on `-x` that is met exactly where this one on `x` isn't.
+    pub(crate) fn opposite(&self) -> Bound
+        requires { IsKeyWithin (2 ^ 61) self.now }
+        ensures { result ≡ pos 1 -ℤ self.now }
+    {
+        Bound { key: 1 - self.key }
     }
 
     // Whether some `x` meets this bound while `-x` meets `other`.
@@ -106,6 +123,13 @@ impl Bound {
         ensures { IsTrue result ↔ (other.now ≤ℤ self.now) }
     {
         other.key <= self.key
+    }
+
+    // 1 where one of the two bounds is weak, and else 0.
+    fn either_weakness(&self, other: &Bound) -> i64
+        ensures { result ≡ pos (max (weakness_of self.now) (weakness_of other.now)) }
+    {
+        self.weakness() | other.weakness()
     }
 
     // 1 for a weak bound and 0 for a strict one.

@@ -26,5 +26,6 @@ mod interval;
 mod latest;
 pub mod laws;
 mod longest;
+mod united;
 mod zone;
 mod zone_bounds;

@@ -185,7 +185,20 @@ impl Zone {
 }
 
 // The zone of the pairs that meet the bounds, None where there is none.
-fn canonical(bounds: &ZoneBounds) -> Option<Zone>
+pub(crate) fn canonical(bounds: &ZoneBounds) -> Option<Zone>
+    requires framed { IsFramed bounds.now }
+    requires keys { AreKeysWithin (2 ^ 45) bounds.now }
+    ensures { GivesZone result (ZoneHolds bounds.now) }
+{
+    // Most bounds that no pair meets leave no room as they stand.
+    if !bounds.leaves_room() {
+        return None;
+    }
+    tightened(bounds)
+}
+
+// The same, by the tightest of such bounds.
+fn tightened(bounds: &ZoneBounds) -> Option<Zone>
     requires framed { IsFramed bounds.now }
     requires keys { AreKeysWithin (2 ^ 45) bounds.now }
     ensures { GivesZone result (ZoneHolds bounds.now) }

@@ -1,10 +1,11 @@
 -- The members that stay where a zone is added.
-use Rattle.std.proofs.Common.{◌≡◌, ℕ, ◌<◌, ◌≤◌, ◌⊎◌, Bool, true, false, List, [], ◌∷◌, ◌++◌, length, Any, refl, sym, subst, inl, inr, ⊎_elim, arith}
+use Rattle.std.proofs.Common.{◌≡◌, ℕ, ◌+◌, ◌<◌, ◌≤◌, ◌⊎◌, Bool, true, false, List, [], ◌∷◌, ◌++◌, length, get_or, take, Any, refl, sym, subst, inl, inr, ⊎_elim, arith}
+use Rattle.std.proofs.lemmas.List.{take_more, take_all}
 use Rattle.std.specs.List.{items_where_true}
 use Rattle.std.specs.List.Retain.{ReturnsInTurn, IsFiltered}
 use Rattle.tre_pairs.specs.Pairs.{Both}
 use Rattle.tre_zone.specs.Zone.{ZoneHolds, HoldsSome, HasNoPair, Includes}
-use Rattle.tre_zone.specs.ZoneList.{SetHolds, IsApartFrom, IsApart, AreCanonical, AreTight}
+use Rattle.tre_zone.specs.ZoneList.{SetHolds, AreApart, IsApartFrom, IsApart, AreCanonical, AreTight}
 use Rattle.tre_zone.specs.declared.zone_bounds.ZoneBounds.{ZoneBounds}
 use Rattle.tre_zone.proofs.Tightness.{canonical-some}
 use Rattle.tre_zone.proofs.ZoneListLemmas.{AreCanonical-tight}
@@ -149,6 +150,23 @@ unfolding IsApartFrom
 IsApartFrom-append zone [] right first second = second
 IsApartFrom-append zone (other ∷ left) right first second =
     (first.0, IsApartFrom-append zone left right first.1 second)
+
+pub IsApartFrom-none : (zone : ZoneBounds) → IsApartFrom zone []
+unfolding IsApartFrom
+IsApartFrom-none zone = tt
+
+pub IsApartFrom-more : (zone : ZoneBounds) (others : List ZoneBounds) (i : ℕ) (other : ZoneBounds)
+    → i < length others → other ≡ get_or others i other → IsApartFrom zone (take i others)
+    → AreApart zone other → IsApartFrom zone (take (i + 1) others)
+unfolding IsApartFrom
+IsApartFrom-more zone others i other within is old apart =
+    rw (take_more others i other within, ← is)
+    (IsApartFrom-append zone (take i others) (other ∷ []) old (apart, tt))
+
+pub IsApartFrom-all : (zone : ZoneBounds) (others : List ZoneBounds) (i : ℕ) → length others ≤ i
+    → IsApartFrom zone (take i others) → IsApartFrom zone others
+IsApartFrom-all zone others i all old =
+    subst (λ (list : List ZoneBounds). IsApartFrom zone list) (take_all i others all) old
 
 pub IsApart-append : (left right : List ZoneBounds) → IsApart left → IsApart right
     → AreTight left → AreCanonical right

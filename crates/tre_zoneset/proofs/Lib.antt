@@ -4,5 +4,6 @@ pub mod Unions
 pub mod Rising
 pub mod Thinning
 pub mod Searching
-pub mod Short
+pub mod Cuts
 pub mod Stretches
+pub mod AsOne

@@ -1,7 +1,7 @@
 -- Some member of a list of zones, and the list of a set with one more member.
-use Rattle.std.proofs.Common.{◌≡◌, ℕ, zero, suc, ◌+◌, ◌<◌, ◌⊎◌, ◌↔◌, Bool, true, false, IsTrue, MatchBool, List, [], ◌∷◌, ◌++◌, length, get_or, take, Any, refl, sym, subst, inl, inr, ⊎_elim, arith}
+use Rattle.std.proofs.Common.{◌≡◌, ℕ, zero, suc, ◌+◌, ◌<◌, ◌⊎◌, ◌↔◌, Bool, true, false, IsTrue, MatchBool, List, [], ◌∷◌, ◌++◌, length, get_or, take, Any, refl, sym, subst, ◌∙◌, inl, inr, ⊎_elim, arith}
 use Rattle.std.specs.List.{HoldsAt, AllWithin}
-use Rattle.std.proofs.lemmas.List.{take_more}
+use Rattle.std.proofs.lemmas.List.{take_more, get_or_default}
 use Rattle.tre_zone.specs.Zone.{ZoneHolds, IsCanonical}
 use Rattle.tre_zone.specs.ZoneList.{SetHolds, IsApartFrom}
 use Rattle.tre_zone.specs.declared.zone_bounds.ZoneBounds.{ZoneBounds}
@@ -70,3 +70,15 @@ pub SetHolds-more : (zones : List ZoneBounds) (i : ℕ) (zone : ZoneBounds) → 
 SetHolds-more zones i zone within is a b n =
     let last = SetHolds-push (take i zones) zone a b n in
     rw (take_more zones i zone within, ← is) last
+
+-- The first zones of a list are a set, and the next one is apart from them.
+pub IsZoneSet-next : (zones : List ZoneBounds) (place : ℕ) (zone other : ZoneBounds)
+    → place < length zones → zone ≡ get_or zones place zone → other ≡ get_or zones place other
+    → IsCanonical zone → IsApartFrom other (take place zones) → IsZoneSet (take place zones)
+    → IsZoneSet (take (place + 1) zones)
+IsZoneSet-next zones place zone other within is other_is canonical apart set =
+    let same : other ≡ zone =
+    other_is ∙ get_or_default zones place other zone within ∙ sym is in
+    rw (take_more zones place zone within, ← is)
+    (IsZoneSet-push (take place zones) zone set
+    (subst (λ (z : ZoneBounds). IsApartFrom z (take place zones)) same apart) canonical)

@@ -16,5 +16,7 @@
 
 pub use zone_set::{ZoneSet, are_few, gather, index_of};
 
+mod cut;
 mod rise;
+mod touching;
 mod zone_set;

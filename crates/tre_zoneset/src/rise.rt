@@ -1,6 +1,7 @@
 // Zones of which each rises behind the one before it, as what loops over time find: of such no zone
 // includes another, and one pass sees it.
 ghost use Rattle.std.specs.Prelude.{◌≡◌, ◌↔◌, ◌<ℤ◌, IsTrue};
+ghost use Rattle.tre_zone.specs.ZoneList.{AreApart, IsApartFrom};
 ghost use Rattle.tre_zoneset.specs.Rise.{IsLess, IsHigher, Rises, IsBehind};
 ghost use Rattle.tre_zoneset.specs.ZoneSet.{IsZoneSet};
 
@@ -21,6 +22,38 @@ pub(crate) fn all_rise(zones: &[Zone]) -> bool
     ensures { IsTrue result → IsZoneSet zones.now }
 {
     all_rise_by(High::Begin, zones) || all_rise_by(High::End, zones)
+}
+
+/// Whether none of the zones includes another: by looking at each two.
+pub(crate) fn all_apart(zones: &[Zone]) -> bool
+    ensures { IsTrue result → IsZoneSet zones.now }
+{
+    for place in 0..zones.len() {
+        // For the proof: the call says that the zone is canonical.
+        let _bounds = zones[place].bounds();
+        if !is_apart_from(&zones[place], &zones[..place]) {
+            return false;
+        }
+    }
+    true
+}
+
+// Whether the zone includes none of the others, and none of them includes it.
+fn is_apart_from(zone: &Zone, others: &[Zone]) -> bool
+    ensures { IsTrue result → IsApartFrom zone.now others.now }
+{
+    for other in others {
+        if !are_apart(zone, other) {
+            return false;
+        }
+    }
+    true
+}
+
+fn are_apart(one: &Zone, other: &Zone) -> bool
+    ensures { IsTrue result ↔ AreApart one.now other.now }
+{
+    !one.includes(other) && !other.includes(one)
 }
 
 fn all_rise_by(high: High, zones: &[Zone]) -> bool

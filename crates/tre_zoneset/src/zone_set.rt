@@ -6,14 +6,17 @@ ghost use Rattle.tre_zone.specs.Zone.{ZoneHolds, Includes, HasNoPair, EndsAt, ro
 ghost use Rattle.tre_zone.specs.ZoneList.{SetHolds, IsApartFrom, AreCanonical, AreTight, HoldExactly};
 ghost use Rattle.tre_index.specs.Turn.{AreInTurn};
 ghost use Rattle.tre_zoneset.specs.ZoneSet.{IsZoneSet, Without, Stays, IsAdded, FoundHolds, IsThinned, IsKept};
-ghost use Rattle.tre_zoneset.specs.Short.{AreUpTo, AreWithin, IsWithin};
+ghost use Rattle.tre_zoneset.specs.Cut.{Leaves, IsCut, IsCutSet};
 
-use crate::rise::all_rise;
+use crate::cut::{Cut, cut_each, leaves_all};
+use crate::rise::{all_apart, all_rise};
 use std::alloc::{AllocError, Global};
 use std::marker::Model;
 use tre_index::{ZoneIndex, are_in_turn, find_stretch, key_meeting};
 use tre_pairs::TIME_MAX;
 use tre_zone::{Interval, Zone};
+
+mod into_zones;
 
 /// So few zones are looked at one by one, without an index.
 const FEW: usize = 8;
@@ -53,7 +56,7 @@ impl ZoneSet {
     pub fn of_zones(alloc: Global, zones: Vec<Zone>) -> Result<ZoneSet, AllocError>
         ensures { IfOk result (λ set. HoldExactly set (SetHolds zones.items)) }
     {
-        if all_rise(&zones) {
+        if stand_apart(&zones) {
             return Ok(ZoneSet { zones });
         }
         if are_few(&zones) {
@@ -199,12 +202,12 @@ impl ZoneSet {
         ensures { IfOk result (λ set.
             HoldExactly set (Lasting (LastsWithin interval.now) (SetHolds self.now))) }
     {
-        if are_within(self.zones(), interval) {
-            let set = self.try_clone()?;
-            return Ok(set);
+        let cut = Cut::Within(*interval);
+        if let Some(lasting) = self.cut_of(&cut)? {
+            return Ok(lasting);
         }
-        let lasting = self.cut_to(interval)?;
-        Ok(lasting)
+        let all = self.try_clone()?;
+        Ok(all)
     }
 
     /// The same of a set that is not needed any more: the set itself where all of them are.
@@ -212,24 +215,8 @@ impl ZoneSet {
         ensures { IfOk result (λ set.
             HoldExactly set (Lasting (LastsWithin interval.now) (SetHolds self))) }
     {
-        if are_within(self.zones(), interval) {
-            return Ok(self);
-        }
-        let lasting = self.cut_to(interval)?;
-        Ok(lasting)
-    }
-
-    // The pairs whose duration is in the interval, zone by zone.
-    fn cut_to(&self, interval: &Interval) -> Result<ZoneSet, AllocError>
-        ensures { IfOk result (λ set.
-            HoldExactly set (Lasting (LastsWithin interval.now) (SetHolds self.now))) }
-    {
-        let alloc = *self.zones.allocator();
-        let mut found = Vec::new(alloc);
-        for zone in self.zones() {
-            gather(&mut found, zone.within(interval))?;
-        }
-        let lasting = ZoneSet::of_zones(alloc, found)?;
+        let cut = Cut::Within(*interval);
+        let lasting = self.into_cut(&cut)?;
         Ok(lasting)
     }
 
@@ -239,30 +226,47 @@ impl ZoneSet {
         ensures { IfOk result (λ set.
             HoldExactly set (Lasting (LastsUpTo longest) (SetHolds self))) }
     {
-        if are_up_to(self.zones(), longest) {
-            return Ok(self);
-        }
-        let alloc = *self.zones.allocator();
-        let mut found = Vec::new(alloc);
-        for zone in self.zones() {
-            gather(&mut found, zone.up_to(longest))?;
-        }
-        let lasting = ZoneSet::of_zones(alloc, found)?;
+        let cut = Cut::UpTo(longest);
+        let lasting = self.into_cut(&cut)?;
         Ok(lasting)
     }
 
-    /// The pairs that end at `time`.
+    /// The pairs that end at `time`, in as few zones as may be.
     pub fn ending_at(&self, time: u64) -> Result<ZoneSet, AllocError>
         requires { time ≤ TIME_MAX }
         ensures { IfOk result (λ set. HoldExactly set (Both (SetHolds self.now) (EndsAt time))) }
     {
         let alloc = *self.zones.allocator();
-        let mut found = Vec::new(alloc);
-        for zone in self.zones() {
-            gather(&mut found, zone.ending_at(time))?;
-        }
-        let ending = ZoneSet::of_zones(alloc, found)?;
+        let cut = Cut::EndingAt(time);
+        let found = cut_each(alloc, self.zones(), &cut)?;
+        let ending = ZoneSet::of_touching(alloc, found)?;
         Ok(ending)
+    }
+
+    // What the cut leaves of a set that is not needed any more.
+    fn into_cut(self, cut: &Cut) -> Result<ZoneSet, AllocError>
+        requires { IsCut cut.now }
+        ensures { IfOk result (λ set.
+            HoldExactly set (Both (SetHolds self) (Leaves cut.now))) }
+    {
+        if let Some(set) = self.cut_of(cut)? {
+            return Ok(set);
+        }
+        Ok(self)
+    }
+
+    // What the cut leaves of the pairs, None where it leaves all.
+    fn cut_of(&self, cut: &Cut) -> Result<Option<ZoneSet>, AllocError>
+        requires { IsCut cut.now }
+        ensures { IfOk result (λ found. IsCutSet found cut.now self.now) }
+    {
+        if leaves_all(cut, self.zones()) {
+            return Ok(None);
+        }
+        let alloc = *self.zones.allocator();
+        let found = cut_each(alloc, self.zones(), cut)?;
+        let set = ZoneSet::of_zones(alloc, found)?;
+        Ok(Some(set))
     }
 
     // The pairs in either set.
@@ -311,41 +315,6 @@ pub fn gather(found: &mut Vec<Zone>, zone: Option<Zone>) -> Result<(), AllocErro
         found.push(zone)?;
     }
     Ok(())
-}
-
-// Whether every pair of the zones lasts at most `longest`.
-fn are_up_to(zones: &[Zone], longest: Option<u64>) -> bool
-    requires { IsLongest longest }
-    ensures { IsTrue result → AreUpTo longest zones.now }
-{
-    for zone in zones {
-        if !zone.is_up_to(longest) {
-            return false;
-        }
-    }
-    true
-}
-
-// Whether every pair of the zones lasts for a duration in the interval.
-fn are_within(zones: &[Zone], interval: &Interval) -> bool
-    ensures { IsTrue result → AreWithin interval.now zones.now }
-{
-    for zone in zones {
-        if !is_within(zone, interval) {
-            return false;
-        }
-    }
-    true
-}
-
-// Whether the interval leaves the zone as it is.
-fn is_within(zone: &Zone, interval: &Interval) -> bool
-    ensures { IsTrue result → IsWithin interval.now zone.now }
-{
-    match zone.within(interval) {
-        Some(rest) => rest.includes(zone),
-        None => false,
-    }
 }
 
 // What the zones have in common with the others, two by two.
@@ -462,6 +431,14 @@ fn gather_meets(found: &mut Vec<Zone>, zone: &Zone, others: &ZoneIndex) -> Resul
         }
     }
     Ok(())
+}
+
+// Whether the zones are seen to be apart as they stand: all of them by their order, and a few by
+// looking at each two.
+fn stand_apart(zones: &[Zone]) -> bool
+    ensures { IsTrue result → IsZoneSet zones.now }
+{
+    all_rise(zones) || are_few(zones) && all_apart(zones)
 }
 
 // The set to which the zones were added, one after another: for a few of them.

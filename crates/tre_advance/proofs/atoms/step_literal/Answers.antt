@@ -1,6 +1,4 @@
 use Rattle.std.proofs.Common.{◌∙◌, ap, sym, subst}
-use Rattle.tre_pairs.specs.Pairs.{Either}
-use Rattle.tre_zone.specs.Held.{Held, IsSetOf}
 use Rattle.tre_syntax.specs.Expr.{tree_of}
 use Rattle.tre_mark.specs.MarkTree.{MarkTree, atom_mark}
 use Rattle.tre_advance.specs.Moves.{StepsTo}
@@ -19,6 +17,5 @@ returns c =
     (sym (c.atom.ensures ∙ ap (λ x. atom_mark x c.in_ok-begun.begun) c.new.ensures))
     (literal_steps_to piece here begun c.in_ok-inside.inside starts c.in_ok-going.going told
     c.in_ok-begun.begun tree c.requires.literal c.requires.well c.in_ok-inside.ensures
-    (subst (λ list. IsSetOf starts (Either (Held list) (Held begun))) c.in_ok-try_clone.ensures
-    c.in_ok-starts.ensures)
+    (rw (c.in_ok-try_clone.ensures, c.in_ok-try_clone-2.ensures) at c.in_ok-starts.ensures)
     c.in_ok-going.ensures c.in_ok-told.ensures c.in_ok-begun.ensures)

@@ -1,6 +1,7 @@
 use Rattle.std.proofs.Common.{rules}
 use Rattle.std.proofs.lemmas.List.Sorted.{answers_always}
 use Rattle.tre_show.specs.Order.{sort_key, IsRising}
+use Rattle.tre_zone.proofs.ZoneListLemmas.{AreCanonical-tight}
 use Rattle.tre_zoneset.proofs.Thinning.{SetHolds-permutation}
 use Rattle.tre_show.proofs.Orders.{IsApart-permutation, AreCanonical-permutation}
 use Rattle.tre_show.proofs.order.in_printed_order.Goals as goal
@@ -14,6 +15,11 @@ returns-clause-set c = λ set. record {
   apart = IsApart-permutation _ _ c.sort_unstable_by_key.ensures.permutation set.apart;
   canonical = AreCanonical-permutation _ _ c.sort_unstable_by_key.ensures.permutation set.canonical;
 }
+
+pub returns-clause-tight : goal.returns-clause-tight
+returns-clause-tight c = λ set.
+    AreCanonical-tight _
+    (AreCanonical-permutation _ _ c.sort_unstable_by_key.ensures.permutation set.canonical)
 
 pub returns-clause-rising : goal.returns-clause-rising
 unfolding IsRising

@@ -29,15 +29,15 @@ loop-start-preserved c =
       before = LieBefore-next steps c.requires.steps start end rises before
           c.part_end-end.ensures.apart;
       held = parts_joined steps c.requires.steps start end rises before
-          (LastsUpTo c.args.longest) (IsInstantBetween c.args.from c.args.to) c.loop-start.chains
+          (LastsUpTo c.args.limits.now.longest) (IsInstantBetween c.args.limits.now.from c.args.limits.now.to) c.loop-start.chains
           c.in_ok-part.part c.loop-start.invariant.held c.in_ok-part.ensures
           c.join_disjoint.new.self c.in_ok-join_disjoint.ensures.held;
     }
 
 pub returns : goal.returns
 returns c =
-    HoldExactly-all (λ (R : Pairs). Lasting (LastsUpTo c.args.longest)
-    (SomeSteps R (IsInstantBetween c.args.from c.args.to)))
+    HoldExactly-all (λ (R : Pairs). Lasting (LastsUpTo c.args.limits.now.longest)
+    (SomeSteps R (IsInstantBetween c.args.limits.now.from c.args.limits.now.to)))
     c.loop-start.chains c.args.steps.now c.args.steps.now c.loop-start.start
     c.loop-start-test.false refl c.loop-start.invariant.held
 
@@ -48,8 +48,8 @@ join_disjoint-requires c =
     let later = c.part_end-end.ensures.rising in
     let rises : start ≤ end = omega (arith, later) in
     parts_disjoint c.args.steps.now c.requires.steps start end rises
-    c.loop-start.invariant.before (LastsUpTo c.args.longest)
-    (IsInstantBetween c.args.from c.args.to) c.loop-start.chains
+    c.loop-start.invariant.before (LastsUpTo c.args.limits.now.longest)
+    (IsInstantBetween c.args.limits.now.from c.args.limits.now.to) c.loop-start.chains
     c.in_ok-part.part c.loop-start.invariant.held c.in_ok-part.ensures
 
 pub chains_of_part-requires-clause-steps : goal.chains_of_part-requires-clause-steps

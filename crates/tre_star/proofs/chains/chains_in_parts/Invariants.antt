@@ -10,8 +10,8 @@ abbrev pub invariant-loop-start : goal.invariant-loop-start
 invariant-loop-start l = record {
   within : l.start ≤ length l.steps;
   before : LieBefore (take l.start l.steps) (drop l.start l.steps);
-  held : HoldExactly l.chains (Lasting (LastsUpTo l.longest)
-      (SomeSteps (SetHolds (take l.start l.steps)) (IsInstantBetween l.from l.to)));
+  held : HoldExactly l.chains (Lasting (LastsUpTo l.limits.longest)
+      (SomeSteps (SetHolds (take l.start l.steps)) (IsInstantBetween l.limits.from l.limits.to)));
 }
 
 abbrev pub decreases-loop-start : goal.decreases-loop-start

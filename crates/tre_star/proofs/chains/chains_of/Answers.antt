@@ -11,10 +11,10 @@ add_before-requires-clause-reached c = rw c.new-reached.ensures AreCanonical-emp
 
 pub loop-place-init : goal.loop-place-init
 loop-place-init c =
-    IsClosedTo-first (LastsUpTo c.args.longest) c.args.steps.now
-    (IsInstantBetween c.args.from c.args.to)
-    c.requires.steps (Scales-instants c.args.from c.args.to)
-    (instants-rising c.args.from c.args.to) c.instants-instants.result
+    IsClosedTo-first (LastsUpTo c.args.limits.now.longest) c.args.steps.now
+    (IsInstantBetween c.args.limits.now.from c.args.limits.now.to)
+    c.requires.steps (Scales-instants c.args.limits.now.from c.args.limits.now.to)
+    (instants-rising c.args.limits.now.from c.args.limits.now.to) c.instants-instants.result
     c.instants-instants.ensures.held
     c.add_before.new.reached
     (rw c.new-reached.ensures at c.in_ok-add_before.ensures.grown)
@@ -26,10 +26,10 @@ add_before-requires-in-loop-place-clause-reached c = c.loop-place.invariant.set
 
 pub loop-place-preserved : goal.loop-place-preserved
 loop-place-preserved c =
-    IsClosedTo-next (LastsUpTo c.args.longest) c.args.steps.now
-    (IsInstantBetween c.args.from c.args.to)
-    c.requires.steps (Scales-instants c.args.from c.args.to)
-    (instants-rising c.args.from c.args.to)
+    IsClosedTo-next (LastsUpTo c.args.limits.now.longest) c.args.steps.now
+    (IsInstantBetween c.args.limits.now.from c.args.limits.now.to)
+    c.requires.steps (Scales-instants c.args.limits.now.from c.args.limits.now.to)
+    (instants-rising c.args.limits.now.from c.args.limits.now.to)
     c.loop-place.reached c.add_before-in-loop-place.new.reached
     c.loop-place.place c.index-items-place.result
     (rw c.items.ensures at c.loop-place-test.true)
@@ -45,10 +45,10 @@ loop-place-smaller c =
 pub returns : goal.returns
 returns c =
     rw c.into_items.ensures
-    (IsClosedTo-last (LastsUpTo c.args.longest) c.args.steps.now
-    (IsInstantBetween c.args.from c.args.to)
-    c.requires.steps (Scales-instants c.args.from c.args.to)
-    (instants-rising c.args.from c.args.to) (LastsUpTo-downward c.args.longest)
-    (LastsUpTo-scales c.args.longest) c.loop-place.reached c.loop-place.place
+    (IsClosedTo-last (LastsUpTo c.args.limits.now.longest) c.args.steps.now
+    (IsInstantBetween c.args.limits.now.from c.args.limits.now.to)
+    c.requires.steps (Scales-instants c.args.limits.now.from c.args.limits.now.to)
+    (instants-rising c.args.limits.now.from c.args.limits.now.to) (LastsUpTo-downward c.args.limits.now.longest)
+    (LastsUpTo-scales c.args.limits.now.longest) c.loop-place.reached c.loop-place.place
     c.loop-place.invariant
     (let all = rw c.items.ensures at c.loop-place-test.false in omega (arith, all)))

@@ -7,7 +7,7 @@ use Rattle.tre_star.proofs.chains.chains_of.Given as goal
 
 abbrev pub invariant-loop-place : goal.invariant-loop-place
 invariant-loop-place l =
-    IsClosedTo (LastsUpTo l.longest) l.steps (IsInstantBetween l.from l.to) l.reached l.place
+    IsClosedTo (LastsUpTo l.limits.longest) l.steps (IsInstantBetween l.limits.from l.limits.to) l.reached l.place
 
 abbrev pub decreases-loop-place : goal.decreases-loop-place
 decreases-loop-place l = missed (2 ^ 42) l.reached + length l.reached - l.place

@@ -1,5 +1,5 @@
 use Rattle.tre_zone.specs.Longest.{LastsUpTo}
-use Rattle.std.proofs.Common.{take}
+use Rattle.std.proofs.Common.{take, ◌++◌}
 use Rattle.tre_pairs.specs.Pairs.{Composed, Lasting}
 use Rattle.tre_zone.specs.ZoneList.{SetHolds, HoldExactly}
 use Rattle.tre_star.proofs.composition.compose_in_turn.Given as goal
@@ -8,4 +8,4 @@ abbrev pub invariant-loop-zone : goal.invariant-loop-zone
 invariant-loop-zone l =
     HoldExactly l.found.items
     (Lasting (LastsUpTo l.longest)
-    (Composed (SetHolds (take l.zone-index l.first)) (SetHolds l.second)))
+    (Composed (SetHolds (take l.zone-index l.first)) (SetHolds (l.second ++ l.others))))

@@ -13,10 +13,13 @@ returns-clause-found g c =
     let input = input_told g.S.Source.file_name g.S.Source.file g.S.Source.sound g.S.Source.opened
     g.S.Source.left g.S.Source.found g.S.Source.faults c.args.input.now
     c.read_input.new.input in
-    IsFoundFor-read request input c.in_ok-trace.trace c.in_ok-set.set c.in_ok-zones.zones.items
+    let zones = c.in_printed_order-zones.result.items in
+    let order = c.in_printed_order-zones.ensures in
+    let set = order.set c.into_zones.ensures.set in
+    IsFoundFor-read request input c.in_ok-trace.trace c.in_ok-set.set zones
     (string_bytes c.in_ok-text.text) c.requires.offline c.in_ok-trace.ensures.read
-    c.in_ok-set.ensures c.in_ok-zones.ensures.held c.in_ok-zones.ensures.apart
-    c.in_ok-zones.ensures.tight c.in_ok-zones.ensures.rising
+    c.in_ok-set.ensures (rw c.into_zones.ensures.same at order.held) set.apart
+    (order.tight c.into_zones.ensures.set) order.rising
     (c.in_ok-text.ensures
-    ∙ (ap (λ zones. offline_text zones c.end.result) c.deref.ensures.value
-    ∙ ap (offline_text c.in_ok-zones.zones.items) c.end.ensures.end))
+    ∙ (ap (λ zones. offline_text zones c.end-end.result) c.deref.ensures.value
+    ∙ ap (offline_text zones) c.end-end.ensures.end))

@@ -1,18 +1,14 @@
-use Rattle.std.proofs.Common.{append_assoc, take, ◌≡◌}
-use Rattle.tre_show.specs.Line.{lines_of}
+use Rattle.std.proofs.Common.{append_assoc}
 use Rattle.tre_tool.specs.Transcript.{block_text}
-use Rattle.tre_tool.proofs.Lists.{take-over}
 use Rattle.tre_tool.proofs.online.block_text.Goals as goal
 
 pub returns : goal.returns
-unfolding block_text lines_of
+unfolding block_text
 returns c =
-    let all : take c.loop-zone.zone-index c.args.zones.now ≡ c.args.zones.now =
-    take-over c.loop-zone.zone-index c.args.zones.now c.loop-zone-test.false in
     rw (
       c.in_ok-push_str-2.ensures.bytes,
       c.in_ok-number.ensures.text,
       c.in_ok-push_str.ensures.bytes,
-      c.loop-zone.invariant,
-      all,
+      c.in_ok-zone_lines.ensures,
+      c.new-text.ensures.bytes,
     ) (simp append_assoc)

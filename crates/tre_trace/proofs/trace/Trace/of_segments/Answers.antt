@@ -1,34 +1,44 @@
-use Rattle.std.proofs.Common.{◌≡◌, ◌+◌, ◌∷◌, [], ◌∙◌, take, slice_index_or, ap, sym, arith, refl}
-use Rattle.std.proofs.lemmas.List.{length-take-le, take_more}
+use Rattle.std.proofs.Common.{◌≡◌, ◌⊎◌, ◌+◌, ◌-◌, ◌*◌, ◌≤◌, ◌∙◌, inl, inr, length, take, drop, ap, arith}
+use Rattle.std.proofs.lemmas.Bool.{cases_lt}
 use Rattle.tre_trace.specs.Trace.{end_of}
-use Rattle.tre_trace.proofs.Segments.{end_of-append, end_of-take-le}
+use Rattle.tre_trace.proofs.Blocks.{take_in_two, take_within}
+use Rattle.tre_trace.proofs.Segments.{end_of-from, end_of-take-le}
 use Rattle.tre_trace.proofs.trace.Trace.of_segments.Goals as goal
 
-pub loop-place-preserved : goal.loop-place-preserved
-loop-place-preserved c =
-    let segments = c.deref-segment-items.result.now in
-    let place = c.loop-place.place in
-    let segment = slice_index_or segments place (record { len = 0; val = 0 }) in
-    let same : c.deref.result.now ≡ segments =
-    c.deref.ensures.value ∙ sym c.deref-segment-items.ensures.value in
-    let beside = rw same at c.make_room.ensures.beside in
-    rw (take_more segments place (record { len = 0; val = 0 }) c.loop-place-test.true) (record {
-      beside =
-          c.write.ensures (take place segments) segment
-          (length-take-le place segments (omega (arith, c.loop-place-test.true))) refl beside;
-      end =
-          rw (end_of-append 0 (take place segments) (segment ∷ []))
-          (ap (λ n. n + segment.len) c.loop-place.invariant.end);
-    })
+pub end_of-end-requires : goal.end_of-end-requires
+end_of-end-requires c =
+    let segments = c.args.segments.items in
+    let from = c.loop-block.block * 64 in
+    let to = from + c.min.result in
+    rw (
+      c.deref-in-loop-block-2.ensures.value,
+      c.loop-block.invariant.end,
+      end_of-from 0 segments from to (omega arith),
+    ) (omega (arith, end_of-take-le 0 segments to, c.requires.trace.in_time))
 
-pub overflow_add-end : goal.overflow_add-end
-overflow_add-end c =
-    let segments = c.deref-segment-items.result.now in
-    let place = c.loop-place.place in
-    let segment = slice_index_or segments place (record { len = 0; val = 0 }) in
-    let next : end_of 0 (take (place + 1) segments) ≡ c.loop-place.end + segment.len =
-    rw (take_more segments place (record { len = 0; val = 0 }) c.loop-place-test.true)
-    (end_of-append 0 (take place segments) (segment ∷ [])
-    ∙ ap (λ n. n + segment.len) (sym c.loop-place.invariant.end)) in
-    let in_time = rw (← c.deref-segment-items.ensures.value) at c.requires.trace.in_time in
-    omega (arith, next, end_of-take-le 0 segments (place + 1), in_time)
+pub loop-block-preserved : goal.loop-block-preserved
+loop-block-preserved c =
+    let segments = c.args.segments.items in
+    let from = c.loop-block.block * 64 in
+    let to = from + c.min.result in
+    let next = (c.loop-block.block + 1) * 64 in
+    let count : c.len-in-loop-block.result ≡ length segments =
+    omega (arith, c.len-in-loop-block.ensures) in
+    let reached : (next ≤ to) ⊎ (length segments ≤ to) =
+    elim (cases_lt (length segments - from) 64) [
+      | inl last ↦ inr (omega (arith, last, count, c.min.ensures))
+      | inr more ↦ inl (omega (arith, more, count, c.min.ensures))
+    ] in
+    let whole = take_within segments next to (omega (arith, c.min.ensures)) reached in
+    let two = take_in_two segments from to (omega arith) in
+    let last : end_of c.loop-block.end (take (to - from) (drop from
+    c.deref-in-loop-block-2.result.now)) ≡ end_of 0 (take to segments) =
+    rw (c.deref-in-loop-block-2.ensures.value, c.loop-block.invariant.end)
+    (end_of-from 0 segments from to (omega arith)) in
+    record {
+      beside =
+          rw (← whole, ← two)
+          (rw (c.deref.ensures.value, c.deref-in-loop-block.ensures.value) at
+          c.in_ok-add_block.ensures);
+      end = c.end_of-end.ensures ∙ last ∙ ap (end_of 0) whole;
+    }

@@ -1,10 +1,10 @@
-use Rattle.std.proofs.Common.{◌≡◌, take}
+use Rattle.std.proofs.Common.{◌≡◌, ◌*◌, take}
 use Rattle.tre_trace.specs.Trace.{end_of}
 use Rattle.tre_trace.specs.Beside.{AreBeside}
 use Rattle.tre_trace.proofs.trace.Trace.of_segments.Given as goal
 
-abbrev pub invariant-loop-place : goal.invariant-loop-place
-invariant-loop-place l = record {
-  beside : AreBeside (take l.place l.segment-items) l.planes;
-  end : l.end ≡ end_of 0 (take l.place l.segment-items);
+abbrev pub invariant-loop-block : goal.invariant-loop-block
+invariant-loop-block l = record {
+  beside : AreBeside (take (l.block * 64) l.segments.items) l.planes;
+  end : l.end ≡ end_of 0 (take (l.block * 64) l.segments.items);
 }

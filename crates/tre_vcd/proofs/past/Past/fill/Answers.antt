@@ -1,6 +1,7 @@
 use Rattle.std.proofs.Common.{◌≡◌, ◌<◌, ◌∷◌, ◌++◌, [], length, length-append, ap, sym, ◌∙◌, subst, arith}
-use Rattle.tre_vcd.specs.Kept.{AreKnown}
+use Rattle.tre_vcd.specs.Kept.{AreKnown, IsSieveOf, identifier_kept}
 use Rattle.tre_vcd.proofs.Knowing.{known-push, known-few}
+use Rattle.tre_vcd.proofs.Valuing.{sieve-push}
 use Rattle.tre_vcd.proofs.past.Past.fill.Goals as goal
 
 pub loop-preserved : goal.loop-preserved
@@ -23,6 +24,10 @@ loop-preserved c =
             scopes = known.scopes;
             signals = subst (AreKnown past names) (sym pushed)
                 (known-push past names signals c.new.result c.new.ensures below known.signals);
+            sieve = subst (λ all. IsSieveOf all c.loop.self.sieve) (sym pushed)
+                (sieve-push signals c.new.result c.loop.self.sieve (ap identifier_kept c.new.ensures)
+                known.sieve);
+            values = known.values;
             quiet = known.quiet;
           };
     }

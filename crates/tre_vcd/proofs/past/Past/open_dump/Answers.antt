@@ -1,6 +1,6 @@
-use Rattle.std.proofs.Common.{◌∷◌, refl}
+use Rattle.std.proofs.Common.{◌∷◌, refl, ◌∙◌}
 use Rattle.tre_vcd.specs.VcdReading.{dump}
-use Rattle.tre_vcd.proofs.Knowing.{known-same}
+use Rattle.tre_vcd.proofs.Knowing.{known-same, values-same}
 use Rattle.tre_vcd.proofs.past.Past.open_dump.Goals as goal
 
 pub returns : goal.returns
@@ -13,5 +13,10 @@ returns c = λ names past known. record {
     identifiers = λ name. refl;
     values = λ identifier. refl;
   }) known.signals;
+  sieve = known.sieve;
+  values = known.values ∙ values-same past (dump ∷ past) names 0 (record {
+    identifiers = λ name. refl;
+    values = λ identifier. refl;
+  });
   quiet = known.quiet;
 }

@@ -22,7 +22,7 @@ returns-clause-tells c = λ past word tokens holds.
     → Knows c.args.self.now.names c.args.self.now.past (var tokens ∷ past) =
     λ other. knows-other c.args.self.now.names c.args.self.now.past past tokens
     (λ k below. declares-none (scopes_at past) tokens other (get_or c.args.self.now.names k []))
-    holds.past in
+    holds.suits holds.past in
     let known : Known c.if-tokens-eq4.self =
     elim c.if-tokens-eq4.branch [
       | then-tokens-eq4+then-is_signal+in-Ok w ↦

@@ -1,5 +1,5 @@
 use Rattle.std.proofs.Common.{arith}
-use Rattle.std.proofs.lemmas.Int.{ints, clamps}
+use Rattle.std.proofs.lemmas.Int.{ints}
 use Rattle.tre_zone.specs.Bound.{sum_of}
 use Rattle.tre_zone.proofs.Bounds.{split, value_of-sum_of, weakness_of-sum_of}
 use Rattle.tre_zone.proofs.bound.Bound.plus.Goals as goal
@@ -8,14 +8,14 @@ pub overflow_sub-result : goal.overflow_sub-result
 overflow_sub-result c =
     let one = split c.args.self.now in
     let two = split c.args.other.now in
-    omega (arith, ints, clamps)
+    omega (arith, ints)
 
 pub returns-clause-key : goal.returns-clause-key
 unfolding sum_of
 returns-clause-key c =
     let one = split c.args.self.now in
     let two = split c.args.other.now in
-    omega (arith, ints, clamps)
+    omega (arith, ints)
 
 pub returns-clause-value : goal.returns-clause-value
 returns-clause-value c =

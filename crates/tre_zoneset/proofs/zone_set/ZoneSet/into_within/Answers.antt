@@ -1,8 +1,9 @@
-use Rattle.std.proofs.Common.{refl}
-use Rattle.tre_zoneset.proofs.Short.{HoldExactly-within}
+use Rattle.tre_zoneset.proofs.Cuts.{HoldExactly-within, IsCut-within}
 use Rattle.tre_zoneset.proofs.zone_set.ZoneSet.into_within.Goals as goal
 
-pub returns-then-are_within : goal.returns-then-are_within
-returns-then-are_within c =
-    HoldExactly-within c.args.interval.now c.args.self
-    (rw c.zones.ensures.same at (c.if-are_within.ensures refl))
+pub into_cut-requires : goal.into_cut-requires
+into_cut-requires c = IsCut-within c.args.interval.now
+
+pub returns : goal.returns
+returns c =
+    HoldExactly-within c.args.interval.now c.in_ok-lasting.lasting _ c.in_ok-lasting.ensures

@@ -1,36 +1,10 @@
-use Rattle.std.proofs.Common.{refl}
-use Rattle.tre_zone.specs.Longest.{LastsUpTo}
-use Rattle.tre_pairs.specs.Pairs.{Lasting}
-use Rattle.tre_zone.specs.Zone.{ZoneHolds}
-use Rattle.tre_zone.proofs.ZoneListLemmas.{SetHolds-empty}
-use Rattle.tre_zoneset.specs.ZoneSet.{FoundHolds}
-use Rattle.tre_zoneset.proofs.Unions.{HoldExactly-each, HoldExactly-none, HoldExactly-all, HoldExactly-gathered, FoundHolds-exact, Lasting-additive}
-use Rattle.tre_zoneset.proofs.Short.{HoldExactly-short}
+use Rattle.tre_zoneset.specs.Cut.{IsCut}
+use Rattle.tre_zoneset.proofs.Cuts.{HoldExactly-up_to, IsCut-up_to}
 use Rattle.tre_zoneset.proofs.zone_set.ZoneSet.up_to.Goals as goal
 
-pub loop-zone-init : goal.loop-zone-init
-loop-zone-init c = rw c.new-found.ensures.items
-    (HoldExactly-none _ (λ a b n h. SetHolds-empty a b n h.related))
-
-pub loop-zone-preserved : goal.loop-zone-preserved
-loop-zone-preserved c =
-    HoldExactly-each (Lasting (LastsUpTo c.args.longest))
-    (Lasting-additive (LastsUpTo c.args.longest))
-    c.loop-zone.found.items c.gather.new.found.items c.zones-zone-items.result.now
-    c.loop-zone.zone-index
-    c.zone-item.result (FoundHolds c.up_to.result)
-    c.loop-zone-test.true c.zone-item.is c.loop-zone.invariant c.in_ok-gather.ensures
-    (FoundHolds-exact c.up_to.result (Lasting (LastsUpTo c.args.longest)
-    (ZoneHolds c.zone-item.result)) c.up_to.ensures)
+pub into_cut-requires : goal.into_cut-requires
+into_cut-requires c = IsCut-up_to c.args.longest c.requires
 
 pub returns : goal.returns
 returns c =
-    HoldExactly-gathered c.in_ok-lasting.lasting c.loop-zone.found.items _ c.in_ok-lasting.ensures
-    (HoldExactly-all (Lasting (LastsUpTo c.args.longest)) c.loop-zone.found.items
-    c.zones-zone-items.result.now c.args.self c.loop-zone.zone-index
-    c.loop-zone-test.false c.zones-zone-items.ensures.same c.loop-zone.invariant)
-
-pub returns-then-are_up_to : goal.returns-then-are_up_to
-returns-then-are_up_to c =
-    HoldExactly-short c.args.longest c.args.self
-    (rw c.zones.ensures.same at (c.if-are_up_to.ensures refl))
+    HoldExactly-up_to c.args.longest c.in_ok-lasting.lasting _ c.in_ok-lasting.ensures

@@ -1,8 +1,18 @@
-use Rattle.std.proofs.Common.{refl}
-use Rattle.tre_zoneset.proofs.Short.{HoldExactly-within}
+use Rattle.tre_zoneset.specs.declared.cut.Cut.TheVariants.{Within}
+use Rattle.tre_zoneset.proofs.Cuts.{HoldExactly-within, HoldExactly-left, IsCut-within}
 use Rattle.tre_zoneset.proofs.zone_set.ZoneSet.within.Goals as goal
 
-pub returns-then-are_within : goal.returns-then-are_within
-returns-then-are_within c =
-    rw c.in_ok-set.ensures (HoldExactly-within c.args.interval.now c.args.self.now
-    (rw c.zones.ensures.same at (c.if-are_within.ensures refl)))
+pub cut_of-requires : goal.cut_of-requires
+cut_of-requires c = IsCut-within c.args.interval.now
+
+pub returns-in-Some : goal.returns-in-Some
+returns-in-Some c =
+    HoldExactly-within c.args.interval.now c.in-Some.lasting _
+    (rw c.in-Some.is at c.in_ok-lasting.ensures)
+
+pub returns : goal.returns
+returns c =
+    rw c.in_ok-all.ensures
+    (HoldExactly-within c.args.interval.now c.args.self.now _
+    (HoldExactly-left (Within c.args.interval.now) c.args.self.now
+    (rw c.in_default.is at c.in_ok-lasting.ensures)))

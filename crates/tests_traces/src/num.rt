@@ -1,0 +1,149 @@
+// Tests of tre_num.
+use std::alloc::{AllocError, Global};
+use std::test::Fail;
+use tests_support::names_of;
+use tre_decimal::SCALE_MAX;
+use tre_num::Comparison::{AtLeast, AtMost, Equal, Greater, Less, Unequal};
+use tre_num::{Comparison, Definition, read_rows};
+use tre_trace::{Trace, TraceFault};
+
+// A number, a comparison, and whether it holds of the number and 3.
+const COMPARISONS: [(i64, Comparison, bool); 18] = [
+    (2, Less, true),
+    (3, Less, false),
+    (4, Less, false),
+    (2, AtMost, true),
+    (3, AtMost, true),
+    (4, AtMost, false),
+    (2, Greater, false),
+    (3, Greater, false),
+    (4, Greater, true),
+    (2, AtLeast, false),
+    (3, AtLeast, true),
+    (4, AtLeast, true),
+    (2, Equal, false),
+    (3, Equal, true),
+    (4, Equal, false),
+    (2, Unequal, true),
+    (3, Unequal, false),
+    (4, Unequal, true),
+];
+
+#[test]
+fn numbers_are_compared(rt: HostRuntime) {
+    for (number, comparison, holds) in &COMPARISONS {
+        assert!(rt; comparison.holds(*number, 3) == *holds, "{number}");
+    }
+}
+
+// Names, and the column, the comparison and the number of each.
+const DEFINED: [(&str, &str, Comparison, i64); 6] = [
+    ("hot", "temp", AtLeast, 80),
+    ("low", "level", Less, 5),
+    ("full", "level", Greater, 9),
+    ("least", "temp", AtMost, i64::MIN),
+    ("hot", "level", Less, 0),
+    ("gone", "none", Less, 0),
+];
+
+fn definitions(alloc: Global) -> Result<Vec<Definition>, AllocError> {
+    let mut definitions = Vec::new(alloc);
+    for (name, column, comparison, value) in &DEFINED {
+        let name = String::from_str(alloc, *name)?;
+        let column = String::from_str(alloc, *column)?;
+        definitions.push(Definition::new(name, column, *comparison, *value))?;
+    }
+    Ok(definitions)
+}
+
+// The names of propositions, a scale, rows, and what they say: segments, each as its length and its
+// valuation, or the fault with its record.
+const ROWS: [(&str, u8, &str, &str); 41] = [
+    ("hot", 0, "dt,temp\n2,79\n3,\"80\"\n1,-5\n", "2:0 3:1 1:0 "),
+    ("hot", 0, "dt,temp\n2,x", "BadNumber 2"),
+    ("hot", 0, "dt,temp\n2", "CutShort 2"),
+    ("cold", 0, "dt,temp\n2,79", "UnknownName 1"),
+    ("", 0, "", ""),
+    ("hot", 0, "", "UnknownName 1"),
+    ("hot", 0, "dt,temp", ""),
+    ("gone", 0, "dt,temp\n2,79", "UnknownName 1"),
+    ("hot gone", 0, "dt,temp\n0,79", "UnknownName 1"),
+    ("hot", 0, "temp,dt\n80,1", "UnknownName 1"),
+    ("hot", 0, "dt, temp\n1,80", "UnknownName 1"),
+    ("hot", 0, "dt,temp\n0,81\n1,x", "Zero 2"),
+    ("hot", 0, "dt,temp\n1,80\n0,x", "Zero 3"),
+    ("hot", 0, "dt,temp\nx", "CutShort 2"),
+    ("hot", 0, "dt,temp\n,80", "BadNumber 2"),
+    ("hot", 0, "dt,temp\n1099511627776,80\n", "1099511627776:1 "),
+    ("hot", 0, "dt,temp\n1099511627776,80\n1,x", "TooLate 3"),
+    ("hot", 0, "dt,temp\n99999999999999999999,80", "TooLate 2"),
+    ("hot", 0, "dt,temp,temp\n1,80,1\n1,1,80", "1:1 1:0 "),
+    ("hot", 0, "\u{feff}dt,temp\n1,80", "1:1 "),
+    (
+        "hot",
+        0,
+        "dt,temp\r\n1,80\r\n\r\n\n1,7\r1,80",
+        "1:1 1:0 1:1 ",
+    ),
+    ("hot", 0, "dt,temp\n1,80\n\n\n1", "CutShort 3"),
+    ("hot", 0, "dt,temp\n1,80,x,y\n", "1:1 "),
+    ("hot", 0, "dt,temp\n1, 80", "BadNumber 2"),
+    ("hot", 0, "dt,temp\n 1,80", "BadNumber 2"),
+    ("hot", 0, "dt,temp\n1,\"80\n1,80", "BadNumber 2"),
+    ("hot", 0, "dt,temp\n1,8\"0", "BadNumber 2"),
+    ("hot", 0, "dt,temp\n1,\"8\"0", "1:1 "),
+    ("hot", 0, "dt,\"te\"\"mp\",temp\n1,2,80", "1:1 "),
+    ("hot", 0, "dt,note,temp\n1,\"a,b\nc\",80", "1:1 "),
+    (
+        "least",
+        0,
+        "dt,temp\n1,-9223372036854775808\n1,-9223372036854775807",
+        "1:1 1:0 ",
+    ),
+    ("hot", 0, "dt,temp\n1,-9223372036854775809", "BadNumber 2"),
+    ("hot", 0, "dt,temp\n1,9223372036854775807", "1:1 "),
+    ("hot", 0, "dt,temp\n1,9223372036854775808", "BadNumber 2"),
+    ("hot", 0, "dt,temp\n1,+80", "BadNumber 2"),
+    ("hot", 0, "dt,temp\n1,80.0", "BadNumber 2"),
+    ("hot", 0, "dt,temp\n1,-0080\n1.0,0080", "1:0 1:1 "),
+    (
+        "full low hot",
+        0,
+        "dt,temp,level\n1,80,10\n1,79,4\n1,80,4\n1,0,7",
+        "1:5 1:2 1:6 1:0 ",
+    ),
+    ("low", 0, "dt,temp,level\n1,x,4\n1,,9", "1:1 1:0 "),
+    ("hot", 1, "dt,temp\n0.5,80\n1.20,1", "5:1 12:0 "),
+    ("hot", 1, "dt,temp\n0.5,80\n1.25,1", "BadNumber 3"),
+];
+
+// Each segment as its length and its valuation, or the fault.
+fn told(alloc: Global, answer: &Result<Trace, TraceFault>) -> Result<String, AllocError> {
+    let mut text = String::new(alloc);
+    match answer {
+        Ok(trace) => {
+            for segment in trace.segments() {
+                write!(text, "{}:{} ", segment.len, segment.val)?;
+            }
+        }
+        Err(fault) => write!(text, "{:?} {}", fault.kind, fault.place)?,
+    }
+    Ok(text)
+}
+
+// Whether the rows say this.
+fn says(alloc: Global, names: &str, scale: u8, rows: &str, want: &str) -> Result<bool, Fail> {
+    let definitions = definitions(alloc)?;
+    let names = names_of(alloc, names)?;
+    let scale = scale.min(SCALE_MAX);
+    let answer = read_rows(alloc, rows.as_bytes(), &definitions, &names, scale);
+    Ok(told(alloc, &answer)?.as_str() == want)
+}
+
+#[test]
+fn rows_are_read(rt: HostRuntime) -> Result<(), Fail> {
+    for (names, scale, rows, want) in &ROWS {
+        assert!(rt; says(rt.alloc(), *names, *scale, *rows, *want)?, "{rows}");
+    }
+    Ok(())
+}

@@ -1,0 +1,5 @@
+mod Digits
+mod Capped
+mod Units
+mod Written
+mod Fronts

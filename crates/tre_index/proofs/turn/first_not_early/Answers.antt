@@ -1,0 +1,24 @@
+use Rattle.std.proofs.Common.{◌≡◌, ◌+◌, length, map, refl, arith}
+use Rattle.std.proofs.lemmas.List.{length-map}
+use Rattle.tre_index.proofs.Turns.{row_at, HasNone-through}
+use Rattle.tre_index.proofs.turn.first_not_early.Goals as goal
+
+pub loop-from-preserved-then-is_early : goal.loop-from-preserved-then-is_early
+loop-from-preserved-then-is_early g c =
+    let items = c.args.items.now in
+    let rows = map g.T.HasRow.row_of items in
+    let long : length rows ≡ length items = length-map items g.T.HasRow.row_of in
+    let old = c.loop-from.invariant in
+    let rising = old.rising in
+    let within = old.within in
+    let less = c.loop-from-test.true in
+    record {
+      rising = omega (arith, less);
+      within = within;
+      before = HasNone-through rows c.args.key.now c.row.result _ c.requires.turn
+          (omega (arith, less, within, long))
+          (row_at g.T.HasRow.row_of items _ c.index-items-middle.result c.row.result
+          (omega (arith, less, within, long)) c.index-items-middle.is c.row.ensures)
+          (c.if-is_early.ensures.0 refl);
+      here = old.here;
+    }

@@ -1,0 +1,7 @@
+-- What a reader must believe.
+pub mod Comparison
+pub mod Defined
+pub mod Whole
+pub mod Rows
+-- What the functions inside promise each other.
+pub mod Left

@@ -1,0 +1,126 @@
+-- What comma-separated rows say of a trace.
+use Rattle.std.specs.Prelude.{ℕ, ◌+◌, ◌*◌, nat_lt, nat_le, ◌==◌, Bool, true, false, Option, Some, None, List, [], ◌∷◌, length, drop, find, Result, Ok, Err, option_and_then, option_map, if◌then◌else◌}
+use Rattle.std.specs.List.{position_from}
+use Rattle.std.specs.Str.{bytes_eq}
+use Rattle.csv.specs.Reading.{records, default_config, strip_bom}
+use Rattle.csv.specs.Records.{field_at}
+use Rattle.tre_pairs.specs.declared.TheConstants.{TIME_MAX}
+use Rattle.tre_decimal.specs.Decimal.{units_of}
+use Rattle.tre_trace.specs.Reading.{Reading}
+use Rattle.tre_trace.specs.declared.segment.Segment.{Segment}
+use Rattle.tre_trace.specs.declared.fault.TraceKind.{TraceKind}
+use Rattle.tre_trace.specs.declared.fault.TraceKind.TheVariants.{BadNumber, Zero, TooLate, UnknownName, CutShort}
+use Rattle.tre_parts.specs.Format.{nothing, faulty, behind}
+use Rattle.tre_num.specs.declared.column.Column.{Column}
+use Rattle.tre_num.specs.Comparison.{compares}
+use Rattle.tre_num.specs.Defined.{Defined}
+use Rattle.tre_num.specs.Whole.{whole_of}
+
+-- ---- the columns of names
+
+-- the first definition of a name
+abbrev pub definition_of : List Defined → List ℕ → Option Defined
+definition_of definitions name = find (λ defined. bytes_eq defined.name name) definitions
+
+-- The place of the first column of a name in the header, whose first field names no column.
+abbrev pub place_in : List (List ℕ) → List ℕ → Option ℕ
+place_in header name = position_from (λ field. bytes_eq field name) 1 (drop 1 header)
+
+-- what a definition compares, where the header has its column
+abbrev pub column_in : List (List ℕ) → Defined → Option Column
+column_in header defined =
+    option_map (λ place. record {
+      place = place;
+      comparison = defined.comparison;
+      value = defined.value;
+    }) (place_in header defined.column)
+
+-- what a name compares, where it is defined and the header has its column
+abbrev pub column_for : List Defined → List (List ℕ) → List ℕ → Option Column
+column_for definitions header name =
+    option_and_then (column_in header) (definition_of definitions name)
+
+abbrev pub with_column : Option Column → Option (List Column) → Option (List Column)
+with_column None columns = None
+with_column (Some column) columns = option_map (λ others. column ∷ others) columns
+
+-- What the names compare, in their order; none where one of them isn't defined or has no column.
+abbrev pub columns_of : List Defined → List (List ℕ) → List (List ℕ) → Option (List Column)
+columns_of definitions header [] = Some []
+columns_of definitions header (name ∷ names) =
+    with_column (column_for definitions header name) (columns_of definitions header names)
+
+-- ---- a row
+
+-- whether a comparison holds of a row; none where its field is no whole number
+abbrev pub told_by : Column → List (List ℕ) → Option Bool
+told_by column fields =
+    option_map (λ number. compares column.comparison number column.value)
+    (option_and_then whole_of (field_at fields column.place))
+
+-- one more bit below those of a valuation
+abbrev pub with_lowest : Option Bool → Option ℕ → Option ℕ
+with_lowest None higher = None
+with_lowest (Some told) higher =
+    option_map (λ bits. (if told then 1 else 0) + 2 * bits) higher
+
+-- The valuation of a row: the comparison of the first name is the lowest bit.
+abbrev pub valuation_of : List Column → List (List ℕ) → Option ℕ
+valuation_of [] fields = Some 0
+valuation_of (column ∷ columns) fields =
+    with_lowest (told_by column fields) (valuation_of columns fields)
+
+-- so many units behind a trace that ends at `end`
+abbrev pub units_say : ℕ → Option ℕ → Result ℕ TraceKind
+units_say end None = Err BadNumber
+units_say end (Some len) =
+    if len == 0 then Err Zero else (if nat_le (end + len) TIME_MAX then Ok len else Err TooLate)
+
+-- how long a row lasts: its first field is a decimal
+abbrev pub duration_says : ℕ → ℕ → List (List ℕ) → Result ℕ TraceKind
+duration_says scale end fields =
+    units_say end (option_and_then (units_of scale) (field_at fields 0))
+
+abbrev pub segment_says : Result ℕ TraceKind → Option ℕ → Result Segment TraceKind
+segment_says (Err kind) valuation = Err kind
+segment_says (Ok len) None = Err BadNumber
+segment_says (Ok len) (Some valuation) = Ok (record { len = len; val = valuation })
+
+-- What a row says behind a trace that ends at `end`, under a header of this many fields.
+abbrev pub row_says : List Column → ℕ → ℕ → ℕ → List (List ℕ) → Result Segment TraceKind
+row_says columns width scale end fields =
+    if nat_lt (length fields) width then Err CutShort
+    else segment_says (duration_says scale end fields) (valuation_of columns fields)
+
+-- ---- all rows
+
+-- a fault ends the reading; behind a segment it goes on
+abbrev pub says_on : ℕ → ℕ → Result Segment TraceKind → (ℕ → Reading) → Reading
+says_on number end (Err kind) more = faulty number kind
+says_on number end (Ok segment) more = behind (segment ∷ []) (more (end + segment.len))
+
+-- what rows say, the first of which is the record of this number
+abbrev pub rows_from : List Column → ℕ → ℕ → ℕ → List (List (List ℕ)) → ℕ → Reading
+rows_from columns width scale number [] end = nothing
+rows_from columns width scale number (row ∷ rows) end =
+    says_on number end (row_says columns width scale end row)
+    (rows_from columns width scale (number + 1) rows)
+
+-- The rows behind a header of this many fields, where each name has its column.
+abbrev pub under_header : Option (List Column) → ℕ → ℕ → List (List (List ℕ)) → Reading
+under_header None width scale rows = faulty 1 UnknownName
+under_header (Some columns) width scale rows = rows_from columns width scale 2 rows 0
+
+-- records: a header and rows; without a record there is no column
+abbrev pub table_says : List Defined → List (List ℕ) → ℕ → List (List (List ℕ)) → Reading
+table_says definitions names scale [] =
+    under_header (columns_of definitions [] names) 0 scale []
+table_says definitions names scale (header ∷ rows) =
+    under_header (columns_of definitions header names) (length header) scale rows
+
+-- What bytes say of a trace, for the propositions of these names: nothing while more may come, and
+-- then what their records say.
+abbrev pub rows_reading : List Defined → List (List ℕ) → ℕ → Bool → List ℕ → Reading
+rows_reading definitions names scale false bytes = nothing
+rows_reading definitions names scale true bytes =
+    table_says definitions names scale (records default_config (strip_bom bytes))

@@ -1,0 +1,9 @@
+use crate::comparison::Comparison;
+
+/// What the comparison of a name reads: the field at a place.
+#[derive(Clone, Copy, Debug)]
+pub(crate) struct Column {
+    pub place: usize,
+    pub comparison: Comparison,
+    pub value: i64,
+}

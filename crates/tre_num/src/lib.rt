@@ -1,0 +1,26 @@
+//! Traces from columns of whole numbers, as a spreadsheet or a logger writes them.
+//!
+//! A [`Definition`] names a comparison of a column with a whole number, as `hot = temp >= 80`.
+//! [`read_rows`] reads comma-separated rows: the first is the header, whose later fields name the
+//! columns, and each row behind it is a segment, which lasts what its first field says. What the
+//! bytes say is `rows_reading` of specs/Rows.antt; the records are those that the crate csv
+//! promises for the bytes.
+//!
+//! ```text
+//! dt,temp
+//! 2,79
+//! 3,80        read_rows gives (2 ticks, hot is false), (3 ticks, hot is true)
+//! ```
+#![tactic(auto)]
+
+mod column;
+mod columns;
+mod comparison;
+mod definition;
+mod row;
+mod rows;
+mod whole;
+
+pub use comparison::Comparison;
+pub use definition::Definition;
+pub use rows::read_rows;

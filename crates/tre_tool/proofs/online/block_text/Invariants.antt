@@ -1,7 +1,0 @@
-use Rattle.std.proofs.Common.{◌≡◌, flat_map, take, string_bytes}
-use Rattle.tre_show.specs.Line.{line_of}
-use Rattle.tre_tool.proofs.online.block_text.Given as goal
-
--- the lines of the zones so far
-abbrev pub invariant-loop-zone : goal.invariant-loop-zone
-invariant-loop-zone l = string_bytes l.text ≡ flat_map line_of (take l.zone-index l.zones)

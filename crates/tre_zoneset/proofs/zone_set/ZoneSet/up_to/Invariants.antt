@@ -1,9 +1,0 @@
-use Rattle.std.proofs.Common.{take}
-use Rattle.tre_pairs.specs.Pairs.{Lasting}
-use Rattle.tre_zone.specs.Longest.{LastsUpTo}
-use Rattle.tre_zone.specs.ZoneList.{SetHolds, HoldExactly}
-use Rattle.tre_zoneset.proofs.zone_set.ZoneSet.up_to.Given as goal
-
-abbrev pub invariant-loop-zone : goal.invariant-loop-zone
-invariant-loop-zone l = HoldExactly l.found.items
-    (Lasting (LastsUpTo l.longest) (SetHolds (take l.zone-index l.zone-items)))
