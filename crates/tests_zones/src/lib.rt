@@ -18,6 +18,8 @@ mod lanes;
 #[cfg(test)]
 mod sets;
 #[cfg(test)]
+mod strips;
+#[cfg(test)]
 mod support;
 #[cfg(test)]
 mod touching;

@@ -1,0 +1,142 @@
+-- Whether an end stands before another over some times, seen at one of them; and cut times.
+use Rattle.std.proofs.Common.{◌≡◌, ◌≢◌, ℕ, ◌+◌, ◌-◌, ◌*◌, ◌<◌, ◌≤◌, ◌⊎◌, Bool, true, false, min, max, MatchBool, nat_lt, refl, sym, ap, ◌∙◌, arith, inl, inr, ⊎_elim, ltb-true, ltb-false, mul-le-mul_right}
+use Rattle.std.proofs.lemmas.Bool.{cases_eq, cases_lt}
+use Rattle.tre_strips.specs.Bar.{place_of}
+use Rattle.tre_strips.specs.Profile.{IsIn}
+use Rattle.tre_strips.specs.Times.{IsTime, Narrows, sample_of, IsSettled, Compares, IsLater, IsEarlier}
+use Rattle.tre_strips.specs.declared.bar.BarEnd.{BarEnd}
+use Rattle.tre_strips.specs.declared.times.Times.{Times}
+
+-- Where a/n is one of them, the times do not end before they begin.
+pub times_rise : (times : Times) (a n : ℕ) → IsTime times a n → times.from ≤ times.until
+times_rise times a n time =
+    ⊎_elim (λ one. let same = one.0 in omega arith)
+    (λ many. ⊎_elim (λ (less : times.from < times.until). omega arith)
+    (λ (above : times.until ≤ times.from).
+    let wide = mul-le-mul_right n above in
+    let low = many.0 in
+    let high = many.1 in
+    absurd (omega arith))
+    (cases_lt times.from times.until)) time.inside
+
+pub sample_is_time : (times : Times) → times.from ≤ times.until → IsTime times (sample_of times) 2
+unfolding sample_of
+sample_is_time times rising =
+    ⊎_elim (λ (same : times.from ≡ times.until).
+    record { some = omega arith; inside = inl (same, omega arith) })
+    (λ (differs : times.from ≢ times.until).
+    record { some = omega arith; inside = inr (omega arith, omega arith) })
+    (cases_eq times.from times.until)
+
+by_test : (p q : ℕ) (P Q : Type 0) → (p < q → P) → (q ≤ p → Q) → MatchBool (nat_lt p q) P Q
+by_test p q P Q less above = by (nat_lt p q) refl
+  where
+    by : (b : Bool) → nat_lt p q ≡ b → MatchBool b P Q
+    by true e = less (ltb-true p q e)
+    by false e = above (ltb-false p q e)
+
+-- The places at one of the times tell the order over all.
+pub Compares-sample : (times : Times) (one other : BarEnd) (p q : ℕ)
+    → p ≡ place_of one (sample_of times) 2 → q ≡ place_of other (sample_of times) 2
+    → IsSettled times one other → Compares (nat_lt p q) times one other
+Compares-sample times one other p q is is' settled = record {
+  told = λ a n time.
+      let sample = sample_is_time times (times_rise times a n time) in
+      ⊎_elim (λ less.
+      let here = less (sample_of times) 2 sample in
+      by_test p q _ _ (λ lt. less a n time) (λ le. absurd (omega arith)))
+      (λ above.
+      let here = above (sample_of times) 2 sample in
+      by_test p q _ _ (λ lt. absurd (omega arith)) (λ le. above a n time))
+      settled.order;
+}
+
+pub Narrows-time : (old new : Times) → Narrows old new → (a n : ℕ) → IsTime new a n
+    → IsTime old a n
+Narrows-time old new narrows a n time =
+    let from = narrows.from in
+    let until = narrows.until in
+    let start = ap (λ k. k * n) from in
+    let end = mul-le-mul_right n until in
+    record {
+      some = time.some;
+      inside = ⊎_elim (λ one.
+          let same = one.0 in
+          let is = one.1 in
+          ⊎_elim (λ (less : old.from < old.until).
+          let open_still = narrows.many less in absurd (omega arith))
+          (λ (above : old.until ≤ old.from). inl (omega arith, omega arith))
+          (cases_lt old.from old.until))
+          (λ many.
+          let low = many.0 in
+          let high = many.1 in
+          inr (omega arith, omega arith)) time.inside;
+    }
+
+pub Narrows-trans : (old mid new : Times) → Narrows old mid → Narrows mid new → Narrows old new
+Narrows-trans old mid new first second =
+    let from = first.from in
+    let from' = second.from in
+    let until = first.until in
+    let until' = second.until in
+    record {
+      from = omega arith;
+      until = omega arith;
+      single = λ e.
+          let kept = first.single e in
+          let kept' = second.single (omega arith) in
+          omega arith;
+      many = λ lt. second.many (first.many lt);
+    }
+
+pub Narrows-itself : (times : Times) → Narrows times times
+Narrows-itself times = record {
+  from = refl;
+  until = omega arith;
+  single = λ e. refl;
+  many = λ lt. lt;
+}
+
+-- The times that are left have the same sample.
+pub Narrows-sample : (old new : Times) → Narrows old new → sample_of new ≡ sample_of old
+unfolding sample_of
+Narrows-sample old new narrows =
+    let from = narrows.from in
+    let until = narrows.until in
+    ⊎_elim (λ (less : old.from < old.until).
+    let still = narrows.many less in omega arith)
+    (λ (above : old.until ≤ old.from). omega arith)
+    (cases_lt old.from old.until)
+
+pub IsLater-other : (times : Times) (one other : BarEnd) → Compares true times one other
+    → IsLater times one other other
+IsLater-other times one other told = record {
+  place = λ a n time. let less = told.told a n time in omega arith;
+}
+
+pub IsLater-one : (times : Times) (one other : BarEnd) → Compares false times one other
+    → IsLater times one other one
+IsLater-one times one other told = record {
+  place = λ a n time. let above = told.told a n time in omega arith;
+}
+
+pub IsEarlier-other : (times : Times) (one other : BarEnd) → Compares true times other one
+    → IsEarlier times one other other
+IsEarlier-other times one other told = record {
+  place = λ a n time. let less = told.told a n time in omega arith;
+}
+
+pub IsEarlier-one : (times : Times) (one other : BarEnd) → Compares false times other one
+    → IsEarlier times one other one
+IsEarlier-one times one other told = record {
+  place = λ a n time. let above = told.told a n time in omega arith;
+}
+
+pub sample_single : (times : Times) → times.from ≡ times.until → sample_of times ≡ 2 * times.from
+unfolding sample_of
+sample_single times same = omega arith
+
+pub sample_many : (times : Times) → times.from < times.until
+    → sample_of times ≡ 2 * times.from + 1
+unfolding sample_of
+sample_many times less = omega arith

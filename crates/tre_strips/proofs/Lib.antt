@@ -1,0 +1,15 @@
+pub mod Order
+pub mod Comparing
+pub mod Lists
+pub mod Joining
+pub mod ZoneBars
+pub mod Sweeping
+pub mod Unique
+pub mod Fitting
+pub mod Runs
+pub mod StripZones
+pub mod Spinning
+pub mod Whole
+pub mod Listing
+pub mod Apart
+pub mod Answering

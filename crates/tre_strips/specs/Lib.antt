@@ -1,0 +1,12 @@
+-- What a reader must believe: bars over a begin, profiles, runs and strips.
+pub mod Bar
+pub mod Profile
+pub mod Runs
+pub mod Strips
+-- What the functions inside promise each other: ends that keep their order over some times, the
+-- profile of zones over them, and one pass over time.
+pub mod Times
+pub mod Profiles
+pub mod Sweep
+pub mod Found
+pub mod Spun

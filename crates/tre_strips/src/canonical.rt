@@ -1,0 +1,104 @@
+// The list of the strips.
+ghost use Rattle.std.specs.Prelude.{◌≡◌, ◌^◌, ◌↔◌, neg_ℤ, Contains, List, IfOk};
+ghost use Rattle.std.specs.List.Sorted.{IsStrictlySortedBy};
+ghost use Rattle.tre_zone.specs.Bound.{IsKeyWithin};
+ghost use Rattle.tre_zone.specs.ZoneList.{SetHolds, AreCanonical, HoldExactly};
+ghost use Rattle.tre_zone.specs.declared.zone_bounds.ZoneBounds.{ZoneBounds};
+ghost use Rattle.tre_strips.specs.Strips.{line_key, compare_lines, AreStrips};
+ghost use Rattle.tre_strips.specs.Spun.{HaveSamePairs, AreFound};
+ghost use Rattle.tre_strips.specs.Sweep.{begin_of, AreInTurn};
+
+use crate::begins::first_begin;
+use crate::column::Sweep;
+use crate::run::Run;
+use std::alloc::{AllocError, Global};
+use tre_pairs::TIME_MAX;
+use tre_zone::{Bound, Zone};
+use tre_zoneset::ZoneSet;
+
+/// The canonical strips of what the set holds, in the order in which they are printed: a list that
+/// is the same for every set that holds the same pairs.
+pub fn strips(alloc: Global, set: &ZoneSet) -> Result<Vec<Zone>, AllocError>
+    ensures strips { IfOk result (λ zones. AreStrips (SetHolds set.now) zones.items) }
+    ensures held { IfOk result (λ zones. HoldExactly zones.items (SetHolds set.now)) }
+{
+    let zones = in_turn(alloc, set.zones())?;
+    let found = strips_of(alloc, &zones)?;
+    Ok(in_order(found))
+}
+
+// The zones in the order of their first begins.
+fn in_turn(alloc: Global, zones: &[Zone]) -> Result<Vec<Zone>, AllocError>
+    requires { AreCanonical zones.now }
+    ensures turn { IfOk result (λ sorted. AreInTurn sorted.items) }
+    ensures same { IfOk result (λ sorted. HaveSamePairs zones.now sorted.items) }
+{
+    let mut sorted = Vec::new(alloc);
+    sorted.extend_from_slice(zones)?;
+    sorted.sort_unstable_by_key(
+        |zone: &Zone| -> u64
+            ensures { result ≡ begin_of zone.now }
+        { first_begin(zone) },
+    );
+    Ok(sorted)
+}
+
+// The strips of zones in the order of their first begins.
+fn strips_of(alloc: Global, zones: &[Zone]) -> Result<Vec<Zone>, AllocError>
+    requires { AreInTurn zones.now }
+    ensures { IfOk result (λ found. (set : List ZoneBounds) → AreCanonical set
+        → HaveSamePairs set zones.now → AreFound set found.items) }
+{
+    let mut found = Vec::new(alloc);
+    let mut sweep = Sweep::new(alloc);
+    let first = sweep.next_column(alloc, zones)?;
+    let mut run = Run::first(alloc, &mut found, first)?;
+    while sweep.time <= TIME_MAX {
+        let column = sweep.next_column(alloc, zones)?;
+        run = run.next(alloc, &mut found, column)?;
+    }
+    drop(run);
+    Ok(found)
+}
+
+// The zones in the order in which they are printed, each once.
+fn in_order(found: Vec<Zone>) -> Vec<Zone>
+    ensures order { IsStrictlySortedBy compare_lines result.items }
+    ensures same { (zone : ZoneBounds) → Contains result.items zone ↔ Contains found.items zone }
+{
+    let mut zones = found;
+    zones.sort_unstable_by_key(
+        |zone: &Zone| -> [i64; 6]
+            ensures { result ≡ line_key zone.now }
+        { line_key(zone) },
+    );
+    zones.dedup_by_key(
+        |zone: &mut Zone| -> [i64; 6]
+            ensures key { result ≡ line_key zone.old }
+            ensures same { zone.new ≡ zone.old }
+        { line_key(zone) },
+    );
+    zones
+}
+
+// The numbers by which lines are ordered, from the first.
+fn line_key(zone: &Zone) -> [i64; 6]
+    ensures { result ≡ line_key zone.now }
+{
+    let bounds = zone.bounds();
+    [
+        negated(&bounds.begin_low),
+        bounds.begin_high.key(),
+        negated(&bounds.end_low),
+        bounds.end_high.key(),
+        negated(&bounds.dur_low),
+        bounds.dur_high.key(),
+    ]
+}
+
+fn negated(bound: &Bound) -> i64
+    requires { IsKeyWithin (2 ^ 42) bound.now }
+    ensures { result ≡ neg_ℤ bound.now }
+{
+    -bound.key()
+}

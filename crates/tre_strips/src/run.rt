@@ -1,0 +1,226 @@
+// Runs: stretches of begins over which one list of bars is the profile.
+ghost use Rattle.std.specs.Prelude.{◌≡◌, ◌*◌, ◌<◌, ◌↔◌, List, [], IsTrue, IfOk, OnOk};
+ghost use Rattle.tre_zone.specs.ZoneList.{SetHolds, AreCanonical};
+ghost use Rattle.tre_zone.specs.declared.zone_bounds.ZoneBounds.{ZoneBounds};
+ghost use Rattle.tre_strips.specs.Bar.{place_of, AreFilled};
+ghost use Rattle.tre_strips.specs.Spun.{Closes, FindsAlone, Begun, IsSpun};
+ghost use Rattle.tre_strips.specs.Sweep.{IsColumn};
+ghost use Rattle.tre_strips.specs.Times.{sample_of};
+ghost use Rattle.tre_strips.specs.Found.{StandAlike, AreSamePlaces, GoesOn, Agree, RiseAt};
+
+use crate::bar::Bar;
+use crate::column::Column;
+use crate::profiles::united;
+use crate::strip_zone::{Begins, push_strip};
+use crate::times::{Times, place_at};
+use std::alloc::{AllocError, Global};
+use tre_zone::Zone;
+
+/// The run that the pass is in: its bars are the profile from its first time on.
+#[derive(Drop)]
+pub(crate) struct Run {
+    bars: Vec<Bar>,
+    from: u64,
+    takes_from: bool,
+}
+
+impl Run {
+    /// The run behind the time of the first column.
+    pub(crate) fn first(
+        alloc: Global,
+        found: &mut Vec<Zone>,
+        column: Column,
+    ) -> Result<Run, AllocError>
+        requires start { column.time ≡ 0 }
+        requires rise { RiseAt column.time column.there.items }
+        requires none { found.old.items ≡ [] }
+        ensures { IfOk result (λ run. (zones : List ZoneBounds) → AreCanonical zones
+            → IsColumn (SetHolds zones) column
+            → IsSpun zones run.bars.items run.from run.takes_from found.new.items column.until) }
+    {
+        let run = begin(alloc, found, column, false)?;
+        Ok(run)
+    }
+
+    /// The run behind the time of the next column: this one goes on, or is closed and its strip
+    /// found.
+    pub(crate) fn next(
+        self,
+        alloc: Global,
+        found: &mut Vec<Zone>,
+        column: Column,
+    ) -> Result<Run, AllocError>
+        requires rising { column.time < column.until }
+        requires rise { RiseAt column.time column.there.items }
+        ensures { IfOk result (λ run. (zones : List ZoneBounds) → AreCanonical zones
+            → IsColumn (SetHolds zones) column
+            → IsSpun zones self.bars.items self.from self.takes_from found.old.items column.time
+            → IsSpun zones run.bars.items run.from run.takes_from found.new.items column.until) }
+    {
+        if self.goes_on(&column) {
+            return Ok(self);
+        }
+        let taken = self.close(alloc, found, &column)?;
+        let run = begin(alloc, found, column, taken)?;
+        Ok(run)
+    }
+
+    // Whether the bars are the profile at the time of the column and behind it too.
+    fn goes_on(&self, column: &Column) -> bool
+        requires { column.now.time < column.now.until }
+        ensures { IsTrue result
+            ↔ GoesOn self.now.bars.items column.now.there.items column.now.behind.items
+            column.now.time }
+    {
+        let behind = Times {
+            from: column.time,
+            until: column.until,
+        };
+        are_alike(&behind, &self.bars, &column.behind)
+            && are_same_at(column.time, &self.bars, &column.there)
+    }
+
+    // Finds the strip of the run, which ends at the time of the column, and says whether it takes
+    // that time.
+    fn close(
+        &self,
+        alloc: Global,
+        found: &mut Vec<Zone>,
+        column: &Column,
+    ) -> Result<bool, AllocError>
+        requires { RiseAt column.now.time column.now.there.items }
+        ensures { IfOk result (λ taken.
+            Closes self.now.bars.items column.now.there.items self.now.from column.now.time
+            self.now.takes_from taken found.old.items found.new.items) }
+    {
+        let fits = fit(alloc, column.time, &self.bars, &column.there)?;
+        let begins = Begins {
+            from: self.from,
+            takes_from: self.takes_from,
+            until: column.time,
+            takes_until: fits,
+        };
+        push_strip(found, &begins, &self.bars)?;
+        Ok(fits)
+    }
+}
+
+// The run behind the time of the column. Where neither it nor the one before takes the time, that
+// is a strip by itself.
+fn begin(
+    alloc: Global,
+    found: &mut Vec<Zone>,
+    column: Column,
+    taken: bool,
+) -> Result<Run, AllocError>
+    requires { RiseAt column.time column.there.items }
+    ensures bars { IfOk result (λ run. run.bars.items ≡ column.behind.items) }
+    ensures from { IfOk result (λ run. run.from ≡ column.time) }
+    ensures begun { IfOk result (λ run.
+        Begun column.there.items column.behind.items column.time taken run.takes_from
+        found.old.items found.new.items) }
+{
+    let fits = fit(alloc, column.time, &column.behind, &column.there)?;
+    push_alone(found, &column, taken, fits)?;
+    Ok(Run {
+        bars: column.behind,
+        from: column.time,
+        takes_from: fits,
+    })
+}
+
+// Finds the strip of the time of the column, where no run takes it.
+fn push_alone(
+    found: &mut Vec<Zone>,
+    column: &Column,
+    taken: bool,
+    fits: bool,
+) -> Result<(), AllocError>
+    ensures { OnOk result (FindsAlone column.now.there.items column.now.time taken fits
+        found.old.items found.new.items) }
+{
+    if taken {
+        return Ok(());
+    }
+    if fits {
+        return Ok(());
+    }
+    let alone = Begins {
+        from: column.time,
+        takes_from: true,
+        until: column.time,
+        takes_until: true,
+    };
+    push_strip(found, &alone, &column.there)?;
+    Ok(())
+}
+
+// Whether over the time none of the bars is empty, and together they are what the profile there is.
+fn fit(alloc: Global, time: u64, bars: &[Bar], there: &[Bar]) -> Result<bool, AllocError>
+    requires { RiseAt time there.now }
+    ensures { IfOk result (λ fits. IsTrue fits ↔ Agree time bars.now there.now) }
+{
+    if !are_filled(time, bars) {
+        return Ok(false);
+    }
+    let mut times = Times {
+        from: time,
+        until: time,
+    };
+    let mut all = Vec::new(alloc);
+    all.extend_from_slice(bars)?;
+    let united = united(alloc, all, &mut times)?;
+    Ok(are_same_at(time, &united, there))
+}
+
+// Whether none of the bars is empty over the time.
+fn are_filled(time: u64, bars: &[Bar]) -> bool
+    ensures { IsTrue result ↔ AreFilled bars.now (2 * time) 2 }
+{
+    for bar in bars {
+        if !is_filled(time, bar) {
+            return false;
+        }
+    }
+    true
+}
+
+fn is_filled(time: u64, bar: &Bar) -> bool
+    ensures { IsTrue result
+        ↔ (place_of bar.now.low (2 * time) 2 < place_of bar.now.high (2 * time) 2) }
+{
+    place_at(time, &bar.low) < place_at(time, &bar.high)
+}
+
+// Whether the bars stand where the others do, one by one, over the time.
+fn are_same_at(time: u64, bars: &[Bar], others: &[Bar]) -> bool
+    ensures { IsTrue result ↔ AreSamePlaces bars.now others.now (2 * time) 2 }
+{
+    let times = Times {
+        from: time,
+        until: time,
+    };
+    are_alike(&times, bars, others)
+}
+
+// Whether the bars stand where the others do, one by one, over one of the times.
+fn are_alike(times: &Times, bars: &[Bar], others: &[Bar]) -> bool
+    ensures { IsTrue result ↔ AreSamePlaces bars.now others.now (sample_of times.now) 2 }
+{
+    if bars.len() != others.len() {
+        return false;
+    }
+    for place in 0..bars.len() {
+        if !stand_alike(times, &bars[place], &others[place]) {
+            return false;
+        }
+    }
+    true
+}
+
+fn stand_alike(times: &Times, bar: &Bar, other: &Bar) -> bool
+    ensures { IsTrue result ↔ StandAlike (sample_of times.now) 2 bar.now other.now }
+{
+    times.place(&bar.low) == times.place(&other.low)
+        && times.place(&bar.high) == times.place(&other.high)
+}
