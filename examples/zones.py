@@ -1,4 +1,4 @@
-"""Reads what montre writes: the zones, each as three ranges (low, high, low is in, high is in), and the trace's end."""
+"""Reads what montre writes: the zones, each as three ranges (low, high, low is included, high is included), and the trace's end."""
 import re
 import sys
 
@@ -14,5 +14,5 @@ def read(text):
 
 if __name__ == "__main__":
     zones, end = read(sys.stdin.read())
-    for begin, finish, duration in zones:
-        print("begin", begin, "end", finish, "duration", duration)
+    for start, finish, duration in zones:
+        print("start", start, "end", finish, "duration", duration)
