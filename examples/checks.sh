@@ -1,4 +1,5 @@
-# found ARGUMENTS..: like grep, 0 if the pattern has a match, 1 if it has none, and 2 if montre gave no answer.
+# found ARGUMENTS..: like grep, 0 if the pattern has a match, 1 if it has none, and 2 if montre gave
+# no answer.
 found() {
     answer=$(montre "$@") || { printf 'no answer: %s\n' "$*" >&2; return 2; }
     case $answer in *,*) ;; *) return 1 ;; esac

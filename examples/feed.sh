@@ -1,5 +1,5 @@
-# feed.sh TRACE ARGUMENTS..: gives a trace to montre --online line by line, each line after the block of the line before.
-# After `>` is the line that was given, and below it is what montre printed.
+# feed.sh TRACE ARGUMENTS..: gives a trace to montre --online line by line, each line after the block
+# of the line before. After `>` is the line that was given, and below it is what montre printed.
 trace=$1
 shift
 mkfifo lines || exit 1
