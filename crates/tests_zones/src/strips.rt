@@ -5,7 +5,7 @@ use tests_support::{are_lines, set_of};
 use tre_strips::strips;
 
 // Zones, and the strips of what they hold.
-const STRIPS: [(&[&str], &[&str]); 8] = [
+const STRIPS: [(&[&str], &[&str]); 9] = [
     (&[], &[]),
     (&["[0,3) (0,3] (0,3]"], &["[0,3) (0,3] (0,3]"]),
     // What lasts up to two ticks, or from one to three: all of the above.
@@ -51,6 +51,15 @@ const STRIPS: [(&[&str], &[&str]); 8] = [
     (
         &["[0,2] [2,3] [0,3]", "[0,2] (3,4] (1,4]"],
         &["[0,2] [2,4] [0,4]"],
+    ),
+    // Of two zones over one begin the one that ends sooner holds what the other does till then.
+    (
+        &["[0,1) (0,5] (0,5]", "[0,3) (2,5] (0,5]"],
+        &[
+            "[0,1) (0,5] (0,5]",
+            "[1,2] (2,5] (0,4]",
+            "[2,3) (2,5] (0,3]",
+        ],
     ),
 ];
 

@@ -1,14 +1,13 @@
 -- The list of the strips, and that there is one.
-use Rattle.std.proofs.Common.{◌≡◌, ℕ, ◌*◌, ◌<◌, ◌≤◌, ◌↔◌, List, sym}
+use Rattle.std.proofs.Common.{◌≡◌, ℕ, ◌*◌, ◌<◌, ◌↔◌, List, sym}
 use Rattle.std.specs.Prelude.{Contains}
 use Rattle.std.specs.List.Sorted.{IsStrictlySortedBy}
 use Rattle.tre_pairs.specs.Pairs.{Pairs}
-use Rattle.tre_zone.specs.Zone.{IsCanonical, IsZoneOf}
+use Rattle.tre_zone.specs.Zone.{IsCanonical}
 use Rattle.tre_zone.specs.ZoneList.{SetHolds, AreCanonical, HoldExactly}
 use Rattle.tre_zone.specs.declared.zone_bounds.ZoneBounds.{ZoneBounds}
-use Rattle.tre_strips.specs.Bar.{BarHolds}
-use Rattle.tre_strips.specs.Profile.{IsProfile, Fits}
-use Rattle.tre_strips.specs.Runs.{IsRun, IsInStrip, IsAlone, IsInBlock}
+use Rattle.tre_strips.specs.Profile.{Fits}
+use Rattle.tre_strips.specs.Runs.{IsRun, IsInStrip}
 use Rattle.tre_strips.specs.Strips.{IsStripZone, of_run, of_time, AreStrips, compare_lines}
 use Rattle.tre_strips.specs.Spun.{HaveSamePairs, AreFound}
 use Rattle.tre_strips.specs.declared.bar.Bar.{Bar}

@@ -1,17 +1,16 @@
 -- Of two strips of which one includes the other, both are the same.
-use Rattle.std.proofs.Common.{◌≡◌, ◌≢◌, ℕ, zero, suc, ◌+◌, ◌*◌, ◌<◌, ◌≤◌, ◌⊎◌, ◌↔◌, min, max, List, [], ◌∷◌, length, get_or, refl, sym, ap, subst, ◌∙◌, arith, inl, inr, ⊎_elim, le_refl}
+use Rattle.std.proofs.Common.{◌≡◌, ℕ, zero, suc, ◌+◌, ◌*◌, ◌<◌, ◌≤◌, min, max, List, [], ◌∷◌, get_or, refl, sym, subst, ◌∙◌, arith, inl, inr, le_refl}
 use Rattle.std.specs.Prelude.{Contains}
-use Rattle.std.proofs.lemmas.Bool.{cases_eq, cases_lt}
 use Rattle.std.proofs.lemmas.List.Elements.{Contains-get_or}
 use Rattle.tre_pairs.specs.Pairs.{Pairs}
-use Rattle.tre_zone.specs.Zone.{ZoneHolds, Includes, IsCanonical, IsZoneOf}
+use Rattle.tre_zone.specs.Zone.{Includes, IsCanonical, IsZoneOf}
 use Rattle.tre_zone.specs.ZoneList.{SetHolds, AreCanonical}
 use Rattle.tre_zone.specs.declared.zone_bounds.ZoneBounds.{ZoneBounds}
-use Rattle.tre_strips.specs.Bar.{place_of, BarHolds, BarsHold, RiseFrom}
-use Rattle.tre_strips.specs.Profile.{IsIn, IsProfileAt, IsProfile}
-use Rattle.tre_strips.specs.Runs.{IsRun, IsInStrip, IsAlone, IsInBlock, IsInColumn}
+use Rattle.tre_strips.specs.Bar.{place_of, BarHolds, RiseFrom}
+use Rattle.tre_strips.specs.Profile.{IsProfile}
+use Rattle.tre_strips.specs.Runs.{IsRun, IsInBlock, IsInColumn}
 use Rattle.tre_strips.specs.Strips.{IsStripZone, of_run, of_time}
-use Rattle.tre_strips.specs.Found.{StandAlike, AreSamePlaces}
+use Rattle.tre_strips.specs.Found.{StandAlike}
 use Rattle.tre_strips.specs.declared.bar.Bar.{Bar}
 use Rattle.tre_strips.proofs.Unique.{IsProfile-same, IsProfile-places, low_finer, high_finer}
 use Rattle.tre_strips.proofs.Fitting.{AreSamePlaces-single, each_alike}

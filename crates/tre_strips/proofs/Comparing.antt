@@ -1,8 +1,7 @@
 -- Whether an end stands before another over some times, seen at one of them; and cut times.
-use Rattle.std.proofs.Common.{◌≡◌, ◌≢◌, ℕ, ◌+◌, ◌-◌, ◌*◌, ◌<◌, ◌≤◌, ◌⊎◌, Bool, true, false, min, max, MatchBool, nat_lt, refl, sym, ap, ◌∙◌, arith, inl, inr, ⊎_elim, ltb-true, ltb-false, mul-le-mul_right}
+use Rattle.std.proofs.Common.{◌≡◌, ◌≢◌, ℕ, ◌+◌, ◌*◌, ◌<◌, ◌≤◌, Bool, true, false, MatchBool, nat_lt, refl, ap, arith, inl, inr, ⊎_elim, ltb-true, ltb-false, mul-le-mul_right}
 use Rattle.std.proofs.lemmas.Bool.{cases_eq, cases_lt}
 use Rattle.tre_strips.specs.Bar.{place_of}
-use Rattle.tre_strips.specs.Profile.{IsIn}
 use Rattle.tre_strips.specs.Times.{IsTime, Narrows, sample_of, IsSettled, Compares, IsLater, IsEarlier}
 use Rattle.tre_strips.specs.declared.bar.BarEnd.{BarEnd}
 use Rattle.tre_strips.specs.declared.times.Times.{Times}

@@ -1,8 +1,8 @@
 -- Bars over one whole time: where they stand there tells what they hold there, in all units.
-use Rattle.std.proofs.Common.{◌≡◌, ℕ, zero, suc, ◌+◌, ◌*◌, ◌<◌, ◌≤◌, ◌⊎◌, ◌↔◌, Bool, true, false, cond, List, [], ◌∷◌, length, get_or, take, refl, sym, ap, subst, ◌∙◌, arith, inl, inr, ⊎_elim, mul-le-mul_right}
-use Rattle.std.proofs.lemmas.Bool.{cases_eq, cases_lt}
+use Rattle.std.proofs.Common.{◌≡◌, ℕ, zero, suc, ◌+◌, ◌*◌, ◌<◌, ◌≤◌, ◌↔◌, Bool, true, false, cond, List, [], ◌∷◌, length, get_or, take, refl, sym, ap, subst, ◌∙◌, arith, inl, inr, ⊎_elim, mul-le-mul_right}
+use Rattle.std.proofs.lemmas.Bool.{cases_lt}
 use Rattle.std.proofs.lemmas.List.{take_more, take_all, get_or_default}
-use Rattle.tre_strips.specs.Bar.{place_of, BarHolds, BarsHold, AreFilled, RiseFrom}
+use Rattle.tre_strips.specs.Bar.{place_of, BarsHold, AreFilled}
 use Rattle.tre_strips.specs.Found.{StandAlike, AreSamePlaces, Agree, RiseAt}
 use Rattle.tre_strips.specs.Profiles.{AreFilledOver, IsUnion}
 use Rattle.tre_strips.specs.Times.{IsTime}
@@ -10,7 +10,7 @@ use Rattle.tre_strips.specs.declared.bar.Bar.{Bar}
 use Rattle.tre_strips.specs.declared.bar.BarEnd.{BarEnd}
 use Rattle.tre_strips.specs.declared.times.Times.{Times}
 use Rattle.tre_strips.proofs.Lists.{AreFilled-push, AreFilled-at}
-use Rattle.tre_strips.proofs.Unique.{Covers, covers_held, same_places}
+use Rattle.tre_strips.proofs.Unique.{covers_held, same_places}
 
 -- ---- one time in all units
 

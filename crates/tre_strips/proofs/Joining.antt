@@ -1,16 +1,16 @@
 -- Bars in the order of their low ends, joined one by one to a rising list.
-use Rattle.std.proofs.Common.{◌≡◌, ℕ, zero, suc, ◌+◌, ◌*◌, ◌<◌, ◌≤◌, ◌⊎◌, ◌↔◌, Bool, true, false, max, List, [], ◌∷◌, ◌++◌, length, get_or, take, refl, sym, ap, subst, arith, inl, inr, ⊎_elim}
+use Rattle.std.proofs.Common.{◌≡◌, ℕ, suc, ◌+◌, ◌*◌, ◌<◌, ◌≤◌, ◌⊎◌, ◌↔◌, Bool, true, false, max, List, [], ◌∷◌, ◌++◌, length, get_or, take, refl, sym, ap, subst, arith, inl, inr, ⊎_elim}
 use Rattle.std.specs.List.Sorted.{IsNonDecreasingBy, IsPermutation}
 use Rattle.std.proofs.lemmas.Bool.{cases_lt}
 use Rattle.std.proofs.lemmas.List.{take_all, get_or_default}
-use Rattle.tre_strips.specs.Bar.{place_of, BarHolds, BarsHold, AreFilled, RiseFrom}
+use Rattle.tre_strips.specs.Bar.{place_of, BarHolds, BarsHold}
 use Rattle.tre_strips.specs.Profiles.{AreFilledOver, IsUnion, IsJoined, Extends, apart, touching}
 use Rattle.tre_strips.specs.Times.{IsTime, Narrows, sample_of, IsSettled, Compares, IsLater}
 use Rattle.tre_strips.specs.declared.bar.Bar.{Bar}
 use Rattle.tre_strips.specs.declared.bar.BarEnd.{BarEnd}
 use Rattle.tre_strips.specs.declared.times.Times.{Times}
 use Rattle.tre_strips.proofs.Comparing.{Narrows-itself, Narrows-time, Narrows-trans, Narrows-sample, times_rise, sample_is_time}
-use Rattle.tre_strips.proofs.Lists.{BarsHold-push, BarsHold-more, BarsHold-none, BarsHold-permutation, AreFilled-permutation, AreFilled-at, RiseFrom-nil, RiseFrom-push, RiseFrom-last, RiseFrom-one, RiseFrom-filled}
+use Rattle.tre_strips.proofs.Lists.{BarsHold-push, BarsHold-more, BarsHold-permutation, AreFilled-permutation, AreFilled-at, RiseFrom-nil, RiseFrom-push, RiseFrom-last, RiseFrom-one, RiseFrom-filled}
 
 abbrev pub IsInOrder : Times → List Bar → Type 0
 IsInOrder times bars = IsNonDecreasingBy (λ (bar : Bar). place_of bar.low (sample_of times) 2) bars

@@ -13,3 +13,4 @@ pub mod Whole
 pub mod Listing
 pub mod Apart
 pub mod Answering
+pub mod Trimming

@@ -1,11 +1,11 @@
 -- Stretches of time over which one list of bars is the profile, and where they end.
-use Rattle.std.proofs.Common.{◌≡◌, ◌≢◌, ℕ, zero, suc, ◌+◌, ◌*◌, ◌<◌, ◌≤◌, ◌⊎◌, ◌↔◌, min, max, List, [], ◌∷◌, refl, sym, ap, subst, ◌∙◌, arith, inl, inr, ⊎_elim, mul-le-mul_right}
+use Rattle.std.proofs.Common.{◌≡◌, ◌≢◌, ℕ, ◌*◌, ◌<◌, ◌≤◌, ◌⊎◌, ◌↔◌, min, max, List, [], ◌∷◌, refl, sym, ap, subst, arith, inl, inr, ⊎_elim, mul-le-mul_right}
 use Rattle.std.proofs.lemmas.Bool.{cases_eq, cases_lt}
 use Rattle.tre_pairs.specs.Pairs.{Pairs}
-use Rattle.tre_strips.specs.Bar.{place_of, BarHolds, BarsHold, AreFilled, RiseFrom}
-use Rattle.tre_strips.specs.Profile.{IsIn, IsProfileAt, IsProfile, Fits}
-use Rattle.tre_strips.specs.Runs.{IsRun, IsInStrip, IsAlone}
-use Rattle.tre_strips.specs.Found.{StandAlike, AreSamePlaces, GoesOn, Agree, RiseAt}
+use Rattle.tre_strips.specs.Bar.{RiseFrom}
+use Rattle.tre_strips.specs.Profile.{IsIn, IsProfile, Fits}
+use Rattle.tre_strips.specs.Runs.{IsRun}
+use Rattle.tre_strips.specs.Found.{AreSamePlaces, GoesOn, Agree, RiseAt}
 use Rattle.tre_strips.specs.declared.bar.Bar.{Bar}
 use Rattle.tre_strips.proofs.Unique.{IsProfile-places, IsProfile-same}
 use Rattle.tre_strips.proofs.Fitting.{AreSamePlaces-single, AreSamePlaces-held}

@@ -1,27 +1,26 @@
 -- One pass over time finds all strips.
-use Rattle.std.proofs.Common.{◌≡◌, ◌≢◌, ℕ, zero, suc, ◌+◌, ◌-◌, ◌*◌, ◌<◌, ◌≤◌, ◌⊎◌, ◌↔◌, min, max, Bool, true, false, List, [], ◌∷◌, length, get_or, refl, sym, ap, subst, ◌∙◌, arith, inl, inr, ⊎_elim, mul-le-mul_right, true≢false}
+use Rattle.std.proofs.Common.{◌≡◌, ◌≢◌, ℕ, ◌*◌, ◌<◌, ◌≤◌, ◌⊎◌, ◌↔◌, min, Bool, true, false, List, [], ◌∷◌, get_or, refl, sym, ap, subst, ◌∙◌, arith, inl, inr, ⊎_elim, mul-le-mul_right, true≢false}
 use Rattle.std.specs.Prelude.{Contains}
 use Rattle.std.proofs.lemmas.Bool.{cases_eq, cases_lt}
 use Rattle.std.proofs.lemmas.List.Elements.{Contains-get_or}
-use Rattle.tre_pairs.specs.Pairs.{Pairs, Both}
+use Rattle.tre_pairs.specs.Pairs.{Pairs}
 use Rattle.tre_pairs.specs.declared.TheConstants.{TIME_MAX}
-use Rattle.tre_zone.specs.Zone.{ZoneHolds, IsCanonical, IsZoneOf, IsInFrame}
+use Rattle.tre_zone.specs.Zone.{IsCanonical, IsZoneOf, IsInFrame}
 use Rattle.tre_zone.specs.ZoneList.{SetHolds, AreCanonical}
 use Rattle.tre_zone.specs.declared.zone_bounds.ZoneBounds.{ZoneBounds}
 use Rattle.tre_zone.proofs.Scaling.{canonical-frame}
-use Rattle.tre_zone.proofs.ZoneListLemmas.{SetHolds-empty}
-use Rattle.tre_strips.specs.Bar.{place_of, BarHolds, BarsHold, AreFilled, RiseFrom}
-use Rattle.tre_strips.specs.Profile.{IsIn, IsProfileAt, IsProfile, Fits}
+use Rattle.tre_strips.specs.Bar.{BarHolds, BarsHold}
+use Rattle.tre_strips.specs.Profile.{IsProfile, Fits}
 use Rattle.tre_strips.specs.Runs.{IsRun, IsInStrip, IsAlone, IsInBlock, IsInColumn}
 use Rattle.tre_strips.specs.Strips.{IsStripZone, of_run, of_time}
-use Rattle.tre_strips.specs.Found.{StandAlike, AreSamePlaces, GoesOn, Agree, RiseAt, IsOnStrip, IsInPart, Pushes}
+use Rattle.tre_strips.specs.Found.{StandAlike, GoesOn, IsInPart}
 use Rattle.tre_strips.specs.Spun.{Closes, Begun, IsSpun}
 use Rattle.tre_strips.specs.declared.bar.Bar.{Bar}
 use Rattle.tre_strips.specs.declared.strip_zone.Begins.{Begins}
-use Rattle.tre_strips.proofs.Lists.{BarsHold-which, BarsHold-by, BarsHold-none}
-use Rattle.tre_strips.proofs.Unique.{IsProfile-places, IsProfile-same, covers_held, Covers}
+use Rattle.tre_strips.proofs.Lists.{BarsHold-which, BarsHold-by}
+use Rattle.tre_strips.proofs.Unique.{IsProfile-places, IsProfile-same}
 use Rattle.tre_strips.proofs.Fitting.{AreSamePlaces-single, each_alike}
-use Rattle.tre_strips.proofs.Runs.{IsProfile-on, IsProfile-part, IsProfile-at, Fits-agree, IsRun-closed, IsRun-same, longer, earlier}
+use Rattle.tre_strips.proofs.Runs.{IsProfile-on, IsProfile-part, Fits-agree, IsRun-closed, IsRun-same, earlier}
 
 -- ---- the frame
 

@@ -1,23 +1,22 @@
 -- The zone of a bar over a strip.
-use Rattle.std.proofs.Common.{◌≡◌, ℕ, zero, suc, ◌+◌, ◌-◌, ◌*◌, ◌^◌, ◌<◌, ◌≤◌, ◌⊎◌, ◌↔◌, Bool, true, false, cond, not, min, MatchOption, Option, Some, None, List, [], ◌∷◌, ◌++◌, length, get_or, take, ℤ, pos, neg_ℤ, ◌+ℤ◌, ◌-ℤ◌, ◌*ℤ◌, ◌≤ℤ◌, refl, sym, ap, subst, ◌∙◌, arith, inl, inr, ⊎_elim, mul-le-mul_right, true≢false}
+use Rattle.std.proofs.Common.{◌≡◌, ℕ, zero, suc, ◌+◌, ◌*◌, ◌<◌, ◌≤◌, ◌⊎◌, ◌↔◌, Bool, true, false, cond, not, min, Option, List, [], ◌∷◌, ◌++◌, length, get_or, take, ℤ, pos, neg_ℤ, ◌+ℤ◌, ◌*ℤ◌, refl, sym, ap, subst, ◌∙◌, arith, inl, inr, ⊎_elim, mul-le-mul_right, true≢false}
 use mathlib.Core.Bool.{beq}
 use Rattle.std.specs.Prelude.{Contains}
 use Rattle.std.proofs.lemmas.Int.{ints}
-use Rattle.std.proofs.lemmas.Bool.{cases_lt, cases_eq}
+use Rattle.std.proofs.lemmas.Bool.{cases_lt}
 use Rattle.std.proofs.lemmas.List.Elements.{Contains-append_left, Contains-push, Contains-push_cases, Contains-get_or, Contains-append_cases, Contains-append_right}
 use Rattle.std.proofs.lemmas.List.{take_more, take_all}
 use Rattle.tre_pairs.specs.Pairs.{Pairs, Both}
 use Rattle.tre_pairs.specs.declared.TheConstants.{TIME_MAX}
 use Rattle.tre_zone.specs.Bound.{Meets}
 use Rattle.tre_zone.specs.Zone.{ZoneHolds, IsCanonical, IsZoneOf, GivesZone, IsInFrame, HasNoPair}
-use Rattle.tre_zone.specs.ZoneList.{SetHolds}
 use Rattle.tre_zone.specs.declared.zone_bounds.ZoneBounds.{ZoneBounds}
 use Rattle.tre_zone.proofs.Bounds.{Meets-at_most, Meets-less, Meets-at_least, Meets-more}
 use Rattle.tre_zone.proofs.Given.{GivesZone-same}
 use Rattle.tre_zone.proofs.Tightness.{canonical-some, same_pairs}
 use Rattle.tre_zone.proofs.ZoneListLemmas.{SetHolds-push}
-use Rattle.tre_strips.specs.Bar.{place_of, BarHolds, BarsHold}
-use Rattle.tre_strips.specs.Found.{IsOnStrip, IsInPart, Pushes}
+use Rattle.tre_strips.specs.Bar.{place_of}
+use Rattle.tre_strips.specs.Found.{IsInPart, Pushes}
 use Rattle.tre_strips.specs.declared.bar.Bar.{Bar}
 use Rattle.tre_strips.specs.declared.bar.BarEnd.{BarEnd}
 use Rattle.tre_strips.specs.declared.strip_zone.Begins.{Begins}

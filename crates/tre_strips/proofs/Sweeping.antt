@@ -9,8 +9,7 @@ use Rattle.tre_zone.specs.ZoneList.{SetHolds, AreCanonical}
 use Rattle.tre_zone.specs.declared.zone_bounds.ZoneBounds.{ZoneBounds}
 use Rattle.tre_zone.proofs.Ranges.{canonical-ranges}
 use Rattle.tre_zone.proofs.ZoneListLemmas.{SetHolds-empty, SetHolds-append}
-use Rattle.tre_strips.specs.Bar.{BarsHold}
-use Rattle.tre_strips.specs.Profile.{IsIn, IsProfileAt, IsProfile}
+use Rattle.tre_strips.specs.Profile.{IsIn, IsProfile}
 use Rattle.tre_strips.specs.Sweep.{begin_of, last_begin_of, AreInTurn, IsSwept, BeginFrom, BeginsBehind, SameBehind}
 use Rattle.tre_strips.specs.declared.bar.Bar.{Bar}
 

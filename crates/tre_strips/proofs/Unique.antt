@@ -1,10 +1,10 @@
 -- There is one profile over a time, and one list of bars that is the profile over many.
-use Rattle.std.proofs.Common.{◌≡◌, ◌≢◌, ℕ, zero, suc, ◌+◌, ◌*◌, ◌<◌, ◌≤◌, ◌⊎◌, ◌↔◌, Bool, true, false, cond, List, [], ◌∷◌, refl, sym, ap, subst, ◌∙◌, arith, inl, inr, ⊎_elim, mul-le-mul_right}
-use Rattle.std.proofs.lemmas.Bool.{cases_eq, cases_lt}
+use Rattle.std.proofs.Common.{◌≡◌, ℕ, ◌+◌, ◌*◌, ◌<◌, ◌≤◌, ◌⊎◌, ◌↔◌, Bool, true, false, cond, List, [], ◌∷◌, refl, arith, inl, inr, ⊎_elim}
+use Rattle.std.proofs.lemmas.Bool.{cases_lt}
 use Rattle.tre_pairs.specs.Pairs.{Pairs}
-use Rattle.tre_strips.specs.Bar.{place_of, BarHolds, BarsHold, AreFilled, RiseFrom}
-use Rattle.tre_strips.specs.Profile.{IsIn, IsProfileAt, IsProfile}
-use Rattle.tre_strips.specs.Found.{StandAlike, AreSamePlaces}
+use Rattle.tre_strips.specs.Bar.{place_of, BarsHold, RiseFrom}
+use Rattle.tre_strips.specs.Profile.{IsIn, IsProfile}
+use Rattle.tre_strips.specs.Found.{AreSamePlaces}
 use Rattle.tre_strips.specs.declared.bar.Bar.{Bar}
 use Rattle.tre_strips.specs.declared.bar.BarEnd.{BarEnd}
 

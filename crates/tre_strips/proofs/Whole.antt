@@ -1,5 +1,5 @@
 -- At the end of the pass all strips are found, and hold exactly the pairs.
-use Rattle.std.proofs.Common.{◌≡◌, ◌≢◌, ℕ, zero, suc, ◌+◌, ◌-◌, ◌*◌, ◌<◌, ◌≤◌, ◌⊎◌, ◌↔◌, Bool, true, false, List, [], ◌∷◌, length, get_or, refl, sym, ap, subst, ◌∙◌, arith, inl, inr, ⊎_elim, mul-le-mul_right, true≢false}
+use Rattle.std.proofs.Common.{◌≡◌, ◌≢◌, ℕ, ◌-◌, ◌*◌, ◌<◌, ◌≤◌, ◌⊎◌, ◌↔◌, Bool, true, List, [], ◌∷◌, refl, ap, subst, ◌∙◌, arith, inl, inr, ⊎_elim, mul-le-mul_right}
 use Rattle.std.specs.Prelude.{All, Contains}
 use Rattle.std.specs.List.Sorted.{IsNonDecreasingBy, IsPermutation}
 use Rattle.std.proofs.lemmas.List.Elements.{All-cons, All-nil, All-head, All-tail}
@@ -8,20 +8,20 @@ use Rattle.std.proofs.lemmas.Bool.{cases_eq, cases_lt}
 use Rattle.tre_pairs.specs.Pairs.{Pairs}
 use Rattle.tre_pairs.specs.declared.TheConstants.{TIME_MAX}
 use Rattle.tre_zone.specs.Zone.{ZoneHolds, IsCanonical, IsZoneOf}
-use Rattle.tre_zone.specs.ZoneList.{SetHolds, AreCanonical, HoldExactly}
+use Rattle.tre_zone.specs.ZoneList.{SetHolds, AreCanonical}
 use Rattle.tre_zone.specs.declared.zone_bounds.ZoneBounds.{ZoneBounds}
 use Rattle.tre_zoneset.proofs.Members.{SetHolds-any}
 use Rattle.tre_zoneset.proofs.Thinning.{SetHolds-permutation}
-use Rattle.tre_strips.specs.Bar.{place_of, BarHolds, BarsHold, RiseFrom}
-use Rattle.tre_strips.specs.Profile.{IsIn, IsProfileAt, IsProfile, Fits}
-use Rattle.tre_strips.specs.Runs.{IsRun, IsInStrip, IsAlone, IsInBlock, IsInColumn}
+use Rattle.tre_strips.specs.Bar.{place_of, BarsHold, RiseFrom}
+use Rattle.tre_strips.specs.Profile.{IsProfile}
+use Rattle.tre_strips.specs.Runs.{IsRun, IsAlone, IsInBlock, IsInColumn}
 use Rattle.tre_strips.specs.Strips.{IsStripZone, of_run, of_time}
 use Rattle.tre_strips.specs.Spun.{IsSpun, HaveSamePairs, AreFound}
 use Rattle.tre_strips.specs.Sweep.{begin_of, AreInTurn, IsColumn}
 use Rattle.tre_strips.specs.declared.bar.Bar.{Bar}
 use Rattle.tre_strips.specs.declared.column.Column.{Column}
-use Rattle.tre_strips.proofs.Lists.{BarsHold-which, BarsHold-by, BarsHold-none}
-use Rattle.tre_strips.proofs.Unique.{IsProfile-same, covers_held, Covers}
+use Rattle.tre_strips.proofs.Lists.{BarsHold-none}
+use Rattle.tre_strips.proofs.Unique.{IsProfile-same, covers_held}
 use Rattle.tre_strips.proofs.Runs.{IsProfile-part}
 use Rattle.tre_strips.proofs.Spinning.{set_framed, block_held, column_held}
 

@@ -1,5 +1,5 @@
 -- The bars of zones over some times.
-use Rattle.std.proofs.Common.{◌≡◌, ℕ, ◌+◌, ◌-◌, ◌*◌, ◌<◌, ◌≤◌, ◌⊎◌, ◌↔◌, ◌==◌, Bool, true, false, cond, not, min, max, MatchBool, MatchOption, Option, Some, None, List, [], ◌∷◌, ◌++◌, length, get_or, take, nat_abs, ℤ, option_to_list, append-nil, subst, ◌∙◌, refl, sym, arith, inl, inr, ⊎_elim}
+use Rattle.std.proofs.Common.{◌≡◌, ℕ, ◌+◌, ◌-◌, ◌*◌, ◌<◌, ◌≤◌, ◌↔◌, ◌==◌, Bool, true, false, cond, not, MatchBool, Option, Some, None, List, [], ◌∷◌, ◌++◌, length, get_or, take, nat_abs, ℤ, option_to_list, append-nil, subst, ◌∙◌, sym, arith, inl, inr, ⊎_elim}
 use Rattle.std.proofs.lemmas.List.{take_all}
 use Rattle.tre_zone.specs.Bound.{value_of, weakness_of}
 use Rattle.tre_zone.specs.Zone.{ZoneHolds, IsCanonical}
@@ -8,14 +8,14 @@ use Rattle.tre_zone.specs.declared.zone_bounds.ZoneBounds.{ZoneBounds}
 use Rattle.tre_zone.proofs.Ranges.{canonical-ranges}
 use Rattle.tre_zone.proofs.ZoneListLemmas.{SetHolds-empty}
 use Rattle.tre_zoneset.proofs.Members.{SetHolds-more}
-use Rattle.tre_strips.specs.Bar.{place_of, BarHolds, BarsHold, AreFilled, RiseFrom}
+use Rattle.tre_strips.specs.Bar.{place_of}
 use Rattle.tre_strips.specs.Profile.{IsProfile}
 use Rattle.tre_strips.specs.Profiles.{low_of, high_of, Begin, IsBarOf, AreFilledOver, AreBarsOf, IsUnion}
 use Rattle.tre_strips.specs.Times.{IsTime, Narrows, Compares, IsLater, IsEarlier}
 use Rattle.tre_strips.specs.declared.bar.Bar.{Bar}
 use Rattle.tre_strips.specs.declared.bar.BarEnd.{BarEnd}
 use Rattle.tre_strips.specs.declared.times.Times.{Times}
-use Rattle.tre_strips.proofs.Comparing.{Narrows-time, Narrows-trans, Narrows-itself}
+use Rattle.tre_strips.proofs.Comparing.{Narrows-time}
 use Rattle.tre_strips.proofs.Lists.{BarsHold-none, BarsHold-push, AreFilled-nil, AreFilled-push}
 
 -- ---- a bound as a place

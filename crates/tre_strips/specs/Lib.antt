@@ -4,9 +4,11 @@ pub mod Profile
 pub mod Runs
 pub mod Strips
 -- What the functions inside promise each other: ends that keep their order over some times, the
--- profile of zones over them, and one pass over time.
+-- profile of zones over them, zones that leave out what others hold, one pass over time, and the
+-- strips that are found on the way.
 pub mod Times
 pub mod Profiles
+pub mod Trim
 pub mod Sweep
 pub mod Found
 pub mod Spun

@@ -1,5 +1,5 @@
 -- The strips of a set of pairs.
-use Rattle.std.specs.Prelude.{◌≡◌, ℕ, ◌↔◌, Contains, List, [], ◌∷◌, ℤ, neg_ℤ}
+use Rattle.std.specs.Prelude.{ℕ, ◌↔◌, Contains, List, [], ◌∷◌, ℤ, neg_ℤ}
 use Rattle.std.specs.Cmp.Lexicographic.{slice_cmp}
 use Rattle.std.specs.List.Sorted.{IsSortedByKey}
 use Rattle.std.specs.Ordering.{int_cmp}

@@ -1,5 +1,5 @@
 -- One pass over time.
-use Rattle.std.specs.Prelude.{◌≡◌, ℕ, ◌*◌, ◌<◌, ◌≤◌, ◌↔◌, ◌⊎◌, Bool, MatchBool, List, length, drop, nat_abs}
+use Rattle.std.specs.Prelude.{ℕ, ◌*◌, ◌<◌, ◌≤◌, ◌↔◌, ◌⊎◌, Bool, MatchBool, List, length, drop, nat_abs}
 use Rattle.std.specs.List.Sorted.{IsNonDecreasingBy}
 use Rattle.tre_pairs.specs.Pairs.{Pairs}
 use Rattle.tre_zone.specs.Bound.{value_of}

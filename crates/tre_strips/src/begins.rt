@@ -62,8 +62,8 @@ fn begins_behind(zone: &Zone, time: u64) -> bool
     last_begin(zone) > time
 }
 
-// The time up to which pairs of the zone begin.
-fn last_begin(zone: &Zone) -> u64
+/// The time up to which pairs of the zone begin.
+pub(crate) fn last_begin(zone: &Zone) -> u64
     ensures last { result ≡ last_begin_of zone.now }
     ensures canonical { IsCanonical zone.now }
 {

@@ -11,6 +11,7 @@ ghost use Rattle.tre_strips.specs.Sweep.{begin_of, AreInTurn};
 use crate::begins::first_begin;
 use crate::column::Sweep;
 use crate::run::Run;
+use crate::trim::trimmed;
 use std::alloc::{AllocError, Global};
 use tre_pairs::TIME_MAX;
 use tre_zone::{Bound, Zone};
@@ -22,7 +23,8 @@ pub fn strips(alloc: Global, set: &ZoneSet) -> Result<Vec<Zone>, AllocError>
     ensures strips { IfOk result (λ zones. AreStrips (SetHolds set.now) zones.items) }
     ensures held { IfOk result (λ zones. HoldExactly zones.items (SetHolds set.now)) }
 {
-    let zones = in_turn(alloc, set.zones())?;
+    let fewer = trimmed(alloc, set.zones())?;
+    let zones = in_turn(alloc, &fewer)?;
     let found = strips_of(alloc, &zones)?;
     Ok(in_order(found))
 }

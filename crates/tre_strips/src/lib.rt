@@ -23,3 +23,4 @@ mod profiles;
 mod run;
 mod strip_zone;
 mod times;
+mod trim;

@@ -1,5 +1,4 @@
 use Rattle.std.proofs.Common.{arith}
-use Rattle.tre_strips.proofs.Runs.{RiseAt-profile}
 use Rattle.tre_strips.proofs.Whole.{AreFound-spun, IsColumn-same}
 use Rattle.tre_strips.proofs.canonical.strips_of.Goals as goal
 

@@ -1,5 +1,4 @@
-use Rattle.std.proofs.Common.{◌≡◌, ◌≤◌, ◌∷◌, [], List, length, refl, ap, arith, sym, ◌∙◌, subst}
-use Rattle.tre_strips.specs.Bar.{place_of}
+use Rattle.std.proofs.Common.{◌≡◌, ◌∷◌, [], List, length, refl, ap, arith, sym, ◌∙◌, subst}
 use Rattle.tre_strips.specs.Profiles.{AreFilledOver, IsUnion}
 use Rattle.tre_strips.specs.declared.bar.Bar.{Bar}
 use Rattle.tre_strips.proofs.Joining.{IsInOrder, AreFilledOver-permutation, IsUnion-permutation, IsUnion-none}

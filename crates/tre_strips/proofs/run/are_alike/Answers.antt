@@ -1,4 +1,4 @@
-use Rattle.std.proofs.Common.{ℕ, ◌<◌, refl, true≢false, sym, arith, below_more}
+use Rattle.std.proofs.Common.{refl, true≢false, sym, arith, below_more}
 use Rattle.tre_strips.proofs.Fitting.{AreSamePlaces-below, AreSamePlaces-one, AreSamePlaces-long}
 use Rattle.tre_strips.proofs.run.are_alike.Goals as goal
 

@@ -1,4 +1,3 @@
-use Rattle.std.proofs.Common.{◌≡◌}
 use Rattle.tre_strips.specs.Times.{sample_of}
 use Rattle.tre_strips.proofs.Fitting.{AlikeBelow}
 use Rattle.tre_strips.proofs.run.are_alike.Given as goal

@@ -1,4 +1,4 @@
-use Rattle.std.proofs.Common.{◌≡◌, ℕ, ◌+◌, ◌*◌, ◌<◌, ◌≤◌, ◌↔◌, Bool, true, false, IsTrue, List, length, get_or, take, refl, true≢false, sym}
+use Rattle.std.proofs.Common.{refl, true≢false, sym}
 use Rattle.tre_strips.proofs.Fitting.{AreFilled-none, AreFilled-more, AreFilled-all, AreFilled-not}
 use Rattle.tre_strips.proofs.run.are_filled.Goals as goal
 

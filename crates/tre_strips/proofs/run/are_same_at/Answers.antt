@@ -1,6 +1,5 @@
-use Rattle.std.proofs.Common.{◌≡◌, ◌↔◌, ℕ, ◌*◌, IsTrue, refl, subst, arith}
+use Rattle.std.proofs.Common.{◌↔◌, ℕ, IsTrue, refl, subst}
 use Rattle.tre_strips.specs.Found.{AreSamePlaces}
-use Rattle.tre_strips.specs.Times.{sample_of}
 use Rattle.tre_strips.specs.declared.times.Times.{Times}
 use Rattle.tre_strips.proofs.Comparing.{sample_single}
 use Rattle.tre_strips.proofs.run.are_same_at.Goals as goal

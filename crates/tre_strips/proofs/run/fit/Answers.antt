@@ -1,6 +1,4 @@
-use Rattle.std.proofs.Common.{◌≡◌, ◌↔◌, List, refl, sym, ◌∙◌, true≢false, subst}
-use Rattle.tre_strips.specs.Profiles.{AreFilledOver, IsUnion}
-use Rattle.tre_strips.specs.declared.bar.Bar.{Bar}
+use Rattle.std.proofs.Common.{refl, sym, true≢false}
 use Rattle.tre_strips.proofs.Fitting.{Agree-same, same-Agree, AreFilledOver-single, Agree-filled}
 use Rattle.tre_strips.proofs.run.fit.Goals as goal
 

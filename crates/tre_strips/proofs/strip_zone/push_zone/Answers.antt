@@ -1,4 +1,3 @@
-use Rattle.std.proofs.Common.{sym, subst}
 use Rattle.tre_strips.proofs.StripZones.{Pushes-some, Pushes-empty}
 use Rattle.tre_strips.proofs.strip_zone.push_zone.Goals as goal
 

@@ -1,6 +1,5 @@
-use Rattle.std.proofs.Common.{◌≡◌, ℕ, ◌*◌, refl, ap, ◌∙◌, arith}
+use Rattle.std.proofs.Common.{ℕ, refl, ap, ◌∙◌}
 use Rattle.tre_strips.specs.Bar.{place_of}
-use Rattle.tre_strips.specs.Times.{sample_of}
 use Rattle.tre_strips.specs.declared.times.Times.{Times}
 use Rattle.tre_strips.proofs.Comparing.{sample_single}
 use Rattle.tre_strips.proofs.times.place_at.Goals as goal

@@ -1,4 +1,4 @@
-use Rattle.std.proofs.Common.{◌≡◌, ℕ, ◌+◌, ◌*◌, ◌<◌, List, refl, true≢false, sym, subst, ◌∙◌}
+use Rattle.std.proofs.Common.{◌≡◌, ℕ, ◌<◌, List, true≢false, sym, subst, ◌∙◌}
 use Rattle.tre_strips.specs.Found.{AreSamePlaces}
 use Rattle.tre_strips.specs.Times.{sample_of}
 use Rattle.tre_strips.specs.declared.bar.Bar.{Bar}

@@ -1,0 +1,281 @@
+-- Zones without what the ones before them hold.
+use Rattle.std.proofs.Common.{◌≡◌, ℕ, ◌+◌, ◌-◌, ◌^◌, ◌<◌, ◌≤◌, ◌⊎◌, ◌↔◌, List, [], length, get_or, take, Option, Some, None, ℤ, pos, neg_ℤ, ◌+ℤ◌, ◌-ℤ◌, ◌*ℤ◌, ◌≤ℤ◌, sym, ap, subst, arith, inl, inr, ⊎_elim}
+use Rattle.std.specs.Int.{int_min}
+use Rattle.std.proofs.lemmas.Int.{ints, clamps, by_lt_z}
+use Rattle.std.proofs.lemmas.List.{take_all}
+use Rattle.tre_pairs.specs.Pairs.{Both}
+use Rattle.tre_pairs.specs.declared.TheConstants.{TIME_MAX}
+use Rattle.tre_zone.specs.Bound.{value_of, weakness_of, Meets, IsKeyWithin, IsValueWithin}
+use Rattle.tre_zone.specs.Zone.{ZoneHolds, IsCanonical, Includes, GivesZone, IsInFrame}
+use Rattle.tre_zone.specs.ZoneList.{SetHolds, HoldExactly, AreCanonical}
+use Rattle.tre_zone.specs.declared.zone_bounds.ZoneBounds.{ZoneBounds}
+use Rattle.tre_zone.proofs.Bounds.{split, split-unique, Splits, IsValueWithin-key}
+use Rattle.tre_zone.proofs.Given.{GivesZone-same}
+use Rattle.tre_zone.proofs.Paths.{Meets-min, add_times}
+use Rattle.tre_zone.proofs.Scaling.{canonical-frame}
+use Rattle.tre_zoneset.specs.ZoneSet.{FoundHolds}
+use Rattle.tre_zoneset.proofs.Members.{SetHolds-more}
+use Rattle.tre_zoneset.proofs.Unions.{FoundHolds-exact}
+use Rattle.tre_strips.specs.Spun.{HaveSamePairs}
+use Rattle.tre_strips.specs.Trim.{Trims, TrimsBehind, Early, Late, IsEarlyHeld}
+use Rattle.tre_strips.proofs.Spinning.{set_framed}
+
+-- ---- a bound and what is behind it
+
+Meets-decided : (key : ℤ) (p q n : ℕ) → Meets key p q n ⊎ (Meets key p q n → ⊥)
+Meets-decided key p q n =
+    by_lt_z (pos p) ((pos q +ℤ (value_of key *ℤ pos n)) +ℤ pos (weakness_of key))
+    (λ lt. inl (record { met = lt }))
+    (λ not_lt. inr (λ m. let met = m.met in omega (arith, ints)))
+
+times_none : (value : ℤ) (n : ℕ) → (value *ℤ pos n) +ℤ (neg_ℤ value *ℤ pos n) ≡ pos 0
+times_none value n =
+    let none : value +ℤ neg_ℤ value ≡ pos 0 = omega (arith, ints) in
+    let both = add_times value (neg_ℤ value) n in
+    let zero_times : (value +ℤ neg_ℤ value) *ℤ pos n ≡ pos 0 *ℤ pos n =
+    ap (λ (k : ℤ). k *ℤ pos n) none in
+    omega (arith, ints)
+
+Meets-behind : (key : ℤ) (a n : ℕ) → Meets (pos 1 -ℤ key) 0 a n ↔ (Meets key a 0 n → ⊥)
+Meets-behind key a n =
+    let own = split key in
+    let parts : Splits (pos 1 -ℤ key) (neg_ℤ (value_of key)) (1 - weakness_of key) =
+    record { whole = omega (arith, ints); small = omega arith } in
+    let one = split-unique (pos 1 -ℤ key) (neg_ℤ (value_of key)) (1 - weakness_of key) parts in
+    let sum = times_none (value_of key) n in (
+      (λ m. λ early.
+          let late = rw (one.0, one.1) at m.met in
+          let met = early.met in
+          absurd (omega (arith, ints))),
+      (λ not_early. record {
+        met = rw (one.0, one.1)
+            (by_lt_z (pos a) ((pos 0 +ℤ (value_of key *ℤ pos n)) +ℤ pos (weakness_of key))
+            (λ lt. absurd (not_early (record { met = lt })))
+            (λ not_lt. omega (arith, ints)));
+      }),
+    )
+
+-- ---- parts of a zone
+
+pub early_given : (zone : ZoneBounds) (last : ℤ) (found : Option ZoneBounds) (high : ℤ)
+    → IsCanonical zone → high ≡ int_min zone.begin_high last
+    → GivesZone found (Both (ZoneHolds (record {
+      begin_low = zone.begin_low;
+      begin_high = high;
+      end_low = zone.end_low;
+      end_high = zone.end_high;
+      dur_low = zone.dur_low;
+      dur_high = zone.dur_high;
+    })) (IsInFrame TIME_MAX)) → GivesZone found (Early zone last)
+early_given zone last found high canonical is given =
+    GivesZone-same found _ (Early zone last) (λ a b n some le.
+    let both : Meets high a 0 n ↔ (Meets zone.begin_high a 0 n × Meets last a 0 n) =
+    subst (λ (k : ℤ). Meets k a 0 n ↔ (Meets zone.begin_high a 0 n × Meets last a 0 n)) (sym is)
+    (Meets-min zone.begin_high last a 0 n some) in (
+      (λ h.
+          let z = h.left in
+          let parts = both.0 z.begin_high in
+          record {
+            held = record {
+              begin_low = z.begin_low;
+              begin_high = parts.0;
+              end_low = z.end_low;
+              end_high = z.end_high;
+              dur_low = z.dur_low;
+              dur_high = z.dur_high;
+            };
+            begins = parts.1;
+          }),
+      (λ e.
+          let z = e.held in
+          record {
+            left = record {
+              begin_low = z.begin_low;
+              begin_high = both.1 (z.begin_high, e.begins);
+              end_low = z.end_low;
+              end_high = z.end_high;
+              dur_low = z.dur_low;
+              dur_high = z.dur_high;
+            };
+            right = canonical-frame zone canonical a b n some z;
+          }),
+    )) given
+
+pub late_given : (zone : ZoneBounds) (last : ℤ) (found : Option ZoneBounds) (low : ℤ)
+    → IsCanonical zone → low ≡ int_min zone.begin_low (pos 1 -ℤ last)
+    → GivesZone found (Both (ZoneHolds (record {
+      begin_low = low;
+      begin_high = zone.begin_high;
+      end_low = zone.end_low;
+      end_high = zone.end_high;
+      dur_low = zone.dur_low;
+      dur_high = zone.dur_high;
+    })) (IsInFrame TIME_MAX)) → GivesZone found (Late zone last)
+late_given zone last found low canonical is given =
+    GivesZone-same found _ (Late zone last) (λ a b n some le.
+    let both : Meets low 0 a n ↔ (Meets zone.begin_low 0 a n × Meets (pos 1 -ℤ last) 0 a n) =
+    subst (λ (k : ℤ). Meets k 0 a n
+    ↔ (Meets zone.begin_low 0 a n × Meets (pos 1 -ℤ last) 0 a n)) (sym is)
+    (Meets-min zone.begin_low (pos 1 -ℤ last) 0 a n some) in
+    let turned = Meets-behind last a n in (
+      (λ h.
+          let z = h.left in
+          let parts = both.0 z.begin_low in
+          record {
+            held = record {
+              begin_low = parts.0;
+              begin_high = z.begin_high;
+              end_low = z.end_low;
+              end_high = z.end_high;
+              dur_low = z.dur_low;
+              dur_high = z.dur_high;
+            };
+            begins = turned.0 parts.1;
+          }),
+      (λ e.
+          let z = e.held in
+          record {
+            left = record {
+              begin_low = both.1 (z.begin_low, turned.1 e.begins);
+              begin_high = z.begin_high;
+              end_low = z.end_low;
+              end_high = z.end_high;
+              dur_low = z.dur_low;
+              dur_high = z.dur_high;
+            };
+            right = canonical-frame zone canonical a b n some z;
+          }),
+    )) given
+
+-- ---- what is left of a zone
+
+pub IsEarlyHeld-some : (zone other early : ZoneBounds) (last : ℤ)
+    → GivesZone (Some early) (Early zone last) → Includes other early
+    → IsEarlyHeld zone other last
+IsEarlyHeld-some zone other early last is includes = record {
+  held = λ a b n some le e. includes.every a b n some le ((is.exact a b n some le).1 e);
+}
+
+pub IsEarlyHeld-none : (zone other : ZoneBounds) (last : ℤ)
+    → GivesZone None (Early zone last) → IsEarlyHeld zone other last
+IsEarlyHeld-none zone other last none = record {
+  held = λ a b n some le e. absurd (none.never a b n some le e);
+}
+
+pub TrimsBehind-late : (zone other : ZoneBounds) (last : ℤ) (rest : Option ZoneBounds)
+    → IsEarlyHeld zone other last → GivesZone rest (Late zone last)
+    → TrimsBehind zone other rest
+TrimsBehind-late zone other last rest early late = record {
+  within = λ a b n some le h.
+      ((FoundHolds-exact rest (Late zone last) late a b n some le).0 h).held;
+  covers = λ a b n some le h. ⊎_elim
+      (λ m. inl (early.held a b n some le (record { held = h; begins = m })))
+      (λ not_early. inr ((FoundHolds-exact rest (Late zone last) late a b n some le).1
+      (record { held = h; begins = not_early }))) (Meets-decided last a 0 n);
+}
+
+pub TrimsBehind-itself : (zone other : ZoneBounds) → TrimsBehind zone other (Some zone)
+unfolding FoundHolds
+TrimsBehind-itself zone other = record {
+  within = λ a b n some le h. h;
+  covers = λ a b n some le h. inr h;
+}
+
+pub Trims-none : (zone : ZoneBounds) → Trims zone None (Some zone)
+unfolding FoundHolds
+Trims-none zone = record {
+  within = λ a b n some le h. h;
+  covers = λ a b n some le h. inr h;
+}
+
+pub Trims-some : (zone other : ZoneBounds) (rest : Option ZoneBounds)
+    → TrimsBehind zone other rest → Trims zone (Some other) rest
+unfolding FoundHolds
+Trims-some zone other rest behind = record {
+  within = λ a b n some le h. behind.within a b n some le h;
+  covers = λ a b n some le h. behind.covers a b n some le h;
+}
+
+-- ---- the list
+
+-- The list holds what the first zones do, and the one before is among these.
+pub record IsTrimmed (zones : List ZoneBounds) (before : Option ZoneBounds)
+    (kept : List ZoneBounds) : Type 0 where
+  pub canonical : AreCanonical kept
+  pub held : HoldExactly kept (SetHolds zones)
+  pub last : (a b n : ℕ) → FoundHolds before a b n → SetHolds zones a b n
+
+pub IsTrimmed-none : IsTrimmed [] None []
+unfolding AreCanonical FoundHolds
+IsTrimmed-none = record {
+  canonical = tt;
+  held = record { exact = λ a b n some le. ((λ h. h), (λ h. h)) };
+  last = λ a b n h. absurd h;
+}
+
+pub IsTrimmed-more : (zones : List ZoneBounds) (i : ℕ) (zone : ZoneBounds)
+    (before rest : Option ZoneBounds) (old new : List ZoneBounds) → i < length zones
+    → zone ≡ get_or zones i zone → IsTrimmed (take i zones) before old
+    → Trims zone before rest
+    → ((a b n : ℕ) → SetHolds new a b n ↔ (SetHolds old a b n ⊎ FoundHolds rest a b n))
+    → (AreCanonical old → AreCanonical new)
+    → IsTrimmed (take (i + 1) zones) (Some zone) new
+unfolding FoundHolds
+IsTrimmed-more zones i zone before rest old new within is now trims held canonical = record {
+  canonical = canonical now.canonical;
+  held = record {
+    exact = λ a b n some le.
+        let more = SetHolds-more zones i zone within is a b n in
+        let was = now.held.exact a b n some le in
+        let push = held a b n in (
+          (λ h. more.1 (⊎_elim (λ x. inl (was.0 x))
+              (λ x. inr (trims.within a b n some le x)) (push.0 h))),
+          (λ h. push.1 (⊎_elim (λ x. inl (was.1 x))
+              (λ x. ⊎_elim (λ y. inl (was.1 (now.last a b n y))) (λ y. inr y)
+              (trims.covers a b n some le x)) (more.0 h))),
+        );
+  };
+  last = λ a b n h. (SetHolds-more zones i zone within is a b n).1 (inr h);
+}
+
+pub IsTrimmed-all : (zones : List ZoneBounds) (i : ℕ) (before : Option ZoneBounds)
+    (kept : List ZoneBounds) → length zones ≤ i → IsTrimmed (take i zones) before kept
+    → HoldExactly kept (SetHolds zones)
+IsTrimmed-all zones i before kept past now =
+    subst (λ (l : List ZoneBounds). HoldExactly kept (SetHolds l)) (take_all i zones past) now.held
+
+pub HaveSamePairs-exact : (set kept : List ZoneBounds) → AreCanonical set → AreCanonical kept
+    → HoldExactly kept (SetHolds set) → HaveSamePairs set kept
+HaveSamePairs-exact set kept canonical canonical' held = record {
+  same = λ a b n some. (
+    (λ h. (held.exact a b n some (set_framed set canonical a b n some h).rising).1 h),
+    (λ h. (held.exact a b n some (set_framed kept canonical' a b n some h).rising).0 h),
+  );
+}
+
+pub HaveSamePairs-trans : (one two three : List ZoneBounds) → HaveSamePairs one two
+    → HaveSamePairs two three → HaveSamePairs one three
+HaveSamePairs-trans one two three first second = record {
+  same = λ a b n some.
+      let x = first.same a b n some in
+      let y = second.same a b n some in
+      ((λ h. y.0 (x.0 h)), (λ h. x.1 (y.1 h)));
+}
+
+-- ---- bounds within limits
+
+within_min : (limit : ℕ) (one other : ℤ) → IsKeyWithin limit one → neg_ℤ (pos limit) ≤ℤ other
+    → IsKeyWithin limit (int_min one other)
+within_min limit one other within low =
+    let lower = within.low in
+    let upper = within.high in
+    record { low = omega (arith, ints, clamps); high = omega (arith, ints, clamps) }
+
+pub value_min : (one other key : ℤ) → key ≡ int_min one other → IsKeyWithin (2 ^ 42) one
+    → neg_ℤ (pos (2 ^ 42)) ≤ℤ other → IsValueWithin (2 ^ 42) key
+value_min one other key is within low =
+    rw is (IsValueWithin-key (2 ^ 42) (2 ^ 42) (omega arith) (int_min one other)
+    (within_min (2 ^ 42) one other within low))
+
+pub value_of_key : (key : ℤ) → IsKeyWithin (2 ^ 42) key → IsValueWithin (2 ^ 42) key
+value_of_key key within = IsValueWithin-key (2 ^ 42) (2 ^ 42) (omega arith) key within

@@ -1,0 +1,11 @@
+use Rattle.std.proofs.Common.{refl}
+use Rattle.tre_strips.proofs.Trimming.{TrimsBehind-late, TrimsBehind-itself}
+use Rattle.tre_strips.proofs.trim.rest_behind.Goals as goal
+
+pub returns-then-is_early_held : goal.returns-then-is_early_held
+returns-then-is_early_held c =
+    TrimsBehind-late c.args.zone.now c.args.other.now _ _ (c.if-is_early_held.ensures refl)
+    c.late.ensures
+
+pub returns-else-is_early_held : goal.returns-else-is_early_held
+returns-else-is_early_held c = TrimsBehind-itself c.args.zone.now c.args.other.now

@@ -1,0 +1,129 @@
+// Zones that begin together, each without what the one before it holds: where many over one begin
+// have ends that join to few bars, few of them are open at a time.
+ghost use Rattle.std.specs.Prelude.{◌≡◌, ℕ, ◌^◌, ◌⊎◌, ◌↔◌, ◌-ℤ◌, pos, IsTrue, IfOk, OnOk};
+ghost use Rattle.tre_zone.specs.Bound.{IsKeyWithin};
+ghost use Rattle.tre_zone.specs.Zone.{GivesZone};
+ghost use Rattle.tre_zone.specs.ZoneList.{SetHolds, AreCanonical, HoldExactly};
+ghost use Rattle.tre_zoneset.specs.ZoneSet.{FoundHolds};
+ghost use Rattle.tre_strips.specs.Trim.{Trims, TrimsBehind, IsEarlyHeld, Early, Late};
+
+use crate::begins::{first_begin, last_begin};
+use std::alloc::{AllocError, Global};
+use tre_zone::{Bound, Zone, ZoneBounds};
+
+/// The zones, each without what one before it holds too.
+pub(crate) fn trimmed(alloc: Global, zones: &[Zone]) -> Result<Vec<Zone>, AllocError>
+    ensures held { IfOk result (λ kept. HoldExactly kept.items (SetHolds zones.now)) }
+    ensures canonical { IfOk result (λ kept. AreCanonical kept.items) }
+{
+    let mut sorted = Vec::new(alloc);
+    sorted.extend_from_slice(zones)?;
+    sorted.sort_unstable_by_key(|zone| [first_begin(zone), last_begin(zone)]);
+    let kept = each_trimmed(alloc, &sorted)?;
+    Ok(kept)
+}
+
+// Each zone without what the one before it holds.
+fn each_trimmed(alloc: Global, zones: &[Zone]) -> Result<Vec<Zone>, AllocError>
+    ensures held { IfOk result (λ kept. HoldExactly kept.items (SetHolds zones.now)) }
+    ensures canonical { IfOk result (λ kept. AreCanonical kept.items) }
+{
+    let mut kept = Vec::new(alloc);
+    let mut before = None;
+    for zone in zones {
+        push_found(&mut kept, rest_of(zone, &before))?;
+        before = Some(*zone);
+    }
+    Ok(kept)
+}
+
+// Adds the zone that was found, if there is one.
+fn push_found(kept: &mut Vec<Zone>, found: Option<Zone>) -> Result<(), AllocError>
+    ensures held { OnOk result ((a b n : ℕ) → SetHolds kept.new.items a b n
+        ↔ (SetHolds kept.old.items a b n ⊎ FoundHolds found a b n)) }
+    ensures canonical { OnOk result (AreCanonical kept.old.items → AreCanonical kept.new.items) }
+{
+    if let Some(zone) = found {
+        // For the proof: the call says that the zone is canonical.
+        let _bounds = zone.bounds();
+        kept.push(zone)?;
+    }
+    Ok(())
+}
+
+// What the zone holds more than the one before it, where that is simply what begins behind all of
+// this one; else the zone.
+fn rest_of(zone: &Zone, before: &Option<Zone>) -> Option<Zone>
+    ensures { Trims zone.now before.now result }
+{
+    match before {
+        Some(other) => rest_behind(zone, other),
+        None => Some(*zone),
+    }
+}
+
+fn rest_behind(zone: &Zone, other: &Zone) -> Option<Zone>
+    ensures { TrimsBehind zone.now other.now result }
+{
+    let last = other.bounds().begin_high;
+    if is_early_held(zone, other, &last) {
+        late(zone, &last)
+    } else {
+        Some(*zone)
+    }
+}
+
+// Whether the other holds the pairs of the zone that begin by the bound.
+fn is_early_held(zone: &Zone, other: &Zone, last: &Bound) -> bool
+    requires { IsKeyWithin (2 ^ 42) last.now }
+    ensures { IsTrue result → IsEarlyHeld zone.now other.now last.now }
+{
+    match early(zone, last) {
+        Some(early) => other.includes(&early),
+        None => true,
+    }
+}
+
+// The pairs of the zone that begin by the bound.
+fn early(zone: &Zone, last: &Bound) -> Option<Zone>
+    requires { IsKeyWithin (2 ^ 42) last.now }
+    ensures { GivesZone result (Early zone.now last.now) }
+{
+    let bounds = zone.bounds();
+    Zone::new(&ZoneBounds {
+        begin_low: bounds.begin_low,
+        begin_high: bounds.begin_high.tighter(last),
+        end_low: bounds.end_low,
+        end_high: bounds.end_high,
+        dur_low: bounds.dur_low,
+        dur_high: bounds.dur_high,
+    })
+}
+
+// The pairs of the zone that begin behind the bound.
+fn late(zone: &Zone, last: &Bound) -> Option<Zone>
+    requires { IsKeyWithin (2 ^ 42) last.now }
+    ensures { GivesZone result (Late zone.now last.now) }
+{
+    let bounds = zone.bounds();
+    Zone::new(&ZoneBounds {
+        begin_low: bounds.begin_low.tighter(&behind(last)),
+        begin_high: bounds.begin_high,
+        end_low: bounds.end_low,
+        end_high: bounds.end_high,
+        dur_low: bounds.dur_low,
+        dur_high: bounds.dur_high,
+    })
+}
+
+// The low bound on begins behind all that meet the high one.
+fn behind(last: &Bound) -> Bound
+    requires { IsKeyWithin (2 ^ 42) last.now }
+    ensures { result ≡ pos 1 -ℤ last.now }
+{
+    if last.is_weak() {
+        Bound::strict(-last.value())
+    } else {
+        Bound::weak(-last.value())
+    }
+}
