@@ -134,7 +134,8 @@ left (byte ∷ bytes) = by (byte == 32) (left bytes) where
       let n = prefix_len is_space bytes in
       let step : 1 + n ≡ suc n = omega arith in
       more ∙ sym (ap (λ k. length (drop k (byte ∷ bytes)) == 0) step)
-  by false more = refl
+  by false more =
+      let some : (suc (length bytes) == 0) ≡ false = grind (arith, nat_tests) in sym some
 
 pub no_parts : (text : List ℕ) → length (past_spaces text) ≡ 0 → parts_of text ≡ []
 no_parts text none =

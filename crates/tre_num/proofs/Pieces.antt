@@ -3,6 +3,7 @@ use Rattle.std.proofs.Common.{◌≡◌, ℕ, zero, suc, ◌+◌, ◌<◌, ◌�
 use Rattle.std.specs.Prelude.{◌==◌, ◌&&◌, codes, nat_le, nat_lt, replicate, if◌then◌else◌}
 use Rattle.std.specs.Char.{is_ascii_digit}
 use Rattle.std.specs.List.{AllPass, list_all, prefix_len}
+use Rattle.std.specs.Str.{IsAscii}
 use Rattle.std.specs.Str.Parse.{digits_value}
 use Rattle.std.proofs.lemmas.List.Sums.{list_all-from_AllPass}
 use Rattle.tre_decimal.specs.Decimal.{is_numeral}
@@ -371,3 +372,18 @@ parts-spell text defined parts name column =
           ∙ ap (λ rest. spaces one.gap ++ (defined.name ++ (spaces one.after ++ (61 ∷ rest))))
           behind;
     }
+
+-- ---- names are ASCII
+
+continues-ascii : (byte : ℕ) → continues_name byte ≡ true → byte < 128
+continues-ascii byte continues = grind (arith, nat_tests)
+
+ascii : (bytes : List ℕ) → list_all continues_name bytes ≡ true → IsAscii bytes
+ascii [] all i = omega arith
+ascii (byte ∷ bytes) all zero =
+    continues-ascii byte (first (continues_name byte) (list_all continues_name bytes) all)
+ascii (byte ∷ bytes) all (suc i) =
+    ascii bytes (second (continues_name byte) (list_all continues_name bytes) all) i
+
+pub word-ascii : (word : List ℕ) → IsWord word → IsAscii word
+word-ascii word is = ascii word (word-passes word is).0
