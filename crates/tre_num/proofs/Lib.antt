@@ -1,3 +1,5 @@
 mod Records
 mod Reading
 mod NameColumns
+mod Pieces
+mod Defining

@@ -17,10 +17,15 @@ mod column;
 mod columns;
 mod comparison;
 mod definition;
+mod definitions;
+mod let_fault;
+mod parts;
 mod row;
 mod rows;
 mod whole;
 
 pub use comparison::Comparison;
 pub use definition::Definition;
+pub use definitions::read_definitions;
+pub use let_fault::LetFault;
 pub use rows::read_rows;
