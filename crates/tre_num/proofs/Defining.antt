@@ -1,21 +1,21 @@
 -- The definitions of a text, one part after the other.
-use Rattle.std.proofs.Common.{◌≡◌, ◌≢◌, ℕ, zero, suc, ◌+◌, ◌<◌, ◌≤◌, Bool, true, false, cond, Option, Some, None, List, [], ◌∷◌, ◌++◌, append_assoc, length, get_or, take, drop, refl, sym, ap, subst, ◌∙◌, arith}
-use Rattle.std.specs.Prelude.{AllPairs, ◌==◌, ◌&&◌, find, if◌then◌else◌}
-use Rattle.std.specs.List.{All, after_first, before_first, list_all, position_or_len, prefix_len, slice_split}
+use Rattle.std.proofs.Common.{◌≡◌, ◌≢◌, ℕ, zero, suc, ◌+◌, ◌<◌, Bool, true, false, cond, Option, Some, None, List, [], ◌∷◌, ◌++◌, append_assoc, length, get_or, take, drop, refl, sym, ap, subst, ◌∙◌, arith}
+use Rattle.std.specs.Prelude.{◌==◌, ◌&&◌, if◌then◌else◌}
+use Rattle.std.specs.List.{list_all, position_or_len, prefix_len, slice_split}
+use Rattle.std.specs.Option.{is_some, option_map}
 use Rattle.std.specs.Str.{bytes_eq}
 use Rattle.std.proofs.lemmas.Bool.{false≢true}
 use Rattle.std.proofs.lemmas.Bool.Decides.{nat_tests}
 use Rattle.std.proofs.lemmas.List.{append-nil}
 use Rattle.std.proofs.lemmas.List.Quantifiers.{all_pairs_push}
 use Rattle.std.proofs.lemmas.List.Splits.{slice_split_first, slice_split_none}
-use Rattle.std.proofs.lemmas.List.Sums.{fails_before_first}
+use Rattle.std.proofs.lemmas.List.Sums.{fails_before_first, position_or_len_is}
 use Rattle.std.proofs.lemmas.Slice.Eq.{bytes_eq-Decides}
 use Rattle.tre_num.specs.Defined.{Defined}
 use Rattle.tre_num.specs.Definitions.{Spells, SpellAll, Define, HasFault, IsRefused, is_semicolon, parts_of}
 use Rattle.tre_num.specs.Pieces.{is_space, past_spaces}
 use Rattle.tre_num.specs.Rows.{definition_of}
 use Rattle.tre_num.specs.declared.let_fault.LetFault.{LetFault}
-use Rattle.tre_num.specs.declared.let_fault.LetFault.TheVariants.{BadLet, Twice, Memory}
 
 -- ---- one more definition
 
@@ -65,6 +65,11 @@ Define-push parts definitions part defined all one fresh = record {
       (λ k d below. unnamed definitions defined.name fresh k d below);
 }
 
+pub none-mapped : {A B : Type 0} (f : A → B) (found : Option A) → is_some found ≡ false
+    → option_map f found ≡ None
+none-mapped f None never = refl
+none-mapped f (Some x) never = absurd (false≢true (sym never))
+
 -- ---- all parts
 
 -- Of all parts the first ones are these definitions, and the rest stand behind them.
@@ -112,16 +117,26 @@ all-defined all definitions has =
 
 -- ---- the parts of a text
 
-pub last-part : (bytes : List ℕ) → position_or_len is_semicolon bytes ≡ length bytes
+pub last-part : (bytes : List ℕ)
+    → ((k : ℕ) → k < length bytes → is_semicolon (get_or bytes k 0) ≡ false)
     → slice_split is_semicolon bytes ≡ bytes ∷ []
-last-part bytes none =
+last-part bytes all =
+    let none : position_or_len is_semicolon bytes ≡ length bytes =
+    position_or_len_is is_semicolon bytes (length bytes) 0 (omega arith) all
+    (λ past. absurd (omega (arith, past))) in
     slice_split_none is_semicolon bytes
     (λ k d below. fails_before_first is_semicolon bytes k d (omega (arith, none, below)))
 
-pub next-part : (bytes : List ℕ) → position_or_len is_semicolon bytes < length bytes
+pub next-part : (bytes : List ℕ) (place : ℕ) → place < length bytes
+    → ((k : ℕ) → k < place → is_semicolon (get_or bytes k 0) ≡ false)
+    → is_semicolon (get_or bytes place 0) ≡ true
     → slice_split is_semicolon bytes
-    ≡ before_first is_semicolon bytes ∷ slice_split is_semicolon (after_first is_semicolon bytes)
-next-part bytes some = slice_split_first is_semicolon bytes 0 some
+    ≡ take place bytes ∷ slice_split is_semicolon (drop (place + 1) bytes)
+next-part bytes place below before here =
+    let first : position_or_len is_semicolon bytes ≡ place =
+    position_or_len_is is_semicolon bytes place 0 (omega (arith, below)) before (λ _. here) in
+    slice_split_first is_semicolon bytes 0 (omega (arith, first, below))
+    ∙ ap (λ n. take n bytes ∷ slice_split is_semicolon (drop (n + 1) bytes)) first
 
 -- what is left behind spaces says whether there is anything else
 left : (bytes : List ℕ) → list_all is_space bytes ≡ (length (past_spaces bytes) == 0)
@@ -137,13 +152,11 @@ left (byte ∷ bytes) = by (byte == 32) (left bytes) where
   by false more =
       let some : (suc (length bytes) == 0) ≡ false = grind (arith, nat_tests) in sym some
 
-pub no_parts : (text : List ℕ) → length (past_spaces text) ≡ 0 → parts_of text ≡ []
+pub no_parts : (text : List ℕ) → (length (past_spaces text) == 0) ≡ true → parts_of text ≡ []
 no_parts text none =
-    ap (λ test. if test then [] else slice_split is_semicolon text)
-    (left text ∙ ap (λ n. n == 0) none)
+    ap (λ test. if test then [] else slice_split is_semicolon text) (left text ∙ none)
 
-pub some_parts : (text : List ℕ) → 0 < length (past_spaces text)
+pub some_parts : (text : List ℕ) → (length (past_spaces text) == 0) ≡ false
     → parts_of text ≡ slice_split is_semicolon text
 some_parts text some =
-    let never : (length (past_spaces text) == 0) ≡ false = grind (arith, nat_tests) in
-    ap (λ test. if test then [] else slice_split is_semicolon text) (left text ∙ never)
+    ap (λ test. if test then [] else slice_split is_semicolon text) (left text ∙ some)

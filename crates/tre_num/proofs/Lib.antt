@@ -3,3 +3,4 @@ mod Reading
 mod NameColumns
 mod Pieces
 mod Defining
+mod OneReading

@@ -1,8 +1,8 @@
 -- A definition is cut into its parts in one way.
-use Rattle.std.proofs.Common.{◌≡◌, ℕ, zero, suc, ◌+◌, ◌<◌, ◌≤◌, ◌^◌, ℤ, pos, neg_ℤ, Bool, true, false, cond, Option, Some, None, List, [], ◌∷◌, ◌++◌, append_assoc, length, take, drop, refl, sym, ap, subst, ◌∙◌, arith}
-use Rattle.std.specs.Prelude.{◌==◌, ◌&&◌, codes, nat_le, nat_lt, replicate, if◌then◌else◌}
+use Rattle.std.proofs.Common.{◌≡◌, ℕ, zero, suc, ◌+◌, ◌<◌, ◌^◌, ℤ, pos, neg_ℤ, Bool, true, false, cond, Option, Some, None, List, [], ◌∷◌, ◌++◌, length, take, drop, refl, sym, ap, ◌∙◌, arith}
+use Rattle.std.specs.Prelude.{◌==◌, ◌&&◌, nat_le, nat_lt, if◌then◌else◌}
 use Rattle.std.specs.Char.{is_ascii_digit}
-use Rattle.std.specs.List.{AllPass, list_all, prefix_len}
+use Rattle.std.specs.List.{list_all, prefix_len}
 use Rattle.std.specs.Str.{IsAscii}
 use Rattle.std.specs.Str.Parse.{digits_value}
 use Rattle.std.proofs.lemmas.List.Sums.{list_all-from_AllPass}
@@ -15,8 +15,8 @@ use Rattle.tre_state.specs.Name.{continues_name, starts_name, IsName, IsWord}
 use Rattle.tre_num.specs.declared.comparison.Comparison.{Comparison}
 use Rattle.tre_num.specs.declared.comparison.Comparison.TheVariants.{Less, AtMost, Greater, AtLeast, Equal, Unequal}
 use Rattle.tre_num.specs.Defined.{Defined}
-use Rattle.tre_num.specs.Definitions.{Gaps, Spells, spaces, sign_text, definition_text}
-use Rattle.tre_num.specs.Pieces.{Signed, behind_piece, double_sign, is_space, is_whole_byte, past_spaces, piece, sign_in, single_sign}
+use Rattle.tre_num.specs.Definitions.{Spells, spaces, sign_text}
+use Rattle.tre_num.specs.Pieces.{Signed, behind_equals, behind_piece, double_sign, is_space, is_whole_byte, past_spaces, piece, sign_in, single_sign}
 
 -- ---- the longest run
 
@@ -224,9 +224,10 @@ start-continues byte starts = grind (arith, nat_tests)
 word-passes : (word : List ℕ) → IsWord word
     → (list_all continues_name word ≡ true) × (0 < length word)
 word-passes [] is = absurd is
-word-passes (byte ∷ bytes) is =
-    (rw (start-continues byte is.0, list_all-from_AllPass continues_name bytes is.1) refl,
-    omega arith)
+word-passes (byte ∷ bytes) is = (
+  rw (start-continues byte is.0, list_all-from_AllPass continues_name bytes is.1) refl,
+  omega arith,
+)
 
 digits-pass : (digits : List ℕ) → list_all is_ascii_digit digits ≡ true
     → list_all is_whole_byte digits ≡ true
@@ -257,8 +258,11 @@ whole-passes (byte ∷ bytes) value is = (by (byte == 45) refl is, omega arith) 
       → list_all is_whole_byte (byte ∷ bytes) ≡ true
   by true e is =
       let here : is_whole_byte byte ≡ true = grind (arith, nat_tests) in
-      rw (here, numeral-passes bytes (chosen (is_numeral bytes)
-      (nat_le (digits_value 10 bytes) (2 ^ 63)) (neg_ℤ (pos (digits_value 10 bytes))) value is))
+      rw (
+        here,
+        numeral-passes bytes (chosen (is_numeral bytes)
+            (nat_le (digits_value 10 bytes) (2 ^ 63)) (neg_ℤ (pos (digits_value 10 bytes))) value is),
+      )
       refl
   by false e is =
       numeral-passes (byte ∷ bytes) (chosen (is_numeral (byte ∷ bytes))
@@ -329,6 +333,45 @@ parts-are text defined is =
       value = ap whole_of (ap (piece is_whole_byte) whole_tail ∙ three.run_is) ∙ is.value;
       end = ap (behind_piece is_whole_byte) whole_tail ∙ three.rest_is;
     }
+
+pub equals-is : (bytes behind : List ℕ) → behind_equals bytes ≡ Some behind → bytes ≡ 61 ∷ behind
+equals-is [] behind is = cc
+equals-is (byte ∷ rest) behind is = by (byte == 61) refl is where
+  by : (equals : Bool) → (byte == 61) ≡ equals → (if equals then Some rest else None) ≡ Some behind
+      → byte ∷ rest ≡ 61 ∷ behind
+  by true e is =
+      let same : byte ≡ 61 = grind (arith, nat_tests) in
+      let tail : rest ≡ behind = cc in
+      ap (λ b. b ∷ rest) same ∙ ap (λ xs. 61 ∷ xs) tail
+  by false e is = cc
+
+pub empty : (bytes : List ℕ) → (length bytes == 0) ≡ true → bytes ≡ []
+empty [] none = refl
+empty (byte ∷ bytes) none =
+    let some : (suc (length bytes) == 0) ≡ false = grind (arith, nat_tests) in
+    absurd (false≢true (sym some ∙ none))
+
+pub some-same : {A : Type 0} (x y : A) → Some x ≡ Some y → x ≡ y
+some-same x y e = cc
+
+-- Of one text the parts are cut in one way.
+pub same-behind : (text behind : List ℕ) (defined : Defined) (parts : AreParts text defined)
+    → behind_equals (behind_piece continues_name text) ≡ Some behind → parts.behind ≡ behind
+same-behind text behind defined parts found =
+    some-same parts.behind behind (sym (ap behind_equals parts.equals) ∙ found)
+
+pub same-tail : (text behind tail : List ℕ) (comparison : Comparison) (defined : Defined)
+    (parts : AreParts text defined) → parts.behind ≡ behind
+    → sign_in (behind_piece continues_name behind)
+    ≡ Some (record { comparison = comparison; rest = tail })
+    → (defined.comparison ≡ comparison) × (parts.tail ≡ tail)
+same-tail text behind tail comparison defined parts same found =
+    let told = some-same (record { comparison = defined.comparison; rest = parts.tail })
+    (record { comparison = comparison; rest = tail })
+    (sym parts.sign
+    ∙ ap (λ bytes. sign_in (behind_piece continues_name bytes)) same
+    ∙ found) in
+    (ap (λ signed. signed.comparison) told, ap (λ signed. signed.rest) told)
 
 pub parts-spell : (text : List ℕ) (defined : Defined) → AreParts text defined
     → IsName defined.name → IsWord defined.column → Spells text defined

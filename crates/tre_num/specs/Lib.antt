@@ -7,3 +7,4 @@ pub mod Definitions
 -- What the functions inside promise each other.
 pub mod Left
 pub mod Pieces
+pub mod Cut

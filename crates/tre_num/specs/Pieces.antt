@@ -24,6 +24,11 @@ abbrev pub behind_piece : (ℕ → Bool) → List ℕ → List ℕ
 behind_piece test bytes =
     past_spaces (drop (prefix_len test (past_spaces bytes)) (past_spaces bytes))
 
+-- what stands behind the `=` (61) that bytes begin with
+abbrev pub behind_equals : List ℕ → Option (List ℕ)
+behind_equals [] = None
+behind_equals (byte ∷ rest) = if byte == 61 then Some rest else None
+
 -- what a sign means, and the bytes behind it
 pub record Signed : Type 0 where
   pub comparison : Comparison

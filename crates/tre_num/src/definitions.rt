@@ -1,6 +1,8 @@
 // The definitions of a text.
-ghost use Rattle.std.specs.Prelude.{◌≡◌, ◌≢◌, ◌+◌, ◌≤◌, ◌∷◌, ◌++◌, [], length, None, IfOk, IfErr, OnOk};
-ghost use Rattle.std.specs.List.{position_or_len};
+ghost use Rattle.std.specs.Prelude.{◌≡◌, ◌≢◌, ◌+◌, ◌<◌, ◌∷◌, ◌++◌, [], length, None, IfOk, IfErr, IfSome, OnOk};
+ghost use Rattle.std.specs.List.{slice_split};
+ghost use Rattle.std.specs.Option.{option_map};
+ghost use Rattle.tre_num.specs.Cut.{parts_behind};
 ghost use Rattle.tre_num.specs.Defined.{Defined};
 ghost use Rattle.tre_num.specs.Definitions.{Spells, Define, HasFault, IsRefused, is_semicolon, parts_of};
 ghost use Rattle.tre_num.specs.Rows.{definition_of};
@@ -13,7 +15,9 @@ use crate::parts::{parts_in, skip_spaces};
 use std::alloc::Global;
 
 /// The definitions of a text, in their order: `name = column op number` each, with `;` between two,
-/// where the op is one of `<`, `<=`, `>`, `>=`, `==` and `!=`. A text of spaces alone has none.
+/// where the op is one of `<`, `<=`, `>`, `>=`, `==` and `!=`, and the number is whole, from -2^63
+/// to 2^63 - 1. Spaces alone may stand round each part. A text of spaces alone has no definition.
+/// The first that is none, or that has the name of an earlier one, is told by its number.
 pub fn read_definitions(alloc: Global, text: &str) -> Result<Vec<Definition>, LetFault>
     ensures definitions { IfOk result (λ definitions.
         Define (parts_of text.now) definitions.items) }
@@ -26,12 +30,12 @@ pub fn read_definitions(alloc: Global, text: &str) -> Result<Vec<Definition>, Le
         return Ok(definitions);
     }
     loop {
-        let end = first_semicolon(rest);
-        add(alloc, &mut definitions, &rest[..end])?;
-        if end == rest.len() {
-            return Ok(definitions);
+        let (part, behind) = first_part(rest);
+        add(alloc, &mut definitions, part)?;
+        match behind {
+            Some(behind) => rest = behind,
+            None => return Ok(definitions),
         }
-        rest = &rest[end + 1..];
     }
 }
 
@@ -60,15 +64,16 @@ fn add(alloc: Global, definitions: &mut Vec<Definition>, part: &[u8]) -> Result<
     Ok(())
 }
 
-// The place of the first semicolon; the length where there is none.
-fn first_semicolon(bytes: &[u8]) -> usize
-    ensures place { result ≡ position_or_len is_semicolon bytes.now }
-    ensures within { result ≤ length bytes.now }
+// What stands before the first semicolon, and what behind it, if there is one.
+fn first_part(bytes: &[u8]) -> (&[u8], Option<&[u8]>)
+    ensures parts { slice_split is_semicolon bytes.now
+        ≡ result.0.now ∷ parts_behind (option_map (λ rest. rest.now) result.1) }
+    ensures shorter { IfSome result.1 (λ rest. length rest.now < length bytes.now) }
 {
     for (place, &byte) in bytes.iter().enumerate() {
         if byte == b';' {
-            return place;
+            return (&bytes[..place], Some(&bytes[place + 1..]));
         }
     }
-    bytes.len()
+    (bytes, None)
 }

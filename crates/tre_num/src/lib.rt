@@ -1,6 +1,7 @@
 //! Traces from columns of whole numbers, as a spreadsheet or a logger writes them.
 //!
 //! A [`Definition`] names a comparison of a column with a whole number, as `hot = temp >= 80`.
+//! [`read_definitions`] reads a text of them, and what they say is in specs/Definitions.antt.
 //! [`read_rows`] reads comma-separated rows: the first is the header, whose later fields name the
 //! columns, and each row behind it is a segment, which lasts what its first field says. What the
 //! bytes say is `rows_reading` of specs/Rows.antt; the records are those that the crate csv
@@ -18,6 +19,7 @@ mod columns;
 mod comparison;
 mod definition;
 mod definitions;
+pub mod laws;
 mod let_fault;
 mod parts;
 mod row;

@@ -1,11 +1,10 @@
 // The parts of one definition.
-ghost use Rattle.std.specs.Prelude.{◌≡◌, ◌≤◌, length, IfNone, IfSome, MatchOption, IsTrue};
+ghost use Rattle.std.specs.Prelude.{◌≡◌, ◌≤◌, length, IfNone, IfSome};
 ghost use Rattle.std.specs.List.{prefix_len};
 ghost use Rattle.std.specs.Option.{option_map};
 ghost use Rattle.tre_state.specs.Name.{continues_name, IsName, IsWord};
-ghost use Rattle.tre_num.specs.Defined.{Defined};
 ghost use Rattle.tre_num.specs.Definitions.{Spells, SpellsNone};
-ghost use Rattle.tre_num.specs.Pieces.{behind_piece, is_space, is_whole_byte, past_spaces, piece, sign_in};
+ghost use Rattle.tre_num.specs.Pieces.{behind_equals, behind_piece, is_whole_byte, past_spaces, piece, sign_in};
 
 use crate::comparison::Comparison;
 use crate::whole::read_whole;
@@ -23,18 +22,16 @@ pub(crate) struct Parts<'a> {
 /// The parts of a definition, if the text is one.
 pub(crate) fn parts_in(text: &[u8]) -> Option<Parts<'_>>
     ensures some { IfSome result (λ parts. Spells text.now (record {
-        name = parts.name.now;
-        column = parts.column.now;
-        comparison = parts.comparison;
-        value = parts.value;
+      name = parts.name.now;
+      column = parts.column.now;
+      comparison = parts.comparison;
+      value = parts.value;
     })) }
     ensures none { IfNone result (SpellsNone text.now) }
 {
     let (name, rest) = next_word(text);
     let name = name_in(name)?;
-    let [b'=', rest @ ..] = rest else {
-        return None;
-    };
+    let rest = behind_equals(rest)?;
     let (column, rest) = next_word(rest);
     let column = word_in(column)?;
     let (comparison, rest) = sign_in(rest)?;
@@ -137,11 +134,21 @@ fn word_in(bytes: &[u8]) -> Option<&str>
     }
 }
 
+// What stands behind the `=` in front, if there is one.
+fn behind_equals(bytes: &[u8]) -> Option<&[u8]>
+    ensures { option_map (λ rest. rest.now) result ≡ behind_equals bytes.now }
+{
+    match bytes {
+        [b'=', rest @ ..] => Some(rest),
+        _ => None,
+    }
+}
+
 // The longest sign in front, and what stands behind it.
 fn sign_in(bytes: &[u8]) -> Option<(Comparison, &[u8])>
     ensures { option_map (λ signed. record {
-        comparison = signed.0;
-        rest = signed.1.now;
+      comparison = signed.0;
+      rest = signed.1.now;
     }) result ≡ sign_in bytes.now }
 {
     match bytes {

@@ -1,4 +1,3 @@
-use Rattle.std.proofs.Common.{◌≡◌}
 use Rattle.std.proofs.lemmas.Str.{IsUtf8-from_ascii}
 use Rattle.tre_num.proofs.Pieces.{word-ascii}
 use Rattle.tre_num.proofs.parts.word_in.Goals as goal

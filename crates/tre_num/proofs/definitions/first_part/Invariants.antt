@@ -1,6 +1,6 @@
 use Rattle.std.proofs.Common.{◌≡◌, ℕ, ◌<◌, get_or, false}
 use Rattle.tre_num.specs.Definitions.{is_semicolon}
-use Rattle.tre_num.proofs.definitions.first_semicolon.Given as goal
+use Rattle.tre_num.proofs.definitions.first_part.Given as goal
 
 -- no semicolon stands before this place
 abbrev pub invariant-loop-place : goal.invariant-loop-place
