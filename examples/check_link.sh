@@ -1,4 +1,5 @@
-# What must hold of every recording of the link; it ends with a status other than 0 at the first that doesn't.
+# What must hold for every recording of the link. It ends with a status other than 0 at the first
+# check that fails.
 set -eu
 . ./checks.sh
 dump='--format vcd --input link.vcd'

@@ -2,11 +2,11 @@
 
 usage: draw.py [options] TRACE PATTERN..
 
-  --text              a timeline in characters, in place of an SVG picture
+  --text              a timeline in characters, instead of an SVG picture
   --vcd               TRACE is a value change dump, and not lines of text
-  --from N, --to N    the ticks to be drawn; the whole trace where they aren't given
-  --signals A,B       the signals to be drawn; those of the patterns where they aren't given
-  --columns N         how wide a timeline may be, 80 where it isn't given
+  --from N, --to N    the ticks to be drawn; the whole trace without them
+  --signals A,B       the signals to be drawn; those of the patterns without it
+  --columns N         how wide a timeline may be, 80 without it
 
 It runs `montre`, or the program that MONTRE names, once for each signal and each pattern. A zone is
 drawn as its longest stretch, from its earliest start to its latest end.
@@ -26,9 +26,9 @@ COLOURS = ["#1f77b4", "#d62728", "#2ca02c", "#9467bd", "#ff7f0e", "#8c564b"]
 
 def matches(options, pattern):
     """The stretches of a pattern's zones in their order, and the end of the trace."""
-    words = [os.environ.get("MONTRE", "montre"), "--input", options.trace]
-    words += ["--format", "vcd"] if options.vcd else []
-    run = subprocess.run(words + ["--", pattern], capture_output=True, text=True)
+    arguments = [os.environ.get("MONTRE", "montre"), "--input", options.trace]
+    arguments += ["--format", "vcd"] if options.vcd else []
+    run = subprocess.run(arguments + ["--", pattern], capture_output=True, text=True)
     if run.returncode != 0:
         sys.exit("%s: %s" % (pattern, run.stderr.strip()))
     found, end = zones.read(run.stdout)
@@ -171,16 +171,16 @@ def picture(signals, found, window):
 
 
 def read_words():
-    words = argparse.ArgumentParser(usage=__doc__, add_help=False)
-    words.add_argument("trace")
-    words.add_argument("patterns", nargs="+")
-    words.add_argument("--text", action="store_true")
-    words.add_argument("--vcd", action="store_true")
-    words.add_argument("--from", dest="start", type=int, default=0)
-    words.add_argument("--to", dest="end", type=int)
-    words.add_argument("--signals", type=lambda names: names.split(","))
-    words.add_argument("--columns", type=int, default=80)
-    return words.parse_args()
+    arguments = argparse.ArgumentParser(usage=__doc__, add_help=False)
+    arguments.add_argument("trace")
+    arguments.add_argument("patterns", nargs="+")
+    arguments.add_argument("--text", action="store_true")
+    arguments.add_argument("--vcd", action="store_true")
+    arguments.add_argument("--from", dest="start", type=int, default=0)
+    arguments.add_argument("--to", dest="end", type=int)
+    arguments.add_argument("--signals", type=lambda names: names.split(","))
+    arguments.add_argument("--columns", type=int, default=80)
+    return arguments.parse_args()
 
 
 def main():

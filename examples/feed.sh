@@ -1,24 +1,24 @@
-# feed.sh TRACE WORDS..: gives a trace to montre --online line by line, the next one only when the block of the last is
-# there. Behind `>` stands what was given, and below it what montre wrote.
+# feed.sh TRACE ARGUMENTS..: gives a trace to montre --online line by line, each line after the block
+# of the line before. After `>` is the line that was given, and below it is what montre printed.
 trace=$1
 shift
 mkfifo lines || exit 1
-# (in this order `told` is there before `lines` has a reader, for which `exec` waits)
-montre --online "$@" > told < lines &
+# (in this order `printed` exists before `lines` has a reader, for which `exec` waits)
+montre --online "$@" > printed < lines &
 exec 3> lines
 blocks=0
 while read -r line; do
-    shown=$(wc -l < told)
+    shown=$(wc -l < printed)
     printf '> %s\n' "$line"
     printf '%s\n' "$line" >&3
     blocks=$((blocks + 1))
     for try in $(seq 200); do
-        [ "$(grep -c '^at ' told)" -eq "$blocks" ] && break
+        [ "$(grep -c '^at ' printed)" -eq "$blocks" ] && break
         sleep 0.05
     done
-    tail -n +"$((shown + 1))" told
+    tail -n +"$((shown + 1))" printed
 done < "$trace"
 exec 3>&-
 wait
-tail -n 1 told
-rm lines told
+tail -n 1 printed
+rm lines printed

@@ -1,4 +1,4 @@
-# Lists the signals of a dump that a pattern can ask for, by the names that it has for them.
+# Lists the signals of a dump that a pattern can name, each by its path.
 $1 == "$scope" { path = path $3 "." }
 $1 == "$upscope" { sub(/[^.]*[.]$/, "", path) }
 $1 == "$var" && $3 == 1 && NF == 6 && $2 !~ /^(real|realtime|event)$/ {

@@ -53,30 +53,30 @@ def pieces(text):
 
 def copied(text, at):
     """The dump with the declarations and the changes."""
-    times, section, waits, told = sorted(at), None, False, 0
+    times, section, waits, written = sorted(at), None, False, 0
     for piece in pieces(text):
         token = piece.strip()
         if section is None and not waits and re.fullmatch(rb"#\d+", token):
             now = int(token[1:])
-            while told < len(times) and times[told] < now:
-                yield lines(times[told], at)
-                told += 1
+            while written < len(times) and times[written] < now:
+                yield lines(times[written], at)
+                written += 1
         if token == b"$enddefinitions":
             yield b"\n" + DECLARATIONS.rstrip(b"\n")
         yield piece
         if section is None and not waits and re.fullmatch(rb"#\d+", token):
-            if told < len(times) and times[told] == now:
+            if written < len(times) and times[written] == now:
                 yield lines(now, at, again=False)
-                told += 1
+                written += 1
         waits = section is None and not waits and re.match(rb"[bBrRsS]", token) is not None
         section = within(section, token)
-    while told < len(times):
-        yield lines(times[told], at)
-        told += 1
+    while written < len(times):
+        yield lines(times[written], at)
+        written += 1
 
 
 def within(section, token):
-    """The section that is open behind a token. One of changes is no section here."""
+    """The section that is open after a token. A section of changes doesn't count here."""
     if token == b"$end":
         return None
     if section is None and token.startswith(b"$") and not token.startswith(b"$dump"):
@@ -94,10 +94,10 @@ def main():
         sys.exit(__doc__)
     with open(sys.argv[1], "rb") as file:
         text = file.read()
-    begin = {0: {LEVEL: b"0"}}
+    at_times = {0: {LEVEL: b"0"}}
     for time, values in changes(matches(*sys.argv[1:])).items():
-        begin.setdefault(time, {}).update(values)
-    for part in copied(text, begin):
+        at_times.setdefault(time, {}).update(values)
+    for part in copied(text, at_times):
         sys.stdout.buffer.write(part)
 
 

@@ -18,7 +18,7 @@ function declare(name, range,    bounds, step, bit) {
         printf "$var wire 1 %s~%d %s_%d $end\n", $4, bit, name, bounds[1] + step * bit
 }
 
-# change(VALUE, IDENTIFIER): the bits that are others than before, the first one first.
+# change(VALUE, IDENTIFIER): prints the bits that differ from before, the first one first.
 function change(value, id,    letters, bit, letter) {
     letters = substr(value, 2)
     letter = substr(letters, 1, 1)

@@ -1,7 +1,9 @@
-// Random pieces of a trace read with the older forms of residuals and with a mark: both tell the
-// same pairs, piece by piece.
+// Random pieces of a trace read with residuals and with a mark: both tell the same pairs, piece by
+// piece.
 ghost use Rattle.std.specs.Prelude.{IfOk};
 ghost use Rattle.tre_edges.specs.Piece.{end_of_piece};
+ghost use Rattle.tre_mark.specs.MarkTree.{mark_of};
+ghost use Rattle.tre_mark.specs.Marked as marks;
 ghost use Rattle.tre_residual.specs.Residual.{residual_tree, IsWellAt};
 ghost use Rattle.tre_state.specs.declared.names.TheConstants.{NAMES_MAX};
 ghost use Rattle.tre_syntax.specs.Expr.{tree_of};
@@ -36,11 +38,11 @@ impl Random {
     }
 }
 
-// The same pairs as a residual of the older forms and as a mark.
+// The same pairs as a residual and as a mark.
 #[derive(Drop)]
 struct Twins {
     forms: Residual,
-    mark: Residual,
+    mark: Mark,
 }
 
 // What begins in the piece, and ends as it ends or later.
@@ -49,15 +51,16 @@ fn begun(alloc: Global, expr: &Expr, piece: &Piece) -> Result<Twins, AllocError>
     ensures forms { IfOk result (λ twins.
         IsWellAt (end_of_piece piece.now) (residual_tree twins.forms)) }
     ensures mark { IfOk result (λ twins.
-        IsWellAt (end_of_piece piece.now) (residual_tree twins.mark)) }
+        marks.IsWellAt (end_of_piece piece.now) (mark_of twins.mark) (tree_of expr.now)) }
 {
     let forms = fresh(alloc, expr, piece)?;
     let empty = Mark::empty(alloc, expr)?;
     let all = moments_of(alloc, piece)?;
     let advanced = advance(alloc, &empty, expr, &all, piece)?;
-    let expr = expr.try_clone(alloc)?;
-    let mark = Residual::mark(alloc, advanced.rest, expr)?;
-    Ok(Twins { forms, mark })
+    Ok(Twins {
+        forms,
+        mark: advanced.rest,
+    })
 }
 
 // Whether the sets hold the same pairs, on all thirds of sixteen ticks.
@@ -73,16 +76,18 @@ fn are_same(one: &ZoneSet, other: &ZoneSet) -> bool {
 }
 
 // Reads the piece with both. A failure where they tell other pairs.
-fn read(alloc: Global, twins: &Twins, piece: &Piece) -> Result<Twins, Fail>
+fn read(alloc: Global, twins: &Twins, expr: &Expr, piece: &Piece) -> Result<Twins, Fail>
+    requires numbers { NumbersBelow NAMES_MAX (tree_of expr.now) }
     requires forms { IsWellAt piece.now.begin (residual_tree twins.now.forms) }
-    requires mark { IsWellAt piece.now.begin (residual_tree twins.now.mark) }
+    requires mark { marks.IsWellAt piece.now.begin (mark_of twins.now.mark) (tree_of expr.now) }
     ensures forms { IfOk result (λ twins.
         IsWellAt (end_of_piece piece.now) (residual_tree twins.forms)) }
     ensures mark { IfOk result (λ twins.
-        IsWellAt (end_of_piece piece.now) (residual_tree twins.mark)) }
+        marks.IsWellAt (end_of_piece piece.now) (mark_of twins.mark) (tree_of expr.now)) }
 {
     let forms = step(alloc, &twins.forms, piece)?;
-    let mark = step(alloc, &twins.mark, piece)?;
+    let none = ZoneSet::new(alloc);
+    let mark = advance(alloc, &twins.mark, expr, &none, piece)?;
     if !are_same(&forms.told, &mark.told) {
         return Err("they tell other pairs".into());
     }
@@ -99,11 +104,11 @@ fn compare(alloc: Global, expr: &Expr, lengths: [Length; 4]) -> Result<(), Fail>
     let one = first_piece(lengths[0]);
     let twins = begun(alloc, expr, &one)?;
     let two = next_piece(&one, lengths[1]);
-    let twins = read(alloc, &twins, &two)?;
+    let twins = read(alloc, &twins, expr, &two)?;
     let three = next_piece(&two, lengths[2]);
-    let twins = read(alloc, &twins, &three)?;
+    let twins = read(alloc, &twins, expr, &three)?;
     let four = next_piece(&three, lengths[3]);
-    let _twins = read(alloc, &twins, &four)?;
+    let _twins = read(alloc, &twins, expr, &four)?;
     Ok(())
 }
 

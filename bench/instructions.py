@@ -1,0 +1,94 @@
+#!/usr/bin/env python3
+"""The instructions that matching and reading take, by valgrind: two markdown tables.
+
+    python3 bench/instructions.py PATH_OF_MONTRE [PATH_OF_ANOTHER]
+
+With another program each row has the ratio to it. For Linux, with valgrind.
+"""
+
+import os
+import re
+import subprocess
+import sys
+import tempfile
+
+import vcd
+from growth import write_trace
+from measure import cell, print_head, print_row, ratio
+from reading import PATTERN, pattern_of, six_names, write_file
+
+SEGMENTS = [30000, 300000]
+MEGABYTES = 2
+MIX = "(p;q) & (true % [1,6]) | <:req:> % [1,4]"
+PATTERNS = [
+    "p",
+    "<:p:>",
+    "<:p:> % [2,10]",
+    "<:req:> ; (!ack % [1,4]) ; rise(ack)",
+    "p;q;r",
+    MIX,
+    "(rise(p);true;fall(q)) % [0,20]",
+    "(p;q)*",
+    "((p % [1,2]);(q % [1,2]))+ % [5,20]",
+    "(p % [1,1])*",
+]
+
+
+def instructions(words, given):
+    """How many instructions a run takes."""
+    command = ["valgrind", "--tool=callgrind", "--callgrind-out-file=/dev/null"] + words
+    with open(given, "rb") as trace:
+        run = subprocess.run(command, stdin=trace, stdout=subprocess.DEVNULL,
+                             stderr=subprocess.PIPE, check=True)
+    return int(re.search(rb"Collected : (\d+)", run.stderr).group(1))
+
+
+def cells(programs, options, given):
+    """The millions of instructions of the first program, and its ratio to the second."""
+    counts = [instructions([program] + options, given) for program in programs]
+    told = ["%.1f" % (counts[0] / 1e6)]
+    return counts[0], told + [ratio(counts[0], other) for other in counts[1:]]
+
+
+def matching(programs, folder):
+    """A row for each pattern, whole and as the input comes."""
+    beside = ["ratio"] * (len(programs) - 1)
+    print_head(["pattern", "millions of instructions"] + beside + ["growth", "online"] + beside
+               + ["growth"])
+    small, large = (write_trace(folder, size) for size in SEGMENTS)
+    for pattern in PATTERNS:
+        row = [cell(pattern)]
+        for options in ([pattern], ["--online", pattern]):
+            count, told = cells(programs, options, small)
+            grown = instructions([programs[0]] + options, large)
+            row += told + [ratio(grown * SEGMENTS[0] / SEGMENTS[1], count)]
+        print_row(row)
+
+
+def reading(programs, folder):
+    """A row for each form of a trace, and how many of its names the pattern asks for."""
+    print_head(["2 MB of", "millions of instructions"] + ["ratio"] * (len(programs) - 1))
+    text, dump = os.path.join(folder, "text"), os.path.join(folder, "dump")
+    write_file(text, six_names, MEGABYTES)
+    vcd.write_dump(dump, vcd.all_signals, MEGABYTES)
+    rows = [("lines of six names, none asked for", ["none"], text),
+            ("the same, one asked for", [PATTERN], text),
+            ("the same, of 64 asked for", [pattern_of(64)], text),
+            ("a dump of 64 signals, two asked for", ["--format", "vcd", vcd.PATTERN], dump),
+            ("the same, 56 asked for", ["--format", "vcd", vcd.pattern_of_all()], dump)]
+    for label, options, given in rows:
+        print_row([label] + cells(programs, options, given)[1])
+
+
+def main():
+    if len(sys.argv) not in (2, 3):
+        sys.exit("usage: python3 bench/instructions.py PATH_OF_MONTRE [PATH_OF_ANOTHER]")
+    programs = [os.path.abspath(path) for path in sys.argv[1:]]
+    with tempfile.TemporaryDirectory() as folder:
+        matching(programs, folder)
+        print("")
+        reading(programs, folder)
+
+
+if __name__ == "__main__":
+    main()
