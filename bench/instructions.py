@@ -17,7 +17,7 @@ from growth import write_trace
 from measure import cell, print_head, print_row, ratio
 from reading import PATTERN, pattern_of, six_names, write_file
 
-SEGMENTS = [30000, 300000]
+SEGMENTS = 30000
 MEGABYTES = 2
 MIX = "(p;q) & (true % [1,6]) | <:req:> % [1,4]"
 PATTERNS = [
@@ -55,14 +55,15 @@ def matching(programs, folder):
     beside = ["ratio"] * (len(programs) - 1)
     print_head(["pattern", "millions of instructions"] + beside + ["growth", "online"] + beside
                + ["growth"])
-    small, large = (write_trace(folder, size) for size in SEGMENTS)
+    trace, large, small = (write_trace(folder, size)
+                           for size in (SEGMENTS, 10 * SEGMENTS, SEGMENTS // 10))
     for pattern in PATTERNS:
-        row = [cell(pattern)]
-        for options in ([pattern], ["--online", pattern]):
-            count, told = cells(programs, options, small)
-            grown = instructions([programs[0]] + options, large)
-            row += told + [ratio(grown * SEGMENTS[0] / SEGMENTS[1], count)]
-        print_row(row)
+        count, told = cells(programs, [pattern], trace)
+        grown = instructions([programs[0], pattern], large) / 10
+        online, told_online = cells(programs, ["--online", pattern], trace)
+        before = 10 * instructions([programs[0], "--online", pattern], small)
+        print_row([cell(pattern)] + told + [ratio(grown, count)] + told_online
+                  + [ratio(online, before)])
 
 
 def reading(programs, folder):
