@@ -1,5 +1,5 @@
 -- What is answered of one check.
-use Rattle.std.proofs.Common.{◌≡◌, ℕ, ◌<◌, ◌⊎◌, true, false, Option, Some, None, is_some, List, [], ◌∷◌, ◌++◌, length, map, refl, sym, ap, subst, ◌∙◌, inl, inr, ⊎_elim, arith}
+use Rattle.std.proofs.Common.{◌≡◌, ℕ, ◌<◌, ◌⊎◌, true, false, Option, Some, None, is_some, List, [], ◌∷◌, ◌++◌, length, refl, sym, ap, subst, ◌∙◌, inl, ⊎_elim}
 use Rattle.tre_state.specs.Names.{place_of}
 use Rattle.tre_state.specs.declared.names.TheConstants.{NAMES_MAX}
 use Rattle.tre_parse.specs.Outcome.{spelt, refused, IsOutcome as ParsesTo}
@@ -10,7 +10,7 @@ use Rattle.tre_watch.specs.declared.fault.WatchFault.TheVariants.{Pattern as Pat
 use Rattle.tre_watch.specs.Lines.{Says, check}
 use Rattle.tre_watch.specs.Outcome.{SpeltPattern}
 use Rattle.tre_watch.specs.Steps.{spelt_of, spelt_in, Leads, Stops}
-use Rattle.tre_watch.proofs.Outcomes.{stops_memory, stops_text, leads_check}
+use Rattle.tre_watch.proofs.Outcomes.{stops_text, leads_check}
 
 pub is_there : (place : Option ℕ) → is_some place ≡ true → (k : ℕ) × (place ≡ Some k)
 is_there None e = absurd (cc)

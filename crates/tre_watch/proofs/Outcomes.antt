@@ -1,5 +1,5 @@
 -- What becomes of a file: it is one thing, and what the lines lead to.
-use Rattle.std.proofs.Common.{◌≡◌, ℕ, ◌+◌, ◌<◌, ◌≤◌, ◌⊎◌, ◌↔◌, IsTrue, Bool, true, false, nat_lt, MatchBool, Option, Some, None, MatchOption, List, [], ◌∷◌, ◌++◌, length, get_or, take, drop, Result, Ok, Err, refl, sym, ap, subst, ◌∙◌, inl, inr, ⊎_elim, arith}
+use Rattle.std.proofs.Common.{◌≡◌, ℕ, ◌+◌, ◌<◌, ◌≤◌, ◌⊎◌, ◌↔◌, IsTrue, Bool, true, false, nat_lt, MatchBool, Option, Some, None, List, [], ◌∷◌, ◌++◌, length, get_or, take, drop, Result, Ok, Err, refl, sym, subst, ◌∙◌, inl, inr, ⊎_elim, arith}
 use Rattle.std.proofs.lemmas.Bool.{cases_lt}
 use Rattle.std.proofs.lemmas.Bool.Decides.{nat_tests}
 use Rattle.std.proofs.lemmas.List.{length_push}
@@ -12,14 +12,13 @@ use Rattle.tre_state.specs.Names.{place_of}
 use Rattle.tre_state.specs.declared.names.TheConstants.{NAMES_MAX}
 use Rattle.tre_parse.specs.Outcome.{Outcome as Parsed, spelt, refused, IsOutcome as ParsesTo}
 use Rattle.tre_parse.proofs.Outcomes.{outcome_once}
-use Rattle.tre_syntax.specs.PatternTree.{PatternTree}
 use Rattle.tre_watch.specs.declared.fault.WatchFault.{WatchFault}
 use Rattle.tre_watch.specs.declared.fault.WatchFault.TheVariants.{TooLarge, BadLine, TooMany, Twice, Pattern, Empty, Memory}
 use Rattle.tre_watch.specs.declared.plan.Plan.{Plan}
 use Rattle.tre_watch.specs.declared.reader.TheConstants.{FILE_MAX}
 use Rattle.tre_parse.specs.declared.fault.ParseFault.{ParseFault}
 use Rattle.tre_watch.specs.Steps.{Answers, Leads, Stops}
-use Rattle.tre_watch.specs.Lines.{is_line_end, is_silent, content_of, HasCheck, IsCheck, Said, silence, mistake, check, Says}
+use Rattle.tre_watch.specs.Lines.{is_line_end, content_of, Said, silence, mistake, check, Says}
 use Rattle.tre_watch.specs.Outcome.{SpeltPattern, Outcome, planned, faulty, AfterText, ParsesOn, AfterName, AfterCount, Follows, ended, IsOutcomeFrom, IsOutcome}
 use Rattle.tre_watch.proofs.Checks.{check_once}
 

@@ -1,4 +1,4 @@
-use Rattle.std.proofs.Common.{◌≡◌, sym, ◌∙◌, inl, arith}
+use Rattle.std.proofs.Common.{sym, ◌∙◌, inl, arith}
 use Rattle.std.proofs.lemmas.Result.{MatchResult-weaker}
 use Rattle.tre_watch.specs.Steps.{spelt_in}
 use Rattle.tre_watch.proofs.Outcomes.{stops_many, stops_twice}
