@@ -4,7 +4,7 @@ use std::test::Fail;
 use tests_support::names_of;
 use tre_decimal::SCALE_MAX;
 use tre_num::Comparison::{AtLeast, AtMost, Equal, Greater, Less, Unequal};
-use tre_num::{Comparison, Definition, read_rows};
+use tre_num::{Comparison, Definition, LetFault, read_definitions, read_rows};
 use tre_trace::{Trace, TraceFault};
 
 // A number, a comparison, and whether it holds of the number and 3.
@@ -144,6 +144,116 @@ fn says(alloc: Global, names: &str, scale: u8, rows: &str, want: &str) -> Result
 fn rows_are_read(rt: HostRuntime) -> Result<(), Fail> {
     for (names, scale, rows, want) in &ROWS {
         assert!(rt; says(rt.alloc(), *names, *scale, *rows, *want)?, "{rows}");
+    }
+    Ok(())
+}
+
+// A text, and what it says: definitions, each with a semicolon behind it, or the fault.
+const TEXTS: [(&str, &str); 58] = [
+    ("", ""),
+    ("  ", ""),
+    ("hot=temp>=80", "hot temp AtLeast 80;"),
+    (
+        "hot = temp >= 80; low = level < 5",
+        "hot temp AtLeast 80;low level Less 5;",
+    ),
+    (
+        "  hot   =  temp  >=   80   ;low=level<5  ",
+        "hot temp AtLeast 80;low level Less 5;",
+    ),
+    (
+        "a=x<1;b=x<=2;c=x>3;d=x>=4;e=x==5;f=x!=6",
+        "a x Less 1;b x AtMost 2;c x Greater 3;d x AtLeast 4;e x Equal 5;f x Unequal 6;",
+    ),
+    (
+        "a = x < -9223372036854775808",
+        "a x Less -9223372036854775808;",
+    ),
+    ("a = x < -9223372036854775809", "BadLet { at: 1 }"),
+    (
+        "a = x < 9223372036854775807",
+        "a x Less 9223372036854775807;",
+    ),
+    ("a = x < 9223372036854775808", "BadLet { at: 1 }"),
+    ("a = x <-007", "a x Less -7;"),
+    ("a = x < -0", "a x Less 0;"),
+    ("a = a < 1; b = a < 1", "a a Less 1;b a Less 1;"),
+    ("a.b_2 = _x.9 == 1", "a.b_2 _x.9 Equal 1;"),
+    (";", "BadLet { at: 1 }"),
+    ("a = x < 1;", "BadLet { at: 2 }"),
+    ("a = x < 1;  ", "BadLet { at: 2 }"),
+    ("a = x < 1; ; b = x < 1", "BadLet { at: 2 }"),
+    ("; a = x < 1", "BadLet { at: 1 }"),
+    ("a = x < 1; a = y > 2", "Twice { at: 2 }"),
+    ("a = x < 1; b = x < 1; a = x < 1", "Twice { at: 3 }"),
+    ("a = x < 1; a = y", "BadLet { at: 2 }"),
+    ("a = x < 1; a = x < 1; b", "Twice { at: 2 }"),
+    ("b; a = x < 1; a = x < 1", "BadLet { at: 1 }"),
+    ("a = x < 1; A = x < 1", "a x Less 1;A x Less 1;"),
+    ("inf = x < 1", "BadLet { at: 1 }"),
+    ("event = x < 1", "BadLet { at: 1 }"),
+    ("a = inf < 1", "a inf Less 1;"),
+    ("infinite = x < 1", "infinite x Less 1;"),
+    ("1a = x < 1", "BadLet { at: 1 }"),
+    ("a = 1x < 1", "BadLet { at: 1 }"),
+    ("a-b = x < 1", "BadLet { at: 1 }"),
+    ("a b = x < 1", "BadLet { at: 1 }"),
+    ("a = x y < 1", "BadLet { at: 1 }"),
+    ("a = x < +1", "BadLet { at: 1 }"),
+    ("a = x << 1", "BadLet { at: 1 }"),
+    ("a = x < = 1", "BadLet { at: 1 }"),
+    ("a = x =< 1", "BadLet { at: 1 }"),
+    ("a = x = 1", "BadLet { at: 1 }"),
+    ("a = x ! 1", "BadLet { at: 1 }"),
+    ("a = x <> 1", "BadLet { at: 1 }"),
+    ("a == x < 1", "BadLet { at: 1 }"),
+    ("a = = x < 1", "BadLet { at: 1 }"),
+    ("a = x === 1", "BadLet { at: 1 }"),
+    ("a = x < 1 y", "BadLet { at: 1 }"),
+    ("a = x < 1y", "BadLet { at: 1 }"),
+    ("a = x < 1 2", "BadLet { at: 1 }"),
+    ("a = x < 1-2", "BadLet { at: 1 }"),
+    ("a = x < - 1", "BadLet { at: 1 }"),
+    ("a = x < 1.5", "BadLet { at: 1 }"),
+    ("a x < 1", "BadLet { at: 1 }"),
+    ("= x < 1", "BadLet { at: 1 }"),
+    ("a = < 1", "BadLet { at: 1 }"),
+    ("a = x 1", "BadLet { at: 1 }"),
+    ("a = x <", "BadLet { at: 1 }"),
+    ("a", "BadLet { at: 1 }"),
+    ("a\t= x < 1", "BadLet { at: 1 }"),
+    ("\u{e4} = x < 1", "BadLet { at: 1 }"),
+];
+
+// Each definition by its parts, or the fault.
+fn defined(
+    alloc: Global,
+    answer: &Result<Vec<Definition>, LetFault>,
+) -> Result<String, AllocError> {
+    let mut text = String::new(alloc);
+    match answer {
+        Ok(definitions) => {
+            for definition in definitions {
+                let (name, column) = (definition.name(), definition.column());
+                let (comparison, value) = (definition.comparison(), definition.value());
+                write!(text, "{name} {column} {comparison:?} {value};")?;
+            }
+        }
+        Err(fault) => write!(text, "{fault:?}")?,
+    }
+    Ok(text)
+}
+
+// Whether the text defines this.
+fn defines(alloc: Global, text: &str, want: &str) -> Result<bool, Fail> {
+    let answer = read_definitions(alloc, text);
+    Ok(defined(alloc, &answer)?.as_str() == want)
+}
+
+#[test]
+fn definitions_are_read(rt: HostRuntime) -> Result<(), Fail> {
+    for (text, want) in &TEXTS {
+        assert!(rt; defines(rt.alloc(), *text, *want)?, "{text}");
     }
     Ok(())
 }

@@ -1,3 +1,6 @@
 mod Records
 mod Reading
 mod NameColumns
+mod Pieces
+mod Defining
+mod OneReading

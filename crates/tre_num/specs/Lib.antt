@@ -3,5 +3,8 @@ pub mod Comparison
 pub mod Defined
 pub mod Whole
 pub mod Rows
+pub mod Definitions
 -- What the functions inside promise each other.
 pub mod Left
+pub mod Pieces
+pub mod Cut

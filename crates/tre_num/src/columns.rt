@@ -85,7 +85,7 @@ fn column_for(definitions: &[Definition], header: &ByteRecord, name: &str) -> Op
 }
 
 // The definition of a name.
-fn definition_of<'a>(definitions: &'a [Definition], name: &str) -> Option<&'a Definition>
+pub(crate) fn definition_of<'a>(definitions: &'a [Definition], name: &str) -> Option<&'a Definition>
     ensures { option_map (λ found. found.now) result ≡ definition_of definitions.now name.now }
 {
     for definition in definitions {

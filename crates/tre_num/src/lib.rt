@@ -1,6 +1,7 @@
 //! Traces from columns of whole numbers, as a spreadsheet or a logger writes them.
 //!
 //! A [`Definition`] names a comparison of a column with a whole number, as `hot = temp >= 80`.
+//! [`read_definitions`] reads a text of them, and what they say is in specs/Definitions.antt.
 //! [`read_rows`] reads comma-separated rows: the first is the header, whose later fields name the
 //! columns, and each row behind it is a segment, which lasts what its first field says. What the
 //! bytes say is `rows_reading` of specs/Rows.antt; the records are those that the crate csv
@@ -17,10 +18,16 @@ mod column;
 mod columns;
 mod comparison;
 mod definition;
+mod definitions;
+pub mod laws;
+mod let_fault;
+mod parts;
 mod row;
 mod rows;
 mod whole;
 
 pub use comparison::Comparison;
 pub use definition::Definition;
+pub use definitions::read_definitions;
+pub use let_fault::LetFault;
 pub use rows::read_rows;

@@ -1,0 +1,6 @@
+use Rattle.tre_num.specs.Definitions.{parts_of}
+use Rattle.tre_num.proofs.OneReading.{one-fault}
+use Rattle.tre_num.proofs.laws.one_fault.Goals as goal
+
+pub returns : goal.returns
+returns c text = one-fault (parts_of text)

@@ -1,0 +1,97 @@
+-- The text of definitions.
+use Rattle.std.specs.Prelude.{◌≡◌, ◌≢◌, ℕ, ◌+◌, ◌==◌, Bool, List, [], ◌∷◌, ◌++◌, length, codes, replicate, Some, None, AllPairs, if◌then◌else◌}
+use Rattle.std.specs.List.{list_all, slice_split}
+use Rattle.tre_state.specs.Name.{IsName, IsWord}
+use Rattle.tre_num.specs.declared.comparison.Comparison.{Comparison}
+use Rattle.tre_num.specs.declared.comparison.Comparison.TheVariants.{Less, AtMost, Greater, AtLeast, Equal, Unequal}
+use Rattle.tre_num.specs.Defined.{Defined}
+use Rattle.tre_num.specs.Pieces.{is_space}
+use Rattle.tre_num.specs.Rows.{definition_of}
+use Rattle.tre_num.specs.declared.let_fault.LetFault.{LetFault}
+use Rattle.tre_num.specs.declared.let_fault.LetFault.TheVariants.{BadLet, Twice, Memory}
+use Rattle.tre_num.specs.Whole.{whole_of}
+
+-- ---- one definition
+
+-- so many spaces (32)
+abbrev pub spaces : ℕ → List ℕ
+spaces count = replicate count 32
+
+-- how a comparison is written
+abbrev pub sign_text : Comparison → List ℕ
+sign_text Less = codes "<"
+sign_text AtMost = codes "<="
+sign_text Greater = codes ">"
+sign_text AtLeast = codes ">="
+sign_text Equal = codes "=="
+sign_text Unequal = codes "!="
+
+-- how many spaces stand before each part, and at the end
+pub record Gaps : Type 0 where
+  pub name : ℕ
+  pub equals : ℕ
+  pub column : ℕ
+  pub sign : ℕ
+  pub number : ℕ
+  pub end : ℕ
+
+-- The name, `=`, the column, the sign and the number, with spaces round them.
+abbrev pub definition_text : Gaps → Defined → List ℕ → List ℕ
+definition_text gaps defined number =
+    spaces gaps.name ++ (defined.name ++ (spaces gaps.equals ++ (codes "=" ++ (spaces gaps.column
+    ++ (defined.column ++ (spaces gaps.sign ++ (sign_text defined.comparison
+    ++ (spaces gaps.number ++ (number ++ spaces gaps.end)))))))))
+
+-- The text is this definition: of a name, of the numbers of a column, and with a whole number.
+pub record Spells (text : List ℕ) (defined : Defined) : Type 0 where
+  pub name : IsName defined.name
+  pub column : IsWord defined.column
+  pub number : List ℕ
+  pub value : whole_of number ≡ Some defined.value
+  pub gaps : Gaps
+  pub is : text ≡ definition_text gaps defined number
+
+-- The text is no definition.
+abbrev pub SpellsNone : List ℕ → Type 0
+SpellsNone text = (defined : Defined) → Spells text defined → ⊥
+
+-- ---- the definitions of a text
+
+-- the byte between two definitions
+abbrev pub is_semicolon : ℕ → Bool
+is_semicolon byte = byte == 59
+
+-- The parts of a text: none where it is spaces alone, and else what stands between semicolons.
+abbrev pub parts_of : List ℕ → List (List ℕ)
+parts_of text =
+    if list_all is_space text then [] else slice_split is_semicolon text
+
+-- each part is the definition at its place
+abbrev pub SpellAll : List (List ℕ) → List Defined → Type 0
+SpellAll [] [] = Unit {0}
+SpellAll [] (defined ∷ definitions) = ⊥
+SpellAll (part ∷ parts) [] = ⊥
+SpellAll (part ∷ parts) (defined ∷ definitions) = Spells part defined × SpellAll parts definitions
+
+-- The parts are these definitions, and no two of one name.
+pub record Define (parts : List (List ℕ)) (definitions : List Defined) : Type 0 where
+  pub spelt : SpellAll parts definitions
+  pub apart : AllPairs (λ one other. one.name ≢ other.name) definitions
+
+-- Behind these definitions the part has this fault, which is told with a number.
+abbrev pub HasFault : List Defined → ℕ → List ℕ → LetFault → Type 0
+HasFault definitions number part (BadLet at) = (at ≡ number) × SpellsNone part
+HasFault definitions number part (Twice at) =
+    (at ≡ number) × ((defined : Defined) × Spells part defined
+    × (definition_of definitions defined.name ≢ None))
+HasFault definitions number part Memory = ⊥
+
+-- The first part with a fault, behind parts that are definitions.
+pub record IsRefused (parts : List (List ℕ)) (fault : LetFault) : Type 0 where
+  pub front : List (List ℕ)
+  pub part : List ℕ
+  pub back : List (List ℕ)
+  pub split : parts ≡ front ++ (part ∷ back)
+  pub definitions : List Defined
+  pub good : Define front definitions
+  pub bad : HasFault definitions (length front + 1) part fault
