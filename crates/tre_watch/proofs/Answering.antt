@@ -1,5 +1,5 @@
 -- What is answered of one check.
-use Rattle.std.proofs.Common.{◌≡◌, ℕ, ◌<◌, ◌⊎◌, true, false, Option, Some, None, is_some, List, [], ◌∷◌, ◌++◌, length, map, refl, sym, ap, subst, ◌∙◌, inl, inr, ⊎_elim, arith}
+use Rattle.std.proofs.Common.{◌≡◌, ℕ, ◌<◌, ◌⊎◌, ◌≢◌, true, false, Option, Some, None, is_some, List, [], ◌∷◌, ◌++◌, length, refl, sym, ap, subst, ◌∙◌, ⊎_elim}
 use Rattle.tre_state.specs.Names.{place_of}
 use Rattle.tre_state.specs.declared.names.TheConstants.{NAMES_MAX}
 use Rattle.tre_parse.specs.Outcome.{spelt, refused, IsOutcome as ParsesTo}
@@ -7,6 +7,7 @@ use Rattle.tre_parse.specs.declared.fault.ParseFault.{ParseFault}
 use Rattle.tre_syntax.specs.declared.pattern.Pattern.{Pattern}
 use Rattle.tre_watch.specs.declared.fault.WatchFault.{WatchFault}
 use Rattle.tre_watch.specs.declared.fault.WatchFault.TheVariants.{Pattern as PatternFault, Memory}
+use Rattle.tre_parse.specs.declared.fault.ParseFault.TheVariants.{Memory as ParseMemory}
 use Rattle.tre_watch.specs.Lines.{Says, check}
 use Rattle.tre_watch.specs.Outcome.{SpeltPattern}
 use Rattle.tre_watch.specs.Steps.{spelt_of, spelt_in, Leads, Stops}
@@ -46,11 +47,11 @@ module _ (number : ℕ) (line : List ℕ) (names : List (List ℕ)) (patterns : 
   -- the text has a fault, or there was no memory
   pub found_stops : (fault : WatchFault)
       → (fault ≡ Memory) ⊎ ((parsed : ParseFault) × ParsesTo text (refused parsed)
-      × (fault ≡ PatternFault number parsed))
+      × (parsed ≢ ParseMemory) × (fault ≡ PatternFault number parsed))
       → Stops number line names (spelt_in patterns) fault
   found_stops fault why =
-      ⊎_elim (λ e. record { why = inl e })
+      ⊎_elim (λ e. stops_memory number line names (spelt_in patterns) fault e)
       (λ h.
-      subst (λ (f : WatchFault). Stops number line names (spelt_in patterns) f) (sym h.2)
-      (stops_text number line names (spelt_in patterns) name text says few none h.0 h.1))
+      subst (λ (f : WatchFault). Stops number line names (spelt_in patterns) f) (sym h.3)
+      (stops_text number line names (spelt_in patterns) name text says few none h.0 h.1 h.2))
       why

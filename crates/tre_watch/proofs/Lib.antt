@@ -6,3 +6,5 @@ pub mod Checks
 pub mod Outcomes
 -- what is answered of one check
 pub mod Answering
+-- that something becomes of every file
+pub mod Existence

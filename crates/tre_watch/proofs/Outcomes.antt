@@ -1,5 +1,5 @@
 -- What becomes of a file: it is one thing, and what the lines lead to.
-use Rattle.std.proofs.Common.{◌≡◌, ℕ, ◌+◌, ◌<◌, ◌≤◌, ◌⊎◌, ◌↔◌, IsTrue, Bool, true, false, nat_lt, MatchBool, Option, Some, None, MatchOption, List, [], ◌∷◌, ◌++◌, length, get_or, take, drop, Result, Ok, Err, refl, sym, ap, subst, ◌∙◌, inl, inr, ⊎_elim, arith}
+use Rattle.std.proofs.Common.{◌≡◌, ℕ, ◌+◌, ◌<◌, ◌≤◌, ◌⊎◌, ◌≢◌, ◌↔◌, IsTrue, Bool, true, false, nat_lt, MatchBool, Option, Some, None, List, [], ◌∷◌, ◌++◌, length, get_or, take, drop, Result, Ok, Err, refl, sym, subst, ◌∙◌, inl, inr, ⊎_elim, arith}
 use Rattle.std.proofs.lemmas.Bool.{cases_lt}
 use Rattle.std.proofs.lemmas.Bool.Decides.{nat_tests}
 use Rattle.std.proofs.lemmas.List.{length_push}
@@ -12,14 +12,14 @@ use Rattle.tre_state.specs.Names.{place_of}
 use Rattle.tre_state.specs.declared.names.TheConstants.{NAMES_MAX}
 use Rattle.tre_parse.specs.Outcome.{Outcome as Parsed, spelt, refused, IsOutcome as ParsesTo}
 use Rattle.tre_parse.proofs.Outcomes.{outcome_once}
-use Rattle.tre_syntax.specs.PatternTree.{PatternTree}
 use Rattle.tre_watch.specs.declared.fault.WatchFault.{WatchFault}
 use Rattle.tre_watch.specs.declared.fault.WatchFault.TheVariants.{TooLarge, BadLine, TooMany, Twice, Pattern, Empty, Memory}
 use Rattle.tre_watch.specs.declared.plan.Plan.{Plan}
 use Rattle.tre_watch.specs.declared.reader.TheConstants.{FILE_MAX}
 use Rattle.tre_parse.specs.declared.fault.ParseFault.{ParseFault}
+use Rattle.tre_parse.specs.declared.fault.ParseFault.TheVariants.{Memory as ParseMemory}
 use Rattle.tre_watch.specs.Steps.{Answers, Leads, Stops}
-use Rattle.tre_watch.specs.Lines.{is_line_end, is_silent, content_of, HasCheck, IsCheck, Said, silence, mistake, check, Says}
+use Rattle.tre_watch.specs.Lines.{is_line_end, content_of, Said, silence, mistake, check, Says}
 use Rattle.tre_watch.specs.Outcome.{SpeltPattern, Outcome, planned, faulty, AfterText, ParsesOn, AfterName, AfterCount, Follows, ended, IsOutcomeFrom, IsOutcome}
 use Rattle.tre_watch.proofs.Checks.{check_once}
 
@@ -165,10 +165,13 @@ module _ (number : ℕ) (line : List ℕ) (names : List (List ℕ)) (patterns : 
 
   pub stops_mistake : Says line mistake → Stops number line names patterns (BadLine number)
   unfolding IsOutcomeFrom
-  stops_mistake says = record { why = inr (λ lines. (mistake, says, refl)) }
+  stops_mistake says = record {
+    why = inr (λ lines. (mistake, says, refl));
+    never_memory = tt;
+  }
 
-  pub stops_memory : Stops number line names patterns Memory
-  stops_memory = record { why = inl refl }
+  pub stops_memory : (fault : WatchFault) → fault ≡ Memory → Stops number line names patterns fault
+  stops_memory fault e = record { why = inl e; never_memory = rw e tt }
 
   module _ (name text : List ℕ) (says : Says line (check name text)) where
     -- what becomes of the lines behind it
@@ -186,6 +189,7 @@ module _ (number : ℕ) (line : List ℕ) (names : List (List ℕ)) (patterns : 
             (faulty (TooMany number)) (On lines (faulty (TooMany number)))
             (has_no_room names many) refl,
       ));
+      never_memory = tt;
     }
 
     pub stops_twice : length names < NAMES_MAX → (place : ℕ) → place_of names name ≡ Some place
@@ -200,13 +204,14 @@ module _ (number : ℕ) (line : List ℕ) (names : List (List ℕ)) (patterns : 
             (with_old (place_of names name) place text number (faulty (Twice number))
             (On lines (faulty (Twice number))) is refl),
       ));
+      never_memory = tt;
     }
 
     pub stops_text : length names < NAMES_MAX → place_of names name ≡ None → (fault : ParseFault)
-        → ParsesTo text (refused fault)
+        → ParsesTo text (refused fault) → fault ≢ ParseMemory
         → Stops number line names patterns (Pattern number fault)
     unfolding IsOutcomeFrom
-    stops_text few none fault parses = record {
+    stops_text few none fault parses other = record {
       why = inr (λ lines. (
         check name text,
         says,
@@ -217,6 +222,7 @@ module _ (number : ℕ) (line : List ℕ) (names : List (List ℕ)) (patterns : 
             (On lines (faulty (Pattern number fault))) none
             (record { parsed = refused fault; parses = parses; after = refl })),
       ));
+      never_memory = other;
     }
 
     pub leads_check : length names < NAMES_MAX → place_of names name ≡ None

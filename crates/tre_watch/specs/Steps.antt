@@ -1,5 +1,5 @@
 -- What one line adds to the checks before it, and what is answered in the end.
-use Rattle.std.specs.Prelude.{◌≡◌, ℕ, ◌+◌, ◌⊎◌, ◌≢◌, List, ◌∷◌, length, map, Result, Ok, Err, MatchResult}
+use Rattle.std.specs.Prelude.{◌≡◌, ℕ, ◌+◌, ◌⊎◌, ◌≢◌, List, ◌∷◌, length, map, Result, Ok, Err}
 use Rattle.tre_syntax.specs.Pattern.{pattern_tree, names_of}
 use Rattle.tre_syntax.specs.declared.pattern.Pattern.{Pattern}
 use Rattle.tre_parse.specs.Outcome.{spelt, refused, IsOutcome as ParsesTo}
@@ -30,11 +30,17 @@ pub record Leads (number : ℕ) (line : List ℕ) (names : List (List ℕ)) (pat
       → IsOutcomeFrom names patterns number (line ∷ lines) outcome
   pub paired : length names ≡ length patterns → length new_names ≡ length new_patterns
 
+-- Where there was no memory, the fault says so itself, and none inside it does.
+abbrev pub NeverMemoryInside : WatchFault → Type 0
+NeverMemoryInside (PatternFault number fault) = fault ≢ ParseMemory
+NeverMemoryInside _ = Unit {0}
+
 -- The line has this fault, or there was no memory.
 pub record Stops (number : ℕ) (line : List ℕ) (names : List (List ℕ))
     (patterns : List SpeltPattern) (fault : WatchFault) : Type 0 where
   pub why : (fault ≡ Memory) ⊎ ((lines : List (List ℕ))
       → IsOutcomeFrom names patterns number (line ∷ lines) (faulty fault))
+  pub never_memory : NeverMemoryInside fault
 
 -- The text has this pattern; or it has this fault, or there was no memory.
 abbrev pub FindsPattern : List ℕ → ℕ → Result Pattern WatchFault → Type 0
@@ -42,7 +48,7 @@ FindsPattern text number (Ok pattern) =
     ParsesTo text (spelt (pattern_tree pattern) (names_of pattern))
 FindsPattern text number (Err fault) =
     (fault ≡ Memory)
-    ⊎ ((parsed : ParseFault) × ParsesTo text (refused parsed)
+    ⊎ ((parsed : ParseFault) × ParsesTo text (refused parsed) × (parsed ≢ ParseMemory)
     × (fault ≡ PatternFault number parsed))
 
 -- The fault of a line whose text has this fault.

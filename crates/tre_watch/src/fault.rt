@@ -13,7 +13,8 @@ pub enum WatchFault {
     TooMany { line: u64 },
     /// A check before it has its name.
     Twice { line: u64 },
-    /// Its text is no pattern. Offsets are counted from behind the `=`.
+    /// Its text is no pattern. Offsets are counted from behind the `=`. The fault is never
+    /// `ParseFault::Memory`: want of memory is `WatchFault::Memory`.
     Pattern { line: u64, fault: ParseFault },
     /// There is no check in the file.
     Empty,

@@ -1,8 +1,8 @@
-ghost use Rattle.std.specs.Prelude.{◌≡◌, ◌+◌, ◌≤◌, ◌↔◌, ◌<◌, length, drop, IsTrue, []};
+ghost use Rattle.std.specs.Prelude.{◌≡◌, ◌+◌, ◌≤◌, ◌↔◌, ◌<◌, length, drop, IsTrue, [], IfErr};
 ghost use Rattle.std.specs.List.{slice_split};
 ghost use Rattle.tre_watch.specs.Lines.{is_line_end};
 ghost use Rattle.tre_watch.specs.Outcome.{Outcome, IsOutcome, IsOutcomeFrom};
-ghost use Rattle.tre_watch.specs.Steps.{Answers};
+ghost use Rattle.tre_watch.specs.Steps.{Answers, NeverMemoryInside};
 
 use crate::check::add_line;
 use crate::fault::WatchFault;
@@ -21,6 +21,7 @@ pub fn read_plan(alloc: Global, bytes: &[u8]) -> Result<Plan, WatchFault>
     ensures outcome { Answers (IsOutcome bytes.now) result }
     ensures only { (outcome : Outcome) → IsOutcome bytes.now outcome →
         Answers (λ answer. outcome ≡ answer) result }
+    ensures never_memory { IfErr result NeverMemoryInside }
 {
     if is_too_large(bytes) {
         return Err(WatchFault::TooLarge);
@@ -38,7 +39,8 @@ fn is_too_large(bytes: &[u8]) -> bool
 // The plan that the lines of the bytes say.
 fn read_lines(alloc: Global, bytes: &[u8]) -> Result<Plan, WatchFault>
     requires { length bytes.now ≤ FILE_MAX }
-    ensures { Answers (IsOutcomeFrom [] [] 1 (slice_split is_line_end bytes.now)) result }
+    ensures outcome { Answers (IsOutcomeFrom [] [] 1 (slice_split is_line_end bytes.now)) result }
+    ensures never_memory { IfErr result NeverMemoryInside }
 {
     let mut names = Names::new(alloc);
     let mut patterns = Vec::new(alloc);

@@ -1,7 +1,7 @@
-use Rattle.std.proofs.Common.{◌≡◌, sym, ◌∙◌, inl, arith}
+use Rattle.std.proofs.Common.{sym, ◌∙◌, arith}
 use Rattle.std.proofs.lemmas.Result.{MatchResult-weaker}
 use Rattle.tre_watch.specs.Steps.{spelt_in}
-use Rattle.tre_watch.proofs.Outcomes.{stops_many, stops_twice}
+use Rattle.tre_watch.proofs.Outcomes.{stops_memory, stops_many, stops_twice}
 use Rattle.tre_watch.proofs.Answering.{is_there, is_absent, found_leads, found_stops}
 use Rattle.tre_watch.proofs.check.add_check.Goals as goal
 
@@ -25,7 +25,8 @@ returns-in-Ok c = λ line says.
     c.args.text.now says (omega (arith, c.len.ensures.len))
     (sym c.find.ensures ∙ is_absent c.find.result (sym c.if-is_some.ensures)) c.in-Ok.pattern
     c.in-Ok.ensures c.add_pair.new.names c.add_pair.new.patterns.items h.0 h.1)
-    (λ fault e. record { why = inl e })
+    (λ fault e. stops_memory c.args.number line c.args.names.now
+    (spelt_in c.args.patterns.now.items) fault e)
 
 pub returns-in-Err : goal.returns-in-Err
 returns-in-Err c = λ line says.

@@ -2,7 +2,6 @@ use Rattle.std.proofs.Common.{◌≡◌, ◌<◌, List, ℕ, length, get_or, tak
 use Rattle.std.proofs.lemmas.Bool.Decides.{nat_tests}
 use Rattle.std.proofs.lemmas.Str.{IsAscii-drop, IsAscii-take}
 use Rattle.std.specs.List.{prefix_len}
-use Rattle.std.specs.Str.{IsAscii}
 use Rattle.tre_state.specs.Name.{continues_name, IsName}
 use Rattle.tre_watch.specs.Lines.{is_blank, behind, IsCheck}
 use Rattle.tre_watch.proofs.Checks.{found_check, no_check-rest, no_check-sign, no_check-name}

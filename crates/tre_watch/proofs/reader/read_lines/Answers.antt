@@ -1,4 +1,4 @@
-use Rattle.std.proofs.Common.{◌≡◌, ◌+◌, ◌-◌, [], length, map, refl, ap, subst, ◌∙◌, inr, arith}
+use Rattle.std.proofs.Common.{◌≡◌, ◌+◌, ◌-◌, [], length, ap, subst, ◌∙◌, inr, arith}
 use Rattle.std.proofs.lemmas.List.{length-drop}
 use Rattle.std.proofs.lemmas.Result.{err_from_is_err_and}
 use Rattle.std.specs.List.{slice_split}
@@ -33,16 +33,16 @@ loop-end-preserved c =
       small = omega arith;
     }
 
-pub returns-in_err-add_line : goal.returns-in_err-add_line
-returns-in_err-add_line c =
+pub returns-in_err-add_line-clause-outcome : goal.returns-in_err-add_line-clause-outcome
+returns-in_err-add_line-clause-outcome c =
     let p = err_from_is_err_and c.from_residual.result c.from_residual.ensures.1 in
     rw (p.1, p.2)
     (Reaches-stop c.args.bytes.now c.loop-end.names (spelt_in c.loop-end.patterns.items)
     c.loop-end.number c.loop-end.rest.now c.loop-end.invariant.reaches c.in-Some.end
     c.in-Some.ensures.0 c.in-Some.ensures.1 c.in_err-add_line.field-0.0 c.in_err-add_line.ensures)
 
-pub returns-in_err-add_line-2 : goal.returns-in_err-add_line-2
-returns-in_err-add_line-2 c =
+pub returns-in_err-add_line-2-clause-outcome : goal.returns-in_err-add_line-2-clause-outcome
+returns-in_err-add_line-2-clause-outcome c =
     let p = err_from_is_err_and c.from_residual-in_err-add_line-2.result
     c.from_residual-in_err-add_line-2.ensures.1 in
     rw (p.1, p.2)
@@ -50,8 +50,8 @@ returns-in_err-add_line-2 c =
     c.loop-end.number c.loop-end.rest.now c.loop-end.invariant.reaches c.in_default.ensures
     c.in_err-add_line-2.field-0.0 c.in_err-add_line-2.ensures)
 
-pub returns-then-is_empty : goal.returns-then-is_empty
-returns-then-is_empty c =
+pub returns-then-is_empty-clause-outcome : goal.returns-then-is_empty-clause-outcome
+returns-then-is_empty-clause-outcome c =
     let none = c.is_empty.ensures.0 c.if-is_empty.true in
     inr (subst (λ (outcome : Outcome).
     IsOutcomeFrom [] [] 1 (slice_split is_line_end c.args.bytes.now) outcome)
@@ -61,8 +61,8 @@ returns-then-is_empty c =
     c.add_line-2.new.names (spelt_in c.add_line-2.new.patterns.items)
     c.in_ok-add_line-2.ensures))
 
-pub returns : goal.returns
-returns c =
+pub returns-clause-outcome : goal.returns-clause-outcome
+returns-clause-outcome c =
     let some : c.add_line-2.new.names ≡ [] → ⊥ =
     λ none. let told = c.is_empty.ensures.1 none in absurd (cc) in
     subst (λ (outcome : Outcome).
@@ -72,3 +72,14 @@ returns c =
     c.loop-end.number c.loop-end.rest.now c.loop-end.invariant.reaches c.in_default.ensures
     c.add_line-2.new.names (spelt_in c.add_line-2.new.patterns.items)
     c.in_ok-add_line-2.ensures)
+
+pub returns-in_err-add_line-clause-never_memory : goal.returns-in_err-add_line-clause-never_memory
+returns-in_err-add_line-clause-never_memory c =
+    let p = err_from_is_err_and c.from_residual.result c.from_residual.ensures.1 in
+    rw (p.1, p.2) c.in_err-add_line.ensures.never_memory
+
+pub returns-in_err-add_line-2-clause-never_memory : goal.returns-in_err-add_line-2-clause-never_memory
+returns-in_err-add_line-2-clause-never_memory c =
+    let p = err_from_is_err_and c.from_residual-in_err-add_line-2.result
+    c.from_residual-in_err-add_line-2.ensures.1 in
+    rw (p.1, p.2) c.in_err-add_line-2.ensures.never_memory

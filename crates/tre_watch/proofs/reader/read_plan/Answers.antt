@@ -1,4 +1,4 @@
-use Rattle.std.proofs.Common.{◌≤◌, length, Ok, Err}
+use Rattle.std.proofs.Common.{length, Ok, Err}
 use Rattle.std.proofs.lemmas.Result.{err_from_is_err_and}
 use Rattle.tre_watch.specs.declared.reader.TheConstants.{FILE_MAX}
 use Rattle.tre_watch.proofs.Outcomes.{answers_file, answers_only, at_most}
@@ -11,7 +11,7 @@ returns-in_err-plan-clause-only c = λ outcome other.
     c.if-is_too_large.false c.is_too_large.ensures in
     rw (p.1, p.2)
     (answers_only c.args.bytes.now (Err c.in_err-plan.field-0.0)
-    (answers_file c.args.bytes.now small (Err c.in_err-plan.field-0.0) c.in_err-plan.ensures)
+    (answers_file c.args.bytes.now small (Err c.in_err-plan.field-0.0) c.in_err-plan.ensures.outcome)
     outcome other)
 
 pub returns-clause-only : goal.returns-clause-only
@@ -19,5 +19,10 @@ returns-clause-only c = λ outcome other.
     let small = at_most c.is_too_large.result FILE_MAX (length c.args.bytes.now)
     c.if-is_too_large.false c.is_too_large.ensures in
     answers_only c.args.bytes.now (Ok c.in_ok-plan.plan)
-    (answers_file c.args.bytes.now small (Ok c.in_ok-plan.plan) c.in_ok-plan.ensures)
+    (answers_file c.args.bytes.now small (Ok c.in_ok-plan.plan) c.in_ok-plan.ensures.outcome)
     outcome other
+
+pub returns-in_err-plan-clause-never_memory : goal.returns-in_err-plan-clause-never_memory
+returns-in_err-plan-clause-never_memory c =
+    let p = err_from_is_err_and c.from_residual.result c.from_residual.ensures.1 in
+    rw (p.1, p.2) c.in_err-plan.ensures.never_memory

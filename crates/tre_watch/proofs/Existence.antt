@@ -1,0 +1,156 @@
+-- Every file has an outcome.
+use Rattle.std.proofs.Common.{◌≡◌, ℕ, suc, ◌+◌, ◌<◌, ◌≤◌, ◌⊎◌, IsTrue, Bool, true, false, nat_lt, MatchBool, Option, Some, None, List, [], ◌∷◌, ◌++◌, length, get_or, take, drop, refl, inl, inr, arith}
+use Rattle.std.proofs.lemmas.Bool.{cases_Bool, cases_eq, cases_lt}
+use Rattle.std.proofs.lemmas.List.Sums.{AllPass-from_list_all, list_all-from_AllPass}
+use Rattle.std.proofs.lemmas.Str.Ascii.{IsAscii-nil, IsAscii-cons}
+use Rattle.std.specs.List.{AllPass, list_all, prefix_len, slice_split}
+use Rattle.std.specs.Str.{IsAscii}
+use Rattle.tre_state.specs.Name.{starts_name, continues_name, is_reserved, IsWord, IsName}
+use Rattle.tre_state.specs.Names.{place_of}
+use Rattle.tre_state.specs.declared.names.TheConstants.{NAMES_MAX}
+use Rattle.tre_parse.specs.Outcome.{Outcome as Parsed, spelt, refused, IsOutcome as ParsesTo}
+use Rattle.tre_parse.proofs.Existence.{outcome_is as text_outcome}
+use Rattle.tre_watch.specs.declared.fault.WatchFault.TheVariants.{TooLarge, BadLine, TooMany, Twice, Pattern}
+use Rattle.tre_watch.specs.declared.reader.TheConstants.{FILE_MAX}
+use Rattle.tre_watch.specs.Lines.{is_line_end, is_blank, behind, is_silent, content_of, HasCheck, Said, silence, mistake, check, Says}
+use Rattle.tre_watch.specs.Outcome.{SpeltPattern, Outcome, faulty, ParsesOn, AfterName, AfterCount, Follows, ended, IsOutcomeFrom, IsOutcome}
+use Rattle.tre_watch.proofs.Checks.{found_check, no_check-sign, no_check-name}
+
+-- ---- whether a line has a check
+
+-- A fact, or that it is none.
+abbrev Decided : Type 0 → Type 0
+Decided P = P ⊎ (P → ⊥)
+
+both_or : {P Q : Type 0} → Decided P → Decided Q → Decided (P × Q)
+both_or (inl p) (inl q) = inl (p, q)
+both_or (inl p) (inr never) = inr (λ h. never h.1)
+both_or (inr never) _ = inr (λ h. never h.0)
+
+not_or : {P : Type 0} → Decided P → Decided (P → ⊥)
+not_or (inl p) = inr (λ never. never p)
+not_or (inr never) = inl never
+
+true_or : (t : Bool) → Decided (IsTrue t)
+true_or true = inl refl
+true_or false = inr (λ e. absurd (cc))
+
+pass_or : (p : ℕ → Bool) (bytes : List ℕ) → (list_all p bytes ≡ true) ⊎ (list_all p bytes ≡ false)
+    → Decided (AllPass p bytes)
+pass_or p bytes (inl all) = inl (AllPass-from_list_all p bytes all)
+pass_or p bytes (inr other) =
+    inr (λ h. let all = list_all-from_AllPass p bytes h in absurd (cc))
+
+word_or : (bytes : List ℕ) → Decided (IsWord bytes)
+word_or [] = inr (λ h. h)
+word_or (first ∷ rest) =
+    both_or (true_or (starts_name first))
+    (pass_or continues_name rest (cases_Bool (list_all continues_name rest)))
+
+name_or : (bytes : List ℕ) → Decided (IsName bytes)
+name_or bytes = both_or (word_or bytes) (not_or (true_or (is_reserved bytes)))
+
+ascii_with : (byte : ℕ) (bytes : List ℕ) → (byte < 128) ⊎ (128 ≤ byte) → Decided (IsAscii bytes)
+    → Decided (IsAscii (byte ∷ bytes))
+ascii_with byte bytes (inl small) (inl rest) = inl (IsAscii-cons byte bytes small rest)
+ascii_with byte bytes (inl small) (inr never) = inr (λ h. never (λ place. h (suc place)))
+ascii_with byte bytes (inr large) _ = inr (λ h. let small = h 0 in absurd (omega arith))
+
+ascii_or : (bytes : List ℕ) → Decided (IsAscii bytes)
+ascii_or [] = inl IsAscii-nil
+ascii_or (byte ∷ bytes) = ascii_with byte bytes (cases_lt byte 128) (ascii_or bytes)
+
+some_first : (bytes : List ℕ) → get_or bytes 0 0 ≡ 61 → 0 < length bytes
+some_first [] is = absurd (omega (arith, is))
+some_first (byte ∷ bytes) is = omega arith
+
+check_or : (content : List ℕ) → Decided (HasCheck content)
+check_or content = judge (ascii_or content) (name_or front) (cases_eq (get_or back 0 0) 61)
+  where
+    front : List ℕ
+    front = take (prefix_len continues_name content) content
+
+    back : List ℕ
+    back = behind is_blank (behind continues_name content)
+
+    judge : Decided (IsAscii content) → Decided (IsName front) → Decided (get_or back 0 0 ≡ 61)
+        → Decided (HasCheck content)
+    judge (inl ascii) (inl name) (inl sign) = inl (record {
+      name = front;
+      text = drop 1 back;
+      is = found_check content ascii name (some_first back sign) sign;
+    })
+    judge (inl ascii) (inl name) (inr never) = inr (no_check-sign content never)
+    judge (inl ascii) (inr never) _ = inr (no_check-name content never)
+    judge (inr never) _ _ = inr (λ has. never has.is.ascii)
+
+something_said : (line : List ℕ)
+    → (is_silent (content_of line) ≡ true) ⊎ (is_silent (content_of line) ≡ false)
+    → Decided (HasCheck (content_of line)) → (said : Said) × Says line said
+something_said line (inl silent) _ = (silence, silent)
+something_said line (inr spoken) (inl has) = (check has.name has.text, (spoken, has.is))
+something_said line (inr spoken) (inr never) = (mistake, (spoken, never))
+
+-- Every line says something.
+says_some : (line : List ℕ) → (said : Said) × Says line said
+says_some line =
+    something_said line (cases_Bool (is_silent (content_of line))) (check_or (content_of line))
+
+-- ---- what becomes of the lines
+
+module _ (number : ℕ) (On : Outcome → SpeltPattern → Type 0)
+    (on : (pattern : SpeltPattern) → (outcome : Outcome) × On outcome pattern) where
+  parsed_some : (text : List ℕ) (parsed : Parsed) → ParsesTo text parsed
+      → (outcome : Outcome) × ParsesOn text number outcome (On outcome)
+  parsed_some text (refused fault) parses = (
+    faulty (Pattern number fault),
+    record { parsed = refused fault; parses = parses; after = refl },
+  )
+  parsed_some text (spelt tree names) parses =
+      let next = on (record { tree = tree; names = names }) in (
+        next.0,
+        record { parsed = spelt tree names; parses = parses; after = next.1 },
+      )
+
+  found_some : (place : Option ℕ) (text : List ℕ)
+      → (outcome : Outcome) × AfterName place text number outcome (On outcome)
+  found_some None text = let made = text_outcome text in parsed_some text made.0 made.1
+  found_some (Some place) text = (faulty (Twice number), refl)
+
+  counted_some : (room : Bool) (place : Option ℕ) (text : List ℕ)
+      → (outcome : Outcome) × AfterCount room place text number outcome (On outcome)
+  counted_some true place text = found_some place text
+  counted_some false place text = (faulty (TooMany number), refl)
+
+follows_some : (said : Said) (names : List (List ℕ)) (patterns : List SpeltPattern) (number : ℕ)
+    (On : Outcome → List (List ℕ) → List SpeltPattern → Type 0)
+    → ((names : List (List ℕ)) (patterns : List SpeltPattern)
+    → (outcome : Outcome) × On outcome names patterns)
+    → (outcome : Outcome) × Follows said names patterns number outcome (On outcome)
+follows_some silence names patterns number On on = on names patterns
+follows_some mistake names patterns number On on = (faulty (BadLine number), refl)
+follows_some (check name text) names patterns number On on =
+    counted_some number
+    (λ outcome pattern. On outcome (names ++ name ∷ []) (patterns ++ pattern ∷ []))
+    (λ pattern. on (names ++ name ∷ []) (patterns ++ pattern ∷ []))
+    (nat_lt (length names) NAMES_MAX) (place_of names name) text
+
+lines_some : (lines : List (List ℕ)) (names : List (List ℕ)) (patterns : List SpeltPattern)
+    (number : ℕ) → (outcome : Outcome) × IsOutcomeFrom names patterns number lines outcome
+unfolding IsOutcomeFrom
+lines_some [] names patterns number = (ended names patterns, refl)
+lines_some (line ∷ lines) names patterns number =
+    let says = says_some line in
+    let next = follows_some says.0 names patterns number
+    (λ outcome names patterns. IsOutcomeFrom names patterns (number + 1) lines outcome)
+    (λ names patterns. lines_some lines names patterns (number + 1)) in
+    (next.0, (says.0, says.1, next.1))
+
+file_some : (large : Bool) (bytes : List ℕ)
+    → (outcome : Outcome) × MatchBool large (outcome ≡ faulty TooLarge)
+    (IsOutcomeFrom [] [] 1 (slice_split is_line_end bytes) outcome)
+file_some true bytes = (faulty TooLarge, refl)
+file_some false bytes = lines_some (slice_split is_line_end bytes) [] [] 1
+
+pub outcome_is : (bytes : List ℕ) → (outcome : Outcome) × IsOutcome bytes outcome
+outcome_is bytes = file_some (nat_lt FILE_MAX (length bytes)) bytes
