@@ -75,7 +75,7 @@ fn within(rt: HostRuntime) -> Result<(), Fail> {
 fn gathered(rt: HostRuntime) -> Result<(), Fail> {
     let table = [
         ([UNIT, EARLY, LATE], [EARLY, LATE]),
-        ([LATE, UNIT, EARLY], [LATE, EARLY]),
+        ([LATE, UNIT, EARLY], [EARLY, LATE]),
         ([EARLY, LATE, LATE], [EARLY, LATE]),
     ];
     for (zones, lines) in &table {
