@@ -18,7 +18,7 @@ overflow_add-time c =
       trace.in_time,
       end_of-take-le 0 c.self.inside.segments.items c.args.place,
       next-in_time _ c.loop-segment.segment-index c.loop-segment.time
-          (end_of 0 (take c.args.place c.args.self.now)) (plain_segment 0 0)
+          (end_of 0 (take c.args.place c.args.self.now.segments)) (plain_segment 0 0)
           c.loop-segment-test.true (omega (arith, c.loop-segment.invariant)),
-      ap (λ segments. end_of 0 (take c.args.place segments)) c.self.view_is,
+      ap (λ trace. end_of 0 (take c.args.place trace.segments)) c.self.view_is,
     )
