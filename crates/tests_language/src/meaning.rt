@@ -2,7 +2,7 @@
 use crate::checker::decide;
 use std::alloc::{AllocError, Global};
 use std::test::Fail;
-use tests_support::{names_of, timeline_of, trace_of};
+use tests_support::{names_of, trace_of, trace_with};
 use tre_parse::parse;
 use tre_state::{Names, State};
 use tre_syntax::{Expr, Pattern};
@@ -106,7 +106,7 @@ const EVENTS: [(&str, Happenings, Stretch, bool); 14] = [
 fn events_have_numbers_of_their_own(rt: HostRuntime) -> Result<(), Fail> {
     for (text, trace, stretch, want) in &EVENTS {
         let pattern = parse(rt.alloc(), *text)?;
-        let trace = timeline_of(rt.alloc(), trace.0, trace.1)?;
+        let trace = trace_with(rt.alloc(), trace.0, trace.1)?;
         let (a, b, n) = *stretch;
         assert!(rt; decide(&pattern, &trace, a, b, n, 1) == *want, "{text} on {stretch:?}");
     }

@@ -4,7 +4,7 @@ use std::test::Fail;
 use tre_state::{Names, is_name};
 use tre_trace::{PushFault, Segment, Trace};
 
-/// The trace of segments, each with its length and its valuation, in which no event happens.
+/// The trace of segments, each with its length and its valuation. No event happens.
 pub fn trace_of(alloc: Global, segments: &[(u64, u64)]) -> Result<Trace, PushFault> {
     let mut trace = Trace::new(alloc);
     for (len, val) in segments {
@@ -13,9 +13,9 @@ pub fn trace_of(alloc: Global, segments: &[(u64, u64)]) -> Result<Trace, PushFau
     Ok(trace)
 }
 
-/// The trace of segments, each with its length, its valuation and the events at its begin, that
-/// ends with these events.
-pub fn timeline_of(
+/// The trace of segments, each with its length, its valuation and the events at its begin, and
+/// with these events at the end.
+pub fn trace_with(
     alloc: Global,
     segments: &[(u64, u64, u64)],
     last: u64,
