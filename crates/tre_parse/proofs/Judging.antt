@@ -4,6 +4,8 @@ use Rattle.std.specs.Prelude.{IsSome, Result, MatchOption, position, nat_lt, min
 use Rattle.std.specs.Option.{option_map}
 use Rattle.std.proofs.lemmas.Bool.Decides.{nat_tests}
 use Rattle.tre_trace.specs.Reading.{Vocabulary}
+use Rattle.tre_syntax.specs.declared.name_kind.NameKind.{NameKind}
+use Rattle.tre_syntax.specs.declared.name_kind.NameKind.TheVariants.{Proposition, Event as EventKind}
 use Rattle.tre_syntax.specs.declared.pattern.TheConstants.{NODES_MAX}
 use Rattle.tre_syntax.specs.declared.pattern.Pattern.{Pattern}
 use Rattle.tre_parse.specs.declared.limits.TheConstants.{TEXT_MAX, COUNT_MAX}
@@ -21,7 +23,7 @@ use Rattle.tre_parse.proofs.Fixpoint.{left}
 use Rattle.tre_parse.proofs.Whole.{read_whole, IsCut, fault_at, spelt_read}
 use Rattle.tre_parse.specs.declared.cursor.Stop.{Stop}
 use Rattle.tre_parse.specs.declared.cursor.Stop.TheVariants.{Syntax as Stuck, Memory as Lacking}
-use Rattle.tre_parse.specs.Tokens.{RawTokenAt, Known, nothing_known, token_of, known_after, tokens_from, offsets_of, raw_tokens_of, earlier, bad_byte}
+use Rattle.tre_parse.specs.Tokens.{RawTokenAt, names_of_kind, Known, nothing_known, token_of, known_after, tokens_from, offsets_of, raw_tokens_of, earlier, bad_byte}
 use Rattle.tre_syntax.specs.Expr.{tree_of}
 use Rattle.tre_syntax.specs.declared.expr.Expr.{Expr}
 use Rattle.tre_parse.specs.Joins.{Keeps}
@@ -158,12 +160,11 @@ large_outcome words operand nodes e w h q same lt =
     (TooLarge (min (node_count w.tree) COUNT_MAX)) else spelt w.tree words.names)) q))
 
 -- What was read is a pattern with these names.
-pub record IsBuildable (names : Vocabulary) (operand : Operand) (tree : PatternTree) : Type 0
-  where
-    pub represents : Represents operand tree
-    pub small : node_count tree ≤ NODES_MAX
-    pub fine : HasFineIntervals tree
-    pub numbered : IsNumbered tree (length names)
+pub record IsBuildable (names : Vocabulary) (operand : Operand) (tree : PatternTree) : Type 0 where
+  pub represents : Represents operand tree
+  pub small : node_count tree ≤ NODES_MAX
+  pub fine : HasFineIntervals tree
+  pub numbered : (kind : NameKind) → IsNumbered kind tree (length (names_of_kind kind names))
 
 -- What is within all limits can be built, and is the pattern.
 pub is_buildable : (words : TextTokens) (operand : Operand) → limit_fault words ≡ None
@@ -177,8 +178,8 @@ is_buildable words operand e w h q le n =
       small = omega (arith, count);
       fine = fine_intervals expr words.tokens w.tree w.spells
           (stand_fine words.tokens (none_big words.tokens (no_big words e)) h);
-      numbered = (counts_alike expr words.tokens w.tree w.spells).alike 0 (length words.names)
-          (n q);
+      numbered = λ kind. (counts_alike expr words.tokens w.tree w.spells).alike kind 0
+          (length (names_of_kind kind words.names)) (n q kind);
     }
 
 pub expr_is : (names : Vocabulary) (operand : Operand) (tree : PatternTree) (kept : Option Expr)
@@ -199,10 +200,13 @@ expr_some names operand tree kept b k le e = no_none operand.tree
 
 pub pattern_some : (names : Vocabulary) (operand : Operand) (tree : PatternTree) (built : Expr)
     → IsBuildable names operand tree → tree_of built ≡ tree →
-    (node_count (tree_of built) ≤ NODES_MAX) × IsNumbered (tree_of built) (length names)
+    (node_count (tree_of built) ≤ NODES_MAX)
+    × IsNumbered Proposition (tree_of built) (length names.names)
+    × IsNumbered EventKind (tree_of built) (length names.events)
 pattern_some names operand tree built b e =
-    let P = λ (t : PatternTree). (node_count t ≤ NODES_MAX) × IsNumbered t (length names) in
-    subst P (sym e) (b.small, b.numbered)
+    let P = λ (t : PatternTree). (node_count t ≤ NODES_MAX)
+    × IsNumbered Proposition t (length names.names) × IsNumbered EventKind t (length names.events) in
+    subst P (sym e) (b.small, b.numbered Proposition, b.numbered EventKind)
 
 pub spelt_outcome : (words : TextTokens) (operand : Operand) (tree : PatternTree)
     (names : Vocabulary) → limit_fault words ≡ None → (w : IsRepresented words operand)
