@@ -193,9 +193,12 @@ edge_program rises =
     expect LeftParen (call (of_state (state_by Or))
     (λ s. expect RightParen (give (edge_of rises s))))
 
+-- What goes on behind the name of an event.
+abbrev pub behind_event : ℕ → Program PatternTree
+behind_event number = expect RightParen (give (atom (event number)))
+
 abbrev pub event_program : Program PatternTree
-event_program =
-    expect LeftParen (part event_of (λ i. expect RightParen (give (atom (event i)))))
+event_program = expect LeftParen (part event_of behind_event)
 
 abbrev pub literal_program : Bool → Program PatternTree
 literal_program begins =
