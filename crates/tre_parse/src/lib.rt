@@ -23,6 +23,7 @@ mod expression;
 mod fault;
 mod formula;
 mod interval;
+mod known;
 pub mod laws;
 mod lexeme;
 mod limits;
