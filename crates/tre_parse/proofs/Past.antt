@@ -14,8 +14,8 @@ use Rattle.tre_state.proofs.Places.{place_of-push, none_len, len_fails}
 use Rattle.tre_trace.specs.Reading.{Vocabulary}
 use Rattle.tre_syntax.specs.declared.name_kind.NameKind.{NameKind}
 use Rattle.tre_syntax.specs.declared.name_kind.NameKind.TheVariants.{Proposition, Event as EventKind}
-use Rattle.tre_parse.specs.declared.known.Before.{Before}
-use Rattle.tre_parse.specs.declared.known.Before.TheVariants.{Other}
+use Rattle.tre_parse.specs.declared.before.Before.{Before}
+use Rattle.tre_parse.specs.declared.before.Before.TheVariants.{Other}
 use Rattle.tre_parse.specs.Tokens.{RawToken, name, sign, RawTokenAt, before_next, kind_behind, names_of_kind, names_with, vocabulary_with, Known, nothing_known, vocabulary_after, known_after, is_past, past_from, raw_tokens_of}
 use Rattle.tre_parse.specs.Past.{before_from, use_of, use_at, uses_from, uses_in, AreNamesOf, UsesFew, IsOneTooMany}
 

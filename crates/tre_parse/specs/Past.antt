@@ -4,8 +4,8 @@ use Rattle.std.specs.List.{Contains}
 use Rattle.tre_state.specs.declared.names.TheConstants.{NAMES_MAX}
 use Rattle.tre_syntax.specs.declared.name_kind.NameKind.{NameKind}
 use Rattle.tre_syntax.specs.declared.name_kind.NameKind.TheVariants.{Proposition, Event}
-use Rattle.tre_parse.specs.declared.known.Before.{Before}
-use Rattle.tre_parse.specs.declared.known.Before.TheVariants.{Other}
+use Rattle.tre_parse.specs.declared.before.Before.{Before}
+use Rattle.tre_parse.specs.declared.before.Before.TheVariants.{Other}
 use Rattle.tre_parse.specs.Tokens.{RawToken, RawTokenAt, name, sign, before_next, kind_behind}
 
 -- What stands before the token behind these.

@@ -8,8 +8,8 @@ use Rattle.tre_syntax.specs.declared.name_kind.NameKind.{NameKind}
 use Rattle.tre_syntax.specs.declared.name_kind.NameKind.TheVariants.{Proposition, Event as EventKind}
 use Rattle.tre_parse.specs.declared.token.Token.{Token}
 use Rattle.tre_parse.specs.declared.token.Token.TheVariants.{Name as Numbered, EventName, LeftParen, Event}
-use Rattle.tre_parse.specs.declared.known.Before.{Before}
-use Rattle.tre_parse.specs.declared.known.Before.TheVariants.{EventWord, EventParen, Other}
+use Rattle.tre_parse.specs.declared.before.Before.{Before}
+use Rattle.tre_parse.specs.declared.before.Before.TheVariants.{EventWord, EventParen, Other}
 use Rattle.tre_parse.specs.declared.lexeme.Lexeme.{Lexeme}
 use Rattle.tre_parse.specs.declared.lexeme.Lexeme.TheVariants.{Blank, Wrong, Name, Sign}
 use Rattle.tre_parse.specs.Lexeme.{lexeme_of}

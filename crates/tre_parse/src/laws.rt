@@ -144,8 +144,8 @@ pub fn depth()
 {}
 
 /// At each name of a text the token has the number at which the list of the names of its kind has
-/// it, `NAMES_MAX` for a name that isn't among them; and where none is past the first `NAMES_MAX` of
-/// its kind, the lists have them by first use from the left.
+/// it, `NAMES_MAX` for a name that isn't among them; and where none is past the first `NAMES_MAX`
+/// of its kind, the lists have them by first use from the left.
 pub fn numbers_of_names()
     ensures number { (text bytes : List ℕ) (front back : List RawTokenAt) (at : ℕ) →
         raw_tokens_of text ≡ front ++ (record { at = at; word = name bytes }) ∷ back →

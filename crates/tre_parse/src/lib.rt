@@ -16,6 +16,7 @@ pub use limits::TEXT_MAX;
 pub use parser::parse;
 pub use token::Token;
 
+mod before;
 mod connective;
 mod counted;
 mod cursor;
@@ -23,7 +24,6 @@ mod expression;
 mod fault;
 mod formula;
 mod interval;
-mod known;
 pub mod laws;
 mod lexeme;
 mod limits;

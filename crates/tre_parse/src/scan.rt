@@ -6,8 +6,8 @@ ghost use Rattle.tre_parse.specs.Outcome.{offset_of};
 ghost use Rattle.tre_parse.specs.Answers.{text_tokens_in};
 ghost use Rattle.tre_parse.specs.Scan.{Puts, IsNumbered, TakesToken, GoesOn, IsBadByte, IsScan};
 
+use crate::before::{Before, numbered};
 use crate::fault::ParseFault;
-use crate::known::{Before, numbered};
 use crate::lexeme::{Lexeme, lexeme_of};
 use crate::token::{Token, TokenAt};
 use std::alloc::{AllocError, Global};
