@@ -6,7 +6,7 @@ use tre_syntax::NameKind;
 
 /// What stands right before a token, as far as it says of which kind a name there is.
 #[derive(Clone, Copy, Debug)]
-pub(crate) enum Before {
+pub enum Before {
     /// `event`
     EventWord,
     /// `event (`

@@ -11,6 +11,7 @@
 //! ```
 #![tactic(auto)]
 
+pub use before::Before;
 pub use fault::ParseFault;
 pub use limits::TEXT_MAX;
 pub use parser::parse;
