@@ -22,7 +22,7 @@
 
 mod all_moments;
 mod edges;
-mod events;
+mod event;
 mod in_piece;
 mod instants;
 mod next_place;
@@ -32,7 +32,7 @@ mod truth_words;
 
 pub use all_moments::moments;
 pub use edges::{falls, rises};
-pub use events::{event_in, events, happens};
+pub use event::{event_in, events, happens};
 pub use in_piece::{fall_in, literal_in, moments_in, rise_in};
 pub use piece::Piece;
 pub use runs::literal;

@@ -6,7 +6,7 @@ use Rattle.tre_zone.specs.ZoneList.{SetHolds}
 use Rattle.tre_edges.specs.Ends.{EndBefore}
 use Rattle.tre_edges.specs.Instants.{AreInstants}
 use Rattle.tre_edges.proofs.EventsOfTraces.{EventsFrom}
-use Rattle.tre_edges.proofs.events.events.Given as goal
+use Rattle.tre_edges.proofs.event.events.Given as goal
 
 -- The zones hold the events before the next segment, which begins at `begin`.
 abbrev pub invariant-loop-segment : goal.invariant-loop-segment

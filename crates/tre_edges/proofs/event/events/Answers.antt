@@ -8,4 +8,4 @@ use Rattle.tre_edges.proofs.EventsOfTraces.{event_at, long_here, long_next, end_
 use Rattle.tre_edges.proofs.InstantLists.{AreInstants-empty}
 use Rattle.tre_edges.proofs.InstantsOfRests.{EventMatches-end}
 use Rattle.tre_edges.proofs.Turns.{exact_closed}
-use Rattle.tre_edges.proofs.events.events.Goals as goal
+use Rattle.tre_edges.proofs.event.events.Goals as goal
