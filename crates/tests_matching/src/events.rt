@@ -23,7 +23,7 @@ const ENDED: Eventful<'static> = &[(2, 1, 0), (1, 0, 1)];
 const REPEATED: &str = "[0,3] [0,3] [0,0]\n[0,0] (0,3] (0,3]\n[1,1] (1,3] (0,2]\n";
 
 /// Of each row: the pattern, the segments, the events at the end, and the zones.
-const ZONES: [(&str, Eventful<'static>, u64, &str); 22] = [
+const ZONES: [(&str, Eventful<'static>, u64, &str); 21] = [
     // At the begin of a segment, and at the last moment.
     ("event(a)", BOTH, 0, "[2,2] [2,2] [0,0]\n"),
     ("event(a)", BOTH, 1, "[2,2] [2,2] [0,0]\n[5,5] [5,5] [0,0]\n"),
@@ -35,7 +35,6 @@ const ZONES: [(&str, Eventful<'static>, u64, &str); 22] = [
     ("event(a);event(b)", BOTH, 3, "[2,2] [2,2] [0,0]\n[5,5] [5,5] [0,0]\n"),
     ("event(a);event(b)", BOTH, 2, "[2,2] [2,2] [0,0]\n"),
     ("event(a);event(a)", BOTH, 1, "[2,2] [2,2] [0,0]\n[5,5] [5,5] [0,0]\n"),
-    ("event(b);event(b)", BOTH, 1, ""),
     // The event closes the run.
     ("p % [2,2];event(a)", LONG, 1, "[1,1] [3,3] [2,2]\n"),
     ("p % [2,2];event(a)", LONG, 0, ""),
