@@ -121,7 +121,8 @@ fn close_repetition(
     match mark {
         Mark::Star { here, body: inner } => {
             let ended = close(alloc, inner, body, time, events)?;
-            joined(ended, here)
+            let here = here.try_clone()?;
+            joined(here, &ended)
         }
         _ => unreachable!(),
     }
