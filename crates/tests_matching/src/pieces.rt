@@ -18,10 +18,7 @@ fn segment(length: Length) -> Segment
     ensures short { result.len ≤ 256 }
 {
     let (len, val) = length;
-    Segment {
-        len: u64::from(len).max(1),
-        val,
-    }
+    Segment::plain(u64::from(len).max(1), val)
 }
 
 /// The first piece of a trace.
