@@ -23,6 +23,8 @@ mod pieces;
 #[cfg(test)]
 mod residuals;
 #[cfg(test)]
+mod session_ends;
+#[cfg(test)]
 mod sessions;
 #[cfg(test)]
 mod steady;
