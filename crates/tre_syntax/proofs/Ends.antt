@@ -1,5 +1,5 @@
 -- Where a trace ends, an expression matches that one moment or nothing.
-use Rattle.std.proofs.Common.{◌≡◌, ℕ, ◌*◌, ◌-◌, ◌<◌, ◌≤◌, ◌↔◌, [], Option, refl, sym, subst, inl, inr, ⊎_elim, arith, mul-pos}
+use Rattle.std.proofs.Common.{◌≡◌, ℕ, ◌*◌, ◌-◌, ◌<◌, ◌↔◌, [], Option, refl, sym, subst, inl, inr, ⊎_elim, arith, mul-pos}
 use Rattle.tre_pairs.specs.Cuts.{IsMoment}
 use Rattle.tre_pairs.proofs.Chains.{Composed-at, Chain-none}
 use Rattle.tre_trace.specs.Trace.{timeline_of}

@@ -7,7 +7,7 @@ use Rattle.tre_state.specs.declared.names.TheConstants.{NAMES_MAX}
 use Rattle.tre_state.specs.StateTree.{StateTree, always, proposition, negation, conjunction, disjunction}
 use Rattle.tre_syntax.specs.declared.name_kind.NameKind.{NameKind}
 use Rattle.tre_syntax.specs.declared.name_kind.NameKind.TheVariants.{Proposition, Event}
-use Rattle.tre_syntax.specs.PatternTree.{PatternTree, Atom, empty, literal, rise, fall, event, atom, sequence, alternation, intersection, repetition, restriction, numbers_of, numbers_of_atom, NumbersBelow, AtomNumbersBelow, seen_after, IsNumbered}
+use Rattle.tre_syntax.specs.PatternTree.{PatternTree, Atom, empty, literal, rise, fall, event, atom, sequence, alternation, intersection, repetition, restriction, numbers_of, numbers_of_atom, NumbersBelow, AtomNumbersBelow, IsNumbered}
 use Rattle.tre_syntax.proofs.FirstUses.{all_seen}
 
 module _ (bound : ℕ) where
