@@ -142,7 +142,7 @@ fn fives(alloc: Global, count: u8) -> Result<Trace, PushFault> {
     let mut trace = Trace::new(alloc);
     for time in 0..count {
         let val = u64::from(is_true(time));
-        trace.push(Segment { len: 1, val })?;
+        trace.push(Segment::plain(1, val))?;
     }
     Ok(trace)
 }
@@ -227,7 +227,7 @@ fn matches_piece(
 ) -> Result<bool, AllocError> {
     let piece = Piece {
         begin: u64::from(begin),
-        segment: Segment { len: 3, val: 1 },
+        segment: Segment::plain(3, 1),
         before,
     };
     are_text(alloc, in_piece(atom, &piece).as_slice(), zone)

@@ -1,6 +1,6 @@
 use Rattle.std.proofs.Common.{arith}
 use Rattle.tre_edges.proofs.InstantLists.{AreInstants-push}
-use Rattle.tre_edges.proofs.edges.add_edge.Goals as goal
+use Rattle.tre_edges.proofs.instants.add_instant.Goals as goal
 
 pub returns-in_ok-push_disjoint-clause-instants : goal.returns-in_ok-push_disjoint-clause-instants
 returns-in_ok-push_disjoint-clause-instants c =
