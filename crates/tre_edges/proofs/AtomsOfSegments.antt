@@ -53,7 +53,7 @@ event_of_segment number begin before segment found is a b n =
     let law = EventMatches-segment number 0 begin before segment [] found is a b n in
     let none : IsTrue false ↔ (bit_at 0 number ≡ 1) = (
       (λ h. let wrong : false ≡ true = h in absurd cc),
-      (λ h. omega (arith, h, bit_at-zero number)),
+      (λ h. absurd (omega (arith, h, bit_at-zero number))),
     ) in (
       λ h. law.1 (inl h),
       λ h. ⊎_elim (λ x. x)

@@ -13,11 +13,7 @@ use tre_zone::Zone;
 use tre_zoneset::ZoneSet;
 
 /// Adds the instant, where something was found there.
-pub(crate) fn add_instant(
-    zones: &mut ZoneSet,
-    instant: u64,
-    found: bool,
-) -> Result<(), AllocError>
+pub(crate) fn add_instant(zones: &mut ZoneSet, instant: u64, found: bool) -> Result<(), AllocError>
     requires instants { AreInstants 0 zones.old }
     requires ended { EndBefore instant zones.old }
     requires limit { instant ≤ TIME_MAX }
