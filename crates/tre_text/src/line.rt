@@ -1,5 +1,5 @@
 // What one line of a text trace says.
-ghost use Rattle.std.specs.Prelude.{◌≡◌, ℕ, ◌+◌, ◌≤◌, List, true, false, length, ◌<◌, IfNone, IfSome};
+ghost use Rattle.std.specs.Prelude.{◌≡◌, ℕ, ◌+◌, ◌≤◌, List, ◌∷◌, true, false, IfNone, IfSome};
 ghost use Rattle.std.specs.List.{list_all};
 ghost use Rattle.tre_decimal.specs.Decimal.{is_numeral};
 ghost use Rattle.tre_text.specs.TextReading.{begins_comment, begins_events, fields_among, spells_word, with_name, valuation_after, fields_say, line_says};
@@ -58,8 +58,11 @@ fn is_events(first: &[u8]) -> bool
 fn read_events(events: &Names, known: Known, first: &[u8], fields: &[u8]) -> Found
     requires no_comment { begins_comment first.now ≡ false }
     requires no_numeral { is_numeral first.now ≡ false }
-    ensures { (names : List (List ℕ)) → Finds (fields_say (record { names = names; events =
-        events.now }) known (first.now ∷ fields_among fields.now)) known result }
+    ensures { (names : List (List ℕ)) → Finds (fields_say (record {
+      names = names;
+      events =
+          events.now;
+    }) known (first.now ∷ fields_among fields.now)) known result }
 {
     if !is_events(first) {
         return Found::Wrong(TraceKind::BadNumber);
