@@ -11,6 +11,6 @@ use Rattle.tre_zone.specs.declared.zone_bounds.ZoneBounds.{ZoneBounds}
 -- denominator, exactly where that stretch of the trace is in the meaning of the expression.
 pub record IsMatchSet (zones : List ZoneBounds) (tree : PatternTree) (trace : Timeline) : Type 0
   where
-  pub apart : IsApart zones
-  pub tight : AreTight zones
-  pub exact : HoldExactly zones (Matches tree trace)
+    pub apart : IsApart zones
+    pub tight : AreTight zones
+    pub exact : HoldExactly zones (Matches tree trace)

@@ -13,7 +13,8 @@ ghost use Rattle.tre_edges.specs.Piece.{rest_of_piece};
 
 use std::alloc::{AllocError, Global};
 use tre_edges::{
-    Piece, event_in, events, fall_in, falls, literal, literal_in, moments, moments_in, rise_in, rises,
+    Piece, event_in, events, fall_in, falls, literal, literal_in, moments, moments_in, rise_in,
+    rises,
 };
 use tre_state::{NAMES_MAX, State};
 use tre_trace::Trace;
