@@ -2,7 +2,7 @@ use Rattle.std.proofs.Common.{◌≡◌, Bool, sym, ap, ◌∙◌, arith, bit_an
 use Rattle.std.specs.Int.{bit_at}
 use Rattle.std.specs.Int.Bits.{bit_or, bit_xor}
 use Rattle.std.proofs.lemmas.Nat.Bits.{bit_at_or, bit_at_and, bit_at_xor, bit_at-lt}
-use Rattle.tre_vcd.proofs.signal.with_value.Goals as goal
+use Rattle.tre_vcd.proofs.variable.with_value.Goals as goal
 
 pub returns-then-value-clause-kept : goal.returns-then-value-clause-kept
 returns-then-value-clause-kept c = λ k clear.

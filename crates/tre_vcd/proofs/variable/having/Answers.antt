@@ -3,7 +3,7 @@ use Rattle.std.specs.Int.{bit_at}
 use Rattle.std.proofs.lemmas.Bool.{cases_eq}
 use Rattle.std.proofs.lemmas.Nat.Bits.{bit_at-zero}
 use Rattle.tre_vcd.specs.Kept.{identifier_at}
-use Rattle.tre_vcd.proofs.signal.having.Goals as goal
+use Rattle.tre_vcd.proofs.variable.having.Goals as goal
 
 pub returns-clause-sound : goal.returns-clause-sound
 returns-clause-sound c = λ k set.
@@ -27,7 +27,7 @@ loop-left-preserved c =
       ];
       sound = λ k set seen. elim (cases_eq k number) [
         | inl same ↦
-            subst (λ n. identifier_at c.args.signals.now n ≡ Some c.args.identifier.now) (sym same)
+            subst (λ n. identifier_at c.args.variables.now n ≡ Some c.args.identifier.now) (sym same)
             (test.this.0 (ap (bit_at c.tested-having.result) (sym same) ∙ set))
         | inr other ↦
             before.sound k ((test.others k other).0 set) (λ one. seen (rest.kept k other one))
@@ -36,7 +36,7 @@ loop-left-preserved c =
         | inl same ↦
             ap (bit_at c.tested-having.result) same
             ∙ test.this.1
-            (subst (λ n. identifier_at c.args.signals.now n ≡ Some c.args.identifier.now) same has)
+            (subst (λ n. identifier_at c.args.variables.now n ≡ Some c.args.identifier.now) same has)
         | inr other ↦ (test.others k other).1 (before.whole k numbered has)
       ];
     }

@@ -8,18 +8,18 @@ ghost use Rattle.tre_vcd.specs.Kept.{identifier_kept, has_identifier, identifier
 use std::alloc::{AllocError, Global};
 use tre_state::{lowest, without};
 
-// The identifier of one proposition, once it is declared.
+// The identifier of one name, once it is declared.
 #[derive(Drop)]
-pub struct Signal {
+pub struct Variable {
     pub identifier: Option<Vec<u8>>,
 }
 
-impl Signal {
+impl Variable {
     // It isn't declared yet.
-    pub fn new() -> Signal
+    pub fn new() -> Variable
         ensures { result ≡ record { identifier = None } }
     {
-        Signal { identifier: None }
+        Variable { identifier: None }
     }
 
     // It is declared with this identifier. The first declaration counts.
@@ -44,44 +44,44 @@ impl Signal {
     }
 }
 
-// Whether the signal of this number has this identifier.
-fn has_identifier_at(signals: &[Signal], number: u8, identifier: &[u8]) -> bool
-    ensures { (result ≡ true) ↔ (identifier_at signals.now number ≡ Some identifier.now) }
+// Whether the variable of this number has this identifier.
+fn has_identifier_at(variables: &[Variable], number: u8, identifier: &[u8]) -> bool
+    ensures { (result ≡ true) ↔ (identifier_at variables.now number ≡ Some identifier.now) }
 {
     let place = usize::from(number);
-    if place >= signals.len() {
+    if place >= variables.len() {
         return false;
     }
-    signals[place].has_identifier(identifier)
+    variables[place].has_identifier(identifier)
 }
 
-// The bits without this one, unless the signal of this number has this identifier.
-fn tested(bits: u64, number: u8, signals: &[Signal], identifier: &[u8]) -> u64
+// The bits without this one, unless the variable of this number has this identifier.
+fn tested(bits: u64, number: u8, variables: &[Variable], identifier: &[u8]) -> u64
     requires within { number < 64 }
     requires set { bit_at bits number ≡ 1 }
     ensures others { (k : ℕ) → k ≢ number → (bit_at result k ≡ 1) ↔ (bit_at bits k ≡ 1) }
     ensures this { (bit_at result number ≡ 1)
-        ↔ (identifier_at signals.now number ≡ Some identifier.now) }
+        ↔ (identifier_at variables.now number ≡ Some identifier.now) }
 {
-    if has_identifier_at(signals, number, identifier) {
+    if has_identifier_at(variables, number, identifier) {
         return bits;
     }
     without(bits, number)
 }
 
-// Which signals of these numbers have this identifier: bit k stands for number k.
+// Which variables of these numbers have this identifier: bit k stands for number k.
 #[inline(always)]
-pub fn having(signals: &[Signal], numbers: u64, identifier: &[u8]) -> u64
+pub fn having(variables: &[Variable], numbers: u64, identifier: &[u8]) -> u64
     ensures sound { (k : ℕ) → bit_at result k ≡ 1 →
-        identifier_at signals.now k ≡ Some identifier.now }
+        identifier_at variables.now k ≡ Some identifier.now }
     ensures whole { (k : ℕ) → bit_at numbers k ≡ 1 →
-        identifier_at signals.now k ≡ Some identifier.now → bit_at result k ≡ 1 }
+        identifier_at variables.now k ≡ Some identifier.now → bit_at result k ≡ 1 }
 {
     let mut left = numbers;
     let mut having = numbers;
     while left != 0 {
         let number = lowest(left);
-        having = tested(having, number, signals, identifier);
+        having = tested(having, number, variables, identifier);
         left = without(left, number);
     }
     having
@@ -100,9 +100,11 @@ pub fn with_value(values: u64, bits: u64, value: bool) -> u64
     values ^ (values & bits)
 }
 
-// Whether each of the signals is declared.
-pub fn are_declared(signals: &[Signal]) -> bool
-    ensures { result ≡ list_all (λ signal. is_some signal.identifier) signals.now }
+// Whether each of the variables is declared.
+pub fn are_declared(variables: &[Variable]) -> bool
+    ensures { result ≡ list_all (λ variable. is_some variable.identifier) variables.now }
 {
-    signals.iter().all(|signal| signal.identifier.is_some())
+    variables
+        .iter()
+        .all(|variable| variable.identifier.is_some())
 }

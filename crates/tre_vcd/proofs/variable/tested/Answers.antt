@@ -1,5 +1,5 @@
 use Rattle.std.proofs.Common.{arith}
-use Rattle.tre_vcd.proofs.signal.tested.Goals as goal
+use Rattle.tre_vcd.proofs.variable.tested.Goals as goal
 
 pub returns-then-has_identifier_at-clause-this : goal.returns-then-has_identifier_at-clause-this
 returns-then-has_identifier_at-clause-this c =
