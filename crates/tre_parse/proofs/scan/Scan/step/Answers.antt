@@ -62,7 +62,7 @@ returns-in_ok-put_name-in-Name-clause-ok c =
       within = omega (arith, c.in-Name.ensures.fits, whole, size);
     })
 
-pub returns-in_ok-put_sign-in-Sign-clause-ok : goal.returns-in_ok-put-in-Sign-clause-ok
+pub returns-in_ok-put_sign-in-Sign-clause-ok : goal.returns-in_ok-put_sign-in-Sign-clause-ok
 returns-in_ok-put_sign-in-Sign-clause-ok c =
     let bytes = c.as_bytes.result.now in let at = c.args.at in let len = c.in-Sign.len in
     let same = c.as_bytes.ensures.value in
