@@ -1,14 +1,13 @@
-use Rattle.std.proofs.Common.{◌≡◌, ℕ, Ok, None, List, ◌∷◌, refl, sym, ◌∙◌, ap}
+use Rattle.std.proofs.Common.{◌≡◌, ℕ, Ok, List, ◌∷◌, refl, sym, ◌∙◌, ap}
 use Rattle.std.proofs.lemmas.Result.{err_from_is_err_and}
 use Rattle.tre_syntax.specs.PatternTree.{event, atom}
 use Rattle.tre_parse.specs.declared.token.Token.{Token}
 use Rattle.tre_parse.specs.declared.token.Token.TheVariants.{LeftParen, RightParen, Event}
-use Rattle.tre_parse.specs.Reader.{give, expect, part, event_of, behind_event, event_program, unsigned, run, read, read_pattern}
+use Rattle.tre_parse.specs.Reader.{give, part, event_of, behind_event, unsigned, run, read, read_pattern}
 use Rattle.tre_parse.specs.Reading.{IsPart}
 use Rattle.tre_parse.proofs.Counts.{leaf_counts}
 use Rattle.tre_parse.proofs.Equations.{passed, unpassed, part_said, part_unsaid, event_read}
-use Rattle.tre_parse.proofs.Steps.{goes_past, one_shorter, goes_here, stops_here}
-use Rattle.tre_parse.proofs.Unkept.{up_to_past, up_to_end}
+use Rattle.tre_parse.proofs.Steps.{goes_past, goes_here, stops_here}
 use Rattle.tre_parse.proofs.expression.event.Goals as goal
 
 opened : (old us ts : List Token) → old ≡ Event ∷ us → us ≡ LeftParen ∷ ts
