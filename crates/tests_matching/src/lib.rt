@@ -11,6 +11,8 @@ mod atoms;
 #[cfg(test)]
 mod derivatives;
 #[cfg(test)]
+mod events;
+#[cfg(test)]
 mod given;
 #[cfg(test)]
 mod long_traces;

@@ -17,6 +17,7 @@ use Rattle.tre_zone.proofs.ZoneListLemmas.{SetHolds-empty}
 use Rattle.tre_syntax.specs.AtTheEnd.{MatchesAtEnd}
 use Rattle.tre_syntax.specs.Meaning.{MatchesRest}
 use Rattle.tre_syntax.specs.PatternTree.{PatternTree}
+use Rattle.tre_syntax.proofs.Ends.{matches_at_end}
 use Rattle.tre_mark.specs.MarkTree.{MarkTree}
 use Rattle.tre_mark.specs.Marked.{Marked}
 use Rattle.tre_residual.specs.Residual.{ResidualTree, nothing, here, joined, preceded, followed, either, both, lasting, marked, Means, IsWellAt, IsComposition}
@@ -78,7 +79,7 @@ module _ (time events : ℕ) where
     close_joined begun ends = record {
       tells = λ before. record {
         exact = λ a b n some le.
-            let law = at_the_end time events before tree in
+            let law = matches_at_end time before events tree in
             let kept = held.exact a b n some le in
             let ending = ends.exact a b n some le in (
               (λ h.
@@ -113,7 +114,7 @@ module _ (time events : ℕ) where
       tells = λ before. record {
         exact = λ a b n some le.
             let rest = end_at time events before in
-            let law = at_the_end time events before tree in
+            let law = matches_at_end time before events tree in
             let kept = held.exact a b n some le in
             let one = (closes.tells before).exact a b n some le in (
               (λ h.
