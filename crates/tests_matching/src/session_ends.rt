@@ -136,6 +136,16 @@ fn told_with_the_end_are_the_matches(rt: HostRuntime) -> Result<(), Fail> {
                 "{text} {events}"
             );
             assert!(rt; tells_matches(rt.alloc(), *text, STEADY, events)?, "{text} {events}");
+        }
+    }
+    Ok(())
+}
+
+// Where no segment came and no event happens, a session has told nothing, also of an empty match.
+#[test]
+fn told_with_the_end_alone_are_the_matches(rt: HostRuntime) -> Result<(), Fail> {
+    for text in &PATTERNS {
+        for events in 1..4 {
             assert!(rt; tells_matches(rt.alloc(), *text, &[], events)?, "{text} {events}");
         }
     }

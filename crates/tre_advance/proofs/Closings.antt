@@ -17,7 +17,7 @@ use Rattle.tre_syntax.specs.Meaning.{MatchesRest}
 use Rattle.tre_syntax.specs.PatternTree.{Atom, PatternTree, empty, literal, rise, fall, event, atom, sequence, alternation, intersection, repetition, restriction}
 use Rattle.tre_syntax.specs.Rest.{Rest, rest_of}
 use Rattle.tre_syntax.proofs.CutMeaning.{Scales-rest}
-use Rattle.tre_syntax.proofs.Ends.{at_the_end}
+use Rattle.tre_syntax.proofs.Ends.{matches_at_end}
 use Rattle.tre_mark.specs.MarkTree.{MarkTree, atom_mark, sequence_mark, alternation_mark, repetition_mark, intersection_none, intersection_one, restriction_none, restriction_one}
 use Rattle.tre_mark.specs.Marked.{GoesOn, Marked, IsBegun, IsWellAt}
 use Rattle.tre_mark.proofs.Agreeing.{agree_refl, agree_sym, agree_then, agree_composed, agree_either, joined_composed}
@@ -51,11 +51,11 @@ module _ (time : ℕ) (before : Option ℕ) (events : ℕ) where
         (λ h.
             let at = ends.ends a b n some h in
             Composed-at (Held zones) (MatchesRest tree E) a b b n h
-            ((at_the_end tree time before events b b n some).1
+            ((matches_at_end time before events tree b b n some).1
             (record { begin = at; end = at }, matches))),
         (λ h.
             let k = h.factor in
-            let moment = ((at_the_end tree time before events h.midpoint (k * b) (k * n)
+            let moment = ((matches_at_end time before events tree h.midpoint (k * b) (k * n)
             (mul-pos h.positive some)).0 h.right).0 in
             (Scales-Held zones).down k a b n h.positive
             (moved (Held zones) refl (moment.begin ∙ sym moment.end) refl h.left)),
@@ -66,7 +66,7 @@ module _ (time : ℕ) (before : Option ℕ) (events : ℕ) where
     pub missed_at_end : (MatchesAtEnd events tree → ⊥) → (a b n : ℕ) → 0 < n
         → Composed (Held zones) (MatchesRest tree E) a b n → ⊥
     missed_at_end misses a b n some h =
-        misses ((at_the_end tree time before events h.midpoint (h.factor * b) (h.factor * n)
+        misses ((matches_at_end time before events tree h.midpoint (h.factor * b) (h.factor * n)
         (mul-pos h.positive some)).0 h.right).1
 
   -- Of an atom, what has begun ends there too.
@@ -90,7 +90,7 @@ module _ (time : ℕ) (before : Option ℕ) (events : ℕ) where
             right = inl (record { begin = refl; end = at });
           }),
       (λ h. ⊎_elim (λ x. moved (Held begun) refl (sym x.end) refl h.left)
-          (λ x. absurd ((at_the_end (atom (literal state)) time before events (time * n) b n
+          (λ x. absurd ((matches_at_end time before events (atom (literal state)) (time * n) b n
           some).0 x).1) h.right),
     );
   }

@@ -17,7 +17,7 @@ use Rattle.tre_syntax.specs.PatternTree.{PatternTree, empty, repetition}
 use Rattle.tre_syntax.specs.Rest.{Rest, AtomMatches}
 use Rattle.tre_syntax.proofs.Atoms.{Scales-Atom, IsInstant-Empty, end_of-le}
 use Rattle.tre_syntax.proofs.CutMeaning.{Scales-rest, IsOrdered-rest, crossing_repetition}
-use Rattle.tre_trace.specs.Trace.{Timeline, AreLong}
+use Rattle.tre_trace.specs.Trace.{Timeline, quiet, AreLong}
 use Rattle.tre_zone.specs.Zone.{IsInstantBetween, EndsAt}
 use Rattle.tre_zone.specs.declared.zone_bounds.ZoneBounds.{ZoneBounds}
 use Rattle.tre_edges.specs.declared.piece.Piece.{Piece}
@@ -427,7 +427,7 @@ module _ (piece : Piece) (here : List ZoneBounds) (body : MarkTree) (tree : Patt
   repetition_inner told ended told' here' body' body'' whole kept f e =
       let T' = end_of_piece piece in
       record {
-        tells = agree_then whole (agree_sym (marked_repetition []));
+        tells = agree_then whole (agree_sym (marked_repetition (quiet [])));
         leaves = λ can next long.
             let W = over piece next in
             agree_then (leaves_repetition piece here [] body tree ends none_enters told here'

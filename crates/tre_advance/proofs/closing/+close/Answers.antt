@@ -1,9 +1,11 @@
 -- Each form tells what its parts tell.
-use Rattle.std.proofs.Common.{◌≡◌, ◌∙◌, ap, sym, subst}
+use Rattle.std.proofs.Common.{◌≡◌, ◌∙◌, List, ap, sym, subst}
 use Rattle.std.proofs.lemmas.Result.{IfOk-weaker}
 use Rattle.tre_syntax.specs.Expr.{tree_of}
 use Rattle.tre_syntax.specs.PatternTree.{sequence, alternation, intersection, repetition, restriction}
+use Rattle.tre_pairs.specs.Pairs.{Either}
 use Rattle.tre_zone.specs.Held.{Held, IsSetOf}
+use Rattle.tre_zone.specs.declared.zone_bounds.ZoneBounds.{ZoneBounds}
 use Rattle.tre_mark.specs.MarkTree.{MarkTree, mark_of, sequence_mark, alternation_mark, repetition_mark, intersection_none, intersection_one, restriction_none, restriction_one}
 use Rattle.tre_mark.specs.Marked.{IsWellAt}
 use Rattle.tre_advance.proofs.Closings.{closes_sequence, closes_alternation, closes_repetition, closes_intersection, closes_restriction, closes_no_intersection, closes_no_restriction, closes_moved}
@@ -33,8 +35,8 @@ close_sequence-returns t c =
     (λ told union. closes_moved time events (sequence_mark one other) (mark_of c.args.mark.now)
     (sequence left right) told shape
     (closes_sequence time events one other left right c.in_ok-first-in-Seq.first
-    c.in_ok-second-in-Seq.second c.up_to_end.result told c.in_ok-first-in-Seq.ensures
-    c.in_ok-second-in-Seq.ensures c.up_to_end.ensures union))
+    c.in_ok-second-in-Seq.second c.up_to_end-ended.result told c.in_ok-first-in-Seq.ensures
+    c.in_ok-second-in-Seq.ensures c.up_to_end-ended.ensures union))
     c.joined.ensures
 
 -- ---- an alternation
@@ -87,7 +89,9 @@ close_repetition-returns t c =
     (λ told union. closes_moved time events (repetition_mark here body)
     (mark_of c.args.mark.now) (repetition tree) told shape
     (closes_repetition time events here ended told body tree well.well.0
-    c.in_ok-ended-in-Star.ensures union))
+    c.in_ok-ended-in-Star.ensures
+    (subst (λ (list : List ZoneBounds). IsSetOf told (Either (Held list) (Held ended)))
+    c.in_ok-here-in-Star.ensures union)))
     c.joined.ensures
 
 -- ---- an intersection
