@@ -92,6 +92,6 @@ impl Variables {
             AreHaving self.now.list.items identifier.now result }
     {
         let numbers = self.sieve.numbers(identifier);
-        having(&self.list, numbers & (!numbers).wrapping_add(1), identifier)
+        having(&self.list, numbers, identifier)
     }
 }
