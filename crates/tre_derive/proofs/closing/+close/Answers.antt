@@ -121,8 +121,8 @@ returns-in-Mark t c =
     let expr = tree_of c.in-Mark.expr in
     let tree : residual_tree c.args.residual.now ≡ marked mark expr =
     rw c.deref-in-Mark.ensures (ap residual_tree c.in-Mark.is) in
-    IfOk-weaker c.close.result _ _
+    IfOk-weaker c.close-in-Mark.result _ _
     (λ told closes.
     subst (λ (whole : ResidualTree). ClosesTo whole time events told) (sym tree)
     (close_marked time events mark expr told closes.tells))
-    c.close.ensures
+    c.close-in-Mark.ensures
