@@ -12,7 +12,7 @@ use Rattle.tre_generate.specs.FixedPattern.{fixed_tree, fixed_names}
 use Rattle.tre_generate.specs.Summary.{IsSummary}
 use Rattle.tre_tool.specs.Job.{GivesJob, GivesNoJob, is_made_run, made_count}
 use Rattle.tre_show.specs.PatternText.{expression_text}
-use Rattle.tre_trace.specs.Reading.{Reading}
+use Rattle.tre_trace.specs.Reading.{Reading, Vocabulary}
 use Rattle.tre_tool.specs.Devices.{InputTold, OutputTold, AllReadsGood, AllWritesGood, NothingWritten, NothingDone, OfAllBytes}
 use Rattle.tre_tool.specs.Input.{MayGoOn}
 use Rattle.tre_tool.specs.Online.{AllBlocksStand, BlocksSoFarStand, FirstBlocksStand, BlockIsCut, IsOnlineAnswer, EndIsCut}
@@ -27,10 +27,10 @@ use Rattle.tre_tool.specs.declared.status.Status.TheVariants.{Done, Usage, Expre
 pub record Request : Type 0 where
   pub job : Job
   pub tree : PatternTree
-  pub names : List (List ℕ)
+  pub names : Vocabulary
 
 -- the request for this job and this pattern
-abbrev pub request_for : Job → PatternTree → List (List ℕ) → Request
+abbrev pub request_for : Job → PatternTree → Vocabulary → Request
 request_for job tree names = record { job = job; tree = tree; names = names }
 
 -- What becomes of the text of a job in this mode: a made run has a pattern of its own, whatever the

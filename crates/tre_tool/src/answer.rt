@@ -2,11 +2,12 @@
 ghost use Rattle.std.specs.Prelude.{◌≡◌, ℕ, ◌≤◌, ◌+◌, ◌++◌, [], codes, false, IsTrue, IsErrOf, IfOk, IfErr, IfSome, Some, string_bytes};
 ghost use Rattle.tre_show.specs.PatternText.{expression_text};
 ghost use Rattle.tre_syntax.specs.Pattern.{pattern_tree, names_of};
-ghost use Rattle.tre_tool.specs.Answer.{status_of, EndsOver, IsReadAs, IsFoundFor, StopsAs};
+ghost use Rattle.tre_tool.specs.Answer.{status_of, EndsOver, IsFoundFor, StopsAs};
 ghost use Rattle.tre_tool.specs.Devices.{input_told, output_told};
 ghost use Rattle.tre_tool.specs.Feeding.{IsWhole, StopsReading};
 ghost use Rattle.tre_tool.specs.Job.{IsCount};
 ghost use Rattle.tre_tool.specs.Input.{TakesAtMost};
+ghost use Rattle.tre_tool.specs.Outcome.{reading_in};
 ghost use Rattle.tre_tool.specs.Run.{ReadsInput, request_for};
 ghost use Rattle.tre_tool.specs.declared.job.TheConstants.{LIMIT_MAX};
 
@@ -35,14 +36,14 @@ fn read_trace<S: Source, R: TraceReader>(
 ) -> Result<Trace, Status>
     requires closed { S.opened input.old ≡ false }
     requires fresh { R.represents reader.old [] }
-    requires nothing { (R.reading (R.names reader.old) false []).segments ≡ [] }
+    requires nothing { (R.reading (R.terms reader.old) false []).segments ≡ [] }
     requires fits { limit ≤ LIMIT_MAX }
     ensures by_name { IsTrue (S.opened input.new) →
         IfSome (S.file_name input.old) (λ told. told ≡ name.now) }
-    ensures read { IfOk result (IsWhole (R.reading (R.names reader.old)) limit
+    ensures read { IfOk result (IsWhole (R.reading (R.terms reader.old)) limit
         (input_told S.file_name S.file S.sound S.opened S.left S.found S.faults input.old
         input.new)) }
-    ensures stops { IfErr result (StopsReading (R.reading (R.names reader.old)) limit name.now
+    ensures stops { IfErr result (StopsReading (R.reading (R.terms reader.old)) limit name.now
         (input_told S.file_name S.file S.sound S.opened S.left S.found S.faults input.old
         input.new)) }
     ensures bounded { IsTrue (S.opened input.new) →
@@ -55,59 +56,25 @@ fn read_trace<S: Source, R: TraceReader>(
             break;
         }
     }
-    let trace = Trace::of_segments(alloc, segments)?;
+    let mut trace = Trace::of_segments(alloc, segments)?;
+    trace.set_last(feed.last());
     Ok(trace)
 }
 
-// The trace that the job's input is.
-fn read_input<S: Source>(
-    alloc: Global,
-    pattern: &Pattern,
-    job: &Job,
-    input: &mut S,
-) -> Result<Trace, Status>
-    requires closed { S.opened input.old ≡ false }
-    requires fits { job.now.max_bytes ≤ LIMIT_MAX }
-    requires offline { job.now.mode ≡ Mode.Offline }
-    ensures read { IfOk result (IsReadAs
-        (request_for job.now (pattern_tree pattern.now) (names_of pattern.now))
-        (input_told S.file_name S.file S.sound S.opened S.left S.found S.faults input.old
-        input.new)) }
-    ensures stops { IfErr result (StopsAs
-        (request_for job.now (pattern_tree pattern.now) (names_of pattern.now))
-        (input_told S.file_name S.file S.sound S.opened S.left S.found S.faults input.old
-        input.new)) }
-    ensures bounded { IsTrue (S.opened input.new) →
-        TakesAtMost (job.now.max_bytes + 1) (S.file input.old) (S.left input.new) }
-    ensures by_name { IsTrue (S.opened input.new) →
-        IfSome (S.file_name input.old) (λ told. told ≡ job.now.input) }
-{
-    let names = pattern.names().try_clone()?;
-    let limit = job.max_bytes as usize;
-    match job.format {
-        Format::Text => {
-            let mut reader = TextReader::new(alloc, names);
-            let trace = read_trace(alloc, job.input.text(), limit, &mut reader, input)?;
-            Ok(trace)
-        }
-        Format::Vcd => {
-            let mut reader = VcdReader::new(alloc, names);
-            let trace = read_trace(alloc, job.input.text(), limit, &mut reader, input)?;
-            Ok(trace)
-        }
-    }
-}
-
 // The text of all matches of the pattern over the job's input.
-fn matches_text<S: Source>(
+fn matches_text<S: Source, R: TraceReader>(
     alloc: Global,
     pattern: &Pattern,
     job: &Job,
+    reader: &mut R,
     input: &mut S,
 ) -> Result<String, Status>
     requires closed { S.opened input.old ≡ false }
     requires fits { job.now.max_bytes ≤ LIMIT_MAX }
     requires offline { job.now.mode ≡ Mode.Offline }
+    requires fresh { R.represents reader.old [] }
+    requires same { R.reading (R.terms reader.old)
+        ≡ reading_in job.now.format (names_of pattern.now) }
     ensures found { IfOk result (λ text. IsFoundFor
         (request_for job.now (pattern_tree pattern.now) (names_of pattern.now))
         (input_told S.file_name S.file S.sound S.opened S.left S.found S.faults input.old input.new)
@@ -121,7 +88,7 @@ fn matches_text<S: Source>(
     ensures by_name { IsTrue (S.opened input.new) →
         IfSome (S.file_name input.old) (λ told. told ≡ job.now.input) }
 {
-    let trace = read_input(alloc, pattern, job, input)?;
+    let trace = read_trace(alloc, job.input.text(), job.max_bytes as usize, reader, input)?;
     let end = trace.end();
     let set = matches(alloc, pattern, &trace)?;
     // The text needs the memory that the trace took.
@@ -129,6 +96,77 @@ fn matches_text<S: Source>(
     let zones = in_printed_order(set.into_zones());
     let text = offline_text(alloc, &zones, end)?;
     Ok(text)
+}
+
+// Writes what answers a job of which the reader reads the input.
+fn answer_by<S: Source, R: TraceReader, O: Sink>(
+    alloc: Global,
+    pattern: Pattern,
+    job: &Job,
+    reader: &mut R,
+    input: &mut S,
+    out: &mut O,
+) -> Result<(), Status>
+    requires closed { S.opened input.old ≡ false }
+    requires fits { job.now.max_bytes ≤ LIMIT_MAX }
+    requires reads { ReadsInput job.now.mode }
+    requires fresh { R.represents reader.old [] }
+    requires same { R.reading (R.terms reader.old)
+        ≡ reading_in job.now.format (names_of pattern) }
+    ensures ends { EndsOver (request_for job.now (pattern_tree pattern) (names_of pattern))
+        (input_told S.file_name S.file S.sound S.opened S.left S.found S.faults input.old input.new)
+        (output_told O.written O.faults out.old out.new) (status_of result) }
+    ensures bounded { IsTrue (S.opened input.new) →
+        TakesAtMost (job.now.max_bytes + 1) (S.file input.old) (S.left input.new) }
+    ensures by_name { IsTrue (S.opened input.new) →
+        IfSome (S.file_name input.old) (λ told. told ≡ job.now.input) }
+{
+    match job.mode {
+        Mode::Online => {
+            tell_matches(alloc, pattern, job, reader, input, out)?;
+            Ok(())
+        }
+        _ => {
+            let text = matches_text(alloc, &pattern, job, reader, input)?;
+            write_text(text.as_str(), out)?;
+            Ok(())
+        }
+    }
+}
+
+// Writes what answers a job that reads its input, by the reader of its format.
+fn answer_input<S: Source, O: Sink>(
+    alloc: Global,
+    pattern: Pattern,
+    job: &Job,
+    input: &mut S,
+    out: &mut O,
+) -> Result<(), Status>
+    requires closed { S.opened input.old ≡ false }
+    requires fits { job.now.max_bytes ≤ LIMIT_MAX }
+    requires reads { ReadsInput job.now.mode }
+    ensures ends { EndsOver (request_for job.now (pattern_tree pattern) (names_of pattern))
+        (input_told S.file_name S.file S.sound S.opened S.left S.found S.faults input.old input.new)
+        (output_told O.written O.faults out.old out.new) (status_of result) }
+    ensures bounded { IsTrue (S.opened input.new) →
+        TakesAtMost (job.now.max_bytes + 1) (S.file input.old) (S.left input.new) }
+    ensures by_name { IsTrue (S.opened input.new) →
+        IfSome (S.file_name input.old) (λ told. told ≡ job.now.input) }
+{
+    let names = pattern.names().try_clone()?;
+    let events = pattern.events().try_clone()?;
+    match job.format {
+        Format::Text => {
+            let mut reader = TextReader::new(alloc, names, events);
+            answer_by(alloc, pattern, job, &mut reader, input, out)?;
+            Ok(())
+        }
+        Format::Vcd => {
+            let mut reader = VcdReader::new(alloc, names, events);
+            answer_by(alloc, pattern, job, &mut reader, input, out)?;
+            Ok(())
+        }
+    }
 }
 
 // The text of the pattern, and a line end.
@@ -162,15 +200,6 @@ pub fn answer<S: Source, O: Sink>(
     ensures untouched { (ReadsInput job.now.mode → ⊥) → input.new ≡ input.old }
 {
     match job.mode {
-        Mode::Offline => {
-            let text = matches_text(alloc, &pattern, job, input)?;
-            write_text(text.as_str(), out)?;
-            Ok(())
-        }
-        Mode::Online => {
-            tell_matches(alloc, pattern, job, input, out)?;
-            Ok(())
-        }
         Mode::Show => {
             let text = shown_text(alloc, &pattern)?;
             write_text(text.as_str(), out)?;
@@ -179,6 +208,10 @@ pub fn answer<S: Source, O: Sink>(
         Mode::Generate { count } => {
             let text = summary(alloc, pattern, count)?;
             write_text(text.as_str(), out)?;
+            Ok(())
+        }
+        _ => {
+            answer_input(alloc, pattern, job, input, out)?;
             Ok(())
         }
     }

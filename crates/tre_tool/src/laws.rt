@@ -1,7 +1,7 @@
 //! Laws of the words of a command line, and of the text that is told as the input comes, each as a
 //! function whose contract it is.
 
-ghost use Rattle.std.specs.Prelude.{◌≡◌, ℕ, Bool, List, [], ◌∷◌, codes, map};
+ghost use Rattle.std.specs.Prelude.{◌≡◌, ℕ, List, [], ◌∷◌, Option, codes, map};
 ghost use Rattle.tre_tool.specs.Job.{GivesJob, HaveNoFault, plain_job};
 ghost use Rattle.tre_tool.specs.Run.{Request, AsksFor};
 ghost use Rattle.tre_tool.specs.Transcript.{AreBlocksOf, online_text};
@@ -30,15 +30,22 @@ pub fn typed_words()
         (codes "--online" ∷ codes "--online" ∷ codes "p" ∷ []) }
 {}
 
-/// A text that is told as the input comes is that of one list of blocks, of segments of one list of
-/// lengths. What was true on the segments it doesn't tell.
+/// A text that is told as the input comes is that of one list of blocks and of what closes them, of
+/// segments of one list of lengths. What was true on the segments it doesn't tell, nor which events
+/// happened.
 pub fn one_online_text()
-    ensures blocks { (blocks others : List (List ZoneBounds)) (trace other : List Segment)
-        (closed ended : Bool) → AreBlocksOf blocks trace → AreBlocksOf others other →
-        online_text blocks trace closed ≡ online_text others other ended → blocks ≡ others }
-    ensures lengths { (blocks others : List (List ZoneBounds)) (trace other : List Segment)
-        (closed ended : Bool) → AreBlocksOf blocks trace → AreBlocksOf others other →
-        online_text blocks trace closed ≡ online_text others other ended →
+    ensures blocks { (blocks others : List (List ZoneBounds))
+        (closing ending : Option (List ZoneBounds)) (trace other : List Segment) →
+        AreBlocksOf blocks closing trace → AreBlocksOf others ending other →
+        online_text blocks closing trace ≡ online_text others ending other → blocks ≡ others }
+    ensures closings { (blocks others : List (List ZoneBounds))
+        (closing ending : Option (List ZoneBounds)) (trace other : List Segment) →
+        AreBlocksOf blocks closing trace → AreBlocksOf others ending other →
+        online_text blocks closing trace ≡ online_text others ending other → closing ≡ ending }
+    ensures lengths { (blocks others : List (List ZoneBounds))
+        (closing ending : Option (List ZoneBounds)) (trace other : List Segment) →
+        AreBlocksOf blocks closing trace → AreBlocksOf others ending other →
+        online_text blocks closing trace ≡ online_text others ending other →
         map (λ segment. segment.len) trace ≡ map (λ segment. segment.len) other }
 {
     one_front();
