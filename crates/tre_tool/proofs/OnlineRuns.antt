@@ -1,12 +1,15 @@
 -- The end of a run in the mode that tells as the input comes.
-use Rattle.std.proofs.Common.{◌≡◌}
+use Rattle.std.proofs.Common.{◌≡◌, false}
 use Rattle.tre_tool.specs.Answer.{EndsOver}
-use Rattle.tre_tool.specs.Devices.{InputTold, OutputTold}
-use Rattle.tre_tool.specs.Run.{Request, reading_for}
+use Rattle.tre_tool.specs.Devices.{InputTold, OutputTold, AllReadsGood, NothingWritten}
+use Rattle.tre_tool.specs.Run.{Request, reading_for, StandsAtMemory}
 use Rattle.tre_tool.specs.Telling.{EndsTelling}
-use Rattle.tre_tool.specs.declared.job.Mode.TheVariants.{Online}
+use Rattle.tre_tool.specs.declared.job.Mode.{Mode}
+use Rattle.tre_tool.specs.declared.job.Mode.TheVariants.{Offline, Online, Show, Generate}
 use Rattle.tre_tool.specs.declared.status.Status.{Status}
 use Rattle.tre_tool.specs.declared.status.Status.TheVariants.{Done, Usage, Expression, Trace, InputTooLong, ReadFault, WriteFault, Memory}
+use Rattle.tre_tool.proofs.Readings.{reading_in-nothing, reading_in-faultless}
+use Rattle.tre_tool.proofs.Tellings.{EndsTelling-unopened}
 
 -- the telling of the input is the run over the request
 pub EndsOver-telling : (request : Request) (input : InputTold) (output : OutputTold)
@@ -48,3 +51,24 @@ EndsOver-telling request input output WriteFault online ends = record {
 EndsOver-telling request input output Memory online ends = (ends.reads, rw online ends.stands)
 EndsOver-telling request input output Usage online ends = absurd ends
 EndsOver-telling request input output (Expression fault) online ends = absurd ends
+
+unopened_in : (mode : Mode) (request : Request) (input : InputTold) (output : OutputTold)
+    → input.opened ≡ false → AllReadsGood input → NothingWritten output
+    → StandsAtMemory mode request input output
+unopened_in Offline request input output closed reads unwritten = unwritten
+unopened_in Online request input output closed reads unwritten =
+    (EndsTelling-unopened (reading_for request) request.job.max_bytes request.tree
+    request.job.input input output (reading_in-nothing request.job.format request.names)
+    (reading_in-faultless request.job.format request.names) closed reads unwritten.unwritten
+    unwritten.writes).stands
+unopened_in Show request input output closed reads unwritten = unwritten
+unopened_in (Generate count) request input output closed reads unwritten = unwritten
+
+-- memory was wanting before the input was opened
+pub EndsOver-unopened : (request : Request) (input : InputTold) (output : OutputTold)
+    → input.opened ≡ false → AllReadsGood input → NothingWritten output
+    → EndsOver request input output Memory
+EndsOver-unopened request input output closed reads unwritten = (
+  reads,
+  unopened_in request.job.mode request input output closed reads unwritten,
+)

@@ -9,6 +9,7 @@ use Rattle.tre_parse.specs.declared.fault.ParseFault.{ParseFault}
 use Rattle.tre_parse.specs.declared.fault.ParseFault.TheVariants.{TooLong, BadByte, Number, TooDeep, Syntax, EmptyInterval, TooManyNames, TooLarge, Memory as ParseMemory}
 use Rattle.tre_parse.proofs.Outcomes.{outcome_once}
 use Rattle.tre_syntax.specs.PatternTree.{PatternTree}
+use Rattle.tre_trace.specs.Reading.{Vocabulary}
 use Rattle.tre_tool.specs.Job.{GivesWhere, GivesJob, GivesNoJob, is_made_run}
 use Rattle.tre_tool.specs.Outcome.{Outcome, completes, refuses, exceeds}
 use Rattle.tre_tool.specs.Answer.{EndsOver, StopsAs, IsFoundFor}
@@ -374,7 +375,7 @@ IsLineTold-of output line (Err fault) cause all part = inr (cause.failed, part)
 
 -- what words ask for, from what the pattern of a job says
 pub AsksFor-of : (words : List (List ℕ)) (job : Job) (tree : PatternTree)
-    (names : List (List ℕ)) → GivesJob words job
+    (names : Vocabulary) → GivesJob words job
     → IsOutcomeIn job.mode job.expr (spelt tree names) → AsksFor words
     (record { job = job; tree = tree; names = names })
 AsksFor-of words job tree names gives spells = record { gives = gives; spells = spells }

@@ -3,17 +3,16 @@ use Rattle.std.proofs.Common.{◌≡◌, ◌≢◌, ◌⊎◌, ◌↔◌, ℕ, L
 use Rattle.tre_trace.specs.declared.fault.TraceFault.{TraceFault}
 use Rattle.tre_trace.specs.declared.fault.TraceKind.{TraceKind}
 use Rattle.tre_trace.specs.declared.fault.TraceKind.TheVariants.{LineTooLong, BadNumber, Zero, TooLate, BadName, BadToken, UnknownName, TimeBack, CutShort, Spent, Memory as KindMemory}
-use Rattle.tre_trace.specs.Trace.{end_of}
-use Rattle.tre_trace.specs.declared.segment.Segment.{Segment}
+use Rattle.tre_trace.specs.Trace.{Timeline, end_of}
 use Rattle.tre_offline.specs.MatchSet.{IsMatchSet}
 use Rattle.tre_show.specs.Line.{offline_text}
 use Rattle.tre_show.specs.Order.{IsRising}
 use Rattle.tre_zone.specs.ZoneList.{SetHolds, IsApart, AreTight}
 use Rattle.tre_zone.specs.declared.zone_bounds.ZoneBounds.{ZoneBounds}
-use Rattle.tre_tool.specs.Answer.{StopsAs, IsReadAs, IsFoundFor}
+use Rattle.tre_tool.specs.Answer.{StopsAs, IsFoundFor}
 use Rattle.tre_tool.specs.Feeding.{StopsReading, IsWhole}
 use Rattle.tre_tool.specs.Devices.{InputTold, OutputTold, NothingWritten, OfAllBytes}
-use Rattle.tre_tool.specs.Run.{Request, reading_for, IsAnswerTo, IsAnswerIn, StandsAtFault, StandsAtFailedRead, StandsAtMemory}
+use Rattle.tre_tool.specs.Run.{Request, reading_for, IsAnswerTo, IsAnswerIn, StandsAtFault, StandsAtFailedRead, StandsAtMemory, ReadsInput}
 use Rattle.tre_tool.specs.Status.{trace_status}
 use Rattle.tre_tool.specs.declared.job.Mode.{Mode}
 use Rattle.tre_tool.specs.declared.job.Mode.TheVariants.{Offline, Online, Show, Generate}
@@ -82,19 +81,6 @@ StopsAs-reading request input Usage offline stops = absurd stops
 StopsAs-reading request input (Expression fault) offline stops = absurd stops
 StopsAs-reading request input WriteFault offline stops = absurd stops
 
--- the input was read as a trace
-pub IsReadAs-whole : (request : Request) (input : InputTold) (trace : List Segment)
-    → IsWhole (reading_for request) request.job.max_bytes input trace
-    → IsReadAs request input trace
-IsReadAs-whole request input trace whole = record {
-  reads = whole.reads;
-  bytes = whole.bytes;
-  all = whole.all;
-  within = whole.within;
-  reads_as = whole.reads_as;
-  is_trace = whole.is_trace;
-}
-
 -- the text of an answer over a trace that was read
 found_in : (mode : Mode) (request : Request) (input : InputTold) (text : List ℕ) → mode ≡ Offline
     → OfAllBytes input (λ bytes. IsAnswerTo request bytes text) → IsAnswerIn mode request input text
@@ -103,11 +89,13 @@ found_in Online request input text is right = cc
 found_in Show request input text is right = cc
 found_in (Generate count) request input text is right = cc
 
-pub IsFoundFor-read : (request : Request) (input : InputTold) (trace : List Segment)
+pub IsFoundFor-read : (request : Request) (input : InputTold) (trace : Timeline)
     (set zones : List ZoneBounds) (text : List ℕ) → request.job.mode ≡ Offline
-    → IsReadAs request input trace → IsMatchSet set request.tree trace
+    → IsWhole (reading_for request) request.job.max_bytes input trace
+    → IsMatchSet set request.tree trace
     → ((a b n : ℕ) → SetHolds zones a b n ↔ SetHolds set a b n) → IsApart zones → AreTight zones
-    → IsRising zones → text ≡ offline_text zones (end_of 0 trace) → IsFoundFor request input text
+    → IsRising zones → text ≡ offline_text zones (end_of 0 trace.segments)
+    → IsFoundFor request input text
 IsFoundFor-read request input trace set zones text offline read matches held apart tight rising
     printed = record {
       reads = read.reads;
@@ -135,6 +123,21 @@ IsFoundFor-read request input trace set zones text offline read matches held apa
         };
       });
     }
+
+-- a mode that reads an input and isn't online is offline
+pub is_offline : (mode : Mode) → ReadsInput mode → (mode ≡ Online → ⊥) → mode ≡ Offline
+is_offline Offline reads other = refl
+is_offline Online reads other = absurd (other refl)
+is_offline Show reads other = absurd reads
+is_offline (Generate count) reads other = absurd reads
+
+-- a mode that isn't one of the other two reads an input
+pub reads_input : (mode : Mode) → (mode ≡ Show → ⊥)
+    → ((count : ℕ) → mode ≡ Generate count → ⊥) → ReadsInput mode
+reads_input Offline shown made = tt
+reads_input Online shown made = tt
+reads_input Show shown made = absurd (shown refl)
+reads_input (Generate count) shown made = absurd (made count refl)
 
 -- memory was wanting, or the kind is told
 pub kinds : (kind : TraceKind) (fault : TraceFault)

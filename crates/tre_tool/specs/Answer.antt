@@ -1,8 +1,6 @@
--- What the parts of a run promise each other: the end of a run over a request, and what was read.
-use Rattle.std.specs.Prelude.{ℕ, ◌≤◌, List, length, Result, Ok, Err}
-use Rattle.tre_trace.specs.Trace.{Timeline, IsTrace}
-use Rattle.tre_tool.specs.Outcome.{Reads}
-use Rattle.tre_tool.specs.Devices.{InputTold, OutputTold, AllReadsGood, NothingWritten, AreAllBytes}
+-- What the parts of a run promise each other: the end of a run over a request.
+use Rattle.std.specs.Prelude.{ℕ, List, Result, Ok, Err}
+use Rattle.tre_tool.specs.Devices.{InputTold, OutputTold, AllReadsGood, NothingWritten}
 use Rattle.tre_tool.specs.Run.{Request, StandsAtMemory, IsAnswerIn, EndsDone, EndsTrace, EndsTooLong, EndsReadFault, EndsWriteFault}
 use Rattle.tre_tool.specs.declared.status.Status.{Status}
 use Rattle.tre_tool.specs.declared.status.Status.TheVariants.{Done, Usage, Expression, Trace, InputTooLong, ReadFault, WriteFault, Memory}
@@ -28,15 +26,6 @@ EndsOver request input output Memory =
 abbrev pub StopsAs : Request → InputTold → Status → Type 0
 StopsAs request input status =
     (output : OutputTold) → NothingWritten output → EndsOver request input output status
-
--- The whole input was read, and it is this trace.
-pub record IsReadAs (request : Request) (input : InputTold) (trace : Timeline) : Type 0 where
-  pub reads : AllReadsGood input
-  pub bytes : List ℕ
-  pub all : AreAllBytes input bytes
-  pub within : length bytes ≤ request.job.max_bytes
-  pub reads_as : Reads request.job.format request.names bytes trace
-  pub is_trace : IsTrace trace.segments
 
 -- The text is the answer to the request, and nothing of the input is left.
 pub record IsFoundFor (request : Request) (input : InputTold) (text : List ℕ) : Type 0 where

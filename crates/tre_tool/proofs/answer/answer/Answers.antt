@@ -4,47 +4,10 @@ use Rattle.tre_syntax.specs.Pattern.{pattern_tree, names_of}
 use Rattle.tre_tool.specs.Devices.{input_told, output_told}
 use Rattle.tre_tool.specs.Run.{request_for}
 use Rattle.tre_tool.specs.declared.job.Mode.TheVariants.{Online}
-use Rattle.tre_tool.specs.declared.status.Status.TheVariants.{Done, Memory}
-use Rattle.tre_tool.proofs.OnlineRuns.{EndsOver-telling}
+use Rattle.tre_tool.specs.declared.status.Status.TheVariants.{Memory}
 use Rattle.tre_tool.proofs.Promise.{EndsOver-stopped, EndsOver-cut, EndsOver-done}
-use Rattle.tre_tool.proofs.Stops.{StopsAs-memory}
+use Rattle.tre_tool.proofs.Stops.{StopsAs-memory, reads_input}
 use Rattle.tre_tool.proofs.answer.answer.Goals as goal
-
-pub returns-in_err-text-in-Offline-clause-ends : goal.returns-in_err-text-in-Offline-clause-ends
-returns-in_err-text-in-Offline-clause-ends g c =
-    let p = err_from_is_err_and c.from_residual.result c.from_residual.ensures.1 in
-    rw (p.1, p.2) (EndsOver-stopped _ _ _ _ c.in_err-text-in-Offline.ensures.stops
-    (record { unwritten = refl; writes = refl }))
-
-pub returns-in_err-write_text-in-Offline-clause-ends :
-    goal.returns-in_err-write_text-in-Offline-clause-ends
-returns-in_err-write_text-in-Offline-clause-ends g c =
-    let p = err_from_is_err_and c.from_residual-in_err-write_text-in-Offline.result
-    c.from_residual-in_err-write_text-in-Offline.ensures.1 in
-    rw (p.1, p.2, c.in_err-write_text-in-Offline.ensures.status)
-    (EndsOver-cut _ _ _ _ (λ online. cc) c.in_ok-text-in-Offline.ensures.found
-    c.in_err-write_text-in-Offline.ensures.cause (rw c.as_str.ensures.value at
-    c.in_err-write_text-in-Offline.ensures.part))
-
-pub returns-in_ok-write_text-in-Offline-clause-ends :
-    goal.returns-in_ok-write_text-in-Offline-clause-ends
-returns-in_ok-write_text-in-Offline-clause-ends g c =
-    EndsOver-done _ _ _ _ c.in_ok-text-in-Offline.ensures.found
-    c.in_ok-write_text-in-Offline.ensures.good
-    (rw c.as_str.ensures.value at c.in_ok-write_text-in-Offline.ensures.all)
-
-pub returns-in_err-tell_matches-in-Online-clause-ends :
-    goal.returns-in_err-tell_matches-in-Online-clause-ends
-returns-in_err-tell_matches-in-Online-clause-ends g c =
-    let p = err_from_is_err_and c.from_residual-in_err-tell_matches-in-Online.result
-    c.from_residual-in_err-tell_matches-in-Online.ensures.1 in
-    rw (p.1, p.2) (EndsOver-telling _ _ _ c.in_err-tell_matches-in-Online.field-0.0 c.in-Online.is
-    c.in_err-tell_matches-in-Online.ensures.ends)
-
-pub returns-in_ok-tell_matches-in-Online-clause-ends :
-    goal.returns-in_ok-tell_matches-in-Online-clause-ends
-returns-in_ok-tell_matches-in-Online-clause-ends g c =
-    EndsOver-telling _ _ _ Done c.in-Online.is c.in_ok-tell_matches-in-Online.ensures.ends
 
 pub returns-in_err-text-in-Show-clause-ends : goal.returns-in_err-text-in-Show-clause-ends
 returns-in_err-text-in-Show-clause-ends g c =

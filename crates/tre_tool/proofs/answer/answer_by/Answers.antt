@@ -1,0 +1,54 @@
+use Rattle.std.proofs.Common.{refl}
+use Rattle.std.proofs.lemmas.Result.{err_from_is_err_and}
+use Rattle.tre_syntax.specs.Pattern.{pattern_tree, names_of}
+use Rattle.tre_tool.specs.Run.{request_for}
+use Rattle.tre_tool.specs.declared.status.Status.TheVariants.{Done}
+use Rattle.tre_tool.proofs.OnlineRuns.{EndsOver-telling}
+use Rattle.tre_tool.proofs.Promise.{EndsOver-stopped, EndsOver-cut, EndsOver-done}
+use Rattle.tre_tool.proofs.Readings.{reading_in-nothing}
+use Rattle.tre_tool.proofs.Stops.{is_offline}
+use Rattle.tre_tool.proofs.answer.answer_by.Goals as goal
+
+pub tell_matches-requires-clause-nothing : goal.tell_matches-requires-clause-nothing
+tell_matches-requires-clause-nothing g c =
+    rw c.requires.same (reading_in-nothing c.args.job.now.format (names_of c.args.pattern))
+
+pub returns-in_err-tell_matches-clause-ends : goal.returns-in_err-tell_matches-clause-ends
+returns-in_err-tell_matches-clause-ends g c =
+    let p = err_from_is_err_and c.from_residual.result c.from_residual.ensures.1 in
+    let request = request_for c.args.job.now (pattern_tree c.args.pattern)
+    (names_of c.args.pattern) in
+    rw (p.1, p.2) (EndsOver-telling request _ _ c.in_err-tell_matches.field-0.0 c.in-Online.is
+    (rw c.requires.same at c.in_err-tell_matches.ensures.ends))
+
+pub returns-in-Online-clause-ends : goal.returns-in-Online-clause-ends
+returns-in-Online-clause-ends g c =
+    let request = request_for c.args.job.now (pattern_tree c.args.pattern)
+    (names_of c.args.pattern) in
+    EndsOver-telling request _ _ Done c.in-Online.is
+    (rw c.requires.same at c.in_ok-tell_matches.ensures.ends)
+
+pub matches_text-requires-clause-offline : goal.matches_text-requires-clause-offline
+matches_text-requires-clause-offline g c =
+    is_offline c.args.job.now.mode c.requires.reads c.in_default.not-Online
+
+pub returns-in_err-text-clause-ends : goal.returns-in_err-text-clause-ends
+returns-in_err-text-clause-ends g c =
+    let p = err_from_is_err_and c.from_residual-in_err-text.result
+    c.from_residual-in_err-text.ensures.1 in
+    rw (p.1, p.2) (EndsOver-stopped _ _ _ _ c.in_err-text.ensures.stops
+    (record { unwritten = refl; writes = refl }))
+
+pub returns-in_err-write_text-clause-ends : goal.returns-in_err-write_text-clause-ends
+returns-in_err-write_text-clause-ends g c =
+    let p = err_from_is_err_and c.from_residual-in_err-write_text.result
+    c.from_residual-in_err-write_text.ensures.1 in
+    rw (p.1, p.2, c.in_err-write_text.ensures.status)
+    (EndsOver-cut _ _ _ _ c.in_default.not-Online c.in_ok-text.ensures.found
+    c.in_err-write_text.ensures.cause (rw c.as_str.ensures.value at
+    c.in_err-write_text.ensures.part))
+
+pub returns-clause-ends : goal.returns-clause-ends
+returns-clause-ends g c =
+    EndsOver-done _ _ _ _ c.in_ok-text.ensures.found c.in_ok-write_text.ensures.good
+    (rw c.as_str.ensures.value at c.in_ok-write_text.ensures.all)
