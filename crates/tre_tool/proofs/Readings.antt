@@ -7,7 +7,7 @@ use Rattle.tre_text.specs.TextReading.{text_reading}
 use Rattle.tre_trace.specs.Reading.{Reading, Vocabulary}
 use Rattle.tre_trace.specs.Trace.{IsTrace, timeline_of}
 use Rattle.tre_trace.specs.declared.segment.Segment.{Segment}
-use Rattle.tre_vcd.specs.VcdReading.{vcd_reading}
+use Rattle.tre_vcd.specs.VcdReading.{terms_of, vcd_reading}
 use Rattle.tre_tool.specs.Feeding.{IsFed, HasRead, HasFailed, GoesOn, IsEnded, IsWhole, StopsTurn, StopsReading, EndsTurn}
 use Rattle.tre_tool.specs.Devices.{InputTold, WereRead, AllReadsGood, AreAllBytes}
 use Rattle.tre_tool.specs.Input.{TakesAtMost, MayGoOn, HasReadCause}
@@ -24,7 +24,8 @@ pub text_reading-nothing : (names : Vocabulary) → (text_reading names false []
 unfolding reading_from
 text_reading-nothing names = refl
 
-pub vcd_reading-nothing : (names : Vocabulary) → (vcd_reading names false []).segments ≡ []
+pub vcd_reading-nothing : (names : Vocabulary)
+    → (vcd_reading (terms_of names) false []).segments ≡ []
 unfolding reading_from
 vcd_reading-nothing names = refl
 
@@ -228,7 +229,8 @@ pub text_reading-faultless : (names : Vocabulary) → (text_reading names false 
 unfolding reading_from
 text_reading-faultless names = refl
 
-pub vcd_reading-faultless : (names : Vocabulary) → (vcd_reading names false []).fault ≡ None
+pub vcd_reading-faultless : (names : Vocabulary)
+    → (vcd_reading (terms_of names) false []).fault ≡ None
 unfolding reading_from
 vcd_reading-faultless names = refl
 

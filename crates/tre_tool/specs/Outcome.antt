@@ -7,7 +7,7 @@ use Rattle.tre_trace.specs.Trace.{Timeline, timeline_of, end_of, IsTrace}
 use Rattle.tre_trace.specs.declared.fault.TraceFault.{TraceFault}
 use Rattle.tre_trace.specs.declared.fault.TraceKind.{TraceKind}
 use Rattle.tre_trace.specs.declared.fault.TraceKind.TheVariants.{Spent, Memory}
-use Rattle.tre_vcd.specs.VcdReading.{vcd_reading}
+use Rattle.tre_vcd.specs.VcdReading.{terms_of, vcd_reading}
 use Rattle.tre_zone.specs.declared.zone_bounds.ZoneBounds.{ZoneBounds}
 use Rattle.tre_syntax.specs.PatternTree.{PatternTree}
 use Rattle.tre_show.specs.Line.{offline_text}
@@ -19,7 +19,7 @@ use Rattle.tre_tool.specs.declared.job.Format.TheVariants.{Text, Vcd}
 -- What bytes in a format say of a trace, for the propositions and events of these names.
 abbrev pub reading_in : Format → Vocabulary → Bool → List ℕ → Reading
 reading_in Text names closed bytes = text_reading names closed bytes
-reading_in Vcd names closed bytes = vcd_reading names closed bytes
+reading_in Vcd names closed bytes = vcd_reading (terms_of names) closed bytes
 
 -- The reading is this trace, and has no fault.
 abbrev pub IsReadingOf : Timeline → Reading → Type 0

@@ -22,7 +22,7 @@ use tre_io::{Sink, Source};
 use tre_offline::matches;
 use tre_show::{in_printed_order, offline_text, pattern_text};
 use tre_syntax::Pattern;
-use tre_text::TextReader;
+use tre_text::{LineReader, TextReader};
 use tre_trace::{Trace, TraceReader};
 use tre_vcd::VcdReader;
 
@@ -157,7 +157,7 @@ fn answer_input<S: Source, O: Sink>(
     let events = pattern.events().try_clone()?;
     match job.format {
         Format::Text => {
-            let mut reader = TextReader::new(alloc, names, events);
+            let mut reader = TextReader::new(alloc, LineReader::new(names, events));
             answer_by(alloc, pattern, job, &mut reader, input, out)?;
             Ok(())
         }
