@@ -8,7 +8,7 @@ use Rattle.tre_parse.specs.declared.fault.ParseFault.TheVariants.{Memory as Pars
 use Rattle.tre_trace.specs.declared.fault.TraceFault.{TraceFault}
 use Rattle.tre_syntax.specs.PatternTree.{PatternTree}
 use Rattle.tre_parse.specs.Outcome.{Outcome as ParseOutcome, IsOutcome, spelt, refused}
-use Rattle.tre_generate.specs.FixedPattern.{fixed_tree, fixed_names}
+use Rattle.tre_generate.specs.FixedPattern.{fixed_tree, fixed_vocabulary}
 use Rattle.tre_generate.specs.Summary.{IsSummary}
 use Rattle.tre_tool.specs.Job.{GivesJob, GivesNoJob, is_made_run, made_count}
 use Rattle.tre_show.specs.PatternText.{expression_text}
@@ -39,7 +39,7 @@ abbrev pub IsOutcomeIn : Mode → List ℕ → ParseOutcome → Type 0
 IsOutcomeIn Offline text outcome = IsOutcome text outcome
 IsOutcomeIn Online text outcome = IsOutcome text outcome
 IsOutcomeIn Show text outcome = IsOutcome text outcome
-IsOutcomeIn (Generate count) text outcome = outcome ≡ spelt fixed_tree fixed_names
+IsOutcomeIn (Generate count) text outcome = outcome ≡ spelt fixed_tree fixed_vocabulary
 
 -- The words give this job, and its text spells this pattern within the limits, or it is the pattern
 -- of a made run.

@@ -84,8 +84,9 @@ fn ending(ended: Result<(), Status>) -> Status
 
 /// Matches the pattern in the words over the input that they name, writes the zones of all matches
 /// to `out`, and tells `err` how the run ended. With `--online` it writes a block of zones for each
-/// segment as soon as that is complete, and with `--show` the pattern's text instead. With
-/// `--generate` as the first word it reads no input, and writes the summary of a made trace.
+/// segment as soon as that is complete, and at the end those that events there complete; with
+/// `--show` the pattern's text instead. With `--generate` as the first word it reads no input, and
+/// writes the summary of a made trace.
 ///
 /// The words are those after the program's name. What `ends` says of bytes holds where the source
 /// and the sinks tell their bytes; what it says of counts holds for every source and sink. A count
