@@ -1,5 +1,5 @@
 // What one line of a text trace says.
-ghost use Rattle.std.specs.Prelude.{◌≡◌, ℕ, ◌+◌, ◌≤◌, List, true, false, length, ◌<◌, IfNone, IfSome};
+ghost use Rattle.std.specs.Prelude.{◌≡◌, ℕ, ◌+◌, ◌≤◌, List, ◌∷◌, true, false, IfNone, IfSome};
 ghost use Rattle.std.specs.List.{list_all};
 ghost use Rattle.tre_decimal.specs.Decimal.{is_numeral};
 ghost use Rattle.tre_text.specs.TextReading.{begins_comment, begins_events, fields_among, spells_word, with_name, valuation_after, fields_say, line_says};
