@@ -13,12 +13,12 @@ use Rattle.tre_tool.specs.Answer.{request_for}
 use Rattle.tre_tool.specs.Blocks.{Account, AreAccounts, AreClosed, blocks_from, blocks_text, ending_text}
 use Rattle.tre_tool.specs.Devices.{InputTold, OutputTold, AllWritesGood, OfAllBytes}
 use Rattle.tre_tool.specs.Feeding.{IsDecided}
-use Rattle.tre_tool.specs.Online.{BlocksWritten, AreKnown, IsCutBehind, FirstBlocksStand as FirstAlone, BlockIsCut as BlockAlone, BlocksSoFarStand as SoFarAlone, AllBlocksStand as AllAlone, IsOnlineAnswer as AnswerAlone, AnswerIsCut as CutAlone, EndIsCut as EndAlone}
-use Rattle.tre_tool.specs.Outcome.{Outcome, ComesTo, IsReadingOf}
+use Rattle.tre_tool.specs.Online.{BlocksWritten, AreKnown, FirstBlocksStand as FirstAlone, BlockIsCut as BlockAlone, BlocksSoFarStand as SoFarAlone, AllBlocksStand as AllAlone, IsOnlineAnswer as AnswerAlone, AnswerIsCut as CutAlone, EndIsCut as EndAlone}
+use Rattle.tre_tool.specs.Outcome.{Outcome, ComesTo, IsReadingOf, reading_in}
 use Rattle.tre_tool.specs.Readings.{reading_for, readings_of, readings_within, AreTraces, InputComesTo}
-use Rattle.tre_tool.specs.Request.{Sought, Request}
+use Rattle.tre_tool.specs.Request.{alone, all_names}
 use Rattle.tre_tool.specs.Run.{ReadsInput, way_of, IsAnswerIn, StandsSoFar, EndsAtInput}
-use Rattle.tre_tool.specs.Standing.{BlocksStand, AllStand, BlocksSoFarStand, IsPrompt, FirstBlocksStand, BlockIsCut, IsOnlineAnswer, AnswerIsCut, EndIsCut}
+use Rattle.tre_tool.specs.Standing.{IsCutBehind, BlocksStand, AllStand, BlocksSoFarStand, IsPrompt, FirstBlocksStand, BlockIsCut, IsOnlineAnswer, AnswerIsCut, EndIsCut}
 use Rattle.tre_tool.specs.Transcript.{block_text, block_texts, online_text, IsTranscript, IsClosing}
 use Rattle.tre_tool.specs.declared.job.Job.{Job}
 use Rattle.tre_tool.specs.declared.job.Mode.{Mode}
@@ -132,6 +132,22 @@ weaker : {X : Type 0} {P Q : X → Type 0} (o : Option X) → ((x : X) → P x �
     → IfSome o Q
 weaker None f h = tt
 weaker (Some x) f h = f x h
+
+abbrev vocabulary_of : List (List ℕ) → List (List ℕ) → Vocabulary
+vocabulary_of names events = record { names = names; events = events }
+
+-- the names of one pattern are its own
+all_names-alone : (tree : PatternTree) (names : Vocabulary)
+    → all_names (alone tree names) ≡ names
+all_names-alone tree names =
+    ap (λ all. vocabulary_of all (names.events ++ [])) (append-nil names.names)
+    ∙ ap (vocabulary_of names.names) (append-nil names.events)
+
+-- so its reading is that for them
+pub reading_for-alone : (job : Job) (tree : PatternTree) (names : Vocabulary)
+    → reading_in job.format names names ≡ reading_for (request_for job tree names)
+reading_for-alone job tree names =
+    ap (λ all. reading_in job.format all names) (sym (all_names-alone tree names))
 
 module _ (job : Job) (tree : PatternTree) (names : Vocabulary) where
   BlocksStand-alone : (reading : Reading) (count : ℕ) (segments : List Segment)

@@ -4,7 +4,7 @@ use Rattle.std.specs.Prelude.{option_map, nat_lt, nat_le}
 use Rattle.std.specs.Str.Parse.{digits_value}
 use Rattle.std.proofs.lemmas.Bool.Decides.{nat_tests}
 use Rattle.clap.specs.Words.{matches_of}
-use Rattle.tre_generate.specs.FixedPattern.{fixed_tree, fixed_names}
+use Rattle.tre_generate.specs.FixedPattern.{fixed_tree, fixed_vocabulary}
 use Rattle.tre_generate.specs.Summary.{IsSummary}
 use Rattle.tre_generate.specs.declared.made_run.TheConstants.{SEGMENTS_MAX}
 use Rattle.tre_tool.specs.Devices.{InputTold, OutputTold}
@@ -110,11 +110,11 @@ module _ (words : List (List ℕ)) (count : ℕ) (asks : AsksForMadeRun words co
       let here : IsAnswerIn (Generate count) request input text =
       subst (λ (mode : Mode). IsAnswerIn mode request input text)
       (mode_given request.job asked.gives) right in
-      let one : request.patterns ≡ alone fixed_tree fixed_names =
+      let one : request.patterns ≡ alone fixed_tree fixed_vocabulary =
       subst (λ (mode : Mode). ArePatterns mode request.job request.patterns)
       (mode_given request.job asked.gives) asked.patterns in
       let all = subst (All (λ pattern. IsSummary pattern.tree count text)) one here in
-      all 0 (record { label = []; tree = fixed_tree; names = fixed_names }) (omega arith)
+      all 0 (record { label = []; tree = fixed_tree; names = fixed_vocabulary }) (omega arith)
 
   never_refused : (refusal : Status) → IsRefused (GivesJob words) refusal → ⊥
   never_refused refusal told =

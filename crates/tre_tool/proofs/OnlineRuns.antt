@@ -6,6 +6,7 @@ use Rattle.tre_tool.specs.Answer.{EndsOver, request_for}
 use Rattle.tre_tool.specs.Devices.{InputTold, OutputTold, AllReadsGood, NothingWritten}
 use Rattle.tre_tool.specs.Outcome.{refuses, exceeds}
 use Rattle.tre_tool.specs.Readings.{reading_for}
+use Rattle.tre_tool.specs.Request.{alone, all_names}
 use Rattle.tre_tool.specs.Run.{Way, at_once, as_it_comes, way_of, ReadsInput, IsAnswerIn, StandsSoFar, IsCut}
 use Rattle.tre_tool.specs.Standing.{FirstBlocksStand, BlockIsCut, EndIsCut}
 use Rattle.tre_tool.specs.Telling.{EndsTelling}
@@ -86,8 +87,8 @@ module _ (job : Job) (tree : PatternTree) (names : Vocabulary) (input : InputTol
   unopened_by as_it_comes closed reads unwritten =
       FirstBlocksStand-alone job tree names input output
       (EndsTelling-unopened (reading_for (request_for job tree names)) job.max_bytes tree job.input
-      input output (reading_in-nothing job.format names) (reading_in-faultless job.format names)
-      closed reads unwritten.unwritten unwritten.writes).stands
+      input output (reading_in-nothing job.format (all_names (alone tree names)) names)
+      (reading_in-faultless job.format (all_names (alone tree names)) names) closed reads unwritten.unwritten unwritten.writes).stands
 
   -- memory was wanting before the input was opened
   pub EndsOver-unopened : input.opened ≡ false → AllReadsGood input → NothingWritten output

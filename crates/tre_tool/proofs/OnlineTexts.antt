@@ -55,7 +55,7 @@ end_bytes end = 110 ∷ 100 ∷ 32 ∷ (decimal end ++ (10 ∷ []))
 closing_bytes : (zones : List ZoneBounds) (end : ℕ)
     → offline_text zones end ≡ lines_of zones ++ (101 ∷ end_bytes end)
 unfolding offline_text
-closing_bytes zones end = refl
+closing_bytes zones end = simp append_assoc
 
 -- lines and a letter behind them are some bytes
 none_of_lines : (zones : List ZoneBounds) (letter : ℕ) (xs : List ℕ)
@@ -93,7 +93,7 @@ abbrev lengths_of : List Segment → List ℕ
 lengths_of trace = map (λ (segment : Segment). segment.len) trace
 
 -- What a text tells.
-record IsOneText (blocks others : List (List ZoneBounds)) (closing ending : Option (List ZoneBounds))
+pub record IsOneText (blocks others : List (List ZoneBounds)) (closing ending : Option (List ZoneBounds))
     (trace other : List Segment) : Type 0 where
   pub blocks_same : blocks ≡ others
   pub closing_same : closing ≡ ending

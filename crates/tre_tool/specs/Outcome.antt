@@ -11,10 +11,12 @@ use Rattle.tre_vcd.specs.VcdReading.{vcd_reading}
 use Rattle.tre_tool.specs.declared.job.Format.{Format}
 use Rattle.tre_tool.specs.declared.job.Format.TheVariants.{Text, Vcd}
 
--- What bytes in a format say of a trace, for the propositions and events of these names.
-abbrev pub reading_in : Format → Vocabulary → Bool → List ℕ → Reading
-reading_in Text names closed bytes = text_reading names closed bytes
-reading_in Vcd names closed bytes = vcd_reading names closed bytes
+-- What bytes in a format say of a trace, for the propositions and events of these names. A dump
+-- must declare all of `declared`.
+abbrev pub reading_in : Format → Vocabulary → Vocabulary → Bool → List ℕ → Reading
+reading_in Text declared names closed bytes = text_reading names closed bytes
+reading_in Vcd declared names closed bytes =
+    vcd_reading (record { names = names; declared = declared }) closed bytes
 
 -- the reading that is this trace, and has no fault
 abbrev pub whole_reading : Timeline → Reading

@@ -6,12 +6,14 @@ use Rattle.tre_trace.specs.Trace.{Timeline, IsTrace, quiet}
 use Rattle.tre_trace.specs.declared.segment.Segment.{Segment}
 use Rattle.tre_tool.specs.Devices.{InputTold}
 use Rattle.tre_tool.specs.Outcome.{Outcome, reading_in, outcome_of, whole_reading}
-use Rattle.tre_tool.specs.Request.{Request}
+use Rattle.tre_tool.specs.Request.{Request, all_names}
 
--- The readings of the bytes, closed or not yet: for each pattern that for its names.
+-- The readings of the bytes, closed or not yet: for each pattern that for its names. A dump must
+-- declare those of all patterns.
 abbrev pub readings_of : Request → Bool → List ℕ → List Reading
-readings_of request closed bytes =
-    map (λ pattern. reading_in request.job.format pattern.names closed bytes) request.patterns
+readings_of request closed bytes = map (λ pattern.
+    reading_in request.job.format (all_names request.patterns) pattern.names closed bytes)
+    request.patterns
 
 -- Those of an input that has these bytes, of which it may have as many as the job says.
 abbrev pub readings_within : Request → List ℕ → List Reading

@@ -1,6 +1,6 @@
 -- What words ask for: a job, and the patterns that it looks for.
-use Rattle.std.specs.Prelude.{◌≡◌, ◌≢◌, ◌⊎◌, ℕ, List, [], ◌∷◌}
-use Rattle.tre_generate.specs.FixedPattern.{fixed_tree, fixed_names}
+use Rattle.std.specs.Prelude.{◌≡◌, ◌≢◌, ◌⊎◌, ℕ, List, [], ◌∷◌, flat_map}
+use Rattle.tre_generate.specs.FixedPattern.{fixed_tree, fixed_vocabulary}
 use Rattle.tre_parse.specs.Outcome.{IsOutcome, spelt, refused}
 use Rattle.tre_parse.specs.declared.fault.ParseFault.{ParseFault}
 use Rattle.tre_parse.specs.declared.fault.ParseFault.TheVariants.{Memory as ParseMemory}
@@ -23,6 +23,13 @@ pub record Request : Type 0 where
   pub job : Job
   pub patterns : List Sought
 
+-- the names of all patterns
+abbrev pub all_names : List Sought → Vocabulary
+all_names patterns = record {
+  names = flat_map (λ pattern. pattern.names.names) patterns;
+  events = flat_map (λ pattern. pattern.names.events) patterns;
+}
+
 -- one pattern, without a label
 abbrev pub alone : PatternTree → Vocabulary → List Sought
 alone tree names = record { label = []; tree = tree; names = names } ∷ []
@@ -38,7 +45,7 @@ Spell texts patterns = ⊥
 -- The patterns of a job in this mode: those of its texts. A made run has one of its own, whatever
 -- the text is.
 abbrev pub ArePatterns : Mode → Job → List Sought → Type 0
-ArePatterns (Generate count) job patterns = patterns ≡ alone fixed_tree fixed_names
+ArePatterns (Generate count) job patterns = patterns ≡ alone fixed_tree fixed_vocabulary
 ArePatterns mode job patterns = Spell (job.expr ∷ []) patterns
 
 -- The text is refused with this fault, which is no want of memory.

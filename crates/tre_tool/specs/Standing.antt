@@ -1,11 +1,11 @@
 -- What a run that tells as its input comes leaves in its output, however it ends.
-use Rattle.std.specs.Prelude.{◌≡◌, ℕ, suc, ◌<◌, ◌≤◌, Bool, true, false, List, ◌++◌, length, take, IsTrue}
+use Rattle.std.specs.Prelude.{◌≡◌, ℕ, suc, ◌<◌, ◌≤◌, Bool, true, false, List, ◌++◌, length, take, Option, IsTrue}
 use Rattle.std.specs.Io.KnownBytes.{Appends, IsAtEnd}
+use Rattle.tre_io.specs.Written.{AppendsPart}
 use Rattle.tre_trace.specs.Reading.{Reading}
 use Rattle.tre_trace.specs.Trace.{Timeline}
 use Rattle.tre_tool.specs.Blocks.{Account, AreAccounts, AreClosed, blocks_text, ending_text}
 use Rattle.tre_tool.specs.Devices.{InputTold, OutputTold, AllWritesGood, WereRead, OfAllBytes, HasLastPiece}
-use Rattle.tre_tool.specs.Online.{IsCutBehind}
 use Rattle.tre_tool.specs.Readings.{readings_of, readings_within, reading_for, common, fronts, AreTraces}
 use Rattle.tre_tool.specs.Request.{Request}
 
@@ -56,6 +56,11 @@ pub record FirstBlocksStand (request : Request) (input : InputTold) (output : Ou
     pub prompt : IsPrompt request input readings count
     pub few : count ≤ length (common readings).segments
     pub stand : BlocksStand request readings count output
+
+-- A first part of the text was written, with all of its front in it.
+pub record IsCutBehind (front text : List ℕ) (before now : Option (List ℕ)) : Type 0 where
+  pub part : AppendsPart before now text
+  pub behind : length front ≤ part.count
 
 -- The block of a segment is cut, and those of all segments before it stand there.
 pub record BlockIsCut (request : Request) (input : InputTold) (output : OutputTold) : Type 0 where

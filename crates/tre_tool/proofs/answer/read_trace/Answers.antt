@@ -124,8 +124,9 @@ returns-clause-read g c =
     let input = input_told g.S.Source.file_name g.S.Source.file g.S.Source.sound g.S.Source.opened
     g.S.Source.left g.S.Source.found g.S.Source.faults c.args.input.now
     c.next.new.input in
-    rw c.in_ok-trace.ensures.same (IsWhole-ended reading c.args.limit input so_far.bytes
-    c.loop-segments.segments.items c.next.new.segments.items
+    rw (c.set_last.ensures.set, c.in_ok-trace.ensures.same, c.last.ensures)
+    (IsWhole-ended reading c.args.limit input so_far.bytes
+    c.loop-segments.segments.items c.next.new.segments.items c.next.new.self.last
     (c.next.ensures.same_opened ∙ inv.opened) (c.in_ok-next.ensures.cause ∙ inv.no_fault)
     (rw (inv.terms, inv.limit, c.if-not-branch.true) at
     c.in_ok-next.ensures.ends (g.S.Source.file c.args.input.now) so_far.bytes so_far.fed)

@@ -21,7 +21,7 @@ returns-in_err-write_text-clause-stops g c =
     rw (p.1, p.2, c.in_err-write_text.ensures.status) (ClosingIsCut-told
     c.args.session tree segments c.args.last c.in_ok-told.told
     c.in_printed_order-zones.result.items before _ _ so_far
-    (c.in_ok-told.ensures.tells segments so_far.stands)
+    (c.in_ok-told.ensures segments so_far.stands)
     (record {
       same = rw c.into_zones.ensures.same at c.in_printed_order-zones.ensures.same;
       held = rw c.into_zones.ensures.same at c.in_printed_order-zones.ensures.held;
@@ -36,7 +36,7 @@ pub returns-clause-told : goal.returns-clause-told
 returns-clause-told g c = λ tree segments before so_far. HasClosed-told
     c.args.session tree segments c.args.last c.in_ok-told.told
     c.in_printed_order-zones.result.items before _ _ so_far
-    (c.in_ok-told.ensures.tells segments so_far.stands)
+    (c.in_ok-told.ensures segments so_far.stands)
     (record {
       same = rw c.into_zones.ensures.same at c.in_printed_order-zones.ensures.same;
       held = rw c.into_zones.ensures.same at c.in_printed_order-zones.ensures.held;

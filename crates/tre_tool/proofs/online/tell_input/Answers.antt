@@ -1,4 +1,4 @@
-use Rattle.std.proofs.Common.{◌≡◌, ◌∙◌, Bool, false, true, Err, Some, None, [], length, take, refl, sym, subst, ap, arith}
+use Rattle.std.proofs.Common.{◌≡◌, ◌∙◌, Bool, false, true, Err, Some, None, [], ◌++◌, length, take, refl, sym, subst, ap, arith}
 use Rattle.std.proofs.lemmas.Result.{err_from_is_err_and}
 use Rattle.tre_online.specs.Session.{pattern_of}
 use Rattle.tre_syntax.specs.Pattern.{pattern_tree}
