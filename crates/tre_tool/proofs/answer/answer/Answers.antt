@@ -12,8 +12,8 @@ use Rattle.tre_tool.proofs.answer.answer.Goals as goal
 
 pub returns-in_err-text-in-Show-clause-ends : goal.returns-in_err-text-in-Show-clause-ends
 returns-in_err-text-in-Show-clause-ends g c =
-    let p = err_from_is_err_and c.from_residual-in_err-text-in-Show.result
-    c.from_residual-in_err-text-in-Show.ensures.1 in
+    let p = err_from_is_err_and c.from_residual.result
+    c.from_residual.ensures.1 in
     let request = request_for c.args.job.now (pattern_tree c.args.pattern)
     (names_of c.args.pattern) in
     let input = input_told g.S.Source.file_name g.S.Source.file g.S.Source.sound
@@ -34,7 +34,7 @@ returns-in_err-write_text-in-Show-clause-ends g c =
       reads = refl;
       right = shown_in c.args.job.now (pattern_tree c.args.pattern) (names_of c.args.pattern)
           c.args.job.now.mode _ _ c.in-Show.is c.in_ok-text-in-Show.ensures;
-    }) c.in_err-write_text-in-Show.ensures.cause (rw c.as_str-in-Show.ensures.value at
+    }) c.in_err-write_text-in-Show.ensures.cause (rw c.as_str.ensures.value at
     c.in_err-write_text-in-Show.ensures.part))
 
 pub returns-in_ok-write_text-in-Show-clause-ends :
@@ -45,7 +45,7 @@ returns-in_ok-write_text-in-Show-clause-ends g c =
       right = shown_in c.args.job.now (pattern_tree c.args.pattern) (names_of c.args.pattern)
           c.args.job.now.mode _ _ c.in-Show.is c.in_ok-text-in-Show.ensures;
     }) c.in_ok-write_text-in-Show.ensures.good
-    (rw c.as_str-in-Show.ensures.value at c.in_ok-write_text-in-Show.ensures.all)
+    (rw c.as_str.ensures.value at c.in_ok-write_text-in-Show.ensures.all)
 
 pub returns-in_err-text-in-Generate-clause-ends : goal.returns-in_err-text-in-Generate-clause-ends
 returns-in_err-text-in-Generate-clause-ends g c =
