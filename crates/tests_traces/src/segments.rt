@@ -7,10 +7,7 @@ use tre_trace::{PushFault, Segment, Trace, generated};
 #[test]
 fn refuses_in_order(rt: HostRuntime) {
     let mut trace = Trace::new(rt.alloc());
-    let (long, short) = (
-        Segment::plain(1 << 40, 1),
-        Segment::plain(1, 0),
-    );
+    let (long, short) = (Segment::plain(1 << 40, 1), Segment::plain(1, 0));
     assert!(rt; trace.push(Segment::plain(0, 1)) == Err(PushFault::Zero));
     assert!(rt; trace.push(long) == Ok(()));
     assert!(rt; trace.push(short) == Err(PushFault::TooLate { end: 1099511627777 }));
@@ -24,9 +21,7 @@ fn refuses_the_longest_segment(rt: HostRuntime) {
     let late = Err(PushFault::TooLate {
         end: 18446744073709551615,
     });
-    assert!(rt;
-        trace.push(Segment::plain(18446744073709551615, 0)) == late
-    );
+    assert!(rt; trace.push(Segment::plain(18446744073709551615, 0)) == late);
     assert!(rt; trace.segments().is_empty());
 }
 

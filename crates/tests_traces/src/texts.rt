@@ -168,7 +168,12 @@ fn spaces(alloc: Global) -> Result<Vec<u8>, Fail> {
 #[test]
 fn a_line_may_have_so_many_bytes(rt: HostRuntime) -> Result<(), Fail> {
     let spaces = spaces(rt.alloc())?;
-    let said = read(rt.alloc(), &mut reader(rt.alloc(), "p", "")?, &spaces, 65_536)?;
+    let said = read(
+        rt.alloc(),
+        &mut reader(rt.alloc(), "p", "")?,
+        &spaces,
+        65_536,
+    )?;
     assert!(rt; said.is_empty());
     Ok(())
 }

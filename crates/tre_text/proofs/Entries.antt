@@ -6,7 +6,7 @@ use Rattle.std.specs.Char.{is_ascii_digit}
 use Rattle.std.specs.Str.Parse.{digits_value}
 use Rattle.tre_pairs.specs.declared.TheConstants.{TIME_MAX}
 use Rattle.tre_decimal.specs.Decimal.{is_numeral}
-use Rattle.tre_text.specs.TextReading.{begins_comment, begins_events, spells_word, valuation_of, valuation_after, known_at, no_segment, one_segment, events_say, entry_says, fields_say, fields_of, line_says}
+use Rattle.tre_text.specs.TextReading.{begins_comment, begins_events, spells_word, valuation_of, valuation_after, known_at, no_segment, one_segment, entry_says, fields_say, fields_of, line_says}
 use Rattle.tre_text.specs.declared.known.Known.{Known}
 use Rattle.tre_trace.specs.Reading.{Vocabulary}
 use Rattle.tre_trace.specs.declared.fault.TraceKind.TheVariants.{BadNumber, Zero, TooLate, BadName}

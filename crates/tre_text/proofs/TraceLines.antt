@@ -9,8 +9,8 @@ use Rattle.tre_parts.specs.Format.{Step, nothing, faulty, behind, read_on, after
 use Rattle.tre_parts.specs.declared.TheConstants.{PART_MAX}
 use Rattle.tre_parts.specs.declared.spot.Spot.{Spot}
 use Rattle.tre_text.proofs.Entries.{IsEntryOf, numeral-no_comment, numeral-no_events, sign-no_comment, within, fields-events, fields-no_event, says-fields, says-nothing, says-marked, says-no_number, says-zero, says-late, says-no_name, says-segment}
-use Rattle.tre_text.specs.TextReading.{is_line_end, valuation_of, valuation_after, known_at, no_segment, one_segment, line_says, text_format, text_reading}
-use Rattle.tre_text.specs.TraceLines.{IsLine, IsOverlong, AreLines, ended, HasFields, IsSilent, SaysEvents, IsEntry, SaysFirst, Say, HasNoName, HasNoEvent, HasFault}
+use Rattle.tre_text.specs.TextReading.{is_line_end, valuation_of, valuation_after, known_at, no_segment, line_says, text_format, text_reading}
+use Rattle.tre_text.specs.TraceLines.{IsLine, IsOverlong, AreLines, ended, HasFields, IsSilent, SaysEvents, IsEntry, Say, HasNoName, HasNoEvent, HasFault}
 use Rattle.tre_trace.proofs.Segments.{end_of-le}
 use Rattle.tre_text.specs.declared.known.Known.{Known}
 use Rattle.tre_trace.specs.Reading.{Reading, Vocabulary}

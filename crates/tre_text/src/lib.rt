@@ -22,7 +22,6 @@ mod line_reader;
 mod word;
 
 pub use line_reader::LineReader;
-
 use tre_parts::Parts;
 
 /// Reads a text trace in pieces, line by line.

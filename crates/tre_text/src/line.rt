@@ -58,8 +58,11 @@ fn is_events(first: &[u8]) -> bool
 fn read_events(events: &Names, known: Known, first: &[u8], fields: &[u8]) -> Found
     requires no_comment { begins_comment first.now ≡ false }
     requires no_numeral { is_numeral first.now ≡ false }
-    ensures { (names : List (List ℕ)) → Finds (fields_say (record { names = names; events =
-        events.now }) known (first.now ∷ fields_among fields.now)) known result }
+    ensures { (names : List (List ℕ)) → Finds (fields_say (record {
+      names = names;
+      events =
+          events.now;
+    }) known (first.now ∷ fields_among fields.now)) known result }
 {
     if !is_events(first) {
         return Found::Wrong(TraceKind::BadNumber);

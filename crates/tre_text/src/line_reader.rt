@@ -25,8 +25,11 @@ impl LineReader {
     /// Nothing is read.
     pub fn new(names: Names, events: Names) -> LineReader
         ensures begins { ⟦<LineReader as PartReader>⟧.holds result (known_at 0 0) }
-        ensures terms { ⟦<LineReader as PartReader>⟧.terms result ≡ record { names = names; events =
-            events } }
+        ensures terms { ⟦<LineReader as PartReader>⟧.terms result ≡ record {
+          names = names;
+          events =
+              events;
+        } }
     {
         let known = Known { end: 0, pending: 0 };
         LineReader {

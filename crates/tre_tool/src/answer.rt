@@ -24,7 +24,7 @@ use tre_show::{in_printed_order, offline_text, pattern_text};
 use tre_syntax::Pattern;
 use tre_text::{LineReader, TextReader};
 use tre_trace::{Trace, TraceReader};
-use tre_vcd::VcdReader;
+use tre_vcd::{TokenReader, VcdReader};
 
 // Reads the trace that the input of this name is, where it has at most `limit` bytes.
 fn read_trace<S: Source, R: TraceReader>(
@@ -162,7 +162,7 @@ fn answer_input<S: Source, O: Sink>(
             Ok(())
         }
         Format::Vcd => {
-            let mut reader = VcdReader::new(alloc, names, events);
+            let mut reader = VcdReader::new(alloc, TokenReader::new(alloc, names, events));
             answer_by(alloc, pattern, job, &mut reader, input, out)?;
             Ok(())
         }
