@@ -124,6 +124,39 @@ whole_text-alone tree names trace blocks closing segments count =
       append-nil (block_texts 0 blocks segments),
     ) refl
 
+-- any account without a label
+labelled : List ℕ → Account → Account
+labelled label account = record {
+  pattern = record { label = label; tree = account.pattern.tree; names = account.pattern.names };
+  trace = account.trace;
+  blocks = account.blocks;
+  closing = account.closing;
+}
+
+is_alone : (account : Account) → account.pattern.label ≡ []
+    → account ≡ account_of account.pattern.tree account.pattern.names account.trace account.blocks
+    account.closing
+unfolding account_of labelled
+is_alone account none = ap (λ label. labelled label account) none
+
+pub blocks_text-one : (account : Account) (segments : List Segment) → account.pattern.label ≡ []
+    → length account.blocks ≡ length segments
+    → blocks_text (account ∷ []) segments ≡ online_text account.blocks None segments
+blocks_text-one account segments none count =
+    ap (λ one. blocks_text (one ∷ []) segments) (is_alone account none)
+    ∙ blocks_text-alone account.pattern.tree account.pattern.names account.trace account.blocks
+    account.closing segments count
+
+pub whole_text-one : (account : Account) (segments : List Segment) → account.pattern.label ≡ []
+    → length account.blocks ≡ length segments
+    → blocks_text (account ∷ []) segments ++ ending_text (account ∷ []) segments
+    ≡ online_text account.blocks (Some account.closing) segments
+whole_text-one account segments none count =
+    ap (λ one. blocks_text (one ∷ []) segments ++ ending_text (one ∷ []) segments)
+    (is_alone account none)
+    ∙ sym (whole_text-alone account.pattern.tree account.pattern.names account.trace account.blocks
+    account.closing segments count)
+
 -- a list is its own front
 take-all : {X : Type 0} (xs : List X) → take (length xs) xs ≡ xs
 take-all xs = take-over (length xs) xs (omega arith)

@@ -1,7 +1,8 @@
 //! Laws of the words of a command line, and of the text that is told as the input comes, each as a
 //! function whose contract it is.
 
-ghost use Rattle.std.specs.Prelude.{◌≡◌, ℕ, List, [], ◌∷◌, Option, codes, map};
+ghost use Rattle.std.specs.Prelude.{◌≡◌, ◌++◌, ◌∷◌, ℕ, List, [], Option, None, Some, codes, length, map};
+ghost use Rattle.tre_tool.specs.Blocks.{Account, blocks_text, ending_text};
 ghost use Rattle.tre_tool.specs.Job.{GivesJob, HaveNoFault, plain_job};
 ghost use Rattle.tre_tool.specs.Request.{Request, AsksFor};
 ghost use Rattle.tre_tool.specs.Transcript.{AreBlocksOf, online_text};
@@ -28,6 +29,17 @@ pub fn typed_words()
     ensures two_patterns { ¬ HaveNoFault (codes "p" ∷ codes "q" ∷ []) }
     ensures flag_twice { ¬ HaveNoFault
         (codes "--online" ∷ codes "--online" ∷ codes "p" ∷ []) }
+{}
+
+/// What is told of one pattern without a label is the text of its blocks, and of what closes them.
+pub fn one_pattern_text()
+    ensures blocks { (account : Account) (segments : List Segment) → account.pattern.label ≡ [] →
+        length account.blocks ≡ length segments →
+        blocks_text (account ∷ []) segments ≡ online_text account.blocks None segments }
+    ensures whole { (account : Account) (segments : List Segment) → account.pattern.label ≡ [] →
+        length account.blocks ≡ length segments →
+        blocks_text (account ∷ []) segments ++ ending_text (account ∷ []) segments
+        ≡ online_text account.blocks (Some account.closing) segments }
 {}
 
 /// A text that is told as the input comes is that of one list of blocks and of what closes them, of
