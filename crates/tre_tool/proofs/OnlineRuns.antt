@@ -66,17 +66,20 @@ module _ (job : Job) (tree : PatternTree) (names : Vocabulary) (input : InputTol
     cause = ends.unread.cause;
     unsound = ends.unread.unsound;
     goes_on = ends.unread.goes_on;
-    stands = blocks_so_far job.mode _ online (BlocksSoFarStand-alone job tree names input output ends.stands);
+    stands = blocks_so_far job.mode _ online
+        (BlocksSoFarStand-alone job tree names input output ends.stands);
   }
   EndsOver-telling WriteFault online ends = record {
     cause = ends.cause;
     reads = ends.reads;
-    stands = cut_so_far job.mode online (⊎_elim (λ block. inl (BlockIsCut-alone job tree names input output block))
+    stands = cut_so_far job.mode online
+        (⊎_elim (λ block. inl (BlockIsCut-alone job tree names input output block))
         (λ end. inr (EndIsCut-alone job tree names input output end)) ends.stands);
   }
   EndsOver-telling Memory online ends = (
     ends.reads,
-    blocks_so_far job.mode _ online (FirstBlocksStand-alone job tree names input output ends.stands),
+    blocks_so_far job.mode _ online
+        (FirstBlocksStand-alone job tree names input output ends.stands),
   )
   EndsOver-telling Usage online ends = absurd ends
   EndsOver-telling (Expression fault) online ends = absurd ends
@@ -88,7 +91,8 @@ module _ (job : Job) (tree : PatternTree) (names : Vocabulary) (input : InputTol
       FirstBlocksStand-alone job tree names input output
       (EndsTelling-unopened (reading_for (request_for job tree names)) job.max_bytes tree job.input
       input output (reading_in-nothing job.format (all_names (alone tree names)) names)
-      (reading_in-faultless job.format (all_names (alone tree names)) names) closed reads unwritten.unwritten unwritten.writes).stands
+      (reading_in-faultless job.format (all_names (alone tree names)) names) closed reads
+      unwritten.unwritten unwritten.writes).stands
 
   -- memory was wanting before the input was opened
   pub EndsOver-unopened : input.opened ≡ false → AllReadsGood input → NothingWritten output

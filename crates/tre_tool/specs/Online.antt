@@ -1,6 +1,6 @@
 -- What an online run over one pattern leaves in its output, as its parts promise it to each other.
--- The bytes of the input say a trace by `reading`, closed or not yet, at most `limit` of them count,
--- and `tree` is what is looked for.
+-- The bytes of the input say a trace by `reading`, closed or not yet, at most `limit` of them
+-- count, and `tree` is what is looked for.
 use Rattle.std.specs.Prelude.{◌≡◌, ℕ, ◌≤◌, Bool, true, false, List, [], ◌∷◌, ◌++◌, length, take, Option, None, Some, IsTrue}
 use Rattle.std.specs.Io.KnownBytes.{Appends, IsAtEnd}
 use Rattle.tre_syntax.specs.PatternTree.{PatternTree}
