@@ -7,7 +7,7 @@ use Rattle.tre_text.specs.TextReading.{text_reading}
 use Rattle.tre_trace.specs.Reading.{Reading, Vocabulary}
 use Rattle.tre_trace.specs.Trace.{IsTrace, timeline_of}
 use Rattle.tre_trace.specs.declared.segment.Segment.{Segment}
-use Rattle.tre_vcd.specs.VcdReading.{terms_of, vcd_reading}
+use Rattle.tre_vcd.specs.VcdReading.{Terms, vcd_reading}
 use Rattle.tre_tool.specs.Feeding.{IsFed, HasRead, HasFailed, GoesOn, IsEnded, IsWhole, StopsTurn, StopsReading, EndsTurn}
 use Rattle.tre_tool.specs.Devices.{InputTold, WereRead, AllReadsGood, AreAllBytes}
 use Rattle.tre_tool.specs.Input.{TakesAtMost, MayGoOn, HasReadCause}
@@ -24,10 +24,9 @@ pub text_reading-nothing : (names : Vocabulary) → (text_reading names false []
 unfolding reading_from
 text_reading-nothing names = refl
 
-pub vcd_reading-nothing : (names : Vocabulary)
-    → (vcd_reading (terms_of names) false []).segments ≡ []
+pub vcd_reading-nothing : (terms : Terms) → (vcd_reading terms false []).segments ≡ []
 unfolding reading_from
-vcd_reading-nothing names = refl
+vcd_reading-nothing terms = refl
 
 -- These segments were read of the bytes that were fed.
 pub record IsCollected (represents : List ℕ → Type 0) (reading : Bool → List ℕ → Reading)
@@ -229,17 +228,18 @@ pub text_reading-faultless : (names : Vocabulary) → (text_reading names false 
 unfolding reading_from
 text_reading-faultless names = refl
 
-pub vcd_reading-faultless : (names : Vocabulary)
-    → (vcd_reading (terms_of names) false []).fault ≡ None
+pub vcd_reading-faultless : (terms : Terms) → (vcd_reading terms false []).fault ≡ None
 unfolding reading_from
-vcd_reading-faultless names = refl
+vcd_reading-faultless terms = refl
 
-pub reading_in-faultless : (format : Format) (names : Vocabulary)
-    → (reading_in format names false []).fault ≡ None
-reading_in-faultless Text names = text_reading-faultless names
-reading_in-faultless Vcd names = vcd_reading-faultless names
+pub reading_in-faultless : (format : Format) (declared names : Vocabulary)
+    → (reading_in format declared names false []).fault ≡ None
+reading_in-faultless Text declared names = text_reading-faultless names
+reading_in-faultless Vcd declared names =
+    vcd_reading-faultless (record { names = names; declared = declared })
 
-pub reading_in-nothing : (format : Format) (names : Vocabulary)
-    → (reading_in format names false []).segments ≡ []
-reading_in-nothing Text names = text_reading-nothing names
-reading_in-nothing Vcd names = vcd_reading-nothing names
+pub reading_in-nothing : (format : Format) (declared names : Vocabulary)
+    → (reading_in format declared names false []).segments ≡ []
+reading_in-nothing Text declared names = text_reading-nothing names
+reading_in-nothing Vcd declared names =
+    vcd_reading-nothing (record { names = names; declared = declared })

@@ -16,7 +16,8 @@ use Rattle.tre_trace.specs.declared.fault.PushFault.{PushFault}
 use Rattle.tre_trace.specs.declared.fault.PushFault.TheVariants.{Zero, TooLate, Memory}
 use Rattle.tre_trace.specs.declared.segment.Segment.{Segment}
 use Rattle.tre_zone.specs.declared.zone_bounds.ZoneBounds.{ZoneBounds}
-use Rattle.tre_tool.specs.Online.{BlocksWritten, IsCutBehind, LastBlockIsCut}
+use Rattle.tre_tool.specs.Online.{BlocksWritten, LastBlockIsCut}
+use Rattle.tre_tool.specs.Standing.{IsCutBehind}
 use Rattle.tre_show.specs.Line.{offline_text}
 use Rattle.tre_tool.specs.Telling.{CanTell, HasTold, HasClosed, ClosingIsCut}
 use Rattle.tre_tool.specs.Transcript.{block_text, block_texts, online_text, block_before, IsTranscript, IsClosing}

@@ -1,8 +1,8 @@
--- What an online run leaves in its output, however it ends. The bytes of the input say a trace by
--- `reading`, closed or not yet, at most `limit` of them count, and `tree` is what is looked for.
+-- What an online run over one pattern leaves in its output, as its parts promise it to each other.
+-- The bytes of the input say a trace by `reading`, closed or not yet, at most `limit` of them count,
+-- and `tree` is what is looked for.
 use Rattle.std.specs.Prelude.{◌≡◌, ℕ, ◌≤◌, Bool, true, false, List, [], ◌∷◌, ◌++◌, length, take, Option, None, Some, IsTrue}
 use Rattle.std.specs.Io.KnownBytes.{Appends, IsAtEnd}
-use Rattle.tre_io.specs.Written.{AppendsPart}
 use Rattle.tre_syntax.specs.PatternTree.{PatternTree}
 use Rattle.tre_trace.specs.Reading.{Reading}
 use Rattle.tre_trace.specs.Trace.{Timeline, IsTrace}
@@ -10,6 +10,7 @@ use Rattle.tre_trace.specs.declared.segment.Segment.{Segment}
 use Rattle.tre_zone.specs.declared.zone_bounds.ZoneBounds.{ZoneBounds}
 use Rattle.tre_tool.specs.Devices.{InputTold, OutputTold, AllWritesGood, WereRead, OfAllBytes, HasLastPiece}
 use Rattle.tre_tool.specs.Outcome.{IsReadingOf, reading_within}
+use Rattle.tre_tool.specs.Standing.{IsCutBehind}
 use Rattle.tre_tool.specs.Transcript.{IsTranscript, IsClosing, online_text}
 
 -- The blocks of these segments were written, and nothing else.
@@ -59,11 +60,6 @@ pub record FirstBlocksStand (reading : Bool → List ℕ → Reading) (limit : �
   pub stand : BlocksWritten tree front output.written_before output.written_now
   pub last : HasLastPiece input bytes
   pub prompt : length (reading false (take limit last.earlier)).segments ≤ length front
-
--- A first part of the text was written, with all of its front in it.
-pub record IsCutBehind (front text : List ℕ) (before now : Option (List ℕ)) : Type 0 where
-  pub part : AppendsPart before now text
-  pub behind : length front ≤ part.count
 
 -- The blocks of these segments were written, and a first part of that of the segment behind them.
 pub record LastBlockIsCut (tree : PatternTree) (front : List Segment) (segment : Segment)

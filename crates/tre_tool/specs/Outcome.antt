@@ -1,34 +1,30 @@
--- What the bytes of an input come to, and the answer to a trace.
-use Rattle.std.specs.Prelude.{◌≡◌, ◌≢◌, ℕ, ◌≤◌, nat_le, Bool, true, false, List, length, take, Option, None, Some, IfSome}
+-- What the bytes of an input say in a format, and what they come to.
+use Rattle.std.specs.Prelude.{◌≡◌, ◌≢◌, ℕ, nat_le, Bool, true, false, List, length, take, Option, None, Some, IfSome}
 use Rattle.std.specs.Io.KnownBytes.{Consumes}
 use Rattle.tre_text.specs.TextReading.{text_reading}
 use Rattle.tre_trace.specs.Reading.{Reading, Vocabulary}
-use Rattle.tre_trace.specs.Trace.{Timeline, timeline_of, end_of, IsTrace}
+use Rattle.tre_trace.specs.Trace.{Timeline, timeline_of}
 use Rattle.tre_trace.specs.declared.fault.TraceFault.{TraceFault}
 use Rattle.tre_trace.specs.declared.fault.TraceKind.{TraceKind}
 use Rattle.tre_trace.specs.declared.fault.TraceKind.TheVariants.{Spent, Memory}
-use Rattle.tre_vcd.specs.VcdReading.{terms_of, vcd_reading}
-use Rattle.tre_zone.specs.declared.zone_bounds.ZoneBounds.{ZoneBounds}
-use Rattle.tre_syntax.specs.PatternTree.{PatternTree}
-use Rattle.tre_show.specs.Line.{offline_text}
-use Rattle.tre_show.specs.Order.{IsRising}
-use Rattle.tre_offline.specs.MatchSet.{IsMatchSet}
+use Rattle.tre_vcd.specs.VcdReading.{vcd_reading}
 use Rattle.tre_tool.specs.declared.job.Format.{Format}
 use Rattle.tre_tool.specs.declared.job.Format.TheVariants.{Text, Vcd}
 
--- What bytes in a format say of a trace, for the propositions and events of these names.
-abbrev pub reading_in : Format → Vocabulary → Bool → List ℕ → Reading
-reading_in Text names closed bytes = text_reading names closed bytes
-reading_in Vcd names closed bytes = vcd_reading (terms_of names) closed bytes
+-- What bytes in a format say of a trace, for the propositions and events of these names. A dump
+-- must declare all of `declared`.
+abbrev pub reading_in : Format → Vocabulary → Vocabulary → Bool → List ℕ → Reading
+reading_in Text declared names closed bytes = text_reading names closed bytes
+reading_in Vcd declared names closed bytes =
+    vcd_reading (record { names = names; declared = declared }) closed bytes
 
--- The reading is this trace, and has no fault.
+-- the reading that is this trace, and has no fault
+abbrev pub whole_reading : Timeline → Reading
+whole_reading trace = record { segments = trace.segments; last = trace.last; fault = None }
+
+-- The reading is this trace.
 abbrev pub IsReadingOf : Timeline → Reading → Type 0
-IsReadingOf trace reading =
-    reading ≡ record { segments = trace.segments; last = trace.last; fault = None }
-
--- The bytes are this trace.
-abbrev pub Reads : Format → Vocabulary → List ℕ → Timeline → Type 0
-Reads format names bytes trace = IsReadingOf trace (reading_in format names true bytes)
+IsReadingOf trace reading = reading ≡ whole_reading trace
 
 -- A kind that the bytes of an input can have: no want of memory, and no reader that was done.
 pub record IsInputKind (kind : TraceKind) : Type 0 where
@@ -72,16 +68,3 @@ pub record ComesTo (reading : Bool → List ℕ → Reading) (limit : ℕ) (file
   pub whole : IfSome file (λ all. outcome_of reading limit all ≡ outcome)
   pub same : IfSome file (λ all. (reading_within reading limit all).segments
       ≡ (reading_within reading limit bytes).segments)
-
--- The text is right for a run to the end over these bytes: they are within the limit and say a
--- trace, and the text is that of the matches of the pattern over it.
-pub record IsAnswer (format : Format) (tree : PatternTree) (names : Vocabulary) (limit : ℕ)
-    (bytes text : List ℕ) : Type 0 where
-  pub within : length bytes ≤ limit
-  pub trace : Timeline
-  pub reads : Reads format names bytes trace
-  pub is_trace : IsTrace trace.segments
-  pub zones : List ZoneBounds
-  pub matches : IsMatchSet zones tree trace
-  pub rising : IsRising zones
-  pub printed : text ≡ offline_text zones (end_of 0 trace.segments)

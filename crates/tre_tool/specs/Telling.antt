@@ -13,7 +13,8 @@ use Rattle.tre_zone.specs.declared.zone_bounds.ZoneBounds.{ZoneBounds}
 use Rattle.tre_tool.specs.Devices.{InputTold, OutputTold, AllReadsGood, AllWritesGood, OfAllBytes}
 use Rattle.tre_tool.specs.Feeding.{IsDecided, IsUnread}
 use Rattle.tre_tool.specs.Outcome.{Outcome, refuses, exceeds, IsInputKind}
-use Rattle.tre_tool.specs.Online.{BlocksWritten, AllBlocksStand, BlocksSoFarStand, FirstBlocksStand, IsCutBehind, LastBlockIsCut, BlockIsCut, IsOnlineAnswer, EndIsCut}
+use Rattle.tre_tool.specs.Online.{BlocksWritten, AllBlocksStand, BlocksSoFarStand, FirstBlocksStand, LastBlockIsCut, BlockIsCut, IsOnlineAnswer, EndIsCut}
+use Rattle.tre_tool.specs.Standing.{IsCutBehind}
 use Rattle.tre_tool.specs.Transcript.{IsTranscript, IsClosing, block_before, online_text}
 use Rattle.tre_tool.specs.declared.status.Status.{Status}
 use Rattle.tre_tool.specs.declared.status.Status.TheVariants.{Done, Trace, InputTooLong, ReadFault, WriteFault, Memory}

@@ -2,13 +2,13 @@
 ghost use Rattle.std.specs.Prelude.{◌≡◌, ℕ, ◌≤◌, ◌+◌, ◌++◌, [], codes, false, IsTrue, IsErrOf, IfOk, IfErr, IfSome, Some, string_bytes};
 ghost use Rattle.tre_show.specs.PatternText.{expression_text};
 ghost use Rattle.tre_syntax.specs.Pattern.{pattern_tree, names_of};
-ghost use Rattle.tre_tool.specs.Answer.{status_of, EndsOver, IsFoundFor, StopsAs};
+ghost use Rattle.tre_tool.specs.Answer.{status_of, request_for, EndsOver, IsFoundFor, StopsAs};
 ghost use Rattle.tre_tool.specs.Devices.{input_told, output_told};
 ghost use Rattle.tre_tool.specs.Feeding.{IsWhole, StopsReading};
 ghost use Rattle.tre_tool.specs.Job.{IsCount};
 ghost use Rattle.tre_tool.specs.Input.{TakesAtMost};
-ghost use Rattle.tre_tool.specs.Outcome.{reading_in};
-ghost use Rattle.tre_tool.specs.Run.{ReadsInput, request_for};
+ghost use Rattle.tre_tool.specs.Readings.{reading_for};
+ghost use Rattle.tre_tool.specs.Run.{ReadsInput};
 ghost use Rattle.tre_tool.specs.declared.job.TheConstants.{LIMIT_MAX};
 
 use crate::input::Feed;
@@ -74,7 +74,7 @@ fn matches_text<S: Source, R: TraceReader>(
     requires offline { job.now.mode ≡ Mode.Offline }
     requires fresh { R.represents reader.old [] }
     requires same { R.reading (R.terms reader.old)
-        ≡ reading_in job.now.format (names_of pattern.now) }
+        ≡ reading_for (request_for job.now (pattern_tree pattern.now) (names_of pattern.now)) }
     ensures found { IfOk result (λ text. IsFoundFor
         (request_for job.now (pattern_tree pattern.now) (names_of pattern.now))
         (input_told S.file_name S.file S.sound S.opened S.left S.found S.faults input.old input.new)
@@ -112,7 +112,7 @@ fn answer_by<S: Source, R: TraceReader, O: Sink>(
     requires reads { ReadsInput job.now.mode }
     requires fresh { R.represents reader.old [] }
     requires same { R.reading (R.terms reader.old)
-        ≡ reading_in job.now.format (names_of pattern) }
+        ≡ reading_for (request_for job.now (pattern_tree pattern) (names_of pattern)) }
     ensures ends { EndsOver (request_for job.now (pattern_tree pattern) (names_of pattern))
         (input_told S.file_name S.file S.sound S.opened S.left S.found S.faults input.old input.new)
         (output_told O.written O.faults out.old out.new) (status_of result) }

@@ -3,7 +3,7 @@
 
 ghost use Rattle.std.specs.Prelude.{◌≡◌, ℕ, List, [], ◌∷◌, Option, codes, map};
 ghost use Rattle.tre_tool.specs.Job.{GivesJob, HaveNoFault, plain_job};
-ghost use Rattle.tre_tool.specs.Run.{Request, AsksFor};
+ghost use Rattle.tre_tool.specs.Request.{Request, AsksFor};
 ghost use Rattle.tre_tool.specs.Transcript.{AreBlocksOf, online_text};
 ghost use Rattle.tre_tool.specs.declared.job.Mode.TheVariants.{Offline, Online};
 ghost use Rattle.tre_trace.specs.declared.segment.Segment.{Segment};
@@ -11,10 +11,10 @@ ghost use Rattle.tre_zone.specs.declared.zone_bounds.ZoneBounds.{ZoneBounds};
 
 use tre_show::laws::one_front;
 
-/// Words ask for one thing at most: one job, and one pattern with its names.
+/// Words ask for one thing at most: one job, and one list of patterns with their names.
 pub fn one_request()
     ensures { (words : List (List ℕ)) (one other : Request) →
-        AsksFor words one → AsksFor words other → one ≡ other }
+        AsksFor (GivesJob words) one → AsksFor (GivesJob words) other → one ≡ other }
 {}
 
 /// Words as they are typed: the job of some, and that others have a fault.

@@ -1,7 +1,7 @@
 use Rattle.std.proofs.Common.{refl}
 use Rattle.std.proofs.lemmas.Result.{err_from_is_err_and}
 use Rattle.tre_syntax.specs.Pattern.{pattern_tree, names_of}
-use Rattle.tre_tool.specs.Run.{request_for}
+use Rattle.tre_tool.specs.Request.{alone, all_names}
 use Rattle.tre_tool.specs.declared.status.Status.TheVariants.{Done}
 use Rattle.tre_tool.proofs.OnlineRuns.{EndsOver-telling}
 use Rattle.tre_tool.proofs.Promise.{EndsOver-stopped, EndsOver-cut, EndsOver-done}
@@ -11,21 +11,21 @@ use Rattle.tre_tool.proofs.answer.answer_by.Goals as goal
 
 pub tell_matches-requires-clause-nothing : goal.tell_matches-requires-clause-nothing
 tell_matches-requires-clause-nothing g c =
-    rw c.requires.same (reading_in-nothing c.args.job.now.format (names_of c.args.pattern))
+    let names = names_of c.args.pattern in
+    rw c.requires.same (reading_in-nothing c.args.job.now.format
+    (all_names (alone (pattern_tree c.args.pattern) names)) names)
 
 pub returns-in_err-tell_matches-clause-ends : goal.returns-in_err-tell_matches-clause-ends
 returns-in_err-tell_matches-clause-ends g c =
     let p = err_from_is_err_and c.from_residual.result c.from_residual.ensures.1 in
-    let request = request_for c.args.job.now (pattern_tree c.args.pattern)
-    (names_of c.args.pattern) in
-    rw (p.1, p.2) (EndsOver-telling request _ _ c.in_err-tell_matches.field-0.0 c.in-Online.is
+    rw (p.1, p.2) (EndsOver-telling c.args.job.now (pattern_tree c.args.pattern)
+    (names_of c.args.pattern) _ _ c.in_err-tell_matches.field-0.0 c.in-Online.is
     (rw c.requires.same at c.in_err-tell_matches.ensures.ends))
 
 pub returns-in-Online-clause-ends : goal.returns-in-Online-clause-ends
 returns-in-Online-clause-ends g c =
-    let request = request_for c.args.job.now (pattern_tree c.args.pattern)
-    (names_of c.args.pattern) in
-    EndsOver-telling request _ _ Done c.in-Online.is
+    EndsOver-telling c.args.job.now (pattern_tree c.args.pattern)
+    (names_of c.args.pattern) _ _ Done c.in-Online.is
     (rw c.requires.same at c.in_ok-tell_matches.ensures.ends)
 
 pub matches_text-requires-clause-offline : goal.matches_text-requires-clause-offline

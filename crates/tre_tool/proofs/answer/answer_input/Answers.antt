@@ -10,12 +10,12 @@ use Rattle.tre_tool.proofs.answer.answer_input.Goals as goal
 pub returns-in_err-names-clause-ends : goal.returns-in_err-names-clause-ends
 returns-in_err-names-clause-ends g c =
     let p = err_from_is_err_and c.from_residual.result c.from_residual.ensures.1 in
-    rw (p.1, p.2) (EndsOver-unopened _ _ _ c.requires.closed refl
+    rw (p.1, p.2) (EndsOver-unopened _ _ _ _ _ c.requires.closed refl
     (record { unwritten = refl; writes = refl }))
 
 pub returns-in_err-events-clause-ends : goal.returns-in_err-events-clause-ends
 returns-in_err-events-clause-ends g c =
     let p = err_from_is_err_and c.from_residual-in_err-events.result
     c.from_residual-in_err-events.ensures.1 in
-    rw (p.1, p.2) (EndsOver-unopened _ _ _ c.requires.closed refl
+    rw (p.1, p.2) (EndsOver-unopened _ _ _ _ _ c.requires.closed refl
     (record { unwritten = refl; writes = refl }))
