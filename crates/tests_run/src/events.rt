@@ -15,7 +15,7 @@ fn is_answer(alloc: Global, words: &[&str], text: &str, out: &str) -> Result<boo
 const MOMENT: &str = "[0,0] [0,0] [0,0]\nend 0\n";
 
 /// Of each row: the pattern, the trace, and the output offline and online.
-const TRACES: [(&str, &str, &str, &str); 28] = [
+const TRACES: [(&str, &str, &str, &str); 26] = [
     (
         "event(a);p",
         "@ a\n3 p\n",
@@ -91,21 +91,6 @@ const TRACES: [(&str, &str, &str, &str); 28] = [
         "[2,2] (2,3] (0,1]\nend 3\n",
         "at 2\n[2,2] (2,3] (0,1]\nat 3\nend 3\n",
     ),
-    // A chain over the moment of an event.
-    (
-        "(event(a);p)*",
-        "@ a\n2 p\n@ a\n1 p\n",
-        "[0,0] (0,3] (0,3]\n[0,3] [0,3] [0,0]\n[2,2] (2,3] (0,1]\nend 3\n",
-        "[0,0] (0,2] (0,2]\n[0,2] [0,2] [0,0]\nat 2\n\
-         [0,0] [2,3] [2,3]\n[2,2] (2,3] (0,1]\n[2,3] [2,3] [0,0]\nat 3\nend 3\n",
-    ),
-    (
-        "(p;event(a))*",
-        "2 p\n@ a\n1 p\n@ a\n",
-        "[0,2) [2,2] (0,2]\n[0,3) [3,3] (0,3]\n[0,3] [0,3] [0,0]\nend 3\n",
-        "[0,2] [0,2] [0,0]\nat 2\n[0,2) [2,2] (0,2]\n[2,3] [2,3] [0,0]\nat 3\n\
-         [0,3) [3,3] (0,3]\nend 3\n",
-    ),
     // The event closes a stretch of a given length, at an edge and at the end.
     (
         "p % [2,2];event(a)",
@@ -156,6 +141,32 @@ fn events_in_text(rt: HostRuntime) -> Result<(), Fail> {
         assert!(rt;
             is_answer(rt.alloc(), &["--online", *pattern], *text, *blocks)?,
             "{pattern} on {text}, online"
+        );
+    }
+    Ok(())
+}
+
+/// Of each row: the pattern, the trace, and the output offline. A chain goes on over the moment of an
+/// event.
+const CHAINS: [(&str, &str, &str); 2] = [
+    (
+        "(event(a);p)*",
+        "@ a\n2 p\n@ a\n1 p\n",
+        "[0,0] (0,3] (0,3]\n[0,3] [0,3] [0,0]\n[2,2] (2,3] (0,1]\nend 3\n",
+    ),
+    (
+        "(p;event(a))*",
+        "2 p\n@ a\n1 p\n@ a\n",
+        "[0,2) [2,2] (0,2]\n[0,3) [3,3] (0,3]\n[0,3] [0,3] [0,0]\nend 3\n",
+    ),
+];
+
+#[test]
+fn chains_over_events(rt: HostRuntime) -> Result<(), Fail> {
+    for (pattern, text, out) in &CHAINS {
+        assert!(rt;
+            is_answer(rt.alloc(), &[*pattern], *text, *out)?,
+            "{pattern} on {text}"
         );
     }
     Ok(())

@@ -12,7 +12,8 @@ use Rattle.tre_trace.specs.declared.segment.Segment.{Segment}
 use Rattle.tre_trace.specs.declared.fault.TraceFault.{TraceFault}
 
 -- The front of the piece was read, and this is its rest.
-pub record IsFed {Reader Terms State : Type 0} (tm : Reader → Terms) (fm : Terms → Format State) (hd : Reader → State → Type 0)
+pub record IsFed {Reader Terms State : Type 0} (tm : Reader → Terms) (fm : Terms → Format State)
+    (hd : Reader → State → Type 0)
     (reader : Reader) (part : List ℕ) (spot : Spot) (old : List Segment) (piece : List ℕ)
     (reader_now : Reader) (part_now : List ℕ) (spot_now : Spot) (new : List Segment) (rest : List ℕ)
     : Type 0 where

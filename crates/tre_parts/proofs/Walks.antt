@@ -192,7 +192,8 @@ adds-ended {fm = fm} {terms = terms} {spot = spot} here whole front separator is
 -- a fault that a reading has behind all its segments, or no memory, with nothing added
 refused-at : {told : List Segment} {before now : Reading} {old new : List Segment}
     {fault : TraceFault}
-    → before ≡ record { segments = told; last = 0; fault = None } → Grows before now → new ≡ old → fault.kind
+    → before ≡ record { segments = told; last = 0; fault = None } → Grows before now → new ≡ old
+    → fault.kind
     ≢ Spent
     → (fault.kind ≢ Memory → now ≡ behind told (faulty fault.place fault.kind))
     → IsRefused old new before now fault
@@ -208,7 +209,8 @@ refused-at {told = segments} {before = before} {now = now} {old = old} {new = ne
           (ap (λ (r : Reading). r.fault) (told other)) never_spent
     ])
 
-pub refused-ended : {Reader T S : Type 0} {tm : Reader → T} {fm : T → Format S} {hd : Reader → S → Type 0} {terms : T} {reader : Reader} {part : List ℕ}
+pub refused-ended : {Reader T S : Type 0} {tm : Reader → T} {fm : T → Format S} {hd : Reader → S
+    → Type 0} {terms : T} {reader : Reader} {part : List ℕ}
     {spot : Spot} {bytes : List ℕ} {old new : List Segment} {fault : TraceFault}
     → (here : IsAt tm fm hd terms reader part spot bytes) (whole front : List ℕ) (separator : ℕ)
     → whole ≡ part ++ front
@@ -368,7 +370,8 @@ adds-closed {fm = fm} {terms = terms} {part = part} {spot = spot} {segments = se
           ∙ ap (λ (r : Reading). r.segments ++ segments) (sym (at-nothing here));
     }
 
-pub refused-closed : {Reader T S : Type 0} {tm : Reader → T} {fm : T → Format S} {hd : Reader → S → Type 0} {terms : T} {reader : Reader} {part : List ℕ}
+pub refused-closed : {Reader T S : Type 0} {tm : Reader → T} {fm : T → Format S} {hd : Reader → S
+    → Type 0} {terms : T} {reader : Reader} {part : List ℕ}
     {spot : Spot} {bytes : List ℕ} {old new : List Segment} {fault : TraceFault}
     → (here : IsAt tm fm hd terms reader part spot bytes) → IsRefusedPart
     (part_says (fm terms) here.state part) ((fm terms).place spot) old new fault
@@ -394,7 +397,8 @@ pub refused-end : {Reader T S : Type 0} {tm : Reader → T} {fm : T → Format S
     → place ≡ spot.offset + length part
     → IsRefused old new (reading_of (fm terms) false bytes) (reading_of (fm terms) true bytes)
     (record { place = place; kind = kind })
-refused-end {fm = fm} {terms = terms} {part = part} {spot = spot} {segments = segments} here goes added place kind ends
+refused-end {fm = fm} {terms = terms} {part = part} {spot = spot}
+    {segments = segments} here goes added place kind ends
     never_spent at =
     IsRefused-told _ _ _ _ _ (adds-closed here goes added)
     (ap (λ (r : Reading). r.fault) (closed-goes here goes

@@ -44,7 +44,8 @@ Tells said holds (Wrong kind) = IsWrong said kind
 
 -- The reader has read these bytes and found no fault: it holds a state, it kept the part that
 -- isn't ended yet, and what follows is read from there.
-pub record IsAt {Reader Terms State : Type 0} (terms_of : Reader → Terms) (format : Terms → Format State) (holds : Reader → State → Type 0)
+pub record IsAt {Reader Terms State : Type 0} (terms_of : Reader → Terms)
+    (format : Terms → Format State) (holds : Reader → State → Type 0)
     (terms : Terms) (reader : Reader) (part : List ℕ) (spot : Spot) (bytes : List ℕ) : Type
     0 where
   pub named : terms_of reader ≡ terms

@@ -10,8 +10,8 @@ ghost use Rattle.tre_trace.specs.declared.segment.Segment.{Segment};
 
 /// Lines of which each is silent, says events or says a segment of a trace are that trace: with the
 /// events at its end where the input is closed, and without them while more may come. Where such
-/// lines stand in front of one with a fault, that fault is told with the number of its line, whatever
-/// follows; and so is that a line is too long, as soon as it is, whether it ends or not.
+/// lines stand in front of one with a fault, that fault is told with the number of its line,
+/// whatever follows; and so is that a line is too long, as soon as it is, whether it ends or not.
 pub fn reading()
     ensures trace { (vocabulary : Vocabulary) (lines : List (List ℕ)) (segments : List Segment)
         (last : ℕ) → AreLines lines → Say vocabulary 0 lines segments last → IsTrace segments →

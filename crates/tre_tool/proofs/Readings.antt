@@ -1,5 +1,5 @@
 -- What was read of an input, from no bytes to its end.
-use Rattle.std.proofs.Common.{◌≡◌, ◌≢◌, ◌+◌, ◌≤◌, ℕ, Bool, true, false, List, [], ◌++◌, length, take, Option, None, Some, IsTrue, IfErr, Result, Ok, Err, refl, sym, subst, arith, length-take}
+use Rattle.std.proofs.Common.{◌≡◌, ◌≢◌, ◌∙◌, ◌+◌, ◌≤◌, ℕ, Bool, true, false, List, [], ◌++◌, length, take, Option, None, Some, IsTrue, IfErr, Result, Ok, Err, refl, sym, ap, subst, arith, length-take}
 use Rattle.std.specs.Io.KnownBytes.{Consumes, Keeps, IsAtEnd}
 use Rattle.std.proofs.KnownBytes.{Consumes-nil, Consumes-whole}
 use Rattle.tre_parts.specs.Format.{reading_from}
@@ -243,3 +243,12 @@ pub reading_in-nothing : (format : Format) (declared names : Vocabulary)
 reading_in-nothing Text declared names = text_reading-nothing names
 reading_in-nothing Vcd declared names =
     vcd_reading-nothing (record { names = names; declared = declared })
+
+-- two lists of names are a vocabulary
+pub vocabulary_same : (names events : List (List ℕ)) (other : Vocabulary) → names ≡ other.names
+    → events ≡ other.events → record { names = names; events = events } ≡ other
+vocabulary_same names events other same same' =
+    ap (λ all. vocabulary_of all events) same ∙ ap (vocabulary_of other.names) same'
+  where
+    vocabulary_of : List (List ℕ) → List (List ℕ) → Vocabulary
+    vocabulary_of all more = record { names = all; events = more }

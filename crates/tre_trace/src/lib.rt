@@ -3,9 +3,9 @@
 //!
 //! A [`Trace`] is seen as the list of its segments and the events at its end. Each segment is at
 //! least one tick long and the last ends at `TIME_MAX` or earlier. A [`TraceReader`] reads one from
-//! bytes that come in pieces: its contract says what the bytes say, however they are cut. The layers
-//! above rely on these two. Beside the segments a trace keeps planes: the values of one proposition,
-//! a bit a segment.
+//! bytes that come in pieces: its contract says what the bytes say, however they are cut. The
+//! layers above rely on these two. Beside the segments a trace keeps planes: the values of one
+//! proposition, a bit a segment.
 //!
 //! ```text
 //! let mut trace = Trace::new(alloc);

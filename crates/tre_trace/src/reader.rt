@@ -55,8 +55,8 @@ pub trait TraceReader {
         ensures same_terms { terms self.new ≡ terms self.old };
 
     /// Reads the end of the input, and puts the segments that it completes behind the others.
-    /// Ok says that the bytes are a whole trace, and gives the events at its end: bit i says whether
-    /// event i happens.
+    /// Ok says that the bytes are a whole trace, and gives the events at its end: bit i says
+    /// whether event i happens.
     fn finish(&mut self, segments: &mut Vec<Segment>) -> Result<u64, TraceFault>
         ensures whole { (bytes : List ℕ) → represents self.old bytes →
             OnOk result ((reading (terms self.old) true bytes).fault ≡ None) }
