@@ -15,40 +15,53 @@ tell_matches-requires-clause-nothing g c =
     rw c.requires.same (reading_in-nothing c.args.job.now.format
     (all_names (alone (pattern_tree c.args.pattern) names)) names)
 
-pub returns-in_err-tell_matches-clause-ends : goal.returns-in_err-tell_matches-clause-ends
-returns-in_err-tell_matches-clause-ends g c =
+pub returns-in_err-tell_matches-in-Online-clause-ends :
+    goal.returns-in_err-tell_matches-in-Online-clause-ends
+returns-in_err-tell_matches-in-Online-clause-ends g c =
     let p = err_from_is_err_and c.from_residual.result c.from_residual.ensures.1 in
     rw (p.1, p.2) (EndsOver-telling c.args.job.now (pattern_tree c.args.pattern)
-    (names_of c.args.pattern) _ _ c.in_err-tell_matches.field-0.0 c.in-Online.is
-    (rw c.requires.same at c.in_err-tell_matches.ensures.ends))
+    (names_of c.args.pattern) _ _ c.in_err-tell_matches-in-Online.field-0.0 c.in-Online.is
+    (rw c.requires.same at c.in_err-tell_matches-in-Online.ensures.ends))
 
-pub returns-in-Online-clause-ends : goal.returns-in-Online-clause-ends
-returns-in-Online-clause-ends g c =
+pub returns-in_ok-tell_matches-in-Online-clause-ends :
+    goal.returns-in_ok-tell_matches-in-Online-clause-ends
+returns-in_ok-tell_matches-in-Online-clause-ends g c =
     EndsOver-telling c.args.job.now (pattern_tree c.args.pattern)
     (names_of c.args.pattern) _ _ Done c.in-Online.is
-    (rw c.requires.same at c.in_ok-tell_matches.ensures.ends)
+    (rw c.requires.same at c.in_ok-tell_matches-in-Online.ensures.ends)
 
 pub matches_text-requires-clause-offline : goal.matches_text-requires-clause-offline
 matches_text-requires-clause-offline g c =
     is_offline c.args.job.now.mode c.requires.reads c.in_default.not-Online
 
-pub returns-in_err-text-clause-ends : goal.returns-in_err-text-clause-ends
-returns-in_err-text-clause-ends g c =
-    let p = err_from_is_err_and c.from_residual-in_err-text.result
-    c.from_residual-in_err-text.ensures.1 in
-    rw (p.1, p.2) (EndsOver-stopped _ _ _ _ c.in_err-text.ensures.stops
-    (record { unwritten = refl; writes = refl }))
+pub returns-in_err-text-in_default : goal.returns-in_err-text-in_default
+returns-in_err-text-in_default g c =
+    let p = err_from_is_err_and c.from_residual-in_err-text-in_default.result
+    c.from_residual-in_err-text-in_default.ensures.1 in
+    rw (p.1, p.2) (record {
+      ends = EndsOver-stopped _ _ _ _ c.in_err-text-in_default.ensures.stops
+          (record { unwritten = refl; writes = refl });
+      bounded = c.in_err-text-in_default.ensures.bounded;
+      by_name = c.in_err-text-in_default.ensures.by_name;
+    })
 
-pub returns-in_err-write_text-clause-ends : goal.returns-in_err-write_text-clause-ends
-returns-in_err-write_text-clause-ends g c =
-    let p = err_from_is_err_and c.from_residual-in_err-write_text.result
-    c.from_residual-in_err-write_text.ensures.1 in
-    rw (p.1, p.2, c.in_err-write_text.ensures.status)
-    (EndsOver-cut _ _ _ _ c.in_default.not-Online c.in_ok-text.ensures.found
-    c.in_err-write_text.ensures.cause (rw c.as_str.ensures.value at
-    c.in_err-write_text.ensures.part))
+pub returns-in_err-write_text-in_default : goal.returns-in_err-write_text-in_default
+returns-in_err-write_text-in_default g c =
+    let p = err_from_is_err_and c.from_residual-in_err-write_text-in_default.result
+    c.from_residual-in_err-write_text-in_default.ensures.1 in
+    rw (p.1, p.2, c.in_err-write_text-in_default.ensures.status) (record {
+      ends = EndsOver-cut _ _ _ _ c.in_default.not-Online c.in_ok-text-in_default.ensures.found
+          c.in_err-write_text-in_default.ensures.cause (rw c.as_str.ensures.value at
+          c.in_err-write_text-in_default.ensures.part);
+      bounded = c.in_ok-text-in_default.ensures.bounded;
+      by_name = c.in_ok-text-in_default.ensures.by_name;
+    })
 
-pub returns-clause-ends : goal.returns-clause-ends
-returns-clause-ends g c =
-    EndsOver-done _ _ _ _ c.in_ok-text.ensures.found c.in_ok-write_text.ensures.good
-    (rw c.as_str.ensures.value at c.in_ok-write_text.ensures.all)
+pub returns-in_ok-write_text-in_default : goal.returns-in_ok-write_text-in_default
+returns-in_ok-write_text-in_default g c = record {
+  ends = EndsOver-done _ _ _ _ c.in_ok-text-in_default.ensures.found
+      c.in_ok-write_text-in_default.ensures.good
+      (rw c.as_str.ensures.value at c.in_ok-write_text-in_default.ensures.all);
+  bounded = c.in_ok-text-in_default.ensures.bounded;
+  by_name = c.in_ok-text-in_default.ensures.by_name;
+}
