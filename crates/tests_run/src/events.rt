@@ -40,12 +40,7 @@ const TRACES: [(&str, &str, &str, &str); 26] = [
     ("event(a)*", "@ a\n", MOMENT, MOMENT),
     ("p;event(a)", "@ a\n", "end 0\n", "end 0\n"),
     // Names that aren't in the pattern.
-    (
-        "event(a)",
-        "@ b\n2 p\n@ b c\n",
-        "end 2\n",
-        "at 2\nend 2\n",
-    ),
+    ("event(a)", "@ b\n2 p\n@ b c\n", "end 2\n", "at 2\nend 2\n"),
     // Events at the begin of a segment in the middle, and at the last moment.
     (
         "event(a)",
@@ -146,8 +141,8 @@ fn events_in_text(rt: HostRuntime) -> Result<(), Fail> {
     Ok(())
 }
 
-/// Of each row: the pattern, the trace, and the output offline. A chain goes on over the moment of an
-/// event.
+/// Of each row: the pattern, the trace, and the output offline. A chain goes on over the moment of
+/// an event.
 const CHAINS: [(&str, &str, &str); 2] = [
     (
         "(event(a);p)*",
@@ -250,8 +245,20 @@ const DUMP_WORDS: [&str; 3] = ["--format", "vcd", "event(top.x)"];
 /// Of each row: the words, the input, the code, and both outputs. Of an input with a fault, or that
 /// is too long, no end is told, and nothing that it might have completed.
 const REFUSED: [(&[&str], &str, u8, &str, &str); 9] = [
-    (&["event(true)"], "", 3, "", "montre: expression: Syntax at 6\n"),
-    (&["event(a)"], "@x", 4, "", "montre: trace: BadNumber at 1\n"),
+    (
+        &["event(true)"],
+        "",
+        3,
+        "",
+        "montre: expression: Syntax at 6\n",
+    ),
+    (
+        &["event(a)"],
+        "@x",
+        4,
+        "",
+        "montre: trace: BadNumber at 1\n",
+    ),
     (&["event(a)"], "@ 9", 4, "", "montre: trace: BadName at 1\n"),
     (
         &["--online", "event(a)"],
@@ -281,7 +288,13 @@ const REFUSED: [(&[&str], &str, u8, &str, &str); 9] = [
         "",
         "montre: input too long\n",
     ),
-    (&DUMP_WORDS, EVENT_ALONE, 4, "", "montre: trace: UnknownName at 59\n"),
+    (
+        &DUMP_WORDS,
+        EVENT_ALONE,
+        4,
+        "",
+        "montre: trace: UnknownName at 59\n",
+    ),
     (
         &["--format", "vcd", "top.e"],
         EVENT_ALONE,

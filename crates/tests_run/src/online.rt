@@ -56,8 +56,8 @@ const FROM_EVENTS: &str = "(event(a);p)*";
 
 const TO_EVENTS: &str = "(p;event(a))*";
 
-/// Of each row: the pattern, the trace, the block, the stretch, and whether the block tells it. Behind
-/// the last block, in the place of the next, stands what the end completes.
+/// Of each row: the pattern, the trace, the block, the stretch, and whether the block tells it.
+/// Behind the last block, in the place of the next, stands what the end completes.
 const TOLD: [(&str, &str, u64, Stretch, bool); 18] = [
     ("p", "2 p\n3 p\n", 1, (0, 2, 1), true),
     ("p", "2 p\n3 p\n", 1, (1, 3, 2), true),
