@@ -279,8 +279,12 @@ module _ (job : Job) (tree : PatternTree) (names : Vocabulary) where
       ∙ front_known reading.segments (cut.front ++ cut.segment ∷ []) cut.rest split in
       let trace = quiet (take (suc count) reading.segments) in
       let counts : length cut.cut.blocks ≡ length cut.front =
-      omega (arith, cut.cut.transcript.count, length-append cut.cut.blocks (cut.cut.zones ∷ []),
-      length-append cut.front (cut.segment ∷ [])) in
+      omega (
+        arith,
+        cut.cut.transcript.count,
+        length-append cut.cut.blocks (cut.cut.zones ∷ []),
+        length-append cut.front (cut.segment ∷ []),
+      ) in
       record {
         opened = cut.opened;
         readings = readings_of request cut.known.closed bytes;
@@ -295,15 +299,21 @@ module _ (job : Job) (tree : PatternTree) (names : Vocabulary) where
           last = cut.last;
           prompt = cut.prompt;
         };
-        few = omega (arith, ap length cut.known.known,
-            length-append cut.front (cut.segment ∷ cut.rest));
+        few = omega (
+          arith,
+          ap length cut.known.known,
+          length-append cut.front (cut.segment ∷ cut.rest),
+        );
         accounts = account_of tree names trace blocks [] ∷ [];
         are = AreAccounts-alone tree names trace blocks [] (rw here cut.cut.transcript);
-        cut = rw (before, here,
-            front_text-alone tree names (quiet (cut.front ++ cut.segment ∷ [])) cut.cut.blocks
-            (cut.cut.zones ∷ []) [] cut.front counts,
-            blocks_text-alone tree names (quiet (cut.front ++ cut.segment ∷ [])) blocks []
-            (cut.front ++ cut.segment ∷ []) cut.cut.transcript.count) cut.cut.cut;
+        cut = rw (
+          before,
+          here,
+          front_text-alone tree names (quiet (cut.front ++ cut.segment ∷ [])) cut.cut.blocks
+              (cut.cut.zones ∷ []) [] cut.front counts,
+          blocks_text-alone tree names (quiet (cut.front ++ cut.segment ∷ [])) blocks []
+              (cut.front ++ cut.segment ∷ []) cut.cut.transcript.count,
+        ) cut.cut.cut;
       }
 
   -- the one trace that the bytes are
@@ -356,8 +366,11 @@ module _ (job : Job) (tree : PatternTree) (names : Vocabulary) where
       record {
         text = cut.text;
         right = IsOnlineAnswer-alone bytes cut.text answer;
-        cut = rw (same, blocks_text-alone tree names answer.trace answer.blocks answer.zones
-            answer.trace.segments answer.transcript.count) cut.cut;
+        cut = rw (
+          same,
+          blocks_text-alone tree names answer.trace answer.blocks answer.zones
+              answer.trace.segments answer.transcript.count,
+        ) cut.cut;
       }
 
   pub EndIsCut-alone : (input : InputTold) (output : OutputTold)

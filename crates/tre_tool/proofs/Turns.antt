@@ -314,14 +314,14 @@ pub IsEnded-end : {represents : List ℕ → Type 0} (reading : Bool → List �
     → (reading true bytes).fault ≡ None → last ≡ (reading true bytes).last
     → IsEnded reading limit file left bytes old new last
 IsEnded-end reading limit file left found bytes old mid new last at_end same all whole told =
-  record {
-  front = at_end.front;
-  all_read = at_end.all_read;
-  within = at_end.within;
-  whole = whole;
-  last_is = told;
-  all = rw (take-over limit bytes at_end.within) (rw same at all);
-}
+    record {
+      front = at_end.front;
+      all_read = at_end.all_read;
+      within = at_end.within;
+      whole = whole;
+      last_is = told;
+      all = rw (take-over limit bytes at_end.within) (rw same at all);
+    }
 
 -- a turn whose end was refused
 pub StopsTurn-end : {represents : List ℕ → Type 0} (reading : Bool → List ℕ → Reading)

@@ -88,7 +88,13 @@ fn matches_text<S: Source, R: TraceReader>(
     ensures by_name { IsTrue (S.opened input.new) →
         IfSome (S.file_name input.old) (λ told. told ≡ job.now.input) }
 {
-    let trace = read_trace(alloc, job.input.text(), job.max_bytes as usize, reader, input)?;
+    let trace = read_trace(
+        alloc,
+        job.input.text(),
+        job.max_bytes as usize,
+        reader,
+        input,
+    )?;
     let end = trace.end();
     let set = matches(alloc, pattern, &trace)?;
     // The text needs the memory that the trace took.

@@ -117,12 +117,7 @@ fn tell_blocks<O: Sink>(
 }
 
 // Writes what the end of the trace completes, and then where it is, as one text.
-fn tell_end<O: Sink>(
-    alloc: Global,
-    session: Session,
-    last: u64,
-    out: &mut O,
-) -> Result<(), Status>
+fn tell_end<O: Sink>(alloc: Global, session: Session, last: u64, out: &mut O) -> Result<(), Status>
     ensures told { (tree : PatternTree) (segments : List Segment) (before : Option (List ℕ)) →
         HasTold session tree segments before (O.written out.old) →
         OnOk result (HasClosed tree (timeline_of segments last) before (O.written out.new)) }
