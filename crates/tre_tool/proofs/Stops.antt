@@ -128,6 +128,13 @@ module _ (job : Job) (tree : PatternTree) (names : Vocabulary) (input : InputTol
         });
   }
 
+-- a run that shows its pattern, or makes its trace, isn't online
+pub shows_at_once : (mode : Mode) → mode ≡ Show → mode ≡ Online → ⊥
+shows_at_once mode shows online = cc
+
+pub makes_at_once : (mode : Mode) (count : ℕ) → mode ≡ Generate count → mode ≡ Online → ⊥
+makes_at_once mode count makes online = cc
+
 -- a mode that reads an input and isn't online is offline
 pub is_offline : (mode : Mode) → ReadsInput mode → (mode ≡ Online → ⊥) → mode ≡ Offline
 is_offline Offline reads other = refl

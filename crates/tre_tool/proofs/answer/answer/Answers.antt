@@ -1,13 +1,12 @@
-use Rattle.std.proofs.Common.{◌≡◌, refl}
+use Rattle.std.proofs.Common.{refl}
 use Rattle.std.proofs.lemmas.Result.{err_from_is_err_and}
 use Rattle.tre_syntax.specs.Pattern.{pattern_tree, names_of}
 use Rattle.tre_tool.specs.Devices.{input_told, output_told}
 use Rattle.tre_tool.specs.Answer.{request_for}
-use Rattle.tre_tool.specs.declared.job.Mode.TheVariants.{Online}
 use Rattle.tre_tool.specs.declared.status.Status.TheVariants.{Memory}
 use Rattle.tre_tool.proofs.Alone.{shown_in, made_in}
 use Rattle.tre_tool.proofs.Promise.{EndsOver-stopped, EndsOver-cut, EndsOver-done}
-use Rattle.tre_tool.proofs.Stops.{StopsAs-memory, reads_input}
+use Rattle.tre_tool.proofs.Stops.{StopsAs-memory, reads_input, shows_at_once, makes_at_once}
 use Rattle.tre_tool.proofs.answer.answer.Goals as goal
 
 pub returns-in_err-text-in-Show-clause-ends : goal.returns-in_err-text-in-Show-clause-ends
@@ -20,7 +19,7 @@ returns-in_err-text-in-Show-clause-ends g c =
     g.S.Source.opened g.S.Source.left g.S.Source.found g.S.Source.faults c.args.input.now
     c.args.input.now in
     let output = output_told g.O.Sink.written g.O.Sink.faults c.args.out.now c.args.out.now in
-    let once : c.args.job.now.mode ≡ Online → ⊥ = λ online. cc in
+    let once = shows_at_once c.args.job.now.mode c.in-Show.is in
     rw (p.1, p.2) (EndsOver-stopped request input output Memory
     (StopsAs-memory request input once refl) (record { unwritten = refl; writes = refl }))
 
@@ -30,7 +29,7 @@ returns-in_err-write_text-in-Show-clause-ends g c =
     let p = err_from_is_err_and c.from_residual-in_err-write_text-in-Show.result
     c.from_residual-in_err-write_text-in-Show.ensures.1 in
     rw (p.1, p.2, c.in_err-write_text-in-Show.ensures.status)
-    (EndsOver-cut _ _ _ _ (λ online. cc) (record {
+    (EndsOver-cut _ _ _ _ (shows_at_once c.args.job.now.mode c.in-Show.is) (record {
       reads = refl;
       right = shown_in c.args.job.now (pattern_tree c.args.pattern) (names_of c.args.pattern)
           c.args.job.now.mode _ _ c.in-Show.is c.in_ok-text-in-Show.ensures;
@@ -57,7 +56,7 @@ returns-in_err-text-in-Generate-clause-ends g c =
     g.S.Source.opened g.S.Source.left g.S.Source.found g.S.Source.faults c.args.input.now
     c.args.input.now in
     let output = output_told g.O.Sink.written g.O.Sink.faults c.args.out.now c.args.out.now in
-    let once : c.args.job.now.mode ≡ Online → ⊥ = λ online. cc in
+    let once = makes_at_once c.args.job.now.mode _ c.in-Generate.is in
     rw (p.1, p.2) (EndsOver-stopped request input output Memory
     (StopsAs-memory request input once refl) (record { unwritten = refl; writes = refl }))
 
@@ -67,7 +66,7 @@ returns-in_err-write_text-in-Generate-clause-ends g c =
     let p = err_from_is_err_and c.from_residual-in_err-write_text-in-Generate.result
     c.from_residual-in_err-write_text-in-Generate.ensures.1 in
     rw (p.1, p.2, c.in_err-write_text-in-Generate.ensures.status)
-    (EndsOver-cut _ _ _ _ (λ online. cc) (record {
+    (EndsOver-cut _ _ _ _ (makes_at_once c.args.job.now.mode _ c.in-Generate.is) (record {
       reads = refl;
       right = made_in c.args.job.now (pattern_tree c.args.pattern) (names_of c.args.pattern)
           c.args.job.now.mode _ _ _ c.in-Generate.is c.in_ok-text-in-Generate.ensures;
