@@ -1,8 +1,8 @@
 -- What is told of one pattern alone, as what is told of a list of one.
-use Rattle.std.proofs.Common.{◌≡◌, ◌∙◌, ℕ, zero, suc, ◌+◌, ◌<◌, ◌≤◌, true, List, [], ◌∷◌, ◌++◌, All, length, take, Option, None, Some, IfSome, refl, sym, ap, subst, arith, length-append, append-nil, append_assoc, codes}
-use Rattle.std.proofs.Math.Seq.{get_or-append_seam, take-append_seam, take-append-add}
+use Rattle.std.proofs.Common.{◌≡◌, ◌∙◌, ℕ, zero, suc, ◌+◌, ◌≤◌, true, List, [], ◌∷◌, ◌++◌, All, length, take, Option, None, Some, IfSome, refl, sym, ap, arith, length-append, append-nil, append_assoc, codes}
+use Rattle.std.proofs.Math.Seq.{get_or-append_seam, take-append_seam}
 use Rattle.tre_generate.specs.Summary.{IsSummary}
-use Rattle.tre_show.specs.Line.{line_of, lines_of, offline_text}
+use Rattle.tre_show.specs.Line.{lines_of, offline_text}
 use Rattle.tre_show.specs.PatternText.{expression_text}
 use Rattle.tre_syntax.specs.PatternTree.{PatternTree}
 use Rattle.tre_trace.specs.Reading.{Reading, Vocabulary}
@@ -10,15 +10,15 @@ use Rattle.tre_trace.specs.Trace.{Timeline, quiet, end_of, IsTrace}
 use Rattle.tre_trace.specs.declared.segment.Segment.{Segment}
 use Rattle.tre_zone.specs.declared.zone_bounds.ZoneBounds.{ZoneBounds}
 use Rattle.tre_tool.specs.Answer.{request_for}
-use Rattle.tre_tool.specs.Blocks.{Account, AreAccounts, AreClosed, blocks_from, blocks_text, ending_text}
-use Rattle.tre_tool.specs.Devices.{InputTold, OutputTold, AllWritesGood, OfAllBytes}
+use Rattle.tre_tool.specs.Blocks.{Account, AreAccounts, blocks_from, blocks_text, ending_text}
+use Rattle.tre_tool.specs.Devices.{InputTold, OutputTold, AllWritesGood}
 use Rattle.tre_tool.specs.Feeding.{IsDecided}
-use Rattle.tre_tool.specs.Online.{BlocksWritten, AreKnown, FirstBlocksStand as FirstAlone, BlockIsCut as BlockAlone, BlocksSoFarStand as SoFarAlone, AllBlocksStand as AllAlone, IsOnlineAnswer as AnswerAlone, AnswerIsCut as CutAlone, EndIsCut as EndAlone}
+use Rattle.tre_tool.specs.Online.{BlocksWritten, FirstBlocksStand as FirstAlone, BlockIsCut as BlockAlone, BlocksSoFarStand as SoFarAlone, AllBlocksStand as AllAlone, IsOnlineAnswer as AnswerAlone, AnswerIsCut as CutAlone, EndIsCut as EndAlone}
 use Rattle.tre_tool.specs.Outcome.{Outcome, ComesTo, IsReadingOf, reading_in}
 use Rattle.tre_tool.specs.Readings.{reading_for, readings_of, readings_within, AreTraces, InputComesTo}
 use Rattle.tre_tool.specs.Request.{alone, all_names}
 use Rattle.tre_tool.specs.Run.{ReadsInput, way_of, IsAnswerIn, StandsSoFar, EndsAtInput}
-use Rattle.tre_tool.specs.Standing.{IsCutBehind, BlocksStand, AllStand, BlocksSoFarStand, IsPrompt, FirstBlocksStand, BlockIsCut, IsOnlineAnswer, AnswerIsCut, EndIsCut}
+use Rattle.tre_tool.specs.Standing.{BlocksStand, AllStand, BlocksSoFarStand, FirstBlocksStand, BlockIsCut, IsOnlineAnswer, AnswerIsCut, EndIsCut}
 use Rattle.tre_tool.specs.Transcript.{block_text, block_texts, online_text, IsTranscript, IsClosing}
 use Rattle.tre_tool.specs.declared.job.Job.{Job}
 use Rattle.tre_tool.specs.declared.job.Mode.{Mode}

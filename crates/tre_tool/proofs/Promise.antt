@@ -15,9 +15,9 @@ use Rattle.tre_tool.specs.Answer.{EndsOver, StopsAs, IsFoundFor, request_for}
 use Rattle.tre_tool.specs.Devices.{InputTold, OutputTold, NothingWritten, NothingDone, AllWritesGood}
 use Rattle.tre_tool.specs.Job.{GivesWhere, GivesJob, is_made_run}
 use Rattle.tre_tool.specs.Outcome.{Outcome, completes, refuses, exceeds}
-use Rattle.tre_tool.specs.Readings.{AreTraces, common, reading_for, outcome_for, InputComesTo}
+use Rattle.tre_tool.specs.Readings.{AreTraces, common, reading_for, outcome_for}
 use Rattle.tre_tool.specs.Request.{Sought, Request, Spell, ArePatterns, IsRefusedText, IsRefusalOf, IsRefusalIn, AsksFor, Asks, IsRefused, GiveNone, AsksForNothing}
-use Rattle.tre_tool.specs.Run.{ReadsInput, IsAnswerIn, PartIsWritten, EndsAs, EndsDone, EndsAtInput, EndsReadFault, EndsWriteFault, IsStatusFor, IsUnlessMemory, IsComplete, IsLineTold}
+use Rattle.tre_tool.specs.Run.{ReadsInput, IsAnswerIn, EndsAs, EndsDone, EndsAtInput, EndsReadFault, EndsWriteFault, IsStatusFor, IsUnlessMemory, IsComplete, IsLineTold}
 use Rattle.tre_tool.specs.Status.{words_status, parse_status}
 use Rattle.tre_tool.specs.declared.job.Format.{Format}
 use Rattle.tre_tool.specs.declared.job.Job.{Job}

@@ -1,7 +1,7 @@
 -- How the telling of an input ends.
 use Rattle.std.proofs.Common.{◌≡◌, ◌≢◌, ◌∙◌, ℕ, ◌+◌, ◌-◌, ◌≤◌, Bool, true, false, List, [], ◌∷◌, ◌++◌, length, take, drop, Option, None, Some, IfErr, IsTrue, Result, Ok, Err, refl, sym, ap, subst, inl, inr, arith, length-append, append-nil, append_assoc, take-append-drop}
-use Rattle.std.specs.Io.KnownBytes.{Appends, Keeps}
-use Rattle.std.proofs.KnownBytes.{Appends-trans, Consumes-nil}
+use Rattle.std.specs.Io.KnownBytes.{Keeps}
+use Rattle.std.proofs.KnownBytes.{Consumes-nil}
 use Rattle.std.proofs.Math.Seq.{take-append_seam}
 use Rattle.std.proofs.lemmas.List.{take-append-le}
 use Rattle.tre_online.specs.Session.{pattern_of, StandsFor}
@@ -11,7 +11,6 @@ use Rattle.tre_syntax.specs.PatternTree.{PatternTree}
 use Rattle.tre_trace.specs.Reading.{Reading, Adds}
 use Rattle.tre_trace.specs.Trace.{IsTrace, timeline_of}
 use Rattle.tre_trace.specs.declared.segment.Segment.{Segment}
-use Rattle.tre_zone.specs.declared.zone_bounds.ZoneBounds.{ZoneBounds}
 use Rattle.tre_tool.specs.Devices.{InputTold, OutputTold, AllReadsGood, AllWritesGood}
 use Rattle.tre_tool.specs.Feeding.{IsFed, HasRead, GoesOn, IsEnded, StopsTurn}
 use Rattle.tre_tool.specs.Input.{HasReadCause}

@@ -1,5 +1,5 @@
 -- What was told of the segments that a session was given, and what stands where it stopped.
-use Rattle.std.proofs.Common.{◌≡◌, ◌∙◌, ℕ, suc, ◌+◌, false, List, [], ◌∷◌, ◌++◌, length, Option, None, Some, refl, sym, ap, arith, length-append, append-nil, append_assoc}
+use Rattle.std.proofs.Common.{◌≡◌, ◌∙◌, ℕ, suc, ◌+◌, List, [], ◌∷◌, ◌++◌, length, Option, None, Some, refl, sym, ap, arith, length-append, append-nil, append_assoc}
 use Rattle.std.specs.Io.KnownBytes.{Appends}
 use Rattle.std.specs.List.Sorted.{IsPermutation}
 use Rattle.std.proofs.KnownBytes.{Appends-trans}
@@ -11,7 +11,7 @@ use Rattle.tre_online.specs.Session.{pattern_of, at_of, ended_of, StandsFor, Tel
 use Rattle.tre_online.specs.declared.session.Session.{Session}
 use Rattle.tre_syntax.specs.Pattern.{pattern_tree}
 use Rattle.tre_syntax.specs.PatternTree.{PatternTree}
-use Rattle.tre_trace.specs.Trace.{IsRefusedFor, timeline_of, end_of}
+use Rattle.tre_trace.specs.Trace.{IsRefusedFor, timeline_of}
 use Rattle.tre_trace.specs.declared.fault.PushFault.{PushFault}
 use Rattle.tre_trace.specs.declared.fault.PushFault.TheVariants.{Zero, TooLate, Memory}
 use Rattle.tre_trace.specs.declared.segment.Segment.{Segment}

@@ -19,7 +19,7 @@ use Rattle.tre_tool.specs.declared.job.Job.{Job}
 use Rattle.tre_tool.specs.declared.job.Mode.{Mode}
 use Rattle.tre_tool.specs.declared.job.Mode.TheVariants.{Offline, Online, Show, Generate}
 use Rattle.tre_tool.specs.declared.status.Status.{Status}
-use Rattle.tre_tool.specs.declared.status.Status.TheVariants.{Done, Usage, Expression, Trace, InputTooLong, ReadFault, WriteFault, Memory}
+use Rattle.tre_tool.specs.declared.status.Status.TheVariants.{Done, Usage, Trace, InputTooLong, ReadFault, WriteFault, Memory}
 
 -- The modes of a run that reads the input.
 abbrev pub ReadsInput : Mode → Type 0

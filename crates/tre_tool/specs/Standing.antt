@@ -6,7 +6,7 @@ use Rattle.tre_trace.specs.Reading.{Reading}
 use Rattle.tre_trace.specs.Trace.{Timeline}
 use Rattle.tre_tool.specs.Blocks.{Account, AreAccounts, AreClosed, blocks_text, ending_text}
 use Rattle.tre_tool.specs.Devices.{InputTold, OutputTold, AllWritesGood, WereRead, OfAllBytes, HasLastPiece}
-use Rattle.tre_tool.specs.Readings.{readings_of, readings_within, reading_for, common, fronts, AreTraces}
+use Rattle.tre_tool.specs.Readings.{readings_of, reading_for, common, fronts, AreTraces}
 use Rattle.tre_tool.specs.Request.{Request}
 
 -- The blocks of the first segments of the readings were written, as many as `count`, and nothing

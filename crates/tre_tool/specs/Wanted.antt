@@ -1,5 +1,5 @@
 -- The pairs that a request asks for, and the text that tells all of them at once.
-use Rattle.std.specs.Prelude.{◌≡◌, ℕ, ◌⊎◌, true, List, [], ◌∷◌}
+use Rattle.std.specs.Prelude.{◌≡◌, ℕ, ◌⊎◌, true, List, ◌∷◌}
 use Rattle.tre_pairs.specs.Pairs.{Pairs}
 use Rattle.tre_show.specs.Line.{offline_text}
 use Rattle.tre_show.specs.Order.{IsRising}

@@ -6,7 +6,7 @@ use Rattle.tre_tool.specs.Answer.{request_for}
 use Rattle.tre_tool.specs.declared.status.Status.TheVariants.{Memory}
 use Rattle.tre_tool.proofs.Alone.{shown_in, made_in}
 use Rattle.tre_tool.proofs.Promise.{EndsOver-stopped, EndsOver-cut, EndsOver-done}
-use Rattle.tre_tool.proofs.Stops.{StopsAs-memory, reads_input, shows_at_once, makes_at_once}
+use Rattle.tre_tool.proofs.Stops.{StopsAs-memory, shows_at_once, makes_at_once}
 use Rattle.tre_tool.proofs.answer.answer.Goals as goal
 
 pub returns-in_err-text-in-Show-clause-ends : goal.returns-in_err-text-in-Show-clause-ends
