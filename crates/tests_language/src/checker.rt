@@ -7,7 +7,7 @@ ghost use Rattle.tre_syntax.specs.PatternTree.{NumbersBelow};
 
 use tre_state::{NAMES_MAX, State};
 use tre_syntax::{Expr, Pattern};
-use tre_trace::Segment;
+use tre_trace::Trace;
 
 /// Whether the pattern matches the stretch from `a/n` to `b/n`, which lies within the trace, if a
 /// match needs at most `cuts` cuts.
@@ -17,7 +17,7 @@ use tre_trace::Segment;
 /// on the whole parts of the times and on the order of their fractional parts alone. Between two
 /// neighbouring multiples of `1/n` there are `cuts` finer ones, and that is room for all the cuts
 /// in any order.
-pub(crate) fn decide(pattern: &Pattern, trace: &[Segment], a: u8, b: u8, n: u8, cuts: u8) -> bool {
+pub(crate) fn decide(pattern: &Pattern, trace: &Trace, a: u8, b: u8, n: u8, cuts: u8) -> bool {
     let finer = u64::from(cuts) + 1;
     let n = u32::from(n) * (u32::from(cuts) + 1);
     let a = u64::from(a) * finer;
@@ -27,7 +27,7 @@ pub(crate) fn decide(pattern: &Pattern, trace: &[Segment], a: u8, b: u8, n: u8, 
 
 // Whether the expression matches the stretch, with cuts at the multiples of `1/n` alone.
 #[cycle(checker)]
-fn matches(expr: &Expr, trace: &[Segment], a: u64, b: u64, n: u32) -> bool
+fn matches(expr: &Expr, trace: &Trace, a: u64, b: u64, n: u32) -> bool
     requires numbers { NumbersBelow NAMES_MAX (tree_of expr.now) }
     requires positive { 0 < n }
 {
@@ -36,6 +36,7 @@ fn matches(expr: &Expr, trace: &[Segment], a: u64, b: u64, n: u32) -> bool
         Expr::Lit(s) => a < b && holds_between(s, trace, a, b, n),
         Expr::Rise(s) => a == b && has_edge(s, trace, a, n, true),
         Expr::Fall(s) => a == b && has_edge(s, trace, a, n, false),
+        Expr::Event(number) => a == b && happens(*number, trace, a, n),
         Expr::Seq(e, f) => {
             for cut in a..=b {
                 if matches(e, trace, a, cut, n) && matches(f, trace, cut, b, n) {
@@ -56,7 +57,7 @@ fn matches(expr: &Expr, trace: &[Segment], a: u64, b: u64, n: u32) -> bool
 // Whether steps lead from `a` to `b`. Those in which no time passes can be left out, so the moments
 // that are reached are found in rising order. No more than 64 moments are looked at.
 #[cycle(checker)]
-fn repeat(expr: &Expr, trace: &[Segment], a: u64, b: u64, n: u32) -> bool
+fn repeat(expr: &Expr, trace: &Trace, a: u64, b: u64, n: u32) -> bool
     requires numbers { NumbersBelow NAMES_MAX (tree_of expr.now) }
     requires positive { 0 < n }
 {
@@ -71,7 +72,7 @@ fn repeat(expr: &Expr, trace: &[Segment], a: u64, b: u64, n: u32) -> bool
 
 // The moments up to `b` to which one step leads from the cut, each as a bit counted from `a`.
 #[cycle(checker)]
-fn steps_from(expr: &Expr, trace: &[Segment], a: u64, cut: u64, b: u64, n: u32) -> u64
+fn steps_from(expr: &Expr, trace: &Trace, a: u64, cut: u64, b: u64, n: u32) -> u64
     requires numbers { NumbersBelow NAMES_MAX (tree_of expr.now) }
     requires positive { 0 < n }
 {
@@ -90,11 +91,11 @@ fn bit(place: u64) -> u64 {
 }
 
 // Whether the state is true on each segment that has a moment strictly between.
-fn holds_between(state: &State, trace: &[Segment], a: u64, b: u64, n: u32) -> bool
+fn holds_between(state: &State, trace: &Trace, a: u64, b: u64, n: u32) -> bool
     requires { StateNumbersBelow NAMES_MAX (state_tree_of state.now) }
 {
     let mut start: u64 = 0;
-    for segment in trace {
+    for segment in trace.segments() {
         let end = start.saturating_add(segment.len);
         let begins = start.saturating_mul(u64::from(n)) < b;
         let ends = a < end.saturating_mul(u64::from(n));
@@ -107,16 +108,37 @@ fn holds_between(state: &State, trace: &[Segment], a: u64, b: u64, n: u32) -> bo
 }
 
 // Whether two segments meet at `a/n` on which the state changes, to true where `up`.
-fn has_edge(state: &State, trace: &[Segment], a: u64, n: u32, up: bool) -> bool
+fn has_edge(state: &State, trace: &Trace, a: u64, n: u32, up: bool) -> bool
     requires { StateNumbersBelow NAMES_MAX (state_tree_of state.now) }
 {
+    let segments = trace.segments();
     let mut end: u64 = 0;
-    for i in 1..trace.len() {
-        end = end.saturating_add(trace[i - 1].len);
-        let changes = state.eval(trace[i - 1].val) != up && state.eval(trace[i].val) == up;
+    for i in 1..segments.len() {
+        end = end.saturating_add(segments[i - 1].len);
+        let changes = state.eval(segments[i - 1].val) != up && state.eval(segments[i].val) == up;
         if changes && a == end.saturating_mul(u64::from(n)) {
             return true;
         }
     }
     false
+}
+
+// Whether the event happens at `a/n`: a segment begins with it there, or the trace ends with it.
+fn happens(number: u8, trace: &Trace, a: u64, n: u32) -> bool
+    requires { number < NAMES_MAX }
+{
+    let mut start: u64 = 0;
+    for segment in trace.segments() {
+        if has_event(number, segment.ev) && a == start.saturating_mul(u64::from(n)) {
+            return true;
+        }
+        start = start.saturating_add(segment.len);
+    }
+    has_event(number, trace.last_events()) && a == start.saturating_mul(u64::from(n))
+}
+
+fn has_event(number: u8, events: u64) -> bool
+    requires { number < NAMES_MAX }
+{
+    events >> number & 1 != 0
 }

@@ -2,9 +2,9 @@
 use crate::checker::decide;
 use std::alloc::{AllocError, Global};
 use std::test::Fail;
-use tests_support::{names_of, trace_of};
+use tests_support::{names_of, trace_of, trace_with};
 use tre_parse::parse;
-use tre_state::State;
+use tre_state::{Names, State};
 use tre_syntax::{Expr, Pattern};
 use tre_trace::Trace;
 
@@ -25,7 +25,7 @@ fn matches(
     let pattern = parse(alloc, text)?;
     let trace = trace_of(alloc, lengths)?;
     let (a, b, n) = *stretch;
-    Ok(decide(&pattern, trace.segments(), a, b, n, cuts))
+    Ok(decide(&pattern, &trace, a, b, n, cuts))
 }
 
 // Patterns, traces, stretches, how many cuts a match needs, and whether there is one.
@@ -60,7 +60,7 @@ fn stretches(rt: HostRuntime) -> Result<(), Fail> {
 fn is_only_match(pattern: &Pattern, trace: &Trace, from: u8, to: u8) -> bool {
     for a in 0..=12u8 {
         for b in a..=12u8 {
-            if decide(pattern, trace.segments(), a, b, 2, 2) != (a == from && b == to) {
+            if decide(pattern, trace, a, b, 2, 2) != (a == from && b == to) {
                 return false;
             }
         }
@@ -73,6 +73,43 @@ fn a_pulse_is_matched_from_edge_to_edge(rt: HostRuntime) -> Result<(), Fail> {
     let pattern = parse(rt.alloc(), "<:p:>")?;
     let trace = trace_of(rt.alloc(), &[(2, 0), (3, 1), (1, 0)])?;
     assert!(rt; is_only_match(&pattern, &trace, 4, 10));
+    Ok(())
+}
+
+// The lengths, valuations and events of segments, and the events at the end.
+type Happenings = (&'static [(u64, u64, u64)], u64);
+
+// Patterns, traces with events, stretches, and whether there is a match. The first event of a
+// pattern is bit 0, the second bit 1.
+const EVENTS: [(&str, Happenings, Stretch, bool); 14] = [
+    // At the begin of a segment, at the start, and at the end; nowhere else.
+    ("event(a)", (&[(3, 1, 0), (2, 1, 1)], 0), (3, 3, 1), true),
+    ("event(a)", (&[(3, 1, 0), (2, 1, 1)], 0), (5, 5, 1), false),
+    ("event(a)", (&[(3, 1, 0), (2, 1, 1)], 0), (7, 7, 2), false),
+    ("event(a)", (&[(3, 1, 1)], 0), (0, 0, 1), true),
+    ("event(a)", (&[(3, 1, 0)], 1), (3, 3, 1), true),
+    ("event(a)", (&[(3, 1, 0)], 1), (0, 0, 1), false),
+    ("event(a)", (&[], 1), (0, 0, 1), true),
+    // It lasts no time.
+    ("event(a) % (0,inf)", (&[(3, 1, 1)], 0), (0, 0, 1), false),
+    // Two at one moment, and the same twice.
+    ("event(a) & event(b)", (&[(3, 1, 3)], 0), (0, 0, 1), true),
+    ("event(a) & event(b)", (&[(3, 1, 1)], 2), (0, 0, 1), false),
+    ("event(a) ; event(a)", (&[(3, 1, 1)], 0), (0, 0, 1), true),
+    // A number of its own: the proposition p and the event p are two.
+    ("event(p) ; p", (&[(3, 1, 1)], 0), (0, 3, 1), true),
+    ("event(p) ; p", (&[(2, 1, 1), (1, 1, 0)], 0), (2, 3, 1), false),
+    ("p ; event(q)", (&[(2, 1, 0), (2, 0, 1)], 0), (0, 2, 1), true),
+];
+
+#[test]
+fn events_have_numbers_of_their_own(rt: HostRuntime) -> Result<(), Fail> {
+    for (text, trace, stretch, want) in &EVENTS {
+        let pattern = parse(rt.alloc(), *text)?;
+        let trace = trace_with(rt.alloc(), trace.0, trace.1)?;
+        let (a, b, n) = *stretch;
+        assert!(rt; decide(&pattern, &trace, a, b, n, 1) == *want, "{text} on {stretch:?}");
+    }
     Ok(())
 }
 
@@ -117,10 +154,12 @@ fn right_comb(alloc: Global, count: u32) -> Result<Expr, AllocError> {
     Ok(expr)
 }
 
-// How many nodes the pattern of the expression and the names has, if there is one, and whether a
-// copy of it has as many.
-fn nodes(alloc: Global, expr: Expr, names: &str) -> Result<Option<u64>, Fail> {
-    let Some(pattern) = Pattern::new(expr, names_of(alloc, names)?) else {
+// How many nodes the pattern of the expression, its names and those of its events has, if there is
+// one, and whether a copy of it has as many.
+fn nodes(alloc: Global, expr: Expr, names: &str, events: &str) -> Result<Option<u64>, Fail> {
+    let names = names_of(alloc, names)?;
+    let events = names_of(alloc, events)?;
+    let Some(pattern) = Pattern::new(expr, names, events) else {
         return Ok(None);
     };
     let copy = pattern.try_clone(alloc)?;
@@ -134,31 +173,64 @@ fn nodes(alloc: Global, expr: Expr, names: &str) -> Result<Option<u64>, Fail> {
 #[test]
 fn a_pattern_has_its_nodes(rt: HostRuntime) -> Result<(), Fail> {
     let alloc = rt.alloc();
-    assert!(rt; nodes(alloc, p(), "p")? == Some(2));
-    assert!(rt; nodes(alloc, sequence(alloc, p(), q())?, "p q")? == Some(5));
+    assert!(rt; nodes(alloc, p(), "p", "")? == Some(2));
+    assert!(rt; nodes(alloc, sequence(alloc, p(), q())?, "p q", "")? == Some(5));
     // One name too many, and numbers out of order.
-    assert!(rt; nodes(alloc, Expr::Eps, "p")?.is_none());
-    assert!(rt; nodes(alloc, sequence(alloc, q(), p())?, "p q")?.is_none());
+    assert!(rt; nodes(alloc, Expr::Eps, "p", "")?.is_none());
+    assert!(rt; nodes(alloc, sequence(alloc, q(), p())?, "p q", "")?.is_none());
+    Ok(())
+}
+
+// The events of this many numbers from 0, one or another.
+fn events(alloc: Global, count: u8) -> Result<Expr, AllocError> {
+    let mut expr = Expr::Event(0);
+    for number in 1..count {
+        let right = Box::new(alloc, Expr::Event(number))?;
+        expr = Expr::Alt(Box::new(alloc, expr)?, right);
+    }
+    Ok(expr)
+}
+
+// The names e0 to e9, e10 and on, with a space between two.
+fn event_names(alloc: Global, count: u8) -> Result<String, AllocError> {
+    let mut text = String::new(alloc);
+    for number in 0..count {
+        let name = format!(in alloc; "e{number} ")?;
+        text.push_str(name.as_str())?;
+    }
+    Ok(text)
+}
+
+#[test]
+fn a_pattern_has_a_name_for_each_event(rt: HostRuntime) -> Result<(), Fail> {
+    let alloc = rt.alloc();
+    let names = event_names(alloc, 64)?;
+    assert!(rt; nodes(alloc, events(alloc, 64)?, "", names.as_str())? == Some(127));
+    assert!(rt; nodes(alloc, events(alloc, 65)?, "", names.as_str())?.is_none());
+    assert!(rt; nodes(alloc, Expr::Event(0), "", "a b")?.is_none());
+    assert!(rt; nodes(alloc, Expr::Event(0), "a", "")?.is_none());
+    assert!(rt; nodes(alloc, Expr::Event(1), "", "a b")?.is_none());
     Ok(())
 }
 
 #[test]
 fn a_thousand_nodes_of_any_shape_are_a_pattern(rt: HostRuntime) -> Result<(), Fail> {
     let alloc = rt.alloc();
-    assert!(rt; nodes(alloc, negations(alloc, 998)?, "p")? == Some(1000));
-    assert!(rt; nodes(alloc, negations(alloc, 999)?, "p")?.is_none());
-    assert!(rt; nodes(alloc, left_comb(alloc, 332)?, "p")? == Some(998));
-    assert!(rt; nodes(alloc, right_comb(alloc, 332)?, "p")? == Some(998));
+    assert!(rt; nodes(alloc, negations(alloc, 998)?, "p", "")? == Some(1000));
+    assert!(rt; nodes(alloc, negations(alloc, 999)?, "p", "")?.is_none());
+    assert!(rt; nodes(alloc, left_comb(alloc, 332)?, "p", "")? == Some(998));
+    assert!(rt; nodes(alloc, right_comb(alloc, 332)?, "p", "")? == Some(998));
     Ok(())
 }
 
 // Whether a copy of the deepest pattern matches one tick of p.
 fn matches_deeply(alloc: Global) -> Result<bool, Fail> {
-    let Some(pattern) = Pattern::new(negations(alloc, 998)?, names_of(alloc, "p")?) else {
+    let expr = negations(alloc, 998)?;
+    let Some(pattern) = Pattern::new(expr, names_of(alloc, "p")?, Names::new(alloc)) else {
         return Ok(false);
     };
     let trace = trace_of(alloc, &[(1, 1)])?;
-    Ok(decide(&pattern.try_clone(alloc)?, trace.segments(), 0, 1, 1, 0))
+    Ok(decide(&pattern.try_clone(alloc)?, &trace, 0, 1, 1, 0))
 }
 
 #[test]
@@ -169,9 +241,10 @@ fn the_deepest_pattern_is_copied(rt: HostRuntime) -> Result<(), Fail> {
 
 #[test]
 fn a_copy_of_a_pattern_is_the_pattern(rt: HostRuntime) -> Result<(), Fail> {
-    let pattern = parse(rt.alloc(), "p;q")?;
+    let pattern = parse(rt.alloc(), "p;q;event(a);event(p)")?;
     let copy = pattern.try_clone(rt.alloc())?;
     assert!(rt; copy.expr() == pattern.expr());
     assert!(rt; copy.names().name(1) == Some("q"));
+    assert!(rt; copy.events().name(1) == Some("p"));
     Ok(())
 }

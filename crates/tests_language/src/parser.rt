@@ -183,6 +183,7 @@ fn root(alloc: Global, text: &str) -> Result<&'static str, ParseFault> {
         Expr::Lit(_) => "literal",
         Expr::Rise(_) => "rise",
         Expr::Fall(_) => "fall",
+        Expr::Event(_) => "event",
         Expr::Seq(_, _) => ";",
         Expr::Alt(_, _) => "|",
         Expr::Meet(_, _) => "&",

@@ -7,13 +7,16 @@ use tre_show::{number, offline_text, pattern_text, printed_order, zone_line, zon
 use tre_zone::Zone;
 
 // Patterns as an engineer writes them, and as they are printed.
-const PATTERNS: [(&str, &str); 6] = [
+const PATTERNS: [(&str, &str); 9] = [
     ("<:p:> % [2,inf)", "(rise(p);p;fall(p)) % [2,inf)"),
     ("p+?", "p;p* | eps"),
     ("p|(q|p)", "p | (q | p)"),
     ("(p|q);p&q", "(p | q);p & q"),
     ("{p || q && !p}*", "{p || q && !p}*"),
     ("fall(!(p && q)) % (0,4]", "fall(!(p && q)) % (0,4]"),
+    ("event ( ready )", "event(ready)"),
+    ("(event(a);p)*&event(b)?", "(event(a);p)* & (event(b) | eps)"),
+    ("p ; event(q) ; q ; event(p)", "p;event(q);q;event(p)"),
 ];
 
 fn printed(alloc: Global, text: &str) -> Result<String, Fail> {

@@ -1,11 +1,12 @@
 // The atoms of a pattern, over a whole trace and over one piece of it.
 
-use crate::given::{Lengths, are_text, pattern};
+use crate::given::{Eventful, Lengths, are_text, pattern};
 use std::alloc::{AllocError, Global};
 use std::test::Fail;
-use tests_support::trace_of;
+use tests_support::{trace_of, trace_with};
 use tre_edges::{
-    Piece, fall_in, falls, literal, literal_in, moments, moments_in, rise_in, rises, truth,
+    Piece, event_in, events, fall_in, falls, literal, literal_in, moments, moments_in, rise_in,
+    rises, truth,
 };
 use tre_state::State;
 use tre_syntax::Expr;
@@ -142,7 +143,7 @@ fn fives(alloc: Global, count: u8) -> Result<Trace, PushFault> {
     let mut trace = Trace::new(alloc);
     for time in 0..count {
         let val = u64::from(is_true(time));
-        trace.push(Segment { len: 1, val })?;
+        trace.push(Segment::plain(1, val))?;
     }
     Ok(trace)
 }
@@ -227,7 +228,7 @@ fn matches_piece(
 ) -> Result<bool, AllocError> {
     let piece = Piece {
         begin: u64::from(begin),
-        segment: Segment { len: 3, val: 1 },
+        segment: Segment::plain(3, 1),
         before,
     };
     are_text(alloc, in_piece(atom, &piece).as_slice(), zone)
@@ -239,6 +240,95 @@ fn atoms_of_a_piece(rt: HostRuntime) -> Result<(), Fail> {
         assert!(rt;
             matches_piece(rt.alloc(), *atom, *begin, *before, *zone)?,
             "{zone}"
+        );
+    }
+    Ok(())
+}
+
+/// No segment.
+const EMPTY: Eventful<'static> = &[];
+/// `@ a / 3 p / 2 / @ a b / 4 q`
+const THREE: Eventful<'static> = &[(3, 1, 0b01), (2, 0, 0), (4, 2, 0b11)];
+/// `1 / @ c / 1`, where c is the last of 64 events.
+const HIGH: Eventful<'static> = &[(1, 0, 0), (1, 0, 1 << 63)];
+
+/// Of each row: the event, the segments, the events at the end, and the zones.
+const EVENTS: [(u8, Eventful<'static>, u64, &str); 10] = [
+    (
+        0,
+        THREE,
+        0b01,
+        "[0,0] [0,0] [0,0]\n[5,5] [5,5] [0,0]\n[9,9] [9,9] [0,0]\n",
+    ),
+    (0, THREE, 0b10, "[0,0] [0,0] [0,0]\n[5,5] [5,5] [0,0]\n"),
+    // Two events at one moment.
+    (1, THREE, 0b10, "[5,5] [5,5] [0,0]\n[9,9] [9,9] [0,0]\n"),
+    (1, THREE, 0, "[5,5] [5,5] [0,0]\n"),
+    (2, THREE, 0b11, ""),
+    (63, HIGH, 0, "[1,1] [1,1] [0,0]\n"),
+    (62, HIGH, 1 << 63, ""),
+    // The empty trace has one moment.
+    (0, EMPTY, 0b01, "[0,0] [0,0] [0,0]\n"),
+    (0, EMPTY, 0b10, ""),
+    (0, EMPTY, 0, ""),
+];
+
+/// Whether the event has these zones over the trace, in the order of time.
+fn happens_at(
+    alloc: Global,
+    number: u8,
+    segments: Eventful,
+    last: u64,
+    zones: &str,
+) -> Result<bool, Fail> {
+    let trace = trace_with(alloc, segments, last)?;
+    let found = events(alloc, number.min(63), &trace)?;
+    Ok(are_text(alloc, found.zones(), zones)?)
+}
+
+#[test]
+fn events_at_their_instants(rt: HostRuntime) -> Result<(), Fail> {
+    for (number, segments, last, zones) in &EVENTS {
+        assert!(rt;
+            happens_at(rt.alloc(), *number, *segments, *last, *zones)?,
+            "{number} {zones}"
+        );
+    }
+    Ok(())
+}
+
+/// Of each row: the event, when three ticks begin, with which events, and the zone.
+const EVENTS_IN_PIECES: [(u8, u8, u64, &str); 6] = [
+    (0, 2, 0b01, "[2,2] [2,2] [0,0]\n"),
+    (1, 2, 0b01, ""),
+    (0, 2, 0, ""),
+    (1, 2, 0b11, "[2,2] [2,2] [0,0]\n"),
+    (63, 0, 1 << 63, "[0,0] [0,0] [0,0]\n"),
+    (0, 0, 1 << 63, ""),
+];
+
+/// Whether the event has this zone in the piece, or none where there is no line.
+fn happens_in(
+    alloc: Global,
+    number: u8,
+    begin: u8,
+    ev: u64,
+    zone: &str,
+) -> Result<bool, AllocError> {
+    let piece = Piece {
+        begin: u64::from(begin),
+        segment: Segment { len: 3, val: 1, ev },
+        before: Some(0),
+    };
+    are_text(alloc, event_in(number.min(63), &piece).as_slice(), zone)
+}
+
+#[test]
+fn events_of_a_piece(rt: HostRuntime) -> Result<(), Fail> {
+    for (number, begin, ev, zone) in &EVENTS_IN_PIECES {
+        assert!(rt;
+            happens_in(rt.alloc(), *number, *begin, *ev, *zone)?,
+            "{number} {ev} {zone}"
         );
     }
     Ok(())

@@ -7,10 +7,10 @@ ghost use Rattle.tre_edges.specs.Piece.{end_of_piece};
 ghost use Rattle.tre_residual.specs.Residual.{residual_tree, IsWellAt};
 
 use crate::given::{are_matches, pattern};
-use crate::pieces::{Length, first_piece, next_piece};
+use crate::pieces::{Length, first_piece, first_with, next_piece, next_with};
 use std::alloc::{AllocError, Global};
 use std::test::Fail;
-use tre_derive::{fresh, step};
+use tre_derive::{close, fresh, step};
 use tre_edges::Piece;
 use tre_offline::local;
 use tre_residual::Residual;
@@ -141,6 +141,62 @@ fn told_by_each_piece_are_the_matches(rt: HostRuntime) -> Result<(), Fail> {
     for text in &PATTERNS {
         for lengths in &TRACES {
             assert!(rt; right(rt.alloc(), *text, lengths)? == 3, "{text}");
+        }
+    }
+    Ok(())
+}
+
+// Whether what three pieces tell, with these events at their begins, and then the end with the last
+// of them, are the matches.
+fn is_right_with_end(
+    alloc: Global,
+    text: &str,
+    lengths: &[Length; 3],
+    events: &[u64; 4],
+) -> Result<bool, Fail> {
+    let pattern = pattern(alloc, text)?;
+    let mut told = ZoneSet::new(alloc);
+    let mut trace = Trace::new(alloc);
+    let one = first_with(lengths[0], events[0]);
+    trace.push(one.segment)?;
+    let begun = read(alloc, pattern.expr(), &one, &Residual::Nil, &mut told)?;
+    let two = next_with(&one, lengths[1], events[1]);
+    trace.push(two.segment)?;
+    let begun = read(alloc, pattern.expr(), &two, &begun, &mut told)?;
+    let three = next_with(&two, lengths[2], events[2]);
+    trace.push(three.segment)?;
+    let begun = read(alloc, pattern.expr(), &three, &begun, &mut told)?;
+    let end = three.begin + three.segment.len;
+    told.join(&close(alloc, &begun, end, events[3])?)?;
+    trace.set_last(events[3]);
+    let right = are_matches(alloc, &pattern, &trace, &told, 14)?;
+    Ok(right)
+}
+
+const EVENTFUL: [&str; 11] = [
+    "event(a)",
+    "p;event(a)",
+    "(event(a);p)*",
+    "(p;event(a))*",
+    "event(a) & event(b)",
+    "p;event(a);q",
+    "p % [2,2];event(a)",
+    "(p;event(a)) % [1,3]",
+    "event(a) | p;event(b)",
+    "(p;event(a)) & (true;event(b))",
+    FALLING,
+];
+
+const EVENTS: [[u64; 4]; 4] = [[1, 0, 3, 1], [0, 1, 0, 3], [2, 1, 1, 0], [0, 0, 3, 2]];
+
+#[test]
+fn told_with_the_end_are_the_matches(rt: HostRuntime) -> Result<(), Fail> {
+    for text in &EVENTFUL {
+        for lengths in &TRACES {
+            for events in &EVENTS {
+                let right = is_right_with_end(rt.alloc(), *text, lengths, events)?;
+                assert!(rt; right, "{text} {lengths:?} {events:?}");
+            }
         }
     }
     Ok(())

@@ -11,6 +11,8 @@ mod atoms;
 #[cfg(test)]
 mod derivatives;
 #[cfg(test)]
+mod events;
+#[cfg(test)]
 mod given;
 #[cfg(test)]
 mod long_traces;
@@ -20,6 +22,8 @@ mod marks;
 mod pieces;
 #[cfg(test)]
 mod residuals;
+#[cfg(test)]
+mod session_ends;
 #[cfg(test)]
 mod sessions;
 #[cfg(test)]

@@ -12,8 +12,8 @@ use tre_zoneset::ZoneSet;
 /// The length of a segment, and its valuation: of 1 p is true, of 2 q, of 3 both.
 pub(crate) type Length = (u8, u64);
 
-// The segment of a row, which lasts a tick at least.
-fn segment(length: Length) -> Segment
+// The segment of a row, which lasts a tick at least, with these events at its begin.
+fn segment(length: Length, ev: u64) -> Segment
     ensures long { 1 ≤ result.len }
     ensures short { result.len ≤ 256 }
 {
@@ -21,6 +21,7 @@ fn segment(length: Length) -> Segment
     Segment {
         len: u64::from(len).max(1),
         val,
+        ev,
     }
 }
 
@@ -29,9 +30,17 @@ pub(crate) fn first_piece(length: Length) -> Piece
     ensures begin { result.begin ≡ 0 }
     ensures len { result.segment.len ≤ 256 }
 {
+    first_with(length, 0)
+}
+
+/// The first piece of a trace, with these events at its begin.
+pub(crate) fn first_with(length: Length, ev: u64) -> Piece
+    ensures begin { result.begin ≡ 0 }
+    ensures len { result.segment.len ≤ 256 }
+{
     Piece {
         begin: 0,
-        segment: segment(length),
+        segment: segment(length, ev),
         before: None,
     }
 }
@@ -42,9 +51,18 @@ pub(crate) fn next_piece(last: &Piece, length: Length) -> Piece
     ensures begin { result.begin ≡ end_of_piece last.now }
     ensures len { result.segment.len ≤ 256 }
 {
+    next_with(last, length, 0)
+}
+
+/// The piece behind another, with these events at its begin.
+pub(crate) fn next_with(last: &Piece, length: Length, ev: u64) -> Piece
+    requires { end_of_piece last.now ≤ 1024 }
+    ensures begin { result.begin ≡ end_of_piece last.now }
+    ensures len { result.segment.len ≤ 256 }
+{
     Piece {
         begin: last.begin + last.segment.len,
-        segment: segment(length),
+        segment: segment(length, ev),
         before: Some(last.segment.val),
     }
 }

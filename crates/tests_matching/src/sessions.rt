@@ -14,7 +14,7 @@ fn session(alloc: Global, text: &str) -> Result<Session, Fail> {
 
 // What is told of a segment of this length and valuation.
 fn read(session: &mut Session, len: u64, val: u64) -> Result<ZoneSet, PushFault> {
-    session.segment(Segment { len, val })
+    session.segment(Segment::plain(len, val))
 }
 
 // What is told of the last of the segments.
@@ -117,7 +117,7 @@ impl Reading {
     fn read(&mut self, alloc: Global, len: u64, val: u64) -> Result<bool, Fail> {
         let new = read(&mut self.session, len, val)?;
         self.told.join(&new)?;
-        self.trace.push(Segment { len, val })?;
+        self.trace.push(Segment::plain(len, val))?;
         let right = are_matches(alloc, self.session.pattern(), &self.trace, &self.told, 40)?;
         Ok(right)
     }

@@ -33,8 +33,8 @@ impl Reading {
 
     // What is told of the segment.
     fn read(&mut self, len: u64, val: u64) -> Result<ZoneSet, Fail> {
-        let told = self.session.segment(Segment { len, val })?;
-        self.trace.push(Segment { len, val })?;
+        let told = self.session.segment(Segment::plain(len, val))?;
+        self.trace.push(Segment::plain(len, val))?;
         Ok(told)
     }
 

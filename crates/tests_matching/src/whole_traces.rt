@@ -103,7 +103,7 @@ fn has_inside(alloc: Global, text: &str, zones: &str) -> Result<bool, Fail> {
     let pattern = pattern(alloc, text)?;
     let piece = Piece {
         begin: 2,
-        segment: Segment { len: 3, val: 1 },
+        segment: Segment::plain(3, 1),
         before: Some(0),
     };
     let found = local(alloc, pattern.expr(), &piece)?;

@@ -4,15 +4,31 @@ use std::test::Fail;
 use tre_state::{Names, is_name};
 use tre_trace::{PushFault, Segment, Trace};
 
-/// The trace of segments, each with its length and its valuation.
+/// The trace of segments, each with its length and its valuation. No event happens.
 pub fn trace_of(alloc: Global, segments: &[(u64, u64)]) -> Result<Trace, PushFault> {
     let mut trace = Trace::new(alloc);
     for (len, val) in segments {
+        trace.push(Segment::plain(*len, *val))?;
+    }
+    Ok(trace)
+}
+
+/// The trace of segments, each with its length, its valuation and the events at its begin, and
+/// with these events at the end.
+pub fn trace_with(
+    alloc: Global,
+    segments: &[(u64, u64, u64)],
+    last: u64,
+) -> Result<Trace, PushFault> {
+    let mut trace = Trace::new(alloc);
+    for (len, val, ev) in segments {
         trace.push(Segment {
             len: *len,
             val: *val,
+            ev: *ev,
         })?;
     }
+    trace.set_last(last);
     Ok(trace)
 }
 

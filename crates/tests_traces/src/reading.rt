@@ -35,23 +35,35 @@ fn feed_whole<R: TraceReader>(
     bytes: &[u8],
     most: usize,
     segments: &mut Vec<Segment>,
-) -> Result<(), TraceFault> {
+) -> Result<u64, TraceFault> {
     feed_pieces(reader, bytes, most, segments)?;
     reader.finish(segments)
 }
 
-// Each segment as its length and its valuation, and then the fault.
+// Writes `@` and the events, where some happen.
+fn write_events(text: &mut String, events: u64) -> Result<(), AllocError> {
+    if events != 0 {
+        write!(text, "@{events}")?;
+    }
+    Ok(())
+}
+
+// Each segment as its length and its valuation, with the events at its begin, and then the events
+// at the end, or the fault.
 fn told(
     alloc: Global,
     segments: &[Segment],
-    end: &Result<(), TraceFault>,
+    end: &Result<u64, TraceFault>,
 ) -> Result<String, AllocError> {
     let mut text = String::new(alloc);
     for segment in segments {
-        write!(text, "{}:{} ", segment.len, segment.val)?;
+        write!(text, "{}:{}", segment.len, segment.val)?;
+        write_events(&mut text, segment.ev)?;
+        text.push(' ')?;
     }
-    if let Err(fault) = end {
-        write!(text, "{:?} {}", fault.kind, fault.place)?;
+    match end {
+        Ok(last) => write_events(&mut text, *last)?,
+        Err(fault) => write!(text, "{:?} {}", fault.kind, fault.place)?,
     }
     Ok(text)
 }
@@ -76,9 +88,9 @@ pub(crate) fn read_cut<R: TraceReader>(
     back: &[u8],
 ) -> Result<String, AllocError> {
     let mut segments = Vec::new(alloc);
-    let mut end = feed(reader, front, &mut segments);
-    if end.is_ok() {
-        end = feed_whole(reader, back, 1 << 40, &mut segments);
-    }
+    let end = match feed(reader, front, &mut segments) {
+        Ok(()) => feed_whole(reader, back, 1 << 40, &mut segments),
+        Err(fault) => Err(fault),
+    };
     told(alloc, &segments, &end)
 }

@@ -7,14 +7,8 @@ use tre_trace::{PushFault, Segment, Trace, generated};
 #[test]
 fn refuses_in_order(rt: HostRuntime) {
     let mut trace = Trace::new(rt.alloc());
-    let (long, short) = (
-        Segment {
-            len: 1 << 40,
-            val: 1,
-        },
-        Segment { len: 1, val: 0 },
-    );
-    assert!(rt; trace.push(Segment { len: 0, val: 1 }) == Err(PushFault::Zero));
+    let (long, short) = (Segment::plain(1 << 40, 1), Segment::plain(1, 0));
+    assert!(rt; trace.push(Segment::plain(0, 1)) == Err(PushFault::Zero));
     assert!(rt; trace.push(long) == Ok(()));
     assert!(rt; trace.push(short) == Err(PushFault::TooLate { end: 1099511627777 }));
     assert!(rt; trace.end() == 1099511627776);
@@ -27,12 +21,7 @@ fn refuses_the_longest_segment(rt: HostRuntime) {
     let late = Err(PushFault::TooLate {
         end: 18446744073709551615,
     });
-    assert!(rt;
-        trace.push(Segment {
-            len: 18446744073709551615,
-            val: 0
-        }) == late
-    );
+    assert!(rt; trace.push(Segment::plain(18446744073709551615, 0)) == late);
     assert!(rt; trace.segments().is_empty());
 }
 
@@ -57,7 +46,7 @@ fn long_trace(alloc: Global, count: u8) -> Result<Trace, PushFault> {
     let mut trace = Trace::new(alloc);
     for place in 0..usize::from(count) {
         let val = valuation_at(place);
-        trace.push(Segment { len: 2, val })?;
+        trace.push(Segment::plain(2, val))?;
     }
     Ok(trace)
 }
@@ -125,6 +114,20 @@ fn planes_of_three_segments(rt: HostRuntime) -> Result<(), Fail> {
 #[test]
 fn made_segments(rt: HostRuntime) {
     for (number, len, val) in [(0, 1, 0), (1, 2, 1), (2, 3, 0), (3, 1, 1)] {
-        assert!(rt; generated(number) == Segment { len, val }, "{number}");
+        assert!(rt; generated(number) == Segment::plain(len, val), "{number}");
     }
+}
+
+#[test]
+fn last_events_end_with_the_next_segment(rt: HostRuntime) -> Result<(), Fail> {
+    let mut trace = trace_of(rt.alloc(), &[(3, 1)])?;
+    assert!(rt; trace.last_events() == 0);
+    trace.set_last(6);
+    assert!(rt; trace.last_events() == 6);
+    trace.push(Segment::plain(2, 0))?;
+    assert!(rt; trace.last_events() == 0);
+    trace.set_last(5);
+    assert!(rt; trace.push(Segment::plain(0, 1)) == Err(PushFault::Zero));
+    assert!(rt; trace.last_events() == 5);
+    Ok(())
 }

@@ -3,12 +3,13 @@ use crate::reading::{feed, read, read_cut};
 use std::alloc::Global;
 use std::test::Fail;
 use tests_support::names_of;
-use tre_text::TextReader;
+use tre_text::{LineReader, TextReader};
 use tre_trace::TraceKind::{LineTooLong, Spent};
 use tre_trace::{Segment, TraceFault, TraceKind, TraceReader};
 
-fn reader(alloc: Global, names: &str) -> Result<TextReader, Fail> {
-    Ok(TextReader::new(alloc, names_of(alloc, names)?))
+fn reader(alloc: Global, names: &str, events: &str) -> Result<TextReader, Fail> {
+    let lines = LineReader::new(names_of(alloc, names)?, names_of(alloc, events)?);
+    Ok(TextReader::new(alloc, lines))
 }
 
 // The names of propositions, a text, and what it says: segments, each as its length and its
@@ -45,11 +46,42 @@ const TEXTS: [(&str, &str, &str); 20] = [
     ("p", "1 p abcdefghijklmnopqrstuvwxyz012-", "BadName 1"),
 ];
 
+// The names of events, a text, and what it says for the proposition p: with `@` and the events at
+// its begin behind a segment, and behind all the events at the end.
+const EVENTS: [(&str, &str, &str); 20] = [
+    ("a b", "3 p\n@ a\n2 p\n@ b", "3:1 2:1@1 @2"),
+    ("a b", "@ a b\n3 p", "3:1@3 "),
+    ("b a", "@ a\n# c\n\n@ b\n3 p\n", "3:1@3 "),
+    ("a b", "@ a\n@ a a\n3\n", "3:0@1 "),
+    ("a b", "@\ta\r\n \t@  b \r\n3\r\n", "3:0@3 "),
+    ("a", "@\n3 p", "3:1 "),
+    ("a", "@ p b\n1 a\n@ A", "1:0 "),
+    ("a", "@ a", "@1"),
+    ("a b", "@ b\n@ a\n", "@3"),
+    ("a b", "1 p\n@ b\n# c\n", "1:1 @2"),
+    ("p", "@ p\n2\n1 p", "2:0@1 1:1 "),
+    ("", "@ a\n1 p\n@ b", "1:1 "),
+    ("a", "@ 9", "BadName 1"),
+    ("a", "1 p\n@ a #", "1:1 BadName 2"),
+    ("a", "@a", "BadNumber 1"),
+    ("a", "@@ a", "BadNumber 1"),
+    ("a", "1@ a", "BadNumber 1"),
+    ("a", "@ a\nx", "BadNumber 2"),
+    ("a", "@ a\n0 p", "Zero 2"),
+    ("a", "@ a\n1 p\n@ a\n1 9", "1:1@1 BadName 4"),
+];
+
 // Whether the text says this, cut in two at each place.
-fn says_however_cut(alloc: Global, names: &str, text: &str, want: &str) -> Result<bool, Fail> {
+fn says_however_cut(
+    alloc: Global,
+    names: &str,
+    events: &str,
+    text: &str,
+    want: &str,
+) -> Result<bool, Fail> {
     let bytes = text.as_bytes();
     for cut in 0..=bytes.len() {
-        let mut reader = reader(alloc, names)?;
+        let mut reader = reader(alloc, names, events)?;
         let said = read_cut(alloc, &mut reader, &bytes[..cut], &bytes[cut..])?;
         if said.as_str() != want {
             return Ok(false);
@@ -62,7 +94,18 @@ fn says_however_cut(alloc: Global, names: &str, text: &str, want: &str) -> Resul
 fn cut_at_each_place(rt: HostRuntime) -> Result<(), Fail> {
     for (names, text, want) in &TEXTS {
         assert!(rt;
-            says_however_cut(rt.alloc(), *names, *text, *want)?,
+            says_however_cut(rt.alloc(), *names, "", *text, *want)?,
+            "{text}"
+        );
+    }
+    Ok(())
+}
+
+#[test]
+fn events_cut_at_each_place(rt: HostRuntime) -> Result<(), Fail> {
+    for (events, text, want) in &EVENTS {
+        assert!(rt;
+            says_however_cut(rt.alloc(), "p", *events, *text, *want)?,
             "{text}"
         );
     }
@@ -71,7 +114,7 @@ fn cut_at_each_place(rt: HostRuntime) -> Result<(), Fail> {
 
 // Whether the text says this, byte by byte.
 fn says(alloc: Global, names: &str, text: &str, want: &str) -> Result<bool, Fail> {
-    let mut reader = reader(alloc, names)?;
+    let mut reader = reader(alloc, names, "")?;
     let said = read(alloc, &mut reader, text.as_bytes(), 1)?;
     Ok(said.as_str() == want)
 }
@@ -84,27 +127,27 @@ fn byte_by_byte(rt: HostRuntime) -> Result<(), Fail> {
     Ok(())
 }
 
-fn fault(place: u64, kind: TraceKind) -> Result<(), TraceFault> {
+fn fault<T>(place: u64, kind: TraceKind) -> Result<T, TraceFault> {
     Err(TraceFault { place, kind })
 }
 
 #[test]
 fn segments_come_with_their_line_ends(rt: HostRuntime) -> Result<(), Fail> {
-    let mut reader = reader(rt.alloc(), "p")?;
+    let mut reader = reader(rt.alloc(), "p", "")?;
     let mut segments = Vec::new(rt.alloc());
     assert!(rt; feed(&mut reader, b"2 p", &mut segments).is_ok());
     assert!(rt; segments.is_empty());
     assert!(rt; feed(&mut reader, b"\n3", &mut segments).is_ok());
-    assert!(rt; segments.as_slice() == [Segment { len: 2, val: 1 }].as_slice());
+    assert!(rt; segments.as_slice() == [Segment::plain(2, 1)].as_slice());
     assert!(rt; reader.finish(&mut segments).is_ok());
-    let both = [Segment { len: 2, val: 1 }, Segment { len: 3, val: 0 }];
+    let both = [Segment::plain(2, 1), Segment::plain(3, 0)];
     assert!(rt; segments.as_slice() == both.as_slice());
     Ok(())
 }
 
 #[test]
 fn a_finished_reader_is_spent(rt: HostRuntime) -> Result<(), Fail> {
-    let mut reader = reader(rt.alloc(), "p")?;
+    let mut reader = reader(rt.alloc(), "p", "")?;
     let mut segments = Vec::new(rt.alloc());
     assert!(rt; feed(&mut reader, b"2 p\n3", &mut segments).is_ok());
     assert!(rt; reader.finish(&mut segments).is_ok());
@@ -125,14 +168,19 @@ fn spaces(alloc: Global) -> Result<Vec<u8>, Fail> {
 #[test]
 fn a_line_may_have_so_many_bytes(rt: HostRuntime) -> Result<(), Fail> {
     let spaces = spaces(rt.alloc())?;
-    let said = read(rt.alloc(), &mut reader(rt.alloc(), "p")?, &spaces, 65_536)?;
+    let said = read(
+        rt.alloc(),
+        &mut reader(rt.alloc(), "p", "")?,
+        &spaces,
+        65_536,
+    )?;
     assert!(rt; said.is_empty());
     Ok(())
 }
 
 #[test]
 fn a_line_may_have_no_more_bytes(rt: HostRuntime) -> Result<(), Fail> {
-    let mut reader = reader(rt.alloc(), "p")?;
+    let mut reader = reader(rt.alloc(), "p", "")?;
     let mut segments = Vec::new(rt.alloc());
     assert!(rt; feed(&mut reader, &spaces(rt.alloc())?, &mut segments).is_ok());
     assert!(rt; feed(&mut reader, b" ", &mut segments) == fault(1, LineTooLong));

@@ -4,7 +4,7 @@ use Rattle.tre_pairs.specs.Pairs.{Composed, Either, Both}
 use Rattle.tre_pairs.proofs.Laws.{Agree}
 use Rattle.tre_zone.specs.Held.{Held, IsSetOf}
 use Rattle.tre_syntax.specs.Meaning.{MatchesRest}
-use Rattle.tre_syntax.specs.PatternTree.{Atom, PatternTree, empty, literal, rise, fall, atom, sequence, alternation, intersection, repetition, restriction}
+use Rattle.tre_syntax.specs.PatternTree.{Atom, PatternTree, empty, literal, rise, fall, event, atom, sequence, alternation, intersection, repetition, restriction}
 use Rattle.tre_syntax.proofs.CutMeaning.{IsOrdered-rest}
 use Rattle.tre_zone.specs.Zone.{EndsAt}
 use Rattle.tre_zone.specs.ZoneList.{HoldExactly}
@@ -15,7 +15,7 @@ use Rattle.tre_mark.specs.MarkTree.{atom_mark}
 use Rattle.tre_mark.specs.Marked.{EndBetween, IsWellAt}
 use Rattle.tre_mark.proofs.Agreeing.{agree_refl, agree_then, agree_composed, agree_either}
 use Rattle.tre_advance.specs.Moves.{StepsTo, EntersTo, IsBriefTree, IsLiteralTree}
-use Rattle.tre_advance.proofs.AtomSteps.{IsBrief, brief_empty, brief_rise, brief_fall, here_part, literal_tells, brief_inner, brief_beside, literal_inner, literal_beside}
+use Rattle.tre_advance.proofs.AtomSteps.{IsBrief, brief_empty, brief_rise, brief_fall, brief_event, here_part, literal_tells, brief_inner, brief_beside, literal_inner, literal_beside}
 use Rattle.tre_advance.proofs.Going.{alone}
 use Rattle.tre_advance.proofs.SetsOf.{set_agrees, set_exact}
 use Rattle.tre_advance.proofs.Steps.{Followed, steps_of, enters_of}
@@ -61,6 +61,8 @@ module _ (piece : Piece) (here begun inside told : List ZoneBounds) where
       brief_by (rise state) (brief_rise state) well held set
   brief_steps_to (atom (fall state)) is well held set =
       brief_by (fall state) (brief_fall state) well held set
+  brief_steps_to (atom (event number)) is well held set =
+      brief_by (event number) (brief_event number) well held set
   brief_steps_to (sequence left right) is well held set = absurd is
   brief_steps_to (alternation left right) is well held set = absurd is
   brief_steps_to (intersection left right) is well held set = absurd is
@@ -91,6 +93,7 @@ module _ (piece : Piece) (here begun inside starts going told begun' : List Zone
   literal_steps_to (atom empty) is well held set set' set'' kept = absurd is
   literal_steps_to (atom (rise state)) is well held set set' set'' kept = absurd is
   literal_steps_to (atom (fall state)) is well held set set' set'' kept = absurd is
+  literal_steps_to (atom (event number)) is well held set set' set'' kept = absurd is
   literal_steps_to (sequence left right) is well held set set' set'' kept = absurd is
   literal_steps_to (alternation left right) is well held set set' set'' kept = absurd is
   literal_steps_to (intersection left right) is well held set set' set'' kept = absurd is
@@ -127,6 +130,8 @@ module _ (piece : Piece) (here begun enter inside told last here' : List ZoneBou
       brief_enters_by (rise state) (brief_rise state) well held
   brief_enters_to (atom (fall state)) is well held =
       brief_enters_by (fall state) (brief_fall state) well held
+  brief_enters_to (atom (event number)) is well held =
+      brief_enters_by (event number) (brief_event number) well held
   brief_enters_to (sequence left right) is well held = absurd is
   brief_enters_to (alternation left right) is well held = absurd is
   brief_enters_to (intersection left right) is well held = absurd is
@@ -148,6 +153,7 @@ module _ (piece : Piece) (here begun enter inside told last here' : List ZoneBou
   literal_enters_to last' begun' (atom empty) is well held kept' union' = absurd is
   literal_enters_to last' begun' (atom (rise state)) is well held kept' union' = absurd is
   literal_enters_to last' begun' (atom (fall state)) is well held kept' union' = absurd is
+  literal_enters_to last' begun' (atom (event number)) is well held kept' union' = absurd is
   literal_enters_to last' begun' (sequence left right) is well held kept' union' = absurd is
   literal_enters_to last' begun' (alternation left right) is well held kept' union' = absurd is
   literal_enters_to last' begun' (intersection left right) is well held kept' union' = absurd is

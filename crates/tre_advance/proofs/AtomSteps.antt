@@ -12,12 +12,11 @@ use Rattle.tre_zone.proofs.HeldSets.{Scales-Held, IsOrdered-Held, Held-empty}
 use Rattle.tre_zone.proofs.JoinedPairs.{Scales-JoinedAt}
 use Rattle.tre_state.specs.StateTree.{StateTree, HoldsOn}
 use Rattle.tre_syntax.specs.Meaning.{MatchesRest}
-use Rattle.tre_syntax.specs.PatternTree.{Atom, PatternTree, empty, literal, rise, fall, atom}
+use Rattle.tre_syntax.specs.PatternTree.{Atom, PatternTree, empty, literal, rise, fall, event, atom}
 use Rattle.tre_syntax.specs.Rest.{Rest}
 use Rattle.tre_syntax.proofs.AtomCuts.{crossing_literal}
 use Rattle.tre_syntax.proofs.CutMeaning.{Scales-rest, IsOrdered-rest}
-use Rattle.tre_trace.specs.Trace.{AreLong}
-use Rattle.tre_trace.specs.declared.segment.Segment.{Segment}
+use Rattle.tre_trace.specs.Trace.{Timeline, AreLong}
 use Rattle.tre_zone.specs.Zone.{EndsAt}
 use Rattle.tre_zone.specs.declared.zone_bounds.ZoneBounds.{ZoneBounds}
 use Rattle.tre_edges.specs.declared.piece.Piece.{Piece}
@@ -70,6 +69,14 @@ brief_rise state = record {
 
 pub brief_fall : (state : StateTree) → IsBrief (fall state)
 brief_fall state = record {
+  instant = λ rest. record { same = λ a b n h. h.begin ∙ sym h.end };
+  silent = λ rest a b n h. h;
+  begun = λ time zones h. h;
+  none = λ time. refl;
+}
+
+pub brief_event : (number : ℕ) → IsBrief (event number)
+brief_event number = record {
   instant = λ rest. record { same = λ a b n h. h.begin ∙ sym h.end };
   silent = λ rest a b n h. h;
   begun = λ time zones h. h;
@@ -143,12 +150,12 @@ module _ (piece : Piece) (here begun enter here' : List ZoneBounds) (x : Atom)
   abbrev T' : ℕ
   T' = end_of_piece piece
 
-  module _ (segments : List Segment) where
+  module _ (next : Timeline) where
     abbrev W : Rest
-    W = over piece segments
+    W = over piece next
 
     abbrev V : Rest
-    V = behind piece segments
+    V = behind piece next
 
     abbrev X : Pairs
     X = MatchesRest (atom x) W
@@ -159,7 +166,7 @@ module _ (piece : Piece) (here begun enter here' : List ZoneBounds) (x : Atom)
         (λ y. record {
           related = inr (Composed-at (Held enter) X a (T' * n) b n
               ((kept.at a (T' * n) n some).0 y.left).left
-              ((cut_of piece segments (atom x)).behind.at (T' * n) b n y.right));
+              ((cut_of piece next (atom x)).behind.at (T' * n) b n y.right));
           begin = y.left.rising;
           end = (IsOrdered-rest (atom x) V).le (T' * n) b n y.right;
         })
@@ -192,14 +199,14 @@ module _ (piece : Piece) (here begun enter here' : List ZoneBounds) (x : Atom)
             right = record { ends = refl };
           });
           right = moved (MatchesRest (atom x) V) at refl refl
-              ((cut_of piece segments (atom x)).late.at m (k * b) (k * n) finer from y.right);
+              ((cut_of piece next (atom x)).late.at m (k * b) (k * n) finer from y.right);
         }))) h.related
 
-  brief_leaves : (segments : List Segment) → Agree (Marked (behind piece segments)
+  brief_leaves : (next : Timeline) → Agree (Marked (behind piece next)
       (atom_mark here' []) (atom x))
-      (Crossing T' (Going (over piece segments) (atom_mark here begun) (atom x) (Held enter)))
-  brief_leaves segments = record {
-    at = λ a b n some. (brief_to segments a b n some, brief_from segments a b n some);
+      (Crossing T' (Going (over piece next) (atom_mark here begun) (atom x) (Held enter)))
+  brief_leaves next = record {
+    at = λ a b n some. (brief_to next a b n some, brief_from next a b n some);
   }
 
 -- ---- the step of a literal
@@ -213,12 +220,12 @@ module _ (piece : Piece) (here begun enter told here' begun' : List ZoneBounds) 
   abbrev T'' : ℕ
   T'' = end_of_piece piece
 
-  module _ (segments : List Segment) (long : AreLong segments) where
+  module _ (next : Timeline) (long : AreLong next.segments) where
     abbrev W' : Rest
-    W' = over piece segments
+    W' = over piece next
 
     abbrev V' : Rest
-    V' = behind piece segments
+    V' = behind piece next
 
     abbrev P' : Rest
     P' = alone piece
@@ -237,7 +244,7 @@ module _ (piece : Piece) (here begun enter told here' begun' : List ZoneBounds) 
         ↔ Passing (JoinedAt T'' (Either (Lit P') (IsMoment T'')) (Either (Lit V') (IsMoment T'')))
         a b n
     across = crossing_literal (HoldsOn state) piece.begin piece.before (piece.segment ∷ [])
-        segments (long_front piece) long
+        next (long_front piece) long
 
     -- A match up to the end and one from there on are one.
     joins : (c b n : ℕ) → 0 < n → Lit P' c (T'' * n) n → Lit V' (T'' * n) b n → Lit W' c b n
@@ -285,7 +292,7 @@ module _ (piece : Piece) (here begun enter told here' begun' : List ZoneBounds) 
         (λ y. record {
           related = inr (Composed-at (Held enter) (Lit W') a (T'' * n) b n
               ((kept.at a (T'' * n) n some).0 y.left).left
-              ((cut_of piece segments (atom (literal state))).behind.at (T'' * n) b n y.right));
+              ((cut_of piece next (atom (literal state))).behind.at (T'' * n) b n y.right));
           begin = y.left.rising;
           end = (IsOrdered-rest (atom (literal state)) V').le (T'' * n) b n y.right;
         })
@@ -294,9 +301,9 @@ module _ (piece : Piece) (here begun enter told here' begun' : List ZoneBounds) 
         record {
           related = ⊎_elim
               (λ z. moved All refl (sym z.end) refl (⊎_elim
-              (λ w. inl ((mark_front piece segments (atom_mark here begun)
+              (λ w. inl ((mark_front piece next (atom_mark here begun)
               (atom (literal state))).grows.at a (T'' * n) n w))
-              (λ w. inr ((followed_front piece segments (atom (literal state)) (Held enter)
+              (λ w. inr ((followed_front piece next (atom (literal state)) (Held enter)
               (IsOrdered-Held enter) between.end).grows.at a (T'' * n) n w)) was))
               (λ z. on_literal a b n some was z) y.right;
           begin = y.left.rising;
@@ -368,14 +375,14 @@ module _ (piece : Piece) (here begun enter told here' begun' : List ZoneBounds) 
               absurd (omega (arith, end, begin, lasts))) parts.right;
         })) parts.left)) h.related
 
-  literal_leaves : (segments : List Segment) → AreLong segments
-      → Agree (Marked (behind piece segments) (atom_mark here' begun') (atom (literal state)))
-      (Crossing T'' (Going (over piece segments) (atom_mark here begun) (atom (literal state))
+  literal_leaves : (next : Timeline) → AreLong next.segments
+      → Agree (Marked (behind piece next) (atom_mark here' begun') (atom (literal state)))
+      (Crossing T'' (Going (over piece next) (atom_mark here begun) (atom (literal state))
       (Held enter)))
-  literal_leaves segments long = record {
+  literal_leaves next long = record {
     at = λ a b n some. (
-      literal_to segments long a b n some,
-      literal_from segments long a b n
+      literal_to next long a b n some,
+      literal_from next long a b n
           some,
     );
   }
@@ -436,12 +443,12 @@ pub brief_inner : (piece : Piece) (here begun told : List ZoneBounds) (x : Atom)
     (atom_mark [] [])
 brief_inner piece here begun told x brief whole = record {
   tells = whole;
-  leaves = λ can segments long.
+  leaves = λ can next long.
       agree_then (brief_leaves piece here begun [] [] x brief
       (between_none piece.begin (end_of_piece piece)) (none_kept (EndsAt (end_of_piece piece)))
-      segments)
+      next)
       (agree_crossing (end_of_piece piece)
-      (nothing_enters (over piece segments) (atom_mark here begun) (atom x)));
+      (nothing_enters (over piece next) (atom_mark here begun) (atom x)));
   takes = λ can. tt;
   well = record { well = (end_at_none (end_of_piece piece), brief.none (end_of_piece piece)) };
 }
@@ -456,8 +463,8 @@ pub brief_beside : (piece : Piece) (here begun enter told last here' : List Zone
     (atom_mark here' begun)
 brief_beside piece here begun enter told last here' x brief between well whole kept union = record {
   tells = whole;
-  leaves = λ can segments long.
-      let V = behind piece segments in
+  leaves = λ can next long.
+      let V = behind piece next in
       agree_then (two_marks V x here' begun last [] here begun union (record {
         at = λ a b n some. (
           (λ h. inr h),
@@ -465,9 +472,9 @@ brief_beside piece here begun enter told last here' x brief between well whole k
         );
       }))
       (agree_either (agree_refl (Marked V (atom_mark here begun) (atom x)))
-      (agree_then (brief_leaves piece [] [] enter last x brief between kept segments)
+      (agree_then (brief_leaves piece [] [] enter last x brief between kept next)
       (agree_crossing (end_of_piece piece)
-      (nothing_begun (over piece segments) x (Held enter)))));
+      (nothing_begun (over piece next) x (Held enter)))));
   takes = λ can. tt;
   well = record {
     well = (
@@ -489,14 +496,14 @@ literal_inner piece here begun told begun' state whole kept =
     let tree = atom (literal state) in
     record {
       tells = whole;
-      leaves = λ can segments long.
+      leaves = λ can next long.
           agree_then (literal_leaves piece here begun [] told [] begun' state
           (between_none piece.begin (end_of_piece piece))
           (agree_then whole
           (agree_sym (nothing_enters (alone piece) (atom_mark here begun) tree)))
-          (none_kept (EndsAt (end_of_piece piece))) kept segments long)
+          (none_kept (EndsAt (end_of_piece piece))) kept next long)
           (agree_crossing (end_of_piece piece)
-          (nothing_enters (over piece segments) (atom_mark here begun) tree));
+          (nothing_enters (over piece next) (atom_mark here begun) tree));
       takes = λ can. tt;
       well = record {
         well = (
@@ -522,15 +529,15 @@ literal_beside piece here begun enter told last last' here' begun' state between
     let x = literal state in
     record {
       tells = whole;
-      leaves = λ can segments long.
-          let V = behind piece segments in
+      leaves = λ can next long.
+          let V = behind piece next in
           agree_then (two_marks V x here' begun' last last' here begun union union')
           (agree_either (agree_refl (Marked V (atom_mark here begun) (atom x)))
           (agree_then (literal_leaves piece [] [] enter told last last' state between
           (agree_then whole (agree_sym (nothing_begun (alone piece) x (Held enter)))) kept kept'
-          segments long)
+          next long)
           (agree_crossing (end_of_piece piece)
-          (nothing_begun (over piece segments) x (Held enter)))));
+          (nothing_begun (over piece next) x (Held enter)))));
       takes = λ can. tt;
       well = record {
         well = (

@@ -88,7 +88,7 @@ nothing_enters_to piece mark tree enter told none empty well =
         );
       };
       takes = λ can. can;
-      leaves = λ can segments long. record {
+      leaves = λ can next long. record {
         at = λ a b n some. (
           (λ h. inl h),
           (λ h. ⊎_elim (λ x. x)

@@ -9,7 +9,7 @@ use Rattle.tre_syntax.specs.Meaning.{MatchesRest}
 use Rattle.tre_syntax.specs.PatternTree.{PatternTree, sequence, alternation}
 use Rattle.tre_syntax.specs.Rest.{Rest}
 use Rattle.tre_syntax.proofs.CutMeaning.{Scales-rest, IsOrdered-rest}
-use Rattle.tre_trace.specs.declared.segment.Segment.{Segment}
+use Rattle.tre_trace.specs.Trace.{Timeline}
 use Rattle.tre_zone.specs.declared.zone_bounds.ZoneBounds.{ZoneBounds}
 use Rattle.tre_edges.specs.declared.piece.Piece.{Piece}
 use Rattle.tre_mark.specs.MarkTree.{MarkTree, sequence_mark, alternation_mark}
@@ -22,18 +22,18 @@ use Rattle.tre_advance.proofs.Going.{over, alone, behind, cut_of, mark_front, fo
 use Rattle.tre_advance.proofs.Steps.{Inner, Beside, Followed}
 
 -- What crosses where the second part of a sequence follows a front.
-module _ (piece : Piece) (right : PatternTree) (segments : List Segment) (G F : Pairs)
+module _ (piece : Piece) (right : PatternTree) (next : Timeline) (G F : Pairs)
     (front : IsFront (end_of_piece piece) G F) where
   pub cross_second : Agree
-      (Crossing (end_of_piece piece) (Composed G (MatchesRest right (over piece segments))))
+      (Crossing (end_of_piece piece) (Composed G (MatchesRest right (over piece next))))
       (Either (Composed (Crossing (end_of_piece piece) G)
-      (MatchesRest right (behind piece segments)))
-      (Crossing (end_of_piece piece) (Composed F (MatchesRest right (over piece segments)))))
+      (MatchesRest right (behind piece next)))
+      (Crossing (end_of_piece piece) (Composed F (MatchesRest right (over piece next)))))
   cross_second =
-      let W = over piece segments in
+      let W = over piece next in
       cross_followed (end_of_piece piece) G F (MatchesRest right W)
       (MatchesRest right (alone piece))
-      (MatchesRest right (behind piece segments)) front (cut_of piece segments right)
+      (MatchesRest right (behind piece next)) front (cut_of piece next right)
       (IsOrdered-rest right W)
 
 pub sequence_inner : {Q R : Type 0} → (piece : Piece) (one other one' other' other'' : MarkTree)
@@ -60,19 +60,19 @@ sequence_inner piece one other one' other' other'' left right first second third
               (λ h. ⊎_elim (λ x. inr x) (λ x. inl x) h),
             );
           }));
-      leaves = λ can segments long.
-          let W = over piece segments in
-          let V = behind piece segments in
+      leaves = λ can next long.
+          let W = over piece next in
+          let V = behind piece next in
           let X = MatchesRest right W in
           let M = Marked W one left in
-          let split = cross_second piece right segments M (Marked P one left)
-          (mark_front piece segments one left) in
+          let split = cross_second piece right next M (Marked P one left)
+          (mark_front piece next one left) in
           let whole = agree_then (cross_either T' (Composed M X) (Marked W other right))
           (agree_either split (agree_refl (Crossing T' (Marked W other right)))) in
-          let start = agree_composed (f.leaves can.0 segments long)
+          let start = agree_composed (f.leaves can.0 next long)
           (agree_refl (MatchesRest right V)) in
-          let last = agree_then (e.leaves (g.takes can.1) segments long)
-          (agree_either (g.leaves can.1 segments long)
+          let last = agree_then (e.leaves (g.takes can.1) next long)
+          (agree_either (g.leaves can.1 next long)
           (agree_crossing T' (agree_composed f.tells (agree_refl X)))) in
           record {
             at = λ a b n some.
@@ -109,19 +109,19 @@ sequence_beside piece one other one' other' left right enter first second betwee
     record {
       tells = agree_then g.tells
           (agree_then (agree_composed f.tells (agree_refl (MatchesRest right P))) (grouped P));
-      leaves = λ can segments long.
-          let W = over piece segments in
-          let V = behind piece segments in
+      leaves = λ can next long.
+          let W = over piece next in
+          let V = behind piece next in
           let X = MatchesRest right W in
           let Y = MatchesRest right V in
           let G = Followed E left W in
           let whole = agree_then (agree_crossing T' (agree_sym (grouped W)))
-          (cross_second piece right segments G (Followed E left P)
-          (followed_front piece segments left E (IsOrdered-Held enter) between.end)) in
+          (cross_second piece right next G (Followed E left P)
+          (followed_front piece next left E (IsOrdered-Held enter) between.end)) in
           let start = agree_then
-          (agree_composed (f.leaves can.0 segments long) (agree_refl Y))
+          (agree_composed (f.leaves can.0 next long) (agree_refl Y))
           (distributes (Marked V one left) (Crossing T' G) Y) in
-          let last = agree_then (g.leaves can.1 segments long)
+          let last = agree_then (g.leaves can.1 next long)
           (agree_either (agree_refl (Marked V other right))
           (agree_crossing T' (agree_composed f.tells (agree_refl X)))) in
           record {
@@ -151,9 +151,9 @@ pub alternation_inner : {Q R : Type 0} → (piece : Piece) (one other one' other
     (alternation_mark one' other')
 alternation_inner piece one other one' other' left right first second told f g union = record {
   tells = agree_then union (agree_either f.tells g.tells);
-  leaves = λ can segments long.
-      let W = over piece segments in
-      agree_then (agree_either (f.leaves can.0 segments long) (g.leaves can.1 segments long))
+  leaves = λ can next long.
+      let W = over piece next in
+      agree_then (agree_either (f.leaves can.0 next long) (g.leaves can.1 next long))
       (agree_sym (cross_either (end_of_piece piece) (Marked W one left) (Marked W other right)));
   takes = λ can. (f.takes can.0, g.takes can.1);
   well = record { well = (f.well.well, g.well.well) };
@@ -212,15 +212,15 @@ alternation_beside piece one other one' other' left right enter first second tol
       tells = agree_then union
           (agree_then (agree_either f.tells g.tells)
           (agree_sym (followed_either E left right (alone piece))));
-      leaves = λ can segments long.
-          let W = over piece segments in
+      leaves = λ can next long.
+          let W = over piece next in
           let parts = agree_then (agree_crossing T' (followed_either E left right W))
           (cross_either T' (Followed E left W) (Followed E right W)) in
           record {
             at = λ a b n some.
                 let p = parts.at a b n some in
-                let l = (f.leaves can.0 segments long).at a b n some in
-                let r = (g.leaves can.1 segments long).at a b n some in (
+                let l = (f.leaves can.0 next long).at a b n some in
+                let r = (g.leaves can.1 next long).at a b n some in (
                   (λ h. ⊎_elim
                       (λ x. ⊎_elim (λ y. inl (inl y)) (λ y. inr (p.1 (inl y))) (l.0 x))
                       (λ x. ⊎_elim (λ y. inl (inr y)) (λ y. inr (p.1 (inr y))) (r.0 x)) h),

@@ -12,8 +12,7 @@ use Rattle.tre_syntax.specs.Meaning.{MatchesRest}
 use Rattle.tre_syntax.specs.PatternTree.{PatternTree}
 use Rattle.tre_syntax.specs.Rest.{Rest}
 use Rattle.tre_syntax.proofs.CutMeaning.{IsOrdered-rest, IsCut-Matches}
-use Rattle.tre_trace.specs.Trace.{AreLong}
-use Rattle.tre_trace.specs.declared.segment.Segment.{Segment}
+use Rattle.tre_trace.specs.Trace.{Timeline, quiet, AreLong}
 use Rattle.tre_edges.specs.declared.piece.Piece.{Piece}
 use Rattle.tre_mark.specs.MarkTree.{MarkTree}
 use Rattle.tre_mark.specs.Marked.{Marked}
@@ -23,23 +22,23 @@ use Rattle.tre_edges.specs.Piece.{end_of_piece, cut_behind}
 use Rattle.tre_advance.proofs.Crossings.{IsFront}
 
 -- The rest of the trace that begins with the piece, the piece alone, and what comes behind it.
-abbrev pub over : Piece → List Segment → Rest
-over piece segments = uncut (cut_behind piece segments)
+abbrev pub over : Piece → Timeline → Rest
+over piece next = uncut (cut_behind piece next)
 
 abbrev pub alone : Piece → Rest
-alone piece = uncut (cut_behind piece [])
+alone piece = uncut (cut_behind piece (quiet []))
 
-abbrev pub behind : Piece → List Segment → Rest
-behind piece segments = back_of (cut_behind piece segments)
+abbrev pub behind : Piece → Timeline → Rest
+behind piece next = back_of (cut_behind piece next)
 
 pub long_front : (piece : Piece) → AreLong (piece.segment ∷ [])
 long_front piece = (piece.long, tt)
 
 -- How the expression is cut where the piece ends.
-pub cut_of : (piece : Piece) (segments : List Segment) (tree : PatternTree)
-    → IsCut (end_of_piece piece) (MatchesRest tree (over piece segments))
-    (MatchesRest tree (alone piece)) (MatchesRest tree (behind piece segments))
-cut_of piece segments tree = IsCut-Matches (cut_behind piece segments) (long_front piece) tree
+pub cut_of : (piece : Piece) (next : Timeline) (tree : PatternTree)
+    → IsCut (end_of_piece piece) (MatchesRest tree (over piece next))
+    (MatchesRest tree (alone piece)) (MatchesRest tree (behind piece next))
+cut_of piece next tree = IsCut-Matches (cut_behind piece next) (long_front piece) tree
 
 module _ (piece : Piece) where
   pub begin_le : piece.begin ≤ end_of_piece piece
@@ -49,33 +48,33 @@ module _ (piece : Piece) where
   begin_end n = mul-le-mul_right n begin_le
 
   -- The pairs of a mark are a front where the piece ends.
-  pub mark_front : (segments : List Segment) (mark : MarkTree) (tree : PatternTree)
-      → IsFront (end_of_piece piece) (Marked (over piece segments) mark tree)
+  pub mark_front : (next : Timeline) (mark : MarkTree) (tree : PatternTree)
+      → IsFront (end_of_piece piece) (Marked (over piece next) mark tree)
       (Marked (alone piece) mark tree)
-  mark_front segments mark tree = record {
-    grows = mark_grows (cut_behind piece segments) mark tree;
-    early = mark_early (cut_behind piece segments) mark tree;
+  mark_front next mark tree = record {
+    grows = mark_grows (cut_behind piece next) mark tree;
+    early = mark_early (cut_behind piece next) mark tree;
     begins = λ a b n some h.
-        let around = (around_present (over piece segments) mark tree a b n h).0 in
+        let around = (around_present (over piece next) mark tree a b n h).0 in
         let later = begin_end n in
         omega (arith, around, later);
     ends = λ a b n some h. mark_ends (alone piece) begin_le mark tree a b n h;
   }
 
   -- So are pairs that a match follows, where they end in the piece.
-  pub followed_front : (segments : List Segment) (tree : PatternTree) (E : Pairs) → IsOrdered E
+  pub followed_front : (next : Timeline) (tree : PatternTree) (E : Pairs) → IsOrdered E
       → ((a b n : ℕ) → 0 < n → E a b n → b ≤ end_of_piece piece * n)
-      → IsFront (end_of_piece piece) (Composed E (MatchesRest tree (over piece segments)))
+      → IsFront (end_of_piece piece) (Composed E (MatchesRest tree (over piece next)))
       (Composed E (MatchesRest tree (alone piece)))
-  followed_front segments tree E ordered ends =
-      let W = over piece segments in
+  followed_front next tree E ordered ends =
+      let W = over piece next in
       let P = alone piece in
       let T' = end_of_piece piece in
       record {
         grows = Implies-Composed E E (MatchesRest tree P) (MatchesRest tree W) (Implies-same E)
-            (cut_of piece segments tree).grows;
+            (cut_of piece next tree).grows;
         early = ImpliesBefore-Composed T' E E (MatchesRest tree W) (MatchesRest tree P)
-            (IsOrdered-rest tree W) (Before-same T' E) (cut_of piece segments tree).early;
+            (IsOrdered-rest tree W) (Before-same T' E) (cut_of piece next tree).early;
         begins = λ a b n some x.
             let k = x.factor in
             let rising = ordered.le (k * a) x.midpoint (k * n) x.left in

@@ -116,15 +116,15 @@ module _ (piece : Piece) (tree : PatternTree) (interval : IntervalEnds) (to : �
         tells = agree_then (set_agrees tells)
             (agree_composed (agree_refl (Held outer))
             (Agree-Lasting D (Held told) (Marked (alone piece) one tree) inner.tells));
-        leaves = λ can segments long.
-            let W = over piece segments in
-            let V = behind piece segments in
+        leaves = λ can next long.
+            let W = over piece next in
+            let V = behind piece next in
             agree_then (record { at = leaves.pairs tree V refl })
             (cross_outer piece outer (Lasting D (Marked W one tree))
             (Lasting D (Marked V rest tree)) (later_ends piece outer ends).ends
             (agree_then
             (Agree-Lasting D (Marked V rest tree) (Crossing T' (Marked W one tree))
-            (inner.leaves can.1 segments long))
+            (inner.leaves can.1 next long))
             (agree_sym (record {
               at = λ a b n some. crossing_lasting T' D (Marked W one tree) a b n;
             }))));
@@ -157,9 +157,9 @@ module _ (piece : Piece) (tree : PatternTree) (interval : IntervalEnds)
             (agree_composed (agree_refl (Held enter))
             (Agree-Lasting D (Held told) (MatchesRest tree P)
             (agree_then beside.tells (all_moments piece tree all held))));
-        leaves = λ can segments long.
-            let W = over piece segments in
-            let V = behind piece segments in
+        leaves = λ can next long.
+            let W = over piece next in
+            let V = behind piece next in
             let M = Marked V one tree in
             let X = MatchesRest tree W in
             let parts = is.takes (with_piece piece) can in
@@ -167,7 +167,7 @@ module _ (piece : Piece) (tree : PatternTree) (interval : IntervalEnds)
             (agree_then
             (taken_lasting T' outer enter whole union between.end D M (Marked V rest tree) X
             (takes_of piece tree all held D outer one rest parts.0 (beside.leaves parts.1) enter
-            between segments long))
+            between next long))
             (agree_either (agree_sym (record { at = is.pairs V }))
             (agree_refl (Crossing T' (Composed (Held enter) (Lasting D X))))));
         takes = λ can.
@@ -225,9 +225,9 @@ module _ (piece : Piece) (left right : PatternTree) (to : ℕ)
             (agree_composed (agree_refl (Held outer))
             (Agree-Both (Held told) (Marked P one left) (Held told') (Marked P other right)
             inner.tells inner'.tells));
-        leaves = λ can segments long.
-            let W = over piece segments in
-            let V = behind piece segments in
+        leaves = λ can next long.
+            let W = over piece next in
+            let V = behind piece next in
             let M = Marked W one left in
             let N = Marked W other right in
             agree_then (record { at = leaves.pairs left right V })
@@ -235,7 +235,7 @@ module _ (piece : Piece) (left right : PatternTree) (to : ℕ)
             (later_ends piece outer ends).ends
             (agree_then
             (Agree-Both (Marked V rest left) (Crossing T' M) (Marked V rest' right) (Crossing T' N)
-            (inner.leaves can.2 segments long) (inner'.leaves can.3 segments long))
+            (inner.leaves can.2 next long) (inner'.leaves can.3 next long))
             (agree_sym (record { at = λ a b n some. crossing_both T' M N a b n }))));
         takes = λ can.
             leaves.takes left right (with_piece piece)
@@ -271,9 +271,9 @@ module _ (piece : Piece) (left right : PatternTree)
             (Agree-Both (Held told) (MatchesRest left P) (Held told') (MatchesRest right P)
             (agree_then beside.tells (all_moments piece left all held))
             (agree_then beside'.tells (all_moments piece right all held))));
-        leaves = λ can segments long.
-            let W = over piece segments in
-            let V = behind piece segments in
+        leaves = λ can next long.
+            let W = over piece next in
+            let V = behind piece next in
             let X = MatchesRest left W in
             let Y = MatchesRest right W in
             let parts = is.takes (with_piece piece) can in
@@ -282,9 +282,9 @@ module _ (piece : Piece) (left right : PatternTree)
             (taken_both T' outer enter whole union between.end (Marked V one left)
             (Marked V rest left) X (Marked V other right) (Marked V rest' right) Y
             (takes_of piece left all held AnyDuration outer one rest parts.0
-            (beside.leaves parts.2) enter between segments long)
+            (beside.leaves parts.2) enter between next long)
             (takes_of piece right all held AnyDuration outer other rest' parts.1
-            (beside'.leaves parts.3) enter between segments long))
+            (beside'.leaves parts.3) enter between next long))
             (agree_either (agree_sym (record { at = is.pairs V }))
             (agree_refl (Crossing T' (Composed (Held enter) (Both X Y))))));
         takes = λ can.

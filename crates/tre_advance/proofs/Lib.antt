@@ -16,6 +16,8 @@ pub mod Takings
 pub mod Shortenings
 pub mod Recent
 pub mod InstanceSteps
+-- what a mark tells where the trace ends
+pub mod Closings
 -- and as the calls say it
 pub mod AtomForms
 pub mod CallForms

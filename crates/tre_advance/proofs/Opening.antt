@@ -1,5 +1,5 @@
 -- Marks that can take in what begins later: over a piece, and where it ends.
-use Rattle.std.proofs.Common.{◌≡◌, ℕ, ◌*◌, ◌<◌, ◌≤◌, List, ◌∷◌, arith}
+use Rattle.std.proofs.Common.{◌≡◌, ℕ, ◌*◌, ◌<◌, ◌≤◌, List, [], ◌∷◌, arith}
 use Rattle.tre_pairs.specs.Cuts.{Crossing}
 use Rattle.tre_pairs.specs.Pairs.{Pairs}
 use Rattle.tre_pairs.proofs.Laws.{Agree}
@@ -7,8 +7,8 @@ use Rattle.tre_zone.specs.Held.{Held}
 use Rattle.tre_zone.specs.Interval.{LastsWithin}
 use Rattle.tre_zone.specs.declared.zone_bounds.ZoneBounds.{ZoneBounds}
 use Rattle.tre_syntax.specs.PatternTree.{PatternTree, atom, sequence, alternation, intersection, repetition, restriction}
-use Rattle.tre_trace.specs.Trace.{AreLong}
-use Rattle.tre_trace.specs.declared.segment.Segment.{Segment}
+use Rattle.tre_syntax.specs.Rest.{prefixed}
+use Rattle.tre_trace.specs.Trace.{Timeline, AreLong}
 use Rattle.tre_edges.specs.Piece.{end_of_piece}
 use Rattle.tre_edges.specs.declared.piece.Piece.{Piece}
 use Rattle.tre_mark.specs.MarkTree.{MarkTree, atom_mark, sequence_mark, alternation_mark, repetition_mark, intersection_none, intersection_one, restriction_none, restriction_one}
@@ -23,20 +23,20 @@ module _ (piece : Piece) (admitted : ℕ → ℕ → Type 0) (outer : List ZoneB
   pub stepped_open : (rest : MarkTree)
       → ((a b n : ℕ) → 0 < n → Held outer a b n → b ≤ piece.begin * n)
       → IsOpen (before_piece piece) admitted outer mark tree
-      → ((segments : List Segment) → AreLong segments
-      → Agree (Marked (behind piece segments) rest tree)
-      (Crossing (end_of_piece piece) (Marked (over piece segments) mark tree)))
+      → ((next : Timeline) → AreLong next.segments
+      → Agree (Marked (behind piece next) rest tree)
+      (Crossing (end_of_piece piece) (Marked (over piece next) mark tree)))
       → IsOpen (with_piece piece) admitted outer rest tree
   stepped_open rest ends is leaves = record {
-    sound = λ segments a b n long some from h.
-        is.sound (piece.segment ∷ segments) a b n (piece.long, long) some from
-        (((leaves segments long).at a b n some).0 h).related;
-    complete = λ segments a m b n long some held from last h.
+    sound = λ next a b n long some from h.
+        is.sound (prefixed (piece.segment ∷ []) next) a b n (piece.long, long) some from
+        (((leaves next long).at a b n some).0 h).related;
+    complete = λ next a m b n long some held from last h.
         let early = ends a m n some held in
         let later = begin_end piece n in
         let end = h.end in
-        ((leaves segments long).at m b n some).1 (record {
-          related = is.complete (piece.segment ∷ segments) a m b n (piece.long, long) some held
+        ((leaves next long).at m b n some).1 (record {
+          related = is.complete (prefixed (piece.segment ∷ []) next) a m b n (piece.long, long) some held
               from last
               (record { related = h.related; begin = early; end = omega (arith, later, end) });
           begin = h.begin;
@@ -48,14 +48,14 @@ module _ (piece : Piece) (admitted : ℕ → ℕ → Type 0) (outer : List ZoneB
   pub later_open : IsOpen (with_piece piece) admitted outer mark tree
       → IsOpen (after_piece piece) admitted outer mark tree
   later_open is = record {
-    sound = λ segments a b n long some from h.
+    sound = λ next a b n long some from h.
         let later = begin_end piece n in
-        (cut_of piece segments tree).late.at a b n some from
-        (is.sound segments a b n long some (omega (arith, later, from)) h);
-    complete = λ segments a m b n long some held from last h.
+        (cut_of piece next tree).late.at a b n some from
+        (is.sound next a b n long some (omega (arith, later, from)) h);
+    complete = λ next a m b n long some held from last h.
         let later = begin_end piece n in
-        is.complete segments a m b n long some held (omega (arith, later, from)) last (record {
-          related = (cut_of piece segments tree).behind.at m b n h.related;
+        is.complete next a m b n long some held (omega (arith, later, from)) last (record {
+          related = (cut_of piece next tree).behind.at m b n h.related;
           begin = h.begin;
           end = h.end;
         });

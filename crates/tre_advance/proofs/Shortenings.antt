@@ -13,7 +13,7 @@ use Rattle.tre_zone.proofs.HeldSets.{IsOrdered-Held}
 use Rattle.tre_zone.proofs.Lasting.{LastsUpTo-downward, LastsUpTo-scales}
 use Rattle.tre_zone.specs.declared.zone_bounds.ZoneBounds.{ZoneBounds}
 use Rattle.tre_syntax.specs.Meaning.{MatchesRest}
-use Rattle.tre_syntax.specs.PatternTree.{Atom, PatternTree, empty, literal, rise, fall, atom, sequence, alternation, intersection, repetition, restriction}
+use Rattle.tre_syntax.specs.PatternTree.{Atom, PatternTree, empty, literal, rise, fall, event, atom, sequence, alternation, intersection, repetition, restriction}
 use Rattle.tre_syntax.specs.Rest.{Rest}
 use Rattle.tre_syntax.proofs.CutMeaning.{IsOrdered-rest}
 use Rattle.tre_mark.specs.MarkTree.{MarkTree, atom_mark, sequence_mark, alternation_mark, repetition_mark}
@@ -74,6 +74,7 @@ module _ (longest : Option ℕ) where
   short_begun time zones short is (literal state) begun = short_ends time zones short is begun
   short_begun time zones short is (rise state) begun = is.none begun
   short_begun time zones short is (fall state) begun = is.none begun
+  short_begun time zones short is (event number) begun = is.none begun
 
   -- ---- atoms
 
@@ -365,11 +366,11 @@ module _ (time : ℕ) (interval : IntervalEnds) (longest : Option ℕ)
     well = λ tree well. leaves.well tree (shortens.well tree time well);
     takes = λ tree read is can.
         leaves.takes tree read (record {
-          sound = λ segments a b n long some from h.
-              is.sound segments a b n long some from (shortens.less tree _ a b n some h);
-          complete = λ segments a m b n long some held from last h.
+          sound = λ next a b n long some from h.
+              is.sound next a b n long some from (shortens.less tree _ a b n some h);
+          complete = λ next a m b n long some held from last h.
               shortens.all tree _ m b n some (lasts (b - m) n last)
-              (is.complete segments a m b n long some (are.less a m n some held) from last h);
+              (is.complete next a m b n long some (are.less a m n some held) from last h);
         }) (shortens.takes tree read can);
   }
 

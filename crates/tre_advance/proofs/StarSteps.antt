@@ -17,8 +17,7 @@ use Rattle.tre_syntax.specs.PatternTree.{PatternTree, empty, repetition}
 use Rattle.tre_syntax.specs.Rest.{Rest, AtomMatches}
 use Rattle.tre_syntax.proofs.Atoms.{Scales-Atom, IsInstant-Empty, end_of-le}
 use Rattle.tre_syntax.proofs.CutMeaning.{Scales-rest, IsOrdered-rest, crossing_repetition}
-use Rattle.tre_trace.specs.Trace.{AreLong}
-use Rattle.tre_trace.specs.declared.segment.Segment.{Segment}
+use Rattle.tre_trace.specs.Trace.{Timeline, quiet, AreLong}
 use Rattle.tre_zone.specs.Zone.{IsInstantBetween, EndsAt}
 use Rattle.tre_zone.specs.declared.zone_bounds.ZoneBounds.{ZoneBounds}
 use Rattle.tre_edges.specs.declared.piece.Piece.{Piece}
@@ -111,12 +110,12 @@ module _ (piece : Piece) (here enter : List ZoneBounds) (body : MarkTree) (tree 
       (Agree-Chain (Held steps) (MatchesRest tree (alone piece)) E (AtomMatches (alone piece) empty)
       two instants_agree))
 
-  module _ (told here' : List ZoneBounds) (B : List Segment → Pairs)
+  module _ (told here' : List ZoneBounds) (B : Timeline → Pairs)
       (whole : Agree (Held told) (Composed (Starts (alone piece)) (Any (alone piece))))
       (kept : Agree (Held here') (Both (Held told) (EndsAt (end_of_piece piece))))
-      (left : (segments : List Segment) → AreLong segments → Agree (B segments)
-      (Either (Crossing (end_of_piece piece) (Marked (over piece segments) body tree))
-      (Crossing (end_of_piece piece) (Followed (Held told) tree (over piece segments))))) where
+      (left : (next : Timeline) → AreLong next.segments → Agree (B next)
+      (Either (Crossing (end_of_piece piece) (Marked (over piece next) body tree))
+      (Crossing (end_of_piece piece) (Followed (Held told) tree (over piece next))))) where
     abbrev T' : ℕ
     T' = end_of_piece piece
 
@@ -125,12 +124,12 @@ module _ (piece : Piece) (here enter : List ZoneBounds) (body : MarkTree) (tree 
         ends_composed (alone piece) (Starts (alone piece)) (Any (alone piece))
         (tree_ends (alone piece) (repetition tree)) a b n ((whole.at a b n some).0 h)
 
-    module _ (segments : List Segment) (long : AreLong segments) where
+    module _ (next : Timeline) (long : AreLong next.segments) where
       abbrev W : Rest
-      W = over piece segments
+      W = over piece next
 
       abbrev V : Rest
-      V = behind piece segments
+      V = behind piece next
 
       abbrev P : Rest
       P = alone piece
@@ -147,12 +146,12 @@ module _ (piece : Piece) (here enter : List ZoneBounds) (body : MarkTree) (tree 
       starts_front = record {
         grows = record {
           at = λ a b n h. ⊎_elim
-              (λ x. inl ((mark_grows (cut_behind piece segments) body tree).at a b n x))
+              (λ x. inl ((mark_grows (cut_behind piece next) body tree).at a b n x))
               (λ x. inr x) h;
         };
         early = record {
           at = λ a b n early h. ⊎_elim
-              (λ x. inl ((mark_early (cut_behind piece segments) body tree).at a b n early x))
+              (λ x. inl ((mark_early (cut_behind piece next) body tree).at a b n early x))
               (λ x. inr x) h;
         };
         begins = λ a b n some h. ⊎_elim
@@ -188,16 +187,16 @@ module _ (piece : Piece) (here enter : List ZoneBounds) (body : MarkTree) (tree 
       split : Agree Whole (Either (Composed (Crossing T' (Starts W)) (Any V))
           (Crossing T' (Composed (Starts P) (Any W))))
       split = cross_followed T' (Starts W) (Starts P) (Any W) (Any P) (Any V) starts_front
-          (cut_of piece segments (repetition tree)) (IsOrdered-rest (repetition tree) W)
+          (cut_of piece next (repetition tree)) (IsOrdered-rest (repetition tree) W)
 
       after : Agree (Crossing T' (Composed (Starts P) (Any W)))
           (Composed (Starts P) (Crossing T' (Any W)))
       after = cross_after T' (Starts P) (Any W) (ordered_starts P) starts_ends
 
-      body_left : Agree (B segments)
+      body_left : Agree (B next)
           (Either (Crossing T' (Marked W body tree)) (Composed (Held told) Across))
       body_left =
-          agree_then (left segments long)
+          agree_then (left next long)
           (agree_either (agree_refl (Crossing T' (Marked W body tree)))
           (cross_after T' (Held told) (MatchesRest tree W) (IsOrdered-Held told) told_ends))
 
@@ -218,7 +217,7 @@ module _ (piece : Piece) (here enter : List ZoneBounds) (body : MarkTree) (tree 
           (record {
             begin = omega arith;
             same = refl;
-            end = mul-le-mul_right n (end_of-le T' segments);
+            end = mul-le-mul_right n (end_of-le T' next.segments);
           })
 
       -- A start that ends with the piece is kept there.
@@ -236,13 +235,13 @@ module _ (piece : Piece) (here enter : List ZoneBounds) (body : MarkTree) (tree 
           let k = c.factor in
           let behind_end = (IsOrdered-rest (repetition tree) V).le (T' * n) b n h.right in
           let rest_of_it : Any W (T' * n) b n =
-          (cut_of piece segments (repetition tree)).behind.at (T' * n) b n h.right in
+          (cut_of piece next (repetition tree)).behind.at (T' * n) b n h.right in
           let grown : Composed (Starts W) (Any W) a (T' * n) n = record {
             factor = k;
             positive = c.positive;
             midpoint = c.midpoint;
             left = starts_front.grows.at (k * a) c.midpoint (k * n) c.left;
-            right = (cut_of piece segments (repetition tree)).grows.at c.midpoint (k * (T' * n))
+            right = (cut_of piece next (repetition tree)).grows.at c.midpoint (k * (T' * n))
                 (k * n) c.right;
           } in
           let all = Composed-at (Composed (Starts W) (Any W)) (Any W) a (T' * n) b n grown
@@ -261,7 +260,7 @@ module _ (piece : Piece) (here enter : List ZoneBounds) (body : MarkTree) (tree 
             end = behind_end;
           }
 
-      from_body : (a b n : ℕ) → 0 < n → Composed (B segments) (Any V) a b n
+      from_body : (a b n : ℕ) → 0 < n → Composed (B next) (Any V) a b n
           → Whole a b n
       from_body a b n some h =
           let parts = (agree_then (agree_composed body_left (agree_refl (Any V)))
@@ -287,13 +286,13 @@ module _ (piece : Piece) (here enter : List ZoneBounds) (body : MarkTree) (tree 
             positive = y.positive;
             midpoint = y.midpoint;
             left = y.left;
-            right = (crossing_repetition (cut_behind piece segments) (long_front piece) tree
+            right = (crossing_repetition (cut_behind piece next) (long_front piece) tree
                 y.midpoint (k * b) (k * n) (mul-pos y.positive some)).1 (inr y.right);
           })))) (parts.0 h)
 
       -- Back from a start over all of time.
       to_starts : (a b n : ℕ) → 0 < n → Composed (Crossing T' (Starts W)) (Any V) a b n
-          → Either Left (Composed (B segments) (Any V)) a b n
+          → Either Left (Composed (B next) (Any V)) a b n
       to_starts a b n some h =
           let k = h.factor in
           let finer : 0 < k * n = mul-pos h.positive some in
@@ -317,7 +316,7 @@ module _ (piece : Piece) (here enter : List ZoneBounds) (body : MarkTree) (tree 
           }))) h.left.related
 
       to_rest : (a b n : ℕ) → 0 < n → Crossing T' (Composed (Starts P) (Any W)) a b n
-          → Either Left (Composed (B segments) (Any V)) a b n
+          → Either Left (Composed (B next) (Any V)) a b n
       to_rest a b n some h =
           let c = (after.at a b n some).0 h in
           let k = c.factor in
@@ -343,10 +342,10 @@ module _ (piece : Piece) (here enter : List ZoneBounds) (body : MarkTree) (tree 
                 (mul-pos y.positive some)).1 (inr y.left);
             right = y.right;
           }))
-          ((crossing_repetition (cut_behind piece segments) (long_front piece) tree c.midpoint
+          ((crossing_repetition (cut_behind piece next) (long_front piece) tree c.midpoint
           (k * b) (k * n) finer).0 c.right)
 
-      pub leaves_repetition : Agree (Either Left (Composed (B segments) (Any V))) Whole
+      pub leaves_repetition : Agree (Either Left (Composed (B next) (Any V))) Whole
       leaves_repetition = record {
         at = λ a b n some. (
           (λ h. ⊎_elim (λ x. from_here a b n some x) (λ x. from_body a b n some x) h),
@@ -372,12 +371,12 @@ module _ (piece : Piece) (here : List ZoneBounds) (body : MarkTree) (tree : Patt
   abbrev pub Started : Rest → Pairs
   Started rest = Starts piece here [] body tree ends none_enters rest
 
-  marked_repetition : (segments : List Segment)
-      → Agree (Marked (over piece segments) (repetition_mark here body) (repetition tree))
-      (Composed (Started (over piece segments)) (MatchesRest (repetition tree)
-      (over piece segments)))
-  marked_repetition segments =
-      let W = over piece segments in
+  marked_repetition : (next : Timeline)
+      → Agree (Marked (over piece next) (repetition_mark here body) (repetition tree))
+      (Composed (Started (over piece next)) (MatchesRest (repetition tree)
+      (over piece next)))
+  marked_repetition next =
+      let W = over piece next in
       let M = Marked W body tree in
       let X = MatchesRest (repetition tree) W in
       let same = joined_composed piece.begin here X ends (Scales-rest (repetition tree) W) in
@@ -428,16 +427,16 @@ module _ (piece : Piece) (here : List ZoneBounds) (body : MarkTree) (tree : Patt
   repetition_inner told ended told' here' body' body'' whole kept f e =
       let T' = end_of_piece piece in
       record {
-        tells = agree_then whole (agree_sym (marked_repetition []));
-        leaves = λ can segments long.
-            let W = over piece segments in
+        tells = agree_then whole (agree_sym (marked_repetition (quiet [])));
+        leaves = λ can next long.
+            let W = over piece next in
             agree_then (leaves_repetition piece here [] body tree ends none_enters told here'
-            (λ segments. Marked (behind piece segments) body'' tree) whole kept
-            (λ segments long. agree_then (e.leaves (f.takes can) segments long)
-            (agree_either (f.leaves can segments long)
-            (agree_refl (Crossing T' (Followed (Held told) tree (over piece segments))))))
-            segments long)
-            (agree_crossing T' (agree_sym (marked_repetition segments)));
+            (λ next. Marked (behind piece next) body'' tree) whole kept
+            (λ next long. agree_then (e.leaves (f.takes can) next long)
+            (agree_either (f.leaves can next long)
+            (agree_refl (Crossing T' (Followed (Held told) tree (over piece next))))))
+            next long)
+            (agree_crossing T' (agree_sym (marked_repetition next)));
         takes = λ can. e.takes (f.takes can);
         well = record {
           well = (
@@ -489,30 +488,30 @@ module _ (piece : Piece) (enter : List ZoneBounds) (tree : PatternTree)
       let P = alone piece in
       record {
         tells = whole;
-        leaves = λ can segments long.
-            let W = over piece segments in
-            let V = behind piece segments in
+        leaves = λ can next long.
+            let W = over piece next in
+            let V = behind piece next in
             let X = MatchesRest (repetition tree) V in
             let Cross = Crossing T' (Followed (Held told) tree W) in
             let fresh : Agree (Either (JoinedAt T' (Held last) X) (Composed Cross X))
             (Crossing T' (Followed (Held enter) (repetition tree) W)) =
             agree_then (leaves_repetition piece [] enter restriction_none tree
             (end_at_none piece.begin) between told last
-            (λ segments. Crossing T' (Followed (Held told) tree (over piece segments)))
+            (λ next. Crossing T' (Followed (Held told) tree (over piece next)))
             (agree_then whole (agree_composed (agree_sym (entered_is P))
             (agree_refl (MatchesRest (repetition tree) P)))) kept
-            (λ segments long. record {
+            (λ next long. record {
               at = λ a b n some. (
                 (λ h. inr h),
                 (λ h. ⊎_elim
-                    (λ x. absurd (nothing_restriction.never tree (over piece segments) a b n
+                    (λ x. absurd (nothing_restriction.never tree (over piece next) a b n
                     x.related)) (λ x. x) h),
               );
-            }) segments long)
+            }) next long)
             (agree_crossing T' (agree_composed (entered_is W)
             (agree_refl (MatchesRest (repetition tree) W)))) in
             let inside = agree_then
-            (agree_composed (e.leaves can segments long) (agree_refl X))
+            (agree_composed (e.leaves can next long) (agree_refl X))
             (distributes (Marked V body tree) Cross X) in
             record {
               at = λ a b n some.

@@ -32,7 +32,7 @@ module _ (piece : Piece) (told : List ZoneBounds) (empty : told ≡ []) where
   lasting_nothing tree interval = record {
     tells = set_none told (Marked (alone piece) restriction_none (restriction tree interval))
         empty (λ a b n some h. h);
-    leaves = λ can segments long a b n some. ((λ h. absurd h), (λ h. absurd h.related));
+    leaves = λ can next long a b n some. ((λ h. absurd h), (λ h. absurd h.related));
     takes = λ can. tt;
     between = told_nothing;
     well = record { well = tt };
@@ -43,7 +43,7 @@ module _ (piece : Piece) (told : List ZoneBounds) (empty : told ≡ []) where
   both_nothing left right = record {
     tells = set_none told (Marked (alone piece) intersection_none (intersection left right))
         empty (λ a b n some h. h);
-    leaves = λ can segments long a b n some. ((λ h. absurd h), (λ h. absurd h.related));
+    leaves = λ can next long a b n some. ((λ h. absurd h), (λ h. absurd h.related));
     takes = λ can. tt;
     between = told_nothing;
     well = record { well = tt };

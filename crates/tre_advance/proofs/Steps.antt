@@ -12,8 +12,7 @@ use Rattle.tre_syntax.specs.Meaning.{MatchesRest}
 use Rattle.tre_syntax.specs.PatternTree.{PatternTree}
 use Rattle.tre_syntax.specs.Rest.{Rest}
 use Rattle.tre_syntax.proofs.CutMeaning.{Scales-rest, IsOrdered-rest, IsBounded-rest}
-use Rattle.tre_trace.specs.Trace.{AreLong}
-use Rattle.tre_trace.specs.declared.segment.Segment.{Segment}
+use Rattle.tre_trace.specs.Trace.{Timeline, quiet, AreLong}
 use Rattle.tre_zone.specs.Zone.{IsInstantBetween}
 use Rattle.tre_zone.specs.ZoneList.{HoldExactly}
 use Rattle.tre_zone.specs.declared.zone_bounds.ZoneBounds.{ZoneBounds}
@@ -36,9 +35,9 @@ use Rattle.tre_advance.proofs.SetsOf.{exact_set}
 pub record Inner (Q : Type 0) (piece : Piece) (tree : PatternTree) (N : Rest → Pairs) (told : List ZoneBounds)
     (rest : MarkTree) : Type 0 where
   pub tells : Agree (Held told) (N (alone piece))
-  pub leaves : Q → (segments : List Segment) → AreLong segments
-      → Agree (Marked (behind piece segments) rest tree)
-      (Crossing (end_of_piece piece) (N (over piece segments)))
+  pub leaves : Q → (next : Timeline) → AreLong next.segments
+      → Agree (Marked (behind piece next) rest tree)
+      (Crossing (end_of_piece piece) (N (over piece next)))
   pub takes : Q → CanTakeIn (with_piece piece) rest tree
   pub well : IsWellAt (end_of_piece piece) rest tree
 
@@ -46,10 +45,10 @@ pub record Inner (Q : Type 0) (piece : Piece) (tree : PatternTree) (N : Rest →
 pub record Beside (Q : Type 0) (piece : Piece) (tree : PatternTree) (old : MarkTree) (N : Rest → Pairs)
     (told : List ZoneBounds) (rest : MarkTree) : Type 0 where
   pub tells : Agree (Held told) (N (alone piece))
-  pub leaves : Q → (segments : List Segment) → AreLong segments
-      → Agree (Marked (behind piece segments) rest tree)
-      (Either (Marked (behind piece segments) old tree)
-      (Crossing (end_of_piece piece) (N (over piece segments))))
+  pub leaves : Q → (next : Timeline) → AreLong next.segments
+      → Agree (Marked (behind piece next) rest tree)
+      (Either (Marked (behind piece next) old tree)
+      (Crossing (end_of_piece piece) (N (over piece next))))
   pub takes : Q → CanTakeIn (with_piece piece) rest tree
   pub well : IsWellAt (end_of_piece piece) rest tree
 
@@ -86,7 +85,7 @@ module _ (piece : Piece) (tree : PatternTree) (told : List ZoneBounds) (rest : M
       rest → StepsTo mark tree piece told rest
   steps_of mark inner = record {
     tells = record { pairs = inner.tells.at };
-    leaves = λ can segments long. (inner.leaves can segments long).at;
+    leaves = λ can next long. (inner.leaves can next long).at;
     takes = inner.takes;
     between = marked_between mark inner.tells;
     well = inner.well;
@@ -97,7 +96,7 @@ module _ (piece : Piece) (tree : PatternTree) (told : List ZoneBounds) (rest : M
       rest
   of_steps mark steps = record {
     tells = record { at = steps.tells.pairs };
-    leaves = λ can segments long. record { at = steps.leaves can segments long };
+    leaves = λ can next long. record { at = steps.leaves can next long };
     takes = steps.takes;
     well = steps.well;
   }
@@ -107,7 +106,7 @@ module _ (piece : Piece) (tree : PatternTree) (told : List ZoneBounds) (rest : M
       told rest → EntersTo old tree enter piece told rest
   enters_of old enter beside = record {
     tells = record { pairs = beside.tells.at };
-    leaves = λ can segments long. (beside.leaves can segments long).at;
+    leaves = λ can next long. (beside.leaves can next long).at;
     takes = beside.takes;
     between = followed_between (Held enter) beside.tells;
     well = beside.well;
@@ -119,7 +118,7 @@ module _ (piece : Piece) (tree : PatternTree) (told : List ZoneBounds) (rest : M
       told rest
   of_enters old enter enters = record {
     tells = record { at = enters.tells.pairs };
-    leaves = λ can segments long. record { at = enters.leaves can segments long };
+    leaves = λ can next long. record { at = enters.leaves can next long };
     takes = enters.takes;
     well = enters.well;
   }
@@ -176,13 +175,13 @@ module _ (piece : Piece) (mark : MarkTree) (tree : PatternTree)
       agree_then (record { at = union.pairs })
       (agree_either (record { at = steps.tells.pairs }) (record { at = enters.tells.pairs })) in
       record {
-        tells = exact_set told (GoesOver mark tree enter piece []) (record { pairs = tells.at });
-        leaves = λ can segments a b n long some.
-            let W = over piece segments in
+        tells = exact_set told (GoesOver mark tree enter piece (quiet [])) (record { pairs = tells.at });
+        leaves = λ can next a b n long some.
+            let W = over piece next in
             let same = (agree_then
-            (record { at = enters.leaves (steps.takes can) segments long })
+            (record { at = enters.leaves (steps.takes can) next long })
             (agree_then
-            (agree_either (record { at = steps.leaves can segments long })
+            (agree_either (record { at = steps.leaves can next long })
             (agree_refl (Crossing T' (Followed (Held enter) tree W))))
             (agree_sym (cross_either T' (Marked W mark tree)
             (Followed (Held enter) tree W))))).at a b n some in (

@@ -12,8 +12,7 @@ use Rattle.tre_zone.specs.declared.zone_bounds.ZoneBounds.{ZoneBounds}
 use Rattle.tre_syntax.specs.Meaning.{MatchesRest}
 use Rattle.tre_syntax.specs.PatternTree.{PatternTree}
 use Rattle.tre_syntax.proofs.CutMeaning.{IsBounded-rest}
-use Rattle.tre_trace.specs.Trace.{AreLong}
-use Rattle.tre_trace.specs.declared.segment.Segment.{Segment}
+use Rattle.tre_trace.specs.Trace.{Timeline, AreLong}
 use Rattle.tre_edges.specs.Piece.{end_of_piece}
 use Rattle.tre_edges.specs.declared.piece.Piece.{Piece}
 use Rattle.tre_mark.specs.MarkTree.{MarkTree}
@@ -191,21 +190,21 @@ module _ (piece : Piece) (tree : PatternTree) (all : List ZoneBounds)
     (held : HoldExactly all (IsInstantBetween piece.begin (end_of_piece piece)))
     (admitted : ℕ → ℕ → Type 0) (outer : List ZoneBounds) (mark rest : MarkTree)
     (is : IsOpen (with_piece piece) admitted outer mark tree)
-    (leaves : (segments : List Segment) → AreLong segments
-    → Agree (Marked (behind piece segments) rest tree)
-    (Either (Marked (behind piece segments) mark tree)
-    (Crossing (end_of_piece piece) (Followed (Held all) tree (over piece segments))))) where
+    (leaves : (next : Timeline) → AreLong next.segments
+    → Agree (Marked (behind piece next) rest tree)
+    (Either (Marked (behind piece next) mark tree)
+    (Crossing (end_of_piece piece) (Followed (Held all) tree (over piece next))))) where
   -- Then it serves whatever enters.
   pub entered_open : (admitted' : ℕ → ℕ → Type 0) (outer' : List ZoneBounds)
       → IsOpen (with_piece piece) admitted' outer' rest tree
   entered_open admitted' outer' = record {
-    sound = λ segments a b n long some from h. ⊎_elim
-        (λ x. is.sound segments a b n long some from x)
-        (λ x. from_moment piece tree all held (over piece segments) a b n some x.related)
-        (((leaves segments long).at a b n some).0 h);
-    complete = λ segments a m b n long some before from last h.
-        ((leaves segments long).at m b n some).1 (inr (record {
-          related = to_moment piece tree all held (over piece segments) m b n some from h.begin
+    sound = λ next a b n long some from h. ⊎_elim
+        (λ x. is.sound next a b n long some from x)
+        (λ x. from_moment piece tree all held (over piece next) a b n some x.related)
+        (((leaves next long).at a b n some).0 h);
+    complete = λ next a m b n long some before from last h.
+        ((leaves next long).at m b n some).1 (inr (record {
+          related = to_moment piece tree all held (over piece next) m b n some from h.begin
               h.related;
           begin = h.begin;
           end = h.end;
@@ -213,24 +212,24 @@ module _ (piece : Piece) (tree : PatternTree) (all : List ZoneBounds)
   }
 
   pub takes_of : (enter : List ZoneBounds) → EndBetween piece.begin (end_of_piece piece) enter
-      → (segments : List Segment) → AreLong segments
-      → Takes (end_of_piece piece) admitted outer enter (Marked (behind piece segments) mark tree)
-      (Marked (behind piece segments) rest tree) (MatchesRest tree (over piece segments))
-  takes_of enter between segments long =
-      let W = over piece segments in
-      let V = behind piece segments in
+      → (next : Timeline) → AreLong next.segments
+      → Takes (end_of_piece piece) admitted outer enter (Marked (behind piece next) mark tree)
+      (Marked (behind piece next) rest tree) (MatchesRest tree (over piece next))
+  takes_of enter between next long =
+      let W = over piece next in
+      let V = behind piece next in
       record {
         old = λ a m b n some before last h. ⊎_elim (λ x. x)
             (λ x.
             let match = from_moment piece tree all held W m b n some x.related in
-            is.complete segments a m b n long some before ((IsBounded-rest tree W).begin m b n match)
+            is.complete next a m b n long some before ((IsBounded-rest tree W).begin m b n match)
             last (record { related = match; begin = x.begin; end = x.end }))
-            (((leaves segments long).at m b n some).0 h);
+            (((leaves next long).at m b n some).0 h);
         new = λ a m b n some before h. ⊎_elim
             (λ x.
             let around = around_present V mark tree m b n x in
             record {
-              related = is.sound segments m b n long some (between.begin a m n some before) x;
+              related = is.sound next m b n long some (between.begin a m n some before) x;
               begin = around.0;
               end = around.1;
             })
@@ -238,9 +237,9 @@ module _ (piece : Piece) (tree : PatternTree) (all : List ZoneBounds)
               related = from_moment piece tree all held W m b n some x.related;
               begin = x.begin;
               end = x.end;
-            }) (((leaves segments long).at m b n some).0 h);
-        keeps = λ a b n some h. ((leaves segments long).at a b n some).1 (inl h);
-        gains = λ a m b n some before h. ((leaves segments long).at m b n some).1 (inr (record {
+            }) (((leaves next long).at m b n some).0 h);
+        keeps = λ a b n some h. ((leaves next long).at a b n some).1 (inl h);
+        gains = λ a m b n some before h. ((leaves next long).at m b n some).1 (inr (record {
           related = to_moment piece tree all held W m b n some (between.begin a m n some before)
               h.begin h.related;
           begin = h.begin;

@@ -4,8 +4,7 @@ use Rattle.tre_pairs.specs.Cuts.{Crossing}
 use Rattle.tre_pairs.specs.Pairs.{Pairs, Composed, Either}
 use Rattle.tre_zone.specs.ZoneList.{HoldExactly}
 use Rattle.tre_zone.specs.declared.zone_bounds.ZoneBounds.{ZoneBounds}
-use Rattle.tre_trace.specs.Trace.{AreLong}
-use Rattle.tre_trace.specs.declared.segment.Segment.{Segment}
+use Rattle.tre_trace.specs.Trace.{Timeline, quiet, AreLong}
 use Rattle.tre_syntax.specs.Cut.{uncut, back_of}
 use Rattle.tre_syntax.specs.Meaning.{MatchesRest}
 use Rattle.tre_syntax.specs.PatternTree.{PatternTree}
@@ -21,15 +20,15 @@ abbrev pub Goes : Rest → MarkTree → PatternTree → List ZoneBounds → Pair
 Goes rest mark tree enter a b n =
     Either (Marked rest mark tree) (Composed (Held enter) (MatchesRest tree rest)) a b n
 
--- The same over the piece and the segments behind it.
-unfoldable pub GoesOver : MarkTree → PatternTree → List ZoneBounds → Piece → List Segment → Pairs
-GoesOver mark tree enter piece segments a b n =
-    Goes (uncut (cut_behind piece segments)) mark tree enter a b n
+-- The same over the piece and what comes next, behind it.
+unfoldable pub GoesOver : MarkTree → PatternTree → List ZoneBounds → Piece → Timeline → Pairs
+GoesOver mark tree enter piece next a b n =
+    Goes (uncut (cut_behind piece next)) mark tree enter a b n
 
--- The pairs of the mark where the segments come behind the piece.
-unfoldable pub MarkedBehind : MarkTree → PatternTree → Piece → List Segment → Pairs
-MarkedBehind mark tree piece segments a b n =
-    Marked (back_of (cut_behind piece segments)) mark tree a b n
+-- The pairs of the mark where this comes behind the piece.
+unfoldable pub MarkedBehind : MarkTree → PatternTree → Piece → Timeline → Pairs
+MarkedBehind mark tree piece next a b n =
+    Marked (back_of (cut_behind piece next)) mark tree a b n
 
 -- Where the piece begins, and where it ends, nothing more is read yet.
 abbrev pub before_piece : Piece → Since
@@ -44,11 +43,11 @@ after_piece piece = since (end_of_piece piece) (Some piece.segment.val) []
 -- of a mark that can take in what begins later, and it can do so again.
 pub record Advances (mark : MarkTree) (tree : PatternTree) (enter : List ZoneBounds) (piece : Piece)
     (told : List ZoneBounds) (rest : MarkTree) : Type 0 where
-  pub tells : HoldExactly told (GoesOver mark tree enter piece [])
-  pub leaves : CanTakeIn (before_piece piece) mark tree → (segments : List Segment) (a b n : ℕ)
-      → AreLong segments → 0 < n
-      → MarkedBehind rest tree piece segments a b n
-      ↔ Crossing (end_of_piece piece) (GoesOver mark tree enter piece segments) a b n
+  pub tells : HoldExactly told (GoesOver mark tree enter piece (quiet []))
+  pub leaves : CanTakeIn (before_piece piece) mark tree → (next : Timeline) (a b n : ℕ)
+      → AreLong next.segments → 0 < n
+      → MarkedBehind rest tree piece next a b n
+      ↔ Crossing (end_of_piece piece) (GoesOver mark tree enter piece next) a b n
   pub takes : CanTakeIn (before_piece piece) mark tree → CanTakeIn (after_piece piece) rest tree
   pub between : EndBetween piece.begin (end_of_piece piece) told
   pub well : IsWellAt (end_of_piece piece) rest tree

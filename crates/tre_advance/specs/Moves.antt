@@ -5,11 +5,10 @@ use Rattle.tre_pairs.specs.Pairs.{Composed, Either, Both}
 use Rattle.tre_zone.specs.Held.{Held, IsSetOf}
 use Rattle.tre_zone.specs.Zone.{EndsAt}
 use Rattle.tre_zone.specs.declared.zone_bounds.ZoneBounds.{ZoneBounds}
-use Rattle.tre_trace.specs.Trace.{AreLong}
-use Rattle.tre_trace.specs.declared.segment.Segment.{Segment}
+use Rattle.tre_trace.specs.Trace.{Timeline, quiet, AreLong}
 use Rattle.tre_syntax.specs.Cut.{uncut, back_of}
 use Rattle.tre_syntax.specs.Meaning.{MatchesRest}
-use Rattle.tre_syntax.specs.PatternTree.{PatternTree, empty, literal, rise, fall, atom}
+use Rattle.tre_syntax.specs.PatternTree.{PatternTree, empty, literal, rise, fall, event, atom}
 use Rattle.tre_edges.specs.declared.piece.Piece.{Piece}
 use Rattle.tre_mark.specs.MarkTree.{MarkTree, repetition_mark}
 use Rattle.tre_mark.specs.Marked.{Since, since, CanTakeIn, Marked, EndBetween, IsWellAt}
@@ -24,11 +23,11 @@ with_piece piece = since piece.begin piece.before (piece.segment ∷ [])
 -- in what begins later, and can do so again.
 pub record StepsTo (mark : MarkTree) (tree : PatternTree) (piece : Piece) (told : List ZoneBounds)
     (rest : MarkTree) : Type 0 where
-  pub tells : IsSetOf told (Marked (uncut (cut_behind piece [])) mark tree)
-  pub leaves : CanTakeIn (before_piece piece) mark tree → (segments : List Segment)
-      → AreLong segments → (a b n : ℕ) → 0 < n
-      → Marked (back_of (cut_behind piece segments)) rest tree a b n
-      ↔ Crossing (end_of_piece piece) (Marked (uncut (cut_behind piece segments)) mark tree) a b n
+  pub tells : IsSetOf told (Marked (uncut (cut_behind piece (quiet []))) mark tree)
+  pub leaves : CanTakeIn (before_piece piece) mark tree → (next : Timeline)
+      → AreLong next.segments → (a b n : ℕ) → 0 < n
+      → Marked (back_of (cut_behind piece next)) rest tree a b n
+      ↔ Crossing (end_of_piece piece) (Marked (uncut (cut_behind piece next)) mark tree) a b n
   pub takes : CanTakeIn (before_piece piece) mark tree → CanTakeIn (with_piece piece) rest tree
   pub between : EndBetween piece.begin (end_of_piece piece) told
   pub well : IsWellAt (end_of_piece piece) rest tree
@@ -37,13 +36,13 @@ pub record StepsTo (mark : MarkTree) (tree : PatternTree) (piece : Piece) (told 
 -- and the mark at its end stands for those that go on too.
 pub record EntersTo (old : MarkTree) (tree : PatternTree) (enter : List ZoneBounds) (piece : Piece)
     (told : List ZoneBounds) (rest : MarkTree) : Type 0 where
-  pub tells : IsSetOf told (Composed (Held enter) (MatchesRest tree (uncut (cut_behind piece []))))
-  pub leaves : CanTakeIn (with_piece piece) old tree → (segments : List Segment)
-      → AreLong segments → (a b n : ℕ) → 0 < n
-      → Marked (back_of (cut_behind piece segments)) rest tree a b n
-      ↔ Either (Marked (back_of (cut_behind piece segments)) old tree)
+  pub tells : IsSetOf told (Composed (Held enter) (MatchesRest tree (uncut (cut_behind piece (quiet [])))))
+  pub leaves : CanTakeIn (with_piece piece) old tree → (next : Timeline)
+      → AreLong next.segments → (a b n : ℕ) → 0 < n
+      → Marked (back_of (cut_behind piece next)) rest tree a b n
+      ↔ Either (Marked (back_of (cut_behind piece next)) old tree)
       (Crossing (end_of_piece piece)
-      (Composed (Held enter) (MatchesRest tree (uncut (cut_behind piece segments))))) a b n
+      (Composed (Held enter) (MatchesRest tree (uncut (cut_behind piece next))))) a b n
   pub takes : CanTakeIn (with_piece piece) old tree → CanTakeIn (with_piece piece) rest tree
   pub between : EndBetween piece.begin (end_of_piece piece) told
   pub well : IsWellAt (end_of_piece piece) rest tree
@@ -62,6 +61,7 @@ IsBriefTree (atom empty) = Unit {0}
 IsBriefTree (atom (literal state)) = ⊥
 IsBriefTree (atom (rise state)) = Unit {0}
 IsBriefTree (atom (fall state)) = Unit {0}
+IsBriefTree (atom (event number)) = Unit {0}
 IsBriefTree tree = ⊥
 
 abbrev pub IsLiteralTree : PatternTree → Type 0
@@ -69,4 +69,5 @@ IsLiteralTree (atom empty) = ⊥
 IsLiteralTree (atom (literal state)) = Unit {0}
 IsLiteralTree (atom (rise state)) = ⊥
 IsLiteralTree (atom (fall state)) = ⊥
+IsLiteralTree (atom (event number)) = ⊥
 IsLiteralTree tree = ⊥

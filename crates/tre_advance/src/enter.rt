@@ -50,7 +50,7 @@ pub fn enter(
         });
     }
     match expr {
-        Expr::Eps | Expr::Lit(_) | Expr::Rise(_) | Expr::Fall(_) => {
+        Expr::Eps | Expr::Lit(_) | Expr::Rise(_) | Expr::Fall(_) | Expr::Event(_) => {
             enter_atom(alloc, mark, expr, zones, piece)
         }
         Expr::Seq(left, right) => enter_sequence(alloc, mark, left, right, zones, piece),

@@ -1,4 +1,4 @@
-//! The step of a mark over one more piece of a trace.
+//! The step of a mark over one more piece of a trace, and what it tells where the trace ends.
 //!
 //! [`advance`] goes once over a mark and its expression. It tells, as zones, exactly the pairs that
 //! are decided by the piece, and leaves the mark at the end of the piece: whatever comes behind it,
@@ -6,6 +6,9 @@
 //! moment of the piece: an intersection or a restriction that has begun takes them in. The layer
 //! above may rely on the cost: that of the expression and of the sets in its mark, however long the
 //! trace was.
+//!
+//! [`close`] tells the pairs of a mark where no more segments come, but events may happen at the
+//! end.
 //!
 //! ```
 //! let advanced = advance(alloc, &mark, expr, &enter, &piece)?;
@@ -15,6 +18,7 @@
 
 mod advancing;
 mod atoms;
+mod closing;
 mod enter;
 mod instances;
 mod sets;
@@ -23,4 +27,5 @@ mod step;
 mod stepping;
 
 pub use advancing::advance;
+pub use closing::close;
 pub use stepping::Advanced;

@@ -32,7 +32,7 @@ pub fn step(alloc: Global, mark: &Mark, expr: &Expr, piece: &Piece) -> Result<Ad
         StepsTo (mark_of mark.now) (tree_of expr.now) piece.now r.told (mark_of r.rest)) }
 {
     match expr {
-        Expr::Eps | Expr::Lit(_) | Expr::Rise(_) | Expr::Fall(_) => {
+        Expr::Eps | Expr::Lit(_) | Expr::Rise(_) | Expr::Fall(_) | Expr::Event(_) => {
             step_atom(alloc, mark, expr, piece)
         }
         Expr::Seq(left, right) => step_sequence(alloc, mark, left, right, piece),

@@ -7,6 +7,7 @@ ghost use Rattle.tre_syntax.specs.Expr.{tree_of};
 ghost use Rattle.tre_syntax.specs.Meaning.{MatchesRest};
 ghost use Rattle.tre_syntax.specs.PatternTree.{PatternTree, NumbersBelow, sequence, alternation, repetition};
 ghost use Rattle.tre_zone.specs.declared.zone_bounds.ZoneBounds.{ZoneBounds};
+ghost use Rattle.tre_trace.specs.Trace.{quiet};
 ghost use Rattle.tre_edges.specs.declared.piece.Piece.{Piece};
 ghost use Rattle.tre_zone.specs.Held.{Held, EndAt, IsSetOf};
 ghost use Rattle.tre_mark.specs.MarkTree.{MarkTree, mark_of, sequence_mark, alternation_mark};
@@ -97,7 +98,7 @@ pub fn repeat(
     requires numbers { NumbersBelow NAMES_MAX (tree_of body.now) }
     requires starts { EndBetween piece.now.begin (end_of_piece piece.now) starts }
     ensures tells { IfOk result (λ told. IsSetOf told (Composed (Held starts)
-        (MatchesRest (repetition (tree_of body.now)) (uncut (cut_behind piece.now []))))) }
+        (MatchesRest (repetition (tree_of body.now)) (uncut (cut_behind piece.now (quiet [])))))) }
     ensures between { IfOk result (λ told.
         EndBetween piece.now.begin (end_of_piece piece.now) told) }
 {
@@ -124,7 +125,7 @@ pub fn tell_again(
     requires here { EndAt piece.now.begin here.now }
     ensures tells { IfOk result (λ told. IsSetOf told (Composed
         (Either (Held ended) (Held here.now))
-        (MatchesRest (repetition (tree_of body.now)) (uncut (cut_behind piece.now []))))) }
+        (MatchesRest (repetition (tree_of body.now)) (uncut (cut_behind piece.now (quiet [])))))) }
     ensures between { IfOk result (λ told.
         EndBetween piece.now.begin (end_of_piece piece.now) told) }
 {

@@ -1,6 +1,6 @@
 -- The matches across the end of a piece, row by row: each is a law of the cut.
 use Rattle.std.proofs.Common.{ℕ, ◌*◌, List, [], ◌∷◌, refl, sym, ◌∙◌, inl, inr, ⊎_elim, arith}
-use Rattle.tre_pairs.specs.Cuts.{IsMoment, JoinedAt, Passing}
+use Rattle.tre_pairs.specs.Cuts.{IsMoment, Crossing, JoinedAt, Passing}
 use Rattle.tre_pairs.specs.Pairs.{Pairs, Composed, Either, Both, Lasting}
 use Rattle.tre_pairs.proofs.CutLaws.{crossing_either, crossing_both, crossing_lasting}
 use Rattle.tre_pairs.proofs.Laws.{IsInstant, Agree}
@@ -13,19 +13,18 @@ use Rattle.tre_zone.specs.ZoneList.{SetHolds, HoldExactly}
 use Rattle.tre_zone.specs.declared.zone_bounds.ZoneBounds.{ZoneBounds}
 use Rattle.tre_state.specs.StateTree.{StateTree, HoldsOn}
 use Rattle.tre_state.specs.declared.names.TheConstants.{NAMES_MAX}
-use Rattle.tre_trace.specs.Trace.{AreLong}
-use Rattle.tre_trace.specs.declared.segment.Segment.{Segment}
+use Rattle.tre_trace.specs.Trace.{Timeline, AreLong}
 use Rattle.tre_syntax.specs.Cut.{uncut, back_of, MatchesBehind, MatchesAcross}
 use Rattle.tre_syntax.specs.Meaning.{MatchesRest}
-use Rattle.tre_syntax.specs.PatternTree.{PatternTree, NumbersBelow, atom, empty, literal, rise, fall, sequence, alternation, intersection, repetition, restriction}
-use Rattle.tre_syntax.specs.Rest.{Rest, EdgeMatches}
-use Rattle.tre_syntax.proofs.AtomCuts.{crossing_empty, crossing_edge, crossing_literal}
+use Rattle.tre_syntax.specs.PatternTree.{PatternTree, NumbersBelow, Atom, atom, empty, literal, rise, fall, event, sequence, alternation, intersection, repetition, restriction}
+use Rattle.tre_syntax.specs.Rest.{Rest, AtomMatches, EdgeMatches, EventMatches}
+use Rattle.tre_syntax.proofs.AtomCuts.{crossing_empty, crossing_edge, crossing_event, crossing_literal}
 use Rattle.tre_syntax.proofs.CutMeaning.{IsOrdered-rest, crossing_sequence, crossing_repetition}
 use Rattle.tre_edges.specs.Piece.{rest_of_piece, end_of_piece, cut_behind}
 use Rattle.tre_edges.specs.declared.piece.Piece.{Piece}
 use Rattle.tre_zone.specs.Held.{Held}
 use Rattle.tre_residual.specs.Residual.{ResidualTree, here, joined, followed, either, both, lasting, Builds}
-use Rattle.tre_derive.specs.Derivative.{IsFresh, ComesAfter}
+use Rattle.tre_derive.specs.Derivative.{IsFresh, IsDecidedNext, ComesAfter}
 use Rattle.tre_derive.proofs.Held.{Agree-self, Agree-sym, Agree-held, IsOrdered-Moment, held_ending, held_either}
 use Rattle.tre_derive.proofs.Standing.{stands_for, stands_built, stands_here, stands_joined, stands_followed, stands_either, stands_both, stands_lasting, stands_after}
 
@@ -33,10 +32,10 @@ module _ (piece : Piece) where
   abbrev time : ℕ
   time = end_of_piece piece
 
-  abbrev Across : PatternTree → List Segment → Pairs
+  abbrev Across : PatternTree → Timeline → Pairs
   Across tree v = MatchesAcross tree (cut_behind piece v)
 
-  abbrev Behind : PatternTree → List Segment → Pairs
+  abbrev Behind : PatternTree → Timeline → Pairs
   Behind tree v = MatchesBehind tree (cut_behind piece v)
 
   long_front : AreLong (piece.segment ∷ [])
@@ -44,7 +43,7 @@ module _ (piece : Piece) where
 
   -- ---- moments
 
-  across_moment : (v : List Segment) → Agree (IsMoment time) (Across (atom empty) v)
+  across_moment : (v : Timeline) → Agree (IsMoment time) (Across (atom empty) v)
   across_moment v = record {
     at = λ a b n some.
         let law = crossing_empty piece.begin piece.before (piece.segment ∷ []) v a b n in
@@ -66,7 +65,7 @@ module _ (piece : Piece) where
         }));
   }
 
-  -- ---- edges
+  -- ---- edges and events
 
   -- At one moment, and then from it on, of what takes no time.
   joined_moment : (zones : List ZoneBounds) (R : Pairs) → IsInstant R
@@ -93,54 +92,56 @@ module _ (piece : Piece) where
     );
   }
 
-  IsInstant-edge : (P Q : ℕ → Type 0) (rest : Rest) → IsInstant (EdgeMatches P Q rest)
-  IsInstant-edge P Q rest = record { same = λ a b n h. h.begin ∙ sym h.end }
-
-  module _ (zones : List ZoneBounds) (held : HoldExactly zones (IsMoment time))
-      (state : StateTree) where
-    pub fresh_rise : NumbersBelow NAMES_MAX (atom (rise state))
-        → IsFresh (atom (rise state)) piece (joined zones (atom (rise state)))
-    fresh_rise numbers =
-        let tree = atom (rise state) in
-        let off : ℕ → Type 0 = λ val. ¬ HoldsOn state val in
-        let on : ℕ → Type 0 = HoldsOn state in
+  module _ (zones : List ZoneBounds) (held : HoldExactly zones (IsMoment time)) where
+    fresh_by : (x : Atom) → ((rest : Rest) → IsInstant (AtomMatches rest x))
+        → ((v : Timeline) → AreLong v.segments
+        → Agree (Both (IsMoment time) (Behind (atom x) v)) (Across (atom x) v))
+        → NumbersBelow NAMES_MAX (atom x) → IsFresh (atom x) piece (joined zones (atom x))
+    fresh_by x instant cut numbers =
+        let tree = atom x in
         record {
           across = stands_for piece (λ v. JoinedAt time (Held zones) (Behind tree v)) (Across tree)
               (joined zones tree)
               (λ v long. Agree-trans (JoinedAt time (Held zones) (Behind tree v))
               (Both (IsMoment time) (Behind tree v)) (Across tree v)
-              (joined_moment zones (Behind tree v)
-              (IsInstant-edge off on (back_of (cut_behind piece v))) held)
-              (record {
-                at = λ a b n some.
-                    let law = crossing_edge off on piece.begin piece.before (piece.segment ∷ []) v
-                    long_front a b n some in
-                    (law.1, law.0);
-              }))
+              (joined_moment zones (Behind tree v) (instant (back_of (cut_behind piece v))) held)
+              (cut v long))
               (stands_joined piece zones tree numbers);
         }
 
-    pub fresh_fall : NumbersBelow NAMES_MAX (atom (fall state))
-        → IsFresh (atom (fall state)) piece (joined zones (atom (fall state)))
-    fresh_fall numbers =
-        let tree = atom (fall state) in
-        let off : ℕ → Type 0 = λ val. ¬ HoldsOn state val in
-        let on : ℕ → Type 0 = HoldsOn state in
-        record {
-          across = stands_for piece (λ v. JoinedAt time (Held zones) (Behind tree v)) (Across tree)
-              (joined zones tree)
-              (λ v long. Agree-trans (JoinedAt time (Held zones) (Behind tree v))
-              (Both (IsMoment time) (Behind tree v)) (Across tree v)
-              (joined_moment zones (Behind tree v)
-              (IsInstant-edge on off (back_of (cut_behind piece v))) held)
-              (record {
-                at = λ a b n some.
-                    let law = crossing_edge on off piece.begin piece.before (piece.segment ∷ []) v
-                    long_front a b n some in
-                    (law.1, law.0);
-              }))
-              (stands_joined piece zones tree numbers);
-        }
+    across_edge : (P Q : ℕ → Type 0) (v : Timeline)
+        → Agree (Both (IsMoment time) (EdgeMatches P Q (back_of (cut_behind piece v))))
+        (Crossing time (EdgeMatches P Q (uncut (cut_behind piece v))))
+    across_edge P Q v = record {
+      at = λ a b n some.
+          let law = crossing_edge P Q piece.begin piece.before (piece.segment ∷ []) v long_front a b
+          n some in
+          (law.1, law.0);
+    }
+
+    across_event : (number : ℕ) (v : Timeline)
+        → Agree (Both (IsMoment time) (EventMatches number (back_of (cut_behind piece v))))
+        (Crossing time (EventMatches number (uncut (cut_behind piece v))))
+    across_event number v = record {
+      at = λ a b n some.
+          let law = crossing_event number piece.begin piece.before (piece.segment ∷ []) v long_front
+          a b n some in
+          (law.1, law.0);
+    }
+
+    pub fresh_instant : (x : Atom) → IsDecidedNext x → NumbersBelow NAMES_MAX (atom x)
+        → IsFresh (atom x) piece (joined zones (atom x))
+    fresh_instant empty is = absurd is
+    fresh_instant (literal state) is = absurd is
+    fresh_instant (rise state) is =
+        fresh_by (rise state) (λ rest. record { same = λ a b n h. h.begin ∙ sym h.end })
+        (λ v long. across_edge (λ val. ¬ HoldsOn state val) (HoldsOn state) v)
+    fresh_instant (fall state) is =
+        fresh_by (fall state) (λ rest. record { same = λ a b n h. h.begin ∙ sym h.end })
+        (λ v long. across_edge (HoldsOn state) (λ val. ¬ HoldsOn state val) v)
+    fresh_instant (event number) is =
+        fresh_by (event number) (λ rest. record { same = λ a b n h. h.begin ∙ sym h.end })
+        (λ v long. across_event number v)
 
   -- ---- literals
 
@@ -171,7 +172,7 @@ module _ (piece : Piece) where
         (Agree-Either (Held now) (IsMoment time) (Held ended) (Both Before (EndsAt time))
         (held_moment now moment) ended_agree)
 
-    literal_parts : (v : List Segment)
+    literal_parts : (v : Timeline)
         → Agree (Either (Held ended) (JoinedAt time (Held begun) (Behind lit v)))
         (Passing (JoinedAt time (Either Before (IsMoment time))
         (Either (Behind lit v) (IsMoment time))))
@@ -230,8 +231,8 @@ module _ (piece : Piece) where
         → Builds first (here ended) → Builds second (joined begun lit)
         → Builds whole (either first second) → IsFresh lit piece whole
     fresh_lit first second whole numbers f s w =
-        let F : List Segment → Pairs = λ v. Held ended in
-        let G : List Segment → Pairs = λ v. JoinedAt time (Held begun) (Behind lit v) in
+        let F : Timeline → Pairs = λ v. Held ended in
+        let G : Timeline → Pairs = λ v. JoinedAt time (Held begun) (Behind lit v) in
         record {
           across = stands_for piece (λ v. Either (F v) (G v)) (Across lit) whole
               (λ v long. Agree-trans (Either (F v) (G v))
@@ -262,8 +263,8 @@ module _ (piece : Piece) where
       → Builds one' (followed one right) → ComesAfter left piece two two'
       → Builds whole (either one' two') → IsFresh (sequence left right) piece whole
   fresh_seq left right one one' two two' whole numbers f g behind before w =
-      let F : List Segment → Pairs = λ v. Composed (Across left v) (Behind right v) in
-      let G : List Segment → Pairs =
+      let F : Timeline → Pairs = λ v. Composed (Across left v) (Behind right v) in
+      let G : Timeline → Pairs =
       λ v. Composed (MatchesRest left (rest_of_piece piece)) (Across right v) in
       record {
         across = stands_for piece (λ v. Either (F v) (G v)) (Across (sequence left right)) whole
@@ -288,9 +289,9 @@ module _ (piece : Piece) where
       → Builds whole (either none before) → IsFresh (repetition part) piece whole
   fresh_star part across behind before none whole numbers f g h e w =
       let star = repetition part in
-      let F : List Segment → Pairs = Across (atom empty) in
-      let G : List Segment → Pairs = λ v. Composed (Across part v) (Behind star v) in
-      let H : List Segment → Pairs =
+      let F : Timeline → Pairs = Across (atom empty) in
+      let G : Timeline → Pairs = λ v. Composed (Across part v) (Behind star v) in
+      let H : Timeline → Pairs =
       λ v. Composed (MatchesRest star (rest_of_piece piece)) (G v) in
       record {
         across = stands_for piece (λ v. Either (F v) (H v)) (Across star) whole
@@ -317,7 +318,7 @@ module _ (piece : Piece) where
       (f : IsFresh left piece one) (g : IsFresh right piece other) where
     pub fresh_alt : Builds whole (either one other) → IsFresh (alternation left right) piece whole
     fresh_alt w =
-        let F : List Segment → Pairs = λ v. Either (Across left v) (Across right v) in
+        let F : Timeline → Pairs = λ v. Either (Across left v) (Across right v) in
         record {
           across = stands_for piece F (Across (alternation left right)) whole
               (λ v long. record {
@@ -332,7 +333,7 @@ module _ (piece : Piece) where
 
     pub fresh_meet : Builds whole (both one other) → IsFresh (intersection left right) piece whole
     fresh_meet w =
-        let F : List Segment → Pairs = λ v. Both (Across left v) (Across right v) in
+        let F : Timeline → Pairs = λ v. Both (Across left v) (Across right v) in
         record {
           across = stands_for piece F (Across (intersection left right)) whole
               (λ v long. record {
@@ -349,7 +350,7 @@ module _ (piece : Piece) where
       → IsFresh tree piece one → Builds whole (lasting one ends)
       → IsFresh (restriction tree ends) piece whole
   fresh_within tree ends one whole f w =
-      let F : List Segment → Pairs = λ v. Lasting (LastsWithin ends) (Across tree v) in
+      let F : Timeline → Pairs = λ v. Lasting (LastsWithin ends) (Across tree v) in
       record {
         across = stands_for piece F (Across (restriction tree ends)) whole
             (λ v long. record {

@@ -8,3 +8,5 @@ pub mod AcrossPieces
 pub mod StepsOfForms
 -- and what marks stand for, form by form
 pub mod MarkForms
+-- and what a residual stands for at the end of a trace, form by form
+pub mod ClosingForms

@@ -6,11 +6,9 @@ use Rattle.tre_zone.specs.ZoneList.{HoldExactly}
 use Rattle.tre_zone.specs.Interval.{IntervalEnds}
 use Rattle.tre_zone.specs.declared.zone_bounds.ZoneBounds.{ZoneBounds}
 use Rattle.tre_zone.proofs.HeldSets.{Held-empty}
-use Rattle.tre_trace.specs.Trace.{AreLong}
-use Rattle.tre_trace.specs.declared.segment.Segment.{Segment}
 use Rattle.tre_syntax.specs.Cut.{uncut}
 use Rattle.tre_syntax.specs.Meaning.{MatchesRest}
-use Rattle.tre_syntax.specs.PatternTree.{Atom, PatternTree, empty, literal, rise, fall, atom, sequence, alternation, intersection, repetition, restriction}
+use Rattle.tre_syntax.specs.PatternTree.{Atom, PatternTree, empty, literal, rise, fall, event, atom, sequence, alternation, intersection, repetition, restriction}
 use Rattle.tre_syntax.specs.Rest.{Rest}
 use Rattle.tre_edges.specs.Piece.{end_of_piece, rest_of_piece, cut_behind}
 use Rattle.tre_edges.specs.declared.piece.Piece.{Piece}
@@ -74,6 +72,10 @@ steps_brief piece (atom (fall state)) set begun told rest is well steps =
     steps_alike piece (joined set (atom (fall state)))
     (marked (atom_mark set begun) (atom (fall state)))
     (brief_by piece (fall state) set begun well.1) told rest steps
+steps_brief piece (atom (event number)) set begun told rest is well steps =
+    steps_alike piece (joined set (atom (event number)))
+    (marked (atom_mark set begun) (atom (event number)))
+    (brief_by piece (event number) set begun well.1) told rest steps
 steps_brief piece (atom (literal state)) set begun told rest is well steps = absurd is
 steps_brief piece (sequence left right) set begun told rest is well steps = absurd is
 steps_brief piece (alternation left right) set begun told rest is well steps = absurd is
@@ -88,6 +90,7 @@ literal_ends time (atom (literal state)) set begun is well = well.1
 literal_ends time (atom empty) set begun is well = absurd is
 literal_ends time (atom (rise state)) set begun is well = absurd is
 literal_ends time (atom (fall state)) set begun is well = absurd is
+literal_ends time (atom (event number)) set begun is well = absurd is
 literal_ends time (sequence left right) set begun is well = absurd is
 literal_ends time (alternation left right) set begun is well = absurd is
 literal_ends time (intersection left right) set begun is well = absurd is
@@ -122,6 +125,7 @@ steps_literal piece (atom (literal state)) set begun told rest is well steps =
 steps_literal piece (atom empty) set begun told rest is well steps = absurd is
 steps_literal piece (atom (rise state)) set begun told rest is well steps = absurd is
 steps_literal piece (atom (fall state)) set begun told rest is well steps = absurd is
+steps_literal piece (atom (event number)) set begun told rest is well steps = absurd is
 steps_literal piece (sequence left right) set begun told rest is well steps = absurd is
 steps_literal piece (alternation left right) set begun told rest is well steps = absurd is
 steps_literal piece (intersection left right) set begun told rest is well steps = absurd is

@@ -7,8 +7,7 @@ use Rattle.tre_pairs.proofs.Laws.{Agree}
 use Rattle.tre_zone.specs.Interval.{IntervalEnds, LastsWithin}
 use Rattle.tre_zone.specs.declared.zone_bounds.ZoneBounds.{ZoneBounds}
 use Rattle.tre_state.specs.declared.names.TheConstants.{NAMES_MAX}
-use Rattle.tre_trace.specs.Trace.{AreLong}
-use Rattle.tre_trace.specs.declared.segment.Segment.{Segment}
+use Rattle.tre_trace.specs.Trace.{Timeline, AreLong}
 use Rattle.tre_syntax.specs.Cut.{back_of, MatchesBehind}
 use Rattle.tre_syntax.specs.Meaning.{MatchesRest}
 use Rattle.tre_syntax.specs.PatternTree.{PatternTree, NumbersBelow}
@@ -21,19 +20,19 @@ use Rattle.tre_derive.specs.Derivative.{StandsBehind, ComesAfter}
 use Rattle.tre_derive.proofs.Held.{Agree-self, Agree-held}
 
 module _ (piece : Piece) where
-  abbrev Behind : ResidualTree → List Segment → Pairs
+  abbrev Behind : ResidualTree → Timeline → Pairs
   Behind residual v = Means residual (back_of (cut_behind piece v))
 
   -- What it stands for, pair by pair.
-  pub stands_at : (F : List Segment → Pairs) (residual : ResidualTree)
-      → StandsBehind piece F residual → (v : List Segment) → AreLong v
+  pub stands_at : (F : Timeline → Pairs) (residual : ResidualTree)
+      → StandsBehind piece F residual → (v : Timeline) → AreLong v.segments
       → Agree (Behind residual v) (F v)
   stands_at F residual stands v long = record {
     at = λ a b n some. stands.exact v a b n long some;
   }
 
-  stands_of : (F : List Segment → Pairs) (residual : ResidualTree)
-      → ((v : List Segment) → AreLong v → Agree (Behind residual v) (F v))
+  stands_of : (F : Timeline → Pairs) (residual : ResidualTree)
+      → ((v : Timeline) → AreLong v.segments → Agree (Behind residual v) (F v))
       → IsWell (end_of_piece piece) residual → StandsBehind piece F residual
   stands_of F residual same well = record {
     exact = λ v a b n long some. (same v long).at a b n some;
@@ -41,8 +40,8 @@ module _ (piece : Piece) where
   }
 
   -- The same pairs by another name.
-  pub stands_for : (F G : List Segment → Pairs) (residual : ResidualTree)
-      → ((v : List Segment) → AreLong v → Agree (F v) (G v)) → StandsBehind piece F residual
+  pub stands_for : (F G : Timeline → Pairs) (residual : ResidualTree)
+      → ((v : Timeline) → AreLong v.segments → Agree (F v) (G v)) → StandsBehind piece F residual
       → StandsBehind piece G residual
   stands_for F G residual same stands = record {
     exact = λ v a b n long some.
@@ -53,7 +52,7 @@ module _ (piece : Piece) where
   }
 
   -- What is built as a form stands for the pairs of the form.
-  pub stands_built : (F : List Segment → Pairs) (form residual : ResidualTree)
+  pub stands_built : (F : Timeline → Pairs) (form residual : ResidualTree)
       → StandsBehind piece F form → Builds residual form → StandsBehind piece F residual
   stands_built F form residual stands built = record {
     exact = λ v a b n long some.
@@ -80,7 +79,7 @@ module _ (piece : Piece) where
       (λ v long. Agree-self (JoinedAt (end_of_piece piece) (Held zones)
       (MatchesBehind tree (cut_behind piece v)))) numbers
 
-  pub stands_preceded : (F : List Segment → Pairs) (zones : List ZoneBounds)
+  pub stands_preceded : (F : Timeline → Pairs) (zones : List ZoneBounds)
       (residual : ResidualTree) → StandsBehind piece F residual
       → StandsBehind piece (λ v. Composed (Held zones) (F v)) (preceded zones residual)
   stands_preceded F zones residual stands =
@@ -89,7 +88,7 @@ module _ (piece : Piece) where
       (Agree-self (Held zones)) (stands_at F residual stands v long))
       stands.well.well
 
-  pub stands_followed : (F : List Segment → Pairs) (residual : ResidualTree) (tree : PatternTree)
+  pub stands_followed : (F : Timeline → Pairs) (residual : ResidualTree) (tree : PatternTree)
       → NumbersBelow NAMES_MAX tree → StandsBehind piece F residual
       → StandsBehind piece (λ v. Composed (F v) (MatchesBehind tree (cut_behind piece v)))
       (followed residual tree)
@@ -102,7 +101,7 @@ module _ (piece : Piece) where
       (Agree-self (MatchesBehind tree (cut_behind piece v))))
       (stands.well.well, numbers)
 
-  pub stands_either : (F G : List Segment → Pairs) (one other : ResidualTree)
+  pub stands_either : (F G : Timeline → Pairs) (one other : ResidualTree)
       → StandsBehind piece F one → StandsBehind piece G other
       → StandsBehind piece (λ v. Either (F v) (G v)) (either one other)
   stands_either F G one other f g =
@@ -111,7 +110,7 @@ module _ (piece : Piece) where
       (stands_at F one f v long) (stands_at G other g v long))
       (f.well.well, g.well.well)
 
-  pub stands_both : (F G : List Segment → Pairs) (one other : ResidualTree)
+  pub stands_both : (F G : Timeline → Pairs) (one other : ResidualTree)
       → StandsBehind piece F one → StandsBehind piece G other
       → StandsBehind piece (λ v. Both (F v) (G v)) (both one other)
   stands_both F G one other f g =
@@ -120,7 +119,7 @@ module _ (piece : Piece) where
       (stands_at F one f v long) (stands_at G other g v long))
       (f.well.well, g.well.well)
 
-  pub stands_lasting : (F : List Segment → Pairs) (residual : ResidualTree) (ends : IntervalEnds)
+  pub stands_lasting : (F : Timeline → Pairs) (residual : ResidualTree) (ends : IntervalEnds)
       → StandsBehind piece F residual
       → StandsBehind piece (λ v. Lasting (LastsWithin ends) (F v)) (lasting residual ends)
   stands_lasting F residual ends stands =
@@ -130,7 +129,7 @@ module _ (piece : Piece) where
       stands.well.well
 
   -- A match inside the piece comes before what a residual stands for.
-  pub stands_after : (F : List Segment → Pairs) (tree : PatternTree)
+  pub stands_after : (F : Timeline → Pairs) (tree : PatternTree)
       (residual whole : ResidualTree) → ComesAfter tree piece residual whole
       → StandsBehind piece F residual
       → StandsBehind piece (λ v. Composed (MatchesRest tree (rest_of_piece piece)) (F v)) whole

@@ -15,7 +15,7 @@ use Rattle.tre_zone.specs.ZoneList.{SetHolds, HoldExactly}
 use Rattle.tre_zone.specs.declared.zone_bounds.ZoneBounds.{ZoneBounds}
 use Rattle.tre_zone.proofs.ZoneListLemmas.{SetHolds-empty}
 use Rattle.tre_state.specs.declared.names.TheConstants.{NAMES_MAX}
-use Rattle.tre_trace.specs.declared.segment.Segment.{Segment}
+use Rattle.tre_trace.specs.Trace.{Timeline}
 use Rattle.tre_syntax.specs.Cut.{uncut, MatchesBehind, MatchesAcross}
 use Rattle.tre_syntax.specs.Meaning.{MatchesRest}
 use Rattle.tre_syntax.specs.PatternTree.{PatternTree, NumbersBelow}
@@ -182,10 +182,10 @@ module _ (piece : Piece) where
   abbrev Told : ResidualTree → Pairs
   Told residual = Means residual (rest_of_piece piece)
 
-  abbrev Whole : ResidualTree → List Segment → Pairs
+  abbrev Whole : ResidualTree → Timeline → Pairs
   Whole residual v = Means residual (uncut (cut_behind piece v))
 
-  abbrev Left : ResidualTree → List Segment → Pairs
+  abbrev Left : ResidualTree → Timeline → Pairs
   Left residual v = EndingFrom time (Whole residual v)
 
   told_agree : (residual : ResidualTree) (told : List ZoneBounds) (rest : ResidualTree)
@@ -238,7 +238,7 @@ module _ (piece : Piece) where
 
   -- ---- a set that a match goes on
 
-  joined_across : (begun : List ZoneBounds) (tree : PatternTree) (v : List Segment)
+  joined_across : (begun : List ZoneBounds) (tree : PatternTree) (v : Timeline)
       → Agree (JoinedAt piece.begin (Held begun) (MatchesAcross tree (cut_behind piece v)))
       (Left (joined begun tree) v)
   joined_across begun tree v = record {
@@ -266,7 +266,7 @@ module _ (piece : Piece) where
       → Builds rest (preceded ending across) → StepsTo (joined begun tree) piece told rest
   step_joined begun ending inside told tree across rest ends all composed fresh built =
       let within = MatchesRest tree (rest_of_piece piece) in
-      let Across : List Segment → Pairs = λ v. MatchesAcross tree (cut_behind piece v) in
+      let Across : Timeline → Pairs = λ v. MatchesAcross tree (cut_behind piece v) in
       record {
         tells = held_exactly told (Told (joined begun tree))
             (Agree-trans (Held told) (Composed (Held ending) within) (Told (joined begun tree))
@@ -315,10 +315,10 @@ module _ (piece : Piece) where
         → Builds rest (either behind begun) → StepsTo (followed inner tree) piece told rest
     step_followed inside told tree across begun behind rest numbers all composed fresh f g w =
         let within = MatchesRest tree (rest_of_piece piece) in
-        let Across : List Segment → Pairs = λ v. MatchesAcross tree (cut_behind piece v) in
-        let F : List Segment → Pairs =
+        let Across : Timeline → Pairs = λ v. MatchesAcross tree (cut_behind piece v) in
+        let F : Timeline → Pairs =
         λ v. Composed (Left inner v) (MatchesBehind tree (cut_behind piece v)) in
-        let G : List Segment → Pairs = λ v. Composed (Held told') (Across v) in
+        let G : Timeline → Pairs = λ v. Composed (Held told') (Across v) in
         let same = told_agree inner told' rest' steps in
         record {
           tells = held_exactly told (Told (followed inner tree))
@@ -353,7 +353,7 @@ module _ (piece : Piece) where
         → Builds rest (lasting rest' ends) → StepsTo (lasting inner ends) piece told rest
     step_lasting ends told rest held built =
         let D = LastsWithin ends in
-        let F : List Segment → Pairs = λ v. Lasting D (Left inner v) in
+        let F : Timeline → Pairs = λ v. Lasting D (Left inner v) in
         record {
           tells = held_exactly told (Told (lasting inner ends))
               (Agree-trans (Held told) (Lasting D (Held told')) (Lasting D (Told inner))
@@ -374,7 +374,7 @@ module _ (piece : Piece) where
     pub step_either : HoldExactly told (Either (SetHolds told_one) (SetHolds told_other))
         → Builds rest (either rest_one rest_other) → StepsTo (either one other) piece told rest
     step_either held built =
-        let F : List Segment → Pairs = λ v. Either (Left one v) (Left other v) in
+        let F : Timeline → Pairs = λ v. Either (Left one v) (Left other v) in
         record {
           tells = held_exactly told (Told (either one other))
               (Agree-trans (Held told) (Either (Held told_one) (Held told_other))
@@ -393,7 +393,7 @@ module _ (piece : Piece) where
     pub step_both : HoldExactly told (Both (SetHolds told_one) (SetHolds told_other))
         → Builds rest (both rest_one rest_other) → StepsTo (both one other) piece told rest
     step_both held built =
-        let F : List Segment → Pairs = λ v. Both (Left one v) (Left other v) in
+        let F : Timeline → Pairs = λ v. Both (Left one v) (Left other v) in
         record {
           tells = held_exactly told (Told (both one other))
               (Agree-trans (Held told) (Both (Held told_one) (Held told_other))

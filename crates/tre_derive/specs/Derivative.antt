@@ -3,11 +3,10 @@ use Rattle.std.specs.Prelude.{ℕ, ◌*◌, ◌<◌, ◌≤◌, ◌↔◌, List}
 use Rattle.tre_pairs.specs.Pairs.{Pairs}
 use Rattle.tre_zone.specs.ZoneList.{HoldExactly}
 use Rattle.tre_zone.specs.declared.zone_bounds.ZoneBounds.{ZoneBounds}
-use Rattle.tre_trace.specs.Trace.{AreLong}
-use Rattle.tre_trace.specs.declared.segment.Segment.{Segment}
+use Rattle.tre_trace.specs.Trace.{Timeline, AreLong}
 use Rattle.tre_syntax.specs.Cut.{uncut, back_of, MatchesAcross}
 use Rattle.tre_syntax.specs.Meaning.{MatchesRest}
-use Rattle.tre_syntax.specs.PatternTree.{PatternTree}
+use Rattle.tre_syntax.specs.PatternTree.{Atom, PatternTree, empty, literal, rise, fall, event}
 use Rattle.tre_edges.specs.Piece.{rest_of_piece, end_of_piece, cut_behind}
 use Rattle.tre_edges.specs.declared.piece.Piece.{Piece}
 use Rattle.tre_residual.specs.Residual.{ResidualTree, nothing, preceded, Means, IsWellAt, Builds}
@@ -17,19 +16,18 @@ pub record EndingFrom (time : ℕ) (R : Pairs) (a b n : ℕ) : Type 0 where
   pub related : R a b n
   pub end : time * n ≤ b
 
--- The residual is one at the end of the piece, and whatever segments come behind the piece, it
--- stands for the pairs that are named for them.
-pub record StandsBehind (piece : Piece) (pairs : List Segment → Pairs) (residual : ResidualTree)
+-- The residual is one at the end of the piece, and whatever comes behind the piece, it stands for
+-- the pairs that are named for that.
+pub record StandsBehind (piece : Piece) (pairs : Timeline → Pairs) (residual : ResidualTree)
     : Type 0 where
-  pub exact : (segments : List Segment) (a b n : ℕ) → AreLong segments → 0 < n
-      → Means residual (back_of (cut_behind piece segments)) a b n ↔ pairs segments a b n
+  pub exact : (next : Timeline) (a b n : ℕ) → AreLong next.segments → 0 < n
+      → Means residual (back_of (cut_behind piece next)) a b n ↔ pairs next a b n
   pub well : IsWellAt (end_of_piece piece) residual
 
 -- The residual stands for the matches of the expression that begin in the piece, its end among
 -- them, and end as the piece ends or later.
 pub record IsFresh (tree : PatternTree) (piece : Piece) (residual : ResidualTree) : Type 0 where
-  pub across : StandsBehind piece (λ segments. MatchesAcross tree (cut_behind piece segments))
-      residual
+  pub across : StandsBehind piece (λ next. MatchesAcross tree (cut_behind piece next)) residual
 
 -- What is told are the pairs of the residual where the piece alone comes, and what is left stands
 -- for those that end as the piece ends or later, whatever comes behind it.
@@ -37,8 +35,16 @@ pub record StepsTo (residual : ResidualTree) (piece : Piece) (told : List ZoneBo
     (rest : ResidualTree) : Type 0 where
   pub tells : HoldExactly told (Means residual (rest_of_piece piece))
   pub leaves : StandsBehind piece
-      (λ segments.
-      EndingFrom (end_of_piece piece) (Means residual (uncut (cut_behind piece segments)))) rest
+      (λ next. EndingFrom (end_of_piece piece) (Means residual (uncut (cut_behind piece next))))
+      rest
+
+-- An edge or an event: it lasts no time, and what comes next decides where it is.
+abbrev pub IsDecidedNext : Atom → Type 0
+IsDecidedNext empty = ⊥
+IsDecidedNext (literal state) = ⊥
+IsDecidedNext (rise state) = Unit {0}
+IsDecidedNext (fall state) = Unit {0}
+IsDecidedNext (event number) = Unit {0}
 
 -- The whole stands for a match of the expression inside the piece, and then a pair of the residual.
 pub record ComesAfter (tree : PatternTree) (piece : Piece) (residual whole : ResidualTree)

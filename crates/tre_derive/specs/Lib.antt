@@ -1,4 +1,5 @@
 -- What a reader must believe: what a residual stands for behind a piece (StandsBehind), the matches
--- that are fresh (IsFresh), and what a step tells and leaves (StepsTo). What the functions inside
--- promise each other: ComesAfter.
+-- that are fresh (IsFresh), what a step tells and leaves (StepsTo), and what the end of a trace tells
+-- (ClosesTo). What the functions inside promise each other: ComesAfter, HeldAtEnd.
 pub mod Derivative
+pub mod Closing

@@ -6,7 +6,7 @@ ghost use Rattle.tre_residual.specs.Residual.{residual_tree};
 ghost use Rattle.tre_derive.specs.Derivative.{IsFresh};
 
 use crate::parts::{after_local, followed_by};
-use crate::rows::{fresh_edge, fresh_literal, fresh_moment};
+use crate::rows::{fresh_instant, fresh_literal, fresh_moment};
 use std::alloc::{AllocError, Global};
 use tre_edges::Piece;
 use tre_residual::Residual;
@@ -25,8 +25,9 @@ pub fn fresh(alloc: Global, expr: &Expr, piece: &Piece) -> Result<Residual, Allo
     match expr {
         Expr::Eps => fresh_moment(alloc, piece),
         Expr::Lit(_) => fresh_literal(alloc, expr, piece),
-        Expr::Rise(_) => fresh_edge(alloc, expr, piece),
-        Expr::Fall(_) => fresh_edge(alloc, expr, piece),
+        Expr::Rise(_) => fresh_instant(alloc, expr, piece),
+        Expr::Fall(_) => fresh_instant(alloc, expr, piece),
+        Expr::Event(_) => fresh_instant(alloc, expr, piece),
         Expr::Seq(left, right) => {
             let left: &Expr = left;
             let right: &Expr = right;

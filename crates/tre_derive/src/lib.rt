@@ -2,19 +2,23 @@
 //!
 //! [`fresh`] gives the matches that begin in a piece and end as it ends or later. [`step`] reads a
 //! piece with a residual: it tells the pairs that are known with the piece read, and gives what is
-//! left of the residual. Both are exact for every trace that may come behind the piece.
+//! left of the residual. Both are exact for every trace that may come behind the piece. [`close`]
+//! tells what a residual stands for where the trace has ended.
 //!
 //! ```
 //! let begun = fresh(alloc, &expr, &piece)?;
 //! let stepped = step(alloc, &begun, &next)?;
+//! let last = close(alloc, &stepped.rest, end, events)?;
 //! ```
 #![tactic(auto)]
 
 pub use beginning::fresh;
+pub use closing::close;
 pub use stepped::Stepped;
 pub use stepping::step;
 
 mod beginning;
+mod closing;
 mod forms;
 mod marks;
 mod parts;

@@ -32,7 +32,7 @@ pub fn go_on(alloc: Global, mark: &Mark, expr: &Expr, piece: &Piece) -> Result<S
         (residual_tree whole.rest)) }
 {
     match expr {
-        Expr::Eps | Expr::Lit(_) | Expr::Rise(_) | Expr::Fall(_) => {
+        Expr::Eps | Expr::Lit(_) | Expr::Rise(_) | Expr::Fall(_) | Expr::Event(_) => {
             atom_goes_on(alloc, mark, expr, piece)
         }
         Expr::Seq(left, right) => sequence_goes_on(alloc, mark, left, right, piece),

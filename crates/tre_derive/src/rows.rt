@@ -2,9 +2,9 @@
 ghost use Rattle.std.specs.Prelude.{◌≡◌, IfOk};
 ghost use Rattle.tre_state.specs.StateTree.{StateTree};
 ghost use Rattle.tre_syntax.specs.Expr.{tree_of};
-ghost use Rattle.tre_syntax.specs.PatternTree.{NumbersBelow, atom, empty, literal, rise, fall};
+ghost use Rattle.tre_syntax.specs.PatternTree.{Atom, NumbersBelow, atom, empty, literal};
 ghost use Rattle.tre_residual.specs.Residual.{residual_tree};
-ghost use Rattle.tre_derive.specs.Derivative.{IsFresh};
+ghost use Rattle.tre_derive.specs.Derivative.{IsFresh, IsDecidedNext};
 
 use crate::sets::{end_of, moment};
 use std::alloc::{AllocError, Global};
@@ -22,15 +22,11 @@ pub fn fresh_moment(alloc: Global, piece: &Piece) -> Result<Residual, AllocError
     Ok(Residual::Here(now))
 }
 
-/// An edge at the end of the piece: what comes behind it decides.
-pub fn fresh_edge(alloc: Global, expr: &Expr, piece: &Piece) -> Result<Residual, AllocError>
+/// An edge or an event at the end of the piece: what comes behind it decides.
+pub fn fresh_instant(alloc: Global, expr: &Expr, piece: &Piece) -> Result<Residual, AllocError>
     requires { NumbersBelow NAMES_MAX (tree_of expr.now) }
-    ensures rise { IfOk result (λ residual. (state : StateTree)
-        → tree_of expr.now ≡ atom (rise state)
-        → IsFresh (atom (rise state)) piece.now (residual_tree residual)) }
-    ensures fall { IfOk result (λ residual. (state : StateTree)
-        → tree_of expr.now ≡ atom (fall state)
-        → IsFresh (atom (fall state)) piece.now (residual_tree residual)) }
+    ensures { IfOk result (λ residual. (x : Atom) → tree_of expr.now ≡ atom x → IsDecidedNext x
+        → IsFresh (atom x) piece.now (residual_tree residual)) }
 {
     let now = moment(alloc, end_of(piece))?;
     let expr = expr.try_clone(alloc)?;

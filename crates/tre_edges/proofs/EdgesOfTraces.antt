@@ -6,8 +6,9 @@ use Rattle.tre_pairs.specs.Pairs.{Pairs}
 use Rattle.tre_syntax.specs.Rest.{rest_of, EdgeMatches}
 use Rattle.tre_trace.specs.declared.segment.Segment.{Segment}
 use Rattle.tre_trace.specs.Planes.{valuation_at}
+use Rattle.tre_trace.specs.Trace.{quiet}
 use Rattle.tre_edges.specs.Truth.{IsFoundAt}
-use Rattle.tre_edges.proofs.EdgesOfRests.{EdgeMatches-segment, EdgeMatches-end}
+use Rattle.tre_edges.proofs.InstantsOfRests.{EdgeMatches-segment, EdgeMatches-end}
 use Rattle.tre_edges.proofs.Places.{time_of, here, time_of-next, rest_here, valuation_here}
 
 -- what held before the place
@@ -19,7 +20,7 @@ before_at segments (suc place) = Some (valuation_at segments place)
 abbrev pub EdgesFrom : (ℕ → Type 0) → (ℕ → Type 0) → List Segment → ℕ → Pairs
 EdgesFrom P Q segments place =
     EdgeMatches P Q (rest_of (time_of segments place) (before_at segments place)
-    (drop place segments))
+    (quiet (drop place segments)))
 
 module _ (P Q : ℕ → Type 0) (segments : List Segment) (a b n : ℕ) where
   -- the edge at one place, and the later ones
@@ -90,7 +91,7 @@ module _ (P Q : ℕ → Type 0) (segments : List Segment) (a b n : ℕ) where
       let to_turn : at + (turn - at) ≡ turn = omega (arith, first, second) in
       let skip =
       rw to_turn at (skip_edges at (turn - at) (omega (arith, first, second, within))
-      (λ k late early. quiet k late (omega (arith, early, first, second)))) in
+      (λ k late early. calm_at k late (omega (arith, early, first, second)))) in
       elim (cases_lt turn (length segments)) [
         | inl early ↦
             let law = one_place turn early found (edge early) in
@@ -109,9 +110,9 @@ module _ (P Q : ℕ → Type 0) (segments : List Segment) (a b n : ℕ) where
             let back : suc k - 1 ≡ k = omega arith in
             rw back ((λ h. h), (λ h. h))
 
-        quiet : (k : ℕ) → at ≤ k → k < turn
+        calm_at : (k : ℕ) → at ≤ k → k < turn
             → ¬ (IsSomeAnd (before_at segments k) P × Q (valuation_at segments k))
-        quiet k late early both =
+        calm_at k late early both =
             elim (cases_lt k other) [
               | inl one ↦
                   elim (cases_eq k at) [

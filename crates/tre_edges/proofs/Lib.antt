@@ -2,13 +2,14 @@ pub mod EndsOfLists
 pub mod RunLists
 pub mod InstantLists
 pub mod Literals
-pub mod EdgesOfRests
+pub mod InstantsOfRests
 pub mod WordBits
 pub mod StateWords
 pub mod NextPlaces
 pub mod Places
 pub mod RunsOfTraces
 pub mod EdgesOfTraces
+pub mod EventsOfTraces
 pub mod NextTurns
 pub mod Turns
 pub mod MomentsOfTraces

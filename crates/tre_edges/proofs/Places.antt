@@ -4,6 +4,7 @@ use Rattle.std.proofs.lemmas.List.{take_more, drop_more, get_or-map}
 use Rattle.tre_pairs.specs.declared.TheConstants.{TIME_MAX}
 use Rattle.tre_trace.specs.declared.segment.Segment.{Segment}
 use Rattle.tre_trace.specs.Planes.{valuation_at}
+use Rattle.tre_trace.specs.Segments.{plain_segment}
 use Rattle.tre_trace.specs.Trace.{end_of, AreLong, IsTrace}
 use Rattle.tre_trace.proofs.Segments.{end_of-append, end_of-le, end_of-from, end_of-take-le}
 
@@ -37,7 +38,7 @@ time_of-mono segments from to order =
 -- The segment at a place.
 module _ (segments : List Segment) (place : ℕ) (within : place < length segments) where
   abbrev none : Segment
-  none = record { len = 0; val = 0 }
+  none = plain_segment 0 0
 
   abbrev pub here : Segment
   here = get_or segments place none

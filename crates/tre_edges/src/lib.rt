@@ -2,13 +2,14 @@
 //!
 //! [`literal`] holds exactly the stretches on which a state is true throughout, one zone for each
 //! longest run; [`rises`] and [`falls`] hold exactly the instants at which it changes, one zone
-//! each; [`moments`] holds every moment. Their zones stand in the order of time. There is no edge
-//! at time 0, and none at the end of the trace. They are found in the words of [`truth`], which
-//! says where the state holds, 64 segments at a time.
+//! each; [`events`] holds those at which an event happens; [`moments`] holds every moment. Their
+//! zones stand in the order of time. There is no edge at time 0, and none at the end of the trace.
+//! Edges and runs are found in the words of [`truth`], which says where the state holds, 64
+//! segments at a time.
 //!
-//! [`literal_in`], [`rise_in`], [`fall_in`] and [`moments_in`] are the same over one [`Piece`] of a
-//! trace: a segment with its begin and the valuation before it. Each gives one zone at most, and
-//! takes no memory.
+//! [`literal_in`], [`rise_in`], [`fall_in`], [`event_in`] and [`moments_in`] are the same over one
+//! [`Piece`] of a trace: a segment with its begin and the valuation before it. Each gives one zone
+//! at most, and takes no memory.
 //!
 //! ```
 //! // p over the trace `3 p / 2 q / 4 p q`
@@ -21,7 +22,9 @@
 
 mod all_moments;
 mod edges;
+mod event;
 mod in_piece;
+mod instants;
 mod next_place;
 mod piece;
 mod runs;
@@ -29,6 +32,7 @@ mod truth_words;
 
 pub use all_moments::moments;
 pub use edges::{falls, rises};
+pub use event::{event_in, events, happens};
 pub use in_piece::{fall_in, literal_in, moments_in, rise_in};
 pub use piece::Piece;
 pub use runs::literal;

@@ -17,7 +17,7 @@ const WORD_BITS: usize = 64;
 /// place j. It goes as deep as the state does.
 pub fn truth(alloc: Global, state: &State, trace: &Trace) -> Result<Vec<u64>, AllocError>
     requires { NumbersBelow NAMES_MAX (tree_of state.now) }
-    ensures { IfOk result (λ words. AreTruthOf (tree_of state.now) trace.now words.items) }
+    ensures { IfOk result (λ words. AreTruthOf (tree_of state.now) trace.now.segments words.items) }
 {
     match state {
         State::Yes => always(alloc, trace.segments().len()),

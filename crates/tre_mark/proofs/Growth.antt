@@ -13,7 +13,7 @@ use Rattle.tre_zone.specs.Interval.{LastsWithin}
 use Rattle.tre_trace.specs.Trace.{end_of}
 use Rattle.tre_syntax.specs.Cut.{CutRest, time_of, uncut, front_of}
 use Rattle.tre_syntax.specs.Meaning.{MatchesRest}
-use Rattle.tre_syntax.specs.PatternTree.{Atom, PatternTree, empty, literal, rise, fall, atom, sequence, alternation, intersection, repetition, restriction}
+use Rattle.tre_syntax.specs.PatternTree.{Atom, PatternTree, empty, literal, rise, fall, event, atom, sequence, alternation, intersection, repetition, restriction}
 use Rattle.tre_syntax.specs.Rest.{Rest, AtomMatches}
 use Rattle.tre_syntax.proofs.Atoms.{IsOrdered-Atom, IsInstant-Empty}
 use Rattle.tre_syntax.proofs.CutMeaning.{IsOrdered-rest, IsBounded-rest}
@@ -73,6 +73,7 @@ module _ (cut : CutRest) where
       (tree_grows (atom (literal state)))
   goes_on_grows (rise state) = record { at = λ a b n h. h }
   goes_on_grows (fall state) = record { at = λ a b n h. h }
+  goes_on_grows (event number) = record { at = λ a b n h. h }
 
   goes_on_early : (x : Atom) → ImpliesBefore T' (GoesOn W x) (GoesOn P x)
   goes_on_early empty = record { at = λ a b n early h. h }
@@ -82,6 +83,7 @@ module _ (cut : CutRest) where
       (tree_early (atom (literal state)))
   goes_on_early (rise state) = record { at = λ a b n early h. h }
   goes_on_early (fall state) = record { at = λ a b n early h. h }
+  goes_on_early (event number) = record { at = λ a b n early h. h }
 
   pub mark_grows : (mark : MarkTree) (tree : PatternTree)
       → Implies (Marked P mark tree) (Marked W mark tree)
@@ -195,6 +197,7 @@ module _ (rest : Rest) where
       (λ y. tree_ends (atom (literal state)) a b n y) h
   goes_on_ends (rise state) le a b n h = absurd h
   goes_on_ends (fall state) le a b n h = absurd h
+  goes_on_ends (event number) le a b n h = absurd h
 
   pub mark_ends : rest.start ≤ Last → (mark : MarkTree) (tree : PatternTree) (a b n : ℕ)
       → Marked rest mark tree a b n → b ≤ Last * n

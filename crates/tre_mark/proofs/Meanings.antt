@@ -12,7 +12,7 @@ use Rattle.tre_zone.specs.Held.{Held}
 use Rattle.tre_zone.proofs.HeldSets.{Scales-Held, IsOrdered-Held}
 use Rattle.tre_zone.proofs.JoinedPairs.{Scales-JoinedAt}
 use Rattle.tre_syntax.specs.Meaning.{MatchesRest}
-use Rattle.tre_syntax.specs.PatternTree.{Atom, PatternTree, empty, literal, rise, fall, atom, sequence, alternation, intersection, repetition, restriction}
+use Rattle.tre_syntax.specs.PatternTree.{Atom, PatternTree, empty, literal, rise, fall, event, atom, sequence, alternation, intersection, repetition, restriction}
 use Rattle.tre_syntax.specs.Rest.{Rest}
 use Rattle.tre_syntax.proofs.CutMeaning.{IsOrdered-rest, Scales-rest}
 use Rattle.tre_syntax.proofs.MeaningLaws.{DurationScales-LastsWithin}
@@ -44,6 +44,7 @@ module _ (rest : Rest) where
       (Scales-Moment rest.start) (Scales-rest (atom (literal state)) rest)
   Scales-GoesOn (rise state) = Scales-None
   Scales-GoesOn (fall state) = Scales-None
+  Scales-GoesOn (event number) = Scales-None
 
   pub IsOrdered-GoesOn : (x : Atom) → IsOrdered (GoesOn rest x)
   IsOrdered-GoesOn empty = IsOrdered-None
@@ -52,6 +53,7 @@ module _ (rest : Rest) where
       (IsOrdered-Moment rest.start) (IsOrdered-rest (atom (literal state)) rest)
   IsOrdered-GoesOn (rise state) = IsOrdered-None
   IsOrdered-GoesOn (fall state) = IsOrdered-None
+  IsOrdered-GoesOn (event number) = IsOrdered-None
 
   pub Scales-Marked : (mark : MarkTree) (tree : PatternTree) → Scales (Marked rest mark tree)
   Scales-Marked (atom_mark here begun) (atom x) =

@@ -1,6 +1,6 @@
 -- How many nodes marks have.
 use Rattle.std.proofs.Common.{◌≡◌, ℕ, ◌+◌, ◌≤◌, refl, arith}
-use Rattle.tre_syntax.specs.PatternTree.{Atom, PatternTree, empty, literal, rise, fall, atom, sequence, alternation, intersection, repetition, restriction, atom_node_count, node_count}
+use Rattle.tre_syntax.specs.PatternTree.{Atom, PatternTree, empty, literal, rise, fall, event, atom, sequence, alternation, intersection, repetition, restriction, atom_node_count, node_count}
 use Rattle.tre_mark.specs.MarkTree.{MarkTree, atom_mark, sequence_mark, alternation_mark, repetition_mark, intersection_none, intersection_one, restriction_none, restriction_one}
 use Rattle.tre_mark.specs.Marked.{IsWell}
 use Rattle.tre_mark.specs.Nodes.{mark_node_count, form_count, HasNoInstances}
@@ -58,6 +58,7 @@ atom_nodes empty = omega arith
 atom_nodes (literal state) = omega arith
 atom_nodes (rise state) = omega arith
 atom_nodes (fall state) = omega arith
+atom_nodes (event number) = omega arith
 
 pub forms_below : (tree : PatternTree) → form_count tree ≤ node_count tree
 forms_below (atom x) = atom_nodes x

@@ -9,11 +9,11 @@ use Rattle.tre_zone.specs.Held.{Held, EndAt}
 use Rattle.tre_zone.proofs.HeldSets.{Scales-Held, Held-empty}
 use Rattle.tre_syntax.specs.Cut.{back_of}
 use Rattle.tre_syntax.specs.Meaning.{MatchesRest}
-use Rattle.tre_syntax.specs.PatternTree.{Atom, PatternTree, empty, literal, rise, fall, atom, sequence, alternation, intersection, repetition, restriction}
+use Rattle.tre_syntax.specs.PatternTree.{Atom, PatternTree, empty, literal, rise, fall, event, atom, sequence, alternation, intersection, repetition, restriction}
 use Rattle.tre_syntax.specs.Rest.{Rest, rest_of}
 use Rattle.tre_syntax.proofs.CutMeaning.{Scales-rest}
 use Rattle.tre_syntax.proofs.MeaningLaws.{DurationScales-LastsWithin}
-use Rattle.tre_trace.specs.declared.segment.Segment.{Segment}
+use Rattle.tre_trace.specs.Trace.{Timeline}
 use Rattle.tre_zone.specs.Interval.{IntervalEnds, LastsWithin}
 use Rattle.tre_zone.specs.Zone.{IsInstantBetween}
 use Rattle.tre_zone.specs.ZoneList.{SetHolds, AreTight, HoldExactly}
@@ -99,6 +99,7 @@ begun_none time empty = refl
 begun_none time (literal state) = end_at_none time
 begun_none time (rise state) = refl
 begun_none time (fall state) = refl
+begun_none time (event number) = refl
 
 pub unbegun_atom : (x : Atom) → IsUnbegun (atom_mark [] []) (atom x)
 unbegun_atom x = record {
@@ -164,16 +165,16 @@ pub nothing_open : (read : Since) (admitted : ℕ → ℕ → Type 0) (outer : L
     (mark : MarkTree) (tree : PatternTree) → outer ≡ [] → IsNothing mark
     → IsOpen read admitted outer mark tree
 nothing_open read admitted outer mark tree none nothing = record {
-  sound = λ segments a b n long some from h.
-      absurd (nothing.never tree (back_of (cut_since read segments)) a b n h);
-  complete = λ segments a m b n long some held from last h.
+  sound = λ next a b n long some from h.
+      absurd (nothing.never tree (back_of (cut_since read next)) a b n h);
+  complete = λ next a m b n long some held from last h.
       absurd (Held-empty a m n (subst (λ (list : List ZoneBounds). Held list a m n) none held));
 }
 
 module _ (time : ℕ) (zones : List ZoneBounds) (ends : EndAt time zones) where
   pub start_atom : (x : Atom) → IsStart time zones (atom_mark zones []) (atom x)
   start_atom x = record {
-    pairs = λ before segments a b n some. (
+    pairs = λ before next a b n some. (
       (λ h. ⊎_elim (λ y. y) (λ y. absurd (Held-empty a (time * n) n y.left)) h),
       (λ h. inl h),
     );
@@ -187,12 +188,12 @@ module _ (time : ℕ) (zones : List ZoneBounds) (ends : EndAt time zones) where
       → IsStart time zones one left → IsUnbegun other right
       → IsStart time zones (sequence_mark one other) (sequence left right)
   start_sequence one other left right first second = record {
-    pairs = λ before segments a b n some.
-        let rest = rest_of time before segments in
+    pairs = λ before next a b n some.
+        let rest = rest_of time before next in
         let L = MatchesRest left rest in
         let R = MatchesRest right rest in
         let same : Agree (Marked rest one left) (Composed (Held zones) L) =
-        agree_then (record { at = first.pairs before segments })
+        agree_then (record { at = first.pairs before next })
         (joined_composed time zones L ends (Scales-rest left rest)) in
         let whole : Agree (Composed (Marked rest one left) R)
         (JoinedAt time (Held zones) (Composed L R)) =
@@ -216,9 +217,9 @@ module _ (time : ℕ) (zones : List ZoneBounds) (ends : EndAt time zones) where
       → IsStart time zones one left → IsStart time zones other right
       → IsStart time zones (alternation_mark one other) (alternation left right)
   start_alternation one other left right first second = record {
-    pairs = λ before segments a b n some.
-        let f = first.pairs before segments a b n some in
-        let g = second.pairs before segments a b n some in (
+    pairs = λ before next a b n some.
+        let f = first.pairs before next a b n some in
+        let g = second.pairs before next a b n some in (
           (λ h. ⊎_elim
               (λ x. let y = f.0 x in record { left = y.left; right = inl y.right })
               (λ x. let y = g.0 x in record { left = y.left; right = inr y.right }) h),
@@ -235,8 +236,8 @@ module _ (time : ℕ) (zones : List ZoneBounds) (ends : EndAt time zones) where
   pub start_repetition : (body : MarkTree) (tree : PatternTree) → IsUnbegun body tree
       → IsStart time zones (repetition_mark zones body) (repetition tree)
   start_repetition body tree inner = record {
-    pairs = λ before segments a b n some.
-        let rest = rest_of time before segments in (
+    pairs = λ before next a b n some.
+        let rest = rest_of time before next in (
           (λ h. ⊎_elim (λ x. x)
               (λ x. absurd (inner.nothing.never tree rest (x.factor * a) x.midpoint (x.factor * n)
               x.left)) h),
@@ -256,7 +257,7 @@ module _ (time : ℕ) (zones : List ZoneBounds) (ends : EndAt time zones) where
   }
 
   -- What follows the set at the time is what follows there from the moment of the time on.
-  module _ (before : Option ℕ) (segments : List Segment) (R S : Pairs) (r : Scales R)
+  module _ (before : Option ℕ) (next : Timeline) (R S : Pairs) (r : Scales R)
       (from : (a b n : ℕ) → 0 < n → S a b n → R a b n)
       (to : (a b n : ℕ) → 0 < n → a ≡ time * n → R a b n → S a b n) where
     after_now : Agree (Composed (Held zones) S) (JoinedAt time (Held zones) R)
@@ -289,8 +290,8 @@ module _ (time : ℕ) (zones : List ZoneBounds) (ends : EndAt time zones) where
 pub start_nothing : (time : ℕ) (zones : List ZoneBounds) (mark : MarkTree) (tree : PatternTree)
     → zones ≡ [] → IsUnbegun mark tree → IsStart time zones mark tree
 start_nothing time zones mark tree none unbegun = record {
-  pairs = λ before segments a b n some. (
-    (λ h. absurd (unbegun.nothing.never tree (rest_of time before segments) a b n h)),
+  pairs = λ before next a b n some. (
+    (λ h. absurd (unbegun.nothing.never tree (rest_of time before next) a b n h)),
     (λ h. absurd (Held-empty a (time * n) n
         (subst (λ (list : List ZoneBounds). Held list a (time * n) n) none h.left))),
   );
@@ -312,27 +313,27 @@ in_reach time interval = in_reach_of time interval.high
 module _ (time : ℕ) (moment : List ZoneBounds) (held : HoldExactly moment
     (IsInstantBetween time time))
     (mark : MarkTree) (tree : PatternTree) (start : IsStart time moment mark tree)
-    (before : Option ℕ) (segments : List Segment) where
-  pub from_moment : (a b n : ℕ) → 0 < n → Marked (rest_of time before segments) mark tree a b n
-      → MatchesRest tree (rest_of time before segments) a b n
+    (before : Option ℕ) (next : Timeline) where
+  pub from_moment : (a b n : ℕ) → 0 < n → Marked (rest_of time before next) mark tree a b n
+      → MatchesRest tree (rest_of time before next) a b n
   from_moment a b n some h =
-      let x = (start.pairs before segments a b n some).0 h in
+      let x = (start.pairs before next a b n some).0 h in
       let at = (held.exact a (time * n) n some x.left.rising).0 x.left.held in
-      moved (MatchesRest tree (rest_of time before segments)) (sym at.same) refl refl x.right
+      moved (MatchesRest tree (rest_of time before next)) (sym at.same) refl refl x.right
 
   pub to_moment : (a b n : ℕ) → 0 < n → a ≡ time * n
-      → MatchesRest tree (rest_of time before segments) a b n
-      → Marked (rest_of time before segments) mark tree a b n
+      → MatchesRest tree (rest_of time before next) a b n
+      → Marked (rest_of time before next) mark tree a b n
   to_moment a b n some is h =
       let le : a ≤ time * n = omega (arith, is) in
       let ge : time * n ≤ a = omega (arith, is) in
-      (start.pairs before segments a b n some).1 (record {
+      (start.pairs before next a b n some).1 (record {
         left = record {
           rising = le;
           held = (held.exact a (time * n) n some le).1
               (record { starts = ge; same = is; ends = omega arith });
         };
-        right = moved (MatchesRest tree (rest_of time before segments)) is refl refl h;
+        right = moved (MatchesRest tree (rest_of time before next)) is refl refl h;
       })
 
 -- It can take in what begins later.
@@ -342,11 +343,11 @@ module _ (time : ℕ) (moment : List ZoneBounds) (held : HoldExactly moment
   pub start_open : (before : Option ℕ) (admitted : ℕ → ℕ → Type 0) (outer : List ZoneBounds)
       → IsOpen (since time before []) admitted outer mark tree
   start_open before admitted outer = record {
-    sound = λ segments a b n long some from h.
-        from_moment time moment held mark tree start before segments a b n some h;
-    complete = λ segments a m b n long some behind from last h.
+    sound = λ next a b n long some from h.
+        from_moment time moment held mark tree start before next a b n some h;
+    complete = λ next a m b n long some behind from last h.
         let up_to = h.begin in
-        to_moment time moment held mark tree start before segments m b n some
+        to_moment time moment held mark tree start before next m b n some
         (omega (arith, from, up_to)) h.related;
   }
 
@@ -365,20 +366,20 @@ module _ (time : ℕ) (zones : List ZoneBounds) (tight : AreTight zones)
       → IsStart time moment body tree
       → IsStart time zones (restriction_one time zones body) (restriction tree interval)
   start_restriction body tree interval start = record {
-    pairs = λ before segments a b n some.
-        let rest = rest_of time before segments in
+    pairs = λ before next a b n some.
+        let rest = rest_of time before next in
         let D = LastsWithin interval in
         let R = MatchesRest tree rest in
         let S = Marked rest body tree in
-        (after_now time zones ends before segments (Lasting D R) (Lasting D S)
+        (after_now time zones ends before next (Lasting D R) (Lasting D S)
         (Scales-Lasting D R (DurationScales-LastsWithin interval) (Scales-rest tree rest))
         (λ a b n some h. record {
-          related = from_moment time moment held body tree start before segments a b n some
+          related = from_moment time moment held body tree start before next a b n some
               h.related;
           admitted = h.admitted;
         })
         (λ a b n some is h. record {
-          related = to_moment time moment held body tree start before segments a b n some is
+          related = to_moment time moment held body tree start before next a b n some is
               h.related;
           admitted = h.admitted;
         })).at a b n some;
@@ -402,21 +403,21 @@ module _ (time : ℕ) (zones : List ZoneBounds) (tight : AreTight zones)
       → IsStart time moment one left → IsStart time moment other right
       → IsStart time zones (intersection_one time zones one other) (intersection left right)
   start_intersection one other left right first second = record {
-    pairs = λ before segments a b n some.
-        let rest = rest_of time before segments in
+    pairs = λ before next a b n some.
+        let rest = rest_of time before next in
         let R = Both (MatchesRest left rest) (MatchesRest right rest) in
         let S = Both (Marked rest one left) (Marked rest other right) in
-        (after_now time zones ends before segments R S
+        (after_now time zones ends before next R S
         (Scales-Both (MatchesRest left rest) (MatchesRest right rest) (Scales-rest left rest)
         (Scales-rest right rest))
         (λ a b n some h. record {
-          left = from_moment time moment held one left first before segments a b n some h.left;
-          right = from_moment time moment held other right second before segments a b n some
+          left = from_moment time moment held one left first before next a b n some h.left;
+          right = from_moment time moment held other right second before next a b n some
               h.right;
         })
         (λ a b n some is h. record {
-          left = to_moment time moment held one left first before segments a b n some is h.left;
-          right = to_moment time moment held other right second before segments a b n some is
+          left = to_moment time moment held one left first before next a b n some is h.left;
+          right = to_moment time moment held other right second before next a b n some is
               h.right;
         })).at a b n some;
     well = record {

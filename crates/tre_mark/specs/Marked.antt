@@ -5,9 +5,9 @@ use Rattle.tre_pairs.specs.Pairs.{Pairs, Composed, Either, Both, Lasting}
 use Rattle.tre_zone.specs.Held.{Held, EndAt, IsLatest}
 use Rattle.tre_syntax.specs.Cut.{CutRest, uncut, back_of, MatchesAcross}
 use Rattle.tre_syntax.specs.Meaning.{MatchesRest}
-use Rattle.tre_syntax.specs.PatternTree.{Atom, PatternTree, empty, literal, rise, fall, atom, sequence, alternation, intersection, repetition, restriction}
+use Rattle.tre_syntax.specs.PatternTree.{Atom, PatternTree, empty, literal, rise, fall, event, atom, sequence, alternation, intersection, repetition, restriction}
 use Rattle.tre_syntax.specs.Rest.{Rest, rest_of}
-use Rattle.tre_trace.specs.Trace.{AreLong}
+use Rattle.tre_trace.specs.Trace.{Timeline, AreLong}
 use Rattle.tre_trace.specs.declared.segment.Segment.{Segment}
 use Rattle.tre_zone.specs.Interval.{IntervalEnds, LastsWithin}
 use Rattle.tre_zone.specs.declared.zone_bounds.ZoneBounds.{ZoneBounds}
@@ -21,6 +21,7 @@ GoesOn rest (literal state) a b n =
     Either (IsMoment rest.start) (MatchesRest (atom (literal state)) rest) a b n
 GoesOn rest (rise state) a b n = ⊥
 GoesOn rest (fall state) a b n = ⊥
+GoesOn rest (event number) a b n = ⊥
 
 -- The pairs that a mark of the expression stands for, where this rest of a trace comes.
 abbrev pub Marked : Rest → MarkTree → PatternTree → Pairs
@@ -50,13 +51,13 @@ pub record Since : Type 0 where
 abbrev pub since : ℕ → Option ℕ → List Segment → Since
 since start before front = record { start = start; before = before; front = front }
 
--- The rest of the trace from there on, cut where what was read ends; these segments come behind it.
-abbrev pub cut_since : Since → List Segment → CutRest
-cut_since read segments = record {
+-- The rest of the trace from there on, cut where what was read ends; what comes next is behind it.
+abbrev pub cut_since : Since → Timeline → CutRest
+cut_since read next = record {
   start = read.start;
   before = read.before;
   front = read.front;
-  back = segments;
+  back = next;
 }
 
 -- The mark serves the pairs of `outer` and those that come later and end at the start or then. Of
@@ -64,13 +65,13 @@ cut_since read segments = record {
 -- there, for all of them that last as long as is admitted.
 pub record IsOpen (read : Since) (admitted : ℕ → ℕ → Type 0) (outer : List ZoneBounds)
     (mark : MarkTree) (tree : PatternTree) : Type 0 where
-  pub sound : (segments : List Segment) (a b n : ℕ) → AreLong segments → 0 < n
-      → read.start * n ≤ a → Marked (back_of (cut_since read segments)) mark tree a b n
-      → MatchesRest tree (uncut (cut_since read segments)) a b n
-  pub complete : (segments : List Segment) (a m b n : ℕ) → AreLong segments → 0 < n
+  pub sound : (next : Timeline) (a b n : ℕ) → AreLong next.segments → 0 < n
+      → read.start * n ≤ a → Marked (back_of (cut_since read next)) mark tree a b n
+      → MatchesRest tree (uncut (cut_since read next)) a b n
+  pub complete : (next : Timeline) (a m b n : ℕ) → AreLong next.segments → 0 < n
       → Held outer a m n → read.start * n ≤ m → admitted (b - m) n
-      → MatchesAcross tree (cut_since read segments) m b n
-      → Marked (back_of (cut_since read segments)) mark tree m b n
+      → MatchesAcross tree (cut_since read next) m b n
+      → Marked (back_of (cut_since read next)) mark tree m b n
 
 -- Every duration.
 abbrev pub AnyDuration : ℕ → ℕ → Type 0
@@ -112,6 +113,7 @@ IsBegun time begun empty = begun ≡ []
 IsBegun time begun (literal state) = EndAt time begun
 IsBegun time begun (rise state) = begun ≡ []
 IsBegun time begun (fall state) = begun ≡ []
+IsBegun time begun (event number) = begun ≡ []
 
 -- Nothing is left of the mark: each of its sets is empty, and no intersection and no restriction in
 -- it has begun.
@@ -176,9 +178,9 @@ IsEnteredAt time (restriction_one to outer body) =
 -- begins later, whatever held before.
 pub record IsStart (time : ℕ) (zones : List ZoneBounds) (mark : MarkTree) (tree : PatternTree)
     : Type 0 where
-  pub pairs : (before : Option ℕ) (segments : List Segment) (a b n : ℕ) → 0 < n
-      → Marked (rest_of time before segments) mark tree a b n
-      ↔ JoinedAt time (Held zones) (MatchesRest tree (rest_of time before segments)) a b n
+  pub pairs : (before : Option ℕ) (next : Timeline) (a b n : ℕ) → 0 < n
+      → Marked (rest_of time before next) mark tree a b n
+      ↔ JoinedAt time (Held zones) (MatchesRest tree (rest_of time before next)) a b n
   pub well : IsWellAt time mark tree
   pub entered : IsEnteredAt time mark
   pub some : (zones ≡ [] → ⊥) → IsBare mark → ⊥

@@ -22,6 +22,7 @@ impl Mark {
             Expr::Lit(_) => Ok(no_atom(alloc)),
             Expr::Rise(_) => Ok(no_atom(alloc)),
             Expr::Fall(_) => Ok(no_atom(alloc)),
+            Expr::Event(_) => Ok(no_atom(alloc)),
             Expr::Seq(left, right) => {
                 let left = Mark::empty(alloc, left)?;
                 let right = Mark::empty(alloc, right)?;

@@ -31,6 +31,7 @@ impl Mark {
             Expr::Lit(_) => atom_at(alloc, zones),
             Expr::Rise(_) => atom_at(alloc, zones),
             Expr::Fall(_) => atom_at(alloc, zones),
+            Expr::Event(_) => atom_at(alloc, zones),
             Expr::Seq(left, right) => {
                 let left = Mark::start(alloc, left, zones, time)?;
                 let right = Mark::empty(alloc, right)?;

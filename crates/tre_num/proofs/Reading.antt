@@ -34,7 +34,11 @@ module _ (columns : List Column) (width scale : ℕ) where
       let after = more (end + segment.len) in
       is
       ∙ ap (λ r. behind segments (says_on (length segments + 2) end r more)) says
-      ∙ ap (λ (all : List Segment). record { segments = all; fault = after.fault })
+      ∙ ap (λ (all : List Segment). record {
+        segments = all;
+        last = after.last;
+        fault = after.fault;
+      })
       (sym (append_assoc segments (segment ∷ []) after.segments))
       ∙ ap (λ n. behind (segments ++ segment ∷ [])
       (rows_from columns width scale n rest (end + segment.len))) number
@@ -57,9 +61,11 @@ module _ (columns : List Column) (width scale : ℕ) where
       → rest ≡ []
       → rows_from columns width scale 2 all 0
       ≡ behind segments (rows_from columns width scale (length segments + 2) rest end)
-      → rows_from columns width scale 2 all 0 ≡ record { segments = segments; fault = None }
+      → rows_from columns width scale 2 all 0
+      ≡ record { segments = segments; last = 0; fault = None }
   all-read all rest segments end none is =
       is
       ∙ ap (λ rows. behind segments (rows_from columns width scale (length segments + 2) rows end))
       none
-      ∙ ap (λ (all : List Segment). record { segments = all; fault = None }) (append-nil segments)
+      ∙ ap (λ (all : List Segment). record { segments = all; last = 0; fault = None })
+      (append-nil segments)

@@ -7,6 +7,7 @@ use Rattle.csv.specs.Records.{field_at}
 use Rattle.tre_pairs.specs.declared.TheConstants.{TIME_MAX}
 use Rattle.tre_decimal.specs.Decimal.{units_of}
 use Rattle.tre_trace.specs.Reading.{Reading}
+use Rattle.tre_trace.specs.Segments.{plain_segment}
 use Rattle.tre_trace.specs.declared.segment.Segment.{Segment}
 use Rattle.tre_trace.specs.declared.fault.TraceKind.{TraceKind}
 use Rattle.tre_trace.specs.declared.fault.TraceKind.TheVariants.{BadNumber, Zero, TooLate, UnknownName, CutShort}
@@ -84,7 +85,7 @@ duration_says scale end fields =
 abbrev pub segment_says : Result ℕ TraceKind → Option ℕ → Result Segment TraceKind
 segment_says (Err kind) valuation = Err kind
 segment_says (Ok len) None = Err BadNumber
-segment_says (Ok len) (Some valuation) = Ok (record { len = len; val = valuation })
+segment_says (Ok len) (Some valuation) = Ok (plain_segment len valuation)
 
 -- What a row says behind a trace that ends at `end`, under a header of this many fields.
 abbrev pub row_says : List Column → ℕ → ℕ → ℕ → List (List ℕ) → Result Segment TraceKind

@@ -37,7 +37,7 @@ pub(crate) fn read_row(
         Err(kind) => return Err(kind),
     };
     match valuation_of(columns, row) {
-        Some(val) => Ok(Segment { len, val }),
+        Some(val) => Ok(Segment::plain(len, val)),
         None => Err(TraceKind::BadNumber),
     }
 }

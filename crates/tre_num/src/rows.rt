@@ -6,7 +6,7 @@ ghost use Rattle.tre_num.specs.Left.{IsLeft};
 ghost use Rattle.tre_num.specs.Rows.{rows_from, rows_reading};
 ghost use Rattle.tre_state.specs.declared.names.TheConstants.{NAMES_MAX};
 ghost use Rattle.tre_trace.specs.Reading.{IsPlaced};
-ghost use Rattle.tre_trace.specs.Trace.{IsTrace};
+ghost use Rattle.tre_trace.specs.Trace.{quiet, IsTrace};
 ghost use Rattle.tre_trace.specs.declared.fault.TraceKind.TheVariants.{Memory};
 
 use crate::column::Column;
@@ -36,7 +36,7 @@ pub fn read_rows(
     requires { scale ≤ SCALE_MAX }
     ensures trace { IfOk result (λ trace.
         rows_reading definitions.now names.now scale true bytes.now
-        ≡ record { segments = trace; fault = None }) }
+        ≡ record { segments = trace.segments; last = trace.last; fault = None }) }
     ensures fault { IfErr result (λ fault. fault.kind ≢ Memory →
         (rows_reading definitions.now names.now scale true bytes.now).fault ≡ Some fault) }
     ensures placed { IfErr result IsPlaced }
@@ -79,7 +79,7 @@ fn read_behind(
     requires scale { scale ≤ SCALE_MAX }
     ensures segments { (left : List (List (List ℕ))) → IsLeft rows.entry left →
         IfOk result (λ segments. rows_from columns.now width scale 2 left 0
-        ≡ record { segments = segments.items; fault = None }) }
+        ≡ record { segments = segments.items; last = 0; fault = None }) }
     ensures trace { IfOk result (λ segments. IsTrace segments.items) }
     ensures fault { (left : List (List (List ℕ))) → IsLeft rows.entry left →
         IfErr result (λ fault. fault.kind ≢ Memory →
@@ -110,7 +110,7 @@ fn read_behind(
 // The trace of segments that are one.
 fn trace_of(alloc: Global, segments: Vec<Segment>) -> Result<Trace, TraceFault>
     requires { IsTrace segments.items }
-    ensures trace { IfOk result (λ trace. trace ≡ segments.items) }
+    ensures trace { IfOk result (λ trace. trace ≡ quiet segments.items) }
     ensures fault { IfErr result (λ fault. fault.kind ≡ Memory) }
     ensures placed { IfErr result IsPlaced }
 {

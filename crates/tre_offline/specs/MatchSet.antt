@@ -2,15 +2,15 @@
 use Rattle.std.specs.Prelude.{List}
 use Rattle.tre_syntax.specs.Meaning.{Matches}
 use Rattle.tre_syntax.specs.PatternTree.{PatternTree}
-use Rattle.tre_trace.specs.declared.segment.Segment.{Segment}
+use Rattle.tre_trace.specs.Trace.{Timeline}
 use Rattle.tre_zone.specs.ZoneList.{IsApart, AreTight, HoldExactly}
 use Rattle.tre_zone.specs.declared.zone_bounds.ZoneBounds.{ZoneBounds}
 
 -- None of the zones is included in another, each holds some pair and has the tightest bounds that
 -- its pairs allow, and they hold a pair of times, the first not after the second, at every
 -- denominator, exactly where that stretch of the trace is in the meaning of the expression.
-pub record IsMatchSet (zones : List ZoneBounds) (tree : PatternTree) (trace : List Segment)
-    : Type 0 where
-  pub apart : IsApart zones
-  pub tight : AreTight zones
-  pub exact : HoldExactly zones (Matches tree trace)
+pub record IsMatchSet (zones : List ZoneBounds) (tree : PatternTree) (trace : Timeline) : Type 0
+  where
+    pub apart : IsApart zones
+    pub tight : AreTight zones
+    pub exact : HoldExactly zones (Matches tree trace)

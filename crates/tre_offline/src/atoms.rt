@@ -1,5 +1,5 @@
 // What the atoms of an expression match, over what is still to come of a trace.
-ghost use Rattle.std.specs.Prelude.{◌≡◌, ◌≤◌, IfOk};
+ghost use Rattle.std.specs.Prelude.{◌≡◌, ◌<◌, ◌≤◌, IfOk};
 ghost use Rattle.tre_pairs.specs.declared.TheConstants.{TIME_MAX};
 ghost use Rattle.tre_state.specs.State.{tree_of};
 ghost use Rattle.tre_state.specs.StateTree.{NumbersBelow};
@@ -12,7 +12,10 @@ ghost use Rattle.tre_zone.specs.ZoneList.{HoldExactly};
 ghost use Rattle.tre_edges.specs.Piece.{rest_of_piece};
 
 use std::alloc::{AllocError, Global};
-use tre_edges::{Piece, fall_in, falls, literal, literal_in, moments, moments_in, rise_in, rises};
+use tre_edges::{
+    Piece, event_in, events, fall_in, falls, literal, literal_in, moments, moments_in, rise_in,
+    rises,
+};
 use tre_state::{NAMES_MAX, State};
 use tre_trace::Trace;
 use tre_zone::Zone;
@@ -54,6 +57,12 @@ pub trait Atoms {
         requires { NumbersBelow NAMES_MAX (tree_of state.now) }
         ensures { IfOk result (λ zones.
             HoldExactly zones (AtomMatches (rest self.now) (pattern.fall (tree_of state.now)))) };
+
+    /// The instants at which the event of this number happens.
+    fn events(&self, alloc: Global, number: u8) -> Result<ZoneSet, AllocError>
+        requires { number < NAMES_MAX }
+        ensures { IfOk result (λ zones.
+            HoldExactly zones (AtomMatches (rest self.now) (pattern.event number))) };
 }
 
 impl Atoms for Trace {
@@ -82,6 +91,10 @@ impl Atoms for Trace {
     fn falls(&self, alloc: Global, state: &State) -> Result<ZoneSet, AllocError> {
         falls(alloc, state, self)
     }
+
+    fn events(&self, alloc: Global, number: u8) -> Result<ZoneSet, AllocError> {
+        events(alloc, number, self)
+    }
 }
 
 impl Atoms for Piece {
@@ -109,6 +122,10 @@ impl Atoms for Piece {
 
     fn falls(&self, alloc: Global, state: &State) -> Result<ZoneSet, AllocError> {
         set_of(alloc, fall_in(state, self))
+    }
+
+    fn events(&self, alloc: Global, number: u8) -> Result<ZoneSet, AllocError> {
+        set_of(alloc, event_in(number, self))
     }
 }
 

@@ -4,8 +4,8 @@
 //! expression, at every denominator, and none of its zones is included in another. It goes up the
 //! expression once, and each operator is one exact call of the layers below: `;` composes, `|`
 //! joins, `&` meets, `*` closes, `%` restricts. [`local`] is the same over one piece of a trace:
-//! the two differ in their atoms alone. The layers above may rely on every pair, and on nothing of
-//! the order of the zones.
+//! the two differ in their atoms alone. [`matches_at_end`] decides what the end of a trace matches. The
+//! layers above may rely on every pair, and on nothing of the order of the zones.
 //!
 //! ```
 //! let zones = matches(alloc, &pattern, &trace)?;
@@ -13,8 +13,10 @@
 //! ```
 #![tactic(auto)]
 
+pub use closing::matches_at_end;
 pub use matching::{local, matches};
 
 mod atoms;
+mod closing;
 mod matching;
 mod operators;

@@ -74,6 +74,10 @@ fn matches_of<A: Atoms>(
             let all = atoms.falls(alloc, state)?;
             shortened(all, longest)
         }
+        Expr::Event(number) => {
+            let all = atoms.events(alloc, *number)?;
+            shortened(all, longest)
+        }
         Expr::Seq(left, right) => {
             let first = matches_of(alloc, left, atoms, longest)?;
             let second = matches_of(alloc, right, atoms, longest)?;

@@ -1,3 +1,4 @@
 pub mod NewZones
 pub mod Standing
+pub mod AtTheEnd
 pub mod Nodes

@@ -12,9 +12,9 @@ use Rattle.tre_syntax.specs.Cut.{last_of, MatchesBehind, MatchesAcross}
 use Rattle.tre_syntax.specs.Meaning.{Matches, MatchesRest}
 use Rattle.tre_syntax.specs.Pattern.{pattern_tree}
 use Rattle.tre_syntax.specs.PatternTree.{PatternTree}
-use Rattle.tre_syntax.specs.Rest.{Rest, rest_of}
+use Rattle.tre_syntax.specs.Rest.{Rest, rest_of, prefixed}
 use Rattle.tre_syntax.proofs.CutMeaning.{IsCut-Matches, IsBounded-rest, IsOrdered-rest, Scales-rest}
-use Rattle.tre_trace.specs.Trace.{AreLong, end_of, Fits}
+use Rattle.tre_trace.specs.Trace.{Timeline, quiet, AreLong, end_of, Fits}
 use Rattle.tre_trace.specs.declared.segment.Segment.{Segment}
 use Rattle.tre_trace.proofs.Segments.{end_of-append, IsTrace-push}
 use Rattle.tre_zone.specs.Zone.{IsInstantBetween}
@@ -45,24 +45,28 @@ last_of-push before (first ∷ segments) segment = last_of-push (Some first.val)
 
 module _ (tree : PatternTree) (u : List Segment) (long : AreLong u) where
   -- The matches of a trace that goes on: those so far, those behind, and those across.
-  parts : (v : List Segment) (a b n : ℕ) → 0 < n
-      → Matches tree (u ++ v) a b n
-      ↔ Either (Matches tree u) (Either (MatchesBehind tree (cut_after u v))
+  pub parts : (v : Timeline) (a b n : ℕ) → 0 < n
+      → Matches tree (prefixed u v) a b n
+      ↔ Either (Matches tree (quiet u)) (Either (MatchesBehind tree (cut_after u v))
       (MatchesAcross tree (cut_after u v))) a b n
   parts v =
-      cut_parts (end_of 0 u) (Matches tree (u ++ v)) (Matches tree u)
+      cut_parts (end_of 0 u) (Matches tree (prefixed u v)) (Matches tree (quiet u))
       (MatchesBehind tree (cut_after u v)) (IsCut-Matches (cut_after u v) long tree)
 
 module _ (tree : PatternTree) (u : List Segment) (piece : Piece) (before : MarkTree)
     (begin : piece.begin ≡ end_of 0 u) (last : piece.before ≡ last_of None u)
     (long : AreLong u) (awaits : AwaitsMatches before tree u) where
+  -- The piece, and then what is next.
+  abbrev with_piece : Timeline → Timeline
+  with_piece next = prefixed (piece.segment ∷ []) next
+
   -- What comes from the begin of the piece on, as it is said of the piece and of the segments.
-  rest_is : (v : List Segment) → rest_of piece.begin piece.before (piece.segment ∷ v)
-      ≡ rest_of (end_of 0 u) (last_of None u) (piece.segment ∷ v)
+  rest_is : (v : Timeline) → rest_of piece.begin piece.before (with_piece v)
+      ≡ rest_of (end_of 0 u) (last_of None u) (with_piece v)
   rest_is v = cc
 
   -- What comes from the end of the piece on.
-  behind_is : (v : List Segment)
+  behind_is : (v : Timeline)
       → rest_of (piece.begin + piece.segment.len) (Some piece.segment.val) v
       ≡ rest_of (end_of 0 (u ++ piece.segment ∷ [])) (last_of None (u ++ piece.segment ∷ [])) v
   behind_is v =
@@ -79,20 +83,20 @@ module _ (tree : PatternTree) (u : List Segment) (piece : Piece) (before : MarkT
       cc
 
   -- The pairs of the mark are those that cross the begin of the piece.
-  across : (v : List Segment) (a b n : ℕ) → AreLong v → 0 < n
-      → Marked (rest_of piece.begin piece.before (piece.segment ∷ v)) before tree a b n
-      ↔ MatchesAcross tree (cut_after u (piece.segment ∷ v)) a b n
+  across : (v : Timeline) (a b n : ℕ) → AreLong v.segments → 0 < n
+      → Marked (rest_of piece.begin piece.before (with_piece v)) before tree a b n
+      ↔ MatchesAcross tree (cut_after u (with_piece v)) a b n
   across v a b n long_v some =
       subst (λ (rest : Rest). Marked rest before tree a b n
-      ↔ MatchesAcross tree (cut_after u (piece.segment ∷ v)) a b n) (sym (rest_is v))
-      (awaits.exact (piece.segment ∷ v) a b n (piece.long, long_v) some)
+      ↔ MatchesAcross tree (cut_after u (with_piece v)) a b n) (sym (rest_is v))
+      (awaits.exact (with_piece v) a b n (piece.long, long_v) some)
 
-  behind : (v : List Segment) (a b n : ℕ)
-      → MatchesRest tree (rest_of piece.begin piece.before (piece.segment ∷ v)) a b n
-      ↔ MatchesBehind tree (cut_after u (piece.segment ∷ v)) a b n
+  behind : (v : Timeline) (a b n : ℕ)
+      → MatchesRest tree (rest_of piece.begin piece.before (with_piece v)) a b n
+      ↔ MatchesBehind tree (cut_after u (with_piece v)) a b n
   behind v a b n =
       subst (λ (rest : Rest). MatchesRest tree rest a b n
-      ↔ MatchesBehind tree (cut_after u (piece.segment ∷ v)) a b n) (sym (rest_is v))
+      ↔ MatchesBehind tree (cut_after u (with_piece v)) a b n) (sym (rest_is v))
       ((λ h. h), (λ h. h))
 
   end_later : (n : ℕ) → 0 < n → end_of 0 u * n < end_of_piece piece * n
@@ -103,12 +107,12 @@ module _ (tree : PatternTree) (u : List Segment) (piece : Piece) (before : MarkT
   module _ (entering : List ZoneBounds)
       (moments : AreMoments piece.begin (end_of_piece piece) entering) where
     -- A match that comes behind a moment is a match.
-    entered : (v : List Segment) (a b n : ℕ) → 0 < n
+    entered : (v : Timeline) (a b n : ℕ) → 0 < n
         → Composed (Held entering)
-        (MatchesRest tree (rest_of piece.begin piece.before (piece.segment ∷ v))) a b n
-        → MatchesRest tree (rest_of piece.begin piece.before (piece.segment ∷ v)) a b n
+        (MatchesRest tree (rest_of piece.begin piece.before (with_piece v))) a b n
+        → MatchesRest tree (rest_of piece.begin piece.before (with_piece v)) a b n
     entered v a b n some h =
-        let rest = rest_of piece.begin piece.before (piece.segment ∷ v) in
+        let rest = rest_of piece.begin piece.before (with_piece v) in
         let k = h.factor in
         let held = (moments.exact.exact (k * a) h.midpoint (k * n) (mul-pos h.positive some)
         h.left.rising).0 h.left.held in
@@ -116,12 +120,12 @@ module _ (tree : PatternTree) (u : List Segment) (piece : Piece) (before : MarkT
         (subst (λ (x : ℕ). MatchesRest tree rest x (k * b) (k * n)) (sym held.same) h.right)
 
     -- A match that begins in the piece enters there.
-    enters : (v : List Segment) (a b n : ℕ) → 0 < n → a ≤ end_of_piece piece * n
-        → MatchesRest tree (rest_of piece.begin piece.before (piece.segment ∷ v)) a b n
+    enters : (v : Timeline) (a b n : ℕ) → 0 < n → a ≤ end_of_piece piece * n
+        → MatchesRest tree (rest_of piece.begin piece.before (with_piece v)) a b n
         → Composed (Held entering)
-        (MatchesRest tree (rest_of piece.begin piece.before (piece.segment ∷ v))) a b n
+        (MatchesRest tree (rest_of piece.begin piece.before (with_piece v))) a b n
     enters v a b n some early h =
-        let rest = rest_of piece.begin piece.before (piece.segment ∷ v) in
+        let rest = rest_of piece.begin piece.before (with_piece v) in
         let from = (IsBounded-rest tree rest).begin a b n h in
         let here : Held entering a a n = record {
           rising = omega arith;
@@ -131,10 +135,10 @@ module _ (tree : PatternTree) (u : List Segment) (piece : Piece) (before : MarkT
         Composed-at (Held entering) (MatchesRest tree rest) a a b n here h
 
     -- What goes over the piece are the matches across its begin, and those that begin in it.
-    goes : (v : List Segment) (a b n : ℕ) → AreLong v → 0 < n → a ≤ end_of_piece piece * n
+    goes : (v : Timeline) (a b n : ℕ) → AreLong v.segments → 0 < n → a ≤ end_of_piece piece * n
         → GoesOver before tree entering piece v a b n
-        ↔ Either (MatchesBehind tree (cut_after u (piece.segment ∷ v)))
-        (MatchesAcross tree (cut_after u (piece.segment ∷ v))) a b n
+        ↔ Either (MatchesBehind tree (cut_after u (with_piece v)))
+        (MatchesAcross tree (cut_after u (with_piece v))) a b n
     unfolding GoesOver
     goes v a b n long_v some early = (
       (λ h. ⊎_elim (λ x. inr ((across v a b n long_v some).0 x))
@@ -148,14 +152,14 @@ module _ (tree : PatternTree) (u : List Segment) (piece : Piece) (before : MarkT
       (advances : Advances before tree entering piece found rest)
       (can : CanTakeIn (before_piece piece) before tree) where
     -- What is left stands for the matches that cross the end of the piece.
-    crosses : (v : List Segment) (a b n : ℕ) → AreLong v → 0 < n
+    crosses : (v : Timeline) (a b n : ℕ) → AreLong v.segments → 0 < n
         → Marked (rest_of (piece.begin + piece.segment.len) (Some piece.segment.val) v) rest tree
         a b n
-        ↔ Crossing (end_of_piece piece) (Matches tree (u ++ piece.segment ∷ v)) a b n
+        ↔ Crossing (end_of_piece piece) (Matches tree (prefixed u (with_piece v))) a b n
     unfolding MarkedBehind
     crosses v a b n long_v some =
         let leaves = advances.leaves can v a b n long_v some in
-        let all = parts tree u long (piece.segment ∷ v) a b n some in (
+        let all = parts tree u long (with_piece v) a b n some in (
           (λ h.
               let c = leaves.0 h in
               record {
@@ -170,7 +174,7 @@ module _ (tree : PatternTree) (u : List Segment) (piece : Piece) (before : MarkT
               leaves.1 (record {
                 related = (goes entering moments v a b n long_v some h.begin).1
                     (⊎_elim
-                    (λ x. let early = (IsBounded-rest tree (rest_of 0 None u)).end a b n x in
+                    (λ x. let early = (IsBounded-rest tree (rest_of 0 None (quiet u))).end a b n x in
                     absurd (omega (arith, early, later, end)))
                     (λ x. x) (all.0 h.related));
                 begin = h.begin;
@@ -183,20 +187,20 @@ module _ (tree : PatternTree) (u : List Segment) (piece : Piece) (before : MarkT
       exact = λ v a b n long_v some.
           subst (λ (comes : Rest). Marked comes rest tree a b n
           ↔ Crossing (end_of 0 (u ++ piece.segment ∷ []))
-          (Matches tree ((u ++ piece.segment ∷ []) ++ v)) a b n) (behind_is v)
-          (rw (end_is, append_assoc u (piece.segment ∷ []) v) (crosses v a b n long_v some));
+          (Matches tree (prefixed (u ++ piece.segment ∷ []) v)) a b n) (behind_is v)
+          (rw (end_is, append_assoc u (piece.segment ∷ []) v.segments) (crosses v a b n long_v some));
     }
 
     -- What ends in the piece begins no later.
     begins : (a b n : ℕ)
-        → Either (MatchesBehind tree (cut_after u (piece.segment ∷ [])))
-        (MatchesAcross tree (cut_after u (piece.segment ∷ []))) a b n
+        → Either (MatchesBehind tree (cut_after u (quiet (piece.segment ∷ []))))
+        (MatchesAcross tree (cut_after u (quiet (piece.segment ∷ [])))) a b n
         → a ≤ end_of_piece piece * n
     begins a b n h =
         let whole = u ++ piece.segment ∷ [] in
         ⊎_elim
         (λ x.
-        let back = rest_of (end_of 0 u) (last_of None u) (piece.segment ∷ []) in
+        let back = rest_of (end_of 0 u) (last_of None u) (quiet (piece.segment ∷ [])) in
         let rising = (IsOrdered-rest tree back).le a b n x in
         let end : b ≤ (end_of 0 u + piece.segment.len) * n =
         (IsBounded-rest tree back).end a b n x in
@@ -204,44 +208,44 @@ module _ (tree : PatternTree) (u : List Segment) (piece : Piece) (before : MarkT
         ap (λ (t : ℕ). (t + piece.segment.len) * n) (sym begin) in
         omega (arith, rising, end, same))
         (λ y.
-        let rising = (IsOrdered-rest tree (rest_of 0 None whole)).le a b n y.related in
+        let rising = (IsOrdered-rest tree (rest_of 0 None (quiet whole))).le a b n y.related in
         let end : b ≤ end_of 0 whole * n =
-        (IsBounded-rest tree (rest_of 0 None whole)).end a b n y.related in
+        (IsBounded-rest tree (rest_of 0 None (quiet whole))).end a b n y.related in
         let same : end_of 0 whole * n ≡ end_of_piece piece * n =
         ap (λ (t : ℕ). t * n) end_is in
         omega (arith, rising, end, same)) h
 
     -- What is found are the matches behind the begin of the piece and across it.
     found_is : (a b n : ℕ) → 0 < n → a ≤ b → SetHolds found a b n
-        ↔ Either (MatchesBehind tree (cut_after u (piece.segment ∷ [])))
-        (MatchesAcross tree (cut_after u (piece.segment ∷ []))) a b n
+        ↔ Either (MatchesBehind tree (cut_after u (quiet (piece.segment ∷ []))))
+        (MatchesAcross tree (cut_after u (quiet (piece.segment ∷ [])))) a b n
     found_is a b n some le =
         let exact = advances.tells.exact a b n some le in (
           (λ h.
               let end = advances.between.end a b n some (record { rising = le; held = h }) in
-              (goes entering moments [] a b n tt some (omega (arith, end, le))).0 (exact.0 h)),
-          (λ h. exact.1 ((goes entering moments [] a b n tt some (begins a b n h)).1 h)),
+              (goes entering moments (quiet []) a b n tt some (omega (arith, end, le))).0 (exact.0 h)),
+          (λ h. exact.1 ((goes entering moments (quiet []) a b n tt some (begins a b n h)).1 h)),
         )
 
     found_late : (a b n : ℕ) → 0 < n → a ≤ b → SetHolds found a b n → end_of 0 u * n ≤ b
     found_late a b n some le h =
         ⊎_elim
         (λ x. let from = (IsBounded-rest tree
-        (rest_of (end_of 0 u) (last_of None u) (piece.segment ∷ []))).begin a b n x in
+        (rest_of (end_of 0 u) (last_of None u) (quiet (piece.segment ∷ [])))).begin a b n x in
         omega (arith, from, le))
         (λ y. y.end) ((found_is a b n some le).0 h)
 
     module _ (earlier told : List ZoneBounds) (set : IsZoneSet found)
         (without : Without (WasTold earlier) found told)
-        (ended : (a b n : ℕ) → 0 < n → a ≤ b → SetHolds earlier a b n → Matches tree u a b n)
+        (ended : (a b n : ℕ) → 0 < n → a ≤ b → SetHolds earlier a b n → Matches tree (quiet u) a b n)
         (unstarted : u ≡ [] → earlier ≡ []) where
       among : (a b n : ℕ) → SetHolds told a b n → SetHolds found a b n
       among a b n h = SetHolds-kept (WasTold earlier) found told without a b n h
 
-      told_all : (a b n : ℕ) → 0 < n → a ≤ b → Either (SetHolds told) (Matches tree u) a b n
-          ↔ Matches tree (u ++ piece.segment ∷ []) a b n
+      told_all : (a b n : ℕ) → 0 < n → a ≤ b → Either (SetHolds told) (Matches tree (quiet u)) a b n
+          ↔ Matches tree (quiet (u ++ piece.segment ∷ [])) a b n
       told_all a b n some le =
-          let all = parts tree u long (piece.segment ∷ []) a b n some in
+          let all = parts tree u long (quiet (piece.segment ∷ [])) a b n some in
           let found_here = found_is a b n some le in (
             (λ h. all.1
                 (⊎_elim (λ x. inr (found_here.0 (among a b n x))) (λ y. inl y) h)),
@@ -251,17 +255,17 @@ module _ (tree : PatternTree) (u : List Segment) (piece : Piece) (before : MarkT
                 (all.0 h)),
           )
 
-      told_first : u ≡ [] → HoldExactly told (Matches tree (piece.segment ∷ []))
+      told_first : u ≡ [] → HoldExactly told (Matches tree (quiet (piece.segment ∷ [])))
       told_first none = record {
         exact = λ a b n some le. (
           (λ h.
               let all = (told_all a b n some le).0 (inl h) in
-              subst (λ (list : List Segment). Matches tree (list ++ piece.segment ∷ []) a b n)
+              subst (λ (list : List Segment). Matches tree (quiet (list ++ piece.segment ∷ [])) a b n)
               none all),
           (λ h.
-              let late : MatchesBehind tree (cut_after u (piece.segment ∷ [])) a b n =
+              let late : MatchesBehind tree (cut_after u (quiet (piece.segment ∷ []))) a b n =
               subst (λ (list : List Segment).
-              MatchesBehind tree (cut_after list (piece.segment ∷ [])) a b n) (sym none) h in
+              MatchesBehind tree (cut_after list (quiet (piece.segment ∷ []))) a b n) (sym none) h in
               ⊎_elim (λ x. x)
               (λ x. absurd (SetHolds-empty a b n
               (subst (λ (list : List ZoneBounds). SetHolds list a b n) (unstarted none) x)))

@@ -1,5 +1,5 @@
 -- What a reader must believe: what a session stands for (StandsFor), and what it tells of a segment
--- (TellsNew, WasTold).
+-- (TellsNew, WasTold) and of the end (TellsLast).
 pub mod Session
 pub mod Told
 -- What the functions inside promise each other: IsKeptNew, the words of Reading, and that a

@@ -1,4 +1,4 @@
--- Sessions: what one stands for, and what it tells of a segment.
+-- Sessions: what one stands for, and what it tells of a segment and of the end.
 use Rattle.std.specs.Prelude.{◌≡◌, ℕ, ◌*◌, ◌<◌, ◌≤◌, ◌↔◌, None, Contains, List, [], ◌∷◌, ◌++◌}
 use Rattle.tre_pairs.specs.Pairs.{Either}
 use Rattle.tre_mark.specs.MarkTree.{MarkTree, mark_of}
@@ -8,7 +8,7 @@ use Rattle.tre_syntax.specs.Meaning.{Matches}
 use Rattle.tre_syntax.specs.Pattern.{pattern_tree}
 use Rattle.tre_syntax.specs.PatternTree.{PatternTree}
 use Rattle.tre_syntax.specs.declared.pattern.Pattern.{Pattern}
-use Rattle.tre_trace.specs.Trace.{AreLong, end_of, IsTrace}
+use Rattle.tre_trace.specs.Trace.{Timeline, timeline_of, quiet, AreLong, end_of, IsTrace}
 use Rattle.tre_trace.specs.declared.segment.Segment.{Segment}
 use Rattle.tre_zone.specs.ZoneList.{SetHolds, IsApart, AreTight, HoldExactly}
 use Rattle.tre_zone.specs.declared.zone_bounds.ZoneBounds.{ZoneBounds}
@@ -32,14 +32,14 @@ abbrev pub kept_of : Session → MarkTree
 kept_of session = mark_of session.mark
 
 -- A trace that is cut where its first segments end.
-abbrev pub cut_after : List Segment → List Segment → CutRest
+abbrev pub cut_after : List Segment → Timeline → CutRest
 cut_after segments next =
     record { start = 0; before = None; front = segments; back = next }
 
 -- The mark stands for the matches that the end of the segments cuts, whatever comes next.
 pub record AwaitsMatches (mark : MarkTree) (tree : PatternTree) (segments : List Segment) : Type 0
   where
-    pub exact : (next : List Segment) (a b n : ℕ) → AreLong next → 0 < n
+    pub exact : (next : Timeline) (a b n : ℕ) → AreLong next.segments → 0 < n
         → Marked (back_of (cut_after segments next)) mark tree a b n
         ↔ MatchesAcross tree (cut_after segments next) a b n
 
@@ -54,7 +54,7 @@ pub record StandsFor (session : Session) (segments : List Segment) : Type 0 wher
   pub takes : CanTakeIn (since (at_of session) session.last []) (kept_of session)
       (pattern_tree (pattern_of session))
   pub ended : (a b n : ℕ) → 0 < n → a ≤ b → SetHolds (ended_of session) a b n
-      → Matches (pattern_tree (pattern_of session)) segments a b n
+      → Matches (pattern_tree (pattern_of session)) (quiet segments) a b n
   pub unstarted : segments ≡ [] → ended_of session ≡ []
 
 -- What is told of a segment that comes behind these segments, where `earlier` was told last: a set
@@ -66,8 +66,25 @@ pub record TellsNew (tree : PatternTree) (segments : List Segment) (segment : Se
   pub apart : IsApart told
   pub tight : AreTight told
   pub all : (a b n : ℕ) → 0 < n → a ≤ b
-      → Either (SetHolds told) (Matches tree segments) a b n
-      ↔ Matches tree (segments ++ segment ∷ []) a b n
-  pub first : segments ≡ [] → HoldExactly told (Matches tree (segment ∷ []))
+      → Either (SetHolds told) (Matches tree (quiet segments)) a b n
+      ↔ Matches tree (quiet (segments ++ segment ∷ [])) a b n
+  pub first : segments ≡ [] → HoldExactly told (Matches tree (quiet (segment ∷ [])))
   pub late : (a b n : ℕ) → 0 < n → a ≤ b → SetHolds told a b n → end_of 0 segments * n ≤ b
+  pub new : (zone : ZoneBounds) → Contains told zone → WasTold earlier zone → ⊥
+
+-- What is told where these events happen at the end of these segments, where `earlier` was told
+-- last: a set of zones, none of which is included in another or in one that was told last. Its
+-- pairs end there, and are with the matches before just the matches of the trace with these events.
+-- Where nothing happens it is empty; where no segment came and something happens, it is all matches.
+pub record TellsLast (tree : PatternTree) (segments : List Segment) (events : ℕ)
+    (earlier told : List ZoneBounds) : Type 0 where
+  pub none : events ≡ 0 → told ≡ []
+  pub apart : IsApart told
+  pub tight : AreTight told
+  pub all : (a b n : ℕ) → 0 < n → a ≤ b
+      → Either (SetHolds told) (Matches tree (quiet segments)) a b n
+      ↔ Matches tree (timeline_of segments events) a b n
+  pub first : segments ≡ [] → (events ≡ 0 → ⊥)
+      → HoldExactly told (Matches tree (timeline_of [] events))
+  pub ends : (a b n : ℕ) → 0 < n → a ≤ b → SetHolds told a b n → b ≡ end_of 0 segments * n
   pub new : (zone : ZoneBounds) → Contains told zone → WasTold earlier zone → ⊥

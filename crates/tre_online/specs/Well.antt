@@ -5,7 +5,7 @@ use native.Mathlib.Nat.{ℕ_set}
 use mathlib.Core.Path.{ap}
 use Rattle.tre_zone.specs.Held.{Held, EndAt, EndBy, IsLatest}
 use Rattle.tre_syntax.specs.Pattern.{pattern_tree}
-use Rattle.tre_syntax.specs.PatternTree.{Atom, PatternTree, empty, literal, rise, fall, atom, sequence, alternation, intersection, repetition, restriction}
+use Rattle.tre_syntax.specs.PatternTree.{Atom, PatternTree, empty, literal, rise, fall, event, atom, sequence, alternation, intersection, repetition, restriction}
 use Rattle.tre_syntax.specs.declared.pattern.Pattern.{Pattern}
 use Rattle.tre_zone.specs.contracts.zone_bounds.ZoneBounds as zone_bounds
 use Rattle.tre_zone.specs.declared.zone_bounds.ZoneBounds.{ZoneBounds}
@@ -54,6 +54,7 @@ IsProp-IsBegun time begun empty = zones_set begun []
 IsProp-IsBegun time begun (literal state) = IsProp-EndAt time begun
 IsProp-IsBegun time begun (rise state) = zones_set begun []
 IsProp-IsBegun time begun (fall state) = zones_set begun []
+IsProp-IsBegun time begun (event number) = zones_set begun []
 
 IsProp-form : (time : ℕ) (mark : MarkTree) (tree : PatternTree) → IsProp (IsWell time mark tree)
 IsProp-form time (atom_mark here begun) (atom x) =

@@ -3,11 +3,12 @@
 //!
 //! The layers above may rely on what a session stands for and on what it tells: with the matches
 //! so far, exactly the matches of the trace with the segment. Of an edge it tells only once the
-//! segment behind it has come.
+//! segment behind it has come, and of an event at the end of the trace when it is closed.
 //!
 //! ```
 //! let mut session = Session::new(alloc, pattern)?;
-//! let told = session.segment(Segment { len: 2, val: 0b01 })?; // proposition 0, for two ticks
+//! let told = session.segment(Segment::plain(2, 0b01))?; // proposition 0, for two ticks
+//! let told_last = session.close(0b10)?; // event 1 happens as the trace ends
 //! ```
 #![tactic(auto)]
 

@@ -4,7 +4,7 @@ ghost use Rattle.tre_online.specs.Well.{IsWellNow, IsProp-IsWellNow};
 
 use crate::told::not_told;
 use std::alloc::{AllocError, Global};
-use tre_advance::advance;
+use tre_advance::{advance, close};
 use tre_edges::Piece;
 use tre_mark::{Mark, moments};
 use tre_pairs::TIME_MAX;
@@ -37,7 +37,7 @@ impl Session {
     ghost use Rattle.tre_mark.specs.Nodes.{mark_node_count, form_count, HasNoInstances};
     ghost use Rattle.tre_syntax.specs.PatternTree.{node_count};
     ghost use Rattle.tre_syntax.specs.Pattern.{pattern_tree, names_of};
-    ghost use Rattle.tre_online.specs.Session.{pattern_of, at_of, ended_of, kept_of, StandsFor, TellsNew};
+    ghost use Rattle.tre_online.specs.Session.{pattern_of, at_of, ended_of, kept_of, StandsFor, TellsNew, TellsLast};
     ghost use Rattle.tre_online.specs.Reading.{AreMoments, IsPieceFor, Reads};
 
     /// A session that has read no segment.
@@ -120,6 +120,16 @@ impl Session {
         }
     }
 
+    /// The trace has ended, and these events happen at its end: bit i is set where event i does.
+    /// Tells what has become a match with them, which ends there: nothing where no event happens.
+    pub fn close(self, events: u64) -> Result<ZoneSet, AllocError>
+        ensures { (segments : List Segment) → StandsFor self segments →
+            IfOk result (λ told. TellsLast (pattern_tree (pattern_of self)) segments events
+            (ended_of self) told) }
+    {
+        self.last_told(events)
+    }
+
     // The moments from one time to another, each as a pair.
     fn moments(alloc: Global, from: u64, to: u64) -> Result<ZoneSet, AllocError>
         requires order { from ≤ to }
@@ -168,6 +178,21 @@ impl Session {
             ended,
             mark: advanced.rest,
         })
+    }
+
+    // What is told where the trace ends with these events.
+    fn last_told(&self, events: u64) -> Result<ZoneSet, AllocError>
+        ensures { (segments : List Segment) → StandsFor self.now segments →
+            IfOk result (λ told. TellsLast (pattern_tree (pattern_of self.now)) segments events
+            (ended_of self.now) told) }
+    {
+        if events == 0 {
+            return Ok(ZoneSet::new(self.alloc));
+        }
+        let found = close(self.alloc, &self.mark, self.pattern.expr(), self.at, events)?;
+        // For the proof: the call says that it is a set of zones.
+        let _found = found.zones();
+        not_told(self.alloc, &found, &self.ended)
     }
 }
 

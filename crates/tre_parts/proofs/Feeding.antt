@@ -12,20 +12,20 @@ use Rattle.tre_trace.specs.declared.segment.Segment.{Segment}
 use Rattle.tre_trace.specs.declared.fault.TraceFault.{TraceFault}
 
 -- The front of the piece was read, and this is its rest.
-pub record IsFed {Reader State : Type 0} (nm : Reader → List (List ℕ)) (fm : List (List ℕ)
-    → Format State) (hd : Reader → State → Type 0)
+pub record IsFed {Reader Terms State : Type 0} (tm : Reader → Terms) (fm : Terms → Format State)
+    (hd : Reader → State → Type 0)
     (reader : Reader) (part : List ℕ) (spot : Spot) (old : List Segment) (piece : List ℕ)
     (reader_now : Reader) (part_now : List ℕ) (spot_now : Spot) (new : List Segment) (rest : List ℕ)
     : Type 0 where
   pub taken : List ℕ
   pub cut : piece ≡ taken ++ rest
-  pub same_names : nm reader_now ≡ nm reader
-  pub behind : (names : List (List ℕ)) (bytes : List ℕ) → IsAt nm fm hd names reader part spot bytes
+  pub same_terms : tm reader_now ≡ tm reader
+  pub behind : (terms : Terms) (bytes : List ℕ) → IsAt tm fm hd terms reader part spot bytes
       → length bytes + length piece ≤ FED_MAX
-      → IsAt nm fm hd names reader_now part_now spot_now (bytes ++ taken)
-  pub adds : (names : List (List ℕ)) (bytes : List ℕ) → IsAt nm fm hd names reader part spot bytes
+      → IsAt tm fm hd terms reader_now part_now spot_now (bytes ++ taken)
+  pub adds : (terms : Terms) (bytes : List ℕ) → IsAt tm fm hd terms reader part spot bytes
       → length bytes + length piece ≤ FED_MAX
-      → Adds old new (reading_of (fm names) false bytes) (reading_of (fm names) false
+      → Adds old new (reading_of (fm terms) false bytes) (reading_of (fm terms) false
       (bytes ++ taken))
 
 -- all bytes of the piece, in three stretches
@@ -48,48 +48,48 @@ around rest k below = split_around rest k below
     ∙ sym (append_assoc (take k rest) (get_or rest k 0 ∷ []) (drop (suc k) rest))
 
 -- a fault behind what was read of the piece is a fault of the whole
-pub fed-refused : {Reader S : Type 0} {nm : Reader → List (List ℕ)} {fm : List (List ℕ) → Format S}
+pub fed-refused : {Reader T S : Type 0} {tm : Reader → T} {fm : T → Format S}
     {hd : Reader → S → Type 0} {reader now : Reader} {part part_now : List ℕ} {spot spot_now : Spot}
     {old mid new : List Segment} {piece rest : List ℕ} {fault : TraceFault}
-    → (fed : IsFed nm fm hd reader part spot old piece now part_now spot_now mid rest)
-    (names : List (List ℕ)) (bytes : List ℕ)
-    → IsAt nm fm hd names reader part spot bytes → length bytes + length piece ≤ FED_MAX
+    → (fed : IsFed tm fm hd reader part spot old piece now part_now spot_now mid rest)
+    (terms : T) (bytes : List ℕ)
+    → IsAt tm fm hd terms reader part spot bytes → length bytes + length piece ≤ FED_MAX
     → (front later : List ℕ) → rest ≡ front ++ later
-    → IsRefused mid new (reading_of (fm names) false (bytes ++ fed.taken))
-    (reading_of (fm names) false ((bytes ++ fed.taken) ++ front)) fault
-    → IsRefused old new (reading_of (fm names) false bytes) (reading_of (fm names) false
+    → IsRefused mid new (reading_of (fm terms) false (bytes ++ fed.taken))
+    (reading_of (fm terms) false ((bytes ++ fed.taken) ++ front)) fault
+    → IsRefused old new (reading_of (fm terms) false bytes) (reading_of (fm terms) false
     (bytes ++ piece)) fault
 fed-refused {fm = fm} {old = old} {mid = mid} {new = new} {piece = piece} {rest = rest}
-    {fault = fault} fed names bytes here few front later is refused =
-    let f = fm names in
+    {fault = fault} fed terms bytes here few front later is refused =
+    let f = fm terms in
     let whole = in_stretches bytes piece fed.taken rest front later fed.cut is in
     subst (λ (all : List ℕ). IsRefused old new (reading_of f false bytes) (reading_of f false all)
     fault) whole
     (IsRefused-grows old new _ _ _ fault
-    (IsRefused-after old mid new _ _ _ fault (fed.adds names bytes here few) refused)
+    (IsRefused-after old mid new _ _ _ fault (fed.adds terms bytes here few) refused)
     (reading-grows f false ((bytes ++ fed.taken) ++ front) later))
 
 -- what a part needs of where it stands
-pub record HasRoom {Reader S : Type 0} (nm : Reader → List (List ℕ)) (fm : List (List ℕ) → Format S)
-    (hd : Reader → S → Type 0) (names : List (List ℕ))
+pub record HasRoom {Reader T S : Type 0} (tm : Reader → T) (fm : T → Format S)
+    (hd : Reader → S → Type 0) (terms : T)
     (now : Reader) (part_now : List ℕ) (spot_now : Spot) (bytes front : List ℕ) (separator : ℕ) :
     Type 0 where
-  pub at : IsAt nm fm hd names now part_now spot_now bytes
-  pub inside : IsInside (fm names).separates front
-  pub ends : (fm names).separates separator ≡ true
+  pub at : IsAt tm fm hd terms now part_now spot_now bytes
+  pub inside : IsInside (fm terms).separates front
+  pub ends : (fm terms).separates separator ≡ true
   pub few : length bytes + length front + 1 ≤ FED_MAX
 
-pub fed-room : {Reader S : Type 0} {nm : Reader → List (List ℕ)} {fm : List (List ℕ) → Format S}
+pub fed-room : {Reader T S : Type 0} {tm : Reader → T} {fm : T → Format S}
     {hd : Reader → S → Type 0} {reader now : Reader} {part part_now : List ℕ} {spot spot_now : Spot}
     {old mid : List Segment} {piece rest : List ℕ} {k : ℕ}
-    → (fed : IsFed nm fm hd reader part spot old piece now part_now spot_now mid rest)
-    (names : List (List ℕ)) (bytes : List ℕ)
-    → IsAt nm fm hd names reader part spot bytes → length bytes + length piece ≤ FED_MAX
-    → EndsAt (fm (nm now)).separates rest k
-    → HasRoom nm fm hd names now part_now spot_now (bytes ++ fed.taken) (take k rest)
+    → (fed : IsFed tm fm hd reader part spot old piece now part_now spot_now mid rest)
+    (terms : T) (bytes : List ℕ)
+    → IsAt tm fm hd terms reader part spot bytes → length bytes + length piece ≤ FED_MAX
+    → EndsAt (fm (tm now)).separates rest k
+    → HasRoom tm fm hd terms now part_now spot_now (bytes ++ fed.taken) (take k rest)
     (get_or rest k 0)
-fed-room {piece = piece} {rest = rest} {k = k} fed names bytes here few ends =
-    let at = fed.behind names bytes here few in
+fed-room {piece = piece} {rest = rest} {k = k} fed terms bytes here few ends =
+    let at = fed.behind terms bytes here few in
     let there = rw at.named at ends in
     record {
       at = at;
@@ -108,35 +108,35 @@ fed-room {piece = piece} {rest = rest} {k = k} fed names bytes here few ends =
       );
     }
 
-pub fed-step : {Reader S : Type 0} {nm : Reader → List (List ℕ)} {fm : List (List ℕ) → Format S}
+pub fed-step : {Reader T S : Type 0} {tm : Reader → T} {fm : T → Format S}
     {hd : Reader → S → Type 0} {reader now next : Reader} {part part_now part_next : List ℕ}
     {spot spot_now spot_next : Spot} {old mid new : List Segment} {piece rest rest_next : List ℕ}
     {k : ℕ}
-    → IsFed nm fm hd reader part spot old piece now part_now spot_now mid rest
-    → EndsAt (fm (nm now)).separates rest k → nm next ≡ nm now
-    → ((names : List (List ℕ)) (bytes : List ℕ) → HasRoom nm fm hd names now part_now spot_now bytes
+    → IsFed tm fm hd reader part spot old piece now part_now spot_now mid rest
+    → EndsAt (fm (tm now)).separates rest k → tm next ≡ tm now
+    → ((terms : T) (bytes : List ℕ) → HasRoom tm fm hd terms now part_now spot_now bytes
     (take k rest) (get_or rest k 0)
-    → IsAt nm fm hd names next part_next spot_next
+    → IsAt tm fm hd terms next part_next spot_next
     (bytes ++ (take k rest ++ get_or rest k 0 ∷ []))
-    × Adds mid new (reading_of (fm names) false bytes) (reading_of (fm names) false
+    × Adds mid new (reading_of (fm terms) false bytes) (reading_of (fm terms) false
     (bytes ++ (take k rest ++ get_or rest k 0 ∷ []))))
     → rest_next ≡ drop (suc k) rest
-    → IsFed nm fm hd reader part spot old piece next part_next spot_next new rest_next
-fed-step {nm = nm} {fm = fm} {hd = hd} {next = next} {part_next = part_next} {spot_next = spot_next}
+    → IsFed tm fm hd reader part spot old piece next part_next spot_next new rest_next
+fed-step {tm = tm} {fm = fm} {hd = hd} {next = next} {part_next = part_next} {spot_next = spot_next}
     {old = old} {mid = mid} {new = new} {rest = rest} {k = k} fed ends same takes is =
     let front = take k rest ++ get_or rest k 0 ∷ [] in
     record {
       taken = fed.taken ++ front;
       cut = fed.cut ∙ ap (λ more. fed.taken ++ more) (around rest k ends.within
           ∙ ap (λ later. front ++ later) (sym is)) ∙ sym (append_assoc fed.taken front _);
-      same_names = same ∙ fed.same_names;
-      behind = λ names bytes here few.
-          subst (λ (all : List ℕ). IsAt nm fm hd names next part_next spot_next all)
+      same_terms = same ∙ fed.same_terms;
+      behind = λ terms bytes here few.
+          subst (λ (all : List ℕ). IsAt tm fm hd terms next part_next spot_next all)
           (append_assoc bytes fed.taken front)
-          (takes names (bytes ++ fed.taken) (fed-room fed names bytes here few ends)).0;
-      adds = λ names bytes here few.
-          subst (λ (all : List ℕ). Adds old new (reading_of (fm names) false bytes)
-          (reading_of (fm names) false all)) (append_assoc bytes fed.taken front)
-          (Adds-trans old mid new _ _ _ (fed.adds names bytes here few)
-          (takes names (bytes ++ fed.taken) (fed-room fed names bytes here few ends)).1);
+          (takes terms (bytes ++ fed.taken) (fed-room fed terms bytes here few ends)).0;
+      adds = λ terms bytes here few.
+          subst (λ (all : List ℕ). Adds old new (reading_of (fm terms) false bytes)
+          (reading_of (fm terms) false all)) (append_assoc bytes fed.taken front)
+          (Adds-trans old mid new _ _ _ (fed.adds terms bytes here few)
+          (takes terms (bytes ++ fed.taken) (fed-room fed terms bytes here few ends)).1);
     }

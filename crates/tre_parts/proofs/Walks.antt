@@ -6,7 +6,7 @@ use Rattle.std.proofs.lemmas.List.Splits.{slice_split_none, slice_split_at}
 use Rattle.tre_parts.specs.Joins.{slice_split-has}
 use Rattle.tre_parts.specs.Growing.{more_parts, too_long, short_enough, reading-grows}
 use Rattle.tre_parts.specs.Format.{Format, Step, nothing, faulty, ending, behind, read_on, after_part, part_says, last_part, parts_reading, reading_from, reading_of}
-use Rattle.tre_parts.specs.Walk.{IsInside, GoesOn, IsAt, AddsPart, IsRefusedPart}
+use Rattle.tre_parts.specs.Walk.{IsInside, GoesOn, IsAt, AddsPart, IsRefusedPart, IsEnded}
 use Rattle.tre_parts.specs.declared.TheConstants.{PART_MAX}
 use Rattle.tre_parts.specs.declared.spot.Spot.{Spot}
 use Rattle.tre_trace.proofs.Readings.{is_memory, Adds-none, IsRefused-told, IsRefused-memory}
@@ -18,7 +18,8 @@ use Rattle.tre_trace.specs.declared.fault.TraceKind.TheVariants.{LineTooLong, Me
 
 behind-behind : (told segments : List Segment) (more : Reading) → behind told (behind segments more)
     ≡ behind (told ++ segments) more
-behind-behind told segments more = ap (λ all. record { segments = all; fault = more.fault })
+behind-behind told segments more = ap
+    (λ all. record { segments = all; last = more.last; fault = more.fault })
     (sym (append_assoc told segments more.segments))
 
 -- what bytes say whose first part ends at a separator
@@ -53,44 +54,44 @@ last-long : {S : Type 0} (format : Format S) (state : S) (spot : Spot) (part : L
 last-long format state spot part long = rw (too_long (length part) PART_MAX long) refl
 
 -- the bytes so far end inside a part
-pub at-last : {Reader S : Type 0} {nm : Reader → List (List ℕ)} {fm : List (List ℕ) → Format S}
-    {hd : Reader → S → Type 0} {names : List (List ℕ)} {reader : Reader} {part : List ℕ}
+pub at-last : {Reader T S : Type 0} {tm : Reader → T} {fm : T → Format S}
+    {hd : Reader → S → Type 0} {terms : T} {reader : Reader} {part : List ℕ}
     {spot : Spot} {bytes : List ℕ}
-    → (here : IsAt nm fm hd names reader part spot bytes) (closed : Bool) (more : List ℕ)
-    → IsInside (fm names).separates more
-    → reading_of (fm names) closed (bytes ++ more) ≡ behind here.told (last_part (fm names) closed
+    → (here : IsAt tm fm hd terms reader part spot bytes) (closed : Bool) (more : List ℕ)
+    → IsInside (fm terms).separates more
+    → reading_of (fm terms) closed (bytes ++ more) ≡ behind here.told (last_part (fm terms) closed
     here.state spot (part ++ more))
-at-last {fm = fm} {names = names} {part = part} {spot = spot} here closed more inside =
+at-last {fm = fm} {terms = terms} {part = part} {spot = spot} here closed more inside =
     here.follows closed more
-    ∙ ap (behind here.told) (reading-last (fm names) closed here.state spot (part ++ more)
-    (All-append (λ byte. (fm names).separates byte ≡ false) part more here.inside inside))
+    ∙ ap (behind here.told) (reading-last (fm terms) closed here.state spot (part ++ more)
+    (All-append (λ byte. (fm terms).separates byte ≡ false) part more here.inside inside))
 
-pub at-nothing : {Reader S : Type 0} {nm : Reader → List (List ℕ)} {fm : List (List ℕ) → Format S}
-    {hd : Reader → S → Type 0} {names : List (List ℕ)} {reader : Reader} {part : List ℕ}
+pub at-nothing : {Reader T S : Type 0} {tm : Reader → T} {fm : T → Format S}
+    {hd : Reader → S → Type 0} {terms : T} {reader : Reader} {part : List ℕ}
     {spot : Spot} {bytes : List ℕ}
-    → (here : IsAt nm fm hd names reader part spot bytes) → reading_of (fm names) false bytes
-    ≡ record { segments = here.told; fault = None }
-at-nothing {fm = fm} {names = names} {part = part} {spot = spot} {bytes = bytes} here =
-    ap (reading_of (fm names) false) (sym (append-nil bytes))
-    ∙ at-last here false [] (All-nil (λ byte. (fm names).separates byte ≡ false))
-    ∙ ap (behind here.told) (ap (last_part (fm names) false here.state spot) (append-nil part)
-    ∙ last-open (fm names) here.state spot part here.short)
-    ∙ ap (λ segments. record { segments = segments; fault = None }) (append-nil here.told)
+    → (here : IsAt tm fm hd terms reader part spot bytes) → reading_of (fm terms) false bytes
+    ≡ record { segments = here.told; last = 0; fault = None }
+at-nothing {fm = fm} {terms = terms} {part = part} {spot = spot} {bytes = bytes} here =
+    ap (reading_of (fm terms) false) (sym (append-nil bytes))
+    ∙ at-last here false [] (All-nil (λ byte. (fm terms).separates byte ≡ false))
+    ∙ ap (behind here.told) (ap (last_part (fm terms) false here.state spot) (append-nil part)
+    ∙ last-open (fm terms) here.state spot part here.short)
+    ∙ ap (λ segments. record { segments = segments; last = 0; fault = None }) (append-nil here.told)
 
 -- A separator came behind `front`: the part is the one that was kept and `front`.
-follows-ended : {Reader S : Type 0} {nm : Reader → List (List ℕ)} {fm : List (List ℕ) → Format S}
-    {hd : Reader → S → Type 0} {names : List (List ℕ)} {reader : Reader} {part : List ℕ}
+follows-ended : {Reader T S : Type 0} {tm : Reader → T} {fm : T → Format S}
+    {hd : Reader → S → Type 0} {terms : T} {reader : Reader} {part : List ℕ}
     {spot : Spot} {bytes : List ℕ}
-    → (here : IsAt nm fm hd names reader part spot bytes) (whole front : List ℕ) (separator : ℕ)
+    → (here : IsAt tm fm hd terms reader part spot bytes) (whole front : List ℕ) (separator : ℕ)
     → whole ≡ part ++ front
-    → IsInside (fm names).separates front → (fm names).separates separator ≡ true → (closed : Bool)
+    → IsInside (fm terms).separates front → (fm terms).separates separator ≡ true → (closed : Bool)
     (more : List ℕ)
-    → reading_of (fm names) closed ((bytes ++ (front ++ separator ∷ [])) ++ more)
-    ≡ behind here.told (read_on ((fm names).place spot) (part_says (fm names) here.state whole)
-    (λ now. reading_from (fm names) closed now (after_part spot (length whole)) more))
-follows-ended {fm = fm} {names = names} {part = part} {spot = spot} {bytes = bytes} here whole front
+    → reading_of (fm terms) closed ((bytes ++ (front ++ separator ∷ [])) ++ more)
+    ≡ behind here.told (read_on ((fm terms).place spot) (part_says (fm terms) here.state whole)
+    (λ now. reading_from (fm terms) closed now (after_part spot (length whole)) more))
+follows-ended {fm = fm} {terms = terms} {part = part} {spot = spot} {bytes = bytes} here whole front
     separator is inside ends closed more =
-    let f = fm names in
+    let f = fm terms in
     let all : IsInside f.separates (part ++ front) = All-append (λ byte. f.separates byte ≡ false)
     part front here.inside inside in
     ap (reading_of f closed) (append_assoc bytes (front ++ separator ∷ []) more
@@ -101,18 +102,18 @@ follows-ended {fm = fm} {names = names} {part = part} {spot = spot} {bytes = byt
     ∙ rw is (ap (behind here.told) (reading-part f closed here.state spot (part ++ front) separator
     more all ends))
 
-pub after-ended : {Reader S : Type 0} {nm : Reader → List (List ℕ)} {fm : List (List ℕ) → Format S}
-    {hd : Reader → S → Type 0} {names : List (List ℕ)} {reader now : Reader} {part : List ℕ}
+pub after-ended : {Reader T S : Type 0} {tm : Reader → T} {fm : T → Format S}
+    {hd : Reader → S → Type 0} {terms : T} {reader now : Reader} {part : List ℕ}
     {spot next : Spot} {bytes : List ℕ} {segments : List Segment}
-    → (here : IsAt nm fm hd names reader part spot bytes) (whole front : List ℕ) (separator : ℕ)
+    → (here : IsAt tm fm hd terms reader part spot bytes) (whole front : List ℕ) (separator : ℕ)
     → whole ≡ part ++ front
-    → IsInside (fm names).separates front → (fm names).separates separator ≡ true
-    → GoesOn (part_says (fm names) here.state whole) segments (hd now) → nm now ≡ names → next
+    → IsInside (fm terms).separates front → (fm terms).separates separator ≡ true
+    → GoesOn (part_says (fm terms) here.state whole) segments (hd now) → tm now ≡ terms → next
     ≡ after_part spot (length whole)
-    → IsAt nm fm hd names now [] next (bytes ++ (front ++ separator ∷ []))
-after-ended {fm = fm} {names = names} {part = part} {spot = spot} {next = next} {bytes = bytes}
+    → IsAt tm fm hd terms now [] next (bytes ++ (front ++ separator ∷ []))
+after-ended {fm = fm} {terms = terms} {part = part} {spot = spot} {next = next} {bytes = bytes}
     {segments = segments} here whole front separator is inside ends goes named at =
-    let f = fm names in
+    let f = fm terms in
     record {
       named = named;
       state = goes.state;
@@ -150,31 +151,31 @@ read_on-nothing format place (Ok step) spot =
     (reading-last format false step.state spot [] (All-nil (λ byte. format.separates byte ≡ false))
     ∙ last-open format step.state spot [] (omega arith))
 
-reading-ended : {Reader S : Type 0} {nm : Reader → List (List ℕ)} {fm : List (List ℕ) → Format S}
-    {hd : Reader → S → Type 0} {names : List (List ℕ)} {reader : Reader} {part : List ℕ}
+reading-ended : {Reader T S : Type 0} {tm : Reader → T} {fm : T → Format S}
+    {hd : Reader → S → Type 0} {terms : T} {reader : Reader} {part : List ℕ}
     {spot : Spot} {bytes : List ℕ}
-    → (here : IsAt nm fm hd names reader part spot bytes) (whole front : List ℕ) (separator : ℕ)
+    → (here : IsAt tm fm hd terms reader part spot bytes) (whole front : List ℕ) (separator : ℕ)
     → whole ≡ part ++ front
-    → IsInside (fm names).separates front → (fm names).separates separator ≡ true
-    → reading_of (fm names) false (bytes ++ (front ++ separator ∷ [])) ≡ behind here.told
-    (read_on ((fm names).place spot) (part_says (fm names) here.state whole) (λ _. nothing))
-reading-ended {fm = fm} {names = names} {spot = spot} {bytes = bytes} here whole front separator is
+    → IsInside (fm terms).separates front → (fm terms).separates separator ≡ true
+    → reading_of (fm terms) false (bytes ++ (front ++ separator ∷ [])) ≡ behind here.told
+    (read_on ((fm terms).place spot) (part_says (fm terms) here.state whole) (λ _. nothing))
+reading-ended {fm = fm} {terms = terms} {spot = spot} {bytes = bytes} here whole front separator is
     inside ends =
-    ap (reading_of (fm names) false) (sym (append-nil (bytes ++ (front ++ separator ∷ []))))
+    ap (reading_of (fm terms) false) (sym (append-nil (bytes ++ (front ++ separator ∷ []))))
     ∙ follows-ended here whole front separator is inside ends false []
-    ∙ ap (behind here.told) (read_on-nothing (fm names) ((fm names).place spot)
-    (part_says (fm names) here.state whole) (after_part spot (length whole)))
+    ∙ ap (behind here.told) (read_on-nothing (fm terms) ((fm terms).place spot)
+    (part_says (fm terms) here.state whole) (after_part spot (length whole)))
 
-pub adds-ended : {Reader S : Type 0} {nm : Reader → List (List ℕ)} {fm : List (List ℕ) → Format S}
-    {hd : Reader → S → Type 0} {names : List (List ℕ)} {reader now : Reader} {part : List ℕ}
+pub adds-ended : {Reader T S : Type 0} {tm : Reader → T} {fm : T → Format S}
+    {hd : Reader → S → Type 0} {terms : T} {reader now : Reader} {part : List ℕ}
     {spot : Spot} {bytes : List ℕ} {old new : List Segment}
-    → (here : IsAt nm fm hd names reader part spot bytes) (whole front : List ℕ) (separator : ℕ)
+    → (here : IsAt tm fm hd terms reader part spot bytes) (whole front : List ℕ) (separator : ℕ)
     → whole ≡ part ++ front
-    → IsInside (fm names).separates front → (fm names).separates separator ≡ true
-    → AddsPart (part_says (fm names) here.state whole) (hd now) old new
-    → Adds old new (reading_of (fm names) false bytes) (reading_of (fm names) false
+    → IsInside (fm terms).separates front → (fm terms).separates separator ≡ true
+    → AddsPart (part_says (fm terms) here.state whole) (hd now) old new
+    → Adds old new (reading_of (fm terms) false bytes) (reading_of (fm terms) false
     (bytes ++ (front ++ separator ∷ [])))
-adds-ended {fm = fm} {names = names} {spot = spot} here whole front separator is inside ends adds =
+adds-ended {fm = fm} {terms = terms} {spot = spot} here whole front separator is inside ends adds =
     record {
       added = adds.segments;
       new_is = adds.added;
@@ -182,7 +183,7 @@ adds-ended {fm = fm} {names = names} {spot = spot} here whole front separator is
           ap (λ (r : Reading). r.segments)
           (reading-ended here whole front separator is inside ends
           ∙ ap (λ (said : Result (Step _) TraceKind). behind here.told
-          (read_on ((fm names).place spot)
+          (read_on ((fm terms).place spot)
           said (λ _. nothing))) adds.goes_on.says)
           ∙ ap (λ segments. here.told ++ segments) (append-nil adds.segments)
           ∙ ap (λ (r : Reading). r.segments ++ adds.segments) (sym (at-nothing here));
@@ -191,7 +192,8 @@ adds-ended {fm = fm} {names = names} {spot = spot} here whole front separator is
 -- a fault that a reading has behind all its segments, or no memory, with nothing added
 refused-at : {told : List Segment} {before now : Reading} {old new : List Segment}
     {fault : TraceFault}
-    → before ≡ record { segments = told; fault = None } → Grows before now → new ≡ old → fault.kind
+    → before ≡ record { segments = told; last = 0; fault = None } → Grows before now → new ≡ old
+    → fault.kind
     ≢ Spent
     → (fault.kind ≢ Memory → now ≡ behind told (faulty fault.place fault.kind))
     → IsRefused old new before now fault
@@ -207,34 +209,34 @@ refused-at {told = segments} {before = before} {now = now} {old = old} {new = ne
           (ap (λ (r : Reading). r.fault) (told other)) never_spent
     ])
 
-pub refused-ended : {Reader S : Type 0} {nm : Reader → List (List ℕ)} {fm : List (List ℕ)
-    → Format S} {hd : Reader → S → Type 0} {names : List (List ℕ)} {reader : Reader} {part : List ℕ}
+pub refused-ended : {Reader T S : Type 0} {tm : Reader → T} {fm : T → Format S} {hd : Reader → S
+    → Type 0} {terms : T} {reader : Reader} {part : List ℕ}
     {spot : Spot} {bytes : List ℕ} {old new : List Segment} {fault : TraceFault}
-    → (here : IsAt nm fm hd names reader part spot bytes) (whole front : List ℕ) (separator : ℕ)
+    → (here : IsAt tm fm hd terms reader part spot bytes) (whole front : List ℕ) (separator : ℕ)
     → whole ≡ part ++ front
-    → IsInside (fm names).separates front → (fm names).separates separator ≡ true
-    → IsRefusedPart (part_says (fm names) here.state whole) ((fm names).place spot) old new fault
-    → IsRefused old new (reading_of (fm names) false bytes) (reading_of (fm names) false
+    → IsInside (fm terms).separates front → (fm terms).separates separator ≡ true
+    → IsRefusedPart (part_says (fm terms) here.state whole) ((fm terms).place spot) old new fault
+    → IsRefused old new (reading_of (fm terms) false bytes) (reading_of (fm terms) false
     (bytes ++ (front ++ separator ∷ []))) fault
-refused-ended {fm = fm} {names = names} {spot = spot} {bytes = bytes} {fault = fault} here whole
+refused-ended {fm = fm} {terms = terms} {spot = spot} {bytes = bytes} {fault = fault} here whole
     front separator is inside ends refused =
-    refused-at (at-nothing here) (reading-grows (fm names) false bytes (front ++ separator ∷ []))
+    refused-at (at-nothing here) (reading-grows (fm terms) false bytes (front ++ separator ∷ []))
     refused.same refused.wrong.never_spent
     (λ other. reading-ended here whole front separator is inside ends
     ∙ ap (λ (said : Result (Step _) TraceKind). behind here.told
-    (read_on ((fm names).place spot) said (λ _. nothing))) (refused.wrong.says other)
+    (read_on ((fm terms).place spot) said (λ _. nothing))) (refused.wrong.says other)
     ∙ ap (λ place. behind here.told (faulty place fault.kind)) (sym (refused.at_place other)))
 
 -- bytes without a separator are kept
-pub after-kept : {Reader S : Type 0} {nm : Reader → List (List ℕ)} {fm : List (List ℕ) → Format S}
-    {hd : Reader → S → Type 0} {names : List (List ℕ)} {reader : Reader} {part : List ℕ}
+pub after-kept : {Reader T S : Type 0} {tm : Reader → T} {fm : T → Format S}
+    {hd : Reader → S → Type 0} {terms : T} {reader : Reader} {part : List ℕ}
     {spot : Spot} {bytes : List ℕ}
-    → IsAt nm fm hd names reader part spot bytes → (whole more : List ℕ) → whole ≡ part ++ more
-    → IsInside (fm names).separates more → length whole ≤ PART_MAX
-    → IsAt nm fm hd names reader whole spot (bytes ++ more)
-after-kept {fm = fm} {names = names} {part = part} {spot = spot} {bytes = bytes} here whole more is
+    → IsAt tm fm hd terms reader part spot bytes → (whole more : List ℕ) → whole ≡ part ++ more
+    → IsInside (fm terms).separates more → length whole ≤ PART_MAX
+    → IsAt tm fm hd terms reader whole spot (bytes ++ more)
+after-kept {fm = fm} {terms = terms} {part = part} {spot = spot} {bytes = bytes} here whole more is
     inside short =
-    let f = fm names in
+    let f = fm terms in
     record {
       named = here.named;
       state = here.state;
@@ -257,32 +259,32 @@ after-kept {fm = fm} {names = names} {part = part} {spot = spot} {bytes = bytes}
       few = here.few;
     }
 
-pub adds-kept : {Reader S : Type 0} {nm : Reader → List (List ℕ)} {fm : List (List ℕ) → Format S}
-    {hd : Reader → S → Type 0} {names : List (List ℕ)} {reader : Reader} {part : List ℕ}
+pub adds-kept : {Reader T S : Type 0} {tm : Reader → T} {fm : T → Format S}
+    {hd : Reader → S → Type 0} {terms : T} {reader : Reader} {part : List ℕ}
     {spot : Spot} {bytes : List ℕ}
-    → IsAt nm fm hd names reader part spot bytes → (more : List ℕ) → IsInside (fm names).separates
+    → IsAt tm fm hd terms reader part spot bytes → (more : List ℕ) → IsInside (fm terms).separates
     more → length part + length more ≤ PART_MAX → (old : List Segment)
-    → Adds old old (reading_of (fm names) false bytes) (reading_of (fm names) false (bytes ++ more))
-adds-kept {fm = fm} {names = names} {part = part} {spot = spot} {bytes = bytes} here more inside
+    → Adds old old (reading_of (fm terms) false bytes) (reading_of (fm terms) false (bytes ++ more))
+adds-kept {fm = fm} {terms = terms} {part = part} {spot = spot} {bytes = bytes} here more inside
     short old =
-    let now : reading_of (fm names) false (bytes ++ more) ≡ behind here.told nothing =
-    at-last here false more inside ∙ ap (behind here.told) (last-open (fm names) here.state spot
+    let now : reading_of (fm terms) false (bytes ++ more) ≡ behind here.told nothing =
+    at-last here false more inside ∙ ap (behind here.told) (last-open (fm terms) here.state spot
     (part ++ more) (omega (arith, length-append part more))) in
     Adds-none old _ _ (ap (λ (r : Reading). r.segments) now ∙ append-nil here.told
     ∙ ap (λ (r : Reading). r.segments) (sym (at-nothing here)))
 
 -- the part gets too long
-pub refused-long : {Reader S : Type 0} {nm : Reader → List (List ℕ)} {fm : List (List ℕ) → Format S}
-    {hd : Reader → S → Type 0} {names : List (List ℕ)} {reader : Reader} {part : List ℕ}
+pub refused-long : {Reader T S : Type 0} {tm : Reader → T} {fm : T → Format S}
+    {hd : Reader → S → Type 0} {terms : T} {reader : Reader} {part : List ℕ}
     {spot : Spot} {bytes : List ℕ}
-    → IsAt nm fm hd names reader part spot bytes → (more : List ℕ) → IsInside (fm names).separates
+    → IsAt tm fm hd terms reader part spot bytes → (more : List ℕ) → IsInside (fm terms).separates
     more → PART_MAX < length part + length more → (old : List Segment)
-    → IsRefused old old (reading_of (fm names) false bytes) (reading_of (fm names) false
-    (bytes ++ more)) (record { place = (fm names).place spot; kind = LineTooLong })
-refused-long {fm = fm} {names = names} {part = part} {spot = spot} {bytes = bytes} here more inside
+    → IsRefused old old (reading_of (fm terms) false bytes) (reading_of (fm terms) false
+    (bytes ++ more)) (record { place = (fm terms).place spot; kind = LineTooLong })
+refused-long {fm = fm} {terms = terms} {part = part} {spot = spot} {bytes = bytes} here more inside
     long old =
-    refused-at (at-nothing here) (reading-grows (fm names) false bytes more) refl (λ e. cc (e))
-    (λ _. at-last here false more inside ∙ ap (behind here.told) (last-long (fm names) here.state
+    refused-at (at-nothing here) (reading-grows (fm terms) false bytes more) refl (λ e. cc (e))
+    (λ _. at-last here false more inside ∙ ap (behind here.told) (last-long (fm terms) here.state
     spot (part ++ more) (omega (arith, length-append part more))))
 
 pub refused-memory : {S : Type 0} (format : Format S) (closed : Bool) (bytes more : List ℕ)
@@ -293,21 +295,22 @@ refused-memory format closed bytes more old fault memory = IsRefused-memory old 
     (reading-grows format closed bytes more) memory
 
 -- the end of the input ends the last part
-closed-ending : {Reader S : Type 0} {nm : Reader → List (List ℕ)} {fm : List (List ℕ) → Format S}
-    {hd : Reader → S → Type 0} {names : List (List ℕ)} {reader : Reader} {part : List ℕ}
+closed-ending : {Reader T S : Type 0} {tm : Reader → T} {fm : T → Format S}
+    {hd : Reader → S → Type 0} {terms : T} {reader : Reader} {part : List ℕ}
     {spot : Spot} {bytes : List ℕ}
-    → (here : IsAt nm fm hd names reader part spot bytes)
-    → reading_of (fm names) true bytes ≡ behind here.told (last_part (fm names) true here.state spot
+    → (here : IsAt tm fm hd terms reader part spot bytes)
+    → reading_of (fm terms) true bytes ≡ behind here.told (last_part (fm terms) true here.state spot
     part)
-closed-ending {fm = fm} {names = names} {part = part} {spot = spot} {bytes = bytes} here =
-    ap (reading_of (fm names) true) (sym (append-nil bytes))
-    ∙ at-last here true [] (All-nil (λ byte. (fm names).separates byte ≡ false))
-    ∙ ap (λ last. behind here.told (last_part (fm names) true here.state spot last))
+closed-ending {fm = fm} {terms = terms} {part = part} {spot = spot} {bytes = bytes} here =
+    ap (reading_of (fm terms) true) (sym (append-nil bytes))
+    ∙ at-last here true [] (All-nil (λ byte. (fm terms).separates byte ≡ false))
+    ∙ ap (λ last. behind here.told (last_part (fm terms) true here.state spot last))
     (append-nil part)
 
-ending-none : (offset : ℕ) (fault : Option TraceKind) → (ending offset fault).segments ≡ []
-ending-none offset None = refl
-ending-none offset (Some kind) = refl
+ending-none : (offset last : ℕ) (fault : Option TraceKind) → (ending offset last fault).segments
+    ≡ []
+ending-none offset last None = refl
+ending-none offset last (Some kind) = refl
 
 closed-grows : {S : Type 0} (format : Format S) (bytes : List ℕ)
     → Grows (reading_of format false bytes) (reading_of format true bytes)
@@ -315,80 +318,91 @@ closed-grows format bytes =
     subst (λ (whole : List ℕ). Grows (reading_of format false bytes) (reading_of format true whole))
     (append-nil bytes) (reading-grows format true bytes [])
 
-closed-goes : {Reader S : Type 0} {nm : Reader → List (List ℕ)} {fm : List (List ℕ) → Format S}
-    {hd : Reader → S → Type 0} {names : List (List ℕ)} {reader : Reader} {part : List ℕ}
+closed-goes : {Reader T S : Type 0} {tm : Reader → T} {fm : T → Format S}
+    {hd : Reader → S → Type 0} {terms : T} {reader : Reader} {part : List ℕ}
     {spot : Spot} {bytes : List ℕ} {segments : List Segment} {holds : S → Type 0}
-    → (here : IsAt nm fm hd names reader part spot bytes)
-    → (goes : GoesOn (part_says (fm names) here.state part) segments holds)
-    → reading_of (fm names) true bytes ≡ behind here.told
-    (behind segments (ending (spot.offset + length part) ((fm names).at_end goes.state)))
-closed-goes {fm = fm} {names = names} {part = part} {spot = spot} here goes =
+    → (here : IsAt tm fm hd terms reader part spot bytes)
+    → (goes : GoesOn (part_says (fm terms) here.state part) segments holds)
+    → reading_of (fm terms) true bytes ≡ behind here.told
+    (behind segments (ending (spot.offset + length part) ((fm terms).last goes.state)
+    ((fm terms).at_end goes.state)))
+closed-goes {fm = fm} {terms = terms} {part = part} {spot = spot} here goes =
     closed-ending here
-    ∙ ap (λ (said : Result (Step _) TraceKind). behind here.told (read_on ((fm names).place spot)
-    said (λ now. ending (spot.offset + length part) ((fm names).at_end now)))) goes.says
+    ∙ ap (λ (said : Result (Step _) TraceKind). behind here.told (read_on ((fm terms).place spot)
+    said (λ now. ending (spot.offset + length part) ((fm terms).last now)
+    ((fm terms).at_end now)))) goes.says
 
-pub whole-closed : {Reader S : Type 0} {nm : Reader → List (List ℕ)} {fm : List (List ℕ) → Format S}
-    {hd : Reader → S → Type 0} {names : List (List ℕ)} {reader : Reader} {part : List ℕ}
+pub whole-closed : {Reader T S : Type 0} {tm : Reader → T} {fm : T → Format S}
+    {hd : Reader → S → Type 0} {terms : T} {reader : Reader} {part : List ℕ}
     {spot : Spot} {bytes : List ℕ} {segments : List Segment} {holds : S → Type 0}
-    → (here : IsAt nm fm hd names reader part spot bytes)
-    → (goes : GoesOn (part_says (fm names) here.state part) segments holds)
-    → None ≡ (fm names).at_end goes.state → (reading_of (fm names) true bytes).fault ≡ None
-whole-closed {part = part} {spot = spot} {segments = segments} here goes none =
-    ap (λ (r : Reading). r.fault) (closed-goes here goes
+    → (here : IsAt tm fm hd terms reader part spot bytes)
+    → (goes : GoesOn (part_says (fm terms) here.state part) segments holds)
+    → None ≡ (fm terms).at_end goes.state → (last : ℕ) → last ≡ (fm terms).last goes.state
+    → IsEnded (reading_of (fm terms) true bytes) last
+whole-closed {fm = fm} {terms = terms} {part = part} {spot = spot} {bytes = bytes}
+    {segments = segments} here goes none last is =
+    let whole : reading_of (fm terms) true bytes ≡ behind here.told (behind segments
+    (ending (spot.offset + length part) ((fm terms).last goes.state) None)) =
+    closed-goes here goes
     ∙ ap (λ fault. behind here.told (behind segments (ending (spot.offset + length part)
-    fault))) (sym none))
+    ((fm terms).last goes.state) fault))) (sym none) in
+    record {
+      faultless = ap (λ (r : Reading). r.fault) whole;
+      last_is = is ∙ sym (ap (λ (r : Reading). r.last) whole);
+    }
 
-pub adds-closed : {Reader S : Type 0} {nm : Reader → List (List ℕ)} {fm : List (List ℕ) → Format S}
-    {hd : Reader → S → Type 0} {names : List (List ℕ)} {reader : Reader} {part : List ℕ}
+pub adds-closed : {Reader T S : Type 0} {tm : Reader → T} {fm : T → Format S}
+    {hd : Reader → S → Type 0} {terms : T} {reader : Reader} {part : List ℕ}
     {spot : Spot} {bytes : List ℕ} {segments old new : List Segment} {holds : S → Type 0}
-    → (here : IsAt nm fm hd names reader part spot bytes)
-    → (goes : GoesOn (part_says (fm names) here.state part) segments holds) → new
+    → (here : IsAt tm fm hd terms reader part spot bytes)
+    → (goes : GoesOn (part_says (fm terms) here.state part) segments holds) → new
     ≡ old ++ segments
-    → Adds old new (reading_of (fm names) false bytes) (reading_of (fm names) true bytes)
-adds-closed {fm = fm} {names = names} {part = part} {spot = spot} {segments = segments} here goes
+    → Adds old new (reading_of (fm terms) false bytes) (reading_of (fm terms) true bytes)
+adds-closed {fm = fm} {terms = terms} {part = part} {spot = spot} {segments = segments} here goes
     added = record {
       added = segments;
       new_is = added;
       beyond =
           ap (λ (r : Reading). r.segments) (closed-goes here goes)
           ∙ ap (λ rest. here.told ++ (segments ++ rest)) (ending-none (spot.offset + length part)
-          ((fm names).at_end goes.state))
+          ((fm terms).last goes.state) ((fm terms).at_end goes.state))
           ∙ ap (λ rest. here.told ++ rest) (append-nil segments)
           ∙ ap (λ (r : Reading). r.segments ++ segments) (sym (at-nothing here));
     }
 
-pub refused-closed : {Reader S : Type 0} {nm : Reader → List (List ℕ)} {fm : List (List ℕ)
-    → Format S} {hd : Reader → S → Type 0} {names : List (List ℕ)} {reader : Reader} {part : List ℕ}
+pub refused-closed : {Reader T S : Type 0} {tm : Reader → T} {fm : T → Format S} {hd : Reader → S
+    → Type 0} {terms : T} {reader : Reader} {part : List ℕ}
     {spot : Spot} {bytes : List ℕ} {old new : List Segment} {fault : TraceFault}
-    → (here : IsAt nm fm hd names reader part spot bytes) → IsRefusedPart
-    (part_says (fm names) here.state part) ((fm names).place spot) old new fault
-    → IsRefused old new (reading_of (fm names) false bytes) (reading_of (fm names) true bytes) fault
-refused-closed {fm = fm} {names = names} {part = part} {spot = spot} {bytes = bytes} {fault = fault}
+    → (here : IsAt tm fm hd terms reader part spot bytes) → IsRefusedPart
+    (part_says (fm terms) here.state part) ((fm terms).place spot) old new fault
+    → IsRefused old new (reading_of (fm terms) false bytes) (reading_of (fm terms) true bytes) fault
+refused-closed {fm = fm} {terms = terms} {part = part} {spot = spot} {bytes = bytes} {fault = fault}
     here refused =
-    refused-at (at-nothing here) (closed-grows (fm names) bytes) refused.same
+    refused-at (at-nothing here) (closed-grows (fm terms) bytes) refused.same
     refused.wrong.never_spent
     (λ other. closed-ending here
     ∙ ap (λ (said : Result (Step _) TraceKind). behind here.told
-    (read_on ((fm names).place spot) said (λ now. ending (spot.offset + length part)
-    ((fm names).at_end now)))) (refused.wrong.says other)
+    (read_on ((fm terms).place spot) said (λ now. ending (spot.offset + length part)
+    ((fm terms).last now) ((fm terms).at_end now)))) (refused.wrong.says other)
     ∙ ap (λ place. behind here.told (faulty place fault.kind)) (sym (refused.at_place other)))
 
 -- the input may not end here
-pub refused-end : {Reader S : Type 0} {nm : Reader → List (List ℕ)} {fm : List (List ℕ) → Format S}
-    {hd : Reader → S → Type 0} {names : List (List ℕ)} {reader : Reader} {part : List ℕ}
+pub refused-end : {Reader T S : Type 0} {tm : Reader → T} {fm : T → Format S}
+    {hd : Reader → S → Type 0} {terms : T} {reader : Reader} {part : List ℕ}
     {spot : Spot} {bytes : List ℕ} {segments old new : List Segment} {holds : S → Type 0}
-    → (here : IsAt nm fm hd names reader part spot bytes)
-    → (goes : GoesOn (part_says (fm names) here.state part) segments holds) → new
+    → (here : IsAt tm fm hd terms reader part spot bytes)
+    → (goes : GoesOn (part_says (fm terms) here.state part) segments holds) → new
     ≡ old ++ segments
-    → (place : ℕ) (kind : TraceKind) → Some kind ≡ (fm names).at_end goes.state → kind ≢ Spent
+    → (place : ℕ) (kind : TraceKind) → Some kind ≡ (fm terms).at_end goes.state → kind ≢ Spent
     → place ≡ spot.offset + length part
-    → IsRefused old new (reading_of (fm names) false bytes) (reading_of (fm names) true bytes)
+    → IsRefused old new (reading_of (fm terms) false bytes) (reading_of (fm terms) true bytes)
     (record { place = place; kind = kind })
-refused-end {part = part} {spot = spot} {segments = segments} here goes added place kind ends
+refused-end {fm = fm} {terms = terms} {part = part} {spot = spot}
+    {segments = segments} here goes added place kind ends
     never_spent at =
     IsRefused-told _ _ _ _ _ (adds-closed here goes added)
     (ap (λ (r : Reading). r.fault) (closed-goes here goes
     ∙ ap (λ fault. behind here.told (behind segments (ending (spot.offset + length part)
-    fault))) (sym ends))
+    ((fm terms).last goes.state) fault))) (sym ends))
     ∙ ap (λ n. Some (record { place = n; kind = kind })) (sym at))
     never_spent

@@ -16,27 +16,36 @@ pub record Step (State : Type 0) : Type 0 where
   pub state : State
 
 -- A format: the bytes that part, what is known before the first part, how a fault's place is told,
--- what a part says, the fault of an input that ends here, if it has one, and the time that was
--- reached.
+-- what a part says, the fault of an input that ends here, if it has one, the events at its end, and
+-- the time that was reached.
 pub record Format (State : Type 0) : Type 0 where
   pub separates : ℕ → Bool
   pub start : State
   pub place : Spot → ℕ
   pub says : State → List ℕ → Result (Step State) TraceKind
   pub at_end : State → Option TraceKind
+  pub last : State → ℕ
   pub time : State → ℕ
 
 -- nothing more is said
 abbrev pub nothing : Reading
-nothing = record { segments = []; fault = None }
+nothing = record { segments = []; last = 0; fault = None }
 
 -- a fault at this place
 abbrev pub faulty : ℕ → TraceKind → Reading
-faulty place kind = record { segments = []; fault = Some (record { place = place; kind = kind }) }
+faulty place kind = record {
+  segments = [];
+  last = 0;
+  fault = Some (record { place = place; kind = kind });
+}
 
 -- these segments, and then what was read behind them
 abbrev pub behind : List Segment → Reading → Reading
-behind segments reading = record { segments = segments ++ reading.segments; fault = reading.fault }
+behind segments reading = record {
+  segments = segments ++ reading.segments;
+  last = reading.last;
+  fault = reading.fault;
+}
 
 -- a fault ends the reading; behind a part without one it goes on
 abbrev pub read_on : {State : Type 0} → ℕ → Result (Step State) TraceKind → (State → Reading)
@@ -54,17 +63,17 @@ abbrev pub part_says : {State : Type 0} → Format State → State → List ℕ 
 part_says format state part = if nat_le (length part) PART_MAX then format.says state part else Err
     LineTooLong
 
--- the end of the input, at this offset
-abbrev pub ending : ℕ → Option TraceKind → Reading
-ending offset None = nothing
-ending offset (Some kind) = faulty offset kind
+-- the end of the input, at this offset and with these events, or a fault
+abbrev pub ending : ℕ → ℕ → Option TraceKind → Reading
+ending offset last None = record { segments = []; last = last; fault = None }
+ending offset last (Some kind) = faulty offset kind
 
 -- The part that no separator ends: the end of the input ends it. While more may come it says
 -- nothing, but that it has too many bytes.
 abbrev pub last_part : {State : Type 0} → Format State → Bool → State → Spot → List ℕ → Reading
 last_part format true state spot part =
     read_on (format.place spot) (part_says format state part)
-    (λ now. ending (spot.offset + length part) (format.at_end now))
+    (λ now. ending (spot.offset + length part) (format.last now) (format.at_end now))
 last_part format false state spot part = if nat_le (length part) PART_MAX then nothing else faulty
     (format.place spot) LineTooLong
 

@@ -5,11 +5,11 @@ use Rattle.tre_parts.specs.Walk.{IsAt}
 use Rattle.tre_parts.specs.declared.spot.Spot.{Spot}
 
 -- It was fed these bytes, found no fault in them, and goes on.
-pub record IsFedWith {Reader State : Type 0} (names_of : Reader → List (List ℕ))
-    (format : List (List ℕ) → Format State) (holds : Reader → State → Type 0)
+pub record IsFedWith {Reader Terms State : Type 0} (terms_of : Reader → Terms)
+    (format : Terms → Format State) (holds : Reader → State → Type 0)
     (reader : Reader) (part : List ℕ) (spot : Spot) (fed : ℕ) (is_spent : Bool) (bytes : List ℕ) :
     Type 0 where
-  pub at : IsAt names_of format holds (names_of reader) reader part spot bytes
+  pub at : IsAt terms_of format holds (terms_of reader) reader part spot bytes
   pub counts : fed ≡ length bytes
-  pub faultless : (reading_of (format (names_of reader)) false bytes).fault ≡ None
+  pub faultless : (reading_of (format (terms_of reader)) false bytes).fault ≡ None
   pub goes_on : is_spent ≡ false

@@ -46,10 +46,10 @@ read_on-stays format place state part more keeps later true (Ok step) is =
     leads-stays (format.time state) (format.time step.state) step.segments
     (more step.state).segments (keeps.leads state part step is) (later step.state)
 
-ending-stays : (before offset : ℕ) (fault : Option TraceKind) → StaysInTime before
-    (ending offset fault).segments
-ending-stays before offset None = none-stays before
-ending-stays before offset (Some kind) = none-stays before
+ending-stays : (before offset last : ℕ) (fault : Option TraceKind) → StaysInTime before
+    (ending offset last fault).segments
+ending-stays before offset last None = none-stays before
+ending-stays before offset last (Some kind) = none-stays before
 
 long-stays : (before place : ℕ) (short : Bool) → StaysInTime before (if short then nothing else
     faulty place LineTooLong).segments
@@ -62,8 +62,9 @@ parts-stay : {S : Type 0} (format : Format S) (closed : Bool) → KeepsTime form
 parts-stay format closed keeps state spot [] = none-stays (format.time state)
 parts-stay format true keeps state spot (part ∷ []) =
     read_on-stays format (format.place spot) state part (λ now. ending (spot.offset + length part)
-    (format.at_end now)) keeps
-    (λ now. ending-stays (format.time now) (spot.offset + length part) (format.at_end now))
+    (format.last now) (format.at_end now)) keeps
+    (λ now. ending-stays (format.time now) (spot.offset + length part) (format.last now)
+    (format.at_end now))
     (nat_le (length part) PART_MAX) (format.says state part) refl
 parts-stay format false keeps state spot (part ∷ []) = long-stays (format.time state)
     (format.place spot) (nat_le (length part) PART_MAX)

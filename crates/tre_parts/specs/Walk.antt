@@ -1,5 +1,5 @@
 -- Where a reader is in its input, and what a call does that takes bytes of it.
-use Rattle.std.specs.Prelude.{◌≡◌, ◌≢◌, ℕ, ◌+◌, ◌<◌, ◌≤◌, Bool, true, false, List, [], ◌∷◌, ◌++◌, length, take, slice_index, Result, Ok, Err}
+use Rattle.std.specs.Prelude.{◌≡◌, ◌≢◌, ℕ, ◌+◌, ◌<◌, ◌≤◌, Bool, true, false, List, [], ◌∷◌, ◌++◌, length, take, slice_index, None, Result, Ok, Err}
 use Rattle.std.specs.List.{All}
 use Rattle.tre_parts.specs.Format.{Format, Step, behind, reading_from, reading_of}
 use Rattle.tre_parts.specs.declared.TheConstants.{PART_MAX}
@@ -44,18 +44,18 @@ Tells said holds (Wrong kind) = IsWrong said kind
 
 -- The reader has read these bytes and found no fault: it holds a state, it kept the part that
 -- isn't ended yet, and what follows is read from there.
-pub record IsAt {Reader State : Type 0} (names_of : Reader → List (List ℕ)) (format : List (List ℕ)
-    → Format State) (holds : Reader → State → Type 0)
-    (names : List (List ℕ)) (reader : Reader) (part : List ℕ) (spot : Spot) (bytes : List ℕ) : Type
+pub record IsAt {Reader Terms State : Type 0} (terms_of : Reader → Terms)
+    (format : Terms → Format State) (holds : Reader → State → Type 0)
+    (terms : Terms) (reader : Reader) (part : List ℕ) (spot : Spot) (bytes : List ℕ) : Type
     0 where
-  pub named : names_of reader ≡ names
+  pub named : terms_of reader ≡ terms
   pub state : State
   pub is_held : holds reader state
   pub told : List Segment
   pub follows : (closed : Bool) (more : List ℕ) →
-      reading_of (format names) closed (bytes ++ more) ≡ behind told (reading_from (format names)
+      reading_of (format terms) closed (bytes ++ more) ≡ behind told (reading_from (format terms)
       closed state spot (part ++ more))
-  pub inside : IsInside (format names).separates part
+  pub inside : IsInside (format terms).separates part
   pub short : length part ≤ PART_MAX
   pub counts : spot.offset + length part ≡ length bytes
   pub few : spot.number ≤ spot.offset + 1
@@ -74,9 +74,14 @@ pub record IsRefusedPart {State : Type 0} (said : Result (Step State) TraceKind)
   pub at_place : fault.kind ≢ Memory → fault.place ≡ place
   pub same : new ≡ old
 
--- A call that read more bytes: Ok says that the reader is behind them, and what it put behind the
--- old segments is what they say; a fault is the first one that they say.
-abbrev pub Takes : {T : Type 0} → Type 0 → List Segment → List Segment → Reading → Reading
+-- The bytes have no fault as a whole input, and the events at their end are told.
+pub record IsEnded (reading : Reading) (last : ℕ) : Type 0 where
+  pub faultless : reading.fault ≡ None
+  pub last_is : last ≡ reading.last
+
+-- A call that read more bytes: what holds of an Ok's value says how far the reader is, and what was
+-- put behind the old segments is what the bytes say; a fault is the first one that they say.
+abbrev pub Takes : {T : Type 0} → (T → Type 0) → List Segment → List Segment → Reading → Reading
     → Result T TraceFault → Type 0
-Takes IsBehind old new before now (Ok _) = IsBehind × Adds old new before now
+Takes IsBehind old new before now (Ok told) = IsBehind told × Adds old new before now
 Takes IsBehind old new before now (Err fault) = IsRefused old new before now fault

@@ -22,10 +22,10 @@ pub struct Parts<R: Drop> {
 impl<R: PartReader + Drop> Parts<R> {
     /// Nothing is fed. The reader must be at the beginning of its format.
     pub fn new(alloc: Global, reader: R) -> Parts<R>
-        requires begins { R.holds reader (R.format (R.names reader)).start }
+        requires begins { R.holds reader (R.format (R.terms reader)).start }
         ensures fed { ⟦<Parts<R> as TraceReader>⟧.represents result [] }
         ensures begins { ⟦<Parts<R> as TraceReader>⟧.fed_of result ≡ 0 }
-        ensures names { ⟦<Parts<R> as TraceReader>⟧.names result ≡ R.names reader }
+        ensures terms { ⟦<Parts<R> as TraceReader>⟧.terms result ≡ R.terms reader }
     {
         let spot = Spot {
             number: 1,
@@ -42,11 +42,13 @@ impl<R: PartReader + Drop> Parts<R> {
 }
 
 impl<R: PartReader + Drop> TraceReader for Parts<R> {
-    ghost names = { λ parts. R.names parts.walk.reader };
+    ghost Terms = { R.Terms };
 
-    ghost reading = { λ names closed bytes. reading_of (R.format names) closed bytes };
+    ghost terms = { λ parts. R.terms parts.walk.reader };
 
-    ghost represents = { λ parts bytes. IsFedWith R.names R.format R.holds parts.walk.reader
+    ghost reading = { λ terms closed bytes. reading_of (R.format terms) closed bytes };
+
+    ghost represents = { λ parts bytes. IsFedWith R.terms R.format R.holds parts.walk.reader
         parts.walk.part.items parts.walk.spot parts.fed parts.is_spent bytes };
 
     ghost fed_of = { λ parts. parts.fed };
@@ -57,10 +59,10 @@ impl<R: PartReader + Drop> TraceReader for Parts<R> {
 
     ghost faultless = { λ parts bytes fed. fed.faultless };
 
-    ghost grows = { λ names closed first more. reading-grows (R.format names) closed first more };
+    ghost grows = { λ terms closed first more. reading-grows (R.format terms) closed first more };
 
-    ghost is_trace = { λ names closed bytes.
-        reading-is_trace (R.format names) closed bytes (R.keeps_time names) };
+    ghost is_trace = { λ terms closed bytes.
+        reading-is_trace (R.format terms) closed bytes (R.keeps_time terms) };
 
     fn feed(&mut self, piece: &[u8], segments: &mut Vec<Segment>) -> Result<(), TraceFault> {
         if self.is_spent {
@@ -73,13 +75,13 @@ impl<R: PartReader + Drop> TraceReader for Parts<R> {
         Ok(())
     }
 
-    fn finish(&mut self, segments: &mut Vec<Segment>) -> Result<(), TraceFault> {
+    fn finish(&mut self, segments: &mut Vec<Segment>) -> Result<u64, TraceFault> {
         if self.is_spent {
             return Err(spent());
         }
         self.is_spent = true;
-        self.walk.finish(self.fed, segments)?;
-        Ok(())
+        let last = self.walk.finish(self.fed, segments)?;
+        Ok(last)
     }
 
     fn fed(&self) -> u64 {

@@ -20,8 +20,8 @@ impl Spot {
             result ≡ record { number = self.number + 1; offset = self.offset + len + 1 } }
     {
         Spot {
-            number: self.number.saturating_add(1),
-            offset: self.offset.saturating_add(len as u64).saturating_add(1),
+            number: self.number.wrapping_add(1),
+            offset: self.offset.wrapping_add(len as u64).wrapping_add(1),
         }
     }
 }

@@ -1,7 +1,7 @@
 // Where a reader is in its input.
 ghost use Rattle.std.specs.Prelude.{◌≡◌, ◌≢◌, ℕ, ◌+◌, ◌^◌, ◌≤◌, List, [], ◌∷◌, None, ◌++◌, length, true, false, OnOk, OnErr, IfErr};
 ghost use Rattle.tre_parts.specs.Format.{reading_of, part_says};
-ghost use Rattle.tre_parts.specs.Walk.{IsInside, IsAt, AddsPart, IsRefusedPart, EndsAt, Takes};
+ghost use Rattle.tre_parts.specs.Walk.{IsInside, IsAt, AddsPart, IsRefusedPart, EndsAt, IsEnded, Takes};
 ghost use Rattle.tre_trace.specs.Reading.{IsPlaced};
 ghost use Rattle.tre_trace.specs.declared.fault.TraceKind.TheVariants.{Spent};
 ghost use Rattle.tre_trace.specs.declared.segment.Segment.{Segment};
@@ -27,14 +27,14 @@ fn add_part<R: PartReader>(
     segments: &mut Vec<Segment>,
 ) -> Result<(), TraceFault>
     ensures adds { (state : R.State) → R.holds reader.old state →
-        OnOk result (AddsPart (part_says (R.format (R.names reader.old)) state part.now)
+        OnOk result (AddsPart (part_says (R.format (R.terms reader.old)) state part.now)
         (R.holds reader.new) segments.old.items segments.new.items) }
     ensures refused { (state : R.State) → R.holds reader.old state →
-        IfErr result (IsRefusedPart (part_says (R.format (R.names reader.old)) state part.now)
-        ((R.format (R.names reader.old)).place spot) segments.old.items segments.new.items) }
+        IfErr result (IsRefusedPart (part_says (R.format (R.terms reader.old)) state part.now)
+        ((R.format (R.terms reader.old)).place spot) segments.old.items segments.new.items) }
     ensures never_spent { IfErr result (λ fault. fault.kind ≢ Spent) }
     ensures placed { IfErr result IsPlaced }
-    ensures same_names { R.names reader.new ≡ R.names reader.old }
+    ensures same_terms { R.terms reader.new ≡ R.terms reader.old }
 {
     let place = reader.place(spot);
     if part.len() > PART_MAX {
@@ -62,14 +62,14 @@ fn out_of_memory() -> TraceFault
 impl<R: PartReader> Walk<R> {
     // Keeps bytes of a part that isn't ended yet.
     fn keep(&mut self, more: &[u8]) -> Result<(), TraceFault>
-        ensures takes { (names : List (List ℕ)) (bytes : List ℕ) (segments : List Segment) →
-            IsAt R.names R.format R.holds names self.old.reader self.old.part.items self.old.spot
+        ensures takes { (terms : R.Terms) (bytes : List ℕ) (segments : List Segment) →
+            IsAt R.terms R.format R.holds terms self.old.reader self.old.part.items self.old.spot
             bytes →
-            IsInside (R.format names).separates more.now →
-            Takes (IsAt R.names R.format R.holds names self.new.reader self.new.part.items
+            IsInside (R.format terms).separates more.now →
+            Takes (λ _. IsAt R.terms R.format R.holds terms self.new.reader self.new.part.items
             self.new.spot (bytes ++ more.now))
-            segments segments (reading_of (R.format names) false bytes)
-            (reading_of (R.format names) false (bytes ++ more.now)) result }
+            segments segments (reading_of (R.format terms) false bytes)
+            (reading_of (R.format terms) false (bytes ++ more.now)) result }
         ensures never_spent { IfErr result (λ fault. fault.kind ≢ Spent) }
         ensures placed { IfErr result IsPlaced }
         ensures same_reader { self.new.reader ≡ self.old.reader }
@@ -89,19 +89,19 @@ impl<R: PartReader> Walk<R> {
     #[inline(always)]
     fn end_here(&mut self, part: &[u8], segments: &mut Vec<Segment>) -> Result<(), TraceFault>
         requires { self.old.part.items ≡ [] }
-        ensures takes { (names : List (List ℕ)) (bytes : List ℕ) (separator : ℕ) →
-            IsAt R.names R.format R.holds names self.old.reader self.old.part.items self.old.spot
+        ensures takes { (terms : R.Terms) (bytes : List ℕ) (separator : ℕ) →
+            IsAt R.terms R.format R.holds terms self.old.reader self.old.part.items self.old.spot
             bytes →
-            IsInside (R.format names).separates part.now → (R.format names).separates separator
+            IsInside (R.format terms).separates part.now → (R.format terms).separates separator
             ≡ true →
             length bytes + length part.now + 1 ≤ FED_MAX →
-            Takes (IsAt R.names R.format R.holds names self.new.reader self.new.part.items
+            Takes (λ _. IsAt R.terms R.format R.holds terms self.new.reader self.new.part.items
             self.new.spot (bytes ++ (part.now ++ separator ∷ [])))
-            segments.old.items segments.new.items (reading_of (R.format names) false bytes)
-            (reading_of (R.format names) false (bytes ++ (part.now ++ separator ∷ []))) result }
+            segments.old.items segments.new.items (reading_of (R.format terms) false bytes)
+            (reading_of (R.format terms) false (bytes ++ (part.now ++ separator ∷ []))) result }
         ensures never_spent { IfErr result (λ fault. fault.kind ≢ Spent) }
         ensures placed { IfErr result IsPlaced }
-        ensures same_names { R.names self.new.reader ≡ R.names self.old.reader }
+        ensures same_terms { R.terms self.new.reader ≡ R.terms self.old.reader }
     {
         add_part(&mut self.reader, self.spot, part, segments)?;
         self.spot = self.spot.after(part.len());
@@ -110,39 +110,40 @@ impl<R: PartReader> Walk<R> {
 
     // Reads the part that was kept, behind which a separator stands.
     fn end_kept(&mut self, segments: &mut Vec<Segment>) -> Result<(), TraceFault>
-        ensures takes { (names : List (List ℕ)) (bytes : List ℕ) (separator : ℕ) →
-            IsAt R.names R.format R.holds names self.old.reader self.old.part.items self.old.spot
+        ensures takes { (terms : R.Terms) (bytes : List ℕ) (separator : ℕ) →
+            IsAt R.terms R.format R.holds terms self.old.reader self.old.part.items self.old.spot
             bytes →
-            (R.format names).separates separator ≡ true → length bytes + 1 ≤ FED_MAX →
-            Takes (IsAt R.names R.format R.holds names self.new.reader self.new.part.items
+            (R.format terms).separates separator ≡ true → length bytes + 1 ≤ FED_MAX →
+            Takes (λ _. IsAt R.terms R.format R.holds terms self.new.reader self.new.part.items
             self.new.spot (bytes ++ separator ∷ []))
-            segments.old.items segments.new.items (reading_of (R.format names) false bytes)
-            (reading_of (R.format names) false (bytes ++ separator ∷ [])) result }
+            segments.old.items segments.new.items (reading_of (R.format terms) false bytes)
+            (reading_of (R.format terms) false (bytes ++ separator ∷ [])) result }
         ensures never_spent { IfErr result (λ fault. fault.kind ≢ Spent) }
         ensures placed { IfErr result IsPlaced }
-        ensures same_names { R.names self.new.reader ≡ R.names self.old.reader }
+        ensures same_terms { R.terms self.new.reader ≡ R.terms self.old.reader }
     {
         add_part(&mut self.reader, self.spot, &self.part, segments)?;
         self.spot = self.spot.after(self.part.len());
         self.part.clear();
         Ok(())
     }
+
     // Reads the part that ends behind these bytes, where a separator stands.
     #[inline(always)]
     fn end_part(&mut self, front: &[u8], segments: &mut Vec<Segment>) -> Result<(), TraceFault>
-        ensures takes { (names : List (List ℕ)) (bytes : List ℕ) (separator : ℕ) →
-            IsAt R.names R.format R.holds names self.old.reader self.old.part.items self.old.spot
+        ensures takes { (terms : R.Terms) (bytes : List ℕ) (separator : ℕ) →
+            IsAt R.terms R.format R.holds terms self.old.reader self.old.part.items self.old.spot
             bytes →
-            IsInside (R.format names).separates front.now → (R.format names).separates separator
+            IsInside (R.format terms).separates front.now → (R.format terms).separates separator
             ≡ true →
             length bytes + length front.now + 1 ≤ FED_MAX →
-            Takes (IsAt R.names R.format R.holds names self.new.reader self.new.part.items
+            Takes (λ _. IsAt R.terms R.format R.holds terms self.new.reader self.new.part.items
             self.new.spot (bytes ++ (front.now ++ separator ∷ [])))
-            segments.old.items segments.new.items (reading_of (R.format names) false bytes)
-            (reading_of (R.format names) false (bytes ++ (front.now ++ separator ∷ []))) result }
+            segments.old.items segments.new.items (reading_of (R.format terms) false bytes)
+            (reading_of (R.format terms) false (bytes ++ (front.now ++ separator ∷ []))) result }
         ensures never_spent { IfErr result (λ fault. fault.kind ≢ Spent) }
         ensures placed { IfErr result IsPlaced }
-        ensures same_names { R.names self.new.reader ≡ R.names self.old.reader }
+        ensures same_terms { R.terms self.new.reader ≡ R.terms self.old.reader }
     {
         if self.part.is_empty() {
             self.end_here(front, segments)?;
@@ -155,17 +156,17 @@ impl<R: PartReader> Walk<R> {
 
     // Reads a piece: the parts that end in it, and then what is kept of it.
     pub fn feed(&mut self, piece: &[u8], segments: &mut Vec<Segment>) -> Result<(), TraceFault>
-        ensures takes { (names : List (List ℕ)) (bytes : List ℕ) →
-            IsAt R.names R.format R.holds names self.old.reader self.old.part.items self.old.spot
+        ensures takes { (terms : R.Terms) (bytes : List ℕ) →
+            IsAt R.terms R.format R.holds terms self.old.reader self.old.part.items self.old.spot
             bytes →
             length bytes + length piece.now ≤ FED_MAX →
-            Takes (IsAt R.names R.format R.holds names self.new.reader self.new.part.items
+            Takes (λ _. IsAt R.terms R.format R.holds terms self.new.reader self.new.part.items
             self.new.spot (bytes ++ piece.now))
-            segments.old.items segments.new.items (reading_of (R.format names) false bytes)
-            (reading_of (R.format names) false (bytes ++ piece.now)) result }
+            segments.old.items segments.new.items (reading_of (R.format terms) false bytes)
+            (reading_of (R.format terms) false (bytes ++ piece.now)) result }
         ensures never_spent { IfErr result (λ fault. fault.kind ≢ Spent) }
         ensures placed { IfErr result IsPlaced }
-        ensures same_names { R.names self.new.reader ≡ R.names self.old.reader }
+        ensures same_terms { R.terms self.new.reader ≡ R.terms self.old.reader }
     {
         let mut rest = piece;
         while let Some(place) = self.reader.separator_in(rest) {
@@ -176,23 +177,23 @@ impl<R: PartReader> Walk<R> {
         Ok(())
     }
 
-    // Reads the end of the input, which is at this offset.
-    pub fn finish(&mut self, end: u64, segments: &mut Vec<Segment>) -> Result<(), TraceFault>
-        ensures takes { (names : List (List ℕ)) (bytes : List ℕ) →
-            IsAt R.names R.format R.holds names self.old.reader self.old.part.items self.old.spot
+    // Reads the end of the input, which is at this offset, and tells the events there.
+    pub fn finish(&mut self, end: u64, segments: &mut Vec<Segment>) -> Result<u64, TraceFault>
+        ensures takes { (terms : R.Terms) (bytes : List ℕ) →
+            IsAt R.terms R.format R.holds terms self.old.reader self.old.part.items self.old.spot
             bytes →
             end ≡ length bytes →
-            Takes ((reading_of (R.format names) true bytes).fault ≡ None) segments.old.items
+            Takes (IsEnded (reading_of (R.format terms) true bytes)) segments.old.items
             segments.new.items
-            (reading_of (R.format names) false bytes) (reading_of (R.format names) true bytes)
+            (reading_of (R.format terms) false bytes) (reading_of (R.format terms) true bytes)
             result }
         ensures never_spent { IfErr result (λ fault. fault.kind ≢ Spent) }
         ensures placed { IfErr result IsPlaced }
-        ensures same_names { R.names self.new.reader ≡ R.names self.old.reader }
+        ensures same_terms { R.terms self.new.reader ≡ R.terms self.old.reader }
     {
         add_part(&mut self.reader, self.spot, &self.part, segments)?;
         match self.reader.at_end() {
-            None => Ok(()),
+            None => Ok(self.reader.last()),
             Some(kind) => Err(TraceFault { place: end, kind }),
         }
     }

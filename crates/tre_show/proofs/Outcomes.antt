@@ -7,62 +7,68 @@ use Rattle.std.specs.Option.{option_map}
 use Rattle.std.proofs.lemmas.Bool.{cond_above}
 use Rattle.std.proofs.lemmas.Bool.Decides.{nat_tests}
 use Rattle.tre_state.specs.Names.{IsNameList}
+use Rattle.tre_trace.specs.Reading.{Vocabulary}
 use Rattle.tre_syntax.specs.Pattern.{IsPattern}
-use Rattle.tre_syntax.specs.PatternTree.{PatternTree, node_count}
+use Rattle.tre_syntax.specs.declared.name_kind.NameKind.TheVariants.{Proposition, Event}
+use Rattle.tre_syntax.specs.PatternTree.{PatternTree, node_count, seen_after}
 use Rattle.tre_parse.specs.declared.token.Token.{Token}
+use Rattle.tre_parse.specs.declared.known.Before.{Before}
+use Rattle.tre_parse.specs.declared.known.Before.TheVariants.{Other}
 use Rattle.tre_parse.specs.declared.token.Token.TheVariants.{Number, Percent}
 use Rattle.tre_parse.specs.declared.fault.ParseFault.TheVariants.{TooLong, BadByte, Number as TooBig, TooDeep, TooLarge}
 use Rattle.tre_parse.specs.Grammar.{expr, Spells}
-use Rattle.tre_parse.specs.Tokens.{raw_tokens_from, earlier, tokens_of, bad_byte}
+use Rattle.tre_parse.specs.Tokens.{raw_tokens_from, earlier, before_sign, nothing_known, tokens_of, bad_byte}
 use Rattle.tre_parse.specs.Outcome.{IsSpelling, Outcome, spelt, refused, TextTokens, text_tokens_of, is_big, deep_place, offset_of, past_or, NoneEmpty, IsOutcomeOfTokens, IsOutcome}
 use Rattle.tre_show.specs.Intervals.{HasIntervals}
 use Rattle.tre_show.specs.PatternText.{expression_text}
 use Rattle.tre_show.specs.ReadBack.{IsReadBack}
-use Rattle.tre_show.proofs.TreeTokens.{BeginsWell, Stand, tree_prints}
+use Rattle.tre_show.proofs.TreeTokens.{BeginsWell, StandFrom, Stand, tree_prints}
 use Rattle.tre_show.proofs.ReadBack.{AreRead, all_read}
 
 -- ---- the limits on tokens
 
-module _ (names : List (List ℕ)) where
+module _ (names : Vocabulary) where
   one_small : (token : Token) (rest : List Token) → is_big token ≡ false
       → position_or_len is_big rest ≡ length rest
       → position_or_len is_big (token ∷ rest) ≡ length (token ∷ rest)
   one_small token rest fails more =
       ap (λ b. cond (not b) (1 + position_or_len is_big rest) 0) fails ∙ omega (arith, more)
 
-  none_big_len : (tokens : List Token) → Stand names tokens
+  none_big_len : (before : Before) (tokens : List Token) → StandFrom names before tokens
       → position_or_len is_big tokens ≡ length tokens
-  none_big_len [] stand = refl
-  none_big_len (Number n ∷ rest) stand =
+  none_big_len before [] stand = refl
+  none_big_len before (Number n ∷ rest) stand =
       let small : nat_lt 1099511627776 n ≡ false =
       let within = stand.0.0 in grind (arith, nat_tests) in
-      one_small (Number n) rest small (none_big_len rest stand.1)
-  none_big_len (token ∷ rest) stand = one_small token rest refl (none_big_len rest stand.1)
+      one_small (Number n) rest small (none_big_len Other rest stand.1)
+  none_big_len before (token ∷ rest) stand =
+      one_small token rest refl (none_big_len (before_sign before token) rest stand.1)
 
   none_big : (tokens : List Token) → Stand names tokens → position is_big tokens ≡ None
   none_big tokens stand =
-      ap (λ n. cond (nat_lt n (length tokens)) (Some n) None) (none_big_len tokens stand)
+      ap (λ n. cond (nat_lt n (length tokens)) (Some n) None) (none_big_len Other tokens stand)
       ∙ sym (cond_above (length tokens) (length tokens) _ None None (omega arith) refl)
 
   -- behind each `%` there is no empty interval
-  well_behind : (front tokens rest : List Token) → Stand names tokens
-      → tokens ≡ front ++ Percent ∷ rest → BeginsWell rest
-  well_behind [] tokens rest stand e =
-      let all : Stand names (Percent ∷ rest) = subst (Stand names) e stand in all.0
-  well_behind (token ∷ front) [] rest stand e = absurd (cc)
-  well_behind (token ∷ front) (other ∷ others) rest stand e =
-      well_behind front others rest stand.1 (cc)
+  well_behind : (before : Before) (front tokens rest : List Token)
+      → StandFrom names before tokens → tokens ≡ front ++ Percent ∷ rest → BeginsWell rest
+  well_behind before [] tokens rest stand e =
+      let all : StandFrom names before (Percent ∷ rest) =
+      subst (StandFrom names before) e stand in all.0
+  well_behind before (token ∷ front) [] rest stand e = absurd (cc)
+  well_behind before (token ∷ front) (other ∷ others) rest stand e =
+      well_behind (before_sign before other) front others rest stand.1 (cc)
 
   none_empty : (tokens : List Token) → Stand names tokens → NoneEmpty tokens
   none_empty tokens stand = λ place ends at none.
-      well_behind at.front tokens (at.body ++ at.rest) stand at.split at.body at.rest ends refl
+      well_behind Other at.front tokens (at.body ++ at.rest) stand at.split at.body at.rest ends refl
       at.spelt none
 
 -- ---- the outcome
 
 -- Words of which nothing is refused but the length and the brackets.
 judged : (long : Bool) (bad big deep : Option ℕ) (words : TextTokens) (tree : PatternTree)
-    (names : List (List ℕ)) (outcome : Outcome) → bad ≡ None → big ≡ None
+    (names : Vocabulary) (outcome : Outcome) → bad ≡ None → big ≡ None
     → let is = λ (o : Outcome). MatchOption (if long then Some TooLong
     else option_map (λ at. BadByte at) bad) (MatchOption (earlier
     (option_map (λ place. TooBig (offset_of words place)) big)
@@ -78,7 +84,7 @@ judged false None None None words tree names outcome p q read once is =
 judged false None (Some place) deep words tree names outcome p q read once is = absurd (cc)
 judged false (Some at) big deep words tree names outcome p q read once is = absurd (cc)
 
-limited : (past : Option ℕ) (tree : PatternTree) (names : List (List ℕ)) → past ≡ None
+limited : (past : Option ℕ) (tree : PatternTree) (names : Vocabulary) → past ≡ None
     → node_count tree ≤ 1000
     → spelt tree names ≡ past_or past (if nat_lt 1000 (node_count tree)
     then refused (TooLarge (min (node_count tree) 1000000000)) else spelt tree names)
@@ -87,24 +93,27 @@ limited past tree names none small =
     rw (none, few) refl
 
 -- What is so of the text of a pattern.
-pub record IsTextOf (text : List ℕ) (tree : PatternTree) (names : List (List ℕ)) : Type 0 where
+pub record IsTextOf (text : List ℕ) (tree : PatternTree) (names : Vocabulary) : Type 0 where
   pub spelling : IsSpelling text tree names
   pub outcome : (outcome : Outcome) → IsOutcome text outcome → IsReadBack tree names outcome
 
-pub text_of_tree : (names : List (List ℕ)) (tree : PatternTree) → IsNameList names
-    → IsPattern tree names → HasIntervals tree
+pub text_of_tree : (names : Vocabulary) (tree : PatternTree) → IsNameList names.names
+    → IsNameList names.events → IsPattern tree names → HasIntervals tree
     → ((text : List ℕ) (o q : Outcome) → IsOutcome text o → IsOutcome text q → o ≡ q)
     → IsTextOf (expression_text names tree) tree names
-text_of_tree names tree list pattern fine once =
+text_of_tree names tree list events pattern fine once =
     let text = expression_text names tree in
     let printed = tree_prints names tree fine 0 in
     let tokens = printed.tokens in
     let says = printed.says in
     let stand : Stand names tokens =
     subst (Stand names) (append-nil tokens) (says.stand [] tt tt) in
-    let is : AreRead names list [] tokens (raw_tokens_from 0 0 text) =
-    subst (λ t. AreRead names list [] tokens (raw_tokens_from 0 0 t)) says.text_same
-    (all_read names list tokens 0 0 stand (omega arith) (rw says.numbers_same pattern.numbered)) in
+    let numbered = ap (seen_after 0) (says.numbers_same Proposition) ∙ pattern.numbered in
+    let events_numbered = ap (seen_after 0) (says.numbers_same Event) ∙ pattern.events_numbered in
+    let is : AreRead names nothing_known tokens (raw_tokens_from 0 0 text) =
+    subst (λ t. AreRead names nothing_known tokens (raw_tokens_from 0 0 t)) says.text_same
+    (all_read names list events tokens 0 0 Other 0 stand (omega arith) (omega arith) numbered
+    events_numbered) in
     let spells : Spells expr (tokens_of text) tree =
     subst (λ (ts : List Token). Spells expr ts tree) (sym is.tokens_same) printed.spells in
     let words = text_tokens_of text in

@@ -22,14 +22,19 @@ use Rattle.std.proofs.lemmas.Str.Parse.{digit_from_value}
 use Rattle.tre_state.specs.declared.name.TheConstants.{RESERVED}
 use Rattle.tre_state.specs.Name.{starts_name, continues_name, IsName}
 use Rattle.tre_state.specs.Names.{place_of, IsNameList}
+use Rattle.tre_trace.specs.Reading.{Vocabulary}
+use Rattle.tre_syntax.specs.declared.name_kind.NameKind.{NameKind}
+use Rattle.tre_syntax.specs.declared.name_kind.NameKind.TheVariants.{Proposition, Event as EventKind}
 use Rattle.tre_syntax.specs.PatternTree.{seen_after}
 use Rattle.tre_parse.specs.declared.token.Token.{Token}
-use Rattle.tre_parse.specs.declared.token.Token.TheVariants.{Name, Number, Bar, DoubleBar, Ampersand, DoubleAmpersand, Percent, Begins, Ends, Eps, Rise, Fall, Inf, True, Event, EndOfText}
+use Rattle.tre_parse.specs.declared.token.Token.TheVariants.{Name, EventName, Number, Bar, DoubleBar, Ampersand, DoubleAmpersand, Percent, Begins, Ends, Eps, Rise, Fall, Inf, True, Event, EndOfText}
 use Rattle.tre_parse.specs.Lexeme.{is_blank, reserved, named, word_lexeme, number_lexeme, sign_lexeme, lexeme_of, decimal}
+use Rattle.tre_parse.specs.declared.known.Before.{Before}
+use Rattle.tre_parse.specs.declared.known.Before.TheVariants.{Other}
 use Rattle.tre_parse.specs.Numbering.{numbers_in}
-use Rattle.tre_parse.specs.Tokens.{RawToken, name, sign, RawTokens, raw_tokens_from, scanned, with_raw_token, names_with, tokens_from, names_from, past_from}
+use Rattle.tre_parse.specs.Tokens.{RawToken, name, sign, RawTokens, raw_tokens_from, scanned, with_raw_token, kind_behind, before_sign, names_of_kind, names_with, vocabulary_with, Known, number_of, numbered, token_of, known_after, is_past, tokens_from, names_from, past_from}
 use Rattle.tre_show.specs.StateText.{name_text}
-use Rattle.tre_show.proofs.TreeTokens.{printed, text_of, IsCut, StandsBefore, Stand}
+use Rattle.tre_show.proofs.TreeTokens.{printed, text_of, IsCut, StandsHere, StandFrom}
 
 -- The text has this word first, and goes on with the rest.
 abbrev pub Takes : RawToken → ℕ → List ℕ → List ℕ → Type 0
@@ -184,39 +189,43 @@ kept byte bytes rest at starts all cut =
     takes_word byte bytes rest at starts (AllPass-from_list_all continues_name bytes all) cut
 
 -- A token as a word of the text: a name by its bytes.
-abbrev pub word_of : List (List ℕ) → Token → RawToken
-word_of names (Name i) = name (name_text names i)
+abbrev pub word_of : Vocabulary → Token → RawToken
+word_of names (Name i) = name (name_text names.names i)
+word_of names (EventName i) = name (name_text names.events i)
 word_of names token = sign token
 
 -- Where the token is the number of a name, that is one.
-abbrev pub IsNamed : List (List ℕ) → Token → Type 0
-IsNamed names (Name i) = IsName (name_text names i)
+abbrev pub IsNamed : Vocabulary → Token → Type 0
+IsNamed names (Name i) = IsName (name_text names.names i)
+IsNamed names (EventName i) = IsName (name_text names.events i)
 IsNamed names _ = Unit {0}
 
 -- Each token by its line of the table, and the names and numbers besides.
-pub takes : (names : List (List ℕ)) (token : Token) (rest : List Token) (at : ℕ)
-    → StandsBefore names rest token → IsNamed names token
+pub takes : (names : Vocabulary) (before : Before) (token : Token) (rest : List Token) (at : ℕ)
+    → StandsHere names before rest token → IsNamed names token
     → Takes (word_of names token) at (printed names token ++ text_of names rest)
     (text_of names rest)
-takes names (Name i) rest at stands is =
-    takes_name (name_text names i) (text_of names rest) at is stands
-takes names (Number n) rest at stands is =
+takes names before (Name i) rest at stands is =
+    takes_name (name_text names.names i) (text_of names rest) at is stands.0
+takes names before (EventName i) rest at stands is =
+    takes_name (name_text names.events i) (text_of names rest) at is stands.0
+takes names before (Number n) rest at stands is =
     takes_number n (text_of names rest) at stands.0 stands.1
-takes names Eps rest at stands is = kept 101 (codes "ps") _ at refl refl stands
-takes names Rise rest at stands is = kept 114 (codes "ise") _ at refl refl stands
-takes names Fall rest at stands is = kept 102 (codes "all") _ at refl refl stands
-takes names Inf rest at stands is = kept 105 (codes "nf") _ at refl refl stands
-takes names True rest at stands is = kept 116 (codes "rue") _ at refl refl stands
-takes names Event rest at stands is = kept 101 (codes "vent") _ at refl refl stands
-takes names Bar rest at stands is = (at + 1, at + 1 + 1 + 1, refl)
-takes names DoubleBar rest at stands is = (at + 1, at + 1 + 1 + 1 + 1, refl)
-takes names Ampersand rest at stands is = (at + 1, at + 1 + 1 + 1, refl)
-takes names DoubleAmpersand rest at stands is = (at + 1, at + 1 + 1 + 1 + 1, refl)
-takes names Percent rest at stands is = (at + 1, at + 1 + 1 + 1, refl)
-takes names Begins rest at stands is = (at, at + 1 + 1, refl)
-takes names Ends rest at stands is = (at, at + 1 + 1, refl)
-takes names EndOfText rest at stands is = absurd stands
-takes names mark rest at stands is = (at, at + 1, refl)
+takes names before Eps rest at stands is = kept 101 (codes "ps") _ at refl refl stands
+takes names before Rise rest at stands is = kept 114 (codes "ise") _ at refl refl stands
+takes names before Fall rest at stands is = kept 102 (codes "all") _ at refl refl stands
+takes names before Inf rest at stands is = kept 105 (codes "nf") _ at refl refl stands
+takes names before True rest at stands is = kept 116 (codes "rue") _ at refl refl stands
+takes names before Event rest at stands is = kept 101 (codes "vent") _ at refl refl stands
+takes names before Bar rest at stands is = (at + 1, at + 1 + 1 + 1, refl)
+takes names before DoubleBar rest at stands is = (at + 1, at + 1 + 1 + 1 + 1, refl)
+takes names before Ampersand rest at stands is = (at + 1, at + 1 + 1 + 1, refl)
+takes names before DoubleAmpersand rest at stands is = (at + 1, at + 1 + 1 + 1 + 1, refl)
+takes names before Percent rest at stands is = (at + 1, at + 1 + 1 + 1, refl)
+takes names before Begins rest at stands is = (at, at + 1 + 1, refl)
+takes names before Ends rest at stands is = (at, at + 1 + 1, refl)
+takes names before EndOfText rest at stands is = absurd stands
+takes names before mark rest at stands is = (at, at + 1, refl)
 
 -- ---- numbers by first use
 
@@ -240,13 +249,6 @@ seen_grows (i ∷ rest) seen m e = ⊎_elim (λ old. seen_grows rest seen m old.
 -- ---- the numbers that a text gives its names
 
 module _ (names : List (List ℕ)) (list : IsNameList names) where
-  -- What is read of the tokens, where so many names are known.
-  pub record AreRead (known : List (List ℕ)) (tokens : List Token) (raw : RawTokens) : Type 0 where
-    pub tokens_same : tokens_from known raw.raw_tokens ≡ tokens
-    pub names_same : names_from known raw.raw_tokens ≡ names
-    pub few : past_from known raw.raw_tokens ≡ None
-    pub good : raw.bad ≡ None
-
   bytes_of : (i : ℕ) → name_text names i ≡ get_or names i []
   bytes_of i = unwrap_or-slice_get names i []
 
@@ -282,39 +284,6 @@ module _ (names : List (List ℕ)) (list : IsNameList names) where
       placed i k (omega (arith, before)) (omega (arith, before, fits)) fits
       ∙ ap (λ b. cond b (Some i) None) inside
 
-  -- A token that is no name.
-  sign_read : (known : List (List ℕ)) (token : Token) (rest : List Token) (there : ℕ)
-      (raw : RawTokens) → AreRead known rest raw
-      → AreRead known (token ∷ rest) (with_raw_token there (sign token) raw)
-  sign_read known token rest there raw more =
-      let same = ap (λ ts. token ∷ ts) more.tokens_same in
-      record { tokens_same = same; names_same = more.names_same; few = more.few; good = more.good }
-
-  -- A name, and the rest with the names that are known then.
-  name_read : (i k next at : ℕ) (rest : List Token) → i < next → next ≤ length names
-      → names_with (take k names) (name_text names i) ≡ take next names
-      → Stand names (Name i ∷ rest)
-      → ((at : ℕ) → AreRead (take next names) rest (raw_tokens_from 0 at (text_of names rest)))
-      → AreRead (take k names) (Name i ∷ rest)
-      (raw_tokens_from 0 at (text_of names (Name i ∷ rest)))
-  name_read i k next at rest before fits known stand more =
-      let bytes = name_text names i in
-      let now = names_with (take k names) bytes in
-      let read = takes names (Name i) rest at stand.0 (name_at i (omega (arith, before, fits))) in
-      let raw = raw_tokens_from 0 read.1 (text_of names rest) in
-      let place : place_of now bytes ≡ Some i =
-      ap (λ l. place_of l bytes) known ∙ held i next before fits in
-      let after : AreRead now rest raw =
-      subst (λ l. AreRead l rest raw) (sym known) (more read.1) in
-      subst (AreRead (take k names) (Name i ∷ rest)) (sym read.2) (record {
-        tokens_same = ap (λ (o : Option ℕ). Name (unwrap_or o 64)
-            ∷ tokens_from now raw.raw_tokens) place ∙ ap (λ ts. Name i ∷ ts) after.tokens_same;
-        names_same = after.names_same;
-        few = ap (λ (o : Option ℕ). if is_none o then Some read.0
-            else past_from now raw.raw_tokens) place ∙ after.few;
-        good = after.good;
-      })
-
   -- a name that was read already
   known_old : (i k : ℕ) → i < k → k ≤ length names
       → names_with (take k names) (name_text names i) ≡ take k names
@@ -340,26 +309,145 @@ module _ (names : List (List ℕ)) (list : IsNameList names) where
       ∙ ap (λ b. take k names ++ b ∷ []) (bytes_of k)
       ∙ sym (ap (λ n. take n names) more ∙ take-suc names k [] below)
 
-  pub all_read : (tokens : List Token) (k at : ℕ) → Stand names tokens → k ≤ length names
-      → seen_after k (numbers_in tokens) ≡ Some (length names)
-      → AreRead (take k names) tokens (raw_tokens_from 0 at (text_of names tokens))
-  all_read [] k at stand within e =
-      let same : k ≡ length names = cc in
-      let all = take_all k names (omega (arith, same)) in
-      record { tokens_same = refl; names_same = all; few = refl; good = refl }
-  all_read (Name i ∷ rest) k at stand within e = ⊎_elim
-      (λ old. name_read i k k at rest old.0 within (known_old i k old.0 within) stand
-      (λ at. all_read rest k at stand.1 within old.1))
+  -- One number that was read in order: with its name so many are known, and the rest is in order.
+  record IsNext (k i : ℕ) (rest : List ℕ) : Type 0 where
+    next : ℕ
+    fits : next ≤ length names
+    before : i < next
+    known : names_with (take k names) (name_text names i) ≡ take next names
+    left : seen_after next rest ≡ Some (length names)
+
+  next_of : (k i : ℕ) (rest : List ℕ) → k ≤ length names
+      → seen_after k (i ∷ rest) ≡ Some (length names) → IsNext k i rest
+  next_of k i rest within e = ⊎_elim
+      (λ old. record {
+        next = k;
+        fits = within;
+        before = old.0;
+        known = known_old i k old.0 within;
+        left = old.1;
+      })
       (λ new.
-      let more = seen_grows (numbers_in rest) (k + 1) (length names) new.1 in
-      subst (λ j. names_with (take k names) (name_text names j) ≡ take (k + 1) names
-      → AreRead (take k names) (Name i ∷ rest)
-      (raw_tokens_from 0 at (text_of names (Name i ∷ rest)))) new.0
-      (λ known. name_read i k (k + 1) at rest (omega (arith, new.0)) more known stand
-      (λ at. all_read rest (k + 1) at stand.1 more new.1)) (known_new k (omega (arith, more))))
-      (first_number k i (numbers_in rest) (length names) e)
-  all_read (token ∷ rest) k at stand within e =
-      let read = takes names token rest at stand.0 tt in
-      subst (AreRead (take k names) (token ∷ rest)) (sym read.2)
-      (sign_read (take k names) token rest read.0 _
-      (all_read rest k read.1 stand.1 within e))
+      let more = seen_grows rest (k + 1) (length names) new.1 in
+      let first = new.0 in
+      record {
+        next = k + 1;
+        fits = more;
+        before = omega (arith, first);
+        known = subst (λ j. names_with (take k names) (name_text names j) ≡ take (k + 1) names)
+            (sym first) (known_new k (omega (arith, more)));
+        left = new.1;
+      })
+      (first_number k i rest (length names) e)
+
+-- What is read of the tokens, where so much is known.
+pub record AreRead (names : Vocabulary) (known : Known) (tokens : List Token) (raw : RawTokens)
+    : Type 0 where
+  pub tokens_same : tokens_from known raw.raw_tokens ≡ tokens
+  pub names_same : names_from known raw.raw_tokens ≡ names
+  pub few : past_from known raw.raw_tokens ≡ None
+  pub good : raw.bad ≡ None
+
+-- A word whose token is this one, and behind which this much is known.
+record IsWordOf (known next : Known) (token : Token) (word : RawToken) : Type 0 where
+  token_same : token_of known word ≡ token
+  next_same : known_after known word ≡ next
+  few : is_past known word ≡ false
+
+-- A name in its place, of this kind.
+named_word : (kind : NameKind) (known : Known) (bytes : List ℕ) (i : ℕ) (after : Vocabulary)
+    → kind_behind known.before ≡ kind → number_of kind known bytes ≡ Some i
+    → vocabulary_with kind known.vocabulary bytes ≡ after
+    → IsWordOf known (record { vocabulary = after; before = Other }) (numbered kind i) (name bytes)
+named_word kind known bytes i after is place vocabulary = record {
+  token_same = ap (λ (c : NameKind). numbered c (unwrap_or (number_of c known bytes) 64)) is
+      ∙ ap (λ (o : Option ℕ). numbered kind (unwrap_or o 64)) place;
+  next_same = ap (λ (c : NameKind). record {
+    vocabulary = vocabulary_with c known.vocabulary bytes;
+    before = Other;
+  }) is ∙ ap (λ (v : Vocabulary). record { vocabulary = v; before = Other }) vocabulary;
+  few = ap (λ (c : NameKind). is_none (number_of c known bytes)) is ∙ ap is_none place;
+}
+
+module _ (names : Vocabulary) (list : IsNameList names.names) (events : IsNameList names.events)
+    where
+  -- A token by its word, and then the rest.
+  word_read : (known next : Known) (token : Token) (word : RawToken) (rest : List Token)
+      (there : ℕ) (raw : RawTokens) → IsWordOf known next token word → AreRead names next rest raw
+      → AreRead names known (token ∷ rest) (with_raw_token there word raw)
+  word_read known next token word rest there raw is more =
+      let after : AreRead names (known_after known word) rest raw =
+      subst (λ (k : Known). AreRead names k rest raw) (sym is.next_same) more in
+      record {
+        tokens_same = ap (λ t. t ∷ tokens_from (known_after known word) raw.raw_tokens)
+            is.token_same ∙ ap (λ ts. token ∷ ts) after.tokens_same;
+        names_same = after.names_same;
+        few = ap (λ b. if b then Some there
+            else past_from (known_after known word) raw.raw_tokens) is.few ∙ after.few;
+        good = after.good;
+      }
+
+  -- The first names of each kind are known.
+  abbrev first_known : ℕ → ℕ → Before → Known
+  first_known k m before = record {
+    vocabulary = record { names = take k names.names; events = take m names.events };
+    before = before;
+  }
+
+  pub all_read : (tokens : List Token) (k m : ℕ) (before : Before) (at : ℕ)
+      → StandFrom names before tokens → k ≤ length names.names → m ≤ length names.events
+      → seen_after k (numbers_in Proposition tokens) ≡ Some (length names.names)
+      → seen_after m (numbers_in EventKind tokens) ≡ Some (length names.events)
+      → AreRead names (first_known k m before) tokens
+      (raw_tokens_from 0 at (text_of names tokens))
+  all_read [] k m before at stand within fits e f =
+      let same : k ≡ length names.names = cc in
+      let same_events : m ≡ length names.events = cc in
+      let all = take_all k names.names (omega (arith, same)) in
+      let all_events = take_all m names.events (omega (arith, same_events)) in
+      record {
+        tokens_same = refl;
+        names_same = ap (λ l. record { names = l; events = take m names.events }) all
+            ∙ ap (λ l. record { names = names.names; events = l }) all_events;
+        few = refl;
+        good = refl;
+      }
+  all_read (Name i ∷ rest) k m before at stand within fits e f =
+      let more = next_of names.names list k i (numbers_in Proposition rest) within e in
+      let bytes = name_text names.names i in
+      let is = name_at names.names list i (omega (arith, more.before, more.fits)) in
+      let read = takes names before (Name i) rest at stand.0 is in
+      let known = first_known k m before in
+      let place : number_of Proposition known bytes ≡ Some i =
+      ap (λ l. place_of l bytes) more.known
+      ∙ held names.names list i more.next more.before more.fits in
+      let word = named_word Proposition known bytes i
+      (record { names = take more.next names.names; events = take m names.events }) stand.0.1 place
+      (ap (λ l. record { names = l; events = take m names.events }) more.known) in
+      subst (AreRead names known (Name i ∷ rest)) (sym read.2)
+      (word_read known (first_known more.next m Other) (Name i) (name bytes) rest read.0 _ word
+      (all_read rest more.next m Other read.1 stand.1 more.fits fits more.left f))
+  all_read (EventName i ∷ rest) k m before at stand within fits e f =
+      let more = next_of names.events events m i (numbers_in EventKind rest) fits f in
+      let bytes = name_text names.events i in
+      let is = name_at names.events events i (omega (arith, more.before, more.fits)) in
+      let read = takes names before (EventName i) rest at stand.0 is in
+      let known = first_known k m before in
+      let place : number_of EventKind known bytes ≡ Some i =
+      ap (λ l. place_of l bytes) more.known
+      ∙ held names.events events i more.next more.before more.fits in
+      let word = named_word EventKind known bytes i
+      (record { names = take k names.names; events = take more.next names.events }) stand.0.1 place
+      (ap (λ l. record { names = take k names.names; events = l }) more.known) in
+      subst (AreRead names known (EventName i ∷ rest)) (sym read.2)
+      (word_read known (first_known k more.next Other) (EventName i) (name bytes) rest read.0 _ word
+      (all_read rest k more.next Other read.1 stand.1 within more.fits e more.left))
+  all_read (token ∷ rest) k m before at stand within fits e f =
+      let read = takes names before token rest at stand.0 tt in
+      let known = first_known k m before in
+      let word : IsWordOf known (first_known k m (before_sign before token)) token (sign token) =
+      record { token_same = refl; next_same = refl; few = refl } in
+      subst (AreRead names known (token ∷ rest)) (sym read.2)
+      (word_read known (first_known k m (before_sign before token)) token (sign token) rest read.0
+      _ word
+      (all_read rest k m (before_sign before token) read.1 stand.1 within fits e f))

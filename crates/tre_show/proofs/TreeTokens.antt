@@ -7,15 +7,21 @@ use Rattle.std.proofs.lemmas.Grind.{flat_map-append}
 use Rattle.tre_state.specs.Name.{continues_name}
 use Rattle.tre_state.specs.StateTree as state
 use Rattle.tre_state.specs.StateTree.{StateTree, always, proposition, negation, conjunction, disjunction}
+use Rattle.tre_trace.specs.Reading.{Vocabulary}
 use Rattle.tre_zone.specs.Interval.{IntervalEnds, IsInterval, HasNoDuration, kept_weak}
-use Rattle.tre_syntax.specs.PatternTree.{Atom, empty, literal, rise, fall, PatternTree, atom, sequence, alternation, intersection, repetition, restriction, numbers_of, numbers_of_atom}
+use Rattle.tre_syntax.specs.declared.name_kind.NameKind.{NameKind}
+use Rattle.tre_syntax.specs.declared.name_kind.NameKind.TheVariants.{Proposition, Event as EventKind}
+use Rattle.tre_syntax.specs.PatternTree.{Atom, empty, literal, rise, fall, event, PatternTree, atom, sequence, alternation, intersection, repetition, restriction, numbers_of, numbers_of_atom, numbers_of_state}
 use Rattle.tre_parse.specs.declared.token.Token.{Token}
-use Rattle.tre_parse.specs.declared.token.Token.TheVariants.{Name, Number, LeftParen, RightParen, LeftBracket, RightBracket, LeftBrace, RightBrace, Comma, Semicolon, Bar, DoubleBar, Ampersand, DoubleAmpersand, Bang, Star, Plus, Question, Percent, Begins, Ends, Eps, Rise, Fall, Inf, True, Event, EndOfText}
+use Rattle.tre_parse.specs.declared.token.Token.TheVariants.{Name, EventName, Number, LeftParen, RightParen, LeftBracket, RightBracket, LeftBrace, RightBrace, Comma, Semicolon, Bar, DoubleBar, Ampersand, DoubleAmpersand, Bang, Star, Plus, Question, Percent, Begins, Ends, Eps, Rise, Fall, Inf, True, Event, EndOfText}
 use Rattle.tre_parse.specs.declared.sign.TheConstants.{LEFT_PAREN, RIGHT_PAREN, LEFT_BRACKET, RIGHT_BRACKET, LEFT_BRACE, RIGHT_BRACE, COMMA, SEMICOLON, BAR, DOUBLE_BAR, AMPERSAND, DOUBLE_AMPERSAND, BANG, STAR, PLUS, QUESTION, PERCENT, BEGINS, ENDS}
 use Rattle.tre_parse.specs.Grammar.{StateRule, SpellsState, lit, state as any_state, conj, neg, lit_name, lit_true, lit_braces, lit_bang, state_conj, state_bars, conj_neg, conj_ampersands, neg_name, neg_true, neg_parens, neg_bang}
 use Rattle.tre_parse.specs.Grammar.{opening, closing, SpellsInterval, with_high, without_high}
-use Rattle.tre_parse.specs.Grammar.{Rule, Spells, expr, meet, seq, post, primary, expr_meet, expr_bar, meet_seq, meet_ampersand, seq_post, seq_semicolon, post_primary, post_star, post_percent, primary_eps, primary_parens, primary_rise, primary_fall, primary_lit}
-use Rattle.tre_parse.specs.Numbering.{numbers_in}
+use Rattle.tre_parse.specs.Grammar.{Rule, Spells, expr, meet, seq, post, primary, expr_meet, expr_bar, meet_seq, meet_ampersand, seq_post, seq_semicolon, post_primary, post_star, post_percent, primary_eps, primary_parens, primary_rise, primary_fall, primary_event, primary_lit}
+use Rattle.tre_parse.specs.declared.known.Before.{Before}
+use Rattle.tre_parse.specs.declared.known.Before.TheVariants.{Other}
+use Rattle.tre_parse.specs.Numbering.{numbers_at, numbers_in}
+use Rattle.tre_parse.specs.Tokens.{kind_behind, before_sign}
 use Rattle.tre_show.specs.Interval.{number_text, lower_text, end_text, interval_text}
 use Rattle.tre_show.specs.Intervals.{HasIntervals}
 use Rattle.tre_show.specs.StateText.{in_parens, name_text, state_operand_text, state_text, literal_text}
@@ -25,8 +31,9 @@ use Rattle.tre_show.specs.PatternText.{atom_text, operand_text}
 
 -- What is printed of a token: a sign or a word, some of them between blanks, the bytes of a name,
 -- or digits.
-abbrev pub printed : List (List ℕ) → Token → List ℕ
-printed names (Name i) = name_text names i
+abbrev pub printed : Vocabulary → Token → List ℕ
+printed names (Name i) = name_text names.names i
+printed names (EventName i) = name_text names.events i
 printed names (Number n) = number_text n
 printed names LeftParen = LEFT_PAREN.now
 printed names RightParen = RIGHT_PAREN.now
@@ -55,7 +62,7 @@ printed names True = codes "true"
 printed names Event = codes "event"
 printed names EndOfText = []
 
-abbrev pub text_of : List (List ℕ) → List Token → List ℕ
+abbrev pub text_of : Vocabulary → List Token → List ℕ
 text_of names tokens = flat_map (printed names) tokens
 
 -- The text doesn't go on with a word or a number.
@@ -68,24 +75,31 @@ abbrev pub BeginsWell : List Token → Type 0
 BeginsWell rest = (body left : List Token) (ends : IntervalEnds) → rest ≡ body ++ left
     → SpellsInterval body ends → HasNoDuration ends → ⊥
 
--- The token can stand before the rest: a word or a number isn't gone on with, a number isn't above
--- the latest time, and behind `%` stands no empty interval.
-abbrev pub StandsBefore : List (List ℕ) → List Token → Token → Type 0
-StandsBefore names rest (Name i) = IsCut (text_of names rest)
-StandsBefore names rest (Number n) = (n ≤ 2 ^ 40) × IsCut (text_of names rest)
-StandsBefore names rest Eps = IsCut (text_of names rest)
-StandsBefore names rest Rise = IsCut (text_of names rest)
-StandsBefore names rest Fall = IsCut (text_of names rest)
-StandsBefore names rest Inf = IsCut (text_of names rest)
-StandsBefore names rest True = IsCut (text_of names rest)
-StandsBefore names rest Event = IsCut (text_of names rest)
-StandsBefore names rest Percent = BeginsWell rest
-StandsBefore names rest EndOfText = ⊥
-StandsBefore names rest _ = Unit {0}
+-- The token can stand here: a word or a number isn't gone on with, a number isn't above the latest
+-- time, behind `%` stands no empty interval, and a name is an event's just behind `event(`.
+abbrev pub StandsHere : Vocabulary → Before → List Token → Token → Type 0
+StandsHere names before rest (Name i) =
+    IsCut (text_of names rest) × (kind_behind before ≡ Proposition)
+StandsHere names before rest (EventName i) =
+    IsCut (text_of names rest) × (kind_behind before ≡ EventKind)
+StandsHere names before rest (Number n) = (n ≤ 2 ^ 40) × IsCut (text_of names rest)
+StandsHere names before rest Eps = IsCut (text_of names rest)
+StandsHere names before rest Rise = IsCut (text_of names rest)
+StandsHere names before rest Fall = IsCut (text_of names rest)
+StandsHere names before rest Inf = IsCut (text_of names rest)
+StandsHere names before rest True = IsCut (text_of names rest)
+StandsHere names before rest Event = IsCut (text_of names rest)
+StandsHere names before rest Percent = BeginsWell rest
+StandsHere names before rest EndOfText = ⊥
+StandsHere names before rest _ = Unit {0}
 
-abbrev pub Stand : List (List ℕ) → List Token → Type 0
-Stand names [] = Unit {0}
-Stand names (token ∷ rest) = StandsBefore names rest token × Stand names rest
+abbrev pub StandFrom : Vocabulary → Before → List Token → Type 0
+StandFrom names before [] = Unit {0}
+StandFrom names before (token ∷ rest) =
+    StandsHere names before rest token × StandFrom names (before_sign before token) rest
+
+abbrev pub Stand : Vocabulary → List Token → Type 0
+Stand names tokens = StandFrom names Other tokens
 
 -- ---- intervals
 
@@ -140,22 +154,71 @@ begins_well ends more is = λ body left others e spelt none.
 
 -- ---- what tokens say
 
-numbers_join : (xs ys : List Token) → numbers_in (xs ++ ys) ≡ numbers_in xs ++ numbers_in ys
-numbers_join [] ys = refl
-numbers_join (Name i ∷ xs) ys = ap (λ l. i ∷ l) (numbers_join xs ys)
-numbers_join (_ ∷ xs) ys = numbers_join xs ys
+numbers_join : (kind : NameKind) (xs ys : List Token)
+    → numbers_in kind (xs ++ ys) ≡ numbers_in kind xs ++ numbers_in kind ys
+numbers_join kind [] ys = refl
+numbers_join kind (x ∷ xs) ys =
+    ap (λ l. numbers_at x kind ++ l) (numbers_join kind xs ys)
+    ∙ sym (append_assoc (numbers_at x kind) (numbers_in kind xs) (numbers_in kind ys))
+
+-- Numbers of names, of each kind.
+abbrev Numbers : Type 0
+Numbers = NameKind → List ℕ
+
+abbrev no_numbers : Numbers
+no_numbers kind = []
+
+abbrev joined_numbers : Numbers → Numbers → Numbers
+joined_numbers numbers others kind = numbers kind ++ others kind
+
+-- Those of a state, and what they are by its form.
+abbrev numbers_at_state : StateTree → Numbers
+numbers_at_state s kind = numbers_of_state kind s
+
+none_at_always : (kind : NameKind) → [] ≡ numbers_of_state kind always
+none_at_always Proposition = refl
+none_at_always EventKind = refl
+
+one_at_proposition : (i : ℕ) (kind : NameKind)
+    → numbers_in kind (Name i ∷ []) ≡ numbers_of_state kind (proposition i)
+one_at_proposition i Proposition = refl
+one_at_proposition i EventKind = refl
+
+those_of_negated : (s : StateTree) (kind : NameKind)
+    → numbers_of_state kind s ≡ numbers_of_state kind (negation s)
+those_of_negated s Proposition = refl
+those_of_negated s EventKind = refl
+
+those_of_both : (s t : StateTree) (kind : NameKind)
+    → numbers_of_state kind s ++ numbers_of_state kind t
+    ≡ numbers_of_state kind (conjunction s t)
+those_of_both s t Proposition = refl
+those_of_both s t EventKind = refl
+
+those_of_either : (s t : StateTree) (kind : NameKind)
+    → numbers_of_state kind s ++ numbers_of_state kind t
+    ≡ numbers_of_state kind (disjunction s t)
+those_of_either s t Proposition = refl
+those_of_either s t EventKind = refl
+
+one_at_event : (i : ℕ) (kind : NameKind)
+    → numbers_in kind (Event ∷ LeftParen ∷ EventName i ∷ RightParen ∷ [])
+    ≡ numbers_of_atom kind (event i)
+one_at_event i Proposition = refl
+one_at_event i EventKind = refl
 
 -- The tokens have this text and these numbers of names, and stand as they can before any that go on
 -- with no word.
-pub record Say (names : List (List ℕ)) (tokens : List Token) (text numbers : List ℕ) : Type 0 where
+pub record Say (names : Vocabulary) (tokens : List Token) (text : List ℕ) (numbers : Numbers)
+    : Type 0 where
   pub text_same : text_of names tokens ≡ text
-  pub numbers_same : numbers_in tokens ≡ numbers
+  pub numbers_same : (kind : NameKind) → numbers_in kind tokens ≡ numbers kind
   pub stand : (more : List Token) → IsCut (text_of names more) → Stand names more
       → Stand names (tokens ++ more)
 
 -- Some tokens that are of this kind say the text.
-pub record Prints (names : List (List ℕ)) (Spelt : List Token → Type 0) (text numbers : List ℕ)
-    : Type 0 where
+pub record Prints (names : Vocabulary) (Spelt : List Token → Type 0) (text : List ℕ)
+    (numbers : Numbers) : Type 0 where
   pub tokens : List Token
   pub spells : Spelt tokens
   pub says : Say names tokens text numbers
@@ -212,82 +275,101 @@ looser e (suc (suc (suc k))) xs h = h
 tight : (e : PatternTree) (k : ℕ) (xs : List Token) → Spells post xs e → TreeSpelt e k xs
 tight e k xs h = down (TreeSpelt e) (looser e) 3 k xs h
 
-module _ (names : List (List ℕ)) where
-  prints : {Spelt : List Token → Type 0} {text numbers : List ℕ} (tokens : List Token)
-      → Spelt tokens → Say names tokens text numbers → Prints names Spelt text numbers
+module _ (names : Vocabulary) where
+  prints : {Spelt : List Token → Type 0} {text : List ℕ} {numbers : Numbers}
+      (tokens : List Token) → Spelt tokens → Say names tokens text numbers
+      → Prints names Spelt text numbers
   prints tokens spells says = record { tokens = tokens; spells = spells; says = says }
 
-  -- A token by itself.
-  one : (token : Token)
-      → ((more : List Token) → IsCut (text_of names more) → StandsBefore names more token)
-      → Say names (token ∷ []) (printed names token) (numbers_in (token ∷ []))
-  one token stands = record {
-    text_same = append-nil (printed names token);
-    numbers_same = refl;
-    stand = λ more cut rest. (stands more cut, rest);
+  -- The same numbers in another form.
+  renumbered : {tokens : List Token} {text : List ℕ} {numbers others : Numbers}
+      → ((kind : NameKind) → numbers kind ≡ others kind) → Say names tokens text numbers
+      → Say names tokens text others
+  renumbered same is = record {
+    text_same = is.text_same;
+    numbers_same = λ kind. is.numbers_same kind ∙ same kind;
+    stand = is.stand;
   }
 
-  nothing : Say names [] [] []
-  nothing = record { text_same = refl; numbers_same = refl; stand = λ more cut rest. rest }
+  reprinted : {Spelt : List Token → Type 0} {text : List ℕ} {numbers others : Numbers}
+      → ((kind : NameKind) → numbers kind ≡ others kind) → Prints names Spelt text numbers
+      → Prints names Spelt text others
+  reprinted same is = prints _ is.spells (renumbered same is.says)
+
+  -- A token by itself.
+  one : (token : Token) → ((more : List Token) → IsCut (text_of names more) → Stand names more
+      → Stand names (token ∷ more))
+      → Say names (token ∷ []) (printed names token) (λ kind. numbers_in kind (token ∷ []))
+  one token stands = record {
+    text_same = append-nil (printed names token);
+    numbers_same = λ kind. refl;
+    stand = stands;
+  }
+
+  nothing : Say names [] [] no_numbers
+  nothing =
+      record { text_same = refl; numbers_same = λ kind. refl; stand = λ more cut rest. rest }
 
   -- Two lists of tokens with a sign between them.
-  between : (mark : Token) (xs ys : List Token) {text other numbers others : List ℕ}
-      → ((rest : List Token) → numbers_in (mark ∷ rest) ≡ numbers_in rest)
+  between : (mark : Token) (xs ys : List Token) {text other : List ℕ} {numbers others : Numbers}
+      → ((kind : NameKind) → numbers_at mark kind ≡ [])
       → ((rest : List ℕ) → IsCut (printed names mark ++ rest))
-      → ((more : List Token) → StandsBefore names (ys ++ more) mark) → Say names xs text numbers
-      → Say names ys other others
-      → Say names (xs ++ mark ∷ ys) (text ++ printed names mark ++ other) (numbers ++ others)
+      → ((more : List Token) → Stand names (ys ++ more) → Stand names (mark ∷ (ys ++ more)))
+      → Say names xs text numbers → Say names ys other others
+      → Say names (xs ++ mark ∷ ys) (text ++ printed names mark ++ other)
+      (joined_numbers numbers others)
   between mark xs ys {text} {other} {numbers} {others} none cut stands is its = record {
     text_same = flat_map-append (printed names) xs (mark ∷ ys)
         ∙ ap (λ t. t ++ (printed names mark ++ text_of names ys)) is.text_same
         ∙ ap (λ t. text ++ (printed names mark ++ t)) its.text_same
         ∙ sym (append_assoc text (printed names mark) other);
-    numbers_same = numbers_join xs (mark ∷ ys)
-        ∙ ap (λ l. l ++ numbers_in (mark ∷ ys)) is.numbers_same
-        ∙ ap (λ l. numbers ++ l) (none ys ∙ its.numbers_same);
+    numbers_same = λ kind. numbers_join kind xs (mark ∷ ys)
+        ∙ ap (λ l. l ++ numbers_in kind (mark ∷ ys)) (is.numbers_same kind)
+        ∙ ap (λ l. numbers kind ++ (l ++ numbers_in kind ys)) (none kind)
+        ∙ ap (λ l. numbers kind ++ l) (its.numbers_same kind);
     stand = λ more ends rest.
         subst (Stand names) (sym (append_assoc xs (mark ∷ ys) more))
         (is.stand (mark ∷ (ys ++ more)) (cut (text_of names (ys ++ more)))
-        (stands more, its.stand more ends rest));
+        (stands more (its.stand more ends rest)));
   }
 
   -- Tokens with a sign behind them.
-  behind : (mark : Token) (xs : List Token) {text numbers : List ℕ}
-      → ((rest : List Token) → numbers_in (mark ∷ rest) ≡ numbers_in rest)
+  behind : (mark : Token) (xs : List Token) {text : List ℕ} {numbers : Numbers}
+      → ((kind : NameKind) → numbers_at mark kind ≡ [])
       → ((rest : List ℕ) → IsCut (printed names mark ++ rest))
-      → ((more : List Token) → StandsBefore names more mark) → Say names xs text numbers
-      → Say names (xs ++ mark ∷ []) (text ++ printed names mark) numbers
+      → ((more : List Token) → Stand names more → Stand names (mark ∷ more))
+      → Say names xs text numbers → Say names (xs ++ mark ∷ []) (text ++ printed names mark) numbers
   behind mark xs {text} {numbers} none cut stands is =
-      subst (Say names (xs ++ mark ∷ []) (text ++ printed names mark)) (append-nil numbers)
-      (subst (λ t. Say names (xs ++ mark ∷ []) t (numbers ++ []))
-      (append-nil (text ++ printed names mark)) (between mark xs [] none cut stands is nothing))
+      subst (λ t. Say names (xs ++ mark ∷ []) t numbers) (append-nil (text ++ printed names mark))
+      (renumbered (λ kind. append-nil (numbers kind)) (between mark xs [] none cut stands is nothing))
 
   -- Two that are printed with a sign between them, which together are of this kind.
-  both : (mark : Token) {One Other Spelt : List Token → Type 0} {text other numbers others : List ℕ}
-      → ((rest : List Token) → numbers_in (mark ∷ rest) ≡ numbers_in rest)
+  both : (mark : Token) {One Other Spelt : List Token → Type 0} {text other : List ℕ}
+      {numbers others : Numbers}
+      → ((kind : NameKind) → numbers_at mark kind ≡ [])
       → ((rest : List ℕ) → IsCut (printed names mark ++ rest))
-      → ((rest : List Token) → StandsBefore names rest mark)
+      → ((rest : List Token) → Stand names rest → Stand names (mark ∷ rest))
       → ((xs ys : List Token) → One xs → Other ys → Spelt (xs ++ mark ∷ ys))
       → Prints names One text numbers → Prints names Other other others
-      → Prints names Spelt (text ++ printed names mark ++ other) (numbers ++ others)
+      → Prints names Spelt (text ++ printed names mark ++ other) (joined_numbers numbers others)
   both mark none cut stands joined is its =
       prints _ (joined is.tokens its.tokens is.spells its.spells)
       (between mark is.tokens its.tokens none cut (λ more. stands (its.tokens ++ more)) is.says
       its.says)
 
   -- A word, and tokens in parentheses.
-  edge_says : {words xs : List Token} {word text numbers : List ℕ} → Say names words word []
-      → Say names xs text numbers
+  edge_says : {words xs : List Token} {word text : List ℕ} {numbers : Numbers}
+      → Say names words word no_numbers → Say names xs text numbers
       → Say names (words ++ (LeftParen ∷ (xs ++ RightParen ∷ [])))
       (word ++ codes "(" ++ (text ++ codes ")")) numbers
-  edge_says is its = between LeftParen _ _ (λ _. refl) (λ _. refl) (λ _. tt) is
-      (behind RightParen _ (λ _. refl) (λ _. refl) (λ _. tt) its)
+  edge_says is its = between LeftParen _ _ (λ _. refl) (λ _. refl) (λ _ rest. (tt, rest)) is
+      (behind RightParen _ (λ _. refl) (λ _. refl) (λ _ rest. (tt, rest)) its)
 
   -- An operand of another strength than is asked for, in parentheses where it binds less.
   bound : (Spelt : ℕ → List Token → Type 0)
       → ((k : ℕ) (xs : List Token) → Spelt (suc k) xs → Spelt k xs)
       → ((k : ℕ) (xs : List Token) → Spelt 0 xs → Spelt k (LeftParen ∷ xs ++ RightParen ∷ []))
-      → (k least : ℕ) {text numbers : List ℕ} → Prints names (Spelt k) text numbers
+      → (k least : ℕ) {text : List ℕ} {numbers : Numbers} → Prints names (Spelt k) text numbers
       → Prints names (Spelt least) (in_parens (nat_lt k least) text) numbers
   bound Spelt looser parens k least {text} {numbers} is = by (nat_lt k least) refl
     where
@@ -305,113 +387,139 @@ module _ (names : List (List ℕ)) where
           let within : least ≤ k = grind (arith, nat_tests) in
           prints _ (loosen least within) is.says
 
-  state_bound : (s : StateTree) (k least : ℕ) {text numbers : List ℕ}
+  state_bound : (s : StateTree) (k least : ℕ) {text : List ℕ} {numbers : Numbers}
       → Prints names (StateSpelt s k) text numbers
       → Prints names (StateSpelt s least) (in_parens (nat_lt k least) text) numbers
   state_bound s k least is = bound (StateSpelt s) (state_looser s)
       (λ k xs h. state_tight s k _ (neg_parens xs s h)) k least is
 
-  tree_bound : (e : PatternTree) (k least : ℕ) {text numbers : List ℕ}
+  tree_bound : (e : PatternTree) (k least : ℕ) {text : List ℕ} {numbers : Numbers}
       → Prints names (TreeSpelt e k) text numbers
       → Prints names (TreeSpelt e least) (in_parens (nat_lt k least) text) numbers
   tree_bound e k least is = bound (TreeSpelt e) (looser e)
       (λ k xs h. tight e k _ (post_primary _ e (primary_parens xs e h))) k least is
 
+  name_says : (i : ℕ)
+      → Say names (Name i ∷ []) (name_text names.names i) (numbers_at_state (proposition i))
+  name_says i =
+      renumbered (one_at_proposition i) (one (Name i) (λ more cut rest. ((cut, refl), rest)))
+
+  true_says : Say names (True ∷ []) (codes "true") (numbers_at_state always)
+  true_says = renumbered none_at_always (one True (λ more cut rest. (cut, rest)))
+
   state_prints : (s : StateTree) (least : ℕ)
-      → Prints names (StateSpelt s least) (state_operand_text least names s) (state.numbers_of s)
-  state_prints always least =
-      prints _ (state_tight always least _ neg_true) (one True (λ more cut. cut))
+      → Prints names (StateSpelt s least) (state_operand_text least names.names s)
+      (numbers_at_state s)
+  state_prints always least = prints _ (state_tight always least _ neg_true) true_says
   state_prints (proposition i) least =
-      prints _ (state_tight _ least _ (neg_name i)) (one (Name i) (λ more cut. cut))
+      prints _ (state_tight _ least _ (neg_name i)) (name_says i)
   state_prints (negation s) least =
       let is = state_prints s 2 in
       prints _ (state_tight _ least _ (neg_bang _ s is.spells))
-      (between Bang [] _ (λ _. refl) (λ _. refl) (λ _. tt) nothing is.says)
+      (renumbered (those_of_negated s)
+      (between Bang [] _ (λ _. refl) (λ _. refl) (λ _ rest. (tt, rest)) nothing is.says))
   state_prints (conjunction s t) least =
-      state_bound (conjunction s t) 1 least (both DoubleAmpersand (λ _. refl) (λ _. refl) (λ _. tt)
-      (λ xs ys. conj_ampersands xs ys s t) (state_prints s 1) (state_prints t 2))
+      state_bound (conjunction s t) 1 least (reprinted (those_of_both s t) (both DoubleAmpersand
+      (λ _. refl) (λ _. refl) (λ _ rest. (tt, rest)) (λ xs ys. conj_ampersands xs ys s t)
+      (state_prints s 1) (state_prints t 2)))
   state_prints (disjunction s t) least =
-      state_bound (disjunction s t) 0 least (both DoubleBar (λ _. refl) (λ _. refl) (λ _. tt)
-      (λ xs ys. state_bars xs ys s t) (state_prints s 0) (state_prints t 1))
+      state_bound (disjunction s t) 0 least (reprinted (those_of_either s t) (both DoubleBar
+      (λ _. refl) (λ _. refl) (λ _ rest. (tt, rest)) (λ xs ys. state_bars xs ys s t)
+      (state_prints s 0) (state_prints t 1)))
 
   braces_print : (s : StateTree)
-      → Prints names (λ xs. SpellsState lit xs s) (codes "{" ++ state_text names s ++ codes "}")
-      (state.numbers_of s)
+      → Prints names (λ xs. SpellsState lit xs s)
+      (codes "{" ++ state_text names.names s ++ codes "}") (numbers_at_state s)
   braces_print s =
       let is = state_prints s 0 in
       prints _ (lit_braces _ s is.spells)
-      (between LeftBrace [] _ (λ _. refl) (λ _. refl) (λ _. tt) nothing
-      (behind RightBrace _ (λ _. refl) (λ _. refl) (λ _. tt) is.says))
+      (between LeftBrace [] _ (λ _. refl) (λ _. refl) (λ _ rest. (tt, rest)) nothing
+      (behind RightBrace _ (λ _. refl) (λ _. refl) (λ _ rest. (tt, rest)) is.says))
 
   literal_prints : (s : StateTree)
-      → Prints names (λ xs. SpellsState lit xs s) (literal_text names s) (state.numbers_of s)
-  literal_prints always = prints _ lit_true (one True (λ more cut. cut))
-  literal_prints (proposition i) = prints _ (lit_name i) (one (Name i) (λ more cut. cut))
+      → Prints names (λ xs. SpellsState lit xs s) (literal_text names.names s)
+      (numbers_at_state s)
+  literal_prints always = prints _ lit_true true_says
+  literal_prints (proposition i) = prints _ (lit_name i) (name_says i)
   literal_prints (negation s) =
       let is = literal_prints s in
       prints _ (lit_bang _ s is.spells)
-      (between Bang [] _ (λ _. refl) (λ _. refl) (λ _. tt) nothing is.says)
+      (renumbered (those_of_negated s)
+      (between Bang [] _ (λ _. refl) (λ _. refl) (λ _ rest. (tt, rest)) nothing is.says))
   literal_prints (conjunction s t) = braces_print (conjunction s t)
   literal_prints (disjunction s t) = braces_print (disjunction s t)
 
+  -- The name of an event in its place.
+  event_says : (i : ℕ)
+      → Say names (Event ∷ LeftParen ∷ EventName i ∷ RightParen ∷ []) (atom_text names (event i))
+      (λ kind. numbers_of_atom kind (event i))
+  event_says i = record {
+    text_same = refl;
+    numbers_same = one_at_event i;
+    stand = λ more cut rest. (refl, (tt, ((refl, refl), (tt, rest))));
+  }
+
   atom_prints : (x : Atom)
-      → Prints names (λ xs. Spells primary xs (atom x)) (atom_text names x) (numbers_of_atom x)
-  atom_prints empty = prints _ primary_eps (one Eps (λ more cut. cut))
+      → Prints names (λ xs. Spells primary xs (atom x)) (atom_text names x)
+      (λ kind. numbers_of_atom kind x)
+  atom_prints empty = prints _ primary_eps (one Eps (λ more cut rest. (cut, rest)))
   atom_prints (literal s) =
       let is = literal_prints s in prints _ (primary_lit _ s is.spells) is.says
   atom_prints (rise s) =
       let is = state_prints s 0 in
-      prints _ (primary_rise _ s is.spells) (edge_says (one Rise (λ more cut. cut)) is.says)
+      prints _ (primary_rise _ s is.spells)
+      (edge_says (one Rise (λ more cut rest. (cut, rest))) is.says)
   atom_prints (fall s) =
       let is = state_prints s 0 in
-      prints _ (primary_fall _ s is.spells) (edge_says (one Fall (λ more cut. cut)) is.says)
+      prints _ (primary_fall _ s is.spells)
+      (edge_says (one Fall (λ more cut rest. (cut, rest))) is.says)
+  atom_prints (event i) = prints _ (primary_event i) (event_says i)
 
-  number_says : (n : ℕ) → n ≤ 2 ^ 40 → Say names (Number n ∷ []) (number_text n) []
-  number_says n small = one (Number n) (λ more cut. (small, cut))
+  number_says : (n : ℕ) → n ≤ 2 ^ 40 → Say names (Number n ∷ []) (number_text n) no_numbers
+  number_says n small = one (Number n) (λ more cut rest. ((small, cut), rest))
 
   end_says : (high : Option ℕ) (weak : Bool) → MatchOption high (Unit {0}) (λ h. h ≤ 2 ^ 40)
-      → Say names (end_tokens high weak) (end_text high weak) []
+      → Say names (end_tokens high weak) (end_text high weak) no_numbers
   end_says None weak small =
-      behind RightParen _ (λ _. refl) (λ _. refl) (λ _. tt) (one Inf (λ more cut. cut))
+      behind RightParen _ (λ _. refl) (λ _. refl) (λ _ rest. (tt, rest)) (one Inf (λ more cut rest. (cut, rest)))
   end_says (Some high) true small =
-      behind RightBracket _ (λ _. refl) (λ _. refl) (λ _. tt) (number_says high small)
+      behind RightBracket _ (λ _. refl) (λ _. refl) (λ _ rest. (tt, rest)) (number_says high small)
   end_says (Some high) false small =
-      behind RightParen _ (λ _. refl) (λ _. refl) (λ _. tt) (number_says high small)
+      behind RightParen _ (λ _. refl) (λ _. refl) (λ _ rest. (tt, rest)) (number_says high small)
 
   interval_by : (low : ℕ) (weak : Bool) (xs : List Token) (text : List ℕ) → low ≤ 2 ^ 40
-      → Say names xs text []
-      → Say names (opening weak ∷ Number low ∷ Comma ∷ xs) (lower_text low weak ++ text) []
+      → Say names xs text no_numbers
+      → Say names (opening weak ∷ Number low ∷ Comma ∷ xs) (lower_text low weak ++ text) no_numbers
   interval_by low true xs text small end =
-      between LeftBracket [] _ (λ _. refl) (λ _. refl) (λ _. tt) nothing
-      (between Comma _ _ (λ _. refl) (λ _. refl) (λ _. tt) (number_says low small) end)
+      between LeftBracket [] _ (λ _. refl) (λ _. refl) (λ _ rest. (tt, rest)) nothing
+      (between Comma _ _ (λ _. refl) (λ _. refl) (λ _ rest. (tt, rest)) (number_says low small) end)
   interval_by low false xs text small end =
-      between LeftParen [] _ (λ _. refl) (λ _. refl) (λ _. tt) nothing
-      (between Comma _ _ (λ _. refl) (λ _. refl) (λ _. tt) (number_says low small) end)
+      between LeftParen [] _ (λ _. refl) (λ _. refl) (λ _ rest. (tt, rest)) nothing
+      (between Comma _ _ (λ _. refl) (λ _. refl) (λ _ rest. (tt, rest)) (number_says low small) end)
 
   pub tree_prints : (e : PatternTree) → HasIntervals e → (least : ℕ)
-      → Prints names (TreeSpelt e least) (operand_text least names e) (numbers_of e)
+      → Prints names (TreeSpelt e least) (operand_text least names e) (λ kind. numbers_of kind e)
   tree_prints (atom x) fine least =
       let is = atom_prints x in prints _ (tight _ least _ (post_primary _ _ is.spells)) is.says
   tree_prints (sequence e f) fine least =
-      tree_bound (sequence e f) 2 least (both Semicolon (λ _. refl) (λ _. refl) (λ _. tt)
+      tree_bound (sequence e f) 2 least (both Semicolon (λ _. refl) (λ _. refl) (λ _ rest. (tt, rest))
       (λ xs ys. seq_semicolon xs ys e f) (tree_prints e fine.0 2) (tree_prints f fine.1 3))
   tree_prints (intersection e f) fine least =
-      tree_bound (intersection e f) 1 least (both Ampersand (λ _. refl) (λ _. refl) (λ _. tt)
+      tree_bound (intersection e f) 1 least (both Ampersand (λ _. refl) (λ _. refl) (λ _ rest. (tt, rest))
       (λ xs ys. meet_ampersand xs ys e f) (tree_prints e fine.0 1) (tree_prints f fine.1 2))
   tree_prints (alternation e f) fine least =
-      tree_bound (alternation e f) 0 least (both Bar (λ _. refl) (λ _. refl) (λ _. tt)
+      tree_bound (alternation e f) 0 least (both Bar (λ _. refl) (λ _. refl) (λ _ rest. (tt, rest))
       (λ xs ys. expr_bar xs ys e f) (tree_prints e fine.0 0) (tree_prints f fine.1 1))
   tree_prints (repetition e) fine least =
       let is = tree_prints e fine 3 in
       prints _ (tight _ least _ (post_star _ e is.spells))
-      (behind Star _ (λ _. refl) (λ _. refl) (λ _. tt) is.says)
+      (behind Star _ (λ _. refl) (λ _. refl) (λ _ rest. (tt, rest)) is.says)
   tree_prints (restriction e ends) fine least =
       let is = tree_prints e fine.0 3 in
       let interval = interval_by ends.low ends.low_weak _ _ fine.1.within.low
       (end_says ends.high ends.high_weak fine.1.within.high) in
       prints _
       (tight _ least _ (post_percent _ _ e ends is.spells (interval_spelt ends fine.1)))
-      (subst (Say names (is.tokens ++ Percent ∷ interval_tokens ends)
-      (operand_text 3 names e ++ codes " % " ++ interval_text ends)) (append-nil (numbers_of e))
-      (between Percent _ _ (λ _. refl) (λ _. refl) (λ more. begins_well ends more fine.1) is.says
-      interval))
+      (renumbered (λ kind. append-nil (numbers_of kind e))
+      (between Percent _ _ (λ _. refl) (λ _. refl)
+      (λ more rest. (begins_well ends more fine.1, rest)) is.says interval))

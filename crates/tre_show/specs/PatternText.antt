@@ -1,22 +1,24 @@
--- The text of an expression, over the names of its propositions.
+-- The text of an expression, over the names of its propositions and events.
 use Rattle.std.specs.Prelude.{ℕ, nat_lt, List, ◌++◌, codes}
-use Rattle.tre_syntax.specs.PatternTree.{Atom, empty, literal, rise, fall}
+use Rattle.tre_trace.specs.Reading.{Vocabulary}
+use Rattle.tre_syntax.specs.PatternTree.{Atom, empty, literal, rise, fall, event}
 use Rattle.tre_syntax.specs.PatternTree.{PatternTree, atom, sequence, alternation, intersection}
 use Rattle.tre_syntax.specs.PatternTree.{repetition, restriction}
 use Rattle.tre_show.specs.declared.pattern.TheConstants.{ALTERNATION, INTERSECTION, SEQUENCE}
 use Rattle.tre_show.specs.declared.pattern.TheConstants.{POSTFIX}
 use Rattle.tre_show.specs.Interval.{interval_text}
-use Rattle.tre_show.specs.StateText.{in_parens, state_text, literal_text}
+use Rattle.tre_show.specs.StateText.{in_parens, name_text, state_text, literal_text}
 
-abbrev pub atom_text : List (List ℕ) → Atom → List ℕ
+abbrev pub atom_text : Vocabulary → Atom → List ℕ
 atom_text names empty = codes "eps"
-atom_text names (literal state) = literal_text names state
-atom_text names (rise state) = codes "rise(" ++ state_text names state ++ codes ")"
-atom_text names (fall state) = codes "fall(" ++ state_text names state ++ codes ")"
+atom_text names (literal state) = literal_text names.names state
+atom_text names (rise state) = codes "rise(" ++ state_text names.names state ++ codes ")"
+atom_text names (fall state) = codes "fall(" ++ state_text names.names state ++ codes ")"
+atom_text names (event number) = codes "event(" ++ name_text names.events number ++ codes ")"
 
 -- The text of an expression as an operand: in parentheses where its operator binds less than
 -- `least`. From the loosest, operators are `|`, `&`, `;`, and then the signs behind an operand.
-abbrev pub operand_text : ℕ → List (List ℕ) → PatternTree → List ℕ
+abbrev pub operand_text : ℕ → Vocabulary → PatternTree → List ℕ
 operand_text least names (atom x) = atom_text names x
 operand_text least names (sequence e f) =
     in_parens (nat_lt SEQUENCE least)
@@ -32,5 +34,5 @@ operand_text least names (restriction e ends) =
     operand_text POSTFIX names e ++ codes " % " ++ interval_text ends
 
 -- The text of an expression.
-abbrev pub expression_text : List (List ℕ) → PatternTree → List ℕ
+abbrev pub expression_text : Vocabulary → PatternTree → List ℕ
 expression_text names tree = operand_text ALTERNATION names tree

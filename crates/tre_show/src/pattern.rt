@@ -8,11 +8,11 @@ ghost use Rattle.tre_parse.specs.Outcome.{IsSpelling, Outcome, IsOutcome};
 ghost use Rattle.tre_show.specs.ReadBack.{IsReadBack};
 ghost use Rattle.tre_show.specs.Interval.{interval_text};
 ghost use Rattle.tre_show.specs.Intervals.{HasIntervals};
-ghost use Rattle.tre_show.specs.StateText.{state_text};
+ghost use Rattle.tre_show.specs.StateText.{name_text, state_text};
 ghost use Rattle.tre_show.specs.PatternText.{operand_text, expression_text};
 
 use crate::interval::push_interval;
-use crate::state::{push_close, push_literal, push_open, push_spaced, push_state, push_text};
+use crate::state::{push_close, push_literal, push_name, push_open, push_spaced, push_state, push_text};
 use std::alloc::{AllocError, Global};
 use tre_parse::laws::one_outcome;
 use tre_parse::sign;
@@ -41,54 +41,62 @@ pub fn pattern_text(alloc: Global, pattern: &Pattern) -> Result<String, AllocErr
         (outcome : Outcome) → IsOutcome (string_bytes text) outcome →
         IsReadBack (pattern_tree pattern.now) (names_of pattern.now) outcome) }
 {
-    let names = pattern.names();
-    // For the proof: the call says that the names are names, and no two of them the same.
-    let _count = names.len();
+    // For the proof: the calls say that the names of each kind are names, and no two of them the
+    // same.
+    let _names = pattern.names().len();
+    let _events = pattern.events().len();
     // A text has one outcome.
     one_outcome();
     let mut text = String::new(alloc);
-    push_operand(&mut text, names, pattern.expr(), ALTERNATION)?;
+    push_operand(&mut text, pattern, pattern.expr(), ALTERNATION)?;
     Ok(text)
 }
 
-// The text of an expression, in parentheses where its operator binds less than `least`.
-fn push_operand(text: &mut String, names: &Names, expr: &Expr, least: u8) -> Result<(), AllocError>
+// The text of an expression, over the names of the pattern, in parentheses where its operator binds
+// less than `least`.
+fn push_operand(
+    text: &mut String,
+    pattern: &Pattern,
+    expr: &Expr,
+    least: u8,
+) -> Result<(), AllocError>
     ensures text { OnOk result (string_bytes text.new
-        ≡ string_bytes text.old ++ operand_text least names.now (tree_of expr.now)) }
+        ≡ string_bytes text.old ++ operand_text least (names_of pattern.now) (tree_of expr.now)) }
     ensures intervals { OnOk result (HasIntervals (tree_of expr.now)) }
 {
     match expr {
         Expr::Eps => push_text(text, "eps"),
-        Expr::Lit(state) => push_literal(text, names, state),
-        Expr::Rise(state) => push_edge(text, "rise", names, state),
-        Expr::Fall(state) => push_edge(text, "fall", names, state),
+        Expr::Lit(state) => push_literal(text, pattern.names(), state),
+        Expr::Rise(state) => push_edge(text, "rise", pattern.names(), state),
+        Expr::Fall(state) => push_edge(text, "fall", pattern.names(), state),
+        Expr::Event(number) => push_event(text, pattern.events(), *number),
         Expr::Seq(e, f) => {
             push_open(text, SEQUENCE < least)?;
-            push_operand(text, names, e, SEQUENCE)?;
+            push_operand(text, pattern, e, SEQUENCE)?;
             push_text(text, sign::SEMICOLON)?;
-            push_operand(text, names, f, POSTFIX)?;
+            push_operand(text, pattern, f, POSTFIX)?;
             push_close(text, SEQUENCE < least)
         }
         Expr::Meet(e, f) => {
             push_open(text, INTERSECTION < least)?;
-            push_operand(text, names, e, INTERSECTION)?;
+            push_operand(text, pattern, e, INTERSECTION)?;
             push_spaced(text, sign::AMPERSAND)?;
-            push_operand(text, names, f, SEQUENCE)?;
+            push_operand(text, pattern, f, SEQUENCE)?;
             push_close(text, INTERSECTION < least)
         }
         Expr::Alt(e, f) => {
             push_open(text, ALTERNATION < least)?;
-            push_operand(text, names, e, ALTERNATION)?;
+            push_operand(text, pattern, e, ALTERNATION)?;
             push_spaced(text, sign::BAR)?;
-            push_operand(text, names, f, INTERSECTION)?;
+            push_operand(text, pattern, f, INTERSECTION)?;
             push_close(text, ALTERNATION < least)
         }
         Expr::Star(e) => {
-            push_operand(text, names, e, POSTFIX)?;
+            push_operand(text, pattern, e, POSTFIX)?;
             push_text(text, sign::STAR)
         }
         Expr::Within(e, interval) => {
-            push_operand(text, names, e, POSTFIX)?;
+            push_operand(text, pattern, e, POSTFIX)?;
             push_duration(text, interval)
         }
     }
@@ -103,6 +111,17 @@ fn push_edge(text: &mut String, edge: &str, names: &Names, state: &State) -> Res
     push_text(text, edge)?;
     push_text(text, sign::LEFT_PAREN)?;
     push_state(text, names, state)?;
+    push_text(text, sign::RIGHT_PAREN)
+}
+
+// The text of the event of a number.
+fn push_event(text: &mut String, events: &Names, number: u8) -> Result<(), AllocError>
+    ensures { OnOk result (string_bytes text.new ≡ string_bytes text.old
+        ++ (codes "event(" ++ name_text events.now number ++ codes ")")) }
+{
+    push_text(text, "event")?;
+    push_text(text, sign::LEFT_PAREN)?;
+    push_name(text, events, number)?;
     push_text(text, sign::RIGHT_PAREN)
 }
 

@@ -1,5 +1,5 @@
 -- What each atom matches before a cut, behind it and across it.
-use Rattle.std.proofs.Common.{ℕ, ◌+◌, ◌*◌, ◌<◌, ◌≤◌, ◌↔◌, List, [], ◌∷◌, ◌++◌, Option, Some, refl, sym, inl, inr, ⊎_elim, le_of_mul-le-mul_right, mul-lt-mul_of_pos_right, arith}
+use Rattle.std.proofs.Common.{ℕ, ◌+◌, ◌*◌, ◌<◌, ◌≤◌, ◌↔◌, List, [], ◌∷◌, ◌++◌, Option, Some, refl, sym, inl, inr, ⊎_elim, mul-lt-mul_of_pos_right, arith}
 use Rattle.std.proofs.lemmas.Bool.{cases_lt}
 use Rattle.std.proofs.Math.Nat.{mul-le-mul_right}
 use Rattle.tre_pairs.specs.Cuts.{IsMoment, Crossing, JoinedAt, Passing}
@@ -9,13 +9,14 @@ use Rattle.tre_pairs.proofs.Laws.{Implies}
 use Rattle.tre_state.specs.StateTree.{HoldsOn}
 use Rattle.tre_trace.specs.declared.segment.Segment.{Segment}
 use Rattle.tre_trace.specs.Literal.{HoldsBetween, LiteralMatches}
-use Rattle.tre_trace.specs.Trace.{end_of, AreLong}
+use Rattle.tre_trace.specs.Trace.{Timeline, end_of, AreLong}
 use Rattle.tre_trace.proofs.Segments.{end_of-append}
 use Rattle.tre_syntax.specs.Cut.{last_of}
-use Rattle.tre_syntax.specs.PatternTree.{Atom, empty, literal, rise, fall}
-use Rattle.tre_syntax.specs.Rest.{rest_of, HasEdge, EdgeMatches, EmptyMatches, AtomMatches}
+use Rattle.tre_syntax.specs.PatternTree.{Atom, empty, literal, rise, fall, event}
+use Rattle.tre_syntax.specs.Rest.{rest_of, prefixed, InstantMatches, HasEdge, HasEvent, EdgeMatches, EmptyMatches, AtomMatches}
 use Rattle.tre_syntax.proofs.Atoms.{end_of-le}
 use Rattle.tre_syntax.proofs.Growth.{between_cut}
+use Rattle.tre_syntax.proofs.Instants.{Implies-Instant, ImpliesFrom-Instant}
 
 module _ (P : ℕ → Type 0) (a b n : ℕ) where
   -- what ends before a/n says nothing of what is from it on
@@ -53,32 +54,48 @@ module _ (P Q : ℕ → Type 0) where
       (λ later. edge_from (start + s.len) (Some s.val) u v t long.1 late later)
       h
 
-module _ (start : ℕ) (before : Option ℕ) (u v : List Segment) where
+module _ (number : ℕ) where
+  event_behind : (start : ℕ) (u v : List Segment) (last t : ℕ)
+      → HasEvent number (end_of start u) v last t → HasEvent number start (u ++ v) last t
+  event_behind start [] v last t h = h
+  event_behind start (s ∷ u) v last t h = inr (event_behind (start + s.len) u v last t h)
+
+  event_from : (start : ℕ) (u v : List Segment) (last t : ℕ) → AreLong u → end_of start u ≤ t
+      → HasEvent number start (u ++ v) last t → HasEvent number (end_of start u) v last t
+  event_from start [] v last t long late h = h
+  event_from start (s ∷ u) v last t long late h =
+      ⊎_elim
+      (λ here.
+      let at = here.0 in
+      let one = long.0 in
+      absurd (omega (arith, at, one, late, end_of-le (start + s.len) u)))
+      (λ later. event_from (start + s.len) u v last t long.1 late later)
+      h
+
+module _ (start : ℕ) (before : Option ℕ) (u : List Segment) (next : Timeline) where
   begins_before : (a n : ℕ) → end_of start u * n ≤ a → start * n ≤ a
   begins_before a n late = omega (arith, late, mul-le-mul_right n (end_of-le start u))
 
-  ends_same : (b n : ℕ) → b ≤ end_of (end_of start u) v * n → b ≤ end_of start (u ++ v) * n
-  ends_same b n le = rw (end_of-append start u v) le
+  ends_same : (b n : ℕ) → b ≤ end_of (end_of start u) next.segments * n
+      → b ≤ end_of start (u ++ next.segments) * n
+  ends_same b n le = rw (end_of-append start u next.segments) le
 
-  ends_back : (b n : ℕ) → b ≤ end_of start (u ++ v) * n → b ≤ end_of (end_of start u) v * n
-  ends_back b n le = rw (sym (end_of-append start u v)) le
+  ends_back : (b n : ℕ) → b ≤ end_of start (u ++ next.segments) * n
+      → b ≤ end_of (end_of start u) next.segments * n
+  ends_back b n le = rw (sym (end_of-append start u next.segments)) le
 
   edge_implies_behind : (P Q : ℕ → Type 0)
-      → Implies (EdgeMatches P Q (rest_of (end_of start u) (last_of before u) v))
-      (EdgeMatches P Q (rest_of start before (u ++ v)))
-  edge_implies_behind P Q = record {
-    at = λ a b n h. record {
-      time = h.time;
-      begin = h.begin;
-      end = h.end;
-      edge = edge_behind P Q start before u v h.time h.edge;
-    };
-  }
+      → Implies (EdgeMatches P Q (rest_of (end_of start u) (last_of before u) next))
+      (EdgeMatches P Q (rest_of start before (prefixed u next)))
+  edge_implies_behind P Q =
+      Implies-Instant (HasEdge P Q (end_of start u) (last_of before u) next.segments)
+      (HasEdge P Q start before (u ++ next.segments))
+      (edge_behind P Q start before u next.segments)
 
   -- a match of an atom over the back is one over the whole
   pub Implies-behind : (x : Atom)
-      → Implies (AtomMatches (rest_of (end_of start u) (last_of before u) v) x)
-      (AtomMatches (rest_of start before (u ++ v)) x)
+      → Implies (AtomMatches (rest_of (end_of start u) (last_of before u) next) x)
+      (AtomMatches (rest_of start before (prefixed u next)) x)
   Implies-behind empty = record {
     at = λ a b n h. record {
       begin = begins_before a n h.begin;
@@ -91,32 +108,29 @@ module _ (start : ℕ) (before : Option ℕ) (u v : List Segment) where
       begin = begins_before a n h.begin;
       some_time = h.some_time;
       end = ends_same b n h.end;
-      throughout = between_behind (HoldsOn s) a b n start u v h.begin h.throughout;
+      throughout = between_behind (HoldsOn s) a b n start u next.segments h.begin h.throughout;
     };
   }
   Implies-behind (rise s) = edge_implies_behind (λ w. ¬ HoldsOn s w) (HoldsOn s)
   Implies-behind (fall s) = edge_implies_behind (HoldsOn s) (λ w. ¬ HoldsOn s w)
+  Implies-behind (event i) =
+      Implies-Instant (HasEvent i (end_of start u) next.segments next.last)
+      (HasEvent i start (u ++ next.segments) next.last)
+      (event_behind i start u next.segments next.last)
 
   module _ (long : AreLong u) where
     edge_implies_from : (P Q : ℕ → Type 0)
-        → ImpliesFrom (end_of start u) (EdgeMatches P Q (rest_of start before (u ++ v)))
-        (EdgeMatches P Q (rest_of (end_of start u) (last_of before u) v))
-    edge_implies_from P Q = record {
-      at = λ a b n some late h.
-          let ticks : end_of start u * n ≤ h.time * n = omega (arith, late, h.begin) in
-          record {
-            time = h.time;
-            begin = h.begin;
-            end = h.end;
-            edge = edge_from P Q start before u v h.time long (le_of_mul-le-mul_right ticks some)
-                h.edge;
-          };
-    }
+        → ImpliesFrom (end_of start u) (EdgeMatches P Q (rest_of start before (prefixed u next)))
+        (EdgeMatches P Q (rest_of (end_of start u) (last_of before u) next))
+    edge_implies_from P Q =
+        ImpliesFrom-Instant (HasEdge P Q start before (u ++ next.segments))
+        (HasEdge P Q (end_of start u) (last_of before u) next.segments) (end_of start u)
+        (λ t. edge_from P Q start before u next.segments t long)
 
     -- and one over the whole that begins at the cut or later is one over the back
     pub ImpliesFrom-late : (x : Atom)
-        → ImpliesFrom (end_of start u) (AtomMatches (rest_of start before (u ++ v)) x)
-        (AtomMatches (rest_of (end_of start u) (last_of before u) v) x)
+        → ImpliesFrom (end_of start u) (AtomMatches (rest_of start before (prefixed u next)) x)
+        (AtomMatches (rest_of (end_of start u) (last_of before u) next) x)
     ImpliesFrom-late empty = record {
       at = λ a b n some late h. record {
         begin = late;
@@ -129,17 +143,22 @@ module _ (start : ℕ) (before : Option ℕ) (u v : List Segment) where
         begin = late;
         some_time = h.some_time;
         end = ends_back b n h.end;
-        throughout = between_rest (HoldsOn s) a b n start u v h.throughout;
+        throughout = between_rest (HoldsOn s) a b n start u next.segments h.throughout;
       };
     }
     ImpliesFrom-late (rise s) = edge_implies_from (λ w. ¬ HoldsOn s w) (HoldsOn s)
     ImpliesFrom-late (fall s) = edge_implies_from (HoldsOn s) (λ w. ¬ HoldsOn s w)
+    ImpliesFrom-late (event i) =
+        ImpliesFrom-Instant (HasEvent i start (u ++ next.segments) next.last)
+        (HasEvent i (end_of start u) next.segments next.last) (end_of start u)
+        (λ t. event_from i start u next.segments next.last t long)
 
 -- the moments that cross are the cut itself
-pub crossing_empty : (start : ℕ) (before : Option ℕ) (u v : List Segment) (a b n : ℕ)
-    → Crossing (end_of start u) (EmptyMatches (rest_of start before (u ++ v))) a b n
+pub crossing_empty : (start : ℕ) (before : Option ℕ) (u : List Segment) (next : Timeline)
+    (a b n : ℕ)
+    → Crossing (end_of start u) (EmptyMatches (rest_of start before (prefixed u next))) a b n
     ↔ IsMoment (end_of start u) a b n
-crossing_empty start before u v a b n = (
+crossing_empty start before u next a b n = (
   λ h.
       let same = h.related.same in
       record {
@@ -153,41 +172,61 @@ crossing_empty start before u v a b n = (
         related = record {
           begin = omega (arith, begin, mul-le-mul_right n (end_of-le start u));
           same = omega (arith, begin, end);
-          end = ends_same start before u v b n
-              (omega (arith, end, mul-le-mul_right n (end_of-le (end_of start u) v)));
+          end = ends_same start before u next b n
+              (omega (arith, end, mul-le-mul_right n (end_of-le (end_of start u) next.segments)));
         };
         begin = omega (arith, begin);
         end = omega (arith, end);
       },
 )
 
--- the edges that cross are those of the back at the cut
-pub crossing_edge : (P Q : ℕ → Type 0) (start : ℕ) (before : Option ℕ) (u v : List Segment)
-    → AreLong u → (a b n : ℕ) → 0 < n
-    → Crossing (end_of start u) (EdgeMatches P Q (rest_of start before (u ++ v))) a b n
+-- the instants that cross are those of the back at the cut
+module _ (cut : ℕ) (M N : ℕ → Type 0) where
+  crossing_instant : Implies (InstantMatches N) (InstantMatches M)
+      → ImpliesFrom cut (InstantMatches M) (InstantMatches N) → (a b n : ℕ) → 0 < n
+      → Crossing cut (InstantMatches M) a b n ↔ Both (IsMoment cut) (InstantMatches N) a b n
+  crossing_instant behind from a b n some = (
+    λ h.
+        let begin = h.related.begin in
+        let end = h.related.end in
+        record {
+          left = record {
+            begin = omega (arith, begin, end, h.begin, h.end);
+            end = omega (arith, begin, end, h.begin, h.end);
+          };
+          right = from.at a b n some (omega (arith, begin, end, h.begin, h.end)) h.related;
+        },
+    λ h.
+        let begin = h.left.begin in
+        let end = h.left.end in
+        record {
+          related = behind.at a b n h.right;
+          begin = omega (arith, begin);
+          end = omega (arith, end);
+        },
+  )
+
+pub crossing_edge : (P Q : ℕ → Type 0) (start : ℕ) (before : Option ℕ) (u : List Segment)
+    (next : Timeline) → AreLong u → (a b n : ℕ) → 0 < n
+    → Crossing (end_of start u) (EdgeMatches P Q (rest_of start before (prefixed u next))) a b n
     ↔ Both (IsMoment (end_of start u))
-    (EdgeMatches P Q (rest_of (end_of start u) (last_of before u) v)) a b n
-crossing_edge P Q start before u v long a b n some = (
-  λ h.
-      let begin = h.related.begin in
-      let end = h.related.end in
-      record {
-        left = record {
-          begin = omega (arith, begin, end, h.begin, h.end);
-          end = omega (arith, begin, end, h.begin, h.end);
-        };
-        right = (edge_implies_from start before u v long P Q).at a b n some
-            (omega (arith, begin, end, h.begin, h.end)) h.related;
-      },
-  λ h.
-      let begin = h.left.begin in
-      let end = h.left.end in
-      record {
-        related = (edge_implies_behind start before u v P Q).at a b n h.right;
-        begin = omega (arith, begin);
-        end = omega (arith, end);
-      },
-)
+    (EdgeMatches P Q (rest_of (end_of start u) (last_of before u) next)) a b n
+crossing_edge P Q start before u next long =
+    crossing_instant (end_of start u) (HasEdge P Q start before (u ++ next.segments))
+    (HasEdge P Q (end_of start u) (last_of before u) next.segments)
+    (edge_implies_behind start before u next P Q) (edge_implies_from start before u next long P Q)
+
+pub crossing_event : (number start : ℕ) (before : Option ℕ) (u : List Segment) (next : Timeline)
+    → AreLong u → (a b n : ℕ) → 0 < n
+    → Crossing (end_of start u) (AtomMatches (rest_of start before (prefixed u next))
+    (event number)) a b n
+    ↔ Both (IsMoment (end_of start u))
+    (AtomMatches (rest_of (end_of start u) (last_of before u) next) (event number)) a b n
+crossing_event number start before u next long =
+    crossing_instant (end_of start u) (HasEvent number start (u ++ next.segments) next.last)
+    (HasEvent number (end_of start u) next.segments next.last)
+    (Implies-behind start before u next (event number))
+    (ImpliesFrom-late start before u next long (event number))
 
 -- A literal that crosses is one over the front up to the cut, and one over the back from the cut
 -- on, each of which may be no time at all.
@@ -242,15 +281,15 @@ module _ (P : ℕ → Type 0) (a b n : ℕ) where
     between_later (start + s.len) c u le h.1,
   )
 
-module _ (P : ℕ → Type 0) (start : ℕ) (before : Option ℕ) (u v : List Segment)
-    (long : AreLong u) (long' : AreLong v) where
+module _ (P : ℕ → Type 0) (start : ℕ) (before : Option ℕ) (u : List Segment) (next : Timeline)
+    (long : AreLong u) (long' : AreLong next.segments) where
   Until : Pairs
   Until = Either (LiteralMatches P start u) (IsMoment (end_of start u))
 
   From : Pairs
-  From = Either (LiteralMatches P (end_of start u) v) (IsMoment (end_of start u))
+  From = Either (LiteralMatches P (end_of start u) next.segments) (IsMoment (end_of start u))
 
-  until_cut : (a b n : ℕ) → Crossing (end_of start u) (LiteralMatches P start (u ++ v)) a b n
+  until_cut : (a b n : ℕ) → Crossing (end_of start u) (LiteralMatches P start (u ++ next.segments)) a b n
       → Until a (end_of start u * n) n
   unfolding Until
   until_cut a b n h =
@@ -261,7 +300,7 @@ module _ (P : ℕ → Type 0) (start : ℕ) (before : Option ℕ) (u v : List Se
         some_time = early;
         end = omega arith;
         throughout = between_sooner P a b n start cut u h.end
-            (between_cut P a b n start u v h.related.throughout);
+            (between_cut P a b n start u next.segments h.related.throughout);
       }))
       (λ late. let begin = h.begin in inr (record {
         begin = omega (arith, begin, late);
@@ -269,7 +308,7 @@ module _ (P : ℕ → Type 0) (start : ℕ) (before : Option ℕ) (u v : List Se
       }))
       (cases_lt a cut)
 
-  from_cut : (a b n : ℕ) → Crossing (end_of start u) (LiteralMatches P start (u ++ v)) a b n
+  from_cut : (a b n : ℕ) → Crossing (end_of start u) (LiteralMatches P start (u ++ next.segments)) a b n
       → From (end_of start u * n) b n
   unfolding From
   from_cut a b n h =
@@ -278,9 +317,10 @@ module _ (P : ℕ → Type 0) (start : ℕ) (before : Option ℕ) (u v : List Se
       (λ later. inl (record {
         begin = omega arith;
         some_time = later;
-        end = ends_back start before u v b n h.related.end;
-        throughout = between_later P a b n (end_of start u) cut v h.begin
-            (between_rest P a b n start u v h.related.throughout);
+        end = ends_back start before u next b n h.related.end;
+        throughout = between_later P a b n (end_of start u) cut next.segments
+            h.begin
+            (between_rest P a b n start u next.segments h.related.throughout);
       }))
       (λ over. let end = h.end in inr (record {
         begin = refl;
@@ -290,13 +330,13 @@ module _ (P : ℕ → Type 0) (start : ℕ) (before : Option ℕ) (u v : List Se
 
   joined_literal : (a b n : ℕ) → 0 < n → a < b → Until a (end_of start u * n) n
       → From (end_of start u * n) b n
-      → Crossing (end_of start u) (LiteralMatches P start (u ++ v)) a b n
+      → Crossing (end_of start u) (LiteralMatches P start (u ++ next.segments)) a b n
   unfolding Until From
   joined_literal a b n some passes left right =
       let cut = end_of start u * n in
       let first : start * n ≤ cut = mul-le-mul_right n (end_of-le start u) in
-      let last : cut ≤ end_of (end_of start u) v * n =
-      mul-le-mul_right n (end_of-le (end_of start u) v) in
+      let last : cut ≤ end_of (end_of start u) next.segments * n =
+      mul-le-mul_right n (end_of-le (end_of start u) next.segments) in
       let early : a ≤ cut =
       ⊎_elim (λ lit. let lt = lit.some_time in omega (arith, lt))
       (λ moment. let at = moment.begin in omega (arith, at)) left in
@@ -308,14 +348,14 @@ module _ (P : ℕ → Type 0) (start : ℕ) (before : Option ℕ) (u v : List Se
           begin = ⊎_elim (λ lit. lit.begin)
               (λ moment. let at = moment.begin in omega (arith, at, first)) left;
           some_time = passes;
-          end = ends_same start before u v b n
+          end = ends_same start before u next b n
               (⊎_elim (λ lit. lit.end)
               (λ moment. let at = moment.end in omega (arith, at, last)) right);
-          throughout = between_both P a b n start u v
+          throughout = between_both P a b n start u next.segments
               (between_until P a b n (end_of start u) start u some long (omega arith)
               (λ lt. ⊎_elim (λ lit. lit.throughout)
               (λ moment. let at = moment.begin in absurd (omega (arith, at, lt))) left))
-              (between_from P a b n (end_of start u) (end_of start u) v some long' early
+              (between_from P a b n (end_of start u) (end_of start u) next.segments some long' early
               (omega arith)
               (λ lt. ⊎_elim (λ lit. lit.throughout)
               (λ moment. let at = moment.end in absurd (omega (arith, at, lt))) right));
@@ -325,10 +365,10 @@ module _ (P : ℕ → Type 0) (start : ℕ) (before : Option ℕ) (u v : List Se
       }
 
   pub crossing_literal : (a b n : ℕ) → 0 < n
-      → Crossing (end_of start u) (LiteralMatches P start (u ++ v)) a b n
+      → Crossing (end_of start u) (LiteralMatches P start (u ++ next.segments)) a b n
       ↔ Passing (JoinedAt (end_of start u)
       (Either (LiteralMatches P start u) (IsMoment (end_of start u)))
-      (Either (LiteralMatches P (end_of start u) v) (IsMoment (end_of start u)))) a b n
+      (Either (LiteralMatches P (end_of start u) next.segments) (IsMoment (end_of start u)))) a b n
   unfolding Until From
   crossing_literal a b n some = (
     λ h. record {

@@ -1,15 +1,16 @@
 -- The laws of the atoms over a rest: they scale, are ordered and bounded, and don't see where a
 -- segment is cut in two.
-use Rattle.std.proofs.Common.{ℕ, ◌+◌, ◌*◌, ◌<◌, ◌≤◌, List, [], ◌∷◌, Option, Some, sym, ap, ◌∙◌, ⊎_elim, arith}
-use Rattle.std.proofs.Math.Nat.{mul-le-mul_right, mul-lt-mul_of_pos_left, lt_of_mul-lt-mul_left, eq_of_mul-eq-mul_left}
+use Rattle.std.proofs.Common.{ℕ, ◌+◌, ◌*◌, ◌<◌, ◌≤◌, List, [], ◌∷◌, Option, Some, ap, ⊎_elim, arith}
+use Rattle.std.proofs.Math.Nat.{mul-lt-mul_of_pos_left, lt_of_mul-lt-mul_left, eq_of_mul-eq-mul_left}
 use Rattle.tre_pairs.proofs.Laws.{Scales, IsOrdered, IsInstant, IsBounded}
-use Rattle.tre_pairs.proofs.Ticks.{le_up, le_down, ge_up, ge_down, lt_up, lt_down, gt_up, gt_down, eq_up, eq_down}
+use Rattle.tre_pairs.proofs.Ticks.{le_up, le_down, ge_up, ge_down, lt_up, lt_down, gt_up, gt_down}
 use Rattle.tre_state.specs.StateTree.{HoldsOn}
 use Rattle.tre_trace.specs.declared.segment.Segment.{Segment}
 use Rattle.tre_trace.specs.Literal.{HoldsBetween, LiteralMatches}
 use Rattle.tre_trace.specs.Trace.{end_of}
-use Rattle.tre_syntax.specs.PatternTree.{Atom, empty, literal, rise, fall}
-use Rattle.tre_syntax.specs.Rest.{Rest, HasEdge, EdgeMatches, EmptyMatches, AtomMatches}
+use Rattle.tre_syntax.specs.PatternTree.{Atom, empty, literal, rise, fall, event}
+use Rattle.tre_syntax.specs.Rest.{Rest, HasEdge, HasEvent, EdgeMatches, EmptyMatches, AtomMatches}
+use Rattle.tre_syntax.proofs.Instants.{Scales-Instant, IsOrdered-Instant, IsBounded-Instant}
 
 -- segments end no earlier than they begin
 pub end_of-le : (start : ℕ) (segments : List Segment) → start ≤ end_of start segments
@@ -73,37 +74,21 @@ module _ (P Q : ℕ → Type 0) where
       ⊎_elim (λ here. let at = here.0 in omega (arith, end_of-le (start + s.len) rest))
       (λ later. HasEdge-end (start + s.len) (Some s.val) rest t later) h
 
-  module _ (rest : Rest) where
-    pub Scales-Edge : Scales (EdgeMatches P Q rest)
-    Scales-Edge = record {
-      up = λ k a b n pos h. record {
-        time = h.time;
-        begin = eq_up k h.time a n h.begin;
-        end =
-            eq_up k h.time b n h.end;
-        edge = h.edge;
-      };
-      down = λ k a b n pos h. record {
-        time = h.time;
-        begin = eq_down k h.time a n pos h.begin;
-        end = eq_down k h.time b n pos h.end;
-        edge = h.edge;
-      };
-    }
+module _ (number : ℕ) where
+  -- and so does an event
+  pub HasEvent-begin : (start : ℕ) (segments : List Segment) (last t : ℕ)
+      → HasEvent number start segments last t → start ≤ t
+  HasEvent-begin start [] last t h = let at = h.0 in omega arith
+  HasEvent-begin start (s ∷ rest) last t h =
+      ⊎_elim (λ here. let at = here.0 in omega arith) (λ later. let le =
+      HasEvent-begin (start + s.len) rest last t later in omega arith) h
 
-    pub IsOrdered-Edge : IsOrdered (EdgeMatches P Q rest)
-    IsOrdered-Edge = record { le = λ a b n h. let e = h.begin ∙ sym h.end in omega arith }
-
-    pub IsBounded-Edge : IsBounded rest.start (end_of rest.start rest.segments)
-        (EdgeMatches P Q rest)
-    IsBounded-Edge = record {
-      begin = λ a b n h. let le =
-          mul-le-mul_right n (HasEdge-begin rest.start rest.before rest.segments h.time h.edge) in
-          omega (arith, le, h.begin);
-      end = λ a b n h. let le =
-          mul-le-mul_right n (HasEdge-end rest.start rest.before rest.segments h.time h.edge) in
-          omega (arith, le, h.end);
-    }
+  pub HasEvent-end : (start : ℕ) (segments : List Segment) (last t : ℕ)
+      → HasEvent number start segments last t → t ≤ end_of start segments
+  HasEvent-end start [] last t h = let at = h.0 in omega arith
+  HasEvent-end start (s ∷ rest) last t h =
+      ⊎_elim (λ here. let at = here.0 in omega (arith, end_of-le (start + s.len) rest))
+      (λ later. HasEvent-end (start + s.len) rest last t later) h
 
 module _ (rest : Rest) where
   Scales-Empty : Scales (EmptyMatches rest)
@@ -123,17 +108,33 @@ module _ (rest : Rest) where
   pub IsInstant-Empty : IsInstant (AtomMatches rest empty)
   IsInstant-Empty = record { same = λ a b n h. h.same }
 
+  -- when an edge may be, and when an event
+  abbrev EdgeTime : (ℕ → Type 0) → (ℕ → Type 0) → ℕ → Type 0
+  EdgeTime P Q = HasEdge P Q rest.start rest.before rest.segments
+
+  abbrev EventTime : ℕ → ℕ → Type 0
+  EventTime number = HasEvent number rest.start rest.segments rest.last
+
   pub Scales-Atom : (x : Atom) → Scales (AtomMatches rest x)
   Scales-Atom empty = Scales-Empty
   Scales-Atom (literal s) = Scales-Literal (HoldsOn s) rest.start rest.segments
-  Scales-Atom (rise s) = Scales-Edge (λ v. ¬ HoldsOn s v) (HoldsOn s) rest
-  Scales-Atom (fall s) = Scales-Edge (HoldsOn s) (λ v. ¬ HoldsOn s v) rest
+  Scales-Atom (rise s) = Scales-Instant (EdgeTime (λ v. ¬ HoldsOn s v) (HoldsOn s))
+  Scales-Atom (fall s) = Scales-Instant (EdgeTime (HoldsOn s) (λ v. ¬ HoldsOn s v))
+  Scales-Atom (event i) = Scales-Instant (EventTime i)
 
   pub IsOrdered-Atom : (x : Atom) → IsOrdered (AtomMatches rest x)
   IsOrdered-Atom empty = record { le = λ a b n h. let same = h.same in omega arith }
   IsOrdered-Atom (literal s) = IsOrdered-Literal (HoldsOn s) rest.start rest.segments
-  IsOrdered-Atom (rise s) = IsOrdered-Edge (λ v. ¬ HoldsOn s v) (HoldsOn s) rest
-  IsOrdered-Atom (fall s) = IsOrdered-Edge (HoldsOn s) (λ v. ¬ HoldsOn s v) rest
+  IsOrdered-Atom (rise s) = IsOrdered-Instant (EdgeTime (λ v. ¬ HoldsOn s v) (HoldsOn s))
+  IsOrdered-Atom (fall s) = IsOrdered-Instant (EdgeTime (HoldsOn s) (λ v. ¬ HoldsOn s v))
+  IsOrdered-Atom (event i) = IsOrdered-Instant (EventTime i)
+
+  IsBounded-Edge : (P Q : ℕ → Type 0)
+      → IsBounded rest.start (end_of rest.start rest.segments) (EdgeMatches P Q rest)
+  IsBounded-Edge P Q =
+      IsBounded-Instant (EdgeTime P Q) rest.start (end_of rest.start rest.segments)
+      (HasEdge-begin P Q rest.start rest.before rest.segments)
+      (HasEdge-end P Q rest.start rest.before rest.segments)
 
   pub IsBounded-Atom : (x : Atom)
       → IsBounded rest.start (end_of rest.start rest.segments) (AtomMatches rest x)
@@ -142,5 +143,9 @@ module _ (rest : Rest) where
     end = λ a b n h. h.end;
   }
   IsBounded-Atom (literal s) = IsBounded-Literal (HoldsOn s) rest.start rest.segments
-  IsBounded-Atom (rise s) = IsBounded-Edge (λ v. ¬ HoldsOn s v) (HoldsOn s) rest
-  IsBounded-Atom (fall s) = IsBounded-Edge (HoldsOn s) (λ v. ¬ HoldsOn s v) rest
+  IsBounded-Atom (rise s) = IsBounded-Edge (λ v. ¬ HoldsOn s v) (HoldsOn s)
+  IsBounded-Atom (fall s) = IsBounded-Edge (HoldsOn s) (λ v. ¬ HoldsOn s v)
+  IsBounded-Atom (event i) =
+      IsBounded-Instant (EventTime i) rest.start (end_of rest.start rest.segments)
+      (HasEvent-begin i rest.start rest.segments rest.last)
+      (HasEvent-end i rest.start rest.segments rest.last)

@@ -109,8 +109,8 @@ module _ (cut : CutRest) (long : AreLong cut.front) where
   at_cut n = record {
     begin = mul-le-mul_right n (end_of-le cut.start cut.front);
     same = refl;
-    end = rw (end_of-append cut.start cut.front cut.back)
-        (mul-le-mul_right n (end_of-le (time_of cut) cut.back));
+    end = rw (end_of-append cut.start cut.front cut.back.segments)
+        (mul-le-mul_right n (end_of-le (time_of cut) cut.back.segments));
   }
 
   pub crossing_repetition : (tree : PatternTree) (a b n : ℕ) → 0 < n

@@ -43,7 +43,7 @@ Contains-cases x xs i h =
     (Contains-append_cases (x ∷ []) xs i h)
 
 -- each number that was read was seen in the end
-all_seen : (seen : ℕ) (xs : List ℕ) (m : ℕ) → seen_after seen xs ≡ Some m
+pub all_seen : (seen : ℕ) (xs : List ℕ) (m : ℕ) → seen_after seen xs ≡ Some m
     → All (λ i. i < m) xs × (seen ≤ m)
 all_seen seen [] m e = let same : seen ≡ m = cc in (All-nil (λ i. i < m), omega arith)
 all_seen seen (x ∷ xs) m e =

@@ -1,15 +1,18 @@
--- What more segments behind a rest change for its atoms: nothing before the end.
+-- What more segments behind a rest, and events at its end, change for its atoms: nothing before the
+-- end.
 use Rattle.std.proofs.Common.{ℕ, ◌+◌, ◌*◌, ◌<◌, ◌≤◌, List, [], ◌∷◌, ◌++◌, Option, Some, inl, inr, ⊎_elim, arith}
-use Rattle.std.proofs.Math.Nat.{mul-le-mul_right, lt_of_mul-lt-mul_right}
+use Rattle.std.proofs.Math.Nat.{mul-le-mul_right}
+use Rattle.std.proofs.lemmas.Nat.Bits.{bit_at-zero}
 use Rattle.tre_pairs.proofs.Laws.{Implies, ImpliesBefore}
 use Rattle.tre_state.specs.StateTree.{HoldsOn}
 use Rattle.tre_trace.specs.declared.segment.Segment.{Segment}
 use Rattle.tre_trace.specs.Literal.{HoldsBetween}
-use Rattle.tre_trace.specs.Trace.{end_of}
+use Rattle.tre_trace.specs.Trace.{Timeline, end_of, quiet}
 use Rattle.tre_trace.proofs.Segments.{end_of-append}
-use Rattle.tre_syntax.specs.PatternTree.{Atom, empty, literal, rise, fall}
-use Rattle.tre_syntax.specs.Rest.{rest_of, HasEdge, EdgeMatches, AtomMatches}
-use Rattle.tre_syntax.proofs.Atoms.{end_of-le, HasEdge-begin}
+use Rattle.tre_syntax.specs.PatternTree.{Atom, empty, literal, rise, fall, event}
+use Rattle.tre_syntax.specs.Rest.{rest_of, prefixed, HasEdge, HasEvent, EdgeMatches, AtomMatches}
+use Rattle.tre_syntax.proofs.Atoms.{end_of-le, HasEdge-begin, HasEvent-begin}
+use Rattle.tre_syntax.proofs.Instants.{Implies-Instant, ImpliesBefore-Instant}
 
 -- more segments end no earlier
 pub end_of-grows : (start : ℕ) (u v : List Segment) → end_of start u ≤ end_of start (u ++ v)
@@ -50,81 +53,83 @@ module _ (P Q : ℕ → Type 0) where
       ⊎_elim (λ here. inl here)
       (λ later. inr (edge_cut (start + s.len) (Some s.val) u v t lt later)) h
 
-module _ (start : ℕ) (before : Option ℕ) (u v : List Segment) where
-  edge_implies : (P Q : ℕ → Type 0)
-      → Implies (EdgeMatches P Q (rest_of start before u))
-      (EdgeMatches P Q (rest_of start before (u ++ v)))
-  edge_implies P Q = record {
-    at = λ a b n h. record {
-      time = h.time;
-      begin = h.begin;
-      end = h.end;
-      edge =
-          edge_grows P Q start before u v h.time h.edge;
-    };
-  }
+module _ (number : ℕ) where
+  event_grows : (start : ℕ) (u v : List Segment) (last t : ℕ) → HasEvent number start u 0 t
+      → HasEvent number start (u ++ v) last t
+  event_grows start [] v last t h =
+      let none = bit_at-zero number in let one = h.1 in absurd (omega (arith, none, one))
+  event_grows start (s ∷ u) v last t h =
+      ⊎_elim (λ here. inl here) (λ later. inr (event_grows (start + s.len) u v last t later)) h
 
-  grown_end : (b n : ℕ) → b ≤ end_of start u * n → b ≤ end_of start (u ++ v) * n
-  grown_end b n le = omega (arith, le, mul-le-mul_right n (end_of-grows start u v))
+  event_cut : (start : ℕ) (u v : List Segment) (last t : ℕ) → t < end_of start u
+      → HasEvent number start (u ++ v) last t → HasEvent number start u 0 t
+  event_cut start [] v last t lt h =
+      absurd (omega (arith, lt, HasEvent-begin number start v last t h))
+  event_cut start (s ∷ u) v last t lt h =
+      ⊎_elim (λ here. inl here) (λ later. inr (event_cut (start + s.len) u v last t lt later)) h
+
+module _ (start : ℕ) (before : Option ℕ) (u : List Segment) (next : Timeline) where
+  edge_implies : (P Q : ℕ → Type 0)
+      → Implies (EdgeMatches P Q (rest_of start before (quiet u)))
+      (EdgeMatches P Q (rest_of start before (prefixed u next)))
+  edge_implies P Q = Implies-Instant (HasEdge P Q start before u)
+      (HasEdge P Q start before (u ++ next.segments)) (edge_grows P Q start before u next.segments)
+
+  grown_end : (b n : ℕ) → b ≤ end_of start u * n → b ≤ end_of start (u ++ next.segments) * n
+  grown_end b n le = omega (arith, le, mul-le-mul_right n (end_of-grows start u next.segments))
 
   -- a match of an atom stays one
   pub Implies-grown : (x : Atom)
-      → Implies (AtomMatches (rest_of start before u) x)
-      (AtomMatches (rest_of start before (u ++ v)) x)
-  Implies-grown empty =
-      record {
-        at =
-            λ a b n h. record { begin = h.begin; same = h.same; end = grown_end b n h.end };
-      }
+      → Implies (AtomMatches (rest_of start before (quiet u)) x)
+      (AtomMatches (rest_of start before (prefixed u next)) x)
+  Implies-grown empty = record {
+    at = λ a b n h. record { begin = h.begin; same = h.same; end = grown_end b n h.end };
+  }
   Implies-grown (literal s) = record {
     at = λ a b n h. record {
       begin = h.begin;
       some_time = h.some_time;
       end = grown_end b n h.end;
-      throughout = between_grows (HoldsOn s) a b n start u v h.end h.throughout;
+      throughout = between_grows (HoldsOn s) a b n start u next.segments h.end h.throughout;
     };
   }
   Implies-grown (rise s) = edge_implies (λ w. ¬ HoldsOn s w) (HoldsOn s)
   Implies-grown (fall s) = edge_implies (HoldsOn s) (λ w. ¬ HoldsOn s w)
+  Implies-grown (event i) = Implies-Instant (HasEvent i start u 0)
+      (HasEvent i start (u ++ next.segments) next.last)
+      (event_grows i start u next.segments next.last)
 
   edge_implies_before : (P Q : ℕ → Type 0)
-      → ImpliesBefore (end_of start u) (EdgeMatches P Q (rest_of start before (u ++ v)))
-      (EdgeMatches P Q (rest_of start before u))
-  edge_implies_before P Q = record {
-    at = λ a b n early h.
-        let ticks : h.time * n < end_of start u * n = omega (arith, early, h.end) in
-        record {
-          time = h.time;
-          begin = h.begin;
-          end = h.end;
-          edge =
-              edge_cut P Q start before u v h.time (lt_of_mul-lt-mul_right n ticks) h.edge;
-        };
-  }
+      → ImpliesBefore (end_of start u) (EdgeMatches P Q (rest_of start before (prefixed u next)))
+      (EdgeMatches P Q (rest_of start before (quiet u)))
+  edge_implies_before P Q =
+      ImpliesBefore-Instant (HasEdge P Q start before (u ++ next.segments))
+      (HasEdge P Q start before u) (end_of start u) (edge_cut P Q start before u next.segments)
 
   cut_end : (b n : ℕ) → b < end_of start u * n → b ≤ end_of start u * n
   cut_end b n lt = omega arith
 
   -- and one that ends before the end was one before
   pub ImpliesBefore-cut : (x : Atom)
-      → ImpliesBefore (end_of start u) (AtomMatches (rest_of start before (u ++ v)) x)
-      (AtomMatches (rest_of start before u) x)
-  ImpliesBefore-cut empty =
-      record {
-        at = λ a b n early h. record {
-          begin = h.begin;
-          same = h.same;
-          end =
-              cut_end b n early;
-        };
-      }
+      → ImpliesBefore (end_of start u) (AtomMatches (rest_of start before (prefixed u next)) x)
+      (AtomMatches (rest_of start before (quiet u)) x)
+  ImpliesBefore-cut empty = record {
+    at = λ a b n early h. record {
+      begin = h.begin;
+      same = h.same;
+      end = cut_end b n early;
+    };
+  }
   ImpliesBefore-cut (literal s) = record {
     at = λ a b n early h. record {
       begin = h.begin;
       some_time = h.some_time;
       end = cut_end b n early;
-      throughout = between_cut (HoldsOn s) a b n start u v h.throughout;
+      throughout = between_cut (HoldsOn s) a b n start u next.segments h.throughout;
     };
   }
   ImpliesBefore-cut (rise s) = edge_implies_before (λ w. ¬ HoldsOn s w) (HoldsOn s)
   ImpliesBefore-cut (fall s) = edge_implies_before (HoldsOn s) (λ w. ¬ HoldsOn s w)
+  ImpliesBefore-cut (event i) =
+      ImpliesBefore-Instant (HasEvent i start (u ++ next.segments) next.last)
+      (HasEvent i start u 0) (end_of start u) (event_cut i start u next.segments next.last)

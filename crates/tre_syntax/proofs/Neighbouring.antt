@@ -1,12 +1,13 @@
 -- What the atoms say of a whole trace, by the places of its segments.
-use Rattle.std.proofs.Common.{◌≡◌, ℕ, ◌+◌, ◌*◌, ◌<◌, ◌≤◌, ◌↔◌, List, [], ◌∷◌, ◌++◌, Option, Some, None, refl, sym, ap, subst, inl, inr, ⊎_elim, arith}
+use Rattle.std.specs.Int.{bit_at}
+use Rattle.std.proofs.Common.{◌⊎◌, ◌≡◌, ℕ, ◌+◌, ◌*◌, ◌<◌, ◌≤◌, ◌↔◌, List, [], ◌∷◌, ◌++◌, Option, Some, None, refl, sym, ap, subst, inl, inr, ⊎_elim, arith}
 use Rattle.std.proofs.Math.Nat.{mul-lt-mul_of_pos_right}
 use Rattle.tre_trace.specs.declared.segment.Segment.{Segment}
 use Rattle.tre_trace.specs.Literal.{HoldsBetween, LiteralMatches}
-use Rattle.tre_trace.specs.Trace.{end_of, AreLong}
+use Rattle.tre_trace.specs.Trace.{Timeline, end_of, AreLong}
 use Rattle.tre_trace.proofs.Segments.{end_of-append}
-use Rattle.tre_syntax.specs.Neighbours.{MeetAt, IsBetweenNeighbours, IsThroughout}
-use Rattle.tre_syntax.specs.Rest.{HasEdge, EdgeMatches, whole}
+use Rattle.tre_syntax.specs.Neighbours.{MeetAt, BeginsWith, IsBetweenNeighbours, IsThroughout, IsWhereHappens}
+use Rattle.tre_syntax.specs.Rest.{HasEdge, HasEvent, EdgeMatches, EventMatches, whole}
 use Rattle.tre_syntax.proofs.Atoms.{end_of-le}
 
 module _ (P Q : ℕ → Type 0) where
@@ -64,22 +65,20 @@ module _ (P Q : ℕ → Type 0) where
       (sym m.time) there in
       subst (λ (xs : List Segment). HasEdge P Q 0 None xs t) (sym m.parts) timed
 
-  pub edge_iff : (segments : List Segment) (a b n : ℕ) → EdgeMatches P Q (whole segments) a b n
-      ↔ IsBetweenNeighbours P Q segments a b n
-  edge_iff segments a b n = (
+  pub edge_iff : (trace : Timeline) (a b n : ℕ) → EdgeMatches P Q (whole trace) a b n
+      ↔ IsBetweenNeighbours P Q trace.segments a b n
+  edge_iff trace a b n = (
     λ h. record {
       time = h.time;
       begin = h.begin;
       end = h.end;
-      meet =
-          meet_in segments h.time h.edge;
+      meet = meet_in trace.segments h.time h.there;
     },
     λ h. record {
       time = h.time;
       begin = h.begin;
       end = h.end;
-      edge =
-          edge_of segments h.time h.meet;
+      there = edge_of trace.segments h.time h.meet;
     },
   )
 
@@ -98,14 +97,90 @@ module _ (P Q : ℕ → Type 0) where
       let later = end_of-le (end_of 0 m.front + m.one.len + m.other.len) m.back in
       (omega (arith, m.time, pair.0), omega (arith, m.time, pair.1, whole_end, behind, later))
 
-  pub edge_inside : (segments : List Segment) (a b n : ℕ) → 0 < n → AreLong segments
-      → EdgeMatches P Q (whole segments) a b n
-      → (0 < a) × (b < end_of 0 segments * n)
-  edge_inside segments a b n some long h =
-      let inside = meet_inside segments h.time long (meet_in segments h.time h.edge) in
+  pub edge_inside : (trace : Timeline) (a b n : ℕ) → 0 < n → AreLong trace.segments
+      → EdgeMatches P Q (whole trace) a b n
+      → (0 < a) × (b < end_of 0 trace.segments * n)
+  edge_inside trace a b n some long h =
+      let inside = meet_inside trace.segments h.time long
+      (meet_in trace.segments h.time h.there) in
       let late : 0 * n < h.time * n = mul-lt-mul_of_pos_right inside.0 some in
-      let early : h.time * n < end_of 0 segments * n = mul-lt-mul_of_pos_right inside.1 some in
+      let early : h.time * n < end_of 0 trace.segments * n =
+      mul-lt-mul_of_pos_right inside.1 some in
       (omega (arith, late, h.begin), omega (arith, early, h.end))
+
+module _ (number : ℕ) where
+  -- an event is one of a segment that begins there, or of the end
+  event_in : (start : ℕ) (segments : List Segment) (last t : ℕ)
+      → HasEvent number start segments last t
+      → BeginsWith number start segments t
+      ⊎ ((t ≡ end_of start segments) × (bit_at last number ≡ 1))
+  event_in start [] last t h = inr h
+  event_in start (s ∷ rest) last t h =
+      ⊎_elim
+      (λ here. inl (record {
+        front = [];
+        segment = s;
+        back = rest;
+        parts = refl;
+        time = here.0;
+        happens = here.1;
+      }))
+      (λ later. ⊎_elim
+      (λ more. inl (record {
+        front = s ∷ more.front;
+        segment = more.segment;
+        back = more.back;
+        parts = ap (λ (xs : List Segment). s ∷ xs) more.parts;
+        time = more.time;
+        happens = more.happens;
+      }))
+      (λ at. inr at)
+      (event_in (start + s.len) rest last t later))
+      h
+
+  -- and where a segment begins with it, or the end has it, it is
+  event_where : (start : ℕ) (front : List Segment) (segment : Segment) (back : List Segment)
+      (last : ℕ) → bit_at segment.ev number ≡ 1
+      → HasEvent number start (front ++ segment ∷ back) last (end_of start front)
+  event_where start [] segment back last happens = inl (refl, happens)
+  event_where start (s ∷ front) segment back last happens =
+      inr (event_where (start + s.len) front segment back last happens)
+
+  event_last : (start : ℕ) (segments : List Segment) (last : ℕ) → bit_at last number ≡ 1
+      → HasEvent number start segments last (end_of start segments)
+  event_last start [] last happens = (refl, happens)
+  event_last start (s ∷ rest) last happens = inr (event_last (start + s.len) rest last happens)
+
+  event_of : (segments : List Segment) (last t : ℕ) → BeginsWith number 0 segments t
+      ⊎ ((t ≡ end_of 0 segments) × (bit_at last number ≡ 1))
+      → HasEvent number 0 segments last t
+  event_of segments last t h =
+      ⊎_elim
+      (λ m.
+      let there = event_where 0 m.front m.segment m.back last m.happens in
+      let timed = subst (λ (x : ℕ). HasEvent number 0 (m.front ++ m.segment ∷ m.back) last x)
+      (sym m.time) there in
+      subst (λ (xs : List Segment). HasEvent number 0 xs last t) (sym m.parts) timed)
+      (λ at. subst (λ (x : ℕ). HasEvent number 0 segments last x) (sym at.0)
+      (event_last 0 segments last at.1))
+      h
+
+  pub event_iff : (trace : Timeline) (a b n : ℕ) → EventMatches number (whole trace) a b n
+      ↔ IsWhereHappens number trace a b n
+  event_iff trace a b n = (
+    λ h. record {
+      time = h.time;
+      begin = h.begin;
+      end = h.end;
+      there = event_in 0 trace.segments trace.last h.time h.there;
+    },
+    λ h. record {
+      time = h.time;
+      begin = h.begin;
+      end = h.end;
+      there = event_of trace.segments trace.last h.time h.there;
+    },
+  )
 
 module _ (P : ℕ → Type 0) (a b n : ℕ) where
   holds_at : (start : ℕ) (front : List Segment) (segment : Segment) (back : List Segment)

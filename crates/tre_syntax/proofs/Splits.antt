@@ -1,22 +1,26 @@
--- A segment and the two that it is cut into, with the same valuation, are the same to every atom.
+-- A segment and the two that it is cut into, with the same valuation and its events at the begin of
+-- the first, are the same to every atom.
 use Rattle.std.proofs.Common.{◌≡◌, ℕ, ◌+◌, ◌*◌, ◌<◌, ◌≤◌, List, [], ◌∷◌, ◌++◌, Option, Some, sym, ap, subst, inl, inr, ⊎_elim, arith, add_assoc}
 use Rattle.std.proofs.lemmas.Bool.{cases_lt}
 use Rattle.std.proofs.Math.Nat.{mul-le-mul_right}
+use Rattle.std.proofs.lemmas.Nat.Bits.{bit_at-zero}
 use Rattle.tre_pairs.proofs.Laws.{Implies}
 use Rattle.tre_state.specs.StateTree.{HoldsOn}
 use Rattle.tre_trace.specs.declared.segment.Segment.{Segment}
+use Rattle.tre_trace.specs.Segments.{segment_with, plain_segment}
 use Rattle.tre_trace.specs.Literal.{HoldsBetween}
-use Rattle.tre_trace.specs.Trace.{end_of}
-use Rattle.tre_syntax.specs.PatternTree.{Atom, empty, literal, rise, fall}
-use Rattle.tre_syntax.specs.Rest.{rest_of, segment_of, HasEdge, EdgeMatches, AtomMatches}
+use Rattle.tre_trace.specs.Trace.{end_of, timeline_of}
+use Rattle.tre_syntax.specs.PatternTree.{Atom, empty, literal, rise, fall, event}
+use Rattle.tre_syntax.specs.Rest.{rest_of, HasEdge, HasEvent, EdgeMatches, AtomMatches}
+use Rattle.tre_syntax.proofs.Instants.{Implies-Instant}
 
-module _ (first second val : ℕ) (back : List Segment) where
+module _ (first second val ev : ℕ) (back : List Segment) where
   -- the segments from the one that is cut on, and once it is cut
   abbrev pub one : List Segment
-  one = segment_of (first + second) val ∷ back
+  one = segment_with (first + second) val ev ∷ back
 
   abbrev pub two : List Segment
-  two = segment_of first val ∷ segment_of second val ∷ back
+  two = segment_with first val ev ∷ plain_segment second val ∷ back
 
   end_of-split : (start : ℕ) (front : List Segment)
       → end_of start (front ++ one) ≡ end_of start (front ++ two)
@@ -76,7 +80,34 @@ module _ (first second val : ℕ) (back : List Segment) where
         ⊎_elim (λ here. inl here)
         (λ later. inr (edge_joined apart (start + s.len) (Some s.val) front t later)) h
 
-  module _ (start : ℕ) (before : Option ℕ) (front : List Segment) where
+  module _ (number last : ℕ) where
+    event_split : (start : ℕ) (front : List Segment) (t : ℕ)
+        → HasEvent number start (front ++ one) last t
+        → HasEvent number start (front ++ two) last t
+    event_split start [] t h =
+        ⊎_elim (λ here. inl here)
+        (λ later.
+        inr
+        (inr
+        (subst (λ x. HasEvent number x back last t) (sym (add_assoc start first second)) later))) h
+    event_split start (s ∷ front) t h =
+        ⊎_elim (λ here. inl here) (λ later. inr (event_split (start + s.len) front t later)) h
+
+    event_joined : (start : ℕ) (front : List Segment) (t : ℕ)
+        → HasEvent number start (front ++ two) last t
+        → HasEvent number start (front ++ one) last t
+    event_joined start [] t h =
+        ⊎_elim (λ here. inl here)
+        (λ later. ⊎_elim
+        (λ between. let none = bit_at-zero number in let some = between.1 in
+        absurd (omega (arith, none, some)))
+        (λ behind.
+        inr (subst (λ x. HasEvent number x back last t) (add_assoc start first second) behind))
+        later) h
+    event_joined start (s ∷ front) t h =
+        ⊎_elim (λ here. inl here) (λ later. inr (event_joined (start + s.len) front t later)) h
+
+  module _ (start : ℕ) (before : Option ℕ) (front : List Segment) (last : ℕ) where
     split_end : (b n : ℕ) → b ≤ end_of start (front ++ one) * n
         → b ≤ end_of start (front ++ two) * n
     split_end b n le = subst (λ t. b ≤ t * n) (end_of-split start front) le
@@ -86,39 +117,23 @@ module _ (first second val : ℕ) (back : List Segment) where
     joined_end b n le = subst (λ t. b ≤ t * n) (sym (end_of-split start front)) le
 
     edge_implies_split : (P Q : ℕ → Type 0)
-        → Implies (EdgeMatches P Q (rest_of start before (front ++ one)))
-        (EdgeMatches P Q (rest_of start before (front ++ two)))
-    edge_implies_split P Q = record {
-      at = λ a b n h. record {
-        time = h.time;
-        begin = h.begin;
-        end = h.end;
-        edge =
-            edge_split P Q start before front h.time h.edge;
-      };
-    }
+        → Implies (EdgeMatches P Q (rest_of start before (timeline_of (front ++ one) last)))
+        (EdgeMatches P Q (rest_of start before (timeline_of (front ++ two) last)))
+    edge_implies_split P Q = Implies-Instant (HasEdge P Q start before (front ++ one))
+        (HasEdge P Q start before (front ++ two)) (edge_split P Q start before front)
 
     edge_implies_joined : (P Q : ℕ → Type 0) → ((w : ℕ) → P w → Q w → ⊥)
-        → Implies (EdgeMatches P Q (rest_of start before (front ++ two)))
-        (EdgeMatches P Q (rest_of start before (front ++ one)))
-    edge_implies_joined P Q apart = record {
-      at = λ a b n h. record {
-        time = h.time;
-        begin = h.begin;
-        end = h.end;
-        edge =
-            edge_joined P Q apart start before front h.time h.edge;
-      };
-    }
+        → Implies (EdgeMatches P Q (rest_of start before (timeline_of (front ++ two) last)))
+        (EdgeMatches P Q (rest_of start before (timeline_of (front ++ one) last)))
+    edge_implies_joined P Q apart = Implies-Instant (HasEdge P Q start before (front ++ two))
+        (HasEdge P Q start before (front ++ one)) (edge_joined P Q apart start before front)
 
     pub Implies-split : (x : Atom)
-        → Implies (AtomMatches (rest_of start before (front ++ one)) x)
-        (AtomMatches (rest_of start before (front ++ two)) x)
-    Implies-split empty =
-        record {
-          at =
-              λ a b n h. record { begin = h.begin; same = h.same; end = split_end b n h.end };
-        }
+        → Implies (AtomMatches (rest_of start before (timeline_of (front ++ one) last)) x)
+        (AtomMatches (rest_of start before (timeline_of (front ++ two) last)) x)
+    Implies-split empty = record {
+      at = λ a b n h. record { begin = h.begin; same = h.same; end = split_end b n h.end };
+    }
     Implies-split (literal s) = record {
       at = λ a b n h. record {
         begin = h.begin;
@@ -129,15 +144,15 @@ module _ (first second val : ℕ) (back : List Segment) where
     }
     Implies-split (rise s) = edge_implies_split (λ w. ¬ HoldsOn s w) (HoldsOn s)
     Implies-split (fall s) = edge_implies_split (HoldsOn s) (λ w. ¬ HoldsOn s w)
+    Implies-split (event i) = Implies-Instant (HasEvent i start (front ++ one) last)
+        (HasEvent i start (front ++ two) last) (event_split i last start front)
 
     pub Implies-joined : (x : Atom)
-        → Implies (AtomMatches (rest_of start before (front ++ two)) x)
-        (AtomMatches (rest_of start before (front ++ one)) x)
-    Implies-joined empty =
-        record {
-          at =
-              λ a b n h. record { begin = h.begin; same = h.same; end = joined_end b n h.end };
-        }
+        → Implies (AtomMatches (rest_of start before (timeline_of (front ++ two) last)) x)
+        (AtomMatches (rest_of start before (timeline_of (front ++ one) last)) x)
+    Implies-joined empty = record {
+      at = λ a b n h. record { begin = h.begin; same = h.same; end = joined_end b n h.end };
+    }
     Implies-joined (literal s) = record {
       at = λ a b n h. record {
         begin = h.begin;
@@ -150,3 +165,5 @@ module _ (first second val : ℕ) (back : List Segment) where
         edge_implies_joined (λ w. ¬ HoldsOn s w) (HoldsOn s) (λ w no yes. no yes)
     Implies-joined (fall s) =
         edge_implies_joined (HoldsOn s) (λ w. ¬ HoldsOn s w) (λ w yes no. no yes)
+    Implies-joined (event i) = Implies-Instant (HasEvent i start (front ++ two) last)
+        (HasEvent i start (front ++ one) last) (event_joined i last start front)

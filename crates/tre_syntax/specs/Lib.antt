@@ -8,3 +8,4 @@ pub mod Meaning
 pub mod Neighbours
 pub mod FirstUse
 pub mod Cut
+pub mod AtTheEnd

@@ -1,7 +1,6 @@
 -- The meaning of timed regular expressions (FORMATS 2014, section 2).
-use Rattle.std.specs.Prelude.{List}
 use Rattle.tre_pairs.specs.Pairs.{Pairs, Composed, Either, Both, Lasting, Chain}
-use Rattle.tre_trace.specs.declared.segment.Segment.{Segment}
+use Rattle.tre_trace.specs.Trace.{Timeline}
 use Rattle.tre_zone.specs.Interval.{LastsWithin}
 use Rattle.tre_syntax.specs.PatternTree.{Atom, PatternTree, empty, atom, sequence, alternation, intersection, repetition, restriction}
 use Rattle.tre_syntax.specs.Rest.{Rest, whole, AtomMatches}
@@ -20,5 +19,5 @@ abbrev pub MatchesRest : PatternTree → Rest → Pairs
 MatchesRest tree rest = Meaning (AtomMatches rest) tree
 
 -- The expression matches the stretch from a/n to b/n over a whole trace.
-abbrev pub Matches : PatternTree → List Segment → Pairs
-Matches tree segments = MatchesRest tree (whole segments)
+abbrev pub Matches : PatternTree → Timeline → Pairs
+Matches tree trace = MatchesRest tree (whole trace)

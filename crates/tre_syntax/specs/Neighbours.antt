@@ -1,8 +1,9 @@
--- Edges and literals over a trace, said of its segments wherever they stand, without going through
--- them.
-use Rattle.std.specs.Prelude.{◌≡◌, ℕ, ◌+◌, ◌*◌, ◌≤◌, ◌<◌, List, ◌∷◌, ◌++◌}
+-- Edges, events and literals over a trace, said of its segments wherever they stand, without going
+-- through them.
+use Rattle.std.specs.Int.{bit_at}
+use Rattle.std.specs.Prelude.{◌≡◌, ℕ, ◌+◌, ◌*◌, ◌≤◌, ◌<◌, ◌⊎◌, List, ◌∷◌, ◌++◌}
 use Rattle.tre_trace.specs.declared.segment.Segment.{Segment}
-use Rattle.tre_trace.specs.Trace.{end_of}
+use Rattle.tre_trace.specs.Trace.{end_of, Timeline}
 
 -- At the time t one segment ends and its neighbour begins, P holds of the valuation of the one and
 -- Q of that of the other. The first of all segments begins at `start`.
@@ -24,6 +25,25 @@ pub record IsBetweenNeighbours (P Q : ℕ → Type 0) (segments : List Segment)
   pub begin : a ≡ time * n
   pub end : b ≡ time * n
   pub meet : MeetAt P Q 0 segments time
+
+-- A segment among whose events is the one of this number begins at the time t. The first of all
+-- segments begins at `start`.
+pub record BeginsWith (number start : ℕ) (segments : List Segment) (t : ℕ) : Type 0 where
+  pub front : List Segment
+  pub segment : Segment
+  pub back : List Segment
+  pub parts : segments ≡ front ++ segment ∷ back
+  pub time : t ≡ end_of start front
+  pub happens : bit_at segment.ev number ≡ 1
+
+-- a/n and b/n are one time, at which a segment of the trace begins with the event of this number,
+-- or at which the trace ends and the event is among the last.
+pub record IsWhereHappens (number : ℕ) (trace : Timeline) (a b n : ℕ) : Type 0 where
+  pub time : ℕ
+  pub begin : a ≡ time * n
+  pub end : b ≡ time * n
+  pub there : BeginsWith number 0 trace.segments time
+      ⊎ ((time ≡ end_of 0 trace.segments) × (bit_at trace.last number ≡ 1))
 
 -- Some time passes between a/n and b/n, all of it within the trace, and P holds of each segment
 -- that has a moment strictly between them, whatever segments stand in front of it and behind it.

@@ -1,16 +1,19 @@
 -- Timed regular expressions as trees (FORMATS 2014, section 2).
-use Rattle.std.specs.Prelude.{◌≡◌, ℕ, ◌+◌, Option, Some, None, List, [], ◌∷◌, ◌++◌, ◌==◌, nat_lt, if◌then◌else◌}
+use Rattle.std.specs.Prelude.{◌≡◌, ℕ, ◌+◌, ◌<◌, Option, Some, None, List, [], ◌∷◌, ◌++◌, ◌==◌, nat_lt, if◌then◌else◌}
 use Rattle.tre_state.specs.StateTree as states
 use Rattle.tre_state.specs.StateTree.{StateTree}
 use Rattle.tre_zone.specs.Interval.{IntervalEnds}
+use Rattle.tre_syntax.specs.declared.name_kind.NameKind.{NameKind}
+use Rattle.tre_syntax.specs.declared.name_kind.NameKind.TheVariants.{Proposition, Event}
 
 -- What an expression is made of: the empty stretch, a state that holds throughout, an edge of a
--- state.
+-- state, an event, which goes by its number.
 pub data Atom : Type 0 where
   empty : Atom
   literal : StateTree → Atom
   rise : StateTree → Atom
   fall : StateTree → Atom
+  event : ℕ → Atom
 
 -- A timed regular expression.
 pub data PatternTree : Type 0 where
@@ -21,32 +24,45 @@ pub data PatternTree : Type 0 where
   repetition : PatternTree → PatternTree
   restriction : PatternTree → IntervalEnds → PatternTree
 
--- The numbers of the propositions that an atom names, from the left, each as often as it stands
--- there.
-abbrev pub numbers_of_atom : Atom → List ℕ
-numbers_of_atom empty = []
-numbers_of_atom (literal state) = states.numbers_of state
-numbers_of_atom (rise state) = states.numbers_of state
-numbers_of_atom (fall state) = states.numbers_of state
+-- The numbers of the propositions that a state names, from the left, each as often as it stands
+-- there. It names no event.
+abbrev pub numbers_of_state : NameKind → StateTree → List ℕ
+numbers_of_state Proposition state = states.numbers_of state
+numbers_of_state Event state = []
 
--- The numbers of the propositions that the expression names, from the left, each as often as it
--- stands there.
-abbrev pub numbers_of : PatternTree → List ℕ
-numbers_of (atom x) = numbers_of_atom x
-numbers_of (sequence left right) = numbers_of left ++ numbers_of right
-numbers_of (alternation left right) = numbers_of left ++ numbers_of right
-numbers_of (intersection left right) = numbers_of left ++ numbers_of right
-numbers_of (repetition tree) = numbers_of tree
-numbers_of (restriction tree ends) = numbers_of tree
+-- The number of an event, which is no proposition.
+abbrev pub numbers_of_event : NameKind → ℕ → List ℕ
+numbers_of_event Proposition number = []
+numbers_of_event Event number = number ∷ []
 
--- Every proposition that an atom names has a number below the bound.
+-- The numbers of the propositions, or those of the events, that an atom names, from the left, each
+-- as often as it stands there.
+abbrev pub numbers_of_atom : NameKind → Atom → List ℕ
+numbers_of_atom kind empty = []
+numbers_of_atom kind (literal state) = numbers_of_state kind state
+numbers_of_atom kind (rise state) = numbers_of_state kind state
+numbers_of_atom kind (fall state) = numbers_of_state kind state
+numbers_of_atom kind (event number) = numbers_of_event kind number
+
+-- The numbers of the propositions, or those of the events, that the expression names, from the
+-- left, each as often as it stands there.
+abbrev pub numbers_of : NameKind → PatternTree → List ℕ
+numbers_of kind (atom x) = numbers_of_atom kind x
+numbers_of kind (sequence left right) = numbers_of kind left ++ numbers_of kind right
+numbers_of kind (alternation left right) = numbers_of kind left ++ numbers_of kind right
+numbers_of kind (intersection left right) = numbers_of kind left ++ numbers_of kind right
+numbers_of kind (repetition tree) = numbers_of kind tree
+numbers_of kind (restriction tree ends) = numbers_of kind tree
+
+-- Every proposition and every event that an atom names has a number below the bound.
 abbrev pub AtomNumbersBelow : ℕ → Atom → Type 0
 AtomNumbersBelow bound empty = Unit {0}
 AtomNumbersBelow bound (literal state) = states.NumbersBelow bound state
 AtomNumbersBelow bound (rise state) = states.NumbersBelow bound state
 AtomNumbersBelow bound (fall state) = states.NumbersBelow bound state
+AtomNumbersBelow bound (event number) = number < bound
 
--- Every proposition that the expression names has a number below the bound.
+-- Every proposition and every event that the expression names has a number below the bound.
 abbrev pub NumbersBelow : ℕ → PatternTree → Type 0
 NumbersBelow bound (atom x) = AtomNumbersBelow bound x
 NumbersBelow bound (sequence left right) = NumbersBelow bound left × NumbersBelow bound right
@@ -61,6 +77,7 @@ atom_node_count empty = 1
 atom_node_count (literal state) = 1 + states.node_count state
 atom_node_count (rise state) = 1 + states.node_count state
 atom_node_count (fall state) = 1 + states.node_count state
+atom_node_count (event number) = 1
 
 -- How many nodes the expression has, those of its states among them.
 abbrev pub node_count : PatternTree → ℕ
@@ -79,7 +96,7 @@ seen_after seen (number ∷ rest) =
     if nat_lt number seen then seen_after seen rest
     else (if number == seen then seen_after (seen + 1) rest else None)
 
--- The numbers of the propositions, by their first use from the left, are 0, 1 and so on up to the
--- count.
-abbrev pub IsNumbered : PatternTree → ℕ → Type 0
-IsNumbered tree count = seen_after 0 (numbers_of tree) ≡ Some count
+-- The numbers of the propositions, or those of the events, are 0, 1 and so on up to the count, by
+-- their first use from the left.
+abbrev pub IsNumbered : NameKind → PatternTree → ℕ → Type 0
+IsNumbered kind tree count = seen_after 0 (numbers_of kind tree) ≡ Some count

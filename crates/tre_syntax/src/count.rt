@@ -1,4 +1,4 @@
-// How many nodes an expression has, and in which order it first uses its propositions.
+// How many nodes an expression has, and in which order it first uses its propositions and events.
 //
 // The count stops once it passes its budget, and each level of the recursion has a node of its own.
 // So however an expression is shaped, the count goes no deeper than the budget.
@@ -10,6 +10,7 @@ ghost use Rattle.tre_syntax.specs.Expr.{tree_of};
 ghost use Rattle.tre_syntax.specs.PatternTree.{node_count, numbers_of, seen_after};
 
 use crate::expr::Expr;
+use crate::name_kind::NameKind;
 use tre_state::State;
 
 /// What is left of the budget once the nodes of the state are taken from it, None where they are
@@ -42,7 +43,7 @@ pub fn left_after(expr: &Expr, budget: u64) -> Option<u64>
     }
     let budget = budget - 1;
     match expr {
-        Expr::Eps => Some(budget),
+        Expr::Eps | Expr::Event(_) => Some(budget),
         Expr::Lit(state) | Expr::Rise(state) | Expr::Fall(state) => left_after_state(state, budget),
         Expr::Star(expr) | Expr::Within(expr, _) => left_after(expr, budget),
         Expr::Seq(one, other) | Expr::Alt(one, other) | Expr::Meet(one, other) => {
@@ -84,17 +85,24 @@ fn seen_with(number: u8, seen: usize) -> Option<usize>
     }
 }
 
-/// The same for an expression.
-pub fn seen_after(expr: &Expr, seen: usize) -> Option<usize>
-    ensures { result ≡ seen_after seen (numbers_of (tree_of expr.now)) }
+/// The same for an expression, with the numbers of its names of this kind.
+pub fn seen_after(kind: NameKind, expr: &Expr, seen: usize) -> Option<usize>
+    ensures { result ≡ seen_after seen (numbers_of kind (tree_of expr.now)) }
 {
     match expr {
         Expr::Eps => Some(seen),
-        Expr::Lit(state) | Expr::Rise(state) | Expr::Fall(state) => seen_after_state(state, seen),
-        Expr::Star(expr) | Expr::Within(expr, _) => seen_after(expr, seen),
+        Expr::Lit(state) | Expr::Rise(state) | Expr::Fall(state) => match kind {
+            NameKind::Proposition => seen_after_state(state, seen),
+            NameKind::Event => Some(seen),
+        },
+        Expr::Event(number) => match kind {
+            NameKind::Proposition => Some(seen),
+            NameKind::Event => seen_with(*number, seen),
+        },
+        Expr::Star(expr) | Expr::Within(expr, _) => seen_after(kind, expr, seen),
         Expr::Seq(one, other) | Expr::Alt(one, other) | Expr::Meet(one, other) => {
-            match seen_after(one, seen) {
-                Some(seen) => seen_after(other, seen),
+            match seen_after(kind, one, seen) {
+                Some(seen) => seen_after(kind, other, seen),
                 None => None,
             }
         }

@@ -4,6 +4,7 @@
 //! Each function does nothing: its contract is a law, and holds of every expression, every rest of
 //! a trace and every pair of times. The cut is where the front ends, and the valuation that holds
 //! last over the front is the one before the back, so that an edge at the cut is one of the back.
+//! An event at the cut is one of the back too.
 
 ghost use Rattle.std.specs.Prelude.{◌*◌, ◌<◌, ◌≤◌, ◌↔◌, ◌⊎◌, ℕ};
 ghost use Rattle.tre_pairs.specs.Cuts.{IsMoment, JoinedAt, Passing};
@@ -11,7 +12,7 @@ ghost use Rattle.tre_pairs.specs.Pairs.{Composed, Either, Both, Lasting};
 ghost use Rattle.tre_state.specs.StateTree.{StateTree};
 ghost use Rattle.tre_syntax.specs.Cut.{CutRest, HasLongParts, time_of, uncut, MatchesBefore, MatchesBehind, MatchesAcross};
 ghost use Rattle.tre_syntax.specs.Meaning.{MatchesRest};
-ghost use Rattle.tre_syntax.specs.PatternTree.{PatternTree, atom, empty, literal, rise, fall, sequence, alternation, intersection, repetition, restriction};
+ghost use Rattle.tre_syntax.specs.PatternTree.{PatternTree, atom, empty, literal, rise, fall, event, sequence, alternation, intersection, repetition, restriction};
 ghost use Rattle.tre_zone.specs.Interval.{IntervalEnds, LastsWithin};
 
 /// A match of the whole is one of the front, or one of the back, or one that crosses the cut. One
@@ -43,6 +44,13 @@ pub fn edges()
     ensures fall { (state : StateTree) (cut : CutRest) (a b n : ℕ) → HasLongParts cut → 0 < n →
         MatchesAcross (atom (fall state)) cut a b n ↔
         Both (IsMoment (time_of cut)) (MatchesBehind (atom (fall state)) cut) a b n }
+{}
+
+/// The only event that crosses the cut is one of the back, at the cut.
+pub fn events()
+    ensures { (number : ℕ) (cut : CutRest) (a b n : ℕ) → HasLongParts cut → 0 < n →
+        MatchesAcross (atom (event number)) cut a b n ↔
+        Both (IsMoment (time_of cut)) (MatchesBehind (atom (event number)) cut) a b n }
 {}
 
 /// A literal crosses the cut where it holds up to the cut, or begins there, and holds from the cut

@@ -16,6 +16,8 @@ pub enum Expr {
     Rise(State),
     /// A moment at which the state becomes false.
     Fall(State),
+    /// A moment at which the event of this number happens.
+    Event(u8),
     /// The first, and then the second.
     Seq(Box<Expr>, Box<Expr>),
     /// One of the two.
@@ -38,6 +40,7 @@ impl Expr {
             Expr::Lit(state) => Ok(Expr::Lit(state.try_clone(alloc)?)),
             Expr::Rise(state) => Ok(Expr::Rise(state.try_clone(alloc)?)),
             Expr::Fall(state) => Ok(Expr::Fall(state.try_clone(alloc)?)),
+            Expr::Event(number) => Ok(Expr::Event(*number)),
             Expr::Seq(left, right) => {
                 let left = Box::new(alloc, left.try_clone(alloc)?)?;
                 let right = Box::new(alloc, right.try_clone(alloc)?)?;

@@ -1,21 +1,23 @@
 //! Timed regular expressions, patterns, and their meaning.
 //!
-//! The central type is `Pattern`: an expression with the names of its propositions, of at most
-//! 1,000 nodes. The layers above may rely on the tree that an expression is seen as, on what a
-//! pattern always is, and on the meaning: `Matches tree segments a b n` says that the stretch of a
-//! trace from a/n to b/n is in the expression. Its laws stand in `laws`, each as the contract of a
-//! function.
+//! The central type is `Pattern`: an expression with the names of its propositions and events, of
+//! at most 1,000 nodes. The layers above may rely on the tree that an expression is seen as, on
+//! what a pattern always is, and on the meaning: `Matches tree trace a b n` says that the stretch
+//! of a trace from a/n to b/n is in the expression. Its laws stand in `laws`, each as the contract
+//! of a function.
 //!
 //! ```text
-//! Pattern::new(Expr::Seq(p, q), names)     the pattern `p;q`
+//! Pattern::new(Expr::Seq(p, q), names, events)     the pattern `p;q`
 //! ```
 #![tactic(auto)]
 
 pub use expr::Expr;
+pub use name_kind::NameKind;
 pub use pattern::{NODES_MAX, Pattern};
 
 mod count;
 pub mod cut;
 mod expr;
 pub mod laws;
+mod name_kind;
 mod pattern;

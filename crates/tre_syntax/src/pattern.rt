@@ -1,18 +1,21 @@
 ghost use Rattle.std.specs.Prelude.{◌≡◌, ◌≤◌, ◌↔◌, length, IsSome, IfSome, IfOk};
 ghost use Rattle.tre_syntax.specs.PatternTree.{node_count, IsNumbered};
 ghost use Rattle.tre_syntax.specs.Expr.{tree_of};
+ghost use Rattle.tre_syntax.specs.declared.name_kind.NameKind.{NameKind};
 ghost use Rattle.tre_syntax.specs.declared.pattern.TheConstants.{NODES_MAX};
 ghost use Rattle.tre_state.specs.declared.names.TheConstants.{NAMES_MAX};
 
 use crate::count::{left_after, seen_after};
 use crate::expr::Expr;
+use crate::name_kind::NameKind;
 use std::alloc::{AllocError, Global};
 use tre_state::Names;
 
 /// How many nodes a pattern may have.
 pub const NODES_MAX: u64 = 1000;
 
-/// An expression with the names of its propositions, each at the place that is its number.
+/// An expression with the names of its propositions and those of its events, each at the place that
+/// is its number. A name may stand in both lists: it is then two things.
 ///
 /// A pattern has at most `NODES_MAX` nodes, so whatever goes down its expression goes at most so
 /// deep.
@@ -20,33 +23,45 @@ pub const NODES_MAX: u64 = 1000;
 pub struct Pattern {
     expr: Expr,
     names: Names,
+    events: Names,
     ghost small: { node_count (tree_of expr) ≤ NODES_MAX },
-    ghost numbered: { IsNumbered (tree_of expr) (length names) },
+    ghost numbered: { IsNumbered NameKind.Proposition (tree_of expr) (length names) },
+    ghost events_numbered: { IsNumbered NameKind.Event (tree_of expr) (length events) },
     ghost few: { length names ≤ NAMES_MAX },
+    ghost few_events: { length events ≤ NAMES_MAX },
 }
 
 impl Pattern {
     ghost use Rattle.tre_syntax.specs.Pattern.{pattern_tree, names_of, IsPattern};
 
-    /// The pattern of an expression and the names of its propositions.
+    /// The pattern of an expression, the names of its propositions and those of its events.
     ///
-    /// None where the expression has more than `NODES_MAX` nodes, or where its numbers, by their
-    /// first use from the left, aren't 0, 1 and so on up to the count of names. No more than
-    /// `NODES_MAX` nodes are looked at. A refused expression is dropped, which goes as deep as the
-    /// expression does.
-    pub fn new(expr: Expr, names: Names) -> Option<Pattern>
-        ensures some { IsSome result ↔
-            ((node_count (tree_of expr) ≤ NODES_MAX) × IsNumbered (tree_of expr) (length names)) }
+    /// None where the expression has more than `NODES_MAX` nodes, or where the numbers of its
+    /// propositions, by their first use from the left, aren't 0, 1 and so on up to the count of
+    /// names, or those of its events up to the count of theirs. No more than `NODES_MAX` nodes are
+    /// looked at. A refused expression is dropped, which goes as deep as the expression does.
+    pub fn new(expr: Expr, names: Names, events: Names) -> Option<Pattern>
+        ensures some { IsSome result ↔ ((node_count (tree_of expr) ≤ NODES_MAX)
+            × IsNumbered NameKind.Proposition (tree_of expr) (length names)
+            × IsNumbered NameKind.Event (tree_of expr) (length events)) }
         ensures tree { IfSome result (λ pattern. pattern_tree pattern ≡ tree_of expr) }
-        ensures names { IfSome result (λ pattern. names_of pattern ≡ names) }
+        ensures names { IfSome result (λ pattern.
+            names_of pattern ≡ record { names = names; events = events }) }
     {
         if left_after(&expr, NODES_MAX).is_none() {
             return None;
         }
-        if seen_after(&expr, 0) != Some(names.len()) {
+        if seen_after(NameKind::Proposition, &expr, 0) != Some(names.len()) {
             return None;
         }
-        Some(Pattern { expr, names })
+        if seen_after(NameKind::Event, &expr, 0) != Some(events.len()) {
+            return None;
+        }
+        Some(Pattern {
+            expr,
+            names,
+            events,
+        })
     }
 
     /// The expression.
@@ -59,10 +74,18 @@ impl Pattern {
 
     /// The names of the propositions.
     pub fn names(&self) -> &Names
-        ensures names { result.now ≡ names_of self.now }
+        ensures names { result.now ≡ (names_of self.now).names }
         ensures pattern { IsPattern (pattern_tree self.now) (names_of self.now) }
     {
         &self.names
+    }
+
+    /// The names of the events.
+    pub fn events(&self) -> &Names
+        ensures events { result.now ≡ (names_of self.now).events }
+        ensures pattern { IsPattern (pattern_tree self.now) (names_of self.now) }
+    {
+        &self.events
     }
 
     /// How many nodes the expression has, those of its states among them.
@@ -84,6 +107,7 @@ impl Pattern {
         Ok(Pattern {
             expr: self.expr.try_clone(alloc)?,
             names: self.names.try_clone()?,
+            events: self.events.try_clone()?,
         })
     }
 }

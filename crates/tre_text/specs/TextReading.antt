@@ -8,8 +8,9 @@ use Rattle.tre_parts.specs.Format.{Format, Step, reading_of}
 use Rattle.tre_decimal.specs.Decimal.{is_numeral}
 use Rattle.tre_state.specs.Name.{starts_name, continues_name}
 use Rattle.tre_state.specs.Names.{place_of}
-use Rattle.tre_trace.specs.Reading.{Reading}
-use Rattle.tre_trace.specs.declared.segment.Segment.{Segment}
+use Rattle.tre_text.specs.declared.known.Known.{Known}
+use Rattle.tre_trace.specs.Reading.{Reading, Vocabulary}
+use Rattle.tre_trace.specs.Segments.{segment_with}
 use Rattle.tre_trace.specs.declared.fault.TraceKind.{TraceKind}
 use Rattle.tre_trace.specs.declared.fault.TraceKind.TheVariants.{BadNumber, Zero, TooLate, BadName}
 
@@ -46,6 +47,12 @@ abbrev pub begins_comment : List ℕ → Bool
 begins_comment [] = false
 begins_comment (byte ∷ bytes) = byte == 35
 
+-- A line of events begins with `@` (the byte 64), which is a field of its own.
+abbrev pub begins_events : List ℕ → Bool
+begins_events [] = false
+begins_events (byte ∷ []) = byte == 64
+begins_events (byte ∷ next ∷ bytes) = false
+
 -- spelt as a name is
 abbrev pub spells_word : List ℕ → Bool
 spells_word [] = false
@@ -60,7 +67,8 @@ with_bit valuation (Some place) = bit_or valuation (2 ^ place)
 abbrev pub with_name : List (List ℕ) → ℕ → List ℕ → ℕ
 with_name names valuation field = with_bit valuation (place_of names field)
 
--- the valuation, with the propositions of the fields true besides
+-- the valuation, with the propositions of the fields true besides; or the events, with those of the
+-- fields besides
 abbrev pub valuation_after : List (List ℕ) → ℕ → List (List ℕ) → ℕ
 valuation_after names valuation [] = valuation
 valuation_after names valuation (field ∷ fields) =
@@ -77,46 +85,68 @@ pub record IsNamed (names fields : List (List ℕ)) (i : ℕ) : Type 0 where
   pub is_field : Contains fields field
   pub place : place_of names field ≡ Some i
 
--- one segment behind a trace that ends at `end`
-abbrev pub one_segment : ℕ → Segment → Step ℕ
-one_segment end segment = record { segments = segment ∷ []; state = end + segment.len }
+-- when the trace so far ends, and the events that were said behind its last segment
+abbrev pub known_at : ℕ → ℕ → Known
+known_at end pending = record { end = end; pending = pending }
 
--- What a line says behind a trace that ends at `end`, where this many ticks and these fields stand
--- on it.
-abbrev pub entry_says : List (List ℕ) → ℕ → ℕ → List (List ℕ) → Result (Step ℕ) TraceKind
-entry_says names end len fields =
+abbrev pub no_segment : Known → Step Known
+no_segment known = record { segments = []; state = known }
+
+-- One segment behind what is known. The events that were said happen at its begin.
+abbrev pub one_segment : Known → ℕ → ℕ → Step Known
+one_segment known len val = record {
+  segments = segment_with len val known.pending ∷ [];
+  state = known_at (known.end + len) 0;
+}
+
+-- What a line says on which this many ticks and these fields stand.
+abbrev pub entry_says : Vocabulary → Known → ℕ → List (List ℕ) → Result (Step Known) TraceKind
+entry_says vocabulary known len fields =
     if len == 0 then Err Zero
-    else (if nat_le (end + len) TIME_MAX
+    else (if nat_le (known.end + len) TIME_MAX
     then (if list_all spells_word fields
-    then Ok (one_segment end (record { len = len; val = valuation_of names fields }))
+    then Ok (one_segment known len (valuation_of vocabulary.names fields))
     else Err BadName)
     else Err TooLate)
 
--- What fields say: none and a comment say nothing; else the first is a duration, and the others are
--- the names of what is true.
-abbrev pub fields_say : List (List ℕ) → ℕ → List (List ℕ) → Result (Step ℕ) TraceKind
-fields_say names end [] = Ok (record { segments = []; state = end })
-fields_say names end (first ∷ fields) =
-    if begins_comment first then Ok (record { segments = []; state = end })
-    else (if is_numeral first then entry_says names end (digits_value 10 first) fields else Err
-    BadNumber)
+-- What a line of events says on which these fields stand: those that happen, besides those that
+-- were said before.
+abbrev pub events_say : Vocabulary → Known → List (List ℕ) → Result (Step Known) TraceKind
+events_say vocabulary known fields =
+    if list_all spells_word fields
+    then Ok (no_segment (known_at known.end
+    (valuation_after vocabulary.events known.pending fields)))
+    else Err BadName
 
--- what a line says behind a trace that ends at `end`
-unfoldable pub line_says : List (List ℕ) → ℕ → List ℕ → Result (Step ℕ) TraceKind
-line_says names end line = fields_say names end (fields_of line)
+-- What fields say: none and a comment say nothing; behind `@` stand the names of events; else the
+-- first is a duration, and the others are the names of what is true.
+abbrev pub fields_say : Vocabulary → Known → List (List ℕ) → Result (Step Known) TraceKind
+fields_say vocabulary known [] = Ok (no_segment known)
+fields_say vocabulary known (first ∷ fields) =
+    if begins_comment first then Ok (no_segment known)
+    else (if begins_events first then events_say vocabulary known fields
+    else (if is_numeral first then entry_says vocabulary known (digits_value 10 first) fields
+    else Err BadNumber))
 
--- The text format: lines, of which each later one needs to know when the trace so far ends. A fault
--- is told with the number of its line, and the input may end anywhere.
-abbrev pub text_format : List (List ℕ) → Format ℕ
-text_format names = record {
+-- what a line says behind what is known
+unfoldable pub line_says : Vocabulary → Known → List ℕ → Result (Step Known) TraceKind
+line_says vocabulary known line = fields_say vocabulary known (fields_of line)
+
+-- The text format: lines, of which each later one needs to know when the trace so far ends and which
+-- events were said since. A fault is told with the number of its line, and the input may end
+-- anywhere.
+abbrev pub text_format : Vocabulary → Format Known
+text_format vocabulary = record {
   separates = is_line_end;
-  start = 0;
+  start = known_at 0 0;
   place = λ spot. spot.number;
-  says = line_says names;
-  at_end = λ end. None;
-  time = λ end. end;
+  says = line_says vocabulary;
+  at_end = λ known. None;
+  last = λ known. known.pending;
+  time = λ known. known.end;
 }
 
--- What the bytes say of a trace, for the propositions of these names: lines are numbered from 1.
-abbrev pub text_reading : List (List ℕ) → Bool → List ℕ → Reading
-text_reading names closed bytes = reading_of (text_format names) closed bytes
+-- What the bytes say of a trace, for the propositions and events of these names: lines are numbered
+-- from 1.
+abbrev pub text_reading : Vocabulary → Bool → List ℕ → Reading
+text_reading vocabulary closed bytes = reading_of (text_format vocabulary) closed bytes

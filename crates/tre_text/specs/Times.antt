@@ -6,83 +6,93 @@ use Rattle.std.specs.Str.Parse.{digits_value}
 use Rattle.tre_pairs.specs.declared.TheConstants.{TIME_MAX}
 use Rattle.tre_parts.specs.Format.{Step, Leads, KeepsTime}
 use Rattle.tre_decimal.specs.Decimal.{is_numeral}
-use Rattle.tre_text.specs.TextReading.{begins_comment, spells_word, valuation_of, one_segment, entry_says, fields_say, fields_of, line_says, text_format}
-use Rattle.tre_trace.specs.declared.segment.Segment.{Segment}
+use Rattle.tre_text.specs.TextReading.{begins_comment, begins_events, spells_word, valuation_of, valuation_after, known_at, no_segment, one_segment, entry_says, events_say, fields_say, fields_of, line_says, text_format}
+use Rattle.tre_text.specs.declared.known.Known.{Known}
+use Rattle.tre_trace.specs.Reading.{Vocabulary}
 use Rattle.tre_trace.specs.declared.fault.TraceKind.{TraceKind}
 use Rattle.tre_trace.specs.declared.fault.TraceKind.TheVariants.{BadNumber, Zero, TooLate, BadName}
 
-leads-nothing : (end : ℕ) (step : Step ℕ) → ◌≡◌ {A = Result (Step ℕ) TraceKind}
-    (Ok (record { segments = []; state = end })) (Ok step)
-    → Leads end step.segments step.state
-leads-nothing end step is =
-    let e : record { segments = []; state = end } ≡ step = cc in
-    subst (λ (s : Step ℕ). Leads end s.segments s.state) e
-    (record { long = tt; ends = refl; in_time = λ h. h })
+leads-nothing : (known now : Known) (step : Step Known) → known.end ≡ now.end
+    → ◌≡◌ {A = Result (Step Known) TraceKind} (Ok (no_segment now)) (Ok step)
+    → Leads known.end step.segments step.state.end
+leads-nothing known now step same is =
+    let e : no_segment now ≡ step = cc in
+    subst (λ (s : Step Known). Leads known.end s.segments s.state.end) e
+    (record { long = tt; ends = same; in_time = λ h. subst (λ n. n ≤ TIME_MAX) same h })
 
-leads-segment : (end : ℕ) (segment : Segment) (step : Step ℕ) → 1 ≤ segment.len → end + segment.len
+leads-segment : (known : Known) (len val : ℕ) (step : Step Known) → 1 ≤ len → known.end + len
     ≤ TIME_MAX
-    → ◌≡◌ {A = Result (Step ℕ) TraceKind} (Ok (one_segment end segment)) (Ok step)
-    → Leads end step.segments step.state
-leads-segment end segment step long fits is =
-    let e : one_segment end segment ≡ step = cc in
-    subst (λ (s : Step ℕ). Leads end s.segments s.state) e
+    → ◌≡◌ {A = Result (Step Known) TraceKind} (Ok (one_segment known len val)) (Ok step)
+    → Leads known.end step.segments step.state.end
+leads-segment known len val step long fits is =
+    let e : one_segment known len val ≡ step = cc in
+    subst (λ (s : Step Known). Leads known.end s.segments s.state.end) e
     (record { long = (long, tt); ends = refl; in_time = λ h. fits })
 
-leads-words : (names : List (List ℕ)) (end len : ℕ) (fields : List (List ℕ)) (step : Step ℕ)
-    → 1 ≤ len → end + len ≤ TIME_MAX → (words : Bool)
-    → (if words then Ok (one_segment end (record { len = len; val = valuation_of names fields }))
-    else Err BadName) ≡ Ok step
-    → Leads end step.segments step.state
-leads-words names end len fields step long fits true is = leads-segment end
-    (record { len = len; val = valuation_of names fields }) step long fits is
-leads-words names end len fields step long fits false is = cc
+leads-words : (known : Known) (len val : ℕ) (step : Step Known) → 1 ≤ len → known.end + len
+    ≤ TIME_MAX → (words : Bool)
+    → (if words then Ok (one_segment known len val) else Err BadName) ≡ Ok step
+    → Leads known.end step.segments step.state.end
+leads-words known len val step long fits true is = leads-segment known len val step long fits is
+leads-words known len val step long fits false is = cc
 
-leads-time : (names : List (List ℕ)) (end len : ℕ) (fields : List (List ℕ)) (step : Step ℕ)
-    → 1 ≤ len → (in_time : Bool) → nat_le (end + len) TIME_MAX ≡ in_time
-    → (if in_time then (if list_all spells_word fields then Ok
-    (one_segment end (record { len = len; val = valuation_of names fields })) else Err BadName)
+leads-time : (known : Known) (len val : ℕ) (step : Step Known) → 1 ≤ len → (words in_time : Bool)
+    → nat_le (known.end + len) TIME_MAX ≡ in_time
+    → (if in_time then (if words then Ok (one_segment known len val) else Err BadName)
     else Err TooLate) ≡ Ok step
-    → Leads end step.segments step.state
-leads-time names end len fields step long true e is = leads-words names end len fields step long
-    (grind (arith, nat_tests)) (list_all spells_word fields) is
-leads-time names end len fields step long false e is = cc
+    → Leads known.end step.segments step.state.end
+leads-time known len val step long words true e is =
+    leads-words known len val step long (grind (arith, nat_tests)) words is
+leads-time known len val step long words false e is = cc
 
-leads-entry : (names : List (List ℕ)) (end len : ℕ) (fields : List (List ℕ)) (step : Step ℕ)
-    → (none : Bool) → (len == 0) ≡ none
-    → (if none then Err Zero else (if nat_le (end + len) TIME_MAX then
-    (if list_all spells_word fields then Ok
-    (one_segment end (record { len = len; val = valuation_of names fields })) else Err BadName)
-    else Err TooLate)) ≡ Ok step
-    → Leads end step.segments step.state
-leads-entry names end len fields step true e is = cc
-leads-entry names end len fields step false e is =
+leads-entry : (known : Known) (len val : ℕ) (step : Step Known) (words none : Bool)
+    → (len == 0) ≡ none
+    → (if none then Err Zero else (if nat_le (known.end + len) TIME_MAX then
+    (if words then Ok (one_segment known len val) else Err BadName) else Err TooLate)) ≡ Ok step
+    → Leads known.end step.segments step.state.end
+leads-entry known len val step words true e is = cc
+leads-entry known len val step words false e is =
     let long : 1 ≤ len = grind (arith, nat_tests) in
-    leads-time names end len fields step long (nat_le (end + len) TIME_MAX) refl is
+    leads-time known len val step long words (nat_le (known.end + len) TIME_MAX) refl is
 
-leads-numeral : (names : List (List ℕ)) (end : ℕ) (first : List ℕ) (fields : List (List ℕ))
-    (step : Step ℕ) → (comment numeral : Bool)
-    → (if comment then Ok (record { segments = []; state = end }) else (if numeral then entry_says
-    names end (digits_value 10 first) fields else Err BadNumber)) ≡ Ok step
-    → Leads end step.segments step.state
-leads-numeral names end first fields step true numeral is = leads-nothing end step is
-leads-numeral names end first fields step false true is = leads-entry names end
-    (digits_value 10 first) fields step (digits_value 10 first == 0) refl is
-leads-numeral names end first fields step false false is = cc
+leads-events : (known : Known) (pending : ℕ) (step : Step Known) (words : Bool)
+    → (if words then Ok (no_segment (known_at known.end pending)) else Err BadName) ≡ Ok step
+    → Leads known.end step.segments step.state.end
+leads-events known pending step true is =
+    leads-nothing known (known_at known.end pending) step refl is
+leads-events known pending step false is = cc
 
-leads-fields : (names : List (List ℕ)) (end : ℕ) (fields : List (List ℕ)) (step : Step ℕ)
-    → fields_say names end fields ≡ Ok step → Leads end step.segments step.state
-leads-fields names end [] step is = leads-nothing end step is
-leads-fields names end (first ∷ fields) step is = leads-numeral names end first fields step
-    (begins_comment first) (is_numeral first) is
+leads-first : (vocabulary : Vocabulary) (known : Known) (first : List ℕ) (fields : List (List ℕ))
+    (step : Step Known) → (comment events numeral : Bool)
+    → (if comment then Ok (no_segment known) else (if events then events_say vocabulary known fields
+    else (if numeral then entry_says vocabulary known (digits_value 10 first) fields
+    else Err BadNumber))) ≡ Ok step
+    → Leads known.end step.segments step.state.end
+leads-first vocabulary known first fields step true events numeral is =
+    leads-nothing known known step refl is
+leads-first vocabulary known first fields step false true numeral is =
+    leads-events known (valuation_after vocabulary.events known.pending fields) step
+    (list_all spells_word fields) is
+leads-first vocabulary known first fields step false false true is =
+    leads-entry known (digits_value 10 first) (valuation_of vocabulary.names fields) step
+    (list_all spells_word fields) (digits_value 10 first == 0) refl is
+leads-first vocabulary known first fields step false false false is = cc
 
-leads-line : (names : List (List ℕ)) (end : ℕ) (line : List ℕ) (step : Step ℕ) → line_says names end
-    line ≡ Ok step → Leads end step.segments step.state
+leads-fields : (vocabulary : Vocabulary) (known : Known) (fields : List (List ℕ))
+    (step : Step Known) → fields_say vocabulary known fields ≡ Ok step
+    → Leads known.end step.segments step.state.end
+leads-fields vocabulary known [] step is = leads-nothing known known step refl is
+leads-fields vocabulary known (first ∷ fields) step is =
+    leads-first vocabulary known first fields step (begins_comment first) (begins_events first)
+    (is_numeral first) is
+
+leads-line : (vocabulary : Vocabulary) (known : Known) (line : List ℕ) (step : Step Known)
+    → line_says vocabulary known line ≡ Ok step → Leads known.end step.segments step.state.end
 unfolding line_says
-leads-line names end line step is = leads-fields names end (fields_of line) step is
+leads-line vocabulary known line step is = leads-fields vocabulary known (fields_of line) step is
 
-pub text-keeps_time : (names : List (List ℕ)) → KeepsTime (text_format names)
-text-keeps_time names = record {
+pub text-keeps_time : (vocabulary : Vocabulary) → KeepsTime (text_format vocabulary)
+text-keeps_time vocabulary = record {
   begins = refl;
-  leads = λ end line step is. leads-line names end
-      line step is;
+  leads = λ known line step is. leads-line vocabulary known line step is;
 }

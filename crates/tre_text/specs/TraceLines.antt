@@ -5,7 +5,8 @@ use Rattle.std.specs.Str.Parse.{digits_value}
 use Rattle.tre_pairs.specs.declared.TheConstants.{TIME_MAX}
 use Rattle.tre_parts.specs.declared.TheConstants.{PART_MAX}
 use Rattle.tre_decimal.specs.Decimal.{is_numeral}
-use Rattle.tre_text.specs.TextReading.{is_line_end, is_blank, fields_of, begins_comment, spells_word, valuation_of}
+use Rattle.tre_text.specs.TextReading.{is_line_end, is_blank, fields_of, begins_comment, begins_events, spells_word, valuation_of, valuation_after}
+use Rattle.tre_trace.specs.Reading.{Vocabulary}
 use Rattle.tre_trace.specs.declared.segment.Segment.{Segment}
 use Rattle.tre_trace.specs.declared.fault.TraceKind.{TraceKind}
 use Rattle.tre_trace.specs.declared.fault.TraceKind.TheVariants.{BadNumber, Zero, TooLate, BadName}
@@ -45,6 +46,14 @@ pub record HasFields (line : List ℕ) (P : List ℕ → List (List ℕ) → Typ
 abbrev pub IsSilent : List ℕ → Type 0
 IsSilent line = (fields_of line ≡ []) ⊎ HasFields line (λ first others. begins_comment first ≡ true)
 
+-- The sign of events stands first, and the others are names: those of the events that happen besides
+-- the ones that were said before, and this holds of all of them.
+pub record SaysEvents (events : List (List ℕ)) (pending : ℕ) (Later : ℕ → Type 0) (first : List ℕ)
+    (others : List (List ℕ)) : Type 0 where
+  pub sign : begins_events first ≡ true
+  pub words : list_all spells_word others ≡ true
+  pub later : Later (valuation_after events pending others)
+
 -- A duration stands first, and the others are names: those of what is true on the segment.
 pub record IsEntry (names : List (List ℕ)) (segment : Segment) (first : List ℕ)
     (others : List (List ℕ)) : Type 0 where
@@ -53,24 +62,32 @@ pub record IsEntry (names : List (List ℕ)) (segment : Segment) (first : List �
   pub words : list_all spells_word others ≡ true
   pub val : segment.val ≡ valuation_of names others
 
--- The line says the first of the segments, and this holds of the later ones.
-pub record SaysFirst (names : List (List ℕ)) (line : List ℕ) (segments : List Segment)
+-- The line says the first of the segments, at whose begin the events happen that were said before
+-- it, and this holds of the later ones.
+pub record SaysFirst (names : List (List ℕ)) (pending : ℕ) (line : List ℕ) (segments : List Segment)
     (Later : List Segment → Type 0) : Type 0 where
   pub segment : Segment
   pub rest : List Segment
   pub is : segments ≡ segment ∷ rest
   pub entry : HasFields line (IsEntry names segment)
+  pub events : segment.ev ≡ pending
   pub later : Later rest
 
--- Each line is silent or says the next segment, and these are all segments.
-abbrev pub Say : List (List ℕ) → List (List ℕ) → List Segment → Type 0
-Say names [] segments = segments ≡ []
-Say names (line ∷ lines) segments =
-    (IsSilent line × Say names lines segments) ⊎ SaysFirst names line segments (Say names lines)
+-- Each line is silent, says events or says the next segment. These are all segments, and the events
+-- that are said behind the last. `pending` are those that were said before the first line.
+abbrev pub Say : Vocabulary → ℕ → List (List ℕ) → List Segment → ℕ → Type 0
+Say vocabulary pending [] segments last = (segments ≡ []) × (last ≡ pending)
+Say vocabulary pending (line ∷ lines) segments last =
+    (IsSilent line × Say vocabulary pending lines segments last)
+    ⊎ (HasFields line (SaysEvents vocabulary.events pending
+    (λ said. Say vocabulary said lines segments last))
+    ⊎ SaysFirst vocabulary.names pending line segments
+    (λ rest. Say vocabulary 0 lines rest last))
 
--- It isn't a number of ticks.
+-- It isn't a number of ticks, nor the sign of events.
 pub record IsNoNumber (first : List ℕ) (others : List (List ℕ)) : Type 0 where
   pub no_comment : begins_comment first ≡ false
+  pub no_events : begins_events first ≡ false
   pub no_numeral : is_numeral first ≡ false
 
 -- It is the number 0.
@@ -91,10 +108,15 @@ pub record HasNoName (end : ℕ) (first : List ℕ) (others : List (List ℕ)) :
   pub in_time : end + digits_value 10 first ≤ TIME_MAX
   pub no_words : list_all spells_word others ≡ false
 
+-- It is the sign of events, and one of the others is no name.
+pub record HasNoEvent (first : List ℕ) (others : List (List ℕ)) : Type 0 where
+  pub sign : begins_events first ≡ true
+  pub no_words : list_all spells_word others ≡ false
+
 -- The fault of a line behind a trace that ends at `end`.
 abbrev pub HasFault : ℕ → List ℕ → TraceKind → Type 0
 HasFault end line BadNumber = HasFields line IsNoNumber
 HasFault end line Zero = HasFields line IsNoTime
 HasFault end line TooLate = HasFields line (IsTooLong end)
-HasFault end line BadName = HasFields line (HasNoName end)
+HasFault end line BadName = HasFields line (HasNoName end) ⊎ HasFields line HasNoEvent
 HasFault end line _ = ⊥

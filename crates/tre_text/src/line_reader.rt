@@ -1,29 +1,55 @@
 // The lines of a text trace, one after the other.
-ghost use Rattle.std.specs.Prelude.{◌≡◌, ℕ};
-ghost use Rattle.tre_text.specs.TextReading.{text_format};
+ghost use Rattle.std.specs.Prelude.{◌≡◌};
+ghost use Rattle.tre_text.specs.TextReading.{known_at, text_format};
 ghost use Rattle.tre_text.specs.Times.{text-keeps_time};
+ghost use Rattle.tre_text.specs.declared.known.Known.{Known};
+ghost use Rattle.tre_trace.specs.Reading.{Vocabulary};
 
+use crate::found::Found;
+use crate::known::Known;
 use crate::line::read_line;
 use memchr::memchr;
 use tre_parts::{PartReader, Said, Spot};
 use tre_state::Names;
-use tre_trace::TraceKind;
+use tre_trace::{Segment, TraceKind};
 
-/// Reads lines. It knows when the trace so far ends.
+/// Reads the lines of a text trace for the propositions and the events of its names.
 #[derive(Drop)]
 pub struct LineReader {
-    pub names: Names,
-    pub end: u64,
+    names: Names,
+    events: Names,
+    known: Known,
+}
+
+impl LineReader {
+    /// Nothing is read.
+    pub fn new(names: Names, events: Names) -> LineReader
+        ensures begins { ⟦<LineReader as PartReader>⟧.holds result (known_at 0 0) }
+        ensures terms { ⟦<LineReader as PartReader>⟧.terms result ≡ record {
+          names = names;
+          events =
+              events;
+        } }
+    {
+        let known = Known { end: 0, pending: 0 };
+        LineReader {
+            names,
+            events,
+            known,
+        }
+    }
 }
 
 impl PartReader for LineReader {
-    ghost State = { ℕ };
+    ghost State = { Known };
 
-    ghost names = { λ reader. reader.names };
+    ghost Terms = { Vocabulary };
+
+    ghost terms = { λ reader. record { names = reader.names; events = reader.events } };
 
     ghost format = { text_format };
 
-    ghost holds = { λ reader time. reader.end ≡ time };
+    ghost holds = { λ reader known. reader.known ≡ known };
 
     ghost keeps_time = { text-keeps_time };
 
@@ -32,15 +58,28 @@ impl PartReader for LineReader {
     }
 
     fn read(&mut self, part: &[u8]) -> Said {
-        let said = read_line(&self.names, self.end, part);
-        if let Said::Says(segment) = said {
-            self.end += segment.len;
+        match read_line(&self.names, &self.events, self.known, part) {
+            Found::Nothing => Said::Nothing,
+            Found::Events(pending) => {
+                self.known.pending = pending;
+                Said::Nothing
+            }
+            Found::Entry(len, val) => {
+                let ev = self.known.pending;
+                self.known.end += len;
+                self.known.pending = 0;
+                Said::Says(Segment { len, val, ev })
+            }
+            Found::Wrong(kind) => Said::Wrong(kind),
         }
-        said
     }
 
     fn at_end(&self) -> Option<TraceKind> {
         None
+    }
+
+    fn last(&self) -> u64 {
+        self.known.pending
     }
 
     fn place(&self, spot: Spot) -> u64 {

@@ -1,5 +1,6 @@
 -- What a reader must believe.
 pub mod Trace
+pub mod Segments
 pub mod Literal
 pub mod Reading
 pub mod Planes

@@ -1,12 +1,20 @@
 -- What the bytes of a trace say in some format, and how a call of a reader adds to it.
-use Rattle.std.specs.Prelude.{◌≡◌, ◌≢◌, List, ◌++◌, Option, Some}
+use Rattle.std.specs.Prelude.{◌≡◌, ◌≢◌, ℕ, List, ◌++◌, Option, Some}
 use Rattle.tre_trace.specs.declared.segment.Segment.{Segment}
 use Rattle.tre_trace.specs.declared.fault.TraceFault.{TraceFault}
 use Rattle.tre_trace.specs.declared.fault.TraceKind.TheVariants.{Spent, Memory}
 
--- What was read: the segments before the first fault, and that fault, if there is one.
+-- The names that a trace is read for, each with its place as its number: those of the propositions,
+-- and those of the events.
+pub record Vocabulary : Type 0 where
+  pub names : List (List ℕ)
+  pub events : List (List ℕ)
+
+-- What was read: the segments before the first fault, the events at the end of a whole trace, and
+-- the first fault, if there is one. Where the input has a fault or may go on, `last` is 0.
 pub record Reading : Type 0 where
   pub segments : List Segment
+  pub last : ℕ
   pub fault : Option TraceFault
 
 -- Nothing is taken back when more bytes come: the segments stay in front, and a fault ends the

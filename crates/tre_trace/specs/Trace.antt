@@ -5,6 +5,19 @@ use Rattle.tre_trace.specs.declared.segment.Segment.{Segment}
 use Rattle.tre_trace.specs.declared.fault.PushFault.{PushFault}
 use Rattle.tre_trace.specs.declared.fault.PushFault.TheVariants.{Zero, TooLate, Memory}
 
+-- A trace as it is seen: its segments in the order of time, of which the first begins at 0, and the
+-- events at its end. Bit i of the events says whether event i happens.
+pub record Timeline : Type 0 where
+  pub segments : List Segment
+  pub last : ℕ
+
+abbrev pub timeline_of : List Segment → ℕ → Timeline
+timeline_of segments last = record { segments = segments; last = last }
+
+-- the trace of these segments, with no event at its end
+abbrev pub quiet : List Segment → Timeline
+quiet segments = timeline_of segments 0
+
 -- when segments end of which the first begins at `start`
 abbrev pub end_of : ℕ → List Segment → ℕ
 end_of start [] = start

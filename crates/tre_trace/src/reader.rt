@@ -1,4 +1,4 @@
-ghost use Rattle.std.specs.Prelude.{◌≡◌, ◌↔◌, ℕ, ◌+◌, ◌^◌, ◌≤◌, List, ◌++◌, length, Bool, true, false, None, Err, OnOk, OnErr, IfErr};
+ghost use Rattle.std.specs.Prelude.{◌≡◌, ◌↔◌, ℕ, ◌+◌, ◌^◌, ◌≤◌, List, ◌++◌, length, Bool, true, false, None, Err, OnOk, OnErr, IfOk, IfErr};
 ghost use Rattle.tre_trace.specs.Reading.{Reading, Grows, Adds, IsRefused, IsPlaced, spent_fault};
 ghost use Rattle.tre_trace.specs.Trace.{IsTrace};
 
@@ -13,11 +13,14 @@ pub const FED_MAX: u64 = 1 << 62;
 /// however they are cut, it gives the segments and the fault that they say. Once it has refused
 /// bytes or was finished, it answers `Spent`.
 pub trait TraceReader {
-    /// The names of the propositions, each with its place as its number. No call changes them.
-    ghost names: { Self → List (List ℕ) };
+    /// What a reading hangs on besides the bytes, such as the names of propositions and events.
+    ghost Terms: { Type 0 };
 
-    /// What bytes say for the propositions of these names, where the input is closed or may go on.
-    ghost reading: { List (List ℕ) → Bool → List ℕ → Reading };
+    /// The terms that it reads by. No call changes them.
+    ghost terms: { Self → Terms };
+
+    /// What bytes say by these terms, where the input is closed or may go on.
+    ghost reading: { Terms → Bool → List ℕ → Reading };
 
     /// The reader was fed these bytes, and found no fault in them.
     ghost represents: { Self → List ℕ → Type 0 };
@@ -36,12 +39,12 @@ pub trait TraceReader {
             OnOk result (represents self.new (bytes ++ piece.now)) }
         ensures adds { (bytes : List ℕ) → represents self.old bytes →
             OnOk result (Adds segments.old.items segments.new.items
-            (reading (names self.old) false bytes)
-            (reading (names self.old) false (bytes ++ piece.now))) }
+            (reading (terms self.old) false bytes)
+            (reading (terms self.old) false (bytes ++ piece.now))) }
         ensures refused { (bytes : List ℕ) → represents self.old bytes →
             IfErr result (IsRefused segments.old.items segments.new.items
-            (reading (names self.old) false bytes)
-            (reading (names self.old) false (bytes ++ piece.now))) }
+            (reading (terms self.old) false bytes)
+            (reading (terms self.old) false (bytes ++ piece.now))) }
 
         ensures placed { IfErr result IsPlaced }
         ensures spent { (result ≡ Err spent_fault) ↔ (is_spent self.old ≡ true) }
@@ -49,28 +52,31 @@ pub trait TraceReader {
         ensures spent_then { OnErr result (is_spent self.new ≡ true) }
         ensures fed { OnOk result (fed_of self.new ≡ fed_of self.old + length piece.now) }
         ensures same_fed { OnErr result (fed_of self.new ≡ fed_of self.old) }
-        ensures same_names { names self.new ≡ names self.old };
+        ensures same_terms { terms self.new ≡ terms self.old };
 
     /// Reads the end of the input, and puts the segments that it completes behind the others.
-    /// Ok says that the bytes are a whole trace.
-    fn finish(&mut self, segments: &mut Vec<Segment>) -> Result<(), TraceFault>
+    /// Ok says that the bytes are a whole trace, and gives the events at its end: bit i says
+    /// whether event i happens.
+    fn finish(&mut self, segments: &mut Vec<Segment>) -> Result<u64, TraceFault>
         ensures whole { (bytes : List ℕ) → represents self.old bytes →
-            OnOk result ((reading (names self.old) true bytes).fault ≡ None) }
+            OnOk result ((reading (terms self.old) true bytes).fault ≡ None) }
+        ensures last { (bytes : List ℕ) → represents self.old bytes →
+            IfOk result (λ last. last ≡ (reading (terms self.old) true bytes).last) }
         ensures adds { (bytes : List ℕ) → represents self.old bytes →
             OnOk result (Adds segments.old.items segments.new.items
-            (reading (names self.old) false bytes)
-            (reading (names self.old) true bytes)) }
+            (reading (terms self.old) false bytes)
+            (reading (terms self.old) true bytes)) }
         ensures refused { (bytes : List ℕ) → represents self.old bytes →
             IfErr result (IsRefused segments.old.items segments.new.items
-            (reading (names self.old) false bytes)
-            (reading (names self.old) true bytes)) }
+            (reading (terms self.old) false bytes)
+            (reading (terms self.old) true bytes)) }
 
         ensures placed { IfErr result IsPlaced }
         ensures spent { (result ≡ Err spent_fault) ↔ (is_spent self.old ≡ true) }
         ensures unchanged { is_spent self.old ≡ true → segments.new.items ≡ segments.old.items }
         ensures spent_then { is_spent self.new ≡ true }
         ensures same_fed { fed_of self.new ≡ fed_of self.old }
-        ensures same_names { names self.new ≡ names self.old };
+        ensures same_terms { terms self.new ≡ terms self.old };
 
     /// How many bytes it was fed and didn't refuse.
     fn fed(&self) -> u64
@@ -82,13 +88,13 @@ pub trait TraceReader {
 
     /// Bytes that a reader represents have no fault while more may come.
     ghost faultless: { (reader : Self) (bytes : List ℕ) → represents reader bytes →
-        (reading (names reader) false bytes).fault ≡ None };
+        (reading (terms reader) false bytes).fault ≡ None };
 
     /// Nothing is taken back when more bytes come, or the end.
-    ghost grows: { (names : List (List ℕ)) (closed : Bool) (first more : List ℕ) →
-        Grows (reading names false first) (reading names closed (first ++ more)) };
+    ghost grows: { (terms : Terms) (closed : Bool) (first more : List ℕ) →
+        Grows (reading terms false first) (reading terms closed (first ++ more)) };
 
     /// Segments that were read are a trace.
-    ghost is_trace: { (names : List (List ℕ)) (closed : Bool) (bytes : List ℕ) →
-        IsTrace (reading names closed bytes).segments };
+    ghost is_trace: { (terms : Terms) (closed : Bool) (bytes : List ℕ) →
+        IsTrace (reading terms closed bytes).segments };
 }

@@ -4,7 +4,7 @@ use Rattle.std.proofs.lemmas.Result.{IfOk-weaker}
 use Rattle.tre_state.specs.State as states
 use Rattle.tre_state.specs.declared.names.TheConstants.{NAMES_MAX}
 use Rattle.tre_syntax.specs.Expr.{tree_of}
-use Rattle.tre_syntax.specs.PatternTree.{PatternTree, NumbersBelow, atom, empty, literal, rise, fall, sequence, alternation, intersection, repetition, restriction}
+use Rattle.tre_syntax.specs.PatternTree.{PatternTree, NumbersBelow, atom, empty, literal, rise, fall, event, sequence, alternation, intersection, repetition, restriction}
 use Rattle.tre_residual.specs.Residual.{followed, residual_tree, Builds}
 use Rattle.tre_derive.specs.Derivative.{IsFresh, ComesAfter}
 use Rattle.tre_derive.proofs.AcrossPieces.{fresh_seq, fresh_star, fresh_alt, fresh_meet, fresh_within}
@@ -32,23 +32,33 @@ returns-in-Lit t c =
 
 pub returns-in-Rise : goal.returns-in-Rise
 returns-in-Rise t c =
-    let state = states.tree_of c.in-Rise.field-0 in
-    let tree : tree_of c.args.expr.now ≡ atom (rise state) = ap tree_of c.in-Rise.is in
-    IfOk-weaker c.fresh_edge.result _ _
+    let x = rise (states.tree_of c.in-Rise.field-0) in
+    let tree : tree_of c.args.expr.now ≡ atom x = ap tree_of c.in-Rise.is in
+    IfOk-weaker c.fresh_instant.result _ _
     (λ residual is.
     subst (λ (whole : PatternTree). IsFresh whole c.args.piece.now (residual_tree residual))
-    (sym tree) (is state tree))
-    c.fresh_edge.ensures.rise
+    (sym tree) (is x tree tt))
+    c.fresh_instant.ensures
 
 pub returns-in-Fall : goal.returns-in-Fall
 returns-in-Fall t c =
-    let state = states.tree_of c.in-Fall.field-0 in
-    let tree : tree_of c.args.expr.now ≡ atom (fall state) = ap tree_of c.in-Fall.is in
-    IfOk-weaker c.fresh_edge-in-Fall.result _ _
+    let x = fall (states.tree_of c.in-Fall.field-0) in
+    let tree : tree_of c.args.expr.now ≡ atom x = ap tree_of c.in-Fall.is in
+    IfOk-weaker c.fresh_instant-in-Fall.result _ _
     (λ residual is.
     subst (λ (whole : PatternTree). IsFresh whole c.args.piece.now (residual_tree residual))
-    (sym tree) (is state tree))
-    c.fresh_edge-in-Fall.ensures.fall
+    (sym tree) (is x tree tt))
+    c.fresh_instant-in-Fall.ensures
+
+pub returns-in-Event : goal.returns-in-Event
+returns-in-Event t c =
+    let x = event c.in-Event.field-0 in
+    let tree : tree_of c.args.expr.now ≡ atom x = ap tree_of c.in-Event.is in
+    IfOk-weaker c.fresh_instant-in-Event.result _ _
+    (λ residual is.
+    subst (λ (whole : PatternTree). IsFresh whole c.args.piece.now (residual_tree residual))
+    (sym tree) (is x tree tt))
+    c.fresh_instant-in-Event.ensures
 
 pub returns-in_ok-second-in-Seq-2 : goal.returns-in_ok-second-in-Seq-2
 returns-in_ok-second-in-Seq-2 t c =

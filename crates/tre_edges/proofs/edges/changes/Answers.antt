@@ -25,16 +25,16 @@ loop-at-init c =
 pub next_place-other-requires-clause-limit : goal.next_place-other-requires-clause-limit
 next_place-other-requires-clause-limit c =
     let segments = c.segments-count.ensures in
-    omega (arith, ap length segments.segments, count-limit c.args.trace.now segments.trace)
+    omega (arith, ap length segments.segments, count-limit c.args.trace.now.segments segments.trace)
 
 pub next_place-turn-requires-clause-limit : goal.next_place-turn-requires-clause-limit
 next_place-turn-requires-clause-limit c =
     let segments = c.segments-count.ensures in
-    omega (arith, ap length segments.segments, count-limit c.args.trace.now segments.trace)
+    omega (arith, ap length segments.segments, count-limit c.args.trace.now.segments segments.trace)
 
-pub add_edge-requires-clause-ended : goal.add_edge-requires-clause-ended
-add_edge-requires-clause-ended c =
-    let trace = c.args.trace.now in
+pub add_instant-requires-clause-ended : goal.add_instant-requires-clause-ended
+add_instant-requires-clause-ended c =
+    let trace = c.args.trace.now.segments in
     let count = ap length c.segments-count.ensures.segments in
     rw c.start_from-seen.ensures.time
     (EndBefore-later (time_of trace c.loop-at.at) (time_of trace c.next_place-turn.result)
@@ -42,17 +42,17 @@ add_edge-requires-clause-ended c =
     (omega (arith, c.next_place-other.ensures.late, c.next_place-turn.ensures.late)))
     c.loop-at.zones (c.loop-at.invariant.ended (omega (arith, c.loop-at-test.true, count))))
 
-pub add_edge-requires-clause-limit : goal.add_edge-requires-clause-limit
-add_edge-requires-clause-limit c =
+pub add_instant-requires-clause-limit : goal.add_instant-requires-clause-limit
+add_instant-requires-clause-limit c =
     omega (
       arith,
       c.start_from-seen.ensures.time,
-      time_of-limit c.args.trace.now c.next_place-turn.result c.segments-count.ensures.trace,
+      time_of-limit c.args.trace.now.segments c.next_place-turn.result c.segments-count.ensures.trace,
     )
 
 pub loop-at-preserved : goal.loop-at-preserved
 loop-at-preserved c =
-    let trace = c.args.trace.now in
+    let trace = c.args.trace.now.segments in
     let other = c.next_place-other.result in
     let turn = c.next_place-turn.result in
     let words = c.in_ok-words.words.items in
@@ -64,20 +64,20 @@ loop-at-preserved c =
     rw (c.deref-in-loop-at.ensures.value, c.segments-count.ensures.segments) at
     c.next_place-turn.ensures in
     let held = rw (c.start_from-seen.ensures.time, c.segments-count.ensures.segments) at
-    c.in_ok-add_edge.ensures.held in
+    c.in_ok-add_instant.ensures.held in
     record {
       exact = λ a b n some rising.
           exact_closed (c.loop-at.invariant.exact a b n some rising)
           (edge_found state trace words truth c.args.becomes c.loop-at.at other turn first last
           _ (lt_test turn (length trace)) c.loop-at.invariant.calm a b n)
           (held.exact a b n some rising);
-      instants = c.in_ok-add_edge.ensures.instants;
+      instants = c.in_ok-add_instant.ensures.instants;
       passed = omega (arith, c.start_from-seen.ensures.place);
       seen = rw c.start_from-seen.ensures.place c.start_from-seen.ensures.time;
       ended = λ inside.
           EndBefore-later (time_of trace turn + 1) (time_of trace (turn + 1))
           (later trace turn (omega (arith, inside)) c.segments-count.ensures.trace) _
-          (rw c.start_from-seen.ensures.time at c.in_ok-add_edge.ensures.ended);
+          (rw c.start_from-seen.ensures.time at c.in_ok-add_instant.ensures.ended);
       calm = λ inside.
           calm_then state trace words truth c.args.becomes c.loop-at.at other turn first last
           (omega (arith, inside));

@@ -17,12 +17,12 @@ invariant-loop-at l =
     record {
       exact : (a b n : ℕ) → 0 < n → a ≤ b
           → ComesTo l.becomes (tree_of l.state) (whole l.trace) a b n
-          ↔ (SetHolds l.zones a b n ⊎ EdgesFrom is_other is l.trace l.at a b n);
+          ↔ (SetHolds l.zones a b n ⊎ EdgesFrom is_other is l.trace.segments l.at a b n);
       instants : AreInstants 0 l.zones;
       passed : l.seen.place ≤ l.at;
-      seen : l.seen.time ≡ time_of l.trace l.seen.place;
-      ended : l.at < length l.trace → EndBefore (time_of l.trace l.at) l.zones;
-      calm : l.at < length l.trace → IsSomeAnd (before_at l.trace l.at) is_other → ⊥;
+      seen : l.seen.time ≡ time_of l.trace.segments l.seen.place;
+      ended : l.at < length l.trace.segments → EndBefore (time_of l.trace.segments l.at) l.zones;
+      calm : l.at < length l.trace.segments → IsSomeAnd (before_at l.trace.segments l.at) is_other → ⊥;
     }
 
 abbrev pub decreases-loop-at : goal.decreases-loop-at

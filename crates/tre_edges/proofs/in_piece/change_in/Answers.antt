@@ -3,7 +3,7 @@ use Rattle.tre_state.specs.State.{tree_of}
 use Rattle.tre_edges.specs.Piece.{rest_of_piece}
 use Rattle.tre_edges.specs.Truth.{HasTruth, ComesTo, IsFoundAt}
 use Rattle.tre_edges.proofs.AtomsOfSegments.{GivesZone-agree, edge_of_segment}
-use Rattle.tre_edges.proofs.EdgesOfRests.{both_true}
+use Rattle.tre_edges.proofs.InstantsOfRests.{both_true}
 use Rattle.tre_edges.proofs.in_piece.change_in.Goals as goal
 
 pub returns-in-Some : goal.returns-in-Some

@@ -12,7 +12,7 @@ use Rattle.tre_edges.proofs.runs.literal.Goals as goal
 
 pub loop-at-init : goal.loop-at-init
 loop-at-init c =
-    let start = HoldsFrom-literal (HoldsOn (tree_of c.args.state.now)) c.args.trace.now in
+    let start = HoldsFrom-literal (HoldsOn (tree_of c.args.state.now)) c.args.trace.now.segments in
     rw c.new-zones.ensures (record {
       exact = λ a b n some rising. (
         λ matches. inr ((start a b n).0 matches),
@@ -28,16 +28,16 @@ loop-at-init c =
 pub next_place-begin-requires-clause-limit : goal.next_place-begin-requires-clause-limit
 next_place-begin-requires-clause-limit c =
     let segments = c.segments-count.ensures in
-    omega (arith, ap length segments.segments, count-limit c.args.trace.now segments.trace)
+    omega (arith, ap length segments.segments, count-limit c.args.trace.now.segments segments.trace)
 
 pub next_place-end-requires-clause-limit : goal.next_place-end-requires-clause-limit
 next_place-end-requires-clause-limit c =
     let segments = c.segments-count.ensures in
-    omega (arith, ap length segments.segments, count-limit c.args.trace.now segments.trace)
+    omega (arith, ap length segments.segments, count-limit c.args.trace.now.segments segments.trace)
 
 pub close-requires-clause-ended : goal.close-requires-clause-ended
 close-requires-clause-ended c =
-    let trace = c.args.trace.now in
+    let trace = c.args.trace.now.segments in
     let count = ap length c.segments-count.ensures.segments in
     rw c.start_from-from.ensures.time
     (EndBefore-later (time_of trace c.loop-at.at) (time_of trace c.next_place-begin.result)
@@ -50,7 +50,7 @@ close-requires-clause-order c =
       arith,
       c.start_from-from.ensures.time,
       c.start_from-seen.ensures.time,
-      time_of-mono c.args.trace.now c.next_place-begin.result c.next_place-end.result
+      time_of-mono c.args.trace.now.segments c.next_place-begin.result c.next_place-end.result
           c.next_place-end.ensures.late,
     )
 
@@ -59,12 +59,12 @@ close-requires-clause-limit c =
     omega (
       arith,
       c.start_from-seen.ensures.time,
-      time_of-limit c.args.trace.now c.next_place-end.result c.segments-count.ensures.trace,
+      time_of-limit c.args.trace.now.segments c.next_place-end.result c.segments-count.ensures.trace,
     )
 
 pub loop-at-preserved : goal.loop-at-preserved
 loop-at-preserved c =
-    let trace = c.args.trace.now in
+    let trace = c.args.trace.now.segments in
     let begin = c.next_place-begin.result in
     let end = c.next_place-end.result in
     let first =

@@ -14,12 +14,12 @@ abbrev pub invariant-loop-at : goal.invariant-loop-at
 invariant-loop-at l =
     let holds = HoldsOn (tree_of l.state) in
     record {
-      exact : (a b n : ℕ) → 0 < n → a ≤ b → LiteralMatches holds 0 l.trace a b n
-          ↔ (SetHolds l.zones a b n ⊎ FromPlace holds l.trace (time_of l.trace l.at) l.at a b n);
+      exact : (a b n : ℕ) → 0 < n → a ≤ b → LiteralMatches holds 0 l.trace.segments a b n
+          ↔ (SetHolds l.zones a b n ⊎ FromPlace holds l.trace.segments (time_of l.trace.segments l.at) l.at a b n);
       runs : AreRuns 0 l.zones;
       passed : l.seen.place ≤ l.at;
-      seen : l.seen.time ≡ time_of l.trace l.seen.place;
-      ended : l.at < length l.trace → EndBefore (time_of l.trace l.at) l.zones;
+      seen : l.seen.time ≡ time_of l.trace.segments l.seen.place;
+      ended : l.at < length l.trace.segments → EndBefore (time_of l.trace.segments l.at) l.zones;
     }
 
 abbrev pub decreases-loop-at : goal.decreases-loop-at

@@ -7,7 +7,7 @@ use Rattle.tre_edges.proofs.truth_words.+truth.Goals as goal
 pub returns-in_ok-plane-in-Prop : goal.returns-in_ok-plane-in-Prop
 returns-in_ok-plane-in-Prop t c =
     rw (c.in-Prop.is, c.in_ok-plane-in-Prop.ensures.items)
-    (of_proposition c.args.trace.now c.in-Prop.number c.plane.result.now c.plane.ensures)
+    (of_proposition c.args.trace.now.segments c.in-Prop.number c.plane.result.now c.plane.ensures)
 
 pub returns-in_ok-other-in-And : goal.returns-in_ok-other-in-And
 returns-in_ok-other-in-And t c =
@@ -19,7 +19,7 @@ returns-in_ok-other-in-And t c =
     let same : length new ≡ words.len =
     omega (arith, c.and_into.auto.a, c.deref_mut.ensures.len) in
     rw (c.in-And.is, with_items_is words new same, combined)
-    (of_conjunction c.args.trace.now _ _ words.items other.items
+    (of_conjunction c.args.trace.now.segments _ _ words.items other.items
     (rw c.deref-in-And.ensures at c.in_ok-words-in-And.ensures)
     (rw c.deref-in-And-2.ensures at c.in_ok-other-in-And.ensures))
 
@@ -33,6 +33,6 @@ returns-in_ok-other-in-Or t c =
     let same : length new ≡ words.len =
     omega (arith, c.or_into.auto.a, c.deref_mut-in-Or.ensures.len) in
     rw (c.in-Or.is, with_items_is words new same, combined)
-    (of_disjunction c.args.trace.now _ _ words.items other.items
+    (of_disjunction c.args.trace.now.segments _ _ words.items other.items
     (rw c.deref-in-Or.ensures at c.in_ok-words-in-Or.ensures)
     (rw c.deref-in-Or-2.ensures at c.in_ok-other-in-Or.ensures))

@@ -4,6 +4,7 @@ use Rattle.csv.specs.Reading.{default_config, records, strip_bom}
 use Rattle.csv.specs.Records.{fields_of}
 use Rattle.tre_num.specs.Rows.{columns_of, rows_from, under_header, table_says}
 use Rattle.tre_num.proofs.Records.{IsLeft-next, IsLeft-end}
+use Rattle.tre_trace.specs.Trace.{Timeline, quiet}
 use Rattle.tre_num.proofs.rows.read_rows.Goals as goal
 
 pub returns-in_err-columns-in-Some-Ok-clause-fault :
@@ -77,11 +78,15 @@ returns-in_ok-segments-in-Some-Ok-clause-trace c =
     (sym c.deref.ensures.value)
     ∙ ap (λ width. rows_from c.deref.result.now width scale 2 takes.others 0) (sym c.len.ensures)
     ∙ c.in_ok-segments-in-Some-Ok.ensures.segments takes.others takes.rest in
-    IfOk-weaker c.trace_of.result (λ trace. trace ≡ c.in_ok-segments-in-Some-Ok.segments.items)
+    IfOk-weaker c.trace_of.result (λ trace. trace ≡ quiet c.in_ok-segments-in-Some-Ok.segments.items)
     (λ trace. table_says c.args.definitions.now c.args.names.now scale
     (records default_config (strip_bom c.args.bytes.now))
-    ≡ record { segments = trace; fault = None })
-    (λ trace same. reads ∙ ap (λ segments. record { segments = segments; fault = None }) (sym same))
+    ≡ record { segments = trace.segments; last = trace.last; fault = None })
+    (λ trace same. reads ∙ ap (λ (trace : Timeline). record {
+      segments = trace.segments;
+      last = trace.last;
+      fault = None;
+    }) (sym same))
     c.trace_of.ensures.trace
 
 pub returns-in_ok-columns_of-in-None-clause-trace :
@@ -96,5 +101,9 @@ returns-in_ok-columns_of-in-None-clause-trace c =
     ∙ ap (λ fields. under_header (columns_of c.args.definitions.now fields c.args.names.now) 0
     scale []) (sym c.new.ensures.fields)
     ∙ ap (λ columns. under_header columns 0 scale []) c.in_ok-columns_of-in-None.ensures.found
-    ∙ ap (λ segments. record { segments = segments; fault = None })
+    ∙ ap (λ (trace : Timeline). record {
+      segments = trace.segments;
+      last = trace.last;
+      fault = None;
+    })
     (sym c.new-in-None.ensures.empty)

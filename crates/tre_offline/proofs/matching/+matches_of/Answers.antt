@@ -7,7 +7,7 @@ use Rattle.tre_zone.specs.ZoneList.{HoldExactly}
 use Rattle.tre_state.specs.State as states
 use Rattle.tre_syntax.specs.Expr.{tree_of}
 use Rattle.tre_syntax.specs.Meaning.{MatchesRest}
-use Rattle.tre_syntax.specs.PatternTree.{PatternTree, atom, empty, literal, rise, fall, sequence, alternation, intersection, repetition, restriction}
+use Rattle.tre_syntax.specs.PatternTree.{PatternTree, atom, empty, literal, rise, fall, event, sequence, alternation, intersection, repetition, restriction}
 use Rattle.tre_offline.proofs.matching.+matches_of.Goals as goal
 
 pub returns-in_ok-second-in-Seq : goal.returns-in_ok-second-in-Seq
@@ -123,3 +123,14 @@ returns-in_ok-all-in-Fall g t c =
     subst (λ (whole : PatternTree). HoldExactly zones (Lasting (LastsUpTo c.args.longest)
     (MatchesRest whole rest))) (sym tree) (exact part rest c.in_ok-all-in-Fall.ensures))
     c.shortened-in-Fall.ensures
+
+pub returns-in_ok-all-in-Event : goal.returns-in_ok-all-in-Event
+returns-in_ok-all-in-Event g t c =
+    let rest = g.A.Atoms.rest c.args.atoms.now in
+    let part : PatternTree = atom (event c.in-Event.number) in
+    let tree : tree_of c.args.expr.now ≡ part = ap tree_of c.in-Event.is in
+    IfOk-weaker c.shortened-in-Event.result _ _
+    (λ zones exact.
+    subst (λ (whole : PatternTree). HoldExactly zones (Lasting (LastsUpTo c.args.longest)
+    (MatchesRest whole rest))) (sym tree) (exact part rest c.in_ok-all-in-Event.ensures))
+    c.shortened-in-Event.ensures

@@ -13,10 +13,10 @@ returns c =
       c.in_ok-push_operand.ensures.text,
       c.new-text.ensures.bytes,
       c.expr.ensures.tree,
-      c.names-names.ensures.names,
     ) refl in
     let read = text_of_tree (names_of c.args.pattern.now) (pattern_tree c.args.pattern.now)
-    (subst IsNameList c.names-names.ensures.names c.len-count.ensures.list) c.expr.ensures.pattern
+    (subst IsNameList c.names.ensures.names c.len-names.ensures.list)
+    (subst IsNameList c.events.ensures.events c.len-events.ensures.list) c.expr.ensures.pattern
     (subst HasIntervals c.expr.ensures.tree c.in_ok-push_operand.ensures.intervals)
     c.one_outcome.ensures in
     let is = subst (λ bytes. IsTextOf bytes (pattern_tree c.args.pattern.now)

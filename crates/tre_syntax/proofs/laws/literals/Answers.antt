@@ -3,4 +3,4 @@ use Rattle.tre_syntax.proofs.Neighbouring.{literal_iff}
 use Rattle.tre_syntax.proofs.laws.literals.Goals as goal
 
 pub returns : goal.returns
-returns c = λ s segments a b n. literal_iff (HoldsOn s) a b n segments
+returns c = λ s trace a b n. literal_iff (HoldsOn s) a b n trace.segments

@@ -8,7 +8,7 @@ returns c = record {
   rest = λ tree rest k a b n pos. let law =
       Scales-Meaning (AtomMatches rest) (Scales-Atom rest) tree in
       (law.up k a b n pos, law.down k a b n pos);
-  whole = λ tree segments k a b n pos.
-      let law = Scales-Meaning (AtomMatches (whole segments)) (Scales-Atom (whole segments)) tree in
+  whole = λ tree trace k a b n pos.
+      let law = Scales-Meaning (AtomMatches (whole trace)) (Scales-Atom (whole trace)) tree in
       (law.up k a b n pos, law.down k a b n pos);
 }

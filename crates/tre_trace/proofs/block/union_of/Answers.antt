@@ -1,5 +1,6 @@
 use Rattle.std.proofs.Common.{take, slice_index_or}
 use Rattle.std.proofs.lemmas.List.{take_all, take_more}
+use Rattle.tre_trace.specs.Segments.{plain_segment}
 use Rattle.tre_trace.proofs.Blocks.{IsUnion-none, IsUnion-more}
 use Rattle.tre_trace.proofs.block.union_of.Goals as goal
 
@@ -10,8 +11,8 @@ pub loop-segment-preserved : goal.loop-segment-preserved
 loop-segment-preserved c =
     let block = c.args.block.now in
     let place = c.loop-segment.segment-index in
-    let segment = slice_index_or block place (record { len = 0; val = 0 }) in
-    rw (take_more block place (record { len = 0; val = 0 }) c.loop-segment-test.true)
+    let segment = slice_index_or block place (plain_segment 0 0) in
+    rw (take_more block place (plain_segment 0 0) c.loop-segment-test.true)
     (IsUnion-more (take place block) segment c.loop-segment.union c.loop-segment.invariant)
 
 pub returns : goal.returns

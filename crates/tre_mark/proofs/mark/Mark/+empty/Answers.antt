@@ -2,7 +2,7 @@ use Rattle.std.proofs.Common.{◌≡◌, ◌∙◌, ap, sym, subst, []}
 use Rattle.std.proofs.lemmas.Result.{IfOk-weaker}
 use Rattle.tre_state.specs.State as states
 use Rattle.tre_syntax.specs.Expr.{tree_of}
-use Rattle.tre_syntax.specs.PatternTree.{PatternTree, empty, literal, rise, fall, repetition}
+use Rattle.tre_syntax.specs.PatternTree.{PatternTree, empty, literal, rise, fall, event, repetition}
 use Rattle.tre_mark.specs.MarkTree.{mark_of, repetition_mark}
 use Rattle.tre_mark.specs.Marked.{IsUnbegun}
 use Rattle.tre_mark.proofs.Starts.{unbegun_repetition, unbegun_moved}
@@ -30,6 +30,11 @@ returns-in-Fall t c =
     subst (λ (tree : PatternTree). IsUnbegun (mark_of c.no_atom-in-Fall.result) tree)
     (sym (ap tree_of c.in-Fall.is)) (c.no_atom-in-Fall.ensures
     (fall (states.tree_of c.in-Fall.field-0)))
+
+pub returns-in-Event : goal.returns-in-Event
+returns-in-Event t c =
+    subst (λ (tree : PatternTree). IsUnbegun (mark_of c.no_atom-in-Event.result) tree)
+    (sym (ap tree_of c.in-Event.is)) (c.no_atom-in-Event.ensures (event c.in-Event.field-0))
 
 pub returns-in_ok-body-in-Star : goal.returns-in_ok-body-in-Star
 returns-in_ok-body-in-Star t c =

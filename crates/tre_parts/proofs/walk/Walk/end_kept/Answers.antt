@@ -5,7 +5,7 @@ use Rattle.tre_parts.proofs.Walks.{after-ended, adds-ended, refused-ended}
 use Rattle.tre_parts.proofs.walk.Walk.end_kept.Goals as goal
 
 pub returns-in_err-add_part-clause-takes : goal.returns-in_err-add_part-clause-takes
-returns-in_err-add_part-clause-takes g c = λ names bytes separator here ends few.
+returns-in_err-add_part-clause-takes g c = λ terms bytes separator here ends few.
     let p = err_from_is_err_and c.from_residual.result c.from_residual.ensures.1 in
     let refused = rw (here.named, c.deref.ensures.value) at (c.in_err-add_part.ensures.refused
     here.state here.is_held) in
@@ -14,7 +14,7 @@ returns-in_err-add_part-clause-takes g c = λ names bytes separator here ends fe
     (refused-ended here part [] separator (sym (append-nil part)) (All-nil _) ends refused)
 
 pub returns-clause-takes : goal.returns-clause-takes
-returns-clause-takes g c = λ names bytes separator here ends few.
+returns-clause-takes g c = λ terms bytes separator here ends few.
     let adds = rw (here.named, c.deref.ensures.value) at (c.in_ok-add_part.ensures.adds here.state
     here.is_held) in
     let part = c.args.self.now.part.items in
@@ -28,6 +28,6 @@ returns-clause-takes g c = λ names bytes separator here ends few.
     let spot = rw len at (c.after-self.ensures (omega (arith, here.counts, len)) here.few) in
     rw c.clear.ensures.items (
       after-ended here part [] separator (sym (append-nil part)) (All-nil _) ends adds.goes_on
-          (c.in_ok-add_part.ensures.same_names ∙ here.named) spot,
+          (c.in_ok-add_part.ensures.same_terms ∙ here.named) spot,
       adds-ended here part [] separator (sym (append-nil part)) (All-nil _) ends adds,
     )

@@ -5,28 +5,28 @@ use Rattle.tre_parts.proofs.walk.Walk.end_part.Goals as goal
 use Rattle.tre_trace.proofs.Readings.{Adds-trans, IsRefused-after, IsRefused-grows}
 
 pub returns-in_err-keep-clause-takes : goal.returns-in_err-keep-clause-takes
-returns-in_err-keep-clause-takes g c = λ names bytes separator here inside ends few.
+returns-in_err-keep-clause-takes g c = λ terms bytes separator here inside ends few.
     let p = err_from_is_err_and c.from_residual-in_err-keep.result
     c.from_residual-in_err-keep.ensures.1 in
-    let refused = c.in_err-keep.ensures.takes names bytes c.args.segments.now.items here inside in
+    let refused = c.in_err-keep.ensures.takes terms bytes c.args.segments.now.items here inside in
     rw (p.1, p.2, ← append_assoc bytes c.args.front.now (separator ∷ []))
-    (IsRefused-grows _ _ _ _ _ _ refused (reading-grows (g.R.PartReader.format names) false
+    (IsRefused-grows _ _ _ _ _ _ refused (reading-grows (g.R.PartReader.format terms) false
     (bytes ++ c.args.front.now) (separator ∷ [])))
 
 pub returns-in_err-end_kept-clause-takes : goal.returns-in_err-end_kept-clause-takes
-returns-in_err-end_kept-clause-takes g c = λ names bytes separator here inside ends few.
+returns-in_err-end_kept-clause-takes g c = λ terms bytes separator here inside ends few.
     let p = err_from_is_err_and c.from_residual-in_err-end_kept.result
     c.from_residual-in_err-end_kept.ensures.1 in
-    let kept = c.in_ok-keep.ensures.takes names bytes c.args.segments.now.items here inside in
-    let refused = c.in_err-end_kept.ensures.takes names (bytes ++ c.args.front.now) separator kept.0
+    let kept = c.in_ok-keep.ensures.takes terms bytes c.args.segments.now.items here inside in
+    let refused = c.in_err-end_kept.ensures.takes terms (bytes ++ c.args.front.now) separator kept.0
     ends (omega (arith, length-append bytes c.args.front.now)) in
     rw (p.1, p.2, ← append_assoc bytes c.args.front.now (separator ∷ []))
     (IsRefused-after _ _ _ _ _ _ _ kept.1 refused)
 
 pub returns-clause-takes : goal.returns-clause-takes
-returns-clause-takes g c = λ names bytes separator here inside ends few.
-    let kept = c.in_ok-keep.ensures.takes names bytes c.args.segments.now.items here inside in
-    let ended = c.in_ok-end_kept.ensures.takes names (bytes ++ c.args.front.now) separator kept.0
+returns-clause-takes g c = λ terms bytes separator here inside ends few.
+    let kept = c.in_ok-keep.ensures.takes terms bytes c.args.segments.now.items here inside in
+    let ended = c.in_ok-end_kept.ensures.takes terms (bytes ++ c.args.front.now) separator kept.0
     ends (omega (arith, length-append bytes c.args.front.now)) in
     rw (← append_assoc bytes c.args.front.now (separator ∷ []))
     (ended.0, Adds-trans _ _ _ _ _ _ kept.1 ended.1)

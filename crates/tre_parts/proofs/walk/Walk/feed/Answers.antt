@@ -6,17 +6,17 @@ use Rattle.tre_trace.proofs.Readings.{Adds-trans}
 use Rattle.tre_parts.proofs.walk.Walk.feed.Goals as goal
 
 pub returns-in_err-end_part-clause-takes : goal.returns-in_err-end_part-clause-takes
-returns-in_err-end_part-clause-takes g c = λ names bytes here few.
+returns-in_err-end_part-clause-takes g c = λ terms bytes here few.
     let p = err_from_is_err_and c.from_residual.result c.from_residual.ensures.1 in
     let fed = c.loop-place.invariant in
     let rest = c.loop-place.rest.now in
     let k = c.in-Some.place in
     let ends = c.in-Some.ensures.first in
-    let room = fed-room fed names bytes here few ends in
-    let refused = c.in_err-end_part.ensures.takes names (bytes ++ fed.taken) (get_or rest k 0)
+    let room = fed-room fed terms bytes here few ends in
+    let refused = c.in_err-end_part.ensures.takes terms (bytes ++ fed.taken) (get_or rest k 0)
     room.at room.inside room.ends room.few in
     rw (p.1, p.2)
-    (fed-refused fed names bytes here few (take k rest ++ get_or rest k 0 ∷ []) (drop (suc k) rest)
+    (fed-refused fed terms bytes here few (take k rest ++ get_or rest k 0 ∷ []) (drop (suc k) rest)
     (around rest k ends.within) refused)
 
 pub loop-place-preserved : goal.loop-place-preserved
@@ -24,33 +24,33 @@ loop-place-preserved g c =
     let rest = c.loop-place.rest.now in
     let k = c.in-Some.place in
     let one : k + 1 ≡ suc k = omega arith in
-    fed-step c.loop-place.invariant c.in-Some.ensures.first c.in_ok-end_part.ensures.same_names
-    (λ names bytes room. c.in_ok-end_part.ensures.takes names bytes (get_or rest k 0) room.at
+    fed-step c.loop-place.invariant c.in-Some.ensures.first c.in_ok-end_part.ensures.same_terms
+    (λ terms bytes room. c.in_ok-end_part.ensures.takes terms bytes (get_or rest k 0) room.at
     room.inside room.ends room.few)
     (rw one (take-rest (suc k) rest))
 
 pub returns-in_err-keep-clause-takes : goal.returns-in_err-keep-clause-takes
-returns-in_err-keep-clause-takes g c = λ names bytes here few.
+returns-in_err-keep-clause-takes g c = λ terms bytes here few.
     let p = err_from_is_err_and c.from_residual-in_err-keep.result
     c.from_residual-in_err-keep.ensures.1 in
     let fed = c.loop-place.invariant in
     let rest = c.loop-place.rest.now in
-    let at = fed.behind names bytes here few in
+    let at = fed.behind terms bytes here few in
     let inside = rw at.named at c.in_default.ensures.none in
-    let refused = c.in_err-keep.ensures.takes names (bytes ++ fed.taken) c.loop-place.segments.items
+    let refused = c.in_err-keep.ensures.takes terms (bytes ++ fed.taken) c.loop-place.segments.items
     at inside in
-    rw (p.1, p.2) (fed-refused fed names bytes here few rest [] (sym (append-nil rest)) refused)
+    rw (p.1, p.2) (fed-refused fed terms bytes here few rest [] (sym (append-nil rest)) refused)
 
 pub returns-clause-takes : goal.returns-clause-takes
-returns-clause-takes g c = λ names bytes here few.
+returns-clause-takes g c = λ terms bytes here few.
     let fed = c.loop-place.invariant in
     let rest = c.loop-place.rest.now in
-    let at = fed.behind names bytes here few in
+    let at = fed.behind terms bytes here few in
     let inside = rw at.named at c.in_default.ensures.none in
-    let takes = c.in_ok-keep.ensures.takes names (bytes ++ fed.taken) c.loop-place.segments.items at
+    let takes = c.in_ok-keep.ensures.takes terms (bytes ++ fed.taken) c.loop-place.segments.items at
     inside in
     let whole = in_two bytes c.args.piece.now fed.taken rest fed.cut in
     rw (← whole) (
       takes.0,
-      Adds-trans _ _ _ _ _ _ (fed.adds names bytes here few) takes.1,
+      Adds-trans _ _ _ _ _ _ (fed.adds terms bytes here few) takes.1,
     )

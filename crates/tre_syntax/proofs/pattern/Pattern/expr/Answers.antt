@@ -1,6 +1,6 @@
 use Rattle.std.proofs.Common.{length}
-use Rattle.tre_syntax.specs.Pattern.{pattern_tree, names_of}
-use Rattle.tre_syntax.proofs.Counts.{numbered_below}
+use Rattle.tre_syntax.specs.Pattern.{pattern_tree}
+use Rattle.tre_syntax.proofs.Numbers.{numbered_below}
 use Rattle.tre_syntax.proofs.pattern.Pattern.expr.Goals as goal
 
 pub returns-clause-pattern : goal.returns-clause-pattern
@@ -9,6 +9,9 @@ returns-clause-pattern c =
     record {
       small = p.small;
       numbered = p.numbered;
-      numbers = numbered_below (pattern_tree p) (length (names_of p)) p.numbered p.few;
+      events_numbered = p.events_numbered;
+      numbers = numbered_below (pattern_tree p) (length p.names) (length p.events) p.numbered
+          p.events_numbered p.few p.few_events;
       few = p.few;
+      few_events = p.few_events;
     }

@@ -6,4 +6,4 @@ use Rattle.tre_trace.proofs.trace.Trace.end.Goals as goal
 pub returns-clause-lengths : goal.returns-clause-lengths
 returns-clause-lengths c =
     c.self.invariant.1 ∙ end_of-sum c.self.inside.segments.items
-    ∙ ap (sum_by (λ segment. segment.len)) c.self.view_is
+    ∙ ap (λ trace. sum_by (λ segment. segment.len) trace.segments) c.self.view_is

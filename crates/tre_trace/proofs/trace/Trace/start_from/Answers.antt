@@ -1,5 +1,6 @@
 use Rattle.std.proofs.Common.{ap, take, arith}
 use Rattle.tre_trace.specs.Trace.{end_of}
+use Rattle.tre_trace.specs.Segments.{plain_segment}
 use Rattle.tre_trace.proofs.Segments.{end_of-from, end_of-take-le, next-in_time}
 use Rattle.tre_trace.proofs.trace.Trace.start_from.Goals as goal
 
@@ -17,7 +18,7 @@ overflow_add-time c =
       trace.in_time,
       end_of-take-le 0 c.self.inside.segments.items c.args.place,
       next-in_time _ c.loop-segment.segment-index c.loop-segment.time
-          (end_of 0 (take c.args.place c.args.self.now)) (record { len = 0; val = 0 })
+          (end_of 0 (take c.args.place c.args.self.now.segments)) (plain_segment 0 0)
           c.loop-segment-test.true (omega (arith, c.loop-segment.invariant)),
-      ap (λ segments. end_of 0 (take c.args.place segments)) c.self.view_is,
+      ap (λ trace. end_of 0 (take c.args.place trace.segments)) c.self.view_is,
     )
