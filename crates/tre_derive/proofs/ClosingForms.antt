@@ -1,5 +1,5 @@
 -- What a residual stands for where the trace has ended, from what its parts stand for.
-use Rattle.std.proofs.Common.{◌≡◌, ℕ, ◌*◌, ◌<◌, ◌∙◌, Option, List, [], refl, sym, subst, arith}
+use Rattle.std.proofs.Common.{◌≡◌, ℕ, ◌*◌, ◌<◌, ◌≤◌, ◌∙◌, Option, List, [], refl, sym, subst, arith}
 use Rattle.std.proofs.Math.Nat.{mul-pos}
 use Rattle.tre_pairs.specs.Cuts.{JoinedAt}
 use Rattle.tre_pairs.specs.Pairs.{Pairs, Composed, Either, Both, Lasting}
@@ -120,8 +120,8 @@ module _ (time events : ℕ) where
               (λ h.
                   let x = kept.0 h in
                   let y = one.0 x.held in
-                  let from = (ends_around rest inner well.well a b n some y).1 in
-                  let to = ends_within rest inner well.well a b n some y in
+                  let from : time * n ≤ b = (ends_around rest inner well.well a b n some y).1 in
+                  let to : b ≤ time * n = ends_within rest inner well.well a b n some y in
                   let end : b ≡ time * n = omega (arith, from, to) in
                   Composed-at (Means inner rest) (MatchesRest tree rest) a b b n y
                   ((law b b n some).1 (record { begin = end; end = end }, x.at_end))),
