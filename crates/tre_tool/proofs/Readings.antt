@@ -252,3 +252,12 @@ vocabulary_same names events other same same' =
   where
     vocabulary_of : List (List ℕ) → List (List ℕ) → Vocabulary
     vocabulary_of all more = record { names = all; events = more }
+
+-- of an input that was only opened nothing was taken
+pub TakesAtMost-none : {most : ℕ} (file left : Option (List ℕ)) → Keeps file left
+    → TakesAtMost most file left
+TakesAtMost-none file left kept = record {
+  taken = [];
+  few = omega arith;
+  front = Consumes-keeps file file left [] (Consumes-nil file) kept;
+}

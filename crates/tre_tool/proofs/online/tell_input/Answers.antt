@@ -3,7 +3,7 @@ use Rattle.std.proofs.lemmas.Result.{err_from_is_err_and}
 use Rattle.tre_online.specs.Session.{pattern_of}
 use Rattle.tre_syntax.specs.Pattern.{pattern_tree}
 use Rattle.tre_tool.specs.Devices.{input_told, output_told}
-use Rattle.tre_tool.proofs.Readings.{fed_within, turn_stops, HasRead-bounded}
+use Rattle.tre_tool.proofs.Readings.{fed_within, turn_stops, HasRead-bounded, TakesAtMost-none}
 use Rattle.tre_tool.proofs.Tellings.{CanTell-read, IsTelling-start, IsTelling-more, EndsTelling-unread, EndsTelling-within, EndsTelling-stopped, EndsTelling-done, EndsTelling-cut, HasReadCause-from, HasWriteCause-from}
 use Rattle.tre_tool.proofs.Told.{HasTold-written}
 use Rattle.tre_tool.proofs.online.tell_input.Goals as goal
@@ -24,6 +24,11 @@ returns-in_err-feed-clause-ends g c =
     c.in_err-feed.ensures.cause c.in_err-feed.ensures.named
     (λ good named is. c.in_err-feed.ensures.sound good (named ∙ ap Some (sym c.text.ensures))
     (ap Err is)) refl refl)
+
+pub returns-in_err-feed-clause-bounded : goal.returns-in_err-feed-clause-bounded
+returns-in_err-feed-clause-bounded g c = λ opened. TakesAtMost-none
+    (g.S.Source.file c.args.input.now) (g.S.Source.left c.open.new.input)
+    (c.in_err-feed.ensures.nothing opened)
 
 pub loop-segments-init : goal.loop-segments-init
 loop-segments-init g c = record {
