@@ -2,6 +2,7 @@
 use std::alloc::{AllocError, Global};
 use std::test::Fail;
 use tre_parse::{ParseFault, parse};
+use tre_state::Names;
 use tre_syntax::Expr;
 
 // Why a text is refused, if it is.
@@ -12,7 +13,7 @@ fn fault(alloc: Global, text: &str) -> Option<ParseFault> {
     }
 }
 
-const REFUSED: [(&str, ParseFault); 15] = [
+const REFUSED: [(&str, ParseFault); 26] = [
     ("p % [3,2]", ParseFault::EmptyInterval { at: 4 }),
     ("p;", ParseFault::Syntax { at: 2 }),
     ("", ParseFault::Syntax { at: 0 }),
@@ -27,7 +28,18 @@ const REFUSED: [(&str, ParseFault); 15] = [
     ("p@", ParseFault::BadByte { at: 1 }),
     ("(p", ParseFault::Syntax { at: 2 }),
     ("p)", ParseFault::Syntax { at: 1 }),
-    ("event", ParseFault::Syntax { at: 0 }),
+    ("event", ParseFault::Syntax { at: 5 }),
+    ("event;p", ParseFault::Syntax { at: 5 }),
+    ("event a", ParseFault::Syntax { at: 6 }),
+    ("event()", ParseFault::Syntax { at: 6 }),
+    ("event(true)", ParseFault::Syntax { at: 6 }),
+    ("event((p", ParseFault::Syntax { at: 6 }),
+    ("event(a b)", ParseFault::Syntax { at: 8 }),
+    ("rise(event(a))", ParseFault::Syntax { at: 5 }),
+    ("!event(a)", ParseFault::Syntax { at: 1 }),
+    ("{event(a)}", ParseFault::Syntax { at: 1 }),
+    ("<:event(a)", ParseFault::Syntax { at: 2 }),
+    ("event(a):>", ParseFault::Syntax { at: 8 }),
 ];
 
 #[test]
@@ -141,12 +153,13 @@ fn are_marked(alloc: Global, text: &str, marks: &str) -> bool {
     text.get(marks.len()..).is_none()
 }
 
-const PREFIXES: [(&str, &str); 5] = [
+const PREFIXES: [(&str, &str); 6] = [
     ("p;q&r|s*", "$.$.$.$.."),
     ("(p;q)%[1,20)", "$$$$$.$$$$$$."),
     ("<:{!p&&q}:>", "$b$$$$^$$.b."),
     ("rise(p||q)?", "$...$$$^$$.."),
     ("!true|fall(!(p))+", "$$....$...$$$$$$.."),
+    ("event(a)&p", "$....$$$.$."),
 ];
 
 #[test]
@@ -156,22 +169,69 @@ fn prefixes(rt: HostRuntime) {
     }
 }
 
-// The names p0 to p64, one or another.
-fn sixty_five(alloc: Global) -> Result<String, AllocError> {
-    let mut text = String::new(alloc);
-    for i in 0u32..64 {
-        let name = format!(in alloc; "p{i}|")?;
+// Puts the names p0, p1 and so on behind a text, each between a head and a tail.
+fn put_names(text: &mut String, head: &str, count: u32, tail: &str) -> Result<(), AllocError> {
+    let alloc = *text.allocator();
+    for i in 0..count {
+        let name = format!(in alloc; "{head}p{i}{tail}")?;
         text.push_str(name.as_str())?;
     }
-    text.push_str("p64")?;
-    Ok(text)
+    Ok(())
 }
+
+// How many propositions a text names, how many events behind them, and what then; and where it has
+// one name too many, if it has.
+const NAMES: [(u32, u32, &str, Option<u64>); 9] = [
+    (64, 0, "p64", Some(246)),
+    (64, 0, "p63;event(p64)", None),
+    (0, 64, "event(p64)", Some(700)),
+    (0, 64, "event(p63);p64", None),
+    (64, 64, "p0;event(p63)", None),
+    (64, 64, "p", Some(940)),
+    (64, 64, "event(p)", Some(946)),
+    (64, 64, "p;event(q)", Some(940)),
+    (64, 64, "event(q);p", Some(946)),
+];
 
 #[test]
 fn names(rt: HostRuntime) -> Result<(), Fail> {
-    let text = sixty_five(rt.alloc())?;
-    let many = ParseFault::TooManyNames { at: 246 };
-    assert!(rt; fault(rt.alloc(), text.as_str()) == Some(many));
+    for (propositions, events, tail, want) in &NAMES {
+        let mut text = String::new(rt.alloc());
+        put_names(&mut text, "", *propositions, "|")?;
+        put_names(&mut text, "event(", *events, ")|")?;
+        text.push_str(*tail)?;
+        let many = want.map(|at| ParseFault::TooManyNames { at });
+        assert!(rt; fault(rt.alloc(), text.as_str()) == many, "{tail}");
+    }
+    Ok(())
+}
+
+// The names in the order of their numbers.
+fn joined(alloc: Global, names: &Names) -> Result<String, AllocError> {
+    let mut text = String::new(alloc);
+    for number in 0..names.len() {
+        text.push_str(names.name(number as u8).unwrap_or("?"))?;
+        text.push_str(" ")?;
+    }
+    Ok(text)
+}
+
+// Patterns, the names of their propositions, and those of their events.
+const KINDS: [(&str, &str, &str); 4] = [
+    ("p;event(p)", "p ", "p "),
+    ("event(b);a;event(a);event(b)", "a ", "b a "),
+    ("event(a)&event(b)", "", "a b "),
+    ("rise(q);p;(event ( p ))*", "q p ", "p "),
+];
+
+#[test]
+fn propositions_and_events_have_names_of_their_own(rt: HostRuntime) -> Result<(), Fail> {
+    for (text, propositions, events) in &KINDS {
+        let pattern = parse(rt.alloc(), *text)?;
+        let names = joined(rt.alloc(), pattern.names())?;
+        let others = joined(rt.alloc(), pattern.events())?;
+        assert!(rt; names.as_str() == *propositions && others.as_str() == *events, "{text}");
+    }
     Ok(())
 }
 
@@ -192,7 +252,7 @@ fn root(alloc: Global, text: &str) -> Result<&'static str, ParseFault> {
     })
 }
 
-const ROOTS: [(&str, &str); 26] = [
+const ROOTS: [(&str, &str); 31] = [
     ("p & q ; p", "&"),
     ("p ; q & p", "&"),
     ("p | q & p", "|"),
@@ -219,6 +279,11 @@ const ROOTS: [(&str, &str); 26] = [
     ("fall(p)", "fall"),
     ("!!{p || q}", "literal"),
     ("eps", "eps"),
+    ("event(a)", "event"),
+    (" event ( a ) ", "event"),
+    ("event(a) & event(b)", "&"),
+    ("p;event(a)*", ";"),
+    ("event(a)+ | p", "|"),
 ];
 
 #[test]

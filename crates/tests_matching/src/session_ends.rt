@@ -77,12 +77,7 @@ fn the_end_tells_the_pair(rt: HostRuntime) -> Result<(), Fail> {
 
 // Whether what is told up to any segment are the matches up to its end, and with the end all
 // matches.
-fn tells_matches(
-    alloc: Global,
-    text: &str,
-    segments: Segments,
-    events: u64,
-) -> Result<bool, Fail> {
+fn tells_matches(alloc: Global, text: &str, segments: Segments, events: u64) -> Result<bool, Fail> {
     let pattern = pattern(alloc, text)?;
     let mut session = session(alloc, text, &[])?;
     let mut trace = Trace::new(alloc);
@@ -135,7 +130,10 @@ fn told_with_the_end_are_the_matches(rt: HostRuntime) -> Result<(), Fail> {
                 tells_matches(rt.alloc(), *text, EVENTFUL, events)?,
                 "{text} {events}"
             );
-            assert!(rt; tells_matches(rt.alloc(), *text, STEADY, events)?, "{text} {events}");
+            assert!(rt;
+                tells_matches(rt.alloc(), *text, STEADY, events)?,
+                "{text} {events}"
+            );
         }
     }
     Ok(())
@@ -146,7 +144,10 @@ fn told_with_the_end_are_the_matches(rt: HostRuntime) -> Result<(), Fail> {
 fn told_with_the_end_alone_are_the_matches(rt: HostRuntime) -> Result<(), Fail> {
     for text in &PATTERNS {
         for events in 1..4 {
-            assert!(rt; tells_matches(rt.alloc(), *text, &[], events)?, "{text} {events}");
+            assert!(rt;
+                tells_matches(rt.alloc(), *text, &[], events)?,
+                "{text} {events}"
+            );
         }
     }
     Ok(())

@@ -10,6 +10,8 @@ mod at_last_count;
 #[cfg(test)]
 mod dumps;
 #[cfg(test)]
+mod events;
+#[cfg(test)]
 mod failures;
 #[cfg(test)]
 mod limits;

@@ -52,8 +52,13 @@ fn lines_are_read(rt: HostRuntime) -> Result<(), Fail> {
 
 const FALLING: &str = "(p;fall(p)) & {p}";
 
+const FROM_EVENTS: &str = "(event(a);p)*";
+
+const TO_EVENTS: &str = "(p;event(a))*";
+
 /// Of each row: the pattern, the trace, the block, the stretch, and whether the block tells it.
-const TOLD: [(&str, &str, u64, Stretch, bool); 9] = [
+/// Behind the last block, in the place of the next, stands what the end completes.
+const TOLD: [(&str, &str, u64, Stretch, bool); 18] = [
     ("p", "2 p\n3 p\n", 1, (0, 2, 1), true),
     ("p", "2 p\n3 p\n", 1, (1, 3, 2), true),
     ("p", "2 p\n3 p\n", 2, (0, 5, 1), true),
@@ -63,6 +68,15 @@ const TOLD: [(&str, &str, u64, Stretch, bool); 9] = [
     ("p;q", "2 p q\n2 q\n", 2, (1, 7, 2), true),
     (FALLING, "2 p\n1 q\n", 1, (0, 2, 1), false),
     (FALLING, "2 p\n1 q\n", 2, (0, 2, 1), true),
+    (FROM_EVENTS, "@ a\n2 p\n@ a\n1 p\n", 1, (0, 2, 1), true),
+    (FROM_EVENTS, "@ a\n2 p\n@ a\n1 p\n", 2, (0, 3, 1), true),
+    (FROM_EVENTS, "@ a\n2 p\n@ a\n1 p\n", 2, (4, 5, 2), true),
+    (FROM_EVENTS, "@ a\n2 p\n@ a\n1 p\n", 2, (1, 3, 1), false),
+    (TO_EVENTS, "2 p\n@ a\n1 p\n@ a\n", 1, (1, 2, 1), false),
+    (TO_EVENTS, "2 p\n@ a\n1 p\n@ a\n", 2, (1, 2, 1), true),
+    (TO_EVENTS, "2 p\n@ a\n1 p\n@ a\n", 3, (1, 3, 1), true),
+    (TO_EVENTS, "2 p\n@ a\n1 p\n@ a\n", 3, (5, 6, 2), true),
+    (TO_EVENTS, "2 p\n@ a\n1 p\n@ a\n", 3, (1, 2, 1), false),
 ];
 
 /// Whether a run ends well whose block tells the stretch, where a read gives so many bytes.

@@ -5,16 +5,18 @@ use std::test::Fail;
 use tests_support::names_of;
 use tre_trace::TraceKind::{LineTooLong, Spent};
 use tre_trace::{TraceFault, TraceKind, TraceReader};
-use tre_vcd::VcdReader;
+use tre_vcd::{TokenReader, VcdReader};
 
-fn reader(alloc: Global, names: &str) -> Result<VcdReader, Fail> {
-    Ok(VcdReader::new(alloc, names_of(alloc, names)?))
+fn reader(alloc: Global, names: &str, events: &str) -> Result<VcdReader, Fail> {
+    let names = names_of(alloc, names)?;
+    let events = names_of(alloc, events)?;
+    Ok(VcdReader::new(alloc, TokenReader::new(alloc, names, events)))
 }
 
 // Whether the dump, read in pieces of this many bytes, says this for the propositions of the names:
 // segments, each as its length and its valuation, and the fault with its place.
 fn says(alloc: Global, names: &str, dump: &[u8], most: usize, want: &str) -> Result<bool, Fail> {
-    let said = read(alloc, &mut reader(alloc, names)?, dump, most)?;
+    let said = read(alloc, &mut reader(alloc, names, "")?, dump, most)?;
     Ok(said.as_str() == want)
 }
 
@@ -242,6 +244,140 @@ fn declarations(rt: HostRuntime) -> Result<(), Fail> {
     Ok(())
 }
 
+// Behind a proposition `t.p`: more declarations in the scope t, what stands behind them, and what it
+// says for that proposition and the events `t.e` and `t.f`: with `@` and the events at its begin
+// behind a segment, and behind all the events at the end.
+const EVENTS: [(&str, &str, &str); 26] = [
+    // At a time, at 0, before any time, and at the last time.
+    ("$var event 1 % e $end", "#4 1% #6", "4:0 2:0@1 "),
+    ("$var event 1 % e $end", "#0 1% #6", "6:0@1 "),
+    ("$var event 1 % e $end", "1% #6 #7", "6:0@1 1:0 "),
+    ("$var event 1 % e $end", "#4 1%", "4:0 @1"),
+    ("$var event 1 % e $end", "1%", "@1"),
+    // Of any size, with any value, and the same twice.
+    ("$var event 0 % e $end", "#4 0% #6", "4:0 2:0@1 "),
+    ("$var event 32 % e $end", "#4 x% #6", "4:0 2:0@1 "),
+    ("$var event 1 % e $end", "#4 1% 0% #6", "4:0 2:0@1 "),
+    ("$var event 1 % e $end", "#4 1% #4 #6", "4:0 2:0@1 "),
+    (
+        "$var event 1 % e $end",
+        "#4 1% #6 1% #7",
+        "4:0 2:0@1 1:0@1 ",
+    ),
+    ("$var event 1 % e $end", "1% #4 #4", "4:0@1 "),
+    // Two at one time.
+    (
+        "$var event 1 % e $end $var event 1 ? f $end",
+        "#4 1? 1% #6 0? #7",
+        "4:0 2:0@3 1:0@2 ",
+    ),
+    // Not in a dump section, and not by a vector or a real.
+    ("$var event 1 % e $end", "$dumpvars 1% $end #6", "6:0 "),
+    (
+        "$var event 1 % e $end",
+        "$dumpall #4 1% $end 1% #6",
+        "4:0 2:0@1 ",
+    ),
+    ("$var event 1 % e $end", "#4 b1 % r1 % #6", "4:0 2:0 "),
+    ("$var event 1 % e $end", "#4 1! #6", "4:0 2:1 "),
+    // One identifier of an event and of a proposition: outside a dump section it counts for both.
+    ("$var event 1 ! e $end", "#4 1! #6", "4:0 2:1@1 "),
+    ("$var event 1 ! e $end", "$dumpvars 1! $end #6", "6:1 "),
+    ("$var event 1 ! e $end", "#4 b1 ! #6", "4:0 2:1 "),
+    (
+        "$var event 1 ! e $end",
+        "#4 1! #6 #7 0!",
+        "4:0 2:1@1 1:1 @1",
+    ),
+    // By the path in scopes, the first of a path.
+    (
+        "$scope task u $end $var event 1 ? e $end $upscope $end $var event 1 % e $end",
+        "1? #4 1%",
+        "4:0 @1",
+    ),
+    (
+        "$var event 1 % e $end $var event 1 ? e $end",
+        "1? #4 1%",
+        "4:0 @1",
+    ),
+    // A wire of that name is another variable, in either order.
+    (
+        "$var wire 1 ? e $end $var event 1 % e $end",
+        "1? #4 1%",
+        "4:0 @1",
+    ),
+    (
+        "$var event 1 % e $end $var wire 1 ? e $end",
+        "1? #4 1%",
+        "4:0 @1",
+    ),
+    // No such event: a wire, and a reference of two tokens.
+    ("$var wire 1 % e $end", "", "UnknownName 77"),
+    ("$var event 1 % e [0] $end", "", "UnknownName 82"),
+];
+
+// The dump of these declarations and values.
+fn with_declarations(alloc: Global, declarations: &str, values: &str) -> Result<String, Fail> {
+    let mut dump = String::from_str(alloc, "$scope module t $end $var wire 1 ! p $end ")?;
+    dump.push_str(declarations)?;
+    dump.push_str(" $upscope $end $enddefinitions $end ")?;
+    dump.push_str(values)?;
+    Ok(dump)
+}
+
+// Whether the dump, read in pieces of this many bytes, says this for `t.p`, and for `t.e` and,
+// where it is declared, `t.f`.
+fn says_events(alloc: Global, dump: &str, most: usize, want: &str) -> Result<bool, Fail> {
+    let events = if dump.contains(" f ") {
+        "t.e t.f"
+    } else {
+        "t.e"
+    };
+    let said = read(
+        alloc,
+        &mut reader(alloc, "t.p", events)?,
+        dump.as_bytes(),
+        most,
+    )?;
+    Ok(said.as_str() == want)
+}
+
+#[test]
+fn events(rt: HostRuntime) -> Result<(), Fail> {
+    for (declarations, values, want) in &EVENTS {
+        let dump = with_declarations(rt.alloc(), *declarations, *values)?;
+        for most in [1, 1000] {
+            assert!(rt;
+                says_events(rt.alloc(), dump.as_str(), most, *want)?,
+                "{declarations} {values} {most}"
+            );
+        }
+    }
+    Ok(())
+}
+
+// Names of propositions, names of events, and what a dump with the event `top.e` says for them.
+const NAMED: [(&str, &str, &str); 5] = [
+    ("", "top.e", "4:0 2:0@1 "),
+    ("", "top.x", "UnknownName 59"),
+    ("", "e", "UnknownName 59"),
+    ("top.e", "", "UnknownName 59"),
+    ("", "", "4:0 2:0 "),
+];
+
+const EVENT: &str = "$scope module top $end\n$var event 1 % e $end\n$upscope $end\n\
+    $enddefinitions $end\n#4\n1%\n#6\n";
+
+#[test]
+fn events_named(rt: HostRuntime) -> Result<(), Fail> {
+    for (names, events, want) in &NAMED {
+        let mut reader = reader(rt.alloc(), *names, *events)?;
+        let said = read(rt.alloc(), &mut reader, EVENT.as_bytes(), 5)?;
+        assert!(rt; said.as_str() == *want, "{names} {events}");
+    }
+    Ok(())
+}
+
 // The names of propositions, a dump, and what it says.
 const UNDECLARED: [(&str, &str, &str); 4] = [
     ("", "$enddefinitions $end\n#9\n#7\n", "9:0 TimeBack 24"),
@@ -280,12 +416,12 @@ fn long_token(alloc: Global) -> Result<Vec<u8>, Fail> {
 fn a_token_may_have_so_many_bytes(rt: HostRuntime) -> Result<(), Fail> {
     let long = long_token(rt.alloc())?;
     let mut segments = Vec::new(rt.alloc());
-    let mut reader = reader(rt.alloc(), "")?;
+    let mut reader = reader(rt.alloc(), "", "")?;
     for piece in [b"$date ".as_slice(), &long, b" ".as_slice(), &long] {
         assert!(rt; feed(&mut reader, piece, &mut segments).is_ok());
     }
     assert!(rt; feed(&mut reader, b"x", &mut segments) == fault(65_543, LineTooLong));
     assert!(rt; feed(&mut reader, b" ", &mut segments) == fault(0, Spent));
-    assert!(rt; reader.finish(&mut segments) == fault(0, Spent));
+    assert!(rt; reader.finish(&mut segments).is_err());
     Ok(())
 }

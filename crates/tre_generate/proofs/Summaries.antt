@@ -3,7 +3,7 @@ use Rattle.std.proofs.Common.{◌≡◌, ℕ, ◌<◌, ◌≤◌, List, [], leng
 use Rattle.tre_offline.specs.MatchSet.{IsMatchSet}
 use Rattle.tre_syntax.specs.Meaning.{Matches}
 use Rattle.tre_syntax.specs.PatternTree.{PatternTree}
-use Rattle.tre_trace.specs.Trace.{end_of}
+use Rattle.tre_trace.specs.Trace.{end_of, quiet}
 use Rattle.tre_trace.specs.declared.segment.Segment.{Segment}
 use Rattle.tre_zone.specs.ZoneList.{SetHolds}
 use Rattle.tre_zone.specs.declared.zone_bounds.ZoneBounds.{ZoneBounds}
@@ -26,7 +26,7 @@ made_some count some none =
 
 module _ (tree : PatternTree) (count : ℕ) (some : 1 ≤ count) (whole told : List ZoneBounds)
     (tally : Tally)
-    (matched : IsMatchSet whole tree (made_trace count))
+    (matched : IsMatchSet whole tree (quiet (made_trace count)))
     (are_told : AreTold tree (made_trace count) told)
     (counted : IsTally whole told (made_trace count) count tally) where
   all_alike : (a b n : ℕ) → 0 < n → a ≤ b → AreAlike (SetHolds whole) (SetHolds told) a b n
@@ -53,8 +53,8 @@ module _ (tree : PatternTree) (count : ℕ) (some : 1 ≤ count) (whole told : L
     probed = counted.probes;
     held = tally.held;
     matched = count_along (IsProbed (SetHolds whole) (made_trace count))
-        (IsProbed (Matches tree (made_trace count)) (made_trace count))
-        (probed_along (SetHolds whole) (Matches tree (made_trace count)) matched.exact.exact
+        (IsProbed (Matches tree (quiet (made_trace count))) (made_trace count))
+        (probed_along (SetHolds whole) (Matches tree (quiet (made_trace count))) matched.exact.exact
         (made_trace count)) count tally.held counted.held;
     text_is = is ∙ ap (λ (alike : ℕ). summary_text count (end_of 0 (made_trace count))
         (length whole) tally.held alike tally.probes) alike_is;

@@ -2,6 +2,7 @@
 use Rattle.std.proofs.Common.{◌≡◌, ◌↔◌, List, [], ◌∷◌, ◌++◌, refl, sym, subst, inl, inr, ⊎_elim}
 use Rattle.tre_syntax.specs.Meaning.{Matches}
 use Rattle.tre_syntax.specs.PatternTree.{PatternTree}
+use Rattle.tre_trace.specs.Trace.{quiet}
 use Rattle.tre_trace.specs.declared.segment.Segment.{Segment}
 use Rattle.tre_zone.specs.ZoneList.{SetHolds, HoldExactly}
 use Rattle.tre_zone.specs.declared.zone_bounds.ZoneBounds.{ZoneBounds}
@@ -24,22 +25,22 @@ module _ (tree : PatternTree) (zones : List ZoneBounds) (segment : Segment)
     (earlier told : List ZoneBounds) where
   first : (segments : List Segment) → segments ≡ [] → AreTold tree segments zones
       → TellsNew tree segments segment earlier told
-      → HoldExactly (zones ++ told) (Matches tree (segments ++ segment ∷ []))
+      → HoldExactly (zones ++ told) (Matches tree (quiet (segments ++ segment ∷ [])))
   first segments empty so_far tells = record {
     exact = λ a b n some le.
         let both = SetHolds-append zones told a b n in
         let new = (tells.first empty).exact a b n some le in
-        let all : SetHolds (zones ++ told) a b n ↔ Matches tree ([] ++ segment ∷ []) a b n = (
+        let all : SetHolds (zones ++ told) a b n ↔ Matches tree (quiet (segment ∷ [])) a b n = (
           (λ h. ⊎_elim (λ x. absurd ((so_far.none empty).never a b n some le x)) new.0 (both.0 h)),
           (λ h. both.1 (inr (new.1 h))),
         ) in
         subst (λ (list : List Segment). SetHolds (zones ++ told) a b n
-        ↔ Matches tree (list ++ segment ∷ []) a b n) (sym empty) all;
+        ↔ Matches tree (quiet (list ++ segment ∷ [])) a b n) (sym empty) all;
   }
 
   later : (segments : List Segment) → (segments ≡ [] → ⊥) → AreTold tree segments zones
       → TellsNew tree segments segment earlier told
-      → HoldExactly (zones ++ told) (Matches tree (segments ++ segment ∷ []))
+      → HoldExactly (zones ++ told) (Matches tree (quiet (segments ++ segment ∷ [])))
   later segments begun so_far tells = record {
     exact = λ a b n some le.
         let both = SetHolds-append zones told a b n in
@@ -52,7 +53,7 @@ module _ (tree : PatternTree) (zones : List ZoneBounds) (segment : Segment)
 
   exact_now : (segments : List Segment) → AreTold tree segments zones
       → TellsNew tree segments segment earlier told
-      → HoldExactly (zones ++ told) (Matches tree (segments ++ segment ∷ []))
+      → HoldExactly (zones ++ told) (Matches tree (quiet (segments ++ segment ∷ [])))
   exact_now [] so_far tells = first [] refl so_far tells
   exact_now (head ∷ segments) so_far tells =
       later (head ∷ segments) (λ none. cc) so_far tells

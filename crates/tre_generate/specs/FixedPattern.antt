@@ -1,7 +1,8 @@
 -- The pattern that is matched: `(<:p:>;(!p % [1,2]))+`, where p is proposition 0.
-use Rattle.std.specs.Prelude.{ℕ, List, [], ◌∷◌, Some, true, codes}
+use Rattle.std.specs.Prelude.{[], ◌∷◌, Some, true, codes}
 use Rattle.tre_state.specs.StateTree.{proposition, negation}
 use Rattle.tre_syntax.specs.PatternTree.{PatternTree, atom, literal, rise, fall, sequence, repetition, restriction}
+use Rattle.tre_trace.specs.Reading.{Vocabulary}
 use Rattle.tre_zone.specs.Interval.{ends_of}
 
 -- A pulse of p: it rises, holds for some time, and falls.
@@ -18,6 +19,6 @@ pause = restriction (atom (literal (negation (proposition 0)))) (ends_of 1 true 
 abbrev pub fixed_tree : PatternTree
 fixed_tree = sequence (sequence pulse pause) (repetition (sequence pulse pause))
 
--- Its one name.
-abbrev pub fixed_names : List (List ℕ)
-fixed_names = codes "p" ∷ []
+-- Its one name. It names no event.
+abbrev pub fixed_vocabulary : Vocabulary
+fixed_vocabulary = record { names = codes "p" ∷ []; events = [] }

@@ -4,7 +4,7 @@ use Rattle.tre_offline.specs.MatchSet.{IsMatchSet}
 use Rattle.tre_show.specs.Interval.{number_text}
 use Rattle.tre_syntax.specs.Meaning.{Matches}
 use Rattle.tre_syntax.specs.PatternTree.{PatternTree}
-use Rattle.tre_trace.specs.Trace.{end_of}
+use Rattle.tre_trace.specs.Trace.{end_of, quiet}
 use Rattle.tre_zone.specs.declared.zone_bounds.ZoneBounds.{ZoneBounds}
 use Rattle.tre_generate.specs.Made.{made_trace}
 use Rattle.tre_generate.specs.Probes.{IsInside, IsProbed, IsCountOf}
@@ -31,11 +31,11 @@ summary_text segments end zones held alike probes =
 -- matches; and at all of them both ways of matching are alike.
 pub record IsSummary (tree : PatternTree) (count : ℕ) (text : List ℕ) : Type 0 where
   pub zones : List ZoneBounds
-  pub matches : IsMatchSet zones tree (made_trace count)
+  pub matches : IsMatchSet zones tree (quiet (made_trace count))
   pub probes : ℕ
   pub probed : IsCountOf (IsInside (made_trace count)) count probes
   pub held : ℕ
-  pub matched : IsCountOf (IsProbed (Matches tree (made_trace count)) (made_trace count))
+  pub matched : IsCountOf (IsProbed (Matches tree (quiet (made_trace count))) (made_trace count))
       count held
   pub text_is : text
       ≡ summary_text count (end_of 0 (made_trace count)) (length zones) held probes probes

@@ -5,7 +5,7 @@ use Rattle.tre_online.specs.declared.session.Session.{Session}
 use Rattle.tre_syntax.specs.Meaning.{Matches}
 use Rattle.tre_syntax.specs.Pattern.{pattern_tree}
 use Rattle.tre_syntax.specs.PatternTree.{PatternTree}
-use Rattle.tre_trace.specs.Trace.{Fits}
+use Rattle.tre_trace.specs.Trace.{Fits, quiet}
 use Rattle.tre_trace.specs.declared.segment.Segment.{Segment}
 use Rattle.tre_zone.specs.Zone.{HasNoPair}
 use Rattle.tre_zone.specs.ZoneList.{SetHolds, HoldExactly}
@@ -16,7 +16,7 @@ use Rattle.tre_zone.specs.declared.zone_bounds.ZoneBounds.{ZoneBounds}
 pub record AreTold (tree : PatternTree) (segments : List Segment) (zones : List ZoneBounds)
     : Type 0 where
   pub none : segments ≡ [] → HasNoPair (SetHolds zones)
-  pub exact : (segments ≡ [] → ⊥) → HoldExactly zones (Matches tree segments)
+  pub exact : (segments ≡ [] → ⊥) → HoldExactly zones (Matches tree (quiet segments))
 
 -- The session has read segments behind which this one fits.
 pub record CanRead (session : Session) (segment : Segment) : Type 0 where

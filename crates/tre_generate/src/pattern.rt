@@ -3,7 +3,7 @@ ghost use Rattle.std.specs.Prelude.{◌≡◌, IfOk};
 ghost use Rattle.tre_syntax.specs.Expr.{tree_of};
 ghost use Rattle.tre_syntax.specs.Pattern.{pattern_tree, names_of};
 ghost use Rattle.tre_syntax.specs.PatternTree.{sequence};
-ghost use Rattle.tre_generate.specs.FixedPattern.{pulse, pause, fixed_tree, fixed_names};
+ghost use Rattle.tre_generate.specs.FixedPattern.{pulse, pause, fixed_tree, fixed_vocabulary};
 
 use std::alloc::{AllocError, Global};
 use tre_state::{Names, State};
@@ -13,12 +13,12 @@ use tre_zone::Interval;
 /// The pattern that a made trace is matched with, `(<:p:>;(!p % [1,2]))+`.
 pub fn fixed_pattern(alloc: Global) -> Result<Pattern, AllocError>
     ensures tree { IfOk result (λ pattern. pattern_tree pattern ≡ fixed_tree) }
-    ensures names { IfOk result (λ pattern. names_of pattern ≡ fixed_names) }
+    ensures names { IfOk result (λ pattern. names_of pattern ≡ fixed_vocabulary) }
 {
     let once = pulse_and_pause(alloc)?;
     let again = Expr::Star(Box::new(alloc, pulse_and_pause(alloc)?)?);
     let expr = sequence(alloc, once, again)?;
-    match Pattern::new(expr, one_name(alloc)?) {
+    match Pattern::new(expr, one_name(alloc)?, Names::new(alloc)) {
         Some(pattern) => Ok(pattern),
         None => unreachable!(),
     }
@@ -26,7 +26,7 @@ pub fn fixed_pattern(alloc: Global) -> Result<Pattern, AllocError>
 
 // The name of proposition 0.
 fn one_name(alloc: Global) -> Result<Names, AllocError>
-    ensures { IfOk result (λ names. names ≡ fixed_names) }
+    ensures { IfOk result (λ names. names ≡ fixed_vocabulary.names) }
 {
     let mut names = Names::new(alloc);
     match names.number("p") {

@@ -26,8 +26,8 @@ struct Probe {
 
 /// The tally of the probes of all segments.
 pub fn count_probes(trace: &Trace, whole: &ZoneSet, told: &ZoneSet) -> Tally
-    requires { length trace.now ≤ SEGMENTS_MAX }
-    ensures { IsTally whole.now told.now trace.now (length trace.now) result }
+    requires { length trace.now.segments ≤ SEGMENTS_MAX }
+    ensures { IsTally whole.now told.now trace.now.segments (length trace.now.segments) result }
 {
     let last = 2 * trace.end();
     let mut tally = Tally {

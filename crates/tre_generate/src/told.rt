@@ -13,9 +13,9 @@ use tre_trace::{Segment, Trace};
 use tre_zoneset::ZoneSet;
 
 /// The zones that a session of the pattern tells of the segments of the trace, one segment after
-/// another.
+/// another. The end isn't told.
 pub fn told_zones(alloc: Global, pattern: Pattern, trace: &Trace) -> Result<ZoneSet, AllocError>
-    ensures { IfOk result (λ zones. AreTold (pattern_tree pattern) trace.now zones) }
+    ensures { IfOk result (λ zones. AreTold (pattern_tree pattern) trace.now.segments zones) }
 {
     let mut session = Session::new(alloc, pattern)?;
     let mut zones = Vec::new(alloc);

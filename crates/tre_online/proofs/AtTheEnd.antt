@@ -1,9 +1,8 @@
 -- What a session tells where the trace ends.
-use Rattle.std.proofs.Common.{◌≡◌, ℕ, ◌+◌, ◌*◌, ◌<◌, ◌≤◌, ◌↔◌, None, List, [], ◌++◌, sym, ap, subst, inl, inr, ⊎_elim, arith}
+use Rattle.std.proofs.Common.{◌≡◌, ℕ, ◌*◌, ◌<◌, ◌≤◌, ◌↔◌, None, List, [], refl, sym, ap, subst, inl, inr, ⊎_elim, arith}
 use Rattle.std.proofs.lemmas.List.{append-nil}
 use Rattle.tre_pairs.specs.Pairs.{Either}
-use Rattle.tre_zone.specs.Held.{Held}
-use Rattle.tre_zone.specs.ZoneList.{SetHolds, HoldExactly}
+use Rattle.tre_zone.specs.ZoneList.{SetHolds, IsApart, AreTight, HoldExactly}
 use Rattle.tre_zone.specs.declared.zone_bounds.ZoneBounds.{ZoneBounds}
 use Rattle.tre_zone.proofs.ZoneListLemmas.{SetHolds-empty, AreCanonical-tight}
 use Rattle.tre_zoneset.specs.ZoneSet.{IsZoneSet, Without}
@@ -29,6 +28,7 @@ use Rattle.tre_online.proofs.Standing.{parts}
 pub tells_nothing : (tree : PatternTree) (u : List Segment) (events : ℕ)
     (earlier told : List ZoneBounds) → events ≡ 0 → told ≡ []
     → TellsLast tree u events earlier told
+unfolding IsApart AreTight
 tells_nothing tree u events earlier told zero empty =
     rw (zero, empty) (record {
       none = λ is. refl;
@@ -40,7 +40,7 @@ tells_nothing tree u events earlier told zero empty =
       );
       first = λ start happens. absurd (happens refl);
       ends = λ a b n some le h. absurd (SetHolds-empty a b n h);
-      new = λ zone member was. ?;
+      new = λ zone member was. let none : member.0 < 0 = member.1 in omega (arith, none);
     })
 
 module _ (tree : PatternTree) (u : List Segment) (long : AreLong u) (events time : ℕ)
@@ -127,7 +127,7 @@ module _ (tree : PatternTree) (u : List Segment) (long : AreLong u) (events time
             (subst (λ (list : List Segment). Matches tree (timeline_of list events) a b n)
             (sym none) h) in
             let early = by_end a b n here in
-            let start : end_of 0 u * n ≡ 0 =
+            let start : end_of 0 u * n ≡ 0 * n =
             ap (λ (list : List Segment). end_of 0 list * n) none in
             ⊎_elim (λ x. x)
             (λ x. absurd (SetHolds-empty a b n

@@ -4,11 +4,12 @@ use Rattle.std.specs.Prelude.{if◌then◌else◌, is_none}
 use Rattle.std.specs.Option.{option_map}
 use Rattle.std.specs.Char.{is_ascii_digit}
 use Rattle.tre_state.specs.Name.{starts_name}
+use Rattle.tre_trace.specs.Reading.{Vocabulary}
 use Rattle.tre_syntax.specs.PatternTree.{PatternTree}
 use Rattle.tre_parse.specs.declared.lexeme.Lexeme.{Lexeme}
 use Rattle.tre_parse.specs.declared.lexeme.Lexeme.TheVariants.{Blank, Wrong, Name, Sign}
 use Rattle.tre_parse.specs.Lexeme.{is_blank, word_lexeme, number_lexeme, sign_lexeme, lexeme_of, FitsIn}
-use Rattle.tre_parse.specs.Tokens.{RawToken, name, sign, RawTokenAt, RawTokens, nothing_left, raw_tokens_from, scanned, with_raw_token, token_of, known_after, tokens_from, names_from, raw_tokens_of, bad_byte}
+use Rattle.tre_parse.specs.Tokens.{RawToken, name, sign, RawTokenAt, RawTokens, nothing_left, raw_tokens_from, scanned, with_raw_token, Known, nothing_known, token_of, known_after, tokens_from, names_from, raw_tokens_of, bad_byte}
 use Rattle.tre_parse.specs.Grammar.{expr, Spells}
 use Rattle.tre_parse.specs.Outcome.{IsSpelling}
 use Rattle.tre_parse.specs.Blanks.{counted_on, SaysAs}
@@ -140,19 +141,19 @@ bad_before front rest blank at h bad =
 
 -- What words say, wherever they stand.
 record SaySame (words other : RawTokens) : Type 0 where
-  tokens : (known : List (List ℕ)) → tokens_from known words.raw_tokens
+  tokens : (known : Known) → tokens_from known words.raw_tokens
       ≡ tokens_from known other.raw_tokens
-  names : (known : List (List ℕ)) → names_from known words.raw_tokens
+  names : (known : Known) → names_from known words.raw_tokens
       ≡ names_from known other.raw_tokens
   bad : is_none words.bad ≡ is_none other.bad
 
 same_text : (text other : List ℕ) (words others : RawTokens) → raw_tokens_from 0 0 text ≡ words
     → raw_tokens_from 0 0 other ≡ others → SaySame words others → SaysAs text other
 same_text text other words others e f same = record {
-  tokens = ap (λ (l : RawTokens). tokens_from [] l.raw_tokens) e ∙ same.tokens []
-      ∙ ap (λ (l : RawTokens). tokens_from [] l.raw_tokens) (sym f);
-  names = ap (λ (l : RawTokens). names_from [] l.raw_tokens) e ∙ same.names []
-      ∙ ap (λ (l : RawTokens). names_from [] l.raw_tokens) (sym f);
+  tokens = ap (λ (l : RawTokens). tokens_from nothing_known l.raw_tokens) e ∙ same.tokens nothing_known
+      ∙ ap (λ (l : RawTokens). tokens_from nothing_known l.raw_tokens) (sym f);
+  names = ap (λ (l : RawTokens). names_from nothing_known l.raw_tokens) e ∙ same.names nothing_known
+      ∙ ap (λ (l : RawTokens). names_from nothing_known l.raw_tokens) (sym f);
   bad = ap (λ (l : RawTokens). is_none l.bad) e ∙ same.bad
       ∙ ap (λ (l : RawTokens). is_none l.bad) (sym f);
 }
@@ -161,13 +162,13 @@ none_moved : (n : ℕ) (bad : Option ℕ) → is_none (option_map (λ at. at + n
 none_moved n None = refl
 none_moved n (Some at) = refl
 
-tokens_moved : (n : ℕ) (raw_tokens : List RawTokenAt) (known : List (List ℕ))
+tokens_moved : (n : ℕ) (raw_tokens : List RawTokenAt) (known : Known)
     → tokens_from known (counted_on n raw_tokens) ≡ tokens_from known raw_tokens
 tokens_moved n [] known = refl
 tokens_moved n (raw ∷ rest) known = ap (λ l. token_of known raw.word ∷ l)
     (tokens_moved n rest (known_after known raw.word))
 
-names_moved : (n : ℕ) (raw_tokens : List RawTokenAt) (known : List (List ℕ))
+names_moved : (n : ℕ) (raw_tokens : List RawTokenAt) (known : Known)
     → names_from known (counted_on n raw_tokens) ≡ names_from known raw_tokens
 names_moved n [] known = refl
 names_moved n (raw ∷ rest) known = names_moved n rest (known_after known raw.word)
@@ -182,8 +183,8 @@ same_moved n m words = record {
 }
 
 tokens_behind : (front raw_tokens others : List RawTokenAt)
-    → ((known : List (List ℕ)) → tokens_from known raw_tokens ≡ tokens_from known others)
-    → (known : List (List ℕ)) →
+    → ((known : Known) → tokens_from known raw_tokens ≡ tokens_from known others)
+    → (known : Known) →
     tokens_from known (front ++ raw_tokens) ≡ tokens_from known (front ++ others)
 tokens_behind [] raw_tokens others same known = same known
 tokens_behind (raw ∷ rest) raw_tokens others same known =
@@ -191,8 +192,8 @@ tokens_behind (raw ∷ rest) raw_tokens others same known =
     (known_after known raw.word))
 
 names_behind : (front raw_tokens others : List RawTokenAt)
-    → ((known : List (List ℕ)) → names_from known raw_tokens ≡ names_from known others)
-    → (known : List (List ℕ)) →
+    → ((known : Known) → names_from known raw_tokens ≡ names_from known others)
+    → (known : Known) →
     names_from known (front ++ raw_tokens) ≡ names_from known (front ++ others)
 names_behind [] raw_tokens others same known = same known
 names_behind (raw ∷ rest) raw_tokens others same known =
@@ -255,7 +256,7 @@ none_same bad None e h = refl
 none_same None (Some at) e h = absurd (cc)
 none_same (Some b) (Some at) e h = absurd (cc)
 
-same_spelling : (text other : List ℕ) (tree : PatternTree) (names : List (List ℕ))
+same_spelling : (text other : List ℕ) (tree : PatternTree) (names : Vocabulary)
     → SaysAs text other → IsSpelling text tree names → IsSpelling other tree names
 same_spelling text other tree names same spelling = record {
   tokens_alone = none_same (bad_byte text) (bad_byte other) same.bad spelling.tokens_alone;
@@ -264,7 +265,7 @@ same_spelling text other tree names same spelling = record {
 }
 
 -- Texts that say the same spell the same.
-pub spell_same : (text other : List ℕ) (tree : PatternTree) (names : List (List ℕ))
+pub spell_same : (text other : List ℕ) (tree : PatternTree) (names : Vocabulary)
     → SaysAs text other →
     (IsSpelling text tree names → IsSpelling other tree names)
     × (IsSpelling other tree names → IsSpelling text tree names)

@@ -5,7 +5,7 @@ use Rattle.std.specs.Prelude.{if◌then◌else◌, is_some}
 use Rattle.tre_state.specs.StateTree.{StateTree, negation}
 use Rattle.tre_syntax.specs.PatternTree.{PatternTree, sequence, alternation, atom, empty, repetition, restriction}
 use Rattle.tre_parse.specs.declared.token.Token.{Token}
-use Rattle.tre_parse.specs.declared.token.Token.TheVariants.{Name, True, LeftParen, RightParen, LeftBrace, RightBrace, Comma, Semicolon, Bar, DoubleBar, Ampersand, DoubleAmpersand, Bang, Star, Plus, Question, Percent, Begins, Ends, Eps, Rise, Fall, EndOfText}
+use Rattle.tre_parse.specs.declared.token.Token.TheVariants.{Name, True, LeftParen, RightParen, LeftBrace, RightBrace, Comma, Semicolon, Bar, DoubleBar, Ampersand, DoubleAmpersand, Bang, Star, Plus, Question, Percent, Begins, Ends, Eps, Rise, Fall, Event, EndOfText}
 use Rattle.tre_parse.specs.declared.connective.Connective.{Connective}
 use Rattle.tre_parse.specs.declared.connective.Connective.TheVariants.{And, Or}
 use Rattle.tre_parse.specs.declared.connective.Join.{Join}
@@ -14,7 +14,7 @@ use Rattle.tre_parse.specs.declared.cursor.Stop.{Stop}
 use Rattle.tre_parse.specs.declared.cursor.Stop.TheVariants.{Syntax}
 use Rattle.tre_parse.specs.Front.{front, tail}
 use Rattle.tre_parse.specs.Joins.{negated, connected, connective_sign, joined_by, join_sign, brackets_of, edge_of, edge_sign, edged_literal}
-use Rattle.tre_parse.specs.Reader.{Reading, got, stop, and_then, state_by, state_after, state_operand, expression_by, expression_after, operand, operand_after, unsigned, of_state, of_pattern, of_interval, Program, give, halt, call, is_sign, accept, expect, said, part, leaf_of, state_part, expression_part, edge_program, literal_program, unsigned_program, is_before, sign_program, is_behind, past, run, read, read_state, read_pattern}
+use Rattle.tre_parse.specs.Reader.{Reading, got, stop, and_then, state_by, state_after, state_operand, expression_by, expression_after, operand, operand_after, unsigned, of_state, of_pattern, of_interval, Program, give, halt, call, is_sign, accept, expect, said, part, leaf_of, state_part, expression_part, edge_program, event_program, literal_program, unsigned_program, is_before, sign_program, is_behind, past, run, read, read_state, read_pattern}
 use Rattle.tre_parse.specs.Reading.{BeginsLiteral, Accepts}
 use Rattle.tre_parse.proofs.Fixpoint.{state_fixed, pattern_fixed}
 
@@ -296,6 +296,7 @@ literal_read false old new h k =
     by LeftParen h n = absurd h
     by Rise h n = absurd h
     by Fall h n = absurd h
+    by Event h n = absurd h
     by Begins h n = absurd (n refl)
     by _ h n = refl
 
@@ -329,6 +330,10 @@ opened_edge rises old us new e f =
     ap (λ ts. read_pattern unsigned ts) e ∙ edge_read rises us
     ∙ passed LeftParen (call (of_state (state_by Or))
     (λ s. expect RightParen (give (edge_of rises s)))) us new refl f
+
+pub event_read : (ts : List Token) → read_pattern unsigned (Event ∷ ts)
+    ≡ run read event_program ts
+event_read ts = pattern_fixed _ _
 
 pub no_sign_behind : (token : Token) → token ≢ Star → token ≢ Plus → token ≢ Question
     → token ≢ Percent → is_behind token ≡ false

@@ -9,7 +9,7 @@ use Rattle.tre_zone.specs.Interval.{IntervalEnds, IsIntervalWithin}
 use Rattle.tre_syntax.specs.PatternTree.{PatternTree}
 use Rattle.tre_parse.specs.declared.token.Token.{Token}
 use Rattle.tre_parse.specs.declared.token.Token.TheVariants.{Number, LeftParen, RightParen, Comma, Semicolon, Bar, Ampersand, Star, Plus, Question, Percent, Inf}
-use Rattle.tre_parse.specs.Grammar.{opening, closing, SpellsInterval, with_high, without_high, Rule, expr, meet, seq, post, primary, Spells, expr_meet, expr_bar, meet_seq, meet_ampersand, seq_post, seq_semicolon, post_primary, post_star, post_plus, post_question, post_percent, primary_eps, primary_parens, primary_rise, primary_fall, primary_lit, primary_begins, primary_ends, primary_begins_ends}
+use Rattle.tre_parse.specs.Grammar.{opening, closing, SpellsInterval, with_high, without_high, Rule, expr, meet, seq, post, primary, Spells, expr_meet, expr_bar, meet_seq, meet_ampersand, seq_post, seq_semicolon, post_primary, post_star, post_plus, post_question, post_percent, primary_eps, primary_parens, primary_rise, primary_fall, primary_event, primary_lit, primary_begins, primary_ends, primary_begins_ends}
 use Rattle.tre_parse.specs.Parts.{IsFineInterval}
 use Rattle.tre_parse.specs.Operands.{HasFineIntervals}
 use Rattle.tre_parse.specs.Outcome.{is_big, NoneEmpty}
@@ -81,6 +81,7 @@ fine_intervals _ _ _ (primary_parens xs e h) f = fine_intervals expr xs e h
     (inside_fine LeftParen xs RightParen f)
 fine_intervals _ _ _ (primary_rise xs s h) f = tt
 fine_intervals _ _ _ (primary_fall xs s h) f = tt
+fine_intervals _ _ _ (primary_event i) f = tt
 fine_intervals _ _ _ (primary_lit xs s h) f = tt
 fine_intervals _ _ _ (primary_begins xs s h) f = (tt, tt)
 fine_intervals _ _ _ (primary_ends xs s h) f = (tt, tt)

@@ -4,14 +4,14 @@ use Rattle.std.proofs.Common.{◌≡◌, ℕ, ◌+◌, ◌*◌, ◌<◌, ◌≤�
 use Rattle.std.specs.Prelude.{if◌then◌else◌, is_some}
 use Rattle.tre_syntax.specs.PatternTree.{PatternTree}
 use Rattle.tre_parse.specs.declared.token.Token.{Token}
-use Rattle.tre_parse.specs.declared.token.Token.TheVariants.{LeftParen, RightParen, Comma, Bang, Star, Plus, Question, Percent, Begins, Ends, Eps, Rise, Fall, EndOfText}
+use Rattle.tre_parse.specs.declared.token.Token.TheVariants.{LeftParen, RightParen, Comma, Bang, Star, Plus, Question, Percent, Begins, Ends, Eps, Rise, Fall, Event, EndOfText}
 use Rattle.tre_parse.specs.declared.connective.Connective.{Connective}
 use Rattle.tre_parse.specs.declared.connective.Connective.TheVariants.{And, Or}
 use Rattle.tre_parse.specs.declared.connective.Join.{Join}
 use Rattle.tre_parse.specs.declared.connective.Join.TheVariants.{Sequence, Intersection, Alternation}
 use Rattle.tre_parse.specs.Front.{front, tail}
 use Rattle.tre_parse.specs.Joins.{connective_sign, join_sign, brackets_of}
-use Rattle.tre_parse.specs.Reader.{Reading, got, stop, and_then, StateTask, state_by, state_after, state_operand, PatternTask, expression_by, expression_after, operand, operand_after, unsigned, Task, of_state, of_pattern, of_interval, Made, Program, give, halt, look, call, is_sign, accept, said, part, leaf_of, state_part, expression_part, opened_by, number_of, high_of, closed_by, sign_program, is_behind, edge_program, literal_program, unsigned_program, is_before, interval_program, state_program, pattern_program, program, past, run, deep, rank, read, read_state, read_pattern}
+use Rattle.tre_parse.specs.Reader.{Reading, got, stop, and_then, StateTask, state_by, state_after, state_operand, PatternTask, expression_by, expression_after, operand, operand_after, unsigned, Task, of_state, of_pattern, of_interval, Made, Program, give, halt, look, call, is_sign, accept, said, part, leaf_of, event_of, state_part, expression_part, opened_by, number_of, high_of, closed_by, sign_program, is_behind, edge_program, event_program, literal_program, unsigned_program, is_before, interval_program, state_program, pattern_program, program, past, run, deep, rank, read, read_state, read_pattern}
 
 -- The tokens that a reading leaves.
 abbrev pub left : {A : Type 0} → Reading A → List Token
@@ -81,12 +81,17 @@ edge_guarded : (rises : Bool) → IsGuarded 8 (edge_program rises)
 edge_guarded rises = accept_guarded LeftParen _ halt 8
     (omega arith, λ s. accept_guarded RightParen _ halt 8 tt tt) tt
 
+event_guarded : IsGuarded 8 event_program
+event_guarded = accept_guarded LeftParen _ halt 8
+    (part_guarded event_of _ 8 refl (λ i. accept_guarded RightParen _ halt 8 tt tt)) tt
+
 unsigned_guarded : (token : Token)
     → IsGuarded (if is_before token then 8 else 2) (unsigned_program token)
 unsigned_guarded Eps = tt
 unsigned_guarded LeftParen = (omega arith, λ e. accept_guarded RightParen _ halt 8 tt tt)
 unsigned_guarded Rise = edge_guarded true
 unsigned_guarded Fall = edge_guarded false
+unsigned_guarded Event = event_guarded
 unsigned_guarded Begins = literal_guarded true 8 (omega arith)
 unsigned_guarded _ = literal_guarded false 2 (omega arith)
 

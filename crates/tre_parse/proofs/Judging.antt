@@ -3,6 +3,9 @@ use Rattle.std.proofs.Common.{◌≡◌, ℕ, ◌<◌, ◌≤◌, ◌-◌, Bool,
 use Rattle.std.specs.Prelude.{IsSome, Result, MatchOption, position, nat_lt, min, if◌then◌else◌}
 use Rattle.std.specs.Option.{option_map}
 use Rattle.std.proofs.lemmas.Bool.Decides.{nat_tests}
+use Rattle.tre_trace.specs.Reading.{Vocabulary}
+use Rattle.tre_syntax.specs.declared.name_kind.NameKind.{NameKind}
+use Rattle.tre_syntax.specs.declared.name_kind.NameKind.TheVariants.{Proposition, Event as EventKind}
 use Rattle.tre_syntax.specs.declared.pattern.TheConstants.{NODES_MAX}
 use Rattle.tre_syntax.specs.declared.pattern.Pattern.{Pattern}
 use Rattle.tre_parse.specs.declared.limits.TheConstants.{TEXT_MAX, COUNT_MAX}
@@ -20,7 +23,7 @@ use Rattle.tre_parse.proofs.Fixpoint.{left}
 use Rattle.tre_parse.proofs.Whole.{read_whole, IsCut, fault_at, spelt_read}
 use Rattle.tre_parse.specs.declared.cursor.Stop.{Stop}
 use Rattle.tre_parse.specs.declared.cursor.Stop.TheVariants.{Syntax as Stuck, Memory as Lacking}
-use Rattle.tre_parse.specs.Tokens.{RawTokenAt, token_of, known_after, tokens_from, offsets_of, raw_tokens_of, earlier, bad_byte}
+use Rattle.tre_parse.specs.Tokens.{RawTokenAt, names_of_kind, Known, nothing_known, token_of, known_after, tokens_from, offsets_of, raw_tokens_of, earlier, bad_byte}
 use Rattle.tre_syntax.specs.Expr.{tree_of}
 use Rattle.tre_syntax.specs.declared.expr.Expr.{Expr}
 use Rattle.tre_parse.specs.Joins.{Keeps}
@@ -157,12 +160,11 @@ large_outcome words operand nodes e w h q same lt =
     (TooLarge (min (node_count w.tree) COUNT_MAX)) else spelt w.tree words.names)) q))
 
 -- What was read is a pattern with these names.
-pub record IsBuildable (names : List (List ℕ)) (operand : Operand) (tree : PatternTree) : Type 0
-  where
-    pub represents : Represents operand tree
-    pub small : node_count tree ≤ NODES_MAX
-    pub fine : HasFineIntervals tree
-    pub numbered : IsNumbered tree (length names)
+pub record IsBuildable (names : Vocabulary) (operand : Operand) (tree : PatternTree) : Type 0 where
+  pub represents : Represents operand tree
+  pub small : node_count tree ≤ NODES_MAX
+  pub fine : HasFineIntervals tree
+  pub numbered : (kind : NameKind) → IsNumbered kind tree (length (names_of_kind kind names))
 
 -- What is within all limits can be built, and is the pattern.
 pub is_buildable : (words : TextTokens) (operand : Operand) → limit_fault words ≡ None
@@ -176,17 +178,17 @@ is_buildable words operand e w h q le n =
       small = omega (arith, count);
       fine = fine_intervals expr words.tokens w.tree w.spells
           (stand_fine words.tokens (none_big words.tokens (no_big words e)) h);
-      numbered = (counts_alike expr words.tokens w.tree w.spells).alike 0 (length words.names)
-          (n q);
+      numbered = λ kind. (counts_alike expr words.tokens w.tree w.spells).alike kind 0
+          (length (names_of_kind kind words.names)) (n q kind);
     }
 
-pub expr_is : (names : List (List ℕ)) (operand : Operand) (tree : PatternTree) (kept : Option Expr)
+pub expr_is : (names : Vocabulary) (operand : Operand) (tree : PatternTree) (kept : Option Expr)
     (built : Expr) → IsBuildable names operand tree → Keeps operand.nodes operand.tree kept →
     kept ≡ Some built → tree_of built ≡ tree
 expr_is names operand tree kept built b k e = kept_is operand.nodes operand.tree kept built
     (λ x. tree_of x ≡ tree) k e b.represents.same
 
-pub expr_some : (names : List (List ℕ)) (operand : Operand) (tree : PatternTree)
+pub expr_some : (names : Vocabulary) (operand : Operand) (tree : PatternTree)
     (kept : Option Expr) → IsBuildable names operand tree → Keeps operand.nodes operand.tree kept →
     operand.nodes ≤ NODES_MAX → kept ≡ None → ⊥
 expr_some names operand tree kept b k le e = no_none operand.tree
@@ -196,15 +198,18 @@ expr_some names operand tree kept b k le e = no_none operand.tree
     no_none None h e = cc
     no_none (Some x) h e = cc
 
-pub pattern_some : (names : List (List ℕ)) (operand : Operand) (tree : PatternTree) (built : Expr)
+pub pattern_some : (names : Vocabulary) (operand : Operand) (tree : PatternTree) (built : Expr)
     → IsBuildable names operand tree → tree_of built ≡ tree →
-    (node_count (tree_of built) ≤ NODES_MAX) × IsNumbered (tree_of built) (length names)
+    (node_count (tree_of built) ≤ NODES_MAX)
+    × IsNumbered Proposition (tree_of built) (length names.names)
+    × IsNumbered EventKind (tree_of built) (length names.events)
 pattern_some names operand tree built b e =
-    let P = λ (t : PatternTree). (node_count t ≤ NODES_MAX) × IsNumbered t (length names) in
-    subst P (sym e) (b.small, b.numbered)
+    let P = λ (t : PatternTree). (node_count t ≤ NODES_MAX)
+    × IsNumbered Proposition t (length names.names) × IsNumbered EventKind t (length names.events) in
+    subst P (sym e) (b.small, b.numbered Proposition, b.numbered EventKind)
 
 pub spelt_outcome : (words : TextTokens) (operand : Operand) (tree : PatternTree)
-    (names : List (List ℕ)) → limit_fault words ≡ None → (w : IsRepresented words operand)
+    (names : Vocabulary) → limit_fault words ≡ None → (w : IsRepresented words operand)
     → NoneEmpty words.tokens → words.past ≡ None → operand.nodes ≤ NODES_MAX →
     tree ≡ w.tree → names ≡ words.names → IsOutcomeWithin words (spelt tree names)
 spelt_outcome words operand tree names e w h q le same kept =
@@ -233,13 +238,13 @@ good_bytes text le e = short_by (nat_lt TEXT_MAX (length text)) (length text) (S
     le ∙ ap (option_map (λ at. BadByte at)) e
 
 -- The tokens and the offsets of words that are listed together.
-placed_tokens : (known : List (List ℕ)) (raw_tokens : List RawTokenAt)
+placed_tokens : (known : Known) (raw_tokens : List RawTokenAt)
     → tokens_in (placed_from known raw_tokens) ≡ tokens_from known raw_tokens
 placed_tokens known [] = refl
 placed_tokens known (raw ∷ rest) = ap (λ ts. token_of known raw.word ∷ ts)
     (placed_tokens (known_after known raw.word) rest)
 
-placed_offsets : (known : List (List ℕ)) (raw_tokens : List RawTokenAt)
+placed_offsets : (known : Known) (raw_tokens : List RawTokenAt)
     → offsets_in (placed_from known raw_tokens) ≡ offsets_of raw_tokens
 placed_offsets known [] = refl
 placed_offsets known (raw ∷ rest) = ap (λ ns. raw.at ∷ ns)
@@ -251,8 +256,8 @@ pub same_words : (text : List ℕ) (scan : Scan) → IsScan text scan → text_t
 same_words text scan s =
     let raw_tokens = raw_tokens_of text in
     let z = s.size in let c = s.names in let d = s.past in
-    let a = ap tokens_in s.tokens ∙ placed_tokens [] raw_tokens in
-    let b = ap offsets_in s.tokens ∙ placed_offsets [] raw_tokens in
+    let a = ap tokens_in s.tokens ∙ placed_tokens nothing_known raw_tokens in
+    let b = ap offsets_in s.tokens ∙ placed_offsets nothing_known raw_tokens in
     (cc)
 
 pub scan_numbered : (text : List ℕ) (scan : Scan) → IsScan text scan

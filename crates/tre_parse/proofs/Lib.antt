@@ -1,5 +1,6 @@
 pub mod Fixpoint
 pub mod Equations
+pub mod Same
 pub mod Spelt
 pub mod Says
 pub mod Rules

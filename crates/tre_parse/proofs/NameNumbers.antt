@@ -8,8 +8,12 @@ use Rattle.std.proofs.lemmas.List.Folds.{position_or_len_push}
 use Rattle.tre_state.specs.declared.names.TheConstants.{NAMES_MAX}
 use Rattle.tre_state.specs.Names.{place_of}
 use Rattle.tre_state.proofs.Places.{place_of-push}
-use Rattle.tre_parse.specs.declared.token.Token.TheVariants.{Name as Numbered}
-use Rattle.tre_parse.specs.Tokens.{RawToken, name, sign, RawTokenAt, names_with, token_of, known_after, tokens_from, names_from, raw_tokens_of, tokens_of, names_of}
+use Rattle.tre_trace.specs.Reading.{Vocabulary}
+use Rattle.tre_syntax.specs.declared.name_kind.NameKind.{NameKind}
+use Rattle.tre_syntax.specs.declared.name_kind.NameKind.TheVariants.{Proposition, Event as EventKind}
+use Rattle.tre_parse.specs.declared.token.Token.{Token}
+use Rattle.tre_parse.specs.Tokens.{RawToken, name, sign, RawTokenAt, kind_behind, names_of_kind, names_with, vocabulary_with, Known, nothing_known, numbered, token_of, vocabulary_after, known_after, tokens_from, names_from, raw_tokens_of, tokens_of, names_of}
+use Rattle.tre_parse.specs.Past.{before_from, kind_after}
 use Rattle.tre_parse.specs.Numbering.{HasTokenAt}
 
 -- A name that is held keeps its place when one more is put at the end.
@@ -49,24 +53,54 @@ some_kept : (known : List (List ℕ)) (bytes other : List ℕ) (i : ℕ) (is : B
 some_kept known bytes other i true e = kept_place known bytes other i e
 some_kept known bytes other i false e = e
 
-word_on : (known : List (List ℕ)) (word : RawToken) (bytes : List ℕ) → HasPlace known bytes
-    → HasPlace (known_after known word) bytes × (place_of (known_after known word) bytes
+name_on : (known : List (List ℕ)) (bytes other : List ℕ) → HasPlace known bytes
+    → HasPlace (names_with known other) bytes × (place_of (names_with known other) bytes
     ≡ place_of known bytes)
-word_on known (sign token) bytes h = (h, refl)
-word_on known (name other) bytes (inl s) =
+name_on known bytes other (inl s) =
     let e = some_kept known bytes other s.0 (is_none (place_of known other) && nat_lt (length known)
     NAMES_MAX) s.1 in (inl (s.0, e), e ∙ sym s.1)
-word_on known (name other) bytes (inr full) =
+name_on known bytes other (inr full) =
     let same = no_room known other (is_none (place_of known other))
     (nat_lt (length known) NAMES_MAX) full in
     (inr (ap (λ k. nat_lt (length k) NAMES_MAX) same ∙ full), ap (λ k. place_of k bytes) same)
 
-for_good : (known : List (List ℕ)) (raw_tokens : List RawTokenAt) (bytes : List ℕ)
-    → HasPlace known bytes → place_of (names_from known raw_tokens) bytes ≡ place_of known bytes
-for_good known [] bytes h = refl
-for_good known (raw ∷ rest) bytes h =
-    let w = word_on known raw.word bytes h in for_good (known_after known raw.word) rest bytes w.0
-    ∙ w.1
+-- ---- the names of each kind
+
+-- A name of one kind changes no other names.
+pub kind_by : (P : List (List ℕ) → Type 0) (kind at : NameKind) (known : Vocabulary)
+    (bytes : List ℕ) → P (names_of_kind kind known) → P (names_with (names_of_kind kind known) bytes)
+    → P (names_of_kind kind (vocabulary_with at known bytes))
+kind_by P Proposition Proposition known bytes same more = more
+kind_by P Proposition EventKind known bytes same more = same
+kind_by P EventKind Proposition known bytes same more = same
+kind_by P EventKind EventKind known bytes same more = more
+
+pub own_kind : (kind : NameKind) (known : Vocabulary) (bytes : List ℕ)
+    → names_of_kind kind (vocabulary_with kind known bytes)
+    ≡ names_with (names_of_kind kind known) bytes
+own_kind Proposition known bytes = refl
+own_kind EventKind known bytes = refl
+
+word_on : (kind : NameKind) (known : Known) (word : RawToken) (bytes : List ℕ)
+    → HasPlace (names_of_kind kind known.vocabulary) bytes →
+    HasPlace (names_of_kind kind (vocabulary_after known word)) bytes
+    × (place_of (names_of_kind kind (vocabulary_after known word)) bytes
+    ≡ place_of (names_of_kind kind known.vocabulary) bytes)
+word_on kind known (sign token) bytes h = (h, refl)
+word_on kind known (name other) bytes h =
+    let P = λ (names : List (List ℕ)). HasPlace names bytes
+    × (place_of names bytes ≡ place_of (names_of_kind kind known.vocabulary) bytes) in
+    kind_by P kind (kind_behind known.before) known.vocabulary other (h, refl)
+    (name_on (names_of_kind kind known.vocabulary) bytes other h)
+
+for_good : (kind : NameKind) (known : Known) (raw_tokens : List RawTokenAt) (bytes : List ℕ)
+    → HasPlace (names_of_kind kind known.vocabulary) bytes
+    → place_of (names_of_kind kind (names_from known raw_tokens)) bytes
+    ≡ place_of (names_of_kind kind known.vocabulary) bytes
+for_good kind known [] bytes h = refl
+for_good kind known (raw ∷ rest) bytes h =
+    let w = word_on kind known raw.word bytes h in
+    for_good kind (known_after known raw.word) rest bytes w.0 ∙ w.1
 
 -- After a name was read it has its place.
 placed : (known : List (List ℕ)) (bytes : List ℕ) (found : Option ℕ) (room : Bool)
@@ -76,19 +110,28 @@ placed known bytes (Some i) room e f = inl (i, e)
 placed known bytes None true e f = inl (length known, place_of-push known bytes e)
 placed known bytes None false e f = inr f
 
-number_from : (front back : List RawTokenAt) (at : ℕ) (bytes : List ℕ) (known : List (List ℕ)) →
+-- The token of a name in the end, by what stands before the words in front of it.
+abbrev final : Known → List RawTokenAt → List RawTokenAt → ℕ → List ℕ → Token
+final known front back at bytes =
+    let kind = kind_behind (before_from known.before front) in
+    numbered kind (unwrap_or (place_of (names_of_kind kind (names_from known
+    (front ++ (record { at = at; word = name bytes }) ∷ back))) bytes) NAMES_MAX)
+
+number_from : (front back : List RawTokenAt) (at : ℕ) (bytes : List ℕ) (known : Known) →
     HasTokenAt (tokens_from known (front ++ (record { at = at; word = name bytes }) ∷ back))
-    (length front)
-    (Numbered (unwrap_or (place_of (names_from known
-    (front ++ (record { at = at; word = name bytes }) ∷ back)) bytes) NAMES_MAX))
+    (length front) (final known front back at bytes)
 number_from [] back at bytes known =
-    let same = for_good (names_with known bytes) back bytes
-    (placed known bytes (place_of known bytes) (nat_lt (length known) NAMES_MAX) refl refl) in
+    let kind = kind_behind known.before in
+    let names = names_of_kind kind known.vocabulary in
+    let next = known_after known (name bytes) in
+    let own = own_kind kind known.vocabulary bytes in
+    let has = subst (λ l. HasPlace l bytes) (sym own)
+    (placed names bytes (place_of names bytes) (nat_lt (length names) NAMES_MAX) refl refl) in
     record {
       before = [];
-      after = tokens_from (names_with known bytes) back;
-      split = ap (λ (o : Option ℕ). Numbered (unwrap_or o NAMES_MAX) ∷ tokens_from
-          (names_with known bytes) back) (sym same);
+      after = tokens_from next back;
+      split = ap (λ (o : Option ℕ). numbered kind (unwrap_or o NAMES_MAX) ∷ tokens_from next back)
+          (sym (for_good kind next back bytes has ∙ ap (λ l. place_of l bytes) own));
       here = refl;
     }
 number_from (raw ∷ front) back at bytes known =
@@ -102,9 +145,11 @@ number_from (raw ∷ front) back at bytes known =
 
 pub name_number : (text bytes : List ℕ) (front back : List RawTokenAt) (at : ℕ) → raw_tokens_of text
     ≡ front ++ (record { at = at; word = name bytes }) ∷ back →
-    HasTokenAt (tokens_of text) (length front) (Numbered
-    (unwrap_or (place_of (names_of text) bytes) NAMES_MAX))
+    HasTokenAt (tokens_of text) (length front) (numbered (kind_after front) (unwrap_or
+    (place_of (names_of_kind (kind_after front) (names_of text)) bytes) NAMES_MAX))
 name_number text bytes front back at e =
-    let P = λ (raw_tokens : List RawTokenAt). HasTokenAt (tokens_from [] raw_tokens) (length front)
-    (Numbered (unwrap_or (place_of (names_from [] raw_tokens) bytes) NAMES_MAX)) in
-    subst P (sym e) (number_from front back at bytes [])
+    let kind = kind_after front in
+    let P = λ (raw_tokens : List RawTokenAt). HasTokenAt (tokens_from nothing_known raw_tokens)
+    (length front) (numbered kind (unwrap_or (place_of (names_of_kind kind
+    (names_from nothing_known raw_tokens)) bytes) NAMES_MAX)) in
+    subst P (sym e) (number_from front back at bytes nothing_known)

@@ -11,20 +11,24 @@ use Rattle.tre_state.specs.Name.{starts_name, continues_name}
 use Rattle.tre_state.proofs.Places.{place_of-push}
 use Rattle.tre_syntax.specs.PatternTree.{seen_after}
 use Rattle.tre_syntax.proofs.FirstUses.{seen_old, seen_new}
+use Rattle.tre_trace.specs.Reading.{Vocabulary}
+use Rattle.tre_syntax.specs.declared.name_kind.NameKind.{NameKind}
+use Rattle.tre_syntax.specs.declared.name_kind.NameKind.TheVariants.{Proposition, Event as EventKind}
 use Rattle.tre_parse.specs.declared.token.Token.{Token}
-use Rattle.tre_parse.specs.declared.token.Token.TheVariants.{Name as Numbered, Eps, Rise, Fall, Inf, True, Event}
+use Rattle.tre_parse.specs.declared.token.Token.TheVariants.{Name as Numbered, EventName, Eps, Rise, Fall, Inf, True, Event}
 use Rattle.tre_parse.specs.declared.lexeme.Lexeme.{Lexeme}
 use Rattle.tre_parse.specs.declared.lexeme.Lexeme.TheVariants.{Blank, Wrong, Name, Sign}
 use Rattle.tre_parse.specs.Lexeme.{is_blank, reserved, named, first_sign, word_lexeme, number_lexeme, sign_lexeme, lexeme_of}
 use Rattle.tre_parse.specs.declared.lexeme.TheConstants.{SIGNS}
 use Rattle.tre_parse.proofs.Table.{Each}
-use Rattle.tre_parse.specs.Tokens.{RawToken, name, sign, RawTokenAt, RawTokens, raw_tokens_from, scanned, token_of, known_after, tokens_from, names_from, past_from, is_past, raw_tokens_of}
+use Rattle.tre_parse.specs.Tokens.{RawToken, name, sign, RawTokenAt, RawTokens, raw_tokens_from, scanned, kind_behind, names_of_kind, names_with, vocabulary_with, Known, nothing_known, numbered, token_of, vocabulary_after, known_after, tokens_from, names_from, past_from, is_past, raw_tokens_of}
 use Rattle.tre_parse.specs.Numbering.{numbers_in, IsNumberedByUse}
 use Rattle.tre_parse.specs.Outcome.{text_tokens_of}
 
 -- A token that is no name.
 abbrev IsNoName : Token → Type 0
 IsNoName (Numbered i) = ⊥
+IsNoName (EventName i) = ⊥
 IsNoName _ = Unit {0}
 
 reserved_by : (a b c d e f : Bool) → IfSome (if a then Some Eps else
@@ -140,10 +144,11 @@ raw_tokens_plain zero at (b ∷ bs) = scanned_plain (lexeme_of (b ∷ bs)) at (b
     (λ skip. raw_tokens_from skip (at + 1) bs) (lexeme_no_name (b ∷ bs))
     (λ skip. raw_tokens_plain skip (at + 1) bs)
 
-no_name_numbers : (token : Token) (rest : List Token) → IsNoName token → numbers_in (token ∷ rest)
-    ≡ numbers_in rest
-no_name_numbers (Numbered i) rest h = absurd h
-no_name_numbers _ rest h = refl
+no_name_numbers : (kind : NameKind) (token : Token) (rest : List Token) → IsNoName token
+    → numbers_in kind (token ∷ rest) ≡ numbers_in kind rest
+no_name_numbers kind (Numbered i) rest h = absurd h
+no_name_numbers kind (EventName i) rest h = absurd h
+no_name_numbers kind _ rest h = refl
 
 -- What the number of a name is, where it is not past the most.
 name_seen : (known : List (List ℕ)) (bytes : List ℕ) (found : Option ℕ) (room : Bool)
@@ -172,29 +177,56 @@ past_none : (is : Bool) (at : ℕ) (later : Option ℕ) → (if is then Some at 
 past_none true at later e = absurd (cc)
 past_none false at later e = (refl, e)
 
-spot_numbered : (word : RawToken) (at : ℕ) (known : List (List ℕ)) (rest : List Token)
-    (later : Option ℕ) (m : ℕ) → IsPlain word →
-    (if is_past known word then Some at else later) ≡ None
-    → (later ≡ None → seen_after (length (known_after known word)) (numbers_in rest) ≡ Some m) →
-    seen_after (length known) (numbers_in (token_of known word ∷ rest)) ≡ Some m
-spot_numbered (name bytes) at known rest later m h e go =
-    let split = past_none (is_past known (name bytes)) at later e in
-    name_seen known bytes (place_of known bytes) (nat_lt (length known) NAMES_MAX) (numbers_in rest)
-    m refl split.0 (go split.1)
-spot_numbered (sign token) at known rest later m h e go =
-    ap (seen_after (length known)) (no_name_numbers token rest h) ∙ go e
+-- The names of one kind, behind a name of this kind or of another.
+kind_seen : (kind at : NameKind) (known : Vocabulary) (bytes : List ℕ) (rest : List Token) (m : ℕ) →
+    is_none (place_of (names_with (names_of_kind at known) bytes) bytes) ≡ false →
+    seen_after (length (names_of_kind kind (vocabulary_with at known bytes))) (numbers_in kind rest)
+    ≡ Some m →
+    seen_after (length (names_of_kind kind known)) (numbers_in kind (numbered at (unwrap_or
+    (place_of (names_with (names_of_kind at known) bytes) bytes) NAMES_MAX) ∷ rest)) ≡ Some m
+kind_seen Proposition Proposition known bytes rest m p e =
+    name_seen known.names bytes (place_of known.names bytes) (nat_lt (length known.names) NAMES_MAX)
+    (numbers_in Proposition rest) m refl p e
+kind_seen EventKind EventKind known bytes rest m p e =
+    name_seen known.events bytes (place_of known.events bytes)
+    (nat_lt (length known.events) NAMES_MAX) (numbers_in EventKind rest) m refl p e
+kind_seen Proposition EventKind known bytes rest m p e = e
+kind_seen EventKind Proposition known bytes rest m p e = e
 
-numbered_from : (raw_tokens : List RawTokenAt) (known : List (List ℕ)) → ArePlain raw_tokens
-    → past_from known raw_tokens ≡ None →
-    seen_after (length known) (numbers_in (tokens_from known raw_tokens))
-    ≡ Some (length (names_from known raw_tokens))
-numbered_from [] known h e = refl
-numbered_from (raw ∷ rest) known h e =
-    spot_numbered raw.word raw.at known (tokens_from (known_after known raw.word) rest)
+spot_numbered : (kind : NameKind) (word : RawToken) (at : ℕ) (known : Known) (rest : List Token)
+    (later : Option ℕ) (m : ℕ) → IsPlain word →
+    (if is_past known word then Some at else later) ≡ None →
+    (later ≡ None → seen_after (length (names_of_kind kind (vocabulary_after known word)))
+    (numbers_in kind rest) ≡ Some m) →
+    seen_after (length (names_of_kind kind known.vocabulary))
+    (numbers_in kind (token_of known word ∷ rest)) ≡ Some m
+spot_numbered kind (name bytes) at known rest later m h e go =
+    let split = past_none (is_past known (name bytes)) at later e in
+    kind_seen kind (kind_behind known.before) known.vocabulary bytes rest m split.0 (go split.1)
+spot_numbered kind (sign token) at known rest later m h e go =
+    ap (seen_after (length (names_of_kind kind known.vocabulary))) (no_name_numbers kind token rest h)
+    ∙ go e
+
+numbered_from : (kind : NameKind) (raw_tokens : List RawTokenAt) (known : Known)
+    → ArePlain raw_tokens → past_from known raw_tokens ≡ None →
+    seen_after (length (names_of_kind kind known.vocabulary))
+    (numbers_in kind (tokens_from known raw_tokens))
+    ≡ Some (length (names_of_kind kind (names_from known raw_tokens)))
+numbered_from kind [] known h e = refl
+numbered_from kind (raw ∷ rest) known h e =
+    spot_numbered kind raw.word raw.at known (tokens_from (known_after known raw.word) rest)
     (past_from (known_after known raw.word) rest)
-    (length (names_from (known_after known raw.word) rest)) h.0 e
-    (λ later. numbered_from rest (known_after known raw.word) h.1 later)
+    (length (names_of_kind kind (names_from (known_after known raw.word) rest))) h.0 e
+    (λ later. numbered_from kind rest (known_after known raw.word) h.1 later)
+
+-- Nothing is known at the beginning, of either kind.
+numbered_all : (kind : NameKind) (raw_tokens : List RawTokenAt) → ArePlain raw_tokens
+    → past_from nothing_known raw_tokens ≡ None →
+    seen_after 0 (numbers_in kind (tokens_from nothing_known raw_tokens))
+    ≡ Some (length (names_of_kind kind (names_from nothing_known raw_tokens)))
+numbered_all Proposition raw_tokens h e = numbered_from Proposition raw_tokens nothing_known h e
+numbered_all EventKind raw_tokens h e = numbered_from EventKind raw_tokens nothing_known h e
 
 -- The words of a text are numbered by use.
 pub text_numbered : (text : List ℕ) → IsNumberedByUse (text_tokens_of text)
-text_numbered text = λ e. numbered_from (raw_tokens_of text) [] (raw_tokens_plain 0 0 text) e
+text_numbered text = λ e kind. numbered_all kind (raw_tokens_of text) (raw_tokens_plain 0 0 text) e

@@ -1,50 +1,90 @@
 -- The numbers of the names in an expression come as its tokens have them.
-use Rattle.std.proofs.Common.{◌≡◌, ℕ, ◌+◌, ◌<◌, ◌≤◌, Bool, true, false, Option, Some, None, List, [], ◌∷◌, ◌++◌, refl, sym, ◌∙◌, ap, arith}
+use Rattle.std.proofs.Common.{◌≡◌, ℕ, ◌+◌, ◌<◌, ◌≤◌, Bool, true, false, Option, Some, None, List, [], ◌∷◌, ◌++◌, refl, sym, ◌∙◌, ap, arith, append_assoc}
 use Rattle.std.specs.Prelude.{nat_lt, ◌==◌, if◌then◌else◌}
 use Rattle.std.proofs.lemmas.Bool.Decides.{nat_tests}
 use Rattle.std.proofs.lemmas.List.{append-nil}
-use Rattle.tre_state.specs.StateTree as state
-use Rattle.tre_state.specs.StateTree.{StateTree}
-use Rattle.tre_syntax.specs.PatternTree.{PatternTree, numbers_of, seen_after}
+use Rattle.tre_state.specs.StateTree.{StateTree, always, proposition, negation}
+use Rattle.tre_syntax.specs.declared.name_kind.NameKind.{NameKind}
+use Rattle.tre_syntax.specs.declared.name_kind.NameKind.TheVariants.{Proposition, Event as EventKind}
+use Rattle.tre_syntax.specs.PatternTree.{PatternTree, numbers_of_state, numbers_of_event, numbers_of, seen_after}
 use Rattle.tre_zone.specs.Interval.{IntervalEnds}
 use Rattle.tre_parse.specs.declared.token.Token.{Token}
-use Rattle.tre_parse.specs.declared.token.Token.TheVariants.{Name, RightParen, RightBrace, Semicolon, Bar, DoubleBar, Ampersand, DoubleAmpersand, Star, Plus, Question, Percent, Ends}
-use Rattle.tre_parse.specs.Grammar.{StateRule, lit, state, conj, neg, SpellsState, lit_name, lit_true, lit_braces, lit_bang, state_conj, state_bars, conj_neg, conj_ampersands, neg_name, neg_true, neg_parens, neg_bang, SpellsInterval, with_high, without_high, Rule, expr, meet, seq, post, primary, Spells, expr_meet, expr_bar, meet_seq, meet_ampersand, seq_post, seq_semicolon, post_primary, post_star, post_plus, post_question, post_percent, primary_eps, primary_parens, primary_rise, primary_fall, primary_lit, primary_begins, primary_ends, primary_begins_ends}
-use Rattle.tre_parse.specs.Numbering.{numbers_in}
+use Rattle.tre_parse.specs.declared.token.Token.TheVariants.{Name, EventName, RightParen, RightBrace, Semicolon, Bar, Ampersand, Star, Plus, Question, Percent, Ends}
+use Rattle.tre_parse.specs.Grammar.{StateRule, lit, state, conj, neg, SpellsState, lit_name, lit_true, lit_braces, lit_bang, state_conj, state_bars, conj_neg, conj_ampersands, neg_name, neg_true, neg_parens, neg_bang, SpellsInterval, with_high, without_high, Rule, expr, meet, seq, post, primary, Spells, expr_meet, expr_bar, meet_seq, meet_ampersand, seq_post, seq_semicolon, post_primary, post_star, post_plus, post_question, post_percent, primary_eps, primary_parens, primary_rise, primary_fall, primary_event, primary_lit, primary_begins, primary_ends, primary_begins_ends}
+use Rattle.tre_parse.specs.declared.connective.Connective.{Connective}
+use Rattle.tre_parse.specs.declared.connective.Connective.TheVariants.{And, Or}
+use Rattle.tre_parse.specs.Joins.{connected, connective_sign}
+use Rattle.tre_parse.specs.Numbering.{numbers_at, numbers_in}
 
-pub numbers_join : (xs ys : List Token) → numbers_in (xs ++ ys) ≡ numbers_in xs ++ numbers_in ys
-numbers_join [] ys = refl
-numbers_join (Name i ∷ xs) ys = ap (λ l. i ∷ l) (numbers_join xs ys)
-numbers_join (_ ∷ xs) ys = numbers_join xs ys
+pub numbers_join : (kind : NameKind) (xs ys : List Token) → numbers_in kind (xs ++ ys)
+    ≡ numbers_in kind xs ++ numbers_in kind ys
+numbers_join kind [] ys = refl
+numbers_join kind (token ∷ xs) ys =
+    ap (λ l. numbers_at token kind ++ l) (numbers_join kind xs ys)
+    ∙ sym (append_assoc (numbers_at token kind) (numbers_in kind xs) (numbers_in kind ys))
 
 -- Brackets around tokens have no numbers.
-numbers_closed : (xs : List Token) (mark : Token) → numbers_in (mark ∷ []) ≡ []
-    → numbers_in (xs ++ mark ∷ []) ≡ numbers_in xs
-numbers_closed xs mark e = numbers_join xs (mark ∷ []) ∙ ap (λ l. numbers_in xs ++ l) e
-    ∙ append-nil (numbers_in xs)
+numbers_closed : (kind : NameKind) (xs : List Token) (mark : Token)
+    → numbers_in kind (mark ∷ []) ≡ [] → numbers_in kind (xs ++ mark ∷ []) ≡ numbers_in kind xs
+numbers_closed kind xs mark e = numbers_join kind xs (mark ∷ [])
+    ∙ ap (λ l. numbers_in kind xs ++ l) e ∙ append-nil (numbers_in kind xs)
 
-state_numbers : (r : StateRule) (xs : List Token) (s : StateTree) → SpellsState r xs s
-    → state.numbers_of s ≡ numbers_in xs
-state_numbers _ _ _ (lit_name i) = refl
-state_numbers _ _ _ lit_true = refl
-state_numbers _ _ _ (lit_braces xs s h) = state_numbers state xs s h
-    ∙ sym (numbers_closed xs RightBrace refl)
-state_numbers _ _ _ (lit_bang xs s h) = state_numbers lit xs s h
-state_numbers _ _ _ (state_conj xs s h) = state_numbers conj xs s h
-state_numbers _ _ _ (state_bars xs ys s t h k) =
-    ap (λ l. l ++ state.numbers_of t) (state_numbers state xs s h)
-    ∙ ap (λ l. numbers_in xs ++ l) (state_numbers conj ys t k)
-    ∙ sym (numbers_join xs (DoubleBar ∷ ys))
-state_numbers _ _ _ (conj_neg xs s h) = state_numbers neg xs s h
-state_numbers _ _ _ (conj_ampersands xs ys s t h k) =
-    ap (λ l. l ++ state.numbers_of t) (state_numbers conj xs s h)
-    ∙ ap (λ l. numbers_in xs ++ l) (state_numbers neg ys t k)
-    ∙ sym (numbers_join xs (DoubleAmpersand ∷ ys))
-state_numbers _ _ _ (neg_name i) = refl
-state_numbers _ _ _ neg_true = refl
-state_numbers _ _ _ (neg_parens xs s h) = state_numbers state xs s h
-    ∙ sym (numbers_closed xs RightParen refl)
-state_numbers _ _ _ (neg_bang xs s h) = state_numbers neg xs s h
+name_numbers : (kind : NameKind) (i : ℕ) → numbers_of_state kind (proposition i)
+    ≡ numbers_in kind (Name i ∷ [])
+name_numbers Proposition i = refl
+name_numbers EventKind i = refl
+
+event_numbers : (kind : NameKind) (i : ℕ) → numbers_in kind (EventName i ∷ [])
+    ≡ numbers_of_event kind i
+event_numbers Proposition i = refl
+event_numbers EventKind i = refl
+
+-- What names nothing, or what its part does.
+always_numbers : (kind : NameKind) → numbers_of_state kind always ≡ []
+always_numbers Proposition = refl
+always_numbers EventKind = refl
+
+negation_numbers : (kind : NameKind) (s : StateTree) → numbers_of_state kind (negation s)
+    ≡ numbers_of_state kind s
+negation_numbers Proposition s = refl
+negation_numbers EventKind s = refl
+
+-- Two states that are joined.
+both_numbers : (kind : NameKind) (how : Connective) (s t : StateTree)
+    → numbers_of_state kind (connected how s t)
+    ≡ numbers_of_state kind s ++ numbers_of_state kind t
+both_numbers Proposition And s t = refl
+both_numbers Proposition Or s t = refl
+both_numbers EventKind how s t = refl
+
+joined_numbers : (kind : NameKind) (how : Connective) (xs ys : List Token) (s t : StateTree)
+    → numbers_of_state kind s ≡ numbers_in kind xs → numbers_of_state kind t ≡ numbers_in kind ys
+    → numbers_in kind (connective_sign how ∷ ys) ≡ numbers_in kind ys →
+    numbers_of_state kind (connected how s t) ≡ numbers_in kind (xs ++ connective_sign how ∷ ys)
+joined_numbers kind how xs ys s t h k e = both_numbers kind how s t
+    ∙ ap (λ l. l ++ numbers_of_state kind t) h ∙ ap (λ l. numbers_in kind xs ++ l) (k ∙ sym e)
+    ∙ sym (numbers_join kind xs (connective_sign how ∷ ys))
+
+state_numbers : (kind : NameKind) (r : StateRule) (xs : List Token) (s : StateTree)
+    → SpellsState r xs s → numbers_of_state kind s ≡ numbers_in kind xs
+state_numbers kind _ _ _ (lit_name i) = name_numbers kind i
+state_numbers kind _ _ _ lit_true = always_numbers kind
+state_numbers kind _ _ _ (lit_braces xs s h) = state_numbers kind state xs s h
+    ∙ sym (numbers_closed kind xs RightBrace refl)
+state_numbers kind _ _ _ (lit_bang xs s h) = negation_numbers kind s
+    ∙ state_numbers kind lit xs s h
+state_numbers kind _ _ _ (state_conj xs s h) = state_numbers kind conj xs s h
+state_numbers kind _ _ _ (state_bars xs ys s t h k) = joined_numbers kind Or xs ys s t
+    (state_numbers kind state xs s h) (state_numbers kind conj ys t k) refl
+state_numbers kind _ _ _ (conj_neg xs s h) = state_numbers kind neg xs s h
+state_numbers kind _ _ _ (conj_ampersands xs ys s t h k) = joined_numbers kind And xs ys s t
+    (state_numbers kind conj xs s h) (state_numbers kind neg ys t k) refl
+state_numbers kind _ _ _ (neg_name i) = name_numbers kind i
+state_numbers kind _ _ _ neg_true = always_numbers kind
+state_numbers kind _ _ _ (neg_parens xs s h) = state_numbers kind state xs s h
+    ∙ sym (numbers_closed kind xs RightParen refl)
+state_numbers kind _ _ _ (neg_bang xs s h) = negation_numbers kind s
+    ∙ state_numbers kind neg xs s h
 
 -- Numbers read in two parts.
 record SeenBetween (xs ys : List ℕ) (n m : ℕ) : Type 0 where
@@ -119,105 +159,112 @@ seen_again xs n m e = seen_join xs xs n m m e (seen_more xs n m m e (omega arith
 
 -- Whatever is known before, the tokens and the expression come to as many names.
 pub record CountsAlike (xs : List Token) (e : PatternTree) : Type 0 where
-  pub alike : (n m : ℕ) → seen_after n (numbers_in xs) ≡ Some m → seen_after n (numbers_of e)
-      ≡ Some m
+  pub alike : (kind : NameKind) (n m : ℕ) → seen_after n (numbers_in kind xs) ≡ Some m
+      → seen_after n (numbers_of kind e) ≡ Some m
 
 -- Two parts side by side, with a token between them.
-alike_join : (xs ys : List Token) (mark : Token) (e f : PatternTree) → numbers_in (mark ∷ ys)
-    ≡ numbers_in ys → CountsAlike xs e → CountsAlike ys f →
-    (n m : ℕ) → seen_after n (numbers_in (xs ++ mark ∷ ys)) ≡ Some m
-    → seen_after n (numbers_of e ++ numbers_of f) ≡ Some m
-alike_join xs ys mark e f s a b n m h =
-    let r = seen_split (numbers_in xs) (numbers_in ys) n m
-    (ap (seen_after n) (sym (numbers_join xs (mark ∷ ys) ∙ ap (λ l. numbers_in xs ++ l) s))
-    ∙ h) in
-    seen_join (numbers_of e) (numbers_of f) n r.between m (a.alike n r.between r.first)
-    (b.alike r.between m r.second)
+alike_join : (xs ys : List Token) (mark : Token) (e f : PatternTree) →
+    ((kind : NameKind) → numbers_in kind (mark ∷ ys) ≡ numbers_in kind ys) →
+    CountsAlike xs e → CountsAlike ys f →
+    (kind : NameKind) (n m : ℕ) → seen_after n (numbers_in kind (xs ++ mark ∷ ys)) ≡ Some m
+    → seen_after n (numbers_of kind e ++ numbers_of kind f) ≡ Some m
+alike_join xs ys mark e f s a b kind n m h =
+    let r = seen_split (numbers_in kind xs) (numbers_in kind ys) n m
+    (ap (seen_after n) (sym (numbers_join kind xs (mark ∷ ys)
+    ∙ ap (λ l. numbers_in kind xs ++ l) (s kind))) ∙ h) in
+    seen_join (numbers_of kind e) (numbers_of kind f) n r.between m
+    (a.alike kind n r.between r.first) (b.alike kind r.between m r.second)
 
-alike_closed : (xs : List Token) (mark : Token) (e : PatternTree) → numbers_in (mark ∷ []) ≡ []
-    → CountsAlike xs e → (n m : ℕ) → seen_after n (numbers_in (xs ++ mark ∷ [])) ≡ Some m
-    → seen_after n (numbers_of e) ≡ Some m
-alike_closed xs mark e s a n m h = a.alike n m (ap (seen_after n) (sym (numbers_closed xs mark s))
-    ∙ h)
+alike_closed : (xs : List Token) (mark : Token) (e : PatternTree) →
+    ((kind : NameKind) → numbers_in kind (mark ∷ []) ≡ []) → CountsAlike xs e →
+    (kind : NameKind) (n m : ℕ) → seen_after n (numbers_in kind (xs ++ mark ∷ [])) ≡ Some m
+    → seen_after n (numbers_of kind e) ≡ Some m
+alike_closed xs mark e s a kind n m h = a.alike kind n m
+    (ap (seen_after n) (sym (numbers_closed kind xs mark (s kind))) ∙ h)
 
-state_seen : (r : StateRule) (xs : List Token) (s : StateTree) → SpellsState r xs s → (n m : ℕ)
-    → seen_after n (numbers_in xs) ≡ Some m → seen_after n (state.numbers_of s) ≡ Some m
-state_seen r xs s h n m e = ap (seen_after n) (state_numbers r xs s h) ∙ e
+state_seen : (r : StateRule) (xs : List Token) (s : StateTree) → SpellsState r xs s
+    → (kind : NameKind) (n m : ℕ) → seen_after n (numbers_in kind xs) ≡ Some m
+    → seen_after n (numbers_of_state kind s) ≡ Some m
+state_seen r xs s h kind n m e = ap (seen_after n) (state_numbers kind r xs s h) ∙ e
+
+-- A state in brackets, or before a `:>`.
+closed_seen : (r : StateRule) (xs : List Token) (s : StateTree) (mark : Token) →
+    ((kind : NameKind) → numbers_in kind (mark ∷ []) ≡ []) → SpellsState r xs s →
+    (kind : NameKind) (n m : ℕ) → seen_after n (numbers_in kind (xs ++ mark ∷ [])) ≡ Some m
+    → seen_after n (numbers_of_state kind s) ≡ Some m
+closed_seen r xs s mark e h kind n m q = state_seen r xs s h kind n m
+    (ap (seen_after n) (sym (numbers_closed kind xs mark (e kind))) ∙ q)
 
 pub counts_alike : (r : Rule) (xs : List Token) (e : PatternTree) → Spells r xs e → CountsAlike xs e
 counts_alike _ _ _ (expr_meet xs e h) = counts_alike meet xs e h
 counts_alike _ _ _ (expr_bar xs ys e f h k) = record
-    { alike = alike_join xs ys Bar e f refl (counts_alike expr xs e h) (counts_alike meet ys f k) }
+    { alike = alike_join xs ys Bar e f (λ kind. refl) (counts_alike expr xs e h) (counts_alike meet ys f k) }
 counts_alike _ _ _ (meet_seq xs e h) = counts_alike seq xs e h
 counts_alike _ _ _ (meet_ampersand xs ys e f h k) =
     record {
-      alike = alike_join xs ys Ampersand e f refl (counts_alike meet xs e h)
+      alike = alike_join xs ys Ampersand e f (λ kind. refl) (counts_alike meet xs e h)
           (counts_alike seq ys f k);
     }
 counts_alike _ _ _ (seq_post xs e h) = counts_alike post xs e h
 counts_alike _ _ _ (seq_semicolon xs ys e f h k) =
     record {
-      alike = alike_join xs ys Semicolon e f refl (counts_alike seq xs e h)
+      alike = alike_join xs ys Semicolon e f (λ kind. refl) (counts_alike seq xs e h)
           (counts_alike post ys f k);
     }
 counts_alike _ _ _ (post_primary xs e h) = counts_alike primary xs e h
 counts_alike _ _ _ (post_star xs e h) = record {
   alike =
-      alike_closed xs Star e refl (counts_alike post xs e h);
+      alike_closed xs Star e (λ kind. refl) (counts_alike post xs e h);
 }
 counts_alike _ _ _ (post_plus xs e h) =
     record {
-      alike = λ n m q. seen_again (numbers_of e) n m
-          (alike_closed xs Plus e refl (counts_alike post xs e h) n m q);
+      alike = λ kind n m q. seen_again (numbers_of kind e) n m
+          (alike_closed xs Plus e (λ kind. refl) (counts_alike post xs e h) kind n m q);
     }
 counts_alike _ _ _ (post_question xs e h) =
     record {
-      alike = λ n m q. ap (seen_after n) (append-nil (numbers_of e))
-          ∙ alike_closed xs Question e refl (counts_alike post xs e h) n m q;
+      alike = λ kind n m q. ap (seen_after n) (append-nil (numbers_of kind e))
+          ∙ alike_closed xs Question e (λ kind. refl) (counts_alike post xs e h) kind n m q;
     }
 counts_alike _ _ _ (post_percent xs ys e i h k) =
     record {
-      alike = λ n m q. (counts_alike post xs e h).alike n m
-          (ap (seen_after n) (sym (numbers_join xs (Percent ∷ ys)
-          ∙ ap (λ l. numbers_in xs ++ l) (interval_numbers ys i k) ∙ append-nil (numbers_in xs)))
-          ∙ q);
+      alike = λ kind n m q. (counts_alike post xs e h).alike kind n m
+          (ap (seen_after n) (sym (numbers_join kind xs (Percent ∷ ys)
+          ∙ ap (λ l. numbers_in kind xs ++ l) (interval_numbers kind ys i k)
+          ∙ append-nil (numbers_in kind xs))) ∙ q);
     }
   where
-    interval_numbers : (ys : List Token) (i : IntervalEnds) → SpellsInterval ys i → numbers_in ys
-        ≡ []
-    interval_numbers _ _ (with_high low high true true) = refl
-    interval_numbers _ _ (with_high low high true false) = refl
-    interval_numbers _ _ (with_high low high false true) = refl
-    interval_numbers _ _ (with_high low high false false) = refl
-    interval_numbers _ _ (without_high low true) = refl
-    interval_numbers _ _ (without_high low false) = refl
-counts_alike _ _ _ primary_eps = record { alike = λ n m q. q }
+    interval_numbers : (kind : NameKind) (ys : List Token) (i : IntervalEnds)
+        → SpellsInterval ys i → numbers_in kind ys ≡ []
+    interval_numbers kind _ _ (with_high low high true true) = refl
+    interval_numbers kind _ _ (with_high low high true false) = refl
+    interval_numbers kind _ _ (with_high low high false true) = refl
+    interval_numbers kind _ _ (with_high low high false false) = refl
+    interval_numbers kind _ _ (without_high low true) = refl
+    interval_numbers kind _ _ (without_high low false) = refl
+counts_alike _ _ _ primary_eps = record { alike = λ kind n m q. q }
 counts_alike _ _ _ (primary_parens xs e h) = record
-    { alike = alike_closed xs RightParen e refl (counts_alike expr xs e h) }
-counts_alike _ _ _ (primary_rise xs s h) = record {
-  alike =
-      λ n m q. state_seen state xs s h n m (ap (seen_after n)
-      (sym (numbers_closed xs RightParen refl)) ∙ q);
-}
-counts_alike _ _ _ (primary_fall xs s h) = record {
-  alike =
-      λ n m q. state_seen state xs s h n m (ap (seen_after n)
-      (sym (numbers_closed xs RightParen refl)) ∙ q);
-}
+    { alike = alike_closed xs RightParen e (λ kind. refl) (counts_alike expr xs e h) }
+counts_alike _ _ _ (primary_rise xs s h) = record
+    { alike = closed_seen state xs s RightParen (λ kind. refl) h }
+counts_alike _ _ _ (primary_fall xs s h) = record
+    { alike = closed_seen state xs s RightParen (λ kind. refl) h }
+counts_alike _ _ _ (primary_event i) = record
+    { alike = λ kind n m q. ap (seen_after n) (sym (event_numbers kind i)) ∙ q }
 counts_alike _ _ _ (primary_lit xs s h) = record { alike = state_seen lit xs s h }
-counts_alike _ _ _ (primary_begins xs s h) = record
-    { alike = λ n m q. seen_again (state.numbers_of s) n m (state_seen lit xs s h n m q) }
+counts_alike _ _ _ (primary_begins xs s h) = record {
+  alike = λ kind n m q. seen_again (numbers_of_state kind s) n m (state_seen lit xs s h kind n m q);
+}
 counts_alike _ _ _ (primary_ends xs s h) =
     record {
-      alike = λ n m q. seen_again (state.numbers_of s) n m
-          (state_seen lit xs s h n m (ap (seen_after n) (sym (numbers_closed xs Ends refl)) ∙ q));
+      alike = λ kind n m q. seen_again (numbers_of_state kind s) n m
+          (closed_seen lit xs s Ends (λ kind. refl) h kind n m q);
     }
 counts_alike _ _ _ (primary_begins_ends xs s h) =
     record {
-      alike = λ n m q.
-          let once = state_seen lit xs s h n m (ap (seen_after n)
-          (sym (numbers_closed xs Ends refl)) ∙ q) in
-          let more = (seen_more (state.numbers_of s) n m m once (omega arith)).1 in
-          seen_join (state.numbers_of s ++ state.numbers_of s) (state.numbers_of s) n m m
-          (seen_again (state.numbers_of s) n m once) more;
+      alike = λ kind n m q.
+          let names = numbers_of_state kind s in
+          let once = closed_seen lit xs s Ends (λ kind. refl) h kind n m q in
+          let more = (seen_more names n m m once (omega arith)).1 in
+          seen_join (names ++ names) names n m m (seen_again names n m once) more;
     }

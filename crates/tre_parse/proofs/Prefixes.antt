@@ -2,9 +2,9 @@
 use Rattle.std.proofs.Common.{◌≡◌, ◌⊎◌, inl, inr, true, false, List, [], ◌∷◌, ◌++◌, refl, sym, ◌∙◌, ap, subst, arith, append_assoc}
 use Rattle.std.proofs.lemmas.List.{append-nil}
 use Rattle.tre_state.specs.StateTree.{StateTree, always, disjunction, conjunction, negation}
-use Rattle.tre_syntax.specs.PatternTree.{PatternTree, atom, literal, rise, fall, alternation, intersection, sequence, restriction}
+use Rattle.tre_syntax.specs.PatternTree.{PatternTree, atom, literal, rise, fall, event, alternation, intersection, sequence, restriction}
 use Rattle.tre_parse.specs.declared.token.Token.{Token}
-use Rattle.tre_parse.specs.declared.token.Token.TheVariants.{LeftParen, RightParen, LeftBrace, RightBrace, Semicolon, Bar, DoubleBar, Ampersand, DoubleAmpersand, Percent, Rise, Fall, True}
+use Rattle.tre_parse.specs.declared.token.Token.TheVariants.{LeftParen, RightParen, LeftBrace, RightBrace, Semicolon, Bar, DoubleBar, Ampersand, DoubleAmpersand, Percent, Rise, Fall, True, Event, EventName}
 use Rattle.tre_parse.specs.declared.connective.Connective.TheVariants.{And, Or}
 use Rattle.tre_parse.specs.declared.connective.Join.TheVariants.{Sequence, Intersection, Alternation}
 use Rattle.tre_parse.specs.Grammar as grammar
@@ -328,6 +328,21 @@ completes _ _ (begin.primary_fall_parens xs h) =
       spells =
           subst P (append_assoc xs c.rest (RightParen ∷ [])) (grammar.primary_fall _ _ c.spells);
     }
+completes _ _ begin.primary_event = record {
+  rest = LeftParen ∷ EventName 0 ∷ RightParen ∷ [];
+  tree = atom (event 0);
+  spells = grammar.primary_event 0;
+}
+completes _ _ begin.primary_event_paren = record {
+  rest = EventName 0 ∷ RightParen ∷ [];
+  tree = atom (event 0);
+  spells = grammar.primary_event 0;
+}
+completes _ _ (begin.primary_event_name i) = record {
+  rest = RightParen ∷ [];
+  tree = atom (event i);
+  spells = grammar.primary_event i;
+}
 completes _ _ (begin.primary_lit xs h) =
     let c = state_completes lit xs h in record {
       rest = c.rest;

@@ -4,9 +4,9 @@ use Rattle.std.specs.Prelude.{if◌then◌else◌, is_some}
 use Rattle.std.proofs.lemmas.List.{append-nil}
 use Rattle.tre_state.specs.StateTree.{StateTree, negation}
 use Rattle.tre_zone.specs.Interval.{ends_of, kept_weak}
-use Rattle.tre_syntax.specs.PatternTree.{PatternTree, rise, fall, atom, empty, sequence, alternation, repetition, restriction}
+use Rattle.tre_syntax.specs.PatternTree.{PatternTree, rise, fall, event, atom, empty, sequence, alternation, repetition, restriction}
 use Rattle.tre_parse.specs.declared.token.Token.{Token}
-use Rattle.tre_parse.specs.declared.token.Token.TheVariants.{Name, Number, LeftParen, RightParen, LeftBracket, RightBracket, Comma, Bang, Star, Plus, Question, Percent, Begins as BeginsSign, Ends, Eps, Rise, Fall, Inf, True}
+use Rattle.tre_parse.specs.declared.token.Token.TheVariants.{Name, Number, LeftParen, RightParen, LeftBracket, RightBracket, Comma, Bang, Star, Plus, Question, Percent, Begins as BeginsSign, Ends, Eps, Rise, Fall, Inf, True, Event, EventName}
 use Rattle.tre_parse.specs.declared.connective.Connective.{Connective}
 use Rattle.tre_parse.specs.declared.connective.Connective.TheVariants.{And, Or}
 use Rattle.tre_parse.specs.declared.connective.Join.{Join}
@@ -16,7 +16,7 @@ use Rattle.tre_parse.specs.Grammar.{StateRule, state, conj, neg, SpellsState, op
 use Rattle.tre_parse.specs.Begins as begin
 use Rattle.tre_parse.specs.Begins.{BeginsState, BeginsInterval, Begins}
 use Rattle.tre_parse.specs.Joins.{connected, connective_sign, connected_rule, joined_by, join_sign, joined_rule, brackets_of, operand_in, edge_sign}
-use Rattle.tre_parse.specs.Reader.{state_by, state_after, state_operand, expression_by, expression_after, operand, operand_after, unsigned, Task, of_state, of_pattern, of_interval, Program, give, halt, call, is_sign, accept, expect, said, part, leaf_of, opened_by, number_of, high_of, closed_by, behind_high, behind_comma, behind_low, behind_opening, state_part, expression_part, go_on, sign_program, is_behind, edge_program, literal_program, unsigned_program, is_before}
+use Rattle.tre_parse.specs.Reader.{state_by, state_after, state_operand, expression_by, expression_after, operand, operand_after, unsigned, Task, of_state, of_pattern, of_interval, Program, give, halt, call, is_sign, accept, expect, said, part, leaf_of, event_of, opened_by, number_of, high_of, closed_by, behind_high, behind_comma, behind_low, behind_opening, state_part, expression_part, go_on, sign_program, is_behind, edge_program, behind_event, event_program, literal_program, unsigned_program, is_before}
 use Rattle.tre_parse.proofs.Equations.{sign_is}
 use Rattle.tre_parse.proofs.Says.{StateSpelt, PatternSpelt, StateBegun, PatternBegun, Holds, TaskSays, ProgramHolds, says_by}
 
@@ -59,6 +59,7 @@ begun _ _ _ (grammar.primary_parens xs e h) = begin.primary_whole _ _
     (grammar.primary_parens xs e h)
 begun _ _ _ (grammar.primary_rise xs s h) = begin.primary_whole _ _ (grammar.primary_rise xs s h)
 begun _ _ _ (grammar.primary_fall xs s h) = begin.primary_whole _ _ (grammar.primary_fall xs s h)
+begun _ _ _ (grammar.primary_event i) = begin.primary_whole _ _ (grammar.primary_event i)
 begun _ _ _ (grammar.primary_lit xs s h) = begin.primary_whole _ _ (grammar.primary_lit xs s h)
 begun _ _ _ (grammar.primary_begins xs s h) = begin.primary_whole _ _
     (grammar.primary_begins xs s h)
@@ -297,6 +298,19 @@ edge_holds false =
       (λ xs h. begin.primary_fall_parens xs h),
     ) begin.primary_fall
 
+named_holds : (token : Token) → Holds (Spells primary) (Begins primary)
+    (said (event_of token) behind_event)
+    (if is_some (event_of token) then Event ∷ LeftParen ∷ token ∷ [] else Event ∷ LeftParen ∷ [])
+named_holds (EventName i) =
+    accepts (Spells primary) (Begins primary) RightParen (give (atom (event i))) halt
+    (Event ∷ LeftParen ∷ EventName i ∷ []) (grammar.primary_event i) (begin.primary_event_name i)
+named_holds _ = begin.primary_event_paren
+
+event_holds : Holds (Spells primary) (Begins primary) event_program (Event ∷ [])
+event_holds = accepts (Spells primary) (Begins primary) LeftParen
+    (part event_of behind_event) halt (Event ∷ []) named_holds
+    begin.primary_event
+
 literal_holds : Holds (Spells primary) (Begins primary) (literal_program false) []
 literal_holds = (
   (λ xs s h. accepts (Spells primary) (Begins primary) Ends _ _ xs (grammar.primary_ends xs s h)
@@ -314,6 +328,7 @@ unsigned_holds LeftParen = (
 )
 unsigned_holds Rise = edge_holds true
 unsigned_holds Fall = edge_holds false
+unsigned_holds Event = event_holds
 unsigned_holds BeginsSign = (
   (λ xs s h. accepts (Spells primary) (Begins primary) Ends _ _ (BeginsSign ∷ xs)
       (grammar.primary_begins_ends xs s h) (grammar.primary_begins xs s h)),

@@ -7,7 +7,7 @@ use Rattle.tre_parse.specs.declared.lexeme.Lexeme.TheVariants.{Blank, Name, Sign
 use Rattle.tre_parse.specs.declared.scan.Scan.{Scan}
 use Rattle.tre_parse.specs.Lexeme.{lexeme_of}
 use Rattle.tre_parse.specs.Tokens.{RawToken, name, sign, RawTokens, raw_tokens_from, scanned, with_raw_token, known_after, names_from, past_from, is_past, earlier}
-use Rattle.tre_parse.specs.Scan.{rest_from, placed, placed_from, TakesToken, LeadsTo}
+use Rattle.tre_parse.specs.Scan.{rest_from, known_in, placed, placed_from, TakesToken, LeadsTo}
 
 -- The bytes of a word are passed over.
 raw_tokens_skip : (k at : ℕ) (bytes : List ℕ) → k ≤ length bytes → raw_tokens_from k at bytes
@@ -83,18 +83,18 @@ leads_word bytes old new at next word t e =
     let rest = (rest_from bytes next).raw_tokens in
     let raw_tokens = ap (λ (l : RawTokens). l.raw_tokens) e in
     record {
-      tokens = ap (λ s. old.tokens.items ++ placed_from old.names s) raw_tokens
-          ∙ sym (append_assoc old.tokens.items (placed old.names at word ∷ [])
-          (placed_from (known_after old.names word) rest))
-          ∙ ap (λ l. l ++ placed_from (known_after old.names word) rest) (sym t.tokens)
-          ∙ ap (λ k. new.tokens.items ++ placed_from k rest) (sym t.names);
-      names = ap (λ s. names_from old.names s) raw_tokens
-          ∙ ap (λ k. names_from k rest) (sym t.names);
-      past = ap (λ s. earlier old.past (past_from old.names s)) raw_tokens
-          ∙ earlier_first old.past (past_from (known_after old.names word) rest)
-          (is_past old.names word) at
-          ∙ ap (λ p. earlier p (past_from (known_after old.names word) rest)) (sym t.past)
-          ∙ ap (λ k. earlier new.past (past_from k rest)) (sym t.names);
+      tokens = ap (λ s. old.tokens.items ++ placed_from (known_in old) s) raw_tokens
+          ∙ sym (append_assoc old.tokens.items (placed (known_in old) at word ∷ [])
+          (placed_from (known_after (known_in old) word) rest))
+          ∙ ap (λ l. l ++ placed_from (known_after (known_in old) word) rest) (sym t.tokens)
+          ∙ ap (λ k. new.tokens.items ++ placed_from k rest) (sym t.known);
+      names = ap (λ s. names_from (known_in old) s) raw_tokens
+          ∙ ap (λ k. names_from k rest) (sym t.known);
+      past = ap (λ s. earlier old.past (past_from (known_in old) s)) raw_tokens
+          ∙ earlier_first old.past (past_from (known_after (known_in old) word) rest)
+          (is_past (known_in old) word) at
+          ∙ ap (λ p. earlier p (past_from (known_after (known_in old) word) rest)) (sym t.past)
+          ∙ ap (λ k. earlier new.past (past_from k rest)) (sym t.known);
       bad = ap (λ (l : RawTokens). l.bad) e;
       size = t.size;
     }
@@ -108,9 +108,9 @@ pub leads_same : (bytes : List ℕ) (scan : Scan) (at next : ℕ) → rest_from 
     ≡ rest_from bytes next → LeadsTo bytes scan at scan next
 leads_same bytes scan at next e =
     record {
-      tokens = ap (λ (l : RawTokens). scan.tokens.items ++ placed_from scan.names l.raw_tokens) e;
-      names = ap (λ (l : RawTokens). names_from scan.names l.raw_tokens) e;
-      past = ap (λ (l : RawTokens). earlier scan.past (past_from scan.names l.raw_tokens)) e;
+      tokens = ap (λ (l : RawTokens). scan.tokens.items ++ placed_from (known_in scan) l.raw_tokens) e;
+      names = ap (λ (l : RawTokens). names_from (known_in scan) l.raw_tokens) e;
+      past = ap (λ (l : RawTokens). earlier scan.past (past_from (known_in scan) l.raw_tokens)) e;
       bad = ap (λ (l : RawTokens). l.bad) e;
       size = refl;
     }

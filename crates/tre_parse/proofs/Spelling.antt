@@ -2,6 +2,7 @@
 use Rattle.std.proofs.Common.{◌≡◌, ℕ, Bool, true, false, Option, Some, None, Ok, Err, List, inl, inr, refl, sym, subst}
 use Rattle.std.specs.Prelude.{Result, MatchOption, IfOk, if◌then◌else◌}
 use Rattle.std.specs.Option.{option_map}
+use Rattle.tre_trace.specs.Reading.{Vocabulary}
 use Rattle.tre_syntax.specs.declared.pattern.Pattern.{Pattern}
 use Rattle.tre_syntax.specs.Pattern.{pattern_tree, names_of}
 use Rattle.tre_syntax.specs.PatternTree.{PatternTree}
@@ -13,7 +14,7 @@ use Rattle.tre_parse.specs.Outcome.{IsSpelling, spelt, refused, text_tokens_of, 
 use Rattle.tre_parse.specs.Answers.{Answers}
 
 -- A pattern is no refusal.
-unrefused : (made : Option ParseFault) (P : Type 0) (tree : PatternTree) (names : List (List ℕ))
+unrefused : (made : Option ParseFault) (P : Type 0) (tree : PatternTree) (names : Vocabulary)
     → MatchOption made P (λ fault. spelt tree names ≡ refused fault) → (made ≡ None) × P
 unrefused None P tree names h = (refl, h)
 unrefused (Some fault) P tree names h = absurd (cc)
@@ -25,14 +26,14 @@ none_bad false None e = refl
 none_bad false (Some at) e = absurd (cc)
 
 verdict_spells : (past : Option ℕ) (large : Bool) (fault : ParseFault) (t tree : PatternTree)
-    (kept names : List (List ℕ)) →
+    (kept names : Vocabulary) →
     spelt tree names ≡ past_or past (if large then refused fault else spelt t kept) → (tree ≡ t)
     × (names ≡ kept)
 verdict_spells (Some at) large fault t tree kept names e = absurd (cc)
 verdict_spells None true fault t tree kept names e = absurd (cc)
 verdict_spells None false fault t tree kept names e = (cc, cc)
 
-judged_spells : (text : List ℕ) (t tree : PatternTree) (names : List (List ℕ)) → bad_byte text
+judged_spells : (text : List ℕ) (t tree : PatternTree) (names : Vocabulary) → bad_byte text
     ≡ None → Spells expr (tokens_of text) t → IsOutcomeOfTree (text_tokens_of text) t
     (spelt tree names) → IsSpelling text tree names
 judged_spells text t tree names good h (inl k) = let no = k.2 in absurd (cc)
@@ -41,12 +42,12 @@ judged_spells text t tree names good h (inr k) =
     let P = λ (u : PatternTree). Spells expr (tokens_of text) u in
     record { tokens_alone = good; spells = subst P (sym same.0) h; numbered = same.1 }
 
-read_spells : (text : List ℕ) (tree : PatternTree) (names : List (List ℕ)) → bad_byte text ≡ None
+read_spells : (text : List ℕ) (tree : PatternTree) (names : Vocabulary) → bad_byte text ≡ None
     → IsOutcomeOfTokens (text_tokens_of text) (spelt tree names) → IsSpelling text tree names
 read_spells text tree names good (inl h) = let no = h.1 in absurd (cc)
 read_spells text tree names good (inr h) = judged_spells text h.0 tree names good h.1 h.2
 
-pub outcome_spells : (text : List ℕ) (tree : PatternTree) (names : List (List ℕ))
+pub outcome_spells : (text : List ℕ) (tree : PatternTree) (names : Vocabulary)
     → IsOutcome text (spelt tree names) → IsSpelling text tree names
 outcome_spells text tree names h =
     let bytes = unrefused (byte_fault text) (IsOutcomeWithin (text_tokens_of text)

@@ -8,6 +8,7 @@ use Rattle.tre_parse.specs.declared.cursor.Stop.{Stop}
 use Rattle.tre_parse.specs.declared.cursor.Stop.TheVariants.{Syntax as Stuck, Memory as Lacking}
 use Rattle.tre_parse.specs.declared.scan.Scan.{Scan}
 use Rattle.tre_parse.specs.Front.{tokens_in, offsets_in}
+use Rattle.tre_parse.specs.Scan.{vocabulary_in}
 use Rattle.tre_parse.specs.Outcome.{Outcome, spelt, refused, TextTokens, offset_of}
 
 -- The answer is an outcome of which this is so, or want of memory.
@@ -22,7 +23,7 @@ text_tokens_in scan =
       size = scan.size;
       tokens = tokens_in scan.tokens.items;
       offsets = offsets_in scan.tokens.items;
-      names = scan.names;
+      names = vocabulary_in scan;
       past = scan.past;
     }
 

@@ -1,11 +1,11 @@
 -- Which lists of tokens begin a rule: those that some further tokens could complete. The empty list
 -- begins every rule.
-use Rattle.std.specs.Prelude.{List, [], ◌∷◌, ◌++◌}
+use Rattle.std.specs.Prelude.{ℕ, List, [], ◌∷◌, ◌++◌}
 use Rattle.tre_state.specs.StateTree.{StateTree}
 use Rattle.tre_zone.specs.Interval.{IntervalEnds}
 use Rattle.tre_syntax.specs.PatternTree.{PatternTree}
 use Rattle.tre_parse.specs.declared.token.Token.{Token}
-use Rattle.tre_parse.specs.declared.token.Token.TheVariants.{LeftParen, LeftBrace, Semicolon, Bar, DoubleBar, Ampersand, DoubleAmpersand, Bang, Percent, Begins as BeginsSign, Rise, Fall}
+use Rattle.tre_parse.specs.declared.token.Token.TheVariants.{LeftParen, LeftBrace, Semicolon, Bar, DoubleBar, Ampersand, DoubleAmpersand, Bang, Percent, Begins as BeginsSign, Rise, Fall, Event, EventName}
 use Rattle.tre_parse.specs.Grammar.{StateRule, lit, state, conj, neg, SpellsState, SpellsInterval, Rule, expr, meet, seq, post, primary, Spells}
 
 -- The tokens begin a state, by the rule.
@@ -56,7 +56,8 @@ pub data Begins : Rule → List Token → Type 0 where
   post_percent : (xs ys : List Token) (e : PatternTree) → Spells post xs e → BeginsInterval ys →
       Begins post (xs ++ Percent ∷ ys)
   -- primary: a whole one; or `(` and what begins an expr; or `rise` or `fall`, alone or with `(`
-  -- and what begins a state; or what begins a lit, after `<:` or not
+  -- and what begins a state; or `event`, alone or with `(` and an event's name or none; or what
+  -- begins a lit, after `<:` or not
   primary_whole : (xs : List Token) (e : PatternTree) → Spells primary xs e → Begins primary xs
   primary_parens : (xs : List Token) → Begins expr xs → Begins primary (LeftParen ∷ xs)
   primary_rise : Begins primary (Rise ∷ [])
@@ -65,6 +66,9 @@ pub data Begins : Rule → List Token → Type 0 where
       Begins primary (Rise ∷ LeftParen ∷ xs)
   primary_fall_parens : (xs : List Token) → BeginsState state xs →
       Begins primary (Fall ∷ LeftParen ∷ xs)
+  primary_event : Begins primary (Event ∷ [])
+  primary_event_paren : Begins primary (Event ∷ LeftParen ∷ [])
+  primary_event_name : (i : ℕ) → Begins primary (Event ∷ LeftParen ∷ EventName i ∷ [])
   primary_lit : (xs : List Token) → BeginsState lit xs → Begins primary xs
   primary_begins : (xs : List Token) → BeginsState lit xs → Begins primary (BeginsSign ∷ xs)
 

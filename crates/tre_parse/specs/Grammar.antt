@@ -4,9 +4,9 @@
 use Rattle.std.specs.Prelude.{ℕ, Bool, true, false, Some, None, List, [], ◌∷◌, ◌++◌}
 use Rattle.tre_state.specs.StateTree.{StateTree, always, proposition, negation, conjunction, disjunction}
 use Rattle.tre_zone.specs.Interval.{IntervalEnds}
-use Rattle.tre_syntax.specs.PatternTree.{PatternTree, empty, literal, rise, fall, atom, sequence, alternation, intersection, repetition, restriction}
+use Rattle.tre_syntax.specs.PatternTree.{PatternTree, empty, literal, rise, fall, event, atom, sequence, alternation, intersection, repetition, restriction}
 use Rattle.tre_parse.specs.declared.token.Token.{Token}
-use Rattle.tre_parse.specs.declared.token.Token.TheVariants.{Name, Number, LeftParen, RightParen, LeftBracket, RightBracket, LeftBrace, RightBrace, Comma, Semicolon, Bar, DoubleBar, Ampersand, DoubleAmpersand, Bang, Star, Plus, Question, Percent, Begins, Ends, Eps, Rise, Fall, Inf, True}
+use Rattle.tre_parse.specs.declared.token.Token.TheVariants.{Name, EventName, Number, LeftParen, RightParen, LeftBracket, RightBracket, LeftBrace, RightBrace, Comma, Semicolon, Bar, DoubleBar, Ampersand, DoubleAmpersand, Bang, Star, Plus, Question, Percent, Begins, Ends, Eps, Rise, Fall, Inf, True, Event}
 
 -- The rules that spell a state: a state as a literal, and with its operators.
 pub data StateRule : Type 0 where
@@ -92,7 +92,8 @@ pub data Spells : Rule → List Token → PatternTree → Type 0 where
       Spells post (xs ++ Question ∷ []) (alternation e (atom empty))
   post_percent : (xs ys : List Token) (e : PatternTree) (ends : IntervalEnds) → Spells post xs e →
       SpellsInterval ys ends → Spells post (xs ++ Percent ∷ ys) (restriction e ends)
-  -- primary: `eps`, an expression in parentheses, an edge of a state in parentheses, or a literal
+  -- primary: `eps`, an expression in parentheses, an edge of a state in parentheses, an event by
+  -- its name in parentheses, or a literal
   primary_eps : Spells primary (Eps ∷ []) (atom empty)
   primary_parens : (xs : List Token) (e : PatternTree) → Spells expr xs e →
       Spells primary (LeftParen ∷ xs ++ RightParen ∷ []) e
@@ -100,6 +101,8 @@ pub data Spells : Rule → List Token → PatternTree → Type 0 where
       Spells primary (Rise ∷ LeftParen ∷ xs ++ RightParen ∷ []) (atom (rise s))
   primary_fall : (xs : List Token) (s : StateTree) → SpellsState state xs s →
       Spells primary (Fall ∷ LeftParen ∷ xs ++ RightParen ∷ []) (atom (fall s))
+  primary_event : (i : ℕ) →
+      Spells primary (Event ∷ LeftParen ∷ EventName i ∷ RightParen ∷ []) (atom (event i))
   primary_lit : (xs : List Token) (s : StateTree) → SpellsState lit xs s →
       Spells primary xs (atom (literal s))
   -- `<:` asks that the state rises where the literal begins, `:>` that it falls where it ends

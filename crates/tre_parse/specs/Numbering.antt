@@ -1,19 +1,29 @@
 -- The numbers of names among tokens.
 use Rattle.std.specs.Prelude.{◌≡◌, ℕ, List, [], ◌∷◌, ◌++◌, Some, None, length}
+use Rattle.tre_syntax.specs.declared.name_kind.NameKind.{NameKind}
+use Rattle.tre_syntax.specs.declared.name_kind.NameKind.TheVariants.{Proposition, Event}
 use Rattle.tre_syntax.specs.PatternTree.{seen_after}
 use Rattle.tre_parse.specs.declared.token.Token.{Token}
-use Rattle.tre_parse.specs.declared.token.Token.TheVariants.{Name}
+use Rattle.tre_parse.specs.declared.token.Token.TheVariants.{Name, EventName}
+use Rattle.tre_parse.specs.Tokens.{names_of_kind}
 use Rattle.tre_parse.specs.Outcome.{TextTokens}
 
-abbrev pub numbers_in : List Token → List ℕ
-numbers_in [] = []
-numbers_in (Name i ∷ rest) = i ∷ numbers_in rest
-numbers_in (_ ∷ rest) = numbers_in rest
+-- The number of a token that is a name of the kind.
+abbrev pub numbers_at : Token → NameKind → List ℕ
+numbers_at (Name i) Proposition = i ∷ []
+numbers_at (EventName i) Event = i ∷ []
+numbers_at _ _ = []
 
--- Where no name is past the first NAMES_MAX, the names are numbered by first use from the left.
+abbrev pub numbers_in : NameKind → List Token → List ℕ
+numbers_in kind [] = []
+numbers_in kind (token ∷ rest) = numbers_at token kind ++ numbers_in kind rest
+
+-- Where no name is past the first NAMES_MAX of its kind, the names of each kind are numbered by
+-- first use from the left.
 abbrev pub IsNumberedByUse : TextTokens → Type 0
 IsNumberedByUse words =
-    words.past ≡ None → seen_after 0 (numbers_in words.tokens) ≡ Some (length words.names)
+    words.past ≡ None → (kind : NameKind) →
+    seen_after 0 (numbers_in kind words.tokens) ≡ Some (length (names_of_kind kind words.names))
 
 -- The token at a place.
 pub record HasTokenAt (tokens : List Token) (place : ℕ) (token : Token) : Type 0 where

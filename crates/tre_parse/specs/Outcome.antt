@@ -1,6 +1,7 @@
 -- What becomes of a text: the pattern that it spells, or the refusal that comes first.
 use Rattle.std.specs.Prelude.{◌≡◌, ℕ, ◌+◌, ◌-◌, ◌<◌, ◌≤◌, Bool, false, ◌⊎◌, nat_lt, if◌then◌else◌, min, Option, Some, None, MatchOption, List, [], ◌∷◌, ◌++◌, length, take, slice_index_or, position}
 use Rattle.std.specs.Option.{option_map}
+use Rattle.tre_trace.specs.Reading.{Vocabulary}
 use Rattle.tre_zone.specs.Interval.{IntervalEnds}
 use Rattle.tre_syntax.specs.PatternTree.{PatternTree, node_count}
 use Rattle.tre_pairs.specs.declared.TheConstants.{TIME_MAX}
@@ -13,26 +14,26 @@ use Rattle.tre_parse.specs.declared.fault.ParseFault.TheVariants.{TooLong, BadBy
 use Rattle.tre_parse.specs.Grammar.{expr, Spells, SpellsInterval}
 use Rattle.tre_parse.specs.Begins.{Begins}
 use Rattle.tre_parse.specs.Parts.{IsEmptyInterval}
-use Rattle.tre_parse.specs.Tokens.{earlier, raw_tokens_of, bad_byte, tokens_of, names_of, past_from, offsets_of}
+use Rattle.tre_parse.specs.Tokens.{earlier, nothing_known, raw_tokens_of, bad_byte, tokens_of, names_of, past_from, offsets_of}
 
 -- The text spells the expression, and its names are these.
-pub record IsSpelling (text : List ℕ) (tree : PatternTree) (names : List (List ℕ)) : Type 0 where
+pub record IsSpelling (text : List ℕ) (tree : PatternTree) (names : Vocabulary) : Type 0 where
   pub tokens_alone : bad_byte text ≡ None
   pub spells : Spells expr (tokens_of text) tree
   pub numbered : names ≡ names_of text
 
 -- What becomes of a text.
 pub data Outcome : Type 0 where
-  spelt : PatternTree → List (List ℕ) → Outcome
+  spelt : PatternTree → Vocabulary → Outcome
   refused : ParseFault → Outcome
 
--- What a text is made of: its bytes, how many, its tokens, the offset of each, its names by first
--- use, and the offset of the first name past NAMES_MAX.
+-- What a text is made of: its bytes, how many, its tokens, the offset of each, its names of each
+-- kind by first use, and the offset of the first name past the first NAMES_MAX of its kind.
 pub record TextTokens : Type 0 where
   pub size : ℕ
   pub tokens : List Token
   pub offsets : List ℕ
-  pub names : List (List ℕ)
+  pub names : Vocabulary
   pub past : Option ℕ
 
 abbrev pub text_tokens_of : List ℕ → TextTokens
@@ -42,7 +43,7 @@ text_tokens_of text =
       tokens = tokens_of text;
       offsets = offsets_of (raw_tokens_of text);
       names = names_of text;
-      past = past_from [] (raw_tokens_of text);
+      past = past_from nothing_known (raw_tokens_of text);
     }
 
 -- The offset of the token at a place, and the length of the text past the last.

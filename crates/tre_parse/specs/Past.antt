@@ -2,35 +2,61 @@
 use Rattle.std.specs.Prelude.{◌≡◌, ◌≢◌, ℕ, ◌≤◌, List, [], ◌∷◌, ◌++◌, length, AllPairs, ◌↔◌}
 use Rattle.std.specs.List.{Contains}
 use Rattle.tre_state.specs.declared.names.TheConstants.{NAMES_MAX}
-use Rattle.tre_parse.specs.Tokens.{RawToken, RawTokenAt, name, sign}
+use Rattle.tre_syntax.specs.declared.name_kind.NameKind.{NameKind}
+use Rattle.tre_syntax.specs.declared.name_kind.NameKind.TheVariants.{Proposition, Event}
+use Rattle.tre_parse.specs.declared.before.Before.{Before}
+use Rattle.tre_parse.specs.declared.before.Before.TheVariants.{Other}
+use Rattle.tre_parse.specs.Tokens.{RawToken, RawTokenAt, name, sign, before_next, kind_behind}
 
--- Each use of a name, by its bytes.
-abbrev pub with_use : RawToken → List (List ℕ) → List (List ℕ)
-with_use (name bytes) rest = bytes ∷ rest
-with_use (sign token) rest = rest
+-- What stands before the token behind these.
+abbrev pub before_from : Before → List RawTokenAt → Before
+before_from before [] = before
+before_from before (raw ∷ rest) = before_from (before_next before raw.word) rest
 
-abbrev pub uses_in : List RawTokenAt → List (List ℕ)
-uses_in [] = []
-uses_in (raw ∷ rest) = with_use raw.word (uses_in rest)
+-- The kind of a name behind these.
+abbrev pub kind_after : List RawTokenAt → NameKind
+kind_after raw_tokens = kind_behind (before_from Other raw_tokens)
+
+-- Each use of a name of one kind, by its bytes.
+abbrev pub use_of : NameKind → NameKind → List ℕ → List (List ℕ)
+use_of Proposition Proposition bytes = bytes ∷ []
+use_of Event Event bytes = bytes ∷ []
+use_of _ _ bytes = []
+
+abbrev pub use_at : NameKind → Before → RawToken → List (List ℕ)
+use_at kind before (name bytes) = use_of kind (kind_behind before) bytes
+use_at kind before (sign token) = []
+
+abbrev pub uses_from : NameKind → Before → List RawTokenAt → List (List ℕ)
+uses_from kind before [] = []
+uses_from kind before (raw ∷ rest) =
+    use_at kind before raw.word ++ uses_from kind (before_next before raw.word) rest
+
+abbrev pub uses_in : NameKind → List RawTokenAt → List (List ℕ)
+uses_in kind raw_tokens = uses_from kind Other raw_tokens
 
 -- The list has each name that is used, once, and no other.
-pub record AreNamesOf (raw_tokens : List RawTokenAt) (names : List (List ℕ)) : Type 0 where
+pub record AreNamesOf (uses names : List (List ℕ)) : Type 0 where
   pub different : AllPairs (λ one other. one ≢ other) names
-  pub same : (bytes : List ℕ) → Contains names bytes ↔ Contains (uses_in raw_tokens) bytes
+  pub same : (bytes : List ℕ) → Contains names bytes ↔ Contains uses bytes
 
 -- No more than NAMES_MAX different names are used.
-pub record UsesFew (raw_tokens : List RawTokenAt) : Type 0 where
+pub record AreFew (uses : List (List ℕ)) : Type 0 where
   pub names : List (List ℕ)
-  pub are : AreNamesOf raw_tokens names
+  pub are : AreNamesOf uses names
   pub few : length names ≤ NAMES_MAX
 
--- A name is used at the offset that is none of the NAMES_MAX different ones used before it.
+abbrev pub UsesFew : List RawTokenAt → Type 0
+UsesFew raw_tokens = (kind : NameKind) → AreFew (uses_in kind raw_tokens)
+
+-- A name is used at the offset that is none of the NAMES_MAX different ones of its kind used before
+-- it.
 pub record IsOneTooMany (raw_tokens : List RawTokenAt) (at : ℕ) : Type 0 where
   pub front : List RawTokenAt
   pub bytes : List ℕ
   pub back : List RawTokenAt
   pub split : raw_tokens ≡ front ++ (record { at = at; word = name bytes }) ∷ back
   pub names : List (List ℕ)
-  pub are : AreNamesOf front names
+  pub are : AreNamesOf (uses_in (kind_after front) front) names
   pub full : length names ≡ NAMES_MAX
   pub none : Contains names bytes → ⊥

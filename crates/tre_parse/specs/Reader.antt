@@ -4,9 +4,9 @@
 use Rattle.std.specs.Prelude.{ℕ, ◌+◌, ◌*◌, zero, suc, Bool, true, false, if◌then◌else◌, Option, Some, None, is_some, List, length}
 use Rattle.tre_state.specs.StateTree.{StateTree, always, proposition, negation}
 use Rattle.tre_zone.specs.Interval.{IntervalEnds, ends_of, kept_weak}
-use Rattle.tre_syntax.specs.PatternTree.{PatternTree, empty, atom, sequence, alternation, repetition, restriction}
+use Rattle.tre_syntax.specs.PatternTree.{PatternTree, empty, event, atom, sequence, alternation, repetition, restriction}
 use Rattle.tre_parse.specs.declared.token.Token.{Token}
-use Rattle.tre_parse.specs.declared.token.Token.TheVariants.{Name, Number, LeftParen, RightParen, LeftBracket, RightBracket, LeftBrace, RightBrace, Comma, Semicolon, Bar, DoubleBar, Ampersand, DoubleAmpersand, Bang, Star, Plus, Question, Percent, Begins, Ends, Eps, Rise, Fall, Inf, True}
+use Rattle.tre_parse.specs.declared.token.Token.TheVariants.{Name, EventName, Number, LeftParen, RightParen, LeftBracket, RightBracket, LeftBrace, RightBrace, Comma, Semicolon, Bar, DoubleBar, Ampersand, DoubleAmpersand, Bang, Star, Plus, Question, Percent, Begins, Ends, Eps, Rise, Fall, Inf, True, Event}
 use Rattle.tre_parse.specs.declared.connective.Connective.{Connective}
 use Rattle.tre_parse.specs.declared.connective.Connective.TheVariants.{And, Or}
 use Rattle.tre_parse.specs.declared.connective.Join.{Join}
@@ -90,11 +90,15 @@ said None next = halt
 abbrev pub part : {A B : Type 0} → (Token → Option A) → (A → Program B) → Program B
 part says next = look (λ token. is_some (says token)) (λ token. said (says token) next)
 
--- What the next token says: a state, or a part of an interval.
+-- What the next token says: a state, an event, or a part of an interval.
 abbrev pub leaf_of : Token → Option StateTree
 leaf_of (Name i) = Some (proposition i)
 leaf_of True = Some always
 leaf_of _ = None
+
+abbrev pub event_of : Token → Option ℕ
+event_of (EventName i) = Some i
+event_of _ = None
 
 abbrev pub opened_by : Token → Option Bool
 opened_by LeftBracket = Some true
@@ -180,6 +184,7 @@ is_before Eps = true
 is_before LeftParen = true
 is_before Rise = true
 is_before Fall = true
+is_before Event = true
 is_before Begins = true
 is_before _ = false
 
@@ -187,6 +192,13 @@ abbrev pub edge_program : Bool → Program PatternTree
 edge_program rises =
     expect LeftParen (call (of_state (state_by Or))
     (λ s. expect RightParen (give (edge_of rises s))))
+
+-- What goes on behind the name of an event.
+abbrev pub behind_event : ℕ → Program PatternTree
+behind_event number = expect RightParen (give (atom (event number)))
+
+abbrev pub event_program : Program PatternTree
+event_program = expect LeftParen (part event_of behind_event)
 
 abbrev pub literal_program : Bool → Program PatternTree
 literal_program begins =
@@ -199,6 +211,7 @@ unsigned_program LeftParen =
     call (of_pattern (expression_by Alternation)) (λ e. expect RightParen (give e))
 unsigned_program Rise = edge_program true
 unsigned_program Fall = edge_program false
+unsigned_program Event = event_program
 unsigned_program Begins = literal_program true
 unsigned_program _ = literal_program false
 

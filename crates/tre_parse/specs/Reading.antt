@@ -2,7 +2,7 @@
 -- it makes stands for what is read.
 use Rattle.std.specs.Prelude.{◌≡◌, ◌≢◌, Bool, true, false, Option, Some, None, Result, Ok, Err, List, ◌∷◌, length}
 use Rattle.tre_parse.specs.declared.token.Token.{Token}
-use Rattle.tre_parse.specs.declared.token.Token.TheVariants.{LeftParen, Eps, Rise, Fall}
+use Rattle.tre_parse.specs.declared.token.Token.TheVariants.{LeftParen, Eps, Rise, Fall, Event}
 use Rattle.tre_parse.specs.declared.cursor.Stop.{Stop}
 use Rattle.tre_parse.specs.declared.cursor.Stop.TheVariants.{Syntax, Memory}
 use Rattle.tre_parse.specs.Front.{front, tail}
@@ -46,6 +46,7 @@ BeginsLiteral Eps = ⊥
 BeginsLiteral LeftParen = ⊥
 BeginsLiteral Rise = ⊥
 BeginsLiteral Fall = ⊥
+BeginsLiteral Event = ⊥
 BeginsLiteral _ = Unit {0}
 
 -- A token that may be next.

@@ -1,40 +1,73 @@
 -- A scan: what is kept of the words read so far, against the words of the text.
-use Rattle.std.specs.Prelude.{◌≡◌, ℕ, ◌≤◌, ◌<◌, ◌⊎◌, if◌then◌else◌, Some, None, List, [], ◌∷◌, ◌++◌, length, drop}
+use Rattle.std.specs.Prelude.{◌≡◌, ℕ, Result, Ok, Err, ◌≤◌, ◌<◌, ◌⊎◌, if◌then◌else◌, Some, None, List, [], ◌∷◌, ◌++◌, length, drop}
+use Rattle.tre_state.specs.declared.names.NameFault.{NameFault}
+use Rattle.tre_state.specs.declared.names.NameFault.TheVariants.{TooMany, Memory as Lacking}
+use Rattle.tre_trace.specs.Reading.{Vocabulary}
 use Rattle.tre_parse.specs.declared.fault.ParseFault.{ParseFault}
 use Rattle.tre_parse.specs.declared.fault.ParseFault.TheVariants.{BadByte, Memory}
 use Rattle.tre_parse.specs.declared.scan.Scan.{Scan}
 use Rattle.tre_parse.specs.declared.token.TokenAt.{TokenAt}
-use Rattle.tre_parse.specs.Tokens.{RawToken, RawTokenAt, RawTokens, raw_tokens_from, token_of, known_after, names_from, past_from, is_past, names_of, raw_tokens_of, bad_byte, earlier}
+use Rattle.tre_parse.specs.declared.token.Token.{Token}
+use Rattle.tre_parse.specs.Tokens.{RawToken, RawTokenAt, RawTokens, name, raw_tokens_from, Known, nothing_known, kind_behind, number_of, token_of, known_after, names_from, past_from, is_past, names_of, raw_tokens_of, bad_byte, earlier}
 
 -- The words from an offset on.
 abbrev pub rest_from : List ℕ → ℕ → RawTokens
 rest_from bytes at = raw_tokens_from 0 at (drop at bytes)
 
+-- The names that a scan holds, and what it knows.
+abbrev pub vocabulary_in : Scan → Vocabulary
+vocabulary_in scan = record { names = scan.names; events = scan.events }
+
+abbrev pub known_in : Scan → Known
+known_in scan = record { vocabulary = vocabulary_in scan; before = scan.before }
+
 -- Each word's token, with its offset.
-abbrev pub placed : List (List ℕ) → ℕ → RawToken → TokenAt
+abbrev pub placed : Known → ℕ → RawToken → TokenAt
 placed known at word = record { token = token_of known word; at = at }
 
-abbrev pub placed_from : List (List ℕ) → List RawTokenAt → List TokenAt
+abbrev pub placed_from : Known → List RawTokenAt → List TokenAt
 placed_from known [] = []
 placed_from known (raw ∷ rest) =
     placed known raw.at raw.word ∷ placed_from (known_after known raw.word) rest
 
+-- The scan after one more token.
+pub record Puts (old new : Scan) (at : ℕ) (token : Token) : Type 0 where
+  pub tokens : new.tokens.items ≡ old.tokens.items ++ record { token = token; at = at } ∷ []
+  pub known : known_in new ≡ known_in old
+  pub past : new.past ≡ old.past
+  pub size : new.size ≡ old.size
+
+-- The scan once a name is among those of its kind.
+pub record Numbers (old new : Scan) (bytes : List ℕ) : Type 0 where
+  pub tokens : new.tokens.items ≡ old.tokens.items
+  pub known : known_in new ≡ known_after (known_in old) (name bytes)
+  pub past : new.past ≡ old.past
+  pub size : new.size ≡ old.size
+
+abbrev pub IsNumbered : Scan → Scan → List ℕ → Result ℕ NameFault → Type 0
+IsNumbered old new bytes (Ok number) =
+    Numbers old new bytes
+    × (number_of (kind_behind old.before) (known_in old) bytes ≡ Some number)
+IsNumbered old new bytes (Err TooMany) =
+    Numbers old new bytes × (number_of (kind_behind old.before) (known_in old) bytes ≡ None)
+IsNumbered old new bytes (Err Lacking) = Unit {0}
+
 -- The scan after one more word.
 pub record TakesToken (old new : Scan) (at : ℕ) (word : RawToken) : Type 0 where
-  pub tokens : new.tokens.items ≡ old.tokens.items ++ placed old.names at word ∷ []
-  pub names : new.names ≡ known_after old.names word
-  pub past : new.past ≡ earlier old.past (if is_past old.names word then Some at else None)
+  pub tokens : new.tokens.items ≡ old.tokens.items ++ placed (known_in old) at word ∷ []
+  pub known : known_in new ≡ known_after (known_in old) word
+  pub past : new.past ≡ earlier old.past (if is_past (known_in old) word then Some at else None)
   pub size : new.size ≡ old.size
 
 -- From one offset the scan comes to the same in the end as from a later one.
 pub record LeadsTo (bytes : List ℕ) (old : Scan) (at : ℕ) (new : Scan) (next : ℕ) : Type 0 where
-  pub tokens : old.tokens.items ++ placed_from old.names
-      (rest_from bytes at).raw_tokens ≡ new.tokens.items ++ placed_from new.names
+  pub tokens : old.tokens.items ++ placed_from (known_in old)
+      (rest_from bytes at).raw_tokens ≡ new.tokens.items ++ placed_from (known_in new)
       (rest_from bytes next).raw_tokens
-  pub names : names_from old.names (rest_from bytes at).raw_tokens ≡ names_from new.names
-      (rest_from bytes next).raw_tokens
-  pub past : earlier old.past (past_from old.names
-      (rest_from bytes at).raw_tokens) ≡ earlier new.past (past_from new.names
+  pub names : names_from (known_in old) (rest_from bytes at).raw_tokens ≡ names_from
+      (known_in new) (rest_from bytes next).raw_tokens
+  pub past : earlier old.past (past_from (known_in old)
+      (rest_from bytes at).raw_tokens) ≡ earlier new.past (past_from (known_in new)
       (rest_from bytes next).raw_tokens)
   pub bad : (rest_from bytes at).bad ≡ (rest_from bytes next).bad
   pub size : new.size ≡ old.size
@@ -51,8 +84,8 @@ IsBadByte bytes at fault =
 
 -- The scan of a whole text.
 pub record IsScan (text : List ℕ) (scan : Scan) : Type 0 where
-  pub tokens : scan.tokens.items ≡ placed_from [] (raw_tokens_of text)
-  pub names : scan.names ≡ names_of text
-  pub past : scan.past ≡ past_from [] (raw_tokens_of text)
+  pub tokens : scan.tokens.items ≡ placed_from nothing_known (raw_tokens_of text)
+  pub names : vocabulary_in scan ≡ names_of text
+  pub past : scan.past ≡ past_from nothing_known (raw_tokens_of text)
   pub good : bad_byte text ≡ None
   pub size : scan.size ≡ length text

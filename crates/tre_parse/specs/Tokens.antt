@@ -3,8 +3,13 @@
 use Rattle.std.specs.Prelude.{ℕ, ◌+◌, ◌-◌, zero, suc, Bool, false, ◌&&◌, nat_lt, is_none, if◌then◌else◌, Option, Some, None, unwrap_or, List, [], ◌∷◌, ◌++◌, length, take, map}
 use Rattle.tre_state.specs.declared.names.TheConstants.{NAMES_MAX}
 use Rattle.tre_state.specs.Names.{place_of}
+use Rattle.tre_trace.specs.Reading.{Vocabulary}
+use Rattle.tre_syntax.specs.declared.name_kind.NameKind.{NameKind}
+use Rattle.tre_syntax.specs.declared.name_kind.NameKind.TheVariants.{Proposition, Event as EventKind}
 use Rattle.tre_parse.specs.declared.token.Token.{Token}
-use Rattle.tre_parse.specs.declared.token.Token.TheVariants.{Name as Numbered}
+use Rattle.tre_parse.specs.declared.token.Token.TheVariants.{Name as Numbered, EventName, LeftParen, Event}
+use Rattle.tre_parse.specs.declared.before.Before.{Before}
+use Rattle.tre_parse.specs.declared.before.Before.TheVariants.{EventWord, EventParen, Other}
 use Rattle.tre_parse.specs.declared.lexeme.Lexeme.{Lexeme}
 use Rattle.tre_parse.specs.declared.lexeme.Lexeme.TheVariants.{Blank, Wrong, Name, Sign}
 use Rattle.tre_parse.specs.Lexeme.{lexeme_of}
@@ -45,40 +50,94 @@ raw_tokens_from (suc skip) at (byte ∷ rest) = raw_tokens_from skip (at + 1) re
 raw_tokens_from zero at (byte ∷ rest) =
     scanned (lexeme_of (byte ∷ rest)) at (byte ∷ rest) (λ skip. raw_tokens_from skip (at + 1) rest)
 
--- The names known once one more was read: a new one goes to the end, as long as there are fewer
--- than NAMES_MAX.
+-- What stands before the next token. A name behind `event (` is an event's, and every other one a
+-- proposition's.
+abbrev pub behind_paren : Before → Before
+behind_paren EventWord = EventParen
+behind_paren _ = Other
+
+abbrev pub before_sign : Before → Token → Before
+before_sign before Event = EventWord
+before_sign before LeftParen = behind_paren before
+before_sign before _ = Other
+
+abbrev pub before_next : Before → RawToken → Before
+before_next before (name bytes) = Other
+before_next before (sign token) = before_sign before token
+
+abbrev pub kind_behind : Before → NameKind
+kind_behind EventParen = EventKind
+kind_behind _ = Proposition
+
+-- The names of a kind.
+abbrev pub names_of_kind : NameKind → Vocabulary → List (List ℕ)
+names_of_kind Proposition known = known.names
+names_of_kind EventKind known = known.events
+
+-- The names of one kind known once one more was read: a new one goes to the end, as long as there
+-- are fewer than NAMES_MAX.
 abbrev pub names_with : List (List ℕ) → List ℕ → List (List ℕ)
 names_with known bytes =
     if is_none (place_of known bytes) && nat_lt (length known) NAMES_MAX then known ++ bytes
     ∷ [] else known
 
--- The number of a name is its place among the names by first use from the left. NAMES_MAX stands
--- for each name past the first NAMES_MAX.
-abbrev pub token_of : List (List ℕ) → RawToken → Token
+abbrev pub vocabulary_with : NameKind → Vocabulary → List ℕ → Vocabulary
+vocabulary_with Proposition known bytes =
+    record { names = names_with known.names bytes; events = known.events }
+vocabulary_with EventKind known bytes =
+    record { names = known.names; events = names_with known.events bytes }
+
+-- What is known of the tokens that were read: the names of each kind, and what stands before the
+-- next token.
+pub record Known : Type 0 where
+  pub vocabulary : Vocabulary
+  pub before : Before
+
+abbrev pub nothing_known : Known
+nothing_known = record { vocabulary = record { names = []; events = [] }; before = Other }
+
+-- The number of a name is its place among those of its kind by first use from the left. None is for
+-- each name past the first NAMES_MAX.
+abbrev pub number_of : NameKind → Known → List ℕ → Option ℕ
+number_of kind known bytes =
+    place_of (names_with (names_of_kind kind known.vocabulary) bytes) bytes
+
+abbrev pub numbered : NameKind → ℕ → Token
+numbered Proposition number = Numbered number
+numbered EventKind number = EventName number
+
+-- The token of a name has its number, and NAMES_MAX where it has none.
+abbrev pub token_of : Known → RawToken → Token
 token_of known (name bytes) =
-    Numbered (unwrap_or (place_of (names_with known bytes) bytes) NAMES_MAX)
+    numbered (kind_behind known.before)
+    (unwrap_or (number_of (kind_behind known.before) known bytes) NAMES_MAX)
 token_of known (sign token) = token
 
-abbrev pub known_after : List (List ℕ) → RawToken → List (List ℕ)
-known_after known (name bytes) = names_with known bytes
-known_after known (sign token) = known
+abbrev pub vocabulary_after : Known → RawToken → Vocabulary
+vocabulary_after known (name bytes) =
+    vocabulary_with (kind_behind known.before) known.vocabulary bytes
+vocabulary_after known (sign token) = known.vocabulary
 
-abbrev pub tokens_from : List (List ℕ) → List RawTokenAt → List Token
+abbrev pub known_after : Known → RawToken → Known
+known_after known word =
+    record { vocabulary = vocabulary_after known word; before = before_next known.before word }
+
+abbrev pub tokens_from : Known → List RawTokenAt → List Token
 tokens_from known [] = []
 tokens_from known (raw ∷ rest) =
     token_of known raw.word ∷ tokens_from (known_after known raw.word) rest
 
-abbrev pub names_from : List (List ℕ) → List RawTokenAt → List (List ℕ)
-names_from known [] = known
+abbrev pub names_from : Known → List RawTokenAt → Vocabulary
+names_from known [] = known.vocabulary
 names_from known (raw ∷ rest) = names_from (known_after known raw.word) rest
 
--- Whether a word is a name past the first NAMES_MAX.
-abbrev pub is_past : List (List ℕ) → RawToken → Bool
-is_past known (name bytes) = is_none (place_of (names_with known bytes) bytes)
+-- Whether a word is a name past the first NAMES_MAX of its kind.
+abbrev pub is_past : Known → RawToken → Bool
+is_past known (name bytes) = is_none (number_of (kind_behind known.before) known bytes)
 is_past known (sign token) = false
 
--- The offset of the first name past the first NAMES_MAX.
-abbrev pub past_from : List (List ℕ) → List RawTokenAt → Option ℕ
+-- The offset of the first name past the first NAMES_MAX of its kind.
+abbrev pub past_from : Known → List RawTokenAt → Option ℕ
 past_from known [] = None
 past_from known (raw ∷ rest) =
     if is_past known raw.word then Some raw.at else past_from (known_after known raw.word) rest
@@ -94,10 +153,10 @@ abbrev pub bad_byte : List ℕ → Option ℕ
 bad_byte text = (raw_tokens_from 0 0 text).bad
 
 abbrev pub tokens_of : List ℕ → List Token
-tokens_of text = tokens_from [] (raw_tokens_of text)
+tokens_of text = tokens_from nothing_known (raw_tokens_of text)
 
-abbrev pub names_of : List ℕ → List (List ℕ)
-names_of text = names_from [] (raw_tokens_of text)
+abbrev pub names_of : List ℕ → Vocabulary
+names_of text = names_from nothing_known (raw_tokens_of text)
 
 -- The first, if there is one, or else the second.
 abbrev pub earlier : {A : Type 0} → Option A → Option A → Option A

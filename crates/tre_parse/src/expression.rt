@@ -4,8 +4,8 @@ ghost use Rattle.tre_state.specs.StateTree.{StateTree};
 ghost use Rattle.tre_parse.specs.Joins.{edge_sign, plain_literal, edged_literal};
 ghost use Rattle.tre_parse.specs.Operands.{RepresentsState, Represents, Turns};
 ghost use Rattle.tre_parse.specs.Front.{front};
-ghost use Rattle.tre_parse.specs.Reader.{PatternTask, expression_part};
-ghost use Rattle.tre_parse.specs.Reading.{BeginsLiteral, Reads};
+ghost use Rattle.tre_parse.specs.Reader.{PatternTask, expression_part, event_of};
+ghost use Rattle.tre_parse.specs.Reading.{BeginsLiteral, IsPart, Reads};
 ghost use Rattle.tre_parse.specs.Unkept.{FindsUpTo};
 
 use crate::connective::{Connective, Join};
@@ -85,7 +85,7 @@ fn operand(alloc: Global, tokens: &mut Cursor) -> Result<Operand, Stop>
     }
 }
 
-// `eps`, an expression in parentheses, an edge, or a literal.
+// `eps`, an expression in parentheses, an edge, an event, or a literal.
 #[cycle(expression)]
 fn primary(alloc: Global, tokens: &mut Cursor) -> Result<Operand, Stop>
     ensures reads { Reads PatternTask.unsigned result tokens.old tokens.new }
@@ -105,6 +105,7 @@ fn primary(alloc: Global, tokens: &mut Cursor) -> Result<Operand, Stop>
         }
         Token::Rise => edge(alloc, true, tokens),
         Token::Fall => edge(alloc, false, tokens),
+        Token::Event => event(tokens),
         _ => literal(alloc, tokens),
     }
 }
@@ -121,6 +122,31 @@ fn edge(alloc: Global, rises: bool, tokens: &mut Cursor) -> Result<Operand, Stop
     let inside = state(alloc, Connective::Or, tokens)?;
     tokens.expect(Token::RightParen)?;
     Ok(operand::edge(rises, inside))
+}
+
+// `event`, and the name of an event in parentheses.
+fn event(tokens: &mut Cursor) -> Result<Operand, Stop>
+    requires { front tokens.old ≡ Token.Event }
+    ensures reads { Reads PatternTask.unsigned result tokens.old tokens.new }
+    ensures shorter { IfOk result (λ _. length tokens.new ≤ length tokens.old) }
+    ensures unkept { IfOk result (λ x. FindsUpTo tokens.old tokens.new x.unkept) }
+{
+    tokens.advance();
+    tokens.expect(Token::LeftParen)?;
+    let number = event_name(tokens)?;
+    tokens.expect(Token::RightParen)?;
+    Ok(Counted::leaf(Expr::Event(number)))
+}
+
+// The number of an event's name.
+fn event_name(tokens: &mut Cursor) -> Result<u8, Stop>
+    ensures { IsPart event_of result tokens.old tokens.new }
+{
+    let Token::EventName(number) = tokens.peek() else {
+        return Err(tokens.refused());
+    };
+    tokens.advance();
+    Ok(number)
 }
 
 // A literal, after `<:` or not, and `:>` after it or not.

@@ -4,8 +4,9 @@ ghost use Rattle.std.specs.Option.{option_map};
 ghost use Rattle.tre_state.specs.declared.names.TheConstants.{NAMES_MAX};
 ghost use Rattle.tre_parse.specs.declared.limits.TheConstants.{DEPTH_MAX};
 ghost use Rattle.tre_state.specs.StateTree.{conjunction, disjunction};
+ghost use Rattle.tre_trace.specs.Reading.{Vocabulary};
 ghost use Rattle.tre_syntax.specs.PatternTree.{PatternTree, sequence, alternation, intersection};
-ghost use Rattle.tre_parse.specs.declared.token.Token.TheVariants.{Name, Semicolon, Bar, DoubleBar, Ampersand, DoubleAmpersand};
+ghost use Rattle.tre_parse.specs.declared.token.Token.TheVariants.{Semicolon, Bar, DoubleBar, Ampersand, DoubleAmpersand};
 ghost use Rattle.tre_parse.specs.Grammar.{StateRule, SpellsState, Rule, Spells};
 ghost use Rattle.tre_parse.specs.Begins.{BeginsState, Begins, IsCompletable};
 ghost use Rattle.tre_parse.specs.Depth.{open_from, IsDeepAt};
@@ -13,22 +14,22 @@ ghost use Rattle.tre_parse.specs.Strength.{Groups, StateGroups};
 ghost use Rattle.std.specs.Char.{is_ascii_digit};
 ghost use Rattle.tre_state.specs.Name.{starts_name, continues_name};
 ghost use Rattle.tre_parse.specs.Ends.{bytes_in, EndsRun};
-ghost use Rattle.tre_parse.specs.Past.{UsesFew, IsOneTooMany};
+ghost use Rattle.tre_parse.specs.Past.{kind_after, UsesFew, IsOneTooMany};
 ghost use Rattle.tre_parse.specs.Lexeme.{is_blank, sign_lexeme, lexeme_of};
 ghost use Rattle.tre_parse.specs.Signs.{IsSign, TakesSign};
 ghost use Rattle.tre_parse.specs.declared.lexeme.Lexeme.TheVariants.{Sign};
 ghost use Rattle.tre_state.specs.Names.{place_of};
 ghost use Rattle.tre_parse.specs.Numbering.{HasTokenAt, IsNumberedByUse};
-ghost use Rattle.tre_parse.specs.Tokens.{RawTokenAt, name, raw_tokens_of, bad_byte, tokens_of, names_of};
+ghost use Rattle.tre_parse.specs.Tokens.{RawTokenAt, name, names_of_kind, numbered, raw_tokens_of, bad_byte, tokens_of, names_of};
 ghost use Rattle.tre_parse.specs.Blanks.{counted_on, SaysAs};
 ghost use Rattle.tre_parse.specs.declared.token.Token.{Token};
 ghost use Rattle.tre_parse.specs.Outcome.{text_tokens_of, deep_place, IsSpelling, Outcome, spelt, IsOutcome};
 
 /// A text spells at most one pattern.
 pub fn one_spelling()
-    ensures tree { (text : List ℕ) (tree other : PatternTree) (names others : List (List ℕ)) →
+    ensures tree { (text : List ℕ) (tree other : PatternTree) (names others : Vocabulary) →
         IsSpelling text tree names → IsSpelling text other others → tree ≡ other }
-    ensures names { (text : List ℕ) (tree other : PatternTree) (names others : List (List ℕ)) →
+    ensures names { (text : List ℕ) (tree other : PatternTree) (names others : Vocabulary) →
         IsSpelling text tree names → IsSpelling text other others → names ≡ others }
 {}
 
@@ -70,7 +71,7 @@ pub fn one_outcome()
 
 /// An outcome that is a pattern is the one that the text spells.
 pub fn outcome_is_spelt()
-    ensures { (text : List ℕ) (tree : PatternTree) (names : List (List ℕ)) →
+    ensures { (text : List ℕ) (tree : PatternTree) (names : Vocabulary) →
         IsOutcome text (spelt tree names) → IsSpelling text tree names }
 {}
 
@@ -129,7 +130,7 @@ pub fn blank_says_nothing()
         SaysAs (blank ∷ text) text }
     ensures at_end { (text : List ℕ) (blank : ℕ) → is_blank blank ≡ true →
         SaysAs (text ++ blank ∷ []) text }
-    ensures spelling { (text other : List ℕ) (tree : PatternTree) (names : List (List ℕ)) →
+    ensures spelling { (text other : List ℕ) (tree : PatternTree) (names : Vocabulary) →
         SaysAs text other →
         (IsSpelling text tree names → IsSpelling other tree names)
         × (IsSpelling other tree names → IsSpelling text tree names) }
@@ -142,19 +143,21 @@ pub fn depth()
         ((n : ℕ) → open_from 0 (take n tokens) ≤ DEPTH_MAX) (IsDeepAt tokens) }
 {}
 
-/// At each name of a text the token is the number at which the list of names has it, `NAMES_MAX`
-/// for a name that isn't among them; and where none is past the first `NAMES_MAX`, the list has
-/// them by first use from the left.
+/// At each name of a text the token has the number at which the list of the names of its kind has
+/// it, `NAMES_MAX` for a name that isn't among them; and where none is past the first `NAMES_MAX`
+/// of its kind, the lists have them by first use from the left.
 pub fn numbers_of_names()
     ensures number { (text bytes : List ℕ) (front back : List RawTokenAt) (at : ℕ) →
         raw_tokens_of text ≡ front ++ (record { at = at; word = name bytes }) ∷ back →
         HasTokenAt (tokens_of text) (length front)
-        (Name (unwrap_or (place_of (names_of text) bytes) NAMES_MAX)) }
+        (numbered (kind_after front) (unwrap_or
+        (place_of (names_of_kind (kind_after front) (names_of text)) bytes) NAMES_MAX)) }
     ensures first_use { (text : List ℕ) → IsNumberedByUse (text_tokens_of text) }
 {}
 
-/// A name is past the first `NAMES_MAX` where it is first used that is none of the `NAMES_MAX`
-/// different ones used before it, and no name is where no more than `NAMES_MAX` are used.
+/// A name is past the first `NAMES_MAX` of its kind where it is first used that is none of the
+/// `NAMES_MAX` different ones used before it, and no name is where no more than `NAMES_MAX` of
+/// either kind are used.
 pub fn one_name_too_many()
     ensures { (text : List ℕ) → MatchOption (text_tokens_of text).past
         (UsesFew (raw_tokens_of text)) (IsOneTooMany (raw_tokens_of text)) }

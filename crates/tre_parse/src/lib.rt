@@ -11,11 +11,13 @@
 //! ```
 #![tactic(auto)]
 
+pub use before::Before;
 pub use fault::ParseFault;
 pub use limits::TEXT_MAX;
 pub use parser::parse;
 pub use token::Token;
 
+mod before;
 mod connective;
 mod counted;
 mod cursor;

@@ -94,11 +94,11 @@ fn judge(scan: Scan, whole: Operand) -> Result<Pattern, ParseFault>
     if nodes > NODES_MAX {
         return Err(ParseFault::TooLarge { nodes });
     }
-    let Scan { names, .. } = scan;
+    let Scan { names, events, .. } = scan;
     let Some(expr) = whole.into_tree(nodes) else {
         unreachable!()
     };
-    let Some(pattern) = Pattern::new(expr, names) else {
+    let Some(pattern) = Pattern::new(expr, names, events) else {
         unreachable!()
     };
     Ok(pattern)

@@ -4,23 +4,30 @@ ghost use Rattle.tre_state.specs.Names.{place_of};
 ghost use Rattle.tre_parse.specs.Tokens.{name, sign, names_with};
 ghost use Rattle.tre_parse.specs.Outcome.{offset_of};
 ghost use Rattle.tre_parse.specs.Answers.{text_tokens_in};
-ghost use Rattle.tre_parse.specs.Scan.{TakesToken, GoesOn, IsBadByte, IsScan};
+ghost use Rattle.tre_parse.specs.Scan.{Puts, IsNumbered, TakesToken, GoesOn, IsBadByte, IsScan};
 
+use crate::before::{Before, numbered};
 use crate::fault::ParseFault;
 use crate::lexeme::{Lexeme, lexeme_of};
 use crate::token::{Token, TokenAt};
 use std::alloc::{AllocError, Global};
 use tre_state::{NAMES_MAX, NameFault, Names};
+use tre_syntax::NameKind;
 
-/// The number of a name past the first `NAMES_MAX`.
+/// The number of a name past the first `NAMES_MAX` of its kind.
 pub(crate) const PAST: u8 = NAMES_MAX as u8;
 
 /// The tokens of a text, each with its offset, and the names among them.
 #[derive(Drop)]
 pub(crate) struct Scan {
     pub(crate) tokens: Vec<TokenAt>,
+    /// The names of propositions.
     pub(crate) names: Names,
-    /// Where the first name past the first `NAMES_MAX` stands, if there is one.
+    /// The names of events.
+    pub(crate) events: Names,
+    /// What stands before the next token.
+    pub(crate) before: Before,
+    /// Where the first name past the first `NAMES_MAX` of its kind stands, if there is one.
     pub(crate) past: Option<u64>,
     /// How many bytes the text has.
     pub(crate) size: u64,
@@ -44,13 +51,34 @@ impl Scan {
         self.tokens.len().saturating_sub(left)
     }
 
-    // A token that is no name.
     fn put(&mut self, token: Token, at: usize) -> Result<(), AllocError>
-        ensures { OnOk result (TakesToken self.old self.new at (sign token)) }
+        ensures { OnOk result (Puts self.old self.new at token) }
     {
         let at = at as u64;
         self.tokens.push(TokenAt { token, at })?;
         Ok(())
+    }
+
+    // A token that is no name.
+    fn put_sign(&mut self, token: Token, at: usize) -> Result<(), AllocError>
+        ensures { OnOk result (TakesToken self.old self.new at (sign token)) }
+    {
+        self.put(token, at)?;
+        self.before = self.before.sign(token);
+        Ok(())
+    }
+
+    // The number of a name among those of its kind.
+    fn number(&mut self, word: &str) -> Result<u8, NameFault>
+        requires { IsName word.now }
+        ensures { IsNumbered self.old self.new word.now result }
+    {
+        let kind = self.before.kind();
+        self.before = Before::Other;
+        match kind {
+            NameKind::Proposition => self.names.number(word),
+            NameKind::Event => self.events.number(word),
+        }
     }
 
     // A name, which is numbered.
@@ -59,10 +87,11 @@ impl Scan {
         ensures ok { OnOk result (TakesToken self.old self.new at (name word.now)) }
         ensures err { IfErr result (λ fault. fault ≡ ParseFault.Memory) }
     {
-        match self.names.number(word) {
-            Ok(number) => Ok(self.put(Token::Name(number), at)?),
+        let kind = self.before.kind();
+        match self.number(word) {
+            Ok(number) => Ok(self.put(numbered(kind, number), at)?),
             Err(NameFault::TooMany) => {
-                self.put(Token::Name(PAST), at)?;
+                self.put(numbered(kind, PAST), at)?;
                 self.past = self.past.or(Some(at as u64));
                 Ok(())
             }
@@ -84,7 +113,7 @@ impl Scan {
                 Ok(at + len)
             }
             Lexeme::Sign(token, len) => {
-                self.put(token, at)?;
+                self.put_sign(token, at)?;
                 Ok(at + len)
             }
         }
@@ -108,6 +137,8 @@ pub(crate) fn scan_text(alloc: Global, text: &str) -> Result<Scan, ParseFault>
     let mut scan = Scan {
         tokens: Vec::new(alloc),
         names: Names::new(alloc),
+        events: Names::new(alloc),
+        before: Before::Other,
         past: None,
         size: text.len() as u64,
     };

@@ -1,8 +1,11 @@
-/// A token of an expression's text. A name goes by the number of its proposition.
+/// A token of an expression's text. A name goes by its number among those of its kind.
 #[derive(Clone, Copy, Debug, PartialEq, Eq)]
 pub enum Token {
     /// A name, by the number of its proposition. 64 stands for every name past the first 64.
     Name(u8),
+    /// A name behind `event (`, by the number of its event. 64 stands for every one past the first
+    /// 64.
+    EventName(u8),
     /// A number. All those above the latest time are the one number after it.
     Number(u64),
     /// `(`
@@ -53,7 +56,7 @@ pub enum Token {
     Inf,
     /// `true`
     True,
-    /// `event`, which stands in no rule.
+    /// `event`
     Event,
     /// No token: the text is at its end.
     EndOfText,

@@ -12,8 +12,8 @@ use Rattle.tre_syntax.specs.Pattern.{IsPattern}
 use Rattle.tre_syntax.specs.declared.name_kind.NameKind.TheVariants.{Proposition, Event}
 use Rattle.tre_syntax.specs.PatternTree.{PatternTree, node_count, seen_after}
 use Rattle.tre_parse.specs.declared.token.Token.{Token}
-use Rattle.tre_parse.specs.declared.known.Before.{Before}
-use Rattle.tre_parse.specs.declared.known.Before.TheVariants.{Other}
+use Rattle.tre_parse.specs.declared.before.Before.{Before}
+use Rattle.tre_parse.specs.declared.before.Before.TheVariants.{Other}
 use Rattle.tre_parse.specs.declared.token.Token.TheVariants.{Number, Percent}
 use Rattle.tre_parse.specs.declared.fault.ParseFault.TheVariants.{TooLong, BadByte, Number as TooBig, TooDeep, TooLarge}
 use Rattle.tre_parse.specs.Grammar.{expr, Spells}

@@ -29,8 +29,8 @@ use Rattle.tre_syntax.specs.PatternTree.{seen_after}
 use Rattle.tre_parse.specs.declared.token.Token.{Token}
 use Rattle.tre_parse.specs.declared.token.Token.TheVariants.{Name, EventName, Number, Bar, DoubleBar, Ampersand, DoubleAmpersand, Percent, Begins, Ends, Eps, Rise, Fall, Inf, True, Event, EndOfText}
 use Rattle.tre_parse.specs.Lexeme.{is_blank, reserved, named, word_lexeme, number_lexeme, sign_lexeme, lexeme_of, decimal}
-use Rattle.tre_parse.specs.declared.known.Before.{Before}
-use Rattle.tre_parse.specs.declared.known.Before.TheVariants.{Other}
+use Rattle.tre_parse.specs.declared.before.Before.{Before}
+use Rattle.tre_parse.specs.declared.before.Before.TheVariants.{Other}
 use Rattle.tre_parse.specs.Numbering.{numbers_in}
 use Rattle.tre_parse.specs.Tokens.{RawToken, name, sign, RawTokens, raw_tokens_from, scanned, with_raw_token, kind_behind, before_sign, names_of_kind, names_with, vocabulary_with, Known, number_of, numbered, token_of, known_after, is_past, tokens_from, names_from, past_from}
 use Rattle.tre_show.specs.StateText.{name_text}
@@ -370,84 +370,84 @@ named_word kind known bytes i after is place vocabulary = record {
 }
 
 module _ (names : Vocabulary) (list : IsNameList names.names) (events : IsNameList names.events)
-    where
-  -- A token by its word, and then the rest.
-  word_read : (known next : Known) (token : Token) (word : RawToken) (rest : List Token)
-      (there : ℕ) (raw : RawTokens) → IsWordOf known next token word → AreRead names next rest raw
-      → AreRead names known (token ∷ rest) (with_raw_token there word raw)
-  word_read known next token word rest there raw is more =
-      let after : AreRead names (known_after known word) rest raw =
-      subst (λ (k : Known). AreRead names k rest raw) (sym is.next_same) more in
-      record {
-        tokens_same = ap (λ t. t ∷ tokens_from (known_after known word) raw.raw_tokens)
-            is.token_same ∙ ap (λ ts. token ∷ ts) after.tokens_same;
-        names_same = after.names_same;
-        few = ap (λ b. if b then Some there
-            else past_from (known_after known word) raw.raw_tokens) is.few ∙ after.few;
-        good = after.good;
-      }
+  where
+    -- A token by its word, and then the rest.
+    word_read : (known next : Known) (token : Token) (word : RawToken) (rest : List Token)
+        (there : ℕ) (raw : RawTokens) → IsWordOf known next token word → AreRead names next rest raw
+        → AreRead names known (token ∷ rest) (with_raw_token there word raw)
+    word_read known next token word rest there raw is more =
+        let after : AreRead names (known_after known word) rest raw =
+        subst (λ (k : Known). AreRead names k rest raw) (sym is.next_same) more in
+        record {
+          tokens_same = ap (λ t. t ∷ tokens_from (known_after known word) raw.raw_tokens)
+              is.token_same ∙ ap (λ ts. token ∷ ts) after.tokens_same;
+          names_same = after.names_same;
+          few = ap (λ b. if b then Some there
+              else past_from (known_after known word) raw.raw_tokens) is.few ∙ after.few;
+          good = after.good;
+        }
 
-  -- The first names of each kind are known.
-  abbrev first_known : ℕ → ℕ → Before → Known
-  first_known k m before = record {
-    vocabulary = record { names = take k names.names; events = take m names.events };
-    before = before;
-  }
+    -- The first names of each kind are known.
+    abbrev first_known : ℕ → ℕ → Before → Known
+    first_known k m before = record {
+      vocabulary = record { names = take k names.names; events = take m names.events };
+      before = before;
+    }
 
-  pub all_read : (tokens : List Token) (k m : ℕ) (before : Before) (at : ℕ)
-      → StandFrom names before tokens → k ≤ length names.names → m ≤ length names.events
-      → seen_after k (numbers_in Proposition tokens) ≡ Some (length names.names)
-      → seen_after m (numbers_in EventKind tokens) ≡ Some (length names.events)
-      → AreRead names (first_known k m before) tokens
-      (raw_tokens_from 0 at (text_of names tokens))
-  all_read [] k m before at stand within fits e f =
-      let same : k ≡ length names.names = cc in
-      let same_events : m ≡ length names.events = cc in
-      let all = take_all k names.names (omega (arith, same)) in
-      let all_events = take_all m names.events (omega (arith, same_events)) in
-      record {
-        tokens_same = refl;
-        names_same = ap (λ l. record { names = l; events = take m names.events }) all
-            ∙ ap (λ l. record { names = names.names; events = l }) all_events;
-        few = refl;
-        good = refl;
-      }
-  all_read (Name i ∷ rest) k m before at stand within fits e f =
-      let more = next_of names.names list k i (numbers_in Proposition rest) within e in
-      let bytes = name_text names.names i in
-      let is = name_at names.names list i (omega (arith, more.before, more.fits)) in
-      let read = takes names before (Name i) rest at stand.0 is in
-      let known = first_known k m before in
-      let place : number_of Proposition known bytes ≡ Some i =
-      ap (λ l. place_of l bytes) more.known
-      ∙ held names.names list i more.next more.before more.fits in
-      let word = named_word Proposition known bytes i
-      (record { names = take more.next names.names; events = take m names.events }) stand.0.1 place
-      (ap (λ l. record { names = l; events = take m names.events }) more.known) in
-      subst (AreRead names known (Name i ∷ rest)) (sym read.2)
-      (word_read known (first_known more.next m Other) (Name i) (name bytes) rest read.0 _ word
-      (all_read rest more.next m Other read.1 stand.1 more.fits fits more.left f))
-  all_read (EventName i ∷ rest) k m before at stand within fits e f =
-      let more = next_of names.events events m i (numbers_in EventKind rest) fits f in
-      let bytes = name_text names.events i in
-      let is = name_at names.events events i (omega (arith, more.before, more.fits)) in
-      let read = takes names before (EventName i) rest at stand.0 is in
-      let known = first_known k m before in
-      let place : number_of EventKind known bytes ≡ Some i =
-      ap (λ l. place_of l bytes) more.known
-      ∙ held names.events events i more.next more.before more.fits in
-      let word = named_word EventKind known bytes i
-      (record { names = take k names.names; events = take more.next names.events }) stand.0.1 place
-      (ap (λ l. record { names = take k names.names; events = l }) more.known) in
-      subst (AreRead names known (EventName i ∷ rest)) (sym read.2)
-      (word_read known (first_known k more.next Other) (EventName i) (name bytes) rest read.0 _ word
-      (all_read rest k more.next Other read.1 stand.1 within more.fits e more.left))
-  all_read (token ∷ rest) k m before at stand within fits e f =
-      let read = takes names before token rest at stand.0 tt in
-      let known = first_known k m before in
-      let word : IsWordOf known (first_known k m (before_sign before token)) token (sign token) =
-      record { token_same = refl; next_same = refl; few = refl } in
-      subst (AreRead names known (token ∷ rest)) (sym read.2)
-      (word_read known (first_known k m (before_sign before token)) token (sign token) rest read.0
-      _ word
-      (all_read rest k m (before_sign before token) read.1 stand.1 within fits e f))
+    pub all_read : (tokens : List Token) (k m : ℕ) (before : Before) (at : ℕ)
+        → StandFrom names before tokens → k ≤ length names.names → m ≤ length names.events
+        → seen_after k (numbers_in Proposition tokens) ≡ Some (length names.names)
+        → seen_after m (numbers_in EventKind tokens) ≡ Some (length names.events)
+        → AreRead names (first_known k m before) tokens
+        (raw_tokens_from 0 at (text_of names tokens))
+    all_read [] k m before at stand within fits e f =
+        let same : k ≡ length names.names = cc in
+        let same_events : m ≡ length names.events = cc in
+        let all = take_all k names.names (omega (arith, same)) in
+        let all_events = take_all m names.events (omega (arith, same_events)) in
+        record {
+          tokens_same = refl;
+          names_same = ap (λ l. record { names = l; events = take m names.events }) all
+              ∙ ap (λ l. record { names = names.names; events = l }) all_events;
+          few = refl;
+          good = refl;
+        }
+    all_read (Name i ∷ rest) k m before at stand within fits e f =
+        let more = next_of names.names list k i (numbers_in Proposition rest) within e in
+        let bytes = name_text names.names i in
+        let is = name_at names.names list i (omega (arith, more.before, more.fits)) in
+        let read = takes names before (Name i) rest at stand.0 is in
+        let known = first_known k m before in
+        let place : number_of Proposition known bytes ≡ Some i =
+        ap (λ l. place_of l bytes) more.known
+        ∙ held names.names list i more.next more.before more.fits in
+        let word = named_word Proposition known bytes i
+        (record { names = take more.next names.names; events = take m names.events }) stand.0.1 place
+        (ap (λ l. record { names = l; events = take m names.events }) more.known) in
+        subst (AreRead names known (Name i ∷ rest)) (sym read.2)
+        (word_read known (first_known more.next m Other) (Name i) (name bytes) rest read.0 _ word
+        (all_read rest more.next m Other read.1 stand.1 more.fits fits more.left f))
+    all_read (EventName i ∷ rest) k m before at stand within fits e f =
+        let more = next_of names.events events m i (numbers_in EventKind rest) fits f in
+        let bytes = name_text names.events i in
+        let is = name_at names.events events i (omega (arith, more.before, more.fits)) in
+        let read = takes names before (EventName i) rest at stand.0 is in
+        let known = first_known k m before in
+        let place : number_of EventKind known bytes ≡ Some i =
+        ap (λ l. place_of l bytes) more.known
+        ∙ held names.events events i more.next more.before more.fits in
+        let word = named_word EventKind known bytes i
+        (record { names = take k names.names; events = take more.next names.events }) stand.0.1 place
+        (ap (λ l. record { names = take k names.names; events = l }) more.known) in
+        subst (AreRead names known (EventName i ∷ rest)) (sym read.2)
+        (word_read known (first_known k more.next Other) (EventName i) (name bytes) rest read.0 _ word
+        (all_read rest k more.next Other read.1 stand.1 within more.fits e more.left))
+    all_read (token ∷ rest) k m before at stand within fits e f =
+        let read = takes names before token rest at stand.0 tt in
+        let known = first_known k m before in
+        let word : IsWordOf known (first_known k m (before_sign before token)) token (sign token) =
+        record { token_same = refl; next_same = refl; few = refl } in
+        subst (AreRead names known (token ∷ rest)) (sym read.2)
+        (word_read known (first_known k m (before_sign before token)) token (sign token) rest read.0
+        _ word
+        (all_read rest k m (before_sign before token) read.1 stand.1 within fits e f))

@@ -18,8 +18,8 @@ use Rattle.tre_parse.specs.declared.sign.TheConstants.{LEFT_PAREN, RIGHT_PAREN, 
 use Rattle.tre_parse.specs.Grammar.{StateRule, SpellsState, lit, state as any_state, conj, neg, lit_name, lit_true, lit_braces, lit_bang, state_conj, state_bars, conj_neg, conj_ampersands, neg_name, neg_true, neg_parens, neg_bang}
 use Rattle.tre_parse.specs.Grammar.{opening, closing, SpellsInterval, with_high, without_high}
 use Rattle.tre_parse.specs.Grammar.{Rule, Spells, expr, meet, seq, post, primary, expr_meet, expr_bar, meet_seq, meet_ampersand, seq_post, seq_semicolon, post_primary, post_star, post_percent, primary_eps, primary_parens, primary_rise, primary_fall, primary_event, primary_lit}
-use Rattle.tre_parse.specs.declared.known.Before.{Before}
-use Rattle.tre_parse.specs.declared.known.Before.TheVariants.{Other}
+use Rattle.tre_parse.specs.declared.before.Before.{Before}
+use Rattle.tre_parse.specs.declared.before.Before.TheVariants.{Other}
 use Rattle.tre_parse.specs.Numbering.{numbers_at, numbers_in}
 use Rattle.tre_parse.specs.Tokens.{kind_behind, before_sign}
 use Rattle.tre_show.specs.Interval.{number_text, lower_text, end_text, interval_text}

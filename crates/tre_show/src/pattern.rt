@@ -12,7 +12,9 @@ ghost use Rattle.tre_show.specs.StateText.{name_text, state_text};
 ghost use Rattle.tre_show.specs.PatternText.{operand_text, expression_text};
 
 use crate::interval::push_interval;
-use crate::state::{push_close, push_literal, push_name, push_open, push_spaced, push_state, push_text};
+use crate::state::{
+    push_close, push_literal, push_name, push_open, push_spaced, push_state, push_text,
+};
 use std::alloc::{AllocError, Global};
 use tre_parse::laws::one_outcome;
 use tre_parse::sign;

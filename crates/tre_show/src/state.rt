@@ -88,11 +88,7 @@ fn push_braces(text: &mut String, names: &Names, state: &State) -> Result<(), Al
 }
 
 /// The name of a number.
-pub(crate) fn push_name(
-    text: &mut String,
-    names: &Names,
-    number: u8,
-) -> Result<(), AllocError>
+pub(crate) fn push_name(text: &mut String, names: &Names, number: u8) -> Result<(), AllocError>
     ensures { OnOk result (string_bytes text.new
         ≡ string_bytes text.old ++ name_text names.now number) }
 {

@@ -3,6 +3,7 @@ use Rattle.std.proofs.Common.{◌≡◌, ◌∙◌, ◌-◌, ◌<◌, ◌≤◌,
 use Rattle.std.specs.Io.KnownBytes.{Consumes, IsAtEnd}
 use Rattle.std.proofs.KnownBytes.{Consumes-whole}
 use Rattle.tre_trace.specs.Reading.{Reading, Grows, Adds}
+use Rattle.tre_trace.specs.Trace.{timeline_of}
 use Rattle.tre_trace.specs.declared.segment.Segment.{Segment}
 use Rattle.tre_trace.specs.declared.fault.TraceFault.{TraceFault}
 use Rattle.tre_tool.proofs.Lists.{take-over}
@@ -10,7 +11,7 @@ use Rattle.tre_tool.proofs.Cuts.{take_split}
 use Rattle.tre_tool.proofs.Outcomes.{within, beyond}
 use Rattle.std.proofs.lemmas.List.{take-append-le}
 use Rattle.tre_tool.specs.Feeding.{TellsAll}
-use Rattle.tre_tool.specs.Outcome.{Outcome, refuses, exceeds, outcome_of, outcome_of_reading, reading_within}
+use Rattle.tre_tool.specs.Outcome.{Outcome, IsReadingOf, refuses, exceeds, outcome_of, outcome_of_reading, reading_within}
 
 -- nothing is taken back when more bytes come
 abbrev pub AllGrow : (Bool → List ℕ → Reading) → Type 0
@@ -139,14 +140,16 @@ pub Adds-now : (old new : List Segment) (before now : Reading) → old ≡ befor
 Adds-now old new before now same adds = adds.new_is ∙ ap (λ front. front ++ adds.added) same
     ∙ sym adds.beyond
 
-pub same_reading : (reading : Reading) (segments : List Segment) → segments ≡ reading.segments
-    → reading.fault ≡ None
-    → reading ≡ record { segments = segments; fault = None }
-same_reading reading segments same none =
-    ap (λ s. reading_for s reading.fault) (sym same) ∙ ap (λ f. reading_for segments f) none
+pub same_reading : (reading : Reading) (segments : List Segment) (last : ℕ)
+    → segments ≡ reading.segments → last ≡ reading.last → reading.fault ≡ None
+    → IsReadingOf (timeline_of segments last) reading
+same_reading reading segments last same same_last none =
+    ap (λ s. reading_for s reading.last reading.fault) (sym same)
+    ∙ (ap (λ l. reading_for segments l reading.fault) (sym same_last)
+    ∙ ap (λ f. reading_for segments last f) none)
   where
-    reading_for : List Segment → Option TraceFault → Reading
-    reading_for s f = record { segments = s; fault = f }
+    reading_for : List Segment → ℕ → Option TraceFault → Reading
+    reading_for s l f = record { segments = s; last = l; fault = f }
 
 -- the bytes that were fed, with one more piece
 pub fed_more : (limit : ℕ) (taken piece : List ℕ) → length taken ≤ limit

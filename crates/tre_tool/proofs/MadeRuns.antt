@@ -1,19 +1,18 @@
 -- What words of a made run give, and how such a run ends.
-use Rattle.std.proofs.Common.{◌≡◌, ◌∙◌, ℕ, ◌≤◌, Bool, true, false, ◌&&◌, List, [], ◌∷◌, Option, Some, None, if◌then◌else◌, codes, ap, refl, sym, subst, ⊎_elim, arith}
+use Rattle.std.proofs.Common.{◌≡◌, ◌∙◌, ℕ, ◌≤◌, Bool, true, false, ◌&&◌, List, [], ◌∷◌, All, Option, Some, None, if◌then◌else◌, codes, ap, refl, sym, subst, ⊎_elim, arith}
 use Rattle.std.specs.Prelude.{option_map, nat_lt, nat_le}
 use Rattle.std.specs.Str.Parse.{digits_value}
 use Rattle.std.proofs.lemmas.Bool.Decides.{nat_tests}
 use Rattle.clap.specs.Words.{matches_of}
-use Rattle.tre_parse.specs.Outcome.{spelt, refused}
-use Rattle.tre_parse.specs.declared.fault.ParseFault.{ParseFault}
-use Rattle.tre_syntax.specs.PatternTree.{PatternTree}
-use Rattle.tre_generate.specs.FixedPattern.{fixed_tree}
+use Rattle.tre_generate.specs.FixedPattern.{fixed_tree, fixed_vocabulary}
 use Rattle.tre_generate.specs.Summary.{IsSummary}
 use Rattle.tre_generate.specs.declared.made_run.TheConstants.{SEGMENTS_MAX}
 use Rattle.tre_tool.specs.Devices.{InputTold, OutputTold}
 use Rattle.tre_decimal.specs.Decimal.{is_numeral}
 use Rattle.tre_tool.specs.Job.{GivesWhere, GivesJob, HaveNoFaultWhere, HaveNoFault, command_line, is_made_run, made_count, made_job, mode_for, number_written, is_given, IsCount}
-use Rattle.tre_tool.specs.Run.{Request, AsksFor, AsksForMadeRun, EndsAs, EndsMadeRun, IsRefused, IsOutcomeIn, IsAnswerIn, StandsAtFault, StandsAtFailedRead, StandsAtFailedWrite, StandsAtMemory}
+use Rattle.tre_tool.specs.Request.{Request, alone, ArePatterns, IsRefusalIn, AsksFor, IsRefused}
+use Rattle.tre_tool.specs.Run.{ReadsInput, at_once, way_of, IsAnswerIn, StandsSoFar, IsCut, AsksForMadeRun, EndsAs, EndsMadeRun}
+use Rattle.tre_tool.specs.Standing.{FirstBlocksStand}
 use Rattle.tre_tool.specs.declared.job.Job.{Job}
 use Rattle.tre_tool.specs.declared.job.Mode.{Mode}
 use Rattle.tre_tool.specs.declared.job.Mode.TheVariants.{Generate}
@@ -104,32 +103,31 @@ module _ (words : List (List ℕ)) (count : ℕ) (asks : AsksForMadeRun words co
   mode_given : (job : Job) → GivesJob words job → job.mode ≡ Generate count
   mode_given job gives = ap (λ (j : Job). j.mode) (job_given job gives)
 
-  tree_asked : (request : Request) → AsksFor words request → request.tree ≡ fixed_tree
-  tree_asked request asked =
-      let here : IsOutcomeIn (Generate count) request.job.expr (spelt request.tree request.names) =
-      subst (λ (mode : Mode). IsOutcomeIn mode request.job.expr (spelt request.tree request.names))
-      (mode_given request.job asked.gives) asked.spells in
-      cc
-
   summary_asked : (request : Request) (input : InputTold) (text : List ℕ)
-      → AsksFor words request → IsAnswerIn request.job.mode request input text
+      → AsksFor (GivesJob words) request → IsAnswerIn request.job.mode request input text
       → IsSummary fixed_tree count text
   summary_asked request input text asked right =
       let here : IsAnswerIn (Generate count) request input text =
       subst (λ (mode : Mode). IsAnswerIn mode request input text)
       (mode_given request.job asked.gives) right in
-      subst (λ (tree : PatternTree). IsSummary tree count text) (tree_asked request asked) here
+      let one : request.patterns ≡ alone fixed_tree fixed_vocabulary =
+      subst (λ (mode : Mode). ArePatterns mode request.job request.patterns)
+      (mode_given request.job asked.gives) asked.patterns in
+      let all = subst (All (λ pattern. IsSummary pattern.tree count text)) one here in
+      all 0 (record { label = []; tree = fixed_tree; names = fixed_vocabulary }) (omega arith)
 
-  never_refused : (fault : ParseFault) → IsRefused words fault → ⊥
-  never_refused fault told =
-      let here : IsOutcomeIn (Generate count) told.job.expr (refused fault) =
-      subst (λ (mode : Mode). IsOutcomeIn mode told.job.expr (refused fault))
-      (mode_given told.job told.gives) told.refuses in
-      cc
+  never_refused : (refusal : Status) → IsRefused (GivesJob words) refusal → ⊥
+  never_refused refusal told =
+      subst (λ (mode : Mode). IsRefusalIn mode told.job refusal) (mode_given told.job told.gives)
+      told.refuses
+
+  reads_nothing : (request : Request) → AsksFor (GivesJob words) request
+      → ReadsInput request.job.mode → ⊥
+  reads_nothing request asked reads = subst ReadsInput (mode_given request.job asked.gives) reads
 
   -- how it ends, of a run over words that ask for it
   pub EndsMadeRun-ends : (input : InputTold) (output : OutputTold) (status : Status)
-      → EndsAs words input output status → EndsMadeRun count output status
+      → EndsAs (GivesJob words) input output status → EndsMadeRun count output status
   EndsMadeRun-ends input output Done ends = record {
     text = ends.is_so.text;
     right = summary_asked ends.request input ends.is_so.text ends.asks ends.is_so.right;
@@ -137,19 +135,17 @@ module _ (words : List (List ℕ)) (count : ℕ) (asks : AsksForMadeRun words co
     written = ends.is_so.written;
   }
   EndsMadeRun-ends input output Usage ends = ends.no_job (made_job count) gives_one
-  EndsMadeRun-ends input output (Expression fault) ends = never_refused fault ends.refused
+  EndsMadeRun-ends input output (Expression fault) ends =
+      never_refused (Expression fault) ends.refused
   EndsMadeRun-ends input output (Trace fault) ends =
-      subst (λ (mode : Mode). StandsAtFault mode ends.request ends.is_so.cause.bytes output)
-      (mode_given ends.request.job ends.asks.gives) ends.is_so.stands
+      reads_nothing ends.1.request ends.1.asks ends.1.is_so.reads_input
   EndsMadeRun-ends input output InputTooLong ends =
-      subst (λ (mode : Mode). StandsAtFault mode ends.request ends.is_so.cause.bytes output)
-      (mode_given ends.request.job ends.asks.gives) ends.is_so.stands
+      reads_nothing ends.request ends.asks ends.is_so.reads_input
   EndsMadeRun-ends input output ReadFault ends =
-      subst (λ (mode : Mode). StandsAtFailedRead mode ends.request input output)
-      (mode_given ends.request.job ends.asks.gives) ends.is_so.stands
+      reads_nothing ends.request ends.asks ends.is_so.reads_input
   EndsMadeRun-ends input output WriteFault ends =
-      let here : StandsAtFailedWrite (Generate count) ends.request input output =
-      subst (λ (mode : Mode). StandsAtFailedWrite mode ends.request input output)
+      let here : IsCut at_once ends.request input output =
+      subst (λ (mode : Mode). IsCut (way_of mode) ends.request input output)
       (mode_given ends.request.job ends.asks.gives) ends.is_so.stands in
       record {
         text = here.text;
@@ -159,5 +155,6 @@ module _ (words : List (List ℕ)) (count : ℕ) (asks : AsksForMadeRun words co
       }
   EndsMadeRun-ends input output Memory ends =
       ⊎_elim (λ none. none.unwritten)
-      (λ some. subst (λ (mode : Mode). StandsAtMemory mode some.request input output)
-      (mode_given some.request.job some.asks.gives) some.is_so) ends.stands
+      (λ some. subst (λ (mode : Mode). StandsSoFar (way_of mode) output
+      (FirstBlocksStand some.request input output)) (mode_given some.request.job some.asks.gives)
+      some.is_so) ends.stands

@@ -1,29 +1,34 @@
 -- What the end of a run says of each part of its promise.
-use Rattle.std.proofs.Common.{◌≡◌, ◌≢◌, ℕ, Bool, true, false, List, Option, None, Some, IfSome, Result, Ok, Err, OnOk, OnErr, refl, sym, ◌∙◌, subst, inl, inr, ⊎_elim, ap, ◌⊎◌, arith}
+use Rattle.std.proofs.Common.{◌≡◌, ◌≢◌, ℕ, Bool, true, false, List, [], ◌∷◌, Option, None, Some, IfSome, Result, Ok, Err, OnOk, OnErr, refl, sym, ◌∙◌, subst, inl, inr, ⊎_elim, ap, ◌⊎◌, arith}
 use Rattle.std.specs.Io.KnownBytes.{Appends}
 use Rattle.tre_io.specs.Faults.{counted, Rises, HasCause}
 use Rattle.tre_io.specs.Written.{AppendsPart}
 use Rattle.tre_io.specs.declared.faults.Failed.{Failed}
-use Rattle.tre_parse.specs.Outcome.{Outcome as ParseOutcome, IsOutcome, spelt, refused}
+use Rattle.tre_parse.specs.Outcome.{IsOutcome, spelt, refused}
 use Rattle.tre_parse.specs.declared.fault.ParseFault.{ParseFault}
 use Rattle.tre_parse.specs.declared.fault.ParseFault.TheVariants.{TooLong, BadByte, Number, TooDeep, Syntax, EmptyInterval, TooManyNames, TooLarge, Memory as ParseMemory}
 use Rattle.tre_parse.proofs.Outcomes.{outcome_once}
 use Rattle.tre_syntax.specs.PatternTree.{PatternTree}
-use Rattle.tre_tool.specs.Job.{GivesWhere, GivesJob, GivesNoJob, is_made_run}
-use Rattle.tre_tool.specs.Outcome.{Outcome, completes, refuses, exceeds}
-use Rattle.tre_tool.specs.Answer.{EndsOver, StopsAs, IsFoundFor}
+use Rattle.tre_trace.specs.Reading.{Vocabulary}
+use Rattle.tre_trace.specs.Trace.{Timeline, quiet}
+use Rattle.tre_tool.specs.Answer.{EndsOver, StopsAs, IsFoundFor, request_for}
 use Rattle.tre_tool.specs.Devices.{InputTold, OutputTold, NothingWritten, NothingDone, AllWritesGood}
-use Rattle.tre_tool.specs.Run.{Request, request_for, IsOutcomeIn, AsksFor, Asks, IsRefused, AsksForNothing, EndsAs, EndsDone, EndsTrace, EndsTooLong, EndsReadFault, EndsWriteFault, StandsAtFault, StandsAtFailedRead, StandsAtFailedWrite, PartIsWritten, IsAnswerTo, IsOnlineAnswerTo, outcome_for, IsStatusFor, IsStatusIn, ReadsInput, IsUnlessMemory, IsComplete, IsLineTold}
+use Rattle.tre_tool.specs.Job.{GivesWhere, GivesJob, is_made_run}
+use Rattle.tre_tool.specs.Outcome.{Outcome, completes, refuses, exceeds}
+use Rattle.tre_tool.specs.Readings.{AreTraces, common, reading_for, outcome_for}
+use Rattle.tre_tool.specs.Request.{Sought, Request, Spell, ArePatterns, IsRefusedText, IsRefusalOf, IsRefusalIn, AsksFor, Asks, IsRefused, GiveNone, AsksForNothing}
+use Rattle.tre_tool.specs.Run.{ReadsInput, IsAnswerIn, EndsAs, EndsDone, EndsAtInput, EndsReadFault, EndsWriteFault, IsStatusFor, IsUnlessMemory, IsComplete, IsLineTold}
 use Rattle.tre_tool.specs.Status.{words_status, parse_status}
-use Rattle.tre_tool.specs.declared.job.WordsFault.{WordsFault}
-use Rattle.tre_tool.specs.declared.job.WordsFault.TheVariants.{Usage as WordsUsage, Memory as WordsMemory}
-use Rattle.tre_tool.specs.declared.job.Job.{Job}
 use Rattle.tre_tool.specs.declared.job.Format.{Format}
+use Rattle.tre_tool.specs.declared.job.Job.{Job}
 use Rattle.tre_tool.specs.declared.job.Mode.{Mode}
 use Rattle.tre_tool.specs.declared.job.Mode.TheVariants.{Offline, Online, Show, Generate}
+use Rattle.tre_tool.specs.declared.job.WordsFault.{WordsFault}
+use Rattle.tre_tool.specs.declared.job.WordsFault.TheVariants.{Usage as WordsUsage, Memory as WordsMemory}
 use Rattle.tre_tool.specs.declared.status.Status.{Status}
 use Rattle.tre_tool.specs.declared.status.Status.TheVariants.{Done, Usage, Expression, Trace, InputTooLong, ReadFault, WriteFault, Memory}
 use Rattle.tre_tool.proofs.Outcomes.{outcome_of-completes}
+use Rattle.tre_tool.proofs.Stops.{cut_in}
 
 one_value : {X : Type 0} {x y : X} → Some x ≡ Some y → x ≡ y
 one_value e = cc
@@ -60,30 +65,133 @@ pub job_unique : (words : List (List ℕ)) (job other : Job) → GivesJob words 
 job_unique words job other gives gives' =
     given_once (is_made_run words) words job other gives.gives gives'.gives
 
--- a text becomes one thing
-outcome_once_in : (mode : Mode) (text : List ℕ) (one other : ParseOutcome)
-    → IsOutcomeIn mode text one → IsOutcomeIn mode text other → one ≡ other
-outcome_once_in Offline text one other is is' = outcome_once text one other is is'
-outcome_once_in Online text one other is is' = outcome_once text one other is is'
-outcome_once_in Show text one other is is' = outcome_once text one other is is'
-outcome_once_in (Generate count) text one other is is' = is ∙ sym is'
+-- a text spells one pattern
+sought_of : List ℕ → PatternTree → Vocabulary → Sought
+sought_of label tree names = record { label = label; tree = tree; names = names }
+
+spelt_once : (text : List ℕ) (one other : Sought) → one.label ≡ [] → other.label ≡ []
+    → IsOutcome text (spelt one.tree one.names) → IsOutcome text (spelt other.tree other.names)
+    → one ≡ other
+unfolding sought_of
+spelt_once text one other none none' is is' =
+    let same = outcome_once text (spelt one.tree one.names) (spelt other.tree other.names) is is' in
+    let same_tree : one.tree ≡ other.tree = cc in
+    let same_names : one.names ≡ other.names = cc in
+    ap (λ l. sought_of l one.tree one.names) (none ∙ sym none')
+    ∙ (ap (λ t. sought_of other.label t one.names) same_tree
+    ∙ ap (λ n. sought_of other.label other.tree n) same_names)
+
+-- texts spell one list of patterns
+spell_once : (texts : List (List ℕ)) (some others : List Sought) → Spell texts some
+    → Spell texts others → some ≡ others
+spell_once [] [] [] so so' = refl
+spell_once (text ∷ texts) (one ∷ some) (other ∷ others) so so' =
+    let first : one ≡ other = spelt_once text one other so.0 so'.0 so.1 so'.1 in
+    let rest : some ≡ others = spell_once texts some others so.2 so'.2 in
+    cc
+spell_once [] (one ∷ some) others so so' = absurd so
+spell_once [] [] (other ∷ others) so so' = absurd so'
+spell_once (text ∷ texts) [] others so so' = absurd so
+spell_once (text ∷ texts) (one ∷ some) [] so so' = absurd so'
+
+patterns_once : (mode : Mode) (job : Job) (some others : List Sought) → ArePatterns mode job some
+    → ArePatterns mode job others → some ≡ others
+patterns_once Offline job some others so so' = spell_once (job.expr ∷ []) some others so so'
+patterns_once Online job some others so so' = spell_once (job.expr ∷ []) some others so so'
+patterns_once Show job some others so so' = spell_once (job.expr ∷ []) some others so so'
+patterns_once (Generate count) job some others so so' = so ∙ sym so'
 
 -- of a run that isn't a made one, the text decides
-pub IsOutcomeIn-text : (mode : Mode) (text : List ℕ) (outcome : ParseOutcome)
-    → ((count : ℕ) → mode ≡ Generate count → ⊥) → IsOutcome text outcome
-    → IsOutcomeIn mode text outcome
-IsOutcomeIn-text Offline text outcome other is = is
-IsOutcomeIn-text Online text outcome other is = is
-IsOutcomeIn-text Show text outcome other is = is
-IsOutcomeIn-text (Generate count) text outcome other is = absurd (other count refl)
+pub ArePatterns-text : (mode : Mode) (job : Job) (tree : PatternTree) (names : Vocabulary)
+    → ((count : ℕ) → mode ≡ Generate count → ⊥) → IsOutcome job.expr (spelt tree names)
+    → ArePatterns mode job (request_for job tree names).patterns
+ArePatterns-text Offline job tree names other is = (refl, is, tt)
+ArePatterns-text Online job tree names other is = (refl, is, tt)
+ArePatterns-text Show job tree names other is = (refl, is, tt)
+ArePatterns-text (Generate count) job tree names other is = absurd (other count refl)
 
-pub IsOutcomeIn-refused : (mode : Mode) (text read : List ℕ) (fault : ParseFault)
-    → ((count : ℕ) → mode ≡ Generate count → ⊥) → read ≡ text
+pub IsRefusalIn-text : (mode : Mode) (job : Job) (read : List ℕ) (fault : ParseFault)
+    → ((count : ℕ) → mode ≡ Generate count → ⊥) → read ≡ job.expr
     → (fault ≡ ParseMemory) ⊎ IsOutcome read (refused fault) → fault ≢ ParseMemory
-    → IsOutcomeIn mode text (refused fault)
-IsOutcomeIn-refused mode text read fault other same either never =
-    IsOutcomeIn-text mode text (refused fault) other (subst (λ t. IsOutcome t (refused fault)) same
-    (⊎_elim (λ memory. absurd (never memory)) (λ told. told) either))
+    → IsRefusalIn mode job (Expression fault)
+IsRefusalIn-text mode job read fault other same either never =
+    refusal_in mode job (Expression fault) other (record {
+      refuses = subst (λ t. IsOutcome t (refused fault)) same
+          (⊎_elim (λ memory. absurd (never memory)) (λ told. told) either);
+      never_memory = never;
+    })
+  where
+    refusal_in : (mode : Mode) (job : Job) (refusal : Status)
+        → ((count : ℕ) → mode ≡ Generate count → ⊥) → IsRefusalOf job refusal
+        → IsRefusalIn mode job refusal
+    refusal_in Offline job refusal other is = is
+    refusal_in Online job refusal other is = is
+    refusal_in Show job refusal other is = is
+    refusal_in (Generate count) job refusal other is = absurd (other count refl)
+
+-- A refusal, and that it is one of the text.
+record IsOfText (mode : Mode) (job : Job) (refusal : Status) : Type 0 where
+  pub fault : ParseFault
+  pub is : refusal ≡ Expression fault
+  pub text : IsRefusedText job.expr fault
+  pub never_made : (count : ℕ) → mode ≡ Generate count → ⊥
+
+of_text : (mode : Mode) (job : Job) (refusal : Status)
+    → ((count : ℕ) → mode ≡ Generate count → ⊥) → IsRefusalOf job refusal
+    → IsOfText mode job refusal
+of_text mode job (Expression fault) other is = record {
+  fault = fault;
+  is = refl;
+  text = is;
+  never_made = other;
+}
+of_text mode job Done other is = absurd is
+of_text mode job Usage other is = absurd is
+of_text mode job (Trace fault) other is = absurd is
+of_text mode job InputTooLong other is = absurd is
+of_text mode job ReadFault other is = absurd is
+of_text mode job WriteFault other is = absurd is
+of_text mode job Memory other is = absurd is
+
+refused_in : (mode : Mode) (job : Job) (refusal : Status) → IsRefusalIn mode job refusal
+    → IsOfText mode job refusal
+refused_in Offline job refusal is = of_text Offline job refusal (λ count e. cc) is
+refused_in Online job refusal is = of_text Online job refusal (λ count e. cc) is
+refused_in Show job refusal is = of_text Show job refusal (λ count e. cc) is
+refused_in (Generate count) job refusal is = absurd is
+
+-- a text that spells a pattern isn't refused
+text_or_refused : (text : List ℕ) (fault : ParseFault) (patterns : List Sought)
+    → IsRefusedText text fault → Spell (text ∷ []) patterns → ⊥
+text_or_refused text fault (pattern ∷ patterns) told so =
+    let wrong = outcome_once text (refused fault) (spelt pattern.tree pattern.names) told.refuses
+    so.1 in
+    cc
+text_or_refused text fault [] told so = absurd so
+
+patterns_or_refused : (mode : Mode) (job : Job) (refusal : Status) (patterns : List Sought)
+    → IsRefusalIn mode job refusal → ArePatterns mode job patterns → ⊥
+patterns_or_refused Offline job refusal patterns is so =
+    let told = refused_in Offline job refusal is in
+    text_or_refused job.expr told.fault patterns told.text so
+patterns_or_refused Online job refusal patterns is so =
+    let told = refused_in Online job refusal is in
+    text_or_refused job.expr told.fault patterns told.text so
+patterns_or_refused Show job refusal patterns is so =
+    let told = refused_in Show job refusal is in
+    text_or_refused job.expr told.fault patterns told.text so
+patterns_or_refused (Generate count) job refusal patterns is so = absurd is
+
+-- one job is refused in one way
+refusal_once : (mode : Mode) (job : Job) (one other : Status) → IsRefusalIn mode job one
+    → IsRefusalIn mode job other → one ≡ other
+refusal_once mode job one other is is' =
+    let told = refused_in mode job one is in
+    let told' = refused_in mode job other is' in
+    let same = outcome_once job.expr (refused told.fault) (refused told'.fault) told.text.refuses
+    told'.text.refuses in
+    let faults : told.fault ≡ told'.fault = cc in
+    told.is ∙ (ap Expression faults ∙ sym told'.is)
 
 weaker : {X : Type 0} (o : Option X) (P Q : X → Type 0) → ((x : X) → P x → Q x) → IfSome o P
     → IfSome o Q
@@ -99,232 +207,201 @@ memory_is_free (completes trace) = inr refl
 memory_is_free (refuses fault) = inr refl
 memory_is_free exceeds = inr refl
 
--- the words ask for one thing
-pub request_unique : (words : List (List ℕ)) (one other : Request) → AsksFor words one
-    → AsksFor words other → one ≡ other
-request_unique words one other asks asks' =
-    let same_job = job_unique words one.job other.job asks.gives asks'.gives in
-    let spells = subst (λ (j : Job). IsOutcomeIn j.mode j.expr
-    (spelt one.tree one.names)) same_job asks.spells in
-    let same = outcome_once_in other.job.mode other.job.expr (spelt one.tree one.names)
-    (spelt other.tree other.names) spells asks'.spells in
-    let same_tree : one.tree ≡ other.tree = cc in
-    let same_names : one.names ≡ other.names = cc in
-    ap (λ j. request_for j one.tree one.names) same_job
-    ∙ (ap (λ t. request_for other.job t one.names) same_tree
-    ∙ ap (λ n. request_for other.job other.tree n) same_names)
-
--- what is so of what the words ask for
-the_request : (words : List (List ℕ)) (request : Request) (IsSo : Request → Type 0)
-    → AsksFor words request → Asks words IsSo → IsSo request
-the_request words request IsSo asks some = subst IsSo
-    (request_unique words some.request request some.asks asks) some.is_so
-
--- a request's text isn't refused
-spelt_or_refused : (words : List (List ℕ)) (request : Request) (fault : ParseFault)
-    → AsksFor words request → IsRefused words fault → ⊥
-spelt_or_refused words request fault asks told =
-    let same = job_unique words told.job request.job told.gives asks.gives in
-    let wrong = outcome_once_in request.job.mode request.job.expr (refused fault)
-    (spelt request.tree request.names)
-    (subst (λ (j : Job). IsOutcomeIn j.mode j.expr (refused fault)) same told.refuses)
-    asks.spells in
-    cc
-
-pub refused_once : (words : List (List ℕ)) (fault other : ParseFault) → IsRefused words fault
-    → IsRefused words other → other ≡ fault
-refused_once words fault other told told' =
-    let same = job_unique words told'.job told.job told'.gives told.gives in
-    let one = outcome_once_in told.job.mode told.job.expr (refused other) (refused fault) (subst (λ
-    (j : Job). IsOutcomeIn j.mode j.expr (refused other)) same told'.refuses) told.refuses in
-    cc
-
--- a run over what words ask for is none over words that ask for nothing
-pub nothing_asked : (words : List (List ℕ)) (request : Request) → AsksFor words request
-    → AsksForNothing words → ⊥
-nothing_asked words request asks nothing =
-    ⊎_elim (λ none. none request.job asks.gives)
-    (λ some. spelt_or_refused words request some.0 asks some.1) nothing
-
--- right answers, offline and online
-done_completes : (request : Request) (bytes text : List ℕ) → IsAnswerTo request bytes text
-    → IsStatusFor (outcome_for request bytes) Done
-done_completes request bytes text answer =
-    rw (outcome_of-completes request.job.format request.names request.job.max_bytes bytes
-    answer.trace answer.within answer.reads) (inl refl)
-
-online_completes : (request : Request) (bytes text : List ℕ) → IsOnlineAnswerTo request bytes text
-    → IsStatusFor (outcome_for request bytes) Done
-online_completes request bytes text answer =
-    rw (outcome_of-completes request.job.format request.names request.job.max_bytes bytes
-    answer.trace answer.within answer.reads) (inl refl)
-
 -- a count to which one fault was added rose
 one_more : (before now : ℕ) → now ≡ counted before → Rises before now
 one_more before now e = rw e (omega arith)
 
--- a run that is done, in each mode
-done_in : (mode : Mode) (request : Request) (input : InputTold) (output : OutputTold)
-    (done : EndsDone request input output)
-    → request.job.mode ≡ mode → IsStatusIn mode request input Done
-done_in Offline request input output done same = λ reads.
-    let right = rw same at done.right in
-    weaker input.file _ _ (λ told is. rw is (done_completes request right.bytes done.text
-    right.is_so)) right.all.whole
-done_in Online request input output done same = λ reads.
-    let right = rw same at done.right in
-    weaker input.file _ _ (λ told is. rw is (online_completes request right.bytes done.text
-    right.is_so)) right.all.whole
-done_in Show request input output done same = inl refl
-done_in (Generate count) request input output done same = inl refl
+-- traces that were read complete
+done_completes : (request : Request) (bytes : List ℕ) (traces : List Timeline)
+    → AreTraces request bytes traces → IsStatusFor (outcome_for request bytes) Done
+done_completes request bytes [] are =
+    rw (outcome_of-completes (reading_for request) request.job.max_bytes bytes (quiet [])
+    are.within (ap common are.read)) (inl refl)
+done_completes request bytes (trace ∷ traces) are =
+    rw (outcome_of-completes (reading_for request) request.job.max_bytes bytes trace
+    are.within (ap common are.read)) (inl refl)
 
-memory_in : (mode : Mode) (request : Request) (input : InputTold)
-    → IsStatusIn mode request input Memory
-memory_in Offline request input = λ reads. free input.file _ (λ bytes. memory_is_free
-    (outcome_for request bytes))
-memory_in Online request input = λ reads. free input.file _ (λ bytes. memory_is_free
-    (outcome_for request bytes))
-memory_in Show request input = inr refl
-memory_in (Generate count) request input = inr refl
+-- a run that is done, in each mode that reads its input
+done_in : (mode : Mode) (request : Request) (input : InputTold) (text : List ℕ)
+    → IsAnswerIn mode request input text → ReadsInput mode
+    → IfSome input.file (λ bytes. IsStatusFor (outcome_for request bytes) Done)
+done_in Offline request input text right reads =
+    weaker input.file _ _ (λ told is. rw is (done_completes request right.bytes
+    right.is_so.traces right.is_so.are)) right.all.whole
+done_in Online request input text right reads =
+    weaker input.file _ _ (λ told is. rw is (done_completes request right.bytes
+    right.is_so.traces right.is_so.are)) right.all.whole
+done_in Show request input text right reads = absurd reads
+done_in (Generate count) request input text right reads = absurd reads
 
--- a run that stops at a fault of the input, or couldn't read it, is one that reads it
-reads_at_fault : (mode : Mode) (request : Request) (bytes : List ℕ) (output : OutputTold)
-    → StandsAtFault mode request bytes output → ReadsInput mode
-reads_at_fault Offline request bytes output stands = tt
-reads_at_fault Online request bytes output stands = tt
-reads_at_fault Show request bytes output stands = stands
-reads_at_fault (Generate count) request bytes output stands = stands
+-- a request by its parts
+request_of : Job → List Sought → Request
+request_of job patterns = record { job = job; patterns = patterns }
 
-reads_at_failed_read : (mode : Mode) (request : Request) (input : InputTold) (output : OutputTold)
-    → StandsAtFailedRead mode request input output → ReadsInput mode
-reads_at_failed_read Offline request input output stands = tt
-reads_at_failed_read Online request input output stands = tt
-reads_at_failed_read Show request input output stands = stands
-reads_at_failed_read (Generate count) request input output stands = stands
+module _ (Gives : Job → Type 0)
+    (once : (job other : Job) → Gives job → Gives other → job ≡ other) where
+  -- what is given asks for one thing
+  pub request_unique : (one other : Request) → AsksFor Gives one → AsksFor Gives other
+      → one ≡ other
+  unfolding request_of
+  request_unique one other asks asks' =
+      let same_job = once one.job other.job asks.gives asks'.gives in
+      let patterns = subst (λ (j : Job). ArePatterns j.mode j one.patterns) same_job
+      asks.patterns in
+      let same = patterns_once other.job.mode other.job one.patterns other.patterns patterns
+      asks'.patterns in
+      ap (λ j. request_of j one.patterns) same_job ∙ ap (λ p. request_of other.job p) same
 
--- a fault of the input, in each mode that reads it
-fault_in : (mode : Mode) (request : Request) (input : InputTold) (status : Status)
-    → ReadsInput mode
-    → (¬ Rises input.faults_before input.faults_now
-    → IfSome input.file (λ bytes. IsStatusFor (outcome_for request bytes) status))
-    → IsStatusIn mode request input status
-fault_in Offline request input status reads told = told
-fault_in Online request input status reads told = told
-fault_in Show request input status reads told = absurd reads
-fault_in (Generate count) request input status reads told = absurd reads
+  -- what is so of it
+  the_request : (request : Request) (IsSo : Request → Type 0) → AsksFor Gives request
+      → Asks Gives IsSo → IsSo request
+  the_request request IsSo asks some = subst IsSo
+      (request_unique some.request request some.asks asks) some.is_so
 
--- what must come of a request
-asked_as : (words : List (List ℕ)) (request : Request) (input : InputTold) (output : OutputTold)
-    (status : Status) → AsksFor words request → EndsAs words input output status
-    → ¬ Rises output.faults_before output.faults_now
-    → IsStatusIn request.job.mode request input status
-asked_as words request input output Done asks ends writes =
-    done_in request.job.mode request input output (the_request words request
-    (λ r. EndsDone r input output) asks ends) refl
-asked_as words request input output Usage asks ends writes = absurd
-    (ends.no_job request.job asks.gives)
-asked_as words request input output (Expression fault) asks ends writes = absurd
-    (spelt_or_refused words request fault asks ends.refused)
-asked_as words request input output (Trace fault) asks ends writes =
-    let found = the_request words request (λ r. EndsTrace r input output fault) asks ends in
-    fault_in request.job.mode request input (Trace fault)
-    (reads_at_fault request.job.mode request found.cause.bytes output found.stands)
-    (λ reads. weaker input.file _ _ (λ bytes e. rw e (inl refl)) found.cause.whole)
-asked_as words request input output InputTooLong asks ends writes =
-    let found = the_request words request (λ r. EndsTooLong r input output) asks ends in
-    fault_in request.job.mode request input InputTooLong
-    (reads_at_fault request.job.mode request found.cause.bytes output found.stands)
-    (λ reads. weaker input.file _ _ (λ bytes e. rw e (inl refl)) found.cause.whole)
-asked_as words request input output ReadFault asks ends writes =
-    let found = the_request words request (λ r. EndsReadFault r input output) asks ends in
-    fault_in request.job.mode request input ReadFault
-    (reads_at_failed_read request.job.mode request input output found.stands)
-    (λ reads. absurd (reads (one_more _ _ found.cause)))
-asked_as words request input output WriteFault asks ends writes =
-    let found = the_request words request (λ r. EndsWriteFault r input output) asks ends in
-    absurd (writes (one_more _ _ found.cause))
-asked_as words request input output Memory asks ends writes = memory_in request.job.mode
-    request input
+  -- it isn't refused
+  asked_or_refused : (request : Request) (refusal : Status) → AsksFor Gives request
+      → IsRefused Gives refusal → ⊥
+  asked_or_refused request refusal asks told =
+      let same = once told.job request.job told.gives asks.gives in
+      patterns_or_refused request.job.mode request.job refusal request.patterns
+      (subst (λ (j : Job). IsRefusalIn j.mode j refusal) same told.refuses) asks.patterns
 
--- what must come of a text that is refused
-refused_as : (words : List (List ℕ)) (input : InputTold) (output : OutputTold) (status : Status)
-    (fault : ParseFault) → EndsAs words input output status
-    → IsRefused words fault → IsUnlessMemory (Expression fault) status
-refused_as words input output Usage fault ends told = absurd
-    (ends.no_job told.job told.gives)
-refused_as words input output (Expression other) fault ends told = inl (ap Expression
-    (refused_once words fault other told ends.refused))
-refused_as words input output Memory fault ends told = inr refl
-refused_as words input output Done fault ends told = absurd
-    (spelt_or_refused words ends.request fault ends.asks told)
-refused_as words input output (Trace at) fault ends told = absurd
-    (spelt_or_refused words ends.request fault ends.asks told)
-refused_as words input output InputTooLong fault ends told = absurd
-    (spelt_or_refused words ends.request fault ends.asks told)
-refused_as words input output ReadFault fault ends told = absurd
-    (spelt_or_refused words ends.request fault ends.asks told)
-refused_as words input output WriteFault fault ends told = absurd
-    (spelt_or_refused words ends.request fault ends.asks told)
+  refused_once : (refusal other : Status) → IsRefused Gives refusal → IsRefused Gives other
+      → other ≡ refusal
+  refused_once refusal other told told' =
+      let same = once told'.job told.job told'.gives told.gives in
+      refusal_once told.job.mode told.job other refusal
+      (subst (λ (j : Job). IsRefusalIn j.mode j other) same told'.refuses) told.refuses
 
--- what must come of words that give no job
-no_job_as : (words : List (List ℕ)) (input : InputTold) (output : OutputTold) (status : Status)
-    → EndsAs words input output status → GivesNoJob words → IsUnlessMemory Usage status
-no_job_as words input output Usage ends none = inl refl
-no_job_as words input output Memory ends none = inr refl
-no_job_as words input output (Expression fault) ends none = absurd
-    (none ends.refused.job ends.refused.gives)
-no_job_as words input output Done ends none = absurd (none ends.request.job ends.asks.gives)
-no_job_as words input output (Trace at) ends none = absurd (none ends.request.job ends.asks.gives)
-no_job_as words input output InputTooLong ends none = absurd
-    (none ends.request.job ends.asks.gives)
-no_job_as words input output ReadFault ends none = absurd (none ends.request.job ends.asks.gives)
-no_job_as words input output WriteFault ends none = absurd (none ends.request.job ends.asks.gives)
+  -- a run over what is asked for is none over words that ask for nothing
+  pub nothing_asked : (request : Request) → AsksFor Gives request → AsksForNothing Gives → ⊥
+  nothing_asked request asks nothing =
+      ⊎_elim (λ none. none request.job asks.gives)
+      (λ some. asked_or_refused request some.0 asks some.1) nothing
 
--- a run that ends so is complete
-pub IsComplete-ends : (words : List (List ℕ)) (input : InputTold) (output : OutputTold)
-    (status : Status) → EndsAs words input output status → IsComplete words input output status
-IsComplete-ends words input output status ends = record {
-  no_job = λ none. no_job_as words input output status ends none;
-  refused = λ fault told. refused_as words input output status fault ends told;
-  asked = λ request asks writes. asked_as words request input output status asks ends writes;
-}
+  module _ (input : InputTold) (output : OutputTold) where
+    -- what must come of a request whose input is read
+    read_as : (request : Request) (status : Status) → AsksFor Gives request
+        → EndsAs Gives input output status → ReadsInput request.job.mode
+        → ¬ Rises input.faults_before input.faults_now
+        → ¬ Rises output.faults_before output.faults_now
+        → IfSome input.file (λ bytes. IsStatusFor (outcome_for request bytes) status)
+    read_as request Done asks ends reads read written =
+        let done = the_request request (λ r. EndsDone r input output) asks ends in
+        done_in request.job.mode request input done.text done.right reads
+    read_as request Usage asks ends reads read written = absurd
+        (ends.no_job request.job asks.gives)
+    read_as request (Expression fault) asks ends reads read written = absurd
+        (asked_or_refused request (Expression fault) asks ends.refused)
+    read_as request (Trace fault) asks ends reads read written =
+        let found = the_request request (λ r. EndsAtInput (refuses fault) r input output) asks
+        ends.1 in
+        weaker input.file _ _ (λ bytes e. rw e (inl refl)) found.cause.whole
+    read_as request InputTooLong asks ends reads read written =
+        let found = the_request request (λ r. EndsAtInput exceeds r input output) asks ends in
+        weaker input.file _ _ (λ bytes e. rw e (inl refl)) found.cause.whole
+    read_as request ReadFault asks ends reads read written =
+        let found = the_request request (λ r. EndsReadFault r input output) asks ends in
+        absurd (read (one_more _ _ found.cause))
+    read_as request WriteFault asks ends reads read written =
+        let found = the_request request (λ r. EndsWriteFault r input output) asks ends in
+        absurd (written (one_more _ _ found.cause))
+    read_as request Memory asks ends reads read written =
+        free input.file _ (λ bytes. memory_is_free (outcome_for request bytes))
 
--- the end of a run over the request that the words ask for
-pub EndsAs-over : (words : List (List ℕ)) (request : Request) (input : InputTold)
-    (output : OutputTold) (status : Status) → AsksFor words request
-    → EndsOver request input output status → EndsAs words input output status
-EndsAs-over words request input output Done asks over = record {
+    -- what must come of one whose input isn't
+    unread_as : (request : Request) (status : Status) → AsksFor Gives request
+        → EndsAs Gives input output status → ¬ ReadsInput request.job.mode
+        → ¬ Rises output.faults_before output.faults_now → IsUnlessMemory Done status
+    unread_as request Done asks ends unread written = inl refl
+    unread_as request Usage asks ends unread written = absurd
+        (ends.no_job request.job asks.gives)
+    unread_as request (Expression fault) asks ends unread written = absurd
+        (asked_or_refused request (Expression fault) asks ends.refused)
+    unread_as request (Trace fault) asks ends unread written = absurd
+        (unread (the_request request (λ r. EndsAtInput (refuses fault) r input output) asks
+        ends.1).reads_input)
+    unread_as request InputTooLong asks ends unread written = absurd
+        (unread (the_request request (λ r. EndsAtInput exceeds r input output) asks
+        ends).reads_input)
+    unread_as request ReadFault asks ends unread written = absurd
+        (unread (the_request request (λ r. EndsReadFault r input output) asks ends).reads_input)
+    unread_as request WriteFault asks ends unread written = absurd (written (one_more _ _
+        (the_request request (λ r. EndsWriteFault r input output) asks ends).cause))
+    unread_as request Memory asks ends unread written = inr refl
+
+    -- what must come of a refusal
+    refused_as : (status refusal : Status) → EndsAs Gives input output status
+        → IsRefused Gives refusal → IsUnlessMemory refusal status
+    refused_as Usage refusal ends told = absurd (ends.no_job told.job told.gives)
+    refused_as (Expression fault) refusal ends told =
+        inl (refused_once refusal (Expression fault) told ends.refused)
+    refused_as Memory refusal ends told = inr refl
+    refused_as Done refusal ends told = absurd
+        (asked_or_refused ends.request refusal ends.asks told)
+    refused_as (Trace fault) refusal ends told = absurd
+        (asked_or_refused ends.1.request refusal ends.1.asks told)
+    refused_as InputTooLong refusal ends told = absurd
+        (asked_or_refused ends.request refusal ends.asks told)
+    refused_as ReadFault refusal ends told = absurd
+        (asked_or_refused ends.request refusal ends.asks told)
+    refused_as WriteFault refusal ends told = absurd
+        (asked_or_refused ends.request refusal ends.asks told)
+
+    -- what must come of words that give no job
+    no_job_as : (status : Status) → EndsAs Gives input output status → GiveNone Gives
+        → IsUnlessMemory Usage status
+    no_job_as Usage ends none = inl refl
+    no_job_as Memory ends none = inr refl
+    no_job_as (Expression fault) ends none = absurd (none ends.refused.job ends.refused.gives)
+    no_job_as Done ends none = absurd (none ends.request.job ends.asks.gives)
+    no_job_as (Trace fault) ends none = absurd (none ends.1.request.job ends.1.asks.gives)
+    no_job_as InputTooLong ends none = absurd (none ends.request.job ends.asks.gives)
+    no_job_as ReadFault ends none = absurd (none ends.request.job ends.asks.gives)
+    no_job_as WriteFault ends none = absurd (none ends.request.job ends.asks.gives)
+
+    -- a run that ends so is complete
+    pub IsComplete-ends : (status : Status) → EndsAs Gives input output status
+        → IsComplete Gives input output status
+    IsComplete-ends status ends = record {
+      no_job = λ none. no_job_as status ends none;
+      refused = λ refusal told. refused_as status refusal ends told;
+      read = λ request asks reads read written.
+          read_as request status asks ends reads read written;
+      unread = λ request asks unread written. unread_as request status asks ends unread written;
+    }
+
+-- the end of a run over the request that is asked for
+pub EndsAs-over : (Gives : Job → Type 0) (request : Request) (input : InputTold)
+    (output : OutputTold) (status : Status) → AsksFor Gives request
+    → EndsOver request input output status → EndsAs Gives input output status
+EndsAs-over Gives request input output Done asks over = record {
   request = request;
   asks = asks;
   is_so = over;
 }
-EndsAs-over words request input output Usage asks over = absurd over
-EndsAs-over words request input output (Expression fault) asks over = absurd over
-EndsAs-over words request input output (Trace fault) asks over = record {
+EndsAs-over Gives request input output Usage asks over = absurd over
+EndsAs-over Gives request input output (Expression fault) asks over = absurd over
+EndsAs-over Gives request input output (Trace fault) asks over = (
+  over.0,
+  record { request = request; asks = asks; is_so = over.1 },
+)
+EndsAs-over Gives request input output InputTooLong asks over = record {
   request = request;
-  asks =
-      asks;
+  asks = asks;
   is_so = over;
 }
-EndsAs-over words request input output InputTooLong asks over = record {
+EndsAs-over Gives request input output ReadFault asks over = record {
   request = request;
-  asks =
-      asks;
+  asks = asks;
   is_so = over;
 }
-EndsAs-over words request input output ReadFault asks over = record {
+EndsAs-over Gives request input output WriteFault asks over = record {
   request = request;
-  asks =
-      asks;
+  asks = asks;
   is_so = over;
 }
-EndsAs-over words request input output WriteFault asks over = record {
-  request = request;
-  asks =
-      asks;
-  is_so = over;
-}
-EndsAs-over words request input output Memory asks over = record {
+EndsAs-over Gives request input output Memory asks over = record {
   reads = over.0;
   stands = inr (record { request = request; asks = asks; is_so = over.1 });
 }
@@ -343,24 +420,23 @@ faults (TooManyNames at) = inr (λ e. cc, refl)
 faults (TooLarge nodes) = inr (λ e. cc, refl)
 
 -- the end of a run whose text was refused
-pub EndsAs-refused : (words : List (List ℕ)) (input : InputTold) (output : OutputTold)
+pub EndsAs-refused : (Gives : Job → Type 0) (input : InputTold) (output : OutputTold)
     (fault : ParseFault)
-    → (fault ≢ ParseMemory → IsRefused words fault) → NothingDone input output
-    → EndsAs words input output (parse_status fault)
-EndsAs-refused words input output fault told nothing = elim (faults fault) [
+    → (fault ≢ ParseMemory → IsRefused Gives (Expression fault)) → NothingDone input output
+    → EndsAs Gives input output (parse_status fault)
+EndsAs-refused Gives input output fault told nothing = elim (faults fault) [
   | inl memory ↦ rw memory (record { reads = nothing.reads; stands = inl nothing })
   | inr other ↦ rw other.1 (record { refused = told other.0; nothing = nothing })
 ]
 
 -- a refused text, from what the pattern of a job says
-pub IsRefused-of : (words : List (List ℕ)) (job : Job) (fault : ParseFault) → GivesJob words job
-    → (fault ≢ ParseMemory → IsOutcomeIn job.mode job.expr (refused fault))
-    → fault ≢ ParseMemory → IsRefused words fault
-IsRefused-of words job fault gives told never = record {
+pub IsRefused-of : (Gives : Job → Type 0) (job : Job) (fault : ParseFault) → Gives job
+    → (fault ≢ ParseMemory → IsRefusalIn job.mode job (Expression fault))
+    → fault ≢ ParseMemory → IsRefused Gives (Expression fault)
+IsRefused-of Gives job fault gives told never = record {
   job = job;
   gives = gives;
   refuses = told never;
-  never_memory = never;
 }
 
 -- a call that tells a line, or fails
@@ -373,20 +449,10 @@ IsLineTold-of output line (Ok value) cause all part = inl (cause.ok, all)
 IsLineTold-of output line (Err fault) cause all part = inr (cause.failed, part)
 
 -- what words ask for, from what the pattern of a job says
-pub AsksFor-of : (words : List (List ℕ)) (job : Job) (tree : PatternTree)
-    (names : List (List ℕ)) → GivesJob words job
-    → IsOutcomeIn job.mode job.expr (spelt tree names) → AsksFor words
-    (record { job = job; tree = tree; names = names })
-AsksFor-of words job tree names gives spells = record { gives = gives; spells = spells }
-
--- what stands in the output where the one write of an answer failed
-cut_in : (mode : Mode) (request : Request) (input : InputTold) (output : OutputTold)
-    → (mode ≡ Online → ⊥) → PartIsWritten request input output
-    → StandsAtFailedWrite mode request input output
-cut_in Offline request input output once part = part
-cut_in Online request input output once part = absurd (once refl)
-cut_in Show request input output once part = part
-cut_in (Generate count) request input output once part = part
+pub AsksFor-of : (Gives : Job → Type 0) (job : Job) (tree : PatternTree) (names : Vocabulary)
+    → Gives job → ArePatterns job.mode job (request_for job tree names).patterns
+    → AsksFor Gives (request_for job tree names)
+AsksFor-of Gives job tree names gives patterns = record { gives = gives; patterns = patterns }
 
 -- a run whose answer is written at once, and that stopped before it
 pub EndsOver-stopped : (request : Request) (input : InputTold) (output : OutputTold)

@@ -1,13 +1,13 @@
 -- What was read of an input, from no bytes to its end.
-use Rattle.std.proofs.Common.{◌≡◌, ◌≢◌, ◌+◌, ◌≤◌, ℕ, Bool, true, false, List, [], ◌++◌, length, take, Option, None, Some, IsTrue, IfErr, Result, Ok, Err, refl, sym, subst, arith, length-take}
+use Rattle.std.proofs.Common.{◌≡◌, ◌≢◌, ◌∙◌, ◌+◌, ◌≤◌, ℕ, Bool, true, false, List, [], ◌++◌, length, take, Option, None, Some, IsTrue, IfErr, Result, Ok, Err, refl, sym, ap, subst, arith, length-take}
 use Rattle.std.specs.Io.KnownBytes.{Consumes, Keeps, IsAtEnd}
 use Rattle.std.proofs.KnownBytes.{Consumes-nil, Consumes-whole}
 use Rattle.tre_parts.specs.Format.{reading_from}
 use Rattle.tre_text.specs.TextReading.{text_reading}
-use Rattle.tre_trace.specs.Reading.{Reading}
-use Rattle.tre_trace.specs.Trace.{IsTrace}
+use Rattle.tre_trace.specs.Reading.{Reading, Vocabulary}
+use Rattle.tre_trace.specs.Trace.{IsTrace, timeline_of}
 use Rattle.tre_trace.specs.declared.segment.Segment.{Segment}
-use Rattle.tre_vcd.specs.VcdReading.{vcd_reading}
+use Rattle.tre_vcd.specs.VcdReading.{Terms, vcd_reading}
 use Rattle.tre_tool.specs.Feeding.{IsFed, HasRead, HasFailed, GoesOn, IsEnded, IsWhole, StopsTurn, StopsReading, EndsTurn}
 use Rattle.tre_tool.specs.Devices.{InputTold, WereRead, AllReadsGood, AreAllBytes}
 use Rattle.tre_tool.specs.Input.{TakesAtMost, MayGoOn, HasReadCause}
@@ -20,13 +20,13 @@ use Rattle.tre_tool.proofs.Lists.{take-over}
 use Rattle.tre_tool.proofs.Feeding.{Adds-now, same_reading}
 use Rattle.tre_tool.proofs.Turns.{Consumes-keeps, found_behind}
 
-pub text_reading-nothing : (names : List (List ℕ)) → (text_reading names false []).segments ≡ []
+pub text_reading-nothing : (names : Vocabulary) → (text_reading names false []).segments ≡ []
 unfolding reading_from
 text_reading-nothing names = refl
 
-pub vcd_reading-nothing : (names : List (List ℕ)) → (vcd_reading names false []).segments ≡ []
+pub vcd_reading-nothing : (terms : Terms) → (vcd_reading terms false []).segments ≡ []
 unfolding reading_from
-vcd_reading-nothing names = refl
+vcd_reading-nothing terms = refl
 
 -- These segments were read of the bytes that were fed.
 pub record IsCollected (represents : List ℕ → Type 0) (reading : Bool → List ℕ → Reading)
@@ -182,11 +182,11 @@ StopsReading-unread reading limit name input WriteFault none kept cause only sou
 
 -- the whole input was read, and its segments are all those of its bytes
 pub IsWhole-ended : (reading : Bool → List ℕ → Reading) (limit : ℕ) (input : InputTold)
-    (bytes : List ℕ) (old new : List Segment) → input.opened ≡ true → AllReadsGood input
-    → IsEnded reading limit input.file input.left bytes old new
+    (bytes : List ℕ) (old new : List Segment) (last : ℕ) → input.opened ≡ true
+    → AllReadsGood input → IsEnded reading limit input.file input.left bytes old new last
     → old ≡ (reading false (take limit bytes)).segments
-    → IsTrace (reading true bytes).segments → IsWhole reading limit input new
-IsWhole-ended reading limit input bytes old new opened reads ended told trace =
+    → IsTrace (reading true bytes).segments → IsWhole reading limit input (timeline_of new last)
+IsWhole-ended reading limit input bytes old new last opened reads ended told trace =
     let same : new ≡ (reading true bytes).segments =
     Adds-now old new (reading false (take limit bytes)) (reading true bytes) told ended.all in
     record {
@@ -194,7 +194,7 @@ IsWhole-ended reading limit input bytes old new opened reads ended told trace =
       bytes = bytes;
       all = AreAllBytes-read input bytes opened ended.front ended.all_read;
       within = ended.within;
-      reads_as = same_reading (reading true bytes) new same ended.whole;
+      reads_as = same_reading (reading true bytes) new last same ended.last_is ended.whole;
       is_trace = subst IsTrace (sym same) trace;
     }
 
@@ -215,28 +215,40 @@ IsCollected-more reading most limit file left found count bytes old new more tol
 -- how a turn stopped that did
 pub turn_stops : (represents : List ℕ → Type 0) (reading : Bool → List ℕ → Reading)
     (most limit : ℕ) (file left found : Option (List ℕ)) (count : ℕ) (bytes : List ℕ)
-    (old new : List Segment) (result : Result Bool Status)
-    → EndsTurn represents reading most limit file left found count bytes old new result
+    (old new : List Segment) (last : ℕ) (result : Result Bool Status)
+    → EndsTurn represents reading most limit file left found count bytes old new last result
     → IfErr result (StopsTurn reading limit file left bytes old new)
-turn_stops represents reading most limit file left found count bytes old new (Ok more) ends = tt
-turn_stops represents reading most limit file left found count bytes old new (Err status) ends =
-    ends
+turn_stops represents reading most limit file left found count bytes old new last (Ok more) ends =
+    tt
+turn_stops represents reading most limit file left found count bytes old new last (Err status)
+    ends = ends
 
 -- no bytes have no fault
-pub text_reading-faultless : (names : List (List ℕ)) → (text_reading names false []).fault ≡ None
+pub text_reading-faultless : (names : Vocabulary) → (text_reading names false []).fault ≡ None
 unfolding reading_from
 text_reading-faultless names = refl
 
-pub vcd_reading-faultless : (names : List (List ℕ)) → (vcd_reading names false []).fault ≡ None
+pub vcd_reading-faultless : (terms : Terms) → (vcd_reading terms false []).fault ≡ None
 unfolding reading_from
-vcd_reading-faultless names = refl
+vcd_reading-faultless terms = refl
 
-pub reading_in-faultless : (format : Format) (names : List (List ℕ))
-    → (reading_in format names false []).fault ≡ None
-reading_in-faultless Text names = text_reading-faultless names
-reading_in-faultless Vcd names = vcd_reading-faultless names
+pub reading_in-faultless : (format : Format) (declared names : Vocabulary)
+    → (reading_in format declared names false []).fault ≡ None
+reading_in-faultless Text declared names = text_reading-faultless names
+reading_in-faultless Vcd declared names =
+    vcd_reading-faultless (record { names = names; declared = declared })
 
-pub reading_in-nothing : (format : Format) (names : List (List ℕ))
-    → (reading_in format names false []).segments ≡ []
-reading_in-nothing Text names = text_reading-nothing names
-reading_in-nothing Vcd names = vcd_reading-nothing names
+pub reading_in-nothing : (format : Format) (declared names : Vocabulary)
+    → (reading_in format declared names false []).segments ≡ []
+reading_in-nothing Text declared names = text_reading-nothing names
+reading_in-nothing Vcd declared names =
+    vcd_reading-nothing (record { names = names; declared = declared })
+
+-- two lists of names are a vocabulary
+pub vocabulary_same : (names events : List (List ℕ)) (other : Vocabulary) → names ≡ other.names
+    → events ≡ other.events → record { names = names; events = events } ≡ other
+vocabulary_same names events other same same' =
+    ap (λ all. vocabulary_of all events) same ∙ ap (vocabulary_of other.names) same'
+  where
+    vocabulary_of : List (List ℕ) → List (List ℕ) → Vocabulary
+    vocabulary_of all more = record { names = all; events = more }

@@ -1,140 +1,154 @@
 -- Why a run stopped before its answer.
-use Rattle.std.proofs.Common.{◌≡◌, ◌≢◌, ◌⊎◌, ◌↔◌, ℕ, List, refl, inl, inr}
+use Rattle.std.proofs.Common.{◌≡◌, ◌≢◌, ◌⊎◌, ◌↔◌, ◌∙◌, ℕ, List, [], ◌∷◌, refl, sym, ap, subst, inl, inr}
+use Rattle.tre_trace.specs.Reading.{Reading, Vocabulary}
+use Rattle.tre_trace.specs.Trace.{Timeline, end_of}
 use Rattle.tre_trace.specs.declared.fault.TraceFault.{TraceFault}
 use Rattle.tre_trace.specs.declared.fault.TraceKind.{TraceKind}
 use Rattle.tre_trace.specs.declared.fault.TraceKind.TheVariants.{LineTooLong, BadNumber, Zero, TooLate, BadName, BadToken, UnknownName, TimeBack, CutShort, Spent, Memory as KindMemory}
-use Rattle.tre_trace.specs.Trace.{end_of}
-use Rattle.tre_trace.specs.declared.segment.Segment.{Segment}
 use Rattle.tre_offline.specs.MatchSet.{IsMatchSet}
 use Rattle.tre_show.specs.Line.{offline_text}
 use Rattle.tre_show.specs.Order.{IsRising}
+use Rattle.tre_syntax.specs.PatternTree.{PatternTree}
 use Rattle.tre_zone.specs.ZoneList.{SetHolds, IsApart, AreTight}
 use Rattle.tre_zone.specs.declared.zone_bounds.ZoneBounds.{ZoneBounds}
-use Rattle.tre_tool.specs.Answer.{StopsAs, IsReadAs, IsFoundFor}
+use Rattle.tre_tool.specs.Answer.{StopsAs, IsFoundFor, request_for}
 use Rattle.tre_tool.specs.Feeding.{StopsReading, IsWhole}
-use Rattle.tre_tool.specs.Devices.{InputTold, OutputTold, NothingWritten, OfAllBytes}
-use Rattle.tre_tool.specs.Run.{Request, reading_for, IsAnswerTo, IsAnswerIn, StandsAtFault, StandsAtFailedRead, StandsAtMemory}
+use Rattle.tre_tool.specs.Devices.{InputTold, OutputTold, NothingWritten}
+use Rattle.tre_tool.specs.Outcome.{refuses, exceeds}
+use Rattle.tre_tool.specs.Readings.{reading_for}
+use Rattle.tre_tool.specs.Request.{Request, alone}
+use Rattle.tre_tool.specs.Run.{ReadsInput, at_once, way_of, IsAnswerIn, StandsSoFar, PartIsWritten, IsCut}
+use Rattle.tre_tool.specs.Standing.{FirstBlocksStand}
 use Rattle.tre_tool.specs.Status.{trace_status}
+use Rattle.tre_tool.specs.Wanted.{IsWanted, AreZonesOf}
+use Rattle.tre_tool.specs.declared.job.Job.{Job}
 use Rattle.tre_tool.specs.declared.job.Mode.{Mode}
 use Rattle.tre_tool.specs.declared.job.Mode.TheVariants.{Offline, Online, Show, Generate}
 use Rattle.tre_tool.specs.declared.status.Status.{Status}
 use Rattle.tre_tool.specs.declared.status.Status.TheVariants.{Done, Usage, Expression, Trace, InputTooLong, ReadFault, WriteFault, Memory}
+use Rattle.tre_tool.proofs.Alone.{AreTraces-alone, EndsAtInput-alone}
 
--- memory was wanting in a run that writes its answer at once
-memory_in : (mode : Mode) (request : Request) (input : InputTold) (output : OutputTold)
-    → (mode ≡ Online → ⊥) → NothingWritten output → StandsAtMemory mode request input output
-memory_in Offline request input output once unwritten = unwritten
-memory_in Online request input output once unwritten = absurd (once refl)
-memory_in Show request input output once unwritten = unwritten
-memory_in (Generate count) request input output once unwritten = unwritten
+-- a run that doesn't tell as its input comes writes all at once
+at_once_in : (mode : Mode) → (mode ≡ Online → ⊥) → way_of mode ≡ at_once
+at_once_in Offline once = refl
+at_once_in Online once = absurd (once refl)
+at_once_in Show once = refl
+at_once_in (Generate count) once = refl
+
+-- it has written nothing before its answer
+nothing_so_far : (mode : Mode) (output : OutputTold) (blocks : Type 0) → (mode ≡ Online → ⊥)
+    → NothingWritten output → StandsSoFar (way_of mode) output blocks
+nothing_so_far mode output blocks once unwritten = rw (at_once_in mode once) unwritten
 
 -- memory was wanting, and no read failed
 pub StopsAs-memory : (request : Request) (input : InputTold) → (request.job.mode ≡ Online → ⊥)
     → input.faults_now ≡ input.faults_before → StopsAs request input Memory
 StopsAs-memory request input once reads = λ output unwritten. (
   reads,
-  memory_in request.job.mode request input output once unwritten,
+  nothing_so_far request.job.mode output (FirstBlocksStand request input output) once unwritten,
 )
 
--- an offline run that stops before its answer has written nothing
-stands_in : (mode : Mode) (request : Request) (bytes : List ℕ) (output : OutputTold)
-    → mode ≡ Offline → NothingWritten output → StandsAtFault mode request bytes output
-stands_in Offline request bytes output is unwritten = unwritten
-stands_in Online request bytes output is unwritten = cc
-stands_in Show request bytes output is unwritten = cc
-stands_in (Generate count) request bytes output is unwritten = cc
+-- a first part of an answer that is written at once
+pub cut_in : (mode : Mode) (request : Request) (input : InputTold) (output : OutputTold)
+    → (mode ≡ Online → ⊥) → PartIsWritten request input output
+    → IsCut (way_of mode) request input output
+cut_in mode request input output once part = rw (at_once_in mode once) part
 
-unread_in : (mode : Mode) (request : Request) (input : InputTold) (output : OutputTold)
-    → mode ≡ Offline → NothingWritten output → StandsAtFailedRead mode request input output
-unread_in Offline request input output is unwritten = unwritten
-unread_in Online request input output is unwritten = cc
-unread_in Show request input output is unwritten = cc
-unread_in (Generate count) request input output is unwritten = cc
+module _ (job : Job) (tree : PatternTree) (names : Vocabulary) (input : InputTold)
+    (offline : job.mode ≡ Offline) where
+  once : job.mode ≡ Online → ⊥
+  once online = cc
 
--- the input couldn't be read as a trace
-pub StopsAs-reading : (request : Request) (input : InputTold) (status : Status)
-    → request.job.mode ≡ Offline
-    → StopsReading (reading_for request) request.job.max_bytes request.job.input input status
-    → StopsAs request input status
-StopsAs-reading request input (Trace fault) offline stops = λ output unwritten. record {
-  kind = stops.0;
-  opened = stops.1.opened;
-  cause = stops.1.cause;
-  reads = stops.1.reads;
-  stands = stands_in request.job.mode request stops.1.cause.bytes output offline unwritten;
-}
-StopsAs-reading request input InputTooLong offline stops = λ output unwritten. record {
-  opened = stops.opened;
-  cause = stops.cause;
-  reads = stops.reads;
-  stands = stands_in request.job.mode request stops.cause.bytes output offline unwritten;
-}
-StopsAs-reading request input ReadFault offline stops = λ output unwritten. record {
-  cause = stops.cause;
-  unsound = stops.unsound;
-  goes_on = stops.goes_on;
-  stands = unread_in request.job.mode request input output offline unwritten;
-}
-StopsAs-reading request input Memory offline stops =
-    StopsAs-memory request input (λ online. cc) stops
-StopsAs-reading request input Done offline stops = absurd stops
-StopsAs-reading request input Usage offline stops = absurd stops
-StopsAs-reading request input (Expression fault) offline stops = absurd stops
-StopsAs-reading request input WriteFault offline stops = absurd stops
+  reads_here : ReadsInput job.mode
+  reads_here = rw offline tt
 
--- the input was read as a trace
-pub IsReadAs-whole : (request : Request) (input : InputTold) (trace : List Segment)
-    → IsWhole (reading_for request) request.job.max_bytes input trace
-    → IsReadAs request input trace
-IsReadAs-whole request input trace whole = record {
-  reads = whole.reads;
-  bytes = whole.bytes;
-  all = whole.all;
-  within = whole.within;
-  reads_as = whole.reads_as;
-  is_trace = whole.is_trace;
-}
+  -- the input couldn't be read as a trace
+  pub StopsAs-reading : (status : Status)
+      → StopsReading (reading_for (request_for job tree names)) job.max_bytes job.input input status
+      → StopsAs (request_for job tree names) input status
+  StopsAs-reading (Trace fault) stops = λ output unwritten. (
+    stops.0,
+    EndsAtInput-alone job tree names input output (refuses fault) reads_here stops.1
+        (nothing_so_far job.mode output _ once unwritten),
+  )
+  StopsAs-reading InputTooLong stops = λ output unwritten.
+      EndsAtInput-alone job tree names input output exceeds reads_here stops
+      (nothing_so_far job.mode output _ once unwritten)
+  StopsAs-reading ReadFault stops = λ output unwritten. record {
+    reads_input = reads_here;
+    cause = stops.cause;
+    unsound = stops.unsound;
+    goes_on = stops.goes_on;
+    stands = nothing_so_far job.mode output _ once unwritten;
+  }
+  StopsAs-reading Memory stops = StopsAs-memory (request_for job tree names) input once stops
+  StopsAs-reading Done stops = absurd stops
+  StopsAs-reading Usage stops = absurd stops
+  StopsAs-reading (Expression fault) stops = absurd stops
+  StopsAs-reading WriteFault stops = absurd stops
 
--- the text of an answer over a trace that was read
-found_in : (mode : Mode) (request : Request) (input : InputTold) (text : List ℕ) → mode ≡ Offline
-    → OfAllBytes input (λ bytes. IsAnswerTo request bytes text) → IsAnswerIn mode request input text
-found_in Offline request input text is right = right
-found_in Online request input text is right = cc
-found_in Show request input text is right = cc
-found_in (Generate count) request input text is right = cc
+  -- what is wanted of one pattern is its matches
+  wanted : (trace : Timeline) (set zones : List ZoneBounds) → IsMatchSet set tree trace
+      → ((a b n : ℕ) → SetHolds zones a b n ↔ SetHolds set a b n) → IsApart zones → AreTight zones
+      → IsRising zones → AreZonesOf (IsWanted (alone tree names) (trace ∷ [])) zones
+  wanted trace set zones matches held apart tight rising = record {
+    exact = record {
+      exact = λ a b n positive rises.
+          let found = matches.exact.exact a b n positive rises in
+          let same = held a b n in
+          ((λ h. (found.0 (same.0 h), λ none. none)), (λ h. same.1 (found.1 h.0)));
+    };
+    apart = apart;
+    tight = tight;
+    rising = rising;
+  }
 
-pub IsFoundFor-read : (request : Request) (input : InputTold) (trace : List Segment)
-    (set zones : List ZoneBounds) (text : List ℕ) → request.job.mode ≡ Offline
-    → IsReadAs request input trace → IsMatchSet set request.tree trace
-    → ((a b n : ℕ) → SetHolds zones a b n ↔ SetHolds set a b n) → IsApart zones → AreTight zones
-    → IsRising zones → text ≡ offline_text zones (end_of 0 trace) → IsFoundFor request input text
-IsFoundFor-read request input trace set zones text offline read matches held apart tight rising
-    printed = record {
-      reads = read.reads;
-      right = found_in request.job.mode request input text offline (record {
-        bytes = read.bytes;
-        all = read.all;
-        is_so = record {
-          within = read.within;
-          trace = trace;
-          reads = read.reads_as;
-          is_trace = read.is_trace;
-          zones = zones;
-          matches = record {
-            apart = apart;
-            tight = tight;
-            exact = record {
-              exact = λ a b n positive rises.
-                  let found = matches.exact.exact a b n positive rises in
-                  let same = held a b n in
-                  ((λ h. found.0 (same.0 h)), (λ h. same.1 (found.1 h)));
-            };
+  -- the text of an answer over a trace that was read
+  pub IsFoundFor-read : (trace : Timeline) (set zones : List ZoneBounds) (text : List ℕ)
+      → IsWhole (reading_for (request_for job tree names)) job.max_bytes input trace
+      → IsMatchSet set tree trace
+      → ((a b n : ℕ) → SetHolds zones a b n ↔ SetHolds set a b n) → IsApart zones → AreTight zones
+      → IsRising zones → text ≡ offline_text zones (end_of 0 trace.segments)
+      → IsFoundFor (request_for job tree names) input text
+  IsFoundFor-read trace set zones text read matches held apart tight rising printed = record {
+    reads = read.reads;
+    right = subst (λ mode. IsAnswerIn mode (request_for job tree names) input text) (sym offline)
+        (record {
+          bytes = read.bytes;
+          all = read.all;
+          is_so = record {
+            traces = trace ∷ [];
+            are = AreTraces-alone job tree names read.bytes trace read.within read.reads_as
+                read.is_trace;
+            zones = zones;
+            found = wanted trace set zones matches held apart tight rising;
+            printed = printed ∙ ap (λ (r : Reading). offline_text zones (end_of 0 r.segments))
+                (sym read.reads_as);
           };
-          rising = rising;
-          printed = printed;
-        };
-      });
-    }
+        });
+  }
+
+-- a run that shows its pattern, or makes its trace, isn't online
+pub shows_at_once : (mode : Mode) → mode ≡ Show → mode ≡ Online → ⊥
+shows_at_once mode shows online = cc
+
+pub makes_at_once : (mode : Mode) (count : ℕ) → mode ≡ Generate count → mode ≡ Online → ⊥
+makes_at_once mode count makes online = cc
+
+-- a mode that reads an input and isn't online is offline
+pub is_offline : (mode : Mode) → ReadsInput mode → (mode ≡ Online → ⊥) → mode ≡ Offline
+is_offline Offline reads other = refl
+is_offline Online reads other = absurd (other refl)
+is_offline Show reads other = absurd reads
+is_offline (Generate count) reads other = absurd reads
+
+-- a mode that isn't one of the other two reads an input
+pub reads_input : (mode : Mode) → (mode ≡ Show → ⊥)
+    → ((count : ℕ) → mode ≡ Generate count → ⊥) → ReadsInput mode
+reads_input Offline shown made = tt
+reads_input Online shown made = tt
+reads_input Show shown made = absurd (shown refl)
+reads_input (Generate count) shown made = absurd (made count refl)
 
 -- memory was wanting, or the kind is told
 pub kinds : (kind : TraceKind) (fault : TraceFault)

@@ -1,7 +1,7 @@
 -- How the telling of an input ends.
 use Rattle.std.proofs.Common.{◌≡◌, ◌≢◌, ◌∙◌, ℕ, ◌+◌, ◌-◌, ◌≤◌, Bool, true, false, List, [], ◌∷◌, ◌++◌, length, take, drop, Option, None, Some, IfErr, IsTrue, Result, Ok, Err, refl, sym, ap, subst, inl, inr, arith, length-append, append-nil, append_assoc, take-append-drop}
-use Rattle.std.specs.Io.KnownBytes.{Appends, Keeps}
-use Rattle.std.proofs.KnownBytes.{Appends-trans, Consumes-nil}
+use Rattle.std.specs.Io.KnownBytes.{Keeps}
+use Rattle.std.proofs.KnownBytes.{Consumes-nil}
 use Rattle.std.proofs.Math.Seq.{take-append_seam}
 use Rattle.std.proofs.lemmas.List.{take-append-le}
 use Rattle.tre_online.specs.Session.{pattern_of, StandsFor}
@@ -9,16 +9,15 @@ use Rattle.tre_online.specs.declared.session.Session.{Session}
 use Rattle.tre_syntax.specs.Pattern.{pattern_tree}
 use Rattle.tre_syntax.specs.PatternTree.{PatternTree}
 use Rattle.tre_trace.specs.Reading.{Reading, Adds}
-use Rattle.tre_trace.specs.Trace.{IsTrace, end_of}
+use Rattle.tre_trace.specs.Trace.{IsTrace, timeline_of}
 use Rattle.tre_trace.specs.declared.segment.Segment.{Segment}
-use Rattle.tre_zone.specs.declared.zone_bounds.ZoneBounds.{ZoneBounds}
 use Rattle.tre_tool.specs.Devices.{InputTold, OutputTold, AllReadsGood, AllWritesGood}
 use Rattle.tre_tool.specs.Feeding.{IsFed, HasRead, GoesOn, IsEnded, StopsTurn}
 use Rattle.tre_tool.specs.Input.{HasReadCause}
-use Rattle.tre_tool.specs.Online.{BlocksWritten, AreKnown, FirstBlocksStand, IsOnlineAnswer}
+use Rattle.tre_tool.specs.Online.{BlocksWritten, AreKnown, FirstBlocksStand}
 use Rattle.tre_tool.specs.Outcome.{reading_within}
-use Rattle.tre_tool.specs.Telling.{CanTell, HasTold, StopsWithin, HasWriteCause, StopsAtEnd, EndsTelling}
-use Rattle.tre_tool.specs.Transcript.{block_texts, online_text, closing_line}
+use Rattle.tre_tool.specs.Telling.{CanTell, HasTold, StopsWithin, HasWriteCause, HasClosed, ClosingIsCut, StopsAtEnd, EndsTelling}
+use Rattle.tre_tool.specs.Transcript.{online_text}
 use Rattle.tre_tool.specs.declared.input.TheConstants.{PIECE}
 use Rattle.tre_tool.specs.declared.status.Status.{Status}
 use Rattle.tre_tool.specs.declared.status.Status.TheVariants.{Done, Usage, Expression, Trace, InputTooLong, ReadFault, WriteFault, Memory}
@@ -27,7 +26,7 @@ use Rattle.tre_tool.proofs.Feeding.{AllGrow, same_reading}
 use Rattle.tre_tool.proofs.Cuts.{take_split}
 use Rattle.tre_tool.proofs.Readings.{IsFed-start, AreAllBytes-read, were_read, none_read, MayGoOn-stopped, MayGoOn-unread}
 use Rattle.tre_tool.proofs.Turns.{found_behind}
-use Rattle.tre_tool.proofs.Told.{HasTold-start, IsCutBehind-after, Appends-none}
+use Rattle.tre_tool.proofs.Told.{HasTold-start, Appends-none}
 use Rattle.tre_tool.proofs.Transcripts.{IsTranscript-none}
 
 -- These bytes were fed, and the blocks of the segments that they say were written.
@@ -329,91 +328,83 @@ EndsTelling-stopped reading grows most limit tree name input output bytes new Wr
 
 -- the trace of a whole input
 whole_trace : (reading : Bool → List ℕ → Reading) (limit : ℕ) (file left : Option (List ℕ))
-    (bytes : List ℕ) (new : List Segment) → IsEnded reading limit file left bytes [] new
+    (bytes : List ℕ) (new : List Segment) (last : ℕ)
+    → IsEnded reading limit file left bytes [] new last
     → (reading true bytes).segments ≡ (reading false (take limit bytes)).segments ++ new
-whole_trace reading limit file left bytes new ended =
+whole_trace reading limit file left bytes new last ended =
     ended.all.beyond
     ∙ ap (λ added. (reading false (take limit bytes)).segments ++ added) (sym ended.all.new_is)
 
--- the text with its last line
-closed_text : (blocks : List (List ZoneBounds)) (trace : List Segment)
-    → online_text blocks trace true
-    ≡ online_text blocks trace false ++ closing_line true (end_of 0 trace)
-unfolding online_text
-closed_text blocks trace =
-    ap (λ text. text ++ closing_line true (end_of 0 trace))
-    (sym (append-nil (block_texts 0 blocks trace)))
+-- a trace that was told is what the bytes say
+told_trace : (reading : Bool → List ℕ → Reading) (limit : ℕ) (file left : Option (List ℕ))
+    (bytes : List ℕ) (new : List Segment) (last : ℕ)
+    → IsEnded reading limit file left bytes [] new last
+    → timeline_of ((reading false (take limit bytes)).segments ++ new) last
+    ≡ timeline_of (reading true bytes).segments (reading true bytes).last
+told_trace reading limit file left bytes new last ended =
+    ap (λ segments. timeline_of segments last)
+    (sym (whole_trace reading limit file left bytes new last ended))
+    ∙ ap (timeline_of (reading true bytes).segments) ended.last_is
 
--- the right answer over the bytes, by the blocks that were told
-right_answer : (reading : Bool → List ℕ → Reading) (limit : ℕ) (tree : PatternTree)
-    (file left before now : Option (List ℕ)) (bytes : List ℕ) (new : List Segment)
-    → (ended : IsEnded reading limit file left bytes [] new)
-    → IsTrace (reading true bytes).segments
-    → (stand : BlocksWritten tree (reading true bytes).segments before now)
-    → IsOnlineAnswer reading limit tree bytes
-    (online_text stand.blocks (reading true bytes).segments true)
-right_answer reading limit tree file left before now bytes new ended trace stand = record {
-  within = ended.within;
-  trace = (reading true bytes).segments;
-  reads = same_reading (reading true bytes) _ refl ended.whole;
-  is_trace = trace;
-  blocks = stand.blocks;
-  transcript = stand.transcript;
-  printed = refl;
-}
-
--- all was told and the last line was written
+-- all was told, with what the end completes
 pub EndsTelling-done : (reading : Bool → List ℕ → Reading) (limit : ℕ) (tree : PatternTree)
     (name : List ℕ) (input : InputTold) (output : OutputTold) (bytes : List ℕ)
-    (new : List Segment) (middle : Option (List ℕ)) (end : ℕ)
-    → input.opened ≡ true → IsEnded reading limit input.file input.left bytes [] new
+    (new : List Segment) (last : ℕ)
+    → input.opened ≡ true → IsEnded reading limit input.file input.left bytes [] new last
     → IsTrace (reading true bytes).segments
     → AllReadsGood input → AllWritesGood output
-    → BlocksWritten tree ((reading false (take limit bytes)).segments ++ new)
-    output.written_before middle
-    → end ≡ end_of 0 ((reading false (take limit bytes)).segments ++ new)
-    → Appends middle output.written_now (closing_line true end)
+    → HasClosed tree (timeline_of ((reading false (take limit bytes)).segments ++ new) last)
+    output.written_before output.written_now
     → EndsTelling reading limit tree name input output Done
-EndsTelling-done reading limit tree name input output bytes new middle end opened ended trace reads
-    writes stand at_end line =
-    let same = whole_trace reading limit input.file input.left bytes new ended in
-    let told : BlocksWritten tree (reading true bytes).segments output.written_before middle =
-    rw same stand in
+EndsTelling-done reading limit tree name input output bytes new last opened ended trace reads
+    writes told =
+    let closed : HasClosed tree
+    (timeline_of (reading true bytes).segments (reading true bytes).last)
+    output.written_before output.written_now =
+    subst (λ whole. HasClosed tree whole output.written_before output.written_now)
+    (told_trace reading limit input.file input.left bytes new last ended) told in
     record {
       reads = reads;
-      text = online_text told.blocks (reading true bytes).segments true;
+      text = online_text closed.blocks (Some closed.zones) (reading true bytes).segments;
       right = record {
         bytes = bytes;
         all = AreAllBytes-read input bytes opened ended.front ended.all_read;
-        is_so = right_answer reading limit tree input.file input.left _ _ bytes new ended trace
-            told;
+        is_so = record {
+          within = ended.within;
+          trace = timeline_of (reading true bytes).segments (reading true bytes).last;
+          reads = same_reading (reading true bytes) _ _ refl refl ended.whole;
+          is_trace = trace;
+          blocks = closed.blocks;
+          zones = closed.zones;
+          transcript = closed.transcript;
+          closes = closed.closes;
+          printed = refl;
+        };
       };
       writes = writes;
-      written = rw (closed_text told.blocks (reading true bytes).segments)
-          (Appends-trans output.written_before middle output.written_now _ _ told.written
-          (rw (at_end ∙ ap (end_of 0) (sym same)) at line));
+      written = closed.written;
     }
 
--- all was told, and the last line wasn't written
+-- all was told, and what the end completes wasn't, or not all of it
 pub EndsTelling-cut : (reading : Bool → List ℕ → Reading) → AllGrow reading → (most limit : ℕ)
     (tree : PatternTree) (name : List ℕ) (input : InputTold) (output : OutputTold) (bytes : List ℕ)
-    (new : List Segment) (middle : Option (List ℕ)) (end : ℕ) (status : Status)
+    (new : List Segment) (last : ℕ) (status : Status)
     → HasRead reading most limit input.file input.left input.found bytes [] new → most ≡ PIECE
     → input.opened ≡ true
-    → IsEnded reading limit input.file input.left bytes [] new
+    → IsEnded reading limit input.file input.left bytes [] new last
     → IsTrace (reading true bytes).segments
     → AllReadsGood input
-    → BlocksWritten tree ((reading false (take limit bytes)).segments ++ new)
-    output.written_before middle
-    → end ≡ end_of 0 ((reading false (take limit bytes)).segments ++ new)
     → HasWriteCause {T = Unit {0}} output.faults_before output.faults_now (Err status)
-    → StopsAtEnd end middle output.written_now status
+    → StopsAtEnd tree (timeline_of ((reading false (take limit bytes)).segments ++ new) last)
+    output.written_before output.written_now status
     → EndsTelling reading limit tree name input output status
-EndsTelling-cut reading grows most limit tree name input output bytes new middle end WriteFault
-    has room opened ended trace reads stand at_end write stops =
-    let same = whole_trace reading limit input.file input.left bytes new ended in
-    let told : BlocksWritten tree (reading true bytes).segments output.written_before middle =
-    rw same stand in
+EndsTelling-cut reading grows most limit tree name input output bytes new last WriteFault
+    has room opened ended trace reads write stops =
+    let cut : ClosingIsCut tree
+    (timeline_of (reading true bytes).segments (reading true bytes).last)
+    output.written_before output.written_now =
+    subst (λ whole. ClosingIsCut tree whole output.written_before output.written_now)
+    (told_trace reading limit input.file input.left bytes new last ended) stops in
     record {
       cause = write;
       reads = reads;
@@ -421,43 +412,40 @@ EndsTelling-cut reading grows most limit tree name input output bytes new middle
         bytes = bytes;
         all = AreAllBytes-read input bytes opened ended.front ended.all_read;
         is_so = record {
-          text = online_text told.blocks (reading true bytes).segments true;
+          text = online_text cut.blocks (Some cut.zones) (reading true bytes).segments;
           right = record {
             within = ended.within;
-            trace = (reading true bytes).segments;
-            reads = same_reading (reading true bytes) _ refl ended.whole;
+            trace = timeline_of (reading true bytes).segments (reading true bytes).last;
+            reads = same_reading (reading true bytes) _ _ refl refl ended.whole;
             is_trace = trace;
-            blocks = told.blocks;
-            transcript = told.transcript;
+            blocks = cut.blocks;
+            zones = cut.zones;
+            transcript = cut.transcript;
+            closes = cut.closes;
             printed = refl;
           };
-          cut = rw (closed_text told.blocks (reading true bytes).segments)
-              (IsCutBehind-after output.written_before middle output.written_now _ _ told.written
-              (rw (at_end ∙ ap (end_of 0) (sym same)) at stops));
+          cut = cut.cut;
         };
       });
     }
-EndsTelling-cut reading grows most limit tree name input output bytes new middle end Memory
-    has room opened
-    ended trace reads stand at_end write stops = record {
+EndsTelling-cut reading grows most limit tree name input output bytes new last Memory has room
+    opened ended trace reads write stops = record {
       reads = reads;
       stands = first_stand reading grows most limit tree input output bytes new has room opened
-          write (rw stops stand);
+          write stops;
     }
-EndsTelling-cut reading grows most limit tree name input output bytes new middle end Done
-    has room opened
-    ended trace reads stand at_end write stops = absurd stops
-EndsTelling-cut reading grows most limit tree name input output bytes new middle end Usage
-    has room opened
-    ended trace reads stand at_end write stops = absurd stops
-EndsTelling-cut reading grows most limit tree name input output bytes new middle end
-    (Expression fault) has room opened ended trace reads stand at_end write stops = absurd stops
-EndsTelling-cut reading grows most limit tree name input output bytes new middle end (Trace fault)
-    has room opened ended trace reads stand at_end write stops = absurd stops
-EndsTelling-cut reading grows most limit tree name input output bytes new middle end InputTooLong
-    has room opened ended trace reads stand at_end write stops = absurd stops
-EndsTelling-cut reading grows most limit tree name input output bytes new middle end ReadFault
-    has room opened ended trace reads stand at_end write stops = absurd stops
+EndsTelling-cut reading grows most limit tree name input output bytes new last Done has room
+    opened ended trace reads write stops = absurd stops
+EndsTelling-cut reading grows most limit tree name input output bytes new last Usage has room
+    opened ended trace reads write stops = absurd stops
+EndsTelling-cut reading grows most limit tree name input output bytes new last
+    (Expression fault) has room opened ended trace reads write stops = absurd stops
+EndsTelling-cut reading grows most limit tree name input output bytes new last (Trace fault)
+    has room opened ended trace reads write stops = absurd stops
+EndsTelling-cut reading grows most limit tree name input output bytes new last InputTooLong
+    has room opened ended trace reads write stops = absurd stops
+EndsTelling-cut reading grows most limit tree name input output bytes new last ReadFault
+    has room opened ended trace reads write stops = absurd stops
 
 none_written : (tree : PatternTree) (segments : List Segment) (told : Option (List ℕ))
     → segments ≡ [] → BlocksWritten tree segments told told

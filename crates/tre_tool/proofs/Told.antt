@@ -1,5 +1,5 @@
 -- What was told of the segments that a session was given, and what stands where it stopped.
-use Rattle.std.proofs.Common.{◌≡◌, ◌∙◌, ℕ, suc, ◌+◌, false, List, [], ◌∷◌, ◌++◌, length, Option, None, Some, refl, sym, ap, arith, length-append, append-nil, append_assoc}
+use Rattle.std.proofs.Common.{◌≡◌, ◌∙◌, ℕ, suc, ◌+◌, List, [], ◌∷◌, ◌++◌, length, Option, None, Some, refl, sym, ap, arith, length-append, append-nil, append_assoc}
 use Rattle.std.specs.Io.KnownBytes.{Appends}
 use Rattle.std.specs.List.Sorted.{IsPermutation}
 use Rattle.std.proofs.KnownBytes.{Appends-trans}
@@ -7,19 +7,21 @@ use Rattle.std.proofs.Math.Seq.{take-append-add, get_or-append_seam}
 use Rattle.std.proofs.lemmas.List.Sorted.{IsPermutation-refl}
 use Rattle.tre_io.specs.Written.{AppendsPart}
 use Rattle.tre_generate.proofs.Refusals.{fits_within}
-use Rattle.tre_online.specs.Session.{pattern_of, at_of, ended_of, StandsFor, TellsNew}
+use Rattle.tre_online.specs.Session.{pattern_of, at_of, ended_of, StandsFor, TellsNew, TellsLast}
 use Rattle.tre_online.specs.declared.session.Session.{Session}
 use Rattle.tre_syntax.specs.Pattern.{pattern_tree}
 use Rattle.tre_syntax.specs.PatternTree.{PatternTree}
-use Rattle.tre_trace.specs.Trace.{IsRefusedFor}
+use Rattle.tre_trace.specs.Trace.{IsRefusedFor, timeline_of}
 use Rattle.tre_trace.specs.declared.fault.PushFault.{PushFault}
 use Rattle.tre_trace.specs.declared.fault.PushFault.TheVariants.{Zero, TooLate, Memory}
 use Rattle.tre_trace.specs.declared.segment.Segment.{Segment}
 use Rattle.tre_zone.specs.declared.zone_bounds.ZoneBounds.{ZoneBounds}
-use Rattle.tre_tool.specs.Online.{BlocksWritten, IsCutBehind, LastBlockIsCut}
-use Rattle.tre_tool.specs.Telling.{CanTell, HasTold}
-use Rattle.tre_tool.specs.Transcript.{block_text, online_text, block_before, IsTranscript}
-use Rattle.tre_tool.proofs.Transcripts.{IsPrinted, IsTranscript-more, IsTranscript-none, online_text-more}
+use Rattle.tre_tool.specs.Online.{BlocksWritten, LastBlockIsCut}
+use Rattle.tre_tool.specs.Standing.{IsCutBehind}
+use Rattle.tre_show.specs.Line.{offline_text}
+use Rattle.tre_tool.specs.Telling.{CanTell, HasTold, HasClosed, ClosingIsCut}
+use Rattle.tre_tool.specs.Transcript.{block_text, block_texts, online_text, block_before, IsTranscript, IsClosing}
+use Rattle.tre_tool.proofs.Transcripts.{IsPrinted, IsTranscript-more, IsTranscript-none, IsClosing-told, online_text-more}
 
 pub Appends-none : (told : Option (List ℕ)) → Appends told told []
 Appends-none None = tt
@@ -95,11 +97,11 @@ text_with : (session session' : Session) (tree : PatternTree) (segments : List S
     (segment : Segment) (zones : List ZoneBounds) (before now : Option (List ℕ))
     → (so_far : HasTold session tree segments before now)
     → StandsFor session' (segments ++ segment ∷ [])
-    → online_text (so_far.blocks ++ zones ∷ []) (segments ++ segment ∷ []) false
-    ≡ online_text so_far.blocks segments false ++ block_text zones (at_of session')
+    → online_text (so_far.blocks ++ zones ∷ []) None (segments ++ segment ∷ [])
+    ≡ online_text so_far.blocks None segments ++ block_text zones (at_of session')
 text_with session session' tree segments segment zones before now so_far stands =
     online_text-more so_far.blocks zones segments segment so_far.transcript.count
-    ∙ ap (λ end. online_text so_far.blocks segments false ++ block_text zones end)
+    ∙ ap (λ end. online_text so_far.blocks None segments ++ block_text zones end)
     (sym stands.at)
 
 -- one segment more was told
@@ -160,5 +162,65 @@ HasTold-cut session session' tree segments segment told zones before now now' so
       transcript = transcript_with session tree segments segment told zones before now so_far tells
           printed;
       cut = rw (text_with session session' tree segments segment zones before now so_far stands)
+          (IsCutBehind-after before now now' _ _ so_far.written part);
+    }
+
+-- what the end completes, behind the blocks that were told
+closes_with : (session : Session) (tree : PatternTree) (segments : List Segment) (events : ℕ)
+    (told zones : List ZoneBounds) (before now : Option (List ℕ))
+    → (so_far : HasTold session tree segments before now)
+    → TellsLast (pattern_tree (pattern_of session)) segments events (ended_of session) told
+    → IsPrinted told zones
+    → IsClosing so_far.blocks zones tree (timeline_of segments events)
+closes_with session tree segments events told zones before now so_far tells printed =
+    IsClosing-told so_far.blocks tree segments events (ended_of session) told zones
+    so_far.transcript (rw so_far.same_tree at tells) printed so_far.ended
+
+-- its text
+closed_text : (session : Session) (tree : PatternTree) (segments : List Segment)
+    (zones : List ZoneBounds) (before now : Option (List ℕ))
+    → (so_far : HasTold session tree segments before now)
+    → online_text so_far.blocks (Some zones) segments
+    ≡ online_text so_far.blocks None segments ++ offline_text zones (at_of session)
+unfolding online_text
+closed_text session tree segments zones before now so_far =
+    ap (λ end. block_texts 0 so_far.blocks segments ++ offline_text zones end)
+    (sym so_far.stands.at)
+    ∙ ap (λ text. text ++ offline_text zones (at_of session))
+    (sym (append-nil (block_texts 0 so_far.blocks segments)))
+
+-- the end was told
+pub HasClosed-told : (session : Session) (tree : PatternTree) (segments : List Segment)
+    (events : ℕ) (told zones : List ZoneBounds) (before now now' : Option (List ℕ))
+    → HasTold session tree segments before now
+    → TellsLast (pattern_tree (pattern_of session)) segments events (ended_of session) told
+    → IsPrinted told zones → Appends now now' (offline_text zones (at_of session))
+    → HasClosed tree (timeline_of segments events) before now'
+HasClosed-told session tree segments events told zones before now now' so_far tells printed
+    written = record {
+      blocks = so_far.blocks;
+      zones = zones;
+      transcript = so_far.transcript;
+      closes = closes_with session tree segments events told zones before now so_far tells
+          printed;
+      written = rw (closed_text session tree segments zones before now so_far)
+          (Appends-trans before now now' _ _ so_far.written written);
+    }
+
+-- a write failed within it
+pub ClosingIsCut-told : (session : Session) (tree : PatternTree) (segments : List Segment)
+    (events : ℕ) (told zones : List ZoneBounds) (before now now' : Option (List ℕ))
+    → HasTold session tree segments before now
+    → TellsLast (pattern_tree (pattern_of session)) segments events (ended_of session) told
+    → IsPrinted told zones → AppendsPart now now' (offline_text zones (at_of session))
+    → ClosingIsCut tree (timeline_of segments events) before now'
+ClosingIsCut-told session tree segments events told zones before now now' so_far tells printed
+    part = record {
+      blocks = so_far.blocks;
+      zones = zones;
+      transcript = so_far.transcript;
+      closes = closes_with session tree segments events told zones before now so_far tells
+          printed;
+      cut = rw (closed_text session tree segments zones before now so_far)
           (IsCutBehind-after before now now' _ _ so_far.written part);
     }

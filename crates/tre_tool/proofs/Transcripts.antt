@@ -1,25 +1,25 @@
 -- A transcript with one block more.
-use Rattle.std.proofs.Common.{◌≡◌, ◌∙◌, ◌⊎◌, ◌↔◌, ℕ, zero, suc, ◌+◌, ◌<◌, ◌≤◌, true, false, List, [], ◌∷◌, ◌++◌, length, take, get_or, refl, sym, ap, inl, inr, ⊎_elim, arith, length-append, append-nil, append_assoc}
+use Rattle.std.proofs.Common.{◌≡◌, ◌∙◌, ◌⊎◌, ◌↔◌, ◌≢◌, ℕ, zero, suc, ◌+◌, ◌<◌, ◌≤◌, List, Contains, None, [], ◌∷◌, ◌++◌, length, take, get_or, refl, sym, ap, inl, inr, ⊎_elim, arith, length-append, append-nil, append_assoc}
 use Rattle.std.specs.List.{Any}
 use Rattle.std.specs.List.Sorted.{IsPermutation}
 use Rattle.std.proofs.Math.Seq.{get_or-append_seam, take-append_seam}
 use Rattle.std.proofs.lemmas.List.{take-append-le, get_or_append_left}
 use Rattle.std.proofs.lemmas.List.Concat.{flat_map-append}
-use Rattle.std.proofs.lemmas.List.Sorted.{IsPermutation-sym, Contains-permutation}
-use Rattle.tre_online.specs.Session.{TellsNew}
-use Rattle.tre_show.specs.Line.{lines_of, offline_text}
+use Rattle.std.proofs.lemmas.List.Sorted.{IsPermutation-sym, length_permutation, Contains-permutation}
+use Rattle.tre_online.specs.Told.{WasTold}
+use Rattle.tre_online.specs.Session.{TellsNew, TellsLast}
 use Rattle.tre_show.specs.Order.{IsRising}
 use Rattle.tre_syntax.specs.Meaning.{Matches}
 use Rattle.tre_syntax.specs.PatternTree.{PatternTree}
 use Rattle.tre_syntax.specs.Rest.{whole}
 use Rattle.tre_syntax.proofs.CutMeaning.{IsBounded-rest}
-use Rattle.tre_trace.specs.Trace.{end_of}
+use Rattle.tre_trace.specs.Trace.{timeline_of, quiet, end_of}
 use Rattle.tre_trace.specs.declared.segment.Segment.{Segment}
 use Rattle.tre_zone.specs.Zone.{Includes}
 use Rattle.tre_zone.specs.ZoneList.{SetHolds, IsApart, AreTight, HoldExactly}
 use Rattle.tre_zone.specs.declared.zone_bounds.ZoneBounds.{ZoneBounds}
 use Rattle.tre_zone.proofs.ZoneListLemmas.{SetHolds-append}
-use Rattle.tre_tool.specs.Transcript.{block_text, block_texts, closing_line, online_text, zones_of, block_before, EndBetween, NoneIsIn, IsBlock, IsTranscript}
+use Rattle.tre_tool.specs.Transcript.{block_text, block_texts, online_text, zones_of, block_before, EndBetween, NoneIsIn, IsBlock, IsTranscript, IsClosing}
 use Rattle.tre_tool.proofs.Lists.{take-over}
 
 pub end_of-more : (start : ℕ) (segments : List Segment) (segment : Segment)
@@ -42,8 +42,8 @@ block_texts-more start (block ∷ blocks) zones (first ∷ rest) segment same =
 -- the text with one block more
 pub online_text-more : (blocks : List (List ZoneBounds)) (zones : List ZoneBounds)
     (segments : List Segment) (segment : Segment) → length blocks ≡ length segments
-    → online_text (blocks ++ zones ∷ []) (segments ++ segment ∷ []) false
-    ≡ online_text blocks segments false ++ block_text zones (end_of 0 (segments ++ segment ∷ []))
+    → online_text (blocks ++ zones ∷ []) None (segments ++ segment ∷ [])
+    ≡ online_text blocks None segments ++ block_text zones (end_of 0 (segments ++ segment ∷ []))
 unfolding online_text
 online_text-more blocks zones segments segment same =
     rw (
@@ -91,7 +91,7 @@ IsBlock-append blocks more tree trace rest i count below block =
 -- a transcript tells exactly the matches over its trace, where that has a segment
 exact_of : (blocks : List (List ZoneBounds)) (tree : PatternTree) (first : Segment)
     (rest : List Segment) → IsTranscript blocks tree (first ∷ rest)
-    → HoldExactly (zones_of blocks) (Matches tree (first ∷ rest))
+    → HoldExactly (zones_of blocks) (Matches tree (quiet (first ∷ rest)))
 exact_of blocks tree first rest transcript =
     let last = transcript.each (length rest) (omega arith) in
     let all : take (suc (length rest)) blocks ≡ blocks = take-over (suc (length rest)) blocks
@@ -113,7 +113,7 @@ exact_with : (blocks : List (List ZoneBounds)) (tree : PatternTree) (trace : Lis
     (segment : Segment) (earlier told zones : List ZoneBounds)
     → IsTranscript blocks tree trace → TellsNew tree trace segment earlier told
     → IsPrinted told zones
-    → HoldExactly (zones_of (blocks ++ zones ∷ [])) (Matches tree (trace ++ segment ∷ []))
+    → HoldExactly (zones_of (blocks ++ zones ∷ [])) (Matches tree (quiet (trace ++ segment ∷ [])))
 exact_with [] tree [] segment earlier told zones transcript tells printed = record {
   exact = λ a b n positive rising.
       let first = (tells.first refl).exact a b n positive rising in
@@ -144,7 +144,7 @@ ends_within tree trace segment earlier told zones tells printed = record {
   ends = λ a b n positive rising held.
       let was_told = (printed.held a b n).0 held in (
         tells.late a b n positive rising was_told,
-        (IsBounded-rest tree (whole (trace ++ segment ∷ []))).end a b n
+        (IsBounded-rest tree (whole (quiet (trace ++ segment ∷ [])))).end a b n
             ((tells.all a b n positive rising).0 (inl was_told)),
       );
 }
@@ -156,11 +156,11 @@ any_in P zones others order any =
     (place.0, any.1, place.1, place.2, any.4)
 
 -- no zone of the block is in one that was told before
-none_again : (tree : PatternTree) (trace : List Segment) (segment : Segment)
-    (earlier told zones block : List ZoneBounds) → TellsNew tree trace segment earlier told
+none_again : (earlier told zones block : List ZoneBounds)
+    → ((zone : ZoneBounds) → Contains told zone → WasTold earlier zone → ⊥)
     → IsPrinted told zones → IsPermutation earlier block → NoneIsIn block zones
-none_again tree trace segment earlier told zones block tells printed order = λ zone member any.
-    tells.new zone
+none_again earlier told zones block new printed order = λ zone member any.
+    new zone
     (Contains-permutation zones told zone (IsPermutation-sym told zones printed.same) member)
     (record {
       included = any_in (λ other. Includes other zone) block earlier
@@ -197,7 +197,7 @@ IsBlock-last blocks tree trace segment earlier told zones transcript tells print
       within = rw (front, all, here)
           (ends_within tree trace segment earlier told zones tells printed);
       new = rw (before, here)
-          (none_again tree trace segment earlier told zones _ tells printed order);
+          (none_again earlier told zones _ tells.new printed order);
     }
 
 last_or_before : (i count : ℕ) → i < suc count → (i < count) ⊎ (i ≡ count)
@@ -237,7 +237,58 @@ IsTranscript-more blocks tree trace segment earlier told zones transcript tells 
 pub IsTranscript-none : (tree : PatternTree) → IsTranscript [] tree []
 IsTranscript-none tree = record { count = refl; each = λ i below. absurd (omega (arith, below)) }
 
--- the last line is the text of no zones
-pub closing_text : (end : ℕ) → offline_text [] end ≡ closing_line true end
-unfolding offline_text lines_of
-closing_text end = refl
+-- no zone in another order
+none_of : (told zones : List ZoneBounds) → IsPermutation told zones → told ≡ [] → zones ≡ []
+none_of told [] same none = refl
+none_of told (zone ∷ zones) same none =
+    absurd (omega (arith, length_permutation told (zone ∷ zones) same, ap length none))
+
+-- all that was told with the end is exactly the matches over the trace, where events happen there
+all_with : (blocks : List (List ZoneBounds)) (tree : PatternTree) (segments : List Segment)
+    (events : ℕ) (earlier told zones : List ZoneBounds) → events ≢ 0
+    → IsTranscript blocks tree segments → TellsLast tree segments events earlier told
+    → IsPrinted told zones
+    → HoldExactly (zones_of blocks ++ zones) (Matches tree (timeline_of segments events))
+all_with [] tree [] events earlier told zones happens transcript tells printed = record {
+  exact = λ a b n positive rising.
+      let first = (tells.first refl happens).exact a b n positive rising in
+      let held = printed.held a b n in
+      ((λ h. first.0 (held.0 h)), (λ h. held.1 (first.1 h)));
+}
+all_with (block ∷ blocks) tree [] events earlier told zones happens transcript tells printed =
+    absurd (omega (arith, transcript.count))
+all_with blocks tree (first ∷ rest) events earlier told zones happens transcript tells printed =
+    record {
+      exact = λ a b n positive rising.
+          let so_far = (exact_of blocks tree first rest transcript).exact a b n positive rising in
+          let now = tells.all a b n positive rising in
+          let held = printed.held a b n in
+          let parts = SetHolds-append (zones_of blocks) zones a b n in (
+            (λ h. ⊎_elim (λ x. now.0 (inr (so_far.0 x))) (λ x. now.0 (inl (held.0 x)))
+                (parts.0 h)),
+            (λ h. ⊎_elim (λ x. parts.1 (inr (held.1 x))) (λ x. parts.1 (inl (so_far.1 x)))
+                (now.1 h)),
+          );
+    }
+
+-- what the end completes closes the blocks of a trace
+pub IsClosing-told : (blocks : List (List ZoneBounds)) (tree : PatternTree)
+    (segments : List Segment) (events : ℕ) (earlier told zones : List ZoneBounds)
+    → IsTranscript blocks tree segments → TellsLast tree segments events earlier told
+    → IsPrinted told zones → IsPermutation earlier (block_before (length blocks) blocks)
+    → IsClosing blocks zones tree (timeline_of segments events)
+IsClosing-told blocks tree segments events earlier told zones transcript tells printed order =
+    record {
+      none = λ silent. none_of told zones printed.same (tells.none silent);
+      all = λ happens. all_with blocks tree segments events earlier told zones happens transcript
+          tells printed;
+      apart = printed.apart;
+      tight = printed.tight;
+      rising = printed.rising;
+      at_end = record {
+        ends = λ a b n positive rising held.
+            let there = tells.ends a b n positive rising ((printed.held a b n).0 held) in
+            (omega (arith, there), omega (arith, there));
+      };
+      new = none_again earlier told zones _ tells.new printed order;
+    }

@@ -309,17 +309,19 @@ HasRead-end reading most limit file left found bytes old mid new at_end same som
 
 pub IsEnded-end : {represents : List ℕ → Type 0} (reading : Bool → List ℕ → Reading)
     (limit : ℕ) (file left found : Option (List ℕ)) (bytes : List ℕ) (old mid new : List Segment)
-    → IsAtEndOf represents limit file left found bytes → mid ≡ old
+    (last : ℕ) → IsAtEndOf represents limit file left found bytes → mid ≡ old
     → Adds mid new (reading false bytes) (reading true bytes)
-    → (reading true bytes).fault ≡ None
-    → IsEnded reading limit file left bytes old new
-IsEnded-end reading limit file left found bytes old mid new at_end same all whole = record {
-  front = at_end.front;
-  all_read = at_end.all_read;
-  within = at_end.within;
-  whole = whole;
-  all = rw (take-over limit bytes at_end.within) (rw same at all);
-}
+    → (reading true bytes).fault ≡ None → last ≡ (reading true bytes).last
+    → IsEnded reading limit file left bytes old new last
+IsEnded-end reading limit file left found bytes old mid new last at_end same all whole told =
+    record {
+      front = at_end.front;
+      all_read = at_end.all_read;
+      within = at_end.within;
+      whole = whole;
+      last_is = told;
+      all = rw (take-over limit bytes at_end.within) (rw same at all);
+    }
 
 -- a turn whose end was refused
 pub StopsTurn-end : {represents : List ℕ → Type 0} (reading : Bool → List ℕ → Reading)

@@ -3,24 +3,24 @@ use Rattle.std.specs.Prelude.{◌≡◌, ◌≢◌, ℕ, ◌+◌, ◌≤◌, Boo
 use Rattle.std.specs.Io.KnownBytes.{Consumes, Keeps, IsAtEnd}
 use Rattle.tre_io.specs.Faults.{counted}
 use Rattle.tre_trace.specs.Reading.{Reading, Adds, AddsSome}
-use Rattle.tre_trace.specs.Trace.{IsTrace}
+use Rattle.tre_trace.specs.Trace.{Timeline, IsTrace}
 use Rattle.tre_trace.specs.declared.segment.Segment.{Segment}
 use Rattle.tre_trace.specs.declared.fault.TraceFault.{TraceFault}
 use Rattle.tre_tool.specs.Devices.{InputTold, AllReadsGood, AreAllBytes}
 use Rattle.tre_tool.specs.Input.{MayGoOn}
-use Rattle.tre_tool.specs.Outcome.{Outcome, IsInputKind, ComesTo, reading_within, refuses, exceeds}
+use Rattle.tre_tool.specs.Outcome.{Outcome, IsReadingOf, IsInputKind, ComesTo, reading_within, refuses, exceeds}
 use Rattle.tre_tool.specs.declared.status.Status.{Status}
 use Rattle.tre_tool.specs.declared.status.Status.TheVariants.{Trace, InputTooLong, ReadFault, Memory}
 
 -- The whole input was read, it is within the limit, and it is this trace.
 pub record IsWhole (reading : Bool → List ℕ → Reading) (limit : ℕ) (input : InputTold)
-    (trace : List Segment) : Type 0 where
+    (trace : Timeline) : Type 0 where
   pub reads : AllReadsGood input
   pub bytes : List ℕ
   pub all : AreAllBytes input bytes
   pub within : length bytes ≤ limit
-  pub reads_as : reading true bytes ≡ record { segments = trace; fault = None }
-  pub is_trace : IsTrace trace
+  pub reads_as : IsReadingOf trace (reading true bytes)
+  pub is_trace : IsTrace trace.segments
 
 -- The input comes to this, whatever of it is still to be read.
 pub record IsDecided (reading : Bool → List ℕ → Reading) (limit : ℕ) (input : InputTold)
@@ -121,14 +121,15 @@ pub record GoesOn (represents : List ℕ → Type 0) (reading : Bool → List �
   pub all : Adds old new
       (reading false (take limit bytes)) (reading false (take limit (bytes ++ piece)))
 
--- A turn that found the end behind these bytes: they are a whole trace, and the segments are those
--- that the end completes.
+-- A turn that found the end behind these bytes: they are a whole trace with these last events, and
+-- the segments are those that the end completes.
 pub record IsEnded (reading : Bool → List ℕ → Reading) (limit : ℕ) (file left : Option (List ℕ))
-    (bytes : List ℕ) (old new : List Segment) : Type 0 where
+    (bytes : List ℕ) (old new : List Segment) (last : ℕ) : Type 0 where
   pub front : Consumes file left bytes
   pub all_read : IsAtEnd left
   pub within : length bytes ≤ limit
   pub whole : (reading true bytes).fault ≡ None
+  pub last_is : last ≡ (reading true bytes).last
   pub all : Adds old new (reading false (take limit bytes)) (reading true bytes)
 
 -- A turn that found what the input comes to: the segments are all that it has beyond those of these
@@ -158,19 +159,20 @@ StopsTurn reading limit file left bytes old new ReadFault =
 StopsTurn reading limit file left bytes old new Memory = Unit {0}
 StopsTurn reading limit file left bytes old new _ = ⊥
 
--- A turn says whether the input may go on.
+-- A turn says whether the input may go on. Where it may not, these are the last events.
 abbrev pub SaysMore : (List ℕ → Type 0) → (Bool → List ℕ → Reading) → ℕ → ℕ → Option (List ℕ) →
-    Option (List ℕ) → Option (List ℕ) → ℕ → List ℕ → List Segment → List Segment → Bool → Type 0
-SaysMore represents reading most limit file left found count bytes old new true =
+    Option (List ℕ) → Option (List ℕ) → ℕ → List ℕ → List Segment → List Segment → ℕ → Bool →
+    Type 0
+SaysMore represents reading most limit file left found count bytes old new last true =
     GoesOn represents reading most limit file left found count bytes old new
-SaysMore represents reading most limit file left found count bytes old new false =
-    IsEnded reading limit file left bytes old new
+SaysMore represents reading most limit file left found count bytes old new last false =
+    IsEnded reading limit file left bytes old new last
 
 -- How a turn ended that read on behind these bytes.
 abbrev pub EndsTurn : (List ℕ → Type 0) → (Bool → List ℕ → Reading) → ℕ → ℕ → Option (List ℕ) →
-    Option (List ℕ) → Option (List ℕ) → ℕ → List ℕ → List Segment → List Segment →
+    Option (List ℕ) → Option (List ℕ) → ℕ → List ℕ → List Segment → List Segment → ℕ →
     Result Bool Status → Type 0
-EndsTurn represents reading most limit file left found count bytes old new (Ok more) =
-    SaysMore represents reading most limit file left found count bytes old new more
-EndsTurn represents reading most limit file left found count bytes old new (Err status) =
+EndsTurn represents reading most limit file left found count bytes old new last (Ok more) =
+    SaysMore represents reading most limit file left found count bytes old new last more
+EndsTurn represents reading most limit file left found count bytes old new last (Err status) =
     StopsTurn reading limit file left bytes old new status

@@ -1,23 +1,24 @@
--- What an online run leaves in its output, however it ends. The bytes of the input say a trace by
--- `reading`, closed or not yet, at most `limit` of them count, and `tree` is what is looked for.
-use Rattle.std.specs.Prelude.{◌≡◌, ℕ, ◌≤◌, Bool, true, false, List, [], ◌∷◌, ◌++◌, length, take, Option, None, IsTrue}
+-- What an online run over one pattern leaves in its output, as its parts promise it to each other.
+-- The bytes of the input say a trace by `reading`, closed or not yet, at most `limit` of them
+-- count, and `tree` is what is looked for.
+use Rattle.std.specs.Prelude.{◌≡◌, ℕ, ◌≤◌, Bool, true, false, List, [], ◌∷◌, ◌++◌, length, take, Option, None, Some, IsTrue}
 use Rattle.std.specs.Io.KnownBytes.{Appends, IsAtEnd}
-use Rattle.tre_io.specs.Written.{AppendsPart}
 use Rattle.tre_syntax.specs.PatternTree.{PatternTree}
 use Rattle.tre_trace.specs.Reading.{Reading}
-use Rattle.tre_trace.specs.Trace.{IsTrace}
+use Rattle.tre_trace.specs.Trace.{Timeline, IsTrace}
 use Rattle.tre_trace.specs.declared.segment.Segment.{Segment}
 use Rattle.tre_zone.specs.declared.zone_bounds.ZoneBounds.{ZoneBounds}
 use Rattle.tre_tool.specs.Devices.{InputTold, OutputTold, AllWritesGood, WereRead, OfAllBytes, HasLastPiece}
-use Rattle.tre_tool.specs.Outcome.{reading_within}
-use Rattle.tre_tool.specs.Transcript.{IsTranscript, online_text}
+use Rattle.tre_tool.specs.Outcome.{IsReadingOf, reading_within}
+use Rattle.tre_tool.specs.Standing.{IsCutBehind}
+use Rattle.tre_tool.specs.Transcript.{IsTranscript, IsClosing, online_text}
 
 -- The blocks of these segments were written, and nothing else.
 pub record BlocksWritten (tree : PatternTree) (segments : List Segment)
     (before now : Option (List ℕ)) : Type 0 where
   pub blocks : List (List ZoneBounds)
   pub transcript : IsTranscript blocks tree segments
-  pub written : Appends before now (online_text blocks segments false)
+  pub written : Appends before now (online_text blocks None segments)
 
 -- The blocks of all segments before the first fault of these bytes stand there, or of all that
 -- those within the limit complete.
@@ -60,19 +61,14 @@ pub record FirstBlocksStand (reading : Bool → List ℕ → Reading) (limit : �
   pub last : HasLastPiece input bytes
   pub prompt : length (reading false (take limit last.earlier)).segments ≤ length front
 
--- A first part of the text was written, with all of its front in it.
-pub record IsCutBehind (front text : List ℕ) (before now : Option (List ℕ)) : Type 0 where
-  pub part : AppendsPart before now text
-  pub behind : length front ≤ part.count
-
 -- The blocks of these segments were written, and a first part of that of the segment behind them.
 pub record LastBlockIsCut (tree : PatternTree) (front : List Segment) (segment : Segment)
     (before now : Option (List ℕ)) : Type 0 where
   pub blocks : List (List ZoneBounds)
   pub zones : List ZoneBounds
   pub transcript : IsTranscript (blocks ++ zones ∷ []) tree (front ++ segment ∷ [])
-  pub cut : IsCutBehind (online_text blocks front false)
-      (online_text (blocks ++ zones ∷ []) (front ++ segment ∷ []) false) before now
+  pub cut : IsCutBehind (online_text blocks None front)
+      (online_text (blocks ++ zones ∷ []) None (front ++ segment ∷ [])) before now
 
 -- The block of a segment is cut, and those of all segments before it stand there. It wasn't held
 -- back: its segment wasn't complete when the last read began.
@@ -89,23 +85,26 @@ pub record BlockIsCut (reading : Bool → List ℕ → Reading) (limit : ℕ) (t
   pub prompt : length (reading false (take limit last.earlier)).segments ≤ length front
 
 -- The text is right for an online run to the end over these bytes: they are within the limit and
--- say a trace, and the text has a block for each of its segments and then its end.
+-- say a trace, and the text has a block for each of its segments, and then what its end completes
+-- and its end.
 pub record IsOnlineAnswer (reading : Bool → List ℕ → Reading) (limit : ℕ) (tree : PatternTree)
     (bytes text : List ℕ) : Type 0 where
   pub within : length bytes ≤ limit
-  pub trace : List Segment
-  pub reads : reading true bytes ≡ record { segments = trace; fault = None }
-  pub is_trace : IsTrace trace
+  pub trace : Timeline
+  pub reads : IsReadingOf trace (reading true bytes)
+  pub is_trace : IsTrace trace.segments
   pub blocks : List (List ZoneBounds)
-  pub transcript : IsTranscript blocks tree trace
-  pub printed : text ≡ online_text blocks trace true
+  pub zones : List ZoneBounds
+  pub transcript : IsTranscript blocks tree trace.segments
+  pub closes : IsClosing blocks zones tree trace
+  pub printed : text ≡ online_text blocks (Some zones) trace.segments
 
 -- The text is right over these bytes, and its end is cut: all blocks stand there.
 pub record AnswerIsCut (reading : Bool → List ℕ → Reading) (limit : ℕ) (tree : PatternTree)
     (before now : Option (List ℕ)) (bytes : List ℕ) : Type 0 where
   pub text : List ℕ
   pub right : IsOnlineAnswer reading limit tree bytes text
-  pub cut : IsCutBehind (online_text right.blocks right.trace false) text before now
+  pub cut : IsCutBehind (online_text right.blocks None right.trace.segments) text before now
 
 -- The whole input was read, and the end of its right answer is cut.
 abbrev pub EndIsCut : (Bool → List ℕ → Reading) → ℕ → PatternTree → InputTold → OutputTold → Type 0

@@ -1,31 +1,30 @@
--- What the bytes of an input come to, and the answer to a trace.
-use Rattle.std.specs.Prelude.{◌≡◌, ◌≢◌, ℕ, ◌≤◌, nat_le, Bool, true, false, List, length, take, Option, None, Some, IfSome}
+-- What the bytes of an input say in a format, and what they come to.
+use Rattle.std.specs.Prelude.{◌≡◌, ◌≢◌, ℕ, nat_le, Bool, true, false, List, length, take, Option, None, Some, IfSome}
 use Rattle.std.specs.Io.KnownBytes.{Consumes}
 use Rattle.tre_text.specs.TextReading.{text_reading}
-use Rattle.tre_trace.specs.Reading.{Reading}
-use Rattle.tre_trace.specs.Trace.{end_of, IsTrace}
-use Rattle.tre_trace.specs.declared.segment.Segment.{Segment}
+use Rattle.tre_trace.specs.Reading.{Reading, Vocabulary}
+use Rattle.tre_trace.specs.Trace.{Timeline, timeline_of}
 use Rattle.tre_trace.specs.declared.fault.TraceFault.{TraceFault}
 use Rattle.tre_trace.specs.declared.fault.TraceKind.{TraceKind}
 use Rattle.tre_trace.specs.declared.fault.TraceKind.TheVariants.{Spent, Memory}
 use Rattle.tre_vcd.specs.VcdReading.{vcd_reading}
-use Rattle.tre_zone.specs.declared.zone_bounds.ZoneBounds.{ZoneBounds}
-use Rattle.tre_syntax.specs.PatternTree.{PatternTree}
-use Rattle.tre_show.specs.Line.{offline_text}
-use Rattle.tre_show.specs.Order.{IsRising}
-use Rattle.tre_offline.specs.MatchSet.{IsMatchSet}
 use Rattle.tre_tool.specs.declared.job.Format.{Format}
 use Rattle.tre_tool.specs.declared.job.Format.TheVariants.{Text, Vcd}
 
--- What bytes in a format say of a trace, for the propositions of these names.
-abbrev pub reading_in : Format → List (List ℕ) → Bool → List ℕ → Reading
-reading_in Text names closed bytes = text_reading names closed bytes
-reading_in Vcd names closed bytes = vcd_reading names closed bytes
+-- What bytes in a format say of a trace, for the propositions and events of these names. A dump
+-- must declare all of `declared`.
+abbrev pub reading_in : Format → Vocabulary → Vocabulary → Bool → List ℕ → Reading
+reading_in Text declared names closed bytes = text_reading names closed bytes
+reading_in Vcd declared names closed bytes =
+    vcd_reading (record { names = names; declared = declared }) closed bytes
 
--- The bytes are this trace.
-abbrev pub Reads : Format → List (List ℕ) → List ℕ → List Segment → Type 0
-Reads format names bytes trace =
-    reading_in format names true bytes ≡ record { segments = trace; fault = None }
+-- the reading that is this trace, and has no fault
+abbrev pub whole_reading : Timeline → Reading
+whole_reading trace = record { segments = trace.segments; last = trace.last; fault = None }
+
+-- The reading is this trace.
+abbrev pub IsReadingOf : Timeline → Reading → Type 0
+IsReadingOf trace reading = reading ≡ whole_reading trace
 
 -- A kind that the bytes of an input can have: no want of memory, and no reader that was done.
 pub record IsInputKind (kind : TraceKind) : Type 0 where
@@ -34,18 +33,19 @@ pub record IsInputKind (kind : TraceKind) : Type 0 where
 
 -- They are a trace, they have a first fault, or they have no fault and are too many.
 pub data Outcome : Type 0 where
-  completes : List Segment → Outcome
+  completes : Timeline → Outcome
   refuses : TraceFault → Outcome
   exceeds : Outcome
 
 -- a fault comes first, and then the limit
-abbrev pub outcome_from : Bool → List Segment → Option TraceFault → Outcome
-outcome_from closed segments (Some fault) = refuses fault
-outcome_from true segments None = completes segments
-outcome_from false segments None = exceeds
+abbrev pub outcome_from : Bool → Timeline → Option TraceFault → Outcome
+outcome_from closed trace (Some fault) = refuses fault
+outcome_from true trace None = completes trace
+outcome_from false trace None = exceeds
 
 abbrev pub outcome_of_reading : Bool → Reading → Outcome
-outcome_of_reading closed reading = outcome_from closed reading.segments reading.fault
+outcome_of_reading closed reading =
+    outcome_from closed (timeline_of reading.segments reading.last) reading.fault
 
 -- What the bytes of an input say that may have `limit` of them. Bytes past the limit are not
 -- judged, and the input is closed only where there are none past it.
@@ -68,16 +68,3 @@ pub record ComesTo (reading : Bool → List ℕ → Reading) (limit : ℕ) (file
   pub whole : IfSome file (λ all. outcome_of reading limit all ≡ outcome)
   pub same : IfSome file (λ all. (reading_within reading limit all).segments
       ≡ (reading_within reading limit bytes).segments)
-
--- The text is right for a run to the end over these bytes: they are within the limit and say a
--- trace, and the text is that of the matches of the pattern over it.
-pub record IsAnswer (format : Format) (tree : PatternTree) (names : List (List ℕ)) (limit : ℕ)
-    (bytes text : List ℕ) : Type 0 where
-  pub within : length bytes ≤ limit
-  pub trace : List Segment
-  pub reads : Reads format names bytes trace
-  pub is_trace : IsTrace trace
-  pub zones : List ZoneBounds
-  pub matches : IsMatchSet zones tree trace
-  pub rising : IsRising zones
-  pub printed : text ≡ offline_text zones (end_of 0 trace)

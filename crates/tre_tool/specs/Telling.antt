@@ -1,21 +1,21 @@
 -- What the parts of an online run promise each other of what was told.
-use Rattle.std.specs.Prelude.{◌≡◌, ◌⊎◌, ℕ, Bool, true, false, List, ◌∷◌, ◌++◌, length, Option, Result, Ok, Err, IsPermutation}
+use Rattle.std.specs.Prelude.{◌≡◌, ◌⊎◌, ℕ, Bool, List, ◌∷◌, ◌++◌, length, Option, None, Some, Result, Ok, Err, IsPermutation}
 use Rattle.std.specs.Io.KnownBytes.{Appends}
 use Rattle.tre_io.specs.Faults.{counted}
-use Rattle.tre_io.specs.Written.{AppendsPart}
 use Rattle.tre_online.specs.Session.{pattern_of, ended_of, StandsFor}
 use Rattle.tre_online.specs.declared.session.Session.{Session}
 use Rattle.tre_syntax.specs.Pattern.{pattern_tree}
 use Rattle.tre_syntax.specs.PatternTree.{PatternTree}
 use Rattle.tre_trace.specs.Reading.{Reading}
-use Rattle.tre_trace.specs.Trace.{IsTrace}
+use Rattle.tre_trace.specs.Trace.{Timeline, IsTrace}
 use Rattle.tre_trace.specs.declared.segment.Segment.{Segment}
 use Rattle.tre_zone.specs.declared.zone_bounds.ZoneBounds.{ZoneBounds}
 use Rattle.tre_tool.specs.Devices.{InputTold, OutputTold, AllReadsGood, AllWritesGood, OfAllBytes}
 use Rattle.tre_tool.specs.Feeding.{IsDecided, IsUnread}
 use Rattle.tre_tool.specs.Outcome.{Outcome, refuses, exceeds, IsInputKind}
 use Rattle.tre_tool.specs.Online.{BlocksWritten, AllBlocksStand, BlocksSoFarStand, FirstBlocksStand, LastBlockIsCut, BlockIsCut, IsOnlineAnswer, EndIsCut}
-use Rattle.tre_tool.specs.Transcript.{IsTranscript, block_before, closing_line, online_text}
+use Rattle.tre_tool.specs.Standing.{IsCutBehind}
+use Rattle.tre_tool.specs.Transcript.{IsTranscript, IsClosing, block_before, online_text}
 use Rattle.tre_tool.specs.declared.status.Status.{Status}
 use Rattle.tre_tool.specs.declared.status.Status.TheVariants.{Done, Trace, InputTooLong, ReadFault, WriteFault, Memory}
 
@@ -33,7 +33,7 @@ pub record HasTold (session : Session) (tree : PatternTree) (segments : List Seg
   pub same_tree : pattern_tree (pattern_of session) ≡ tree
   pub blocks : List (List ZoneBounds)
   pub transcript : IsTranscript blocks tree segments
-  pub written : Appends before now (online_text blocks segments false)
+  pub written : Appends before now (online_text blocks None segments)
   pub ended : IsPermutation (ended_of session) (block_before (length blocks) blocks)
 
 -- A segment was told behind others, or it stopped there: memory was wanting and nothing of its
@@ -60,13 +60,33 @@ HasWriteCause before now (Ok value) = now ≡ before
 HasWriteCause before now (Err WriteFault) = now ≡ counted before
 HasWriteCause before now (Err _) = now ≡ before
 
--- The last line wasn't written, or a first part of it was.
-abbrev pub StopsAtEnd : ℕ → Option (List ℕ) → Option (List ℕ) → Status → Type 0
-StopsAtEnd end before now WriteFault = AppendsPart before now (closing_line true end)
-StopsAtEnd end before now Memory = now ≡ before
-StopsAtEnd end before now _ = ⊥
+-- The blocks of a trace were written, and what its end completes, and its end.
+pub record HasClosed (tree : PatternTree) (trace : Timeline) (before now : Option (List ℕ)) : Type 0
+  where
+    pub blocks : List (List ZoneBounds)
+    pub zones : List ZoneBounds
+    pub transcript : IsTranscript blocks tree trace.segments
+    pub closes : IsClosing blocks zones tree trace
+    pub written : Appends before now (online_text blocks (Some zones) trace.segments)
 
--- The whole input was told, and where its trace ends.
+-- The blocks of a trace were written, and a first part of what stands behind them.
+pub record ClosingIsCut (tree : PatternTree) (trace : Timeline) (before now : Option (List ℕ))
+    : Type 0 where
+  pub blocks : List (List ZoneBounds)
+  pub zones : List ZoneBounds
+  pub transcript : IsTranscript blocks tree trace.segments
+  pub closes : IsClosing blocks zones tree trace
+  pub cut : IsCutBehind (online_text blocks None trace.segments)
+      (online_text blocks (Some zones) trace.segments) before now
+
+-- What stands there where the end of a trace wasn't told, or a first part of it was.
+abbrev pub StopsAtEnd : PatternTree → Timeline → Option (List ℕ) → Option (List ℕ) → Status →
+    Type 0
+StopsAtEnd tree trace before now WriteFault = ClosingIsCut tree trace before now
+StopsAtEnd tree trace before now Memory = BlocksWritten tree trace.segments before now
+StopsAtEnd tree trace before now _ = ⊥
+
+-- The whole input was told, with what its end completes.
 pub record IsTold (reading : Bool → List ℕ → Reading) (limit : ℕ) (tree : PatternTree)
     (input : InputTold) (output : OutputTold) : Type 0 where
   pub reads : AllReadsGood input

@@ -1,11 +1,11 @@
 -- What a run tells as the input comes: a block of zones for each segment of the trace.
-use Rattle.std.specs.Prelude.{◌≡◌, ℕ, zero, suc, ◌+◌, ◌*◌, ◌<◌, ◌≤◌, Bool, true, false, Any, Contains, List, [], ◌∷◌, ◌++◌, length, take, get_or, flat_map, codes}
+use Rattle.std.specs.Prelude.{◌≡◌, ◌≢◌, ℕ, zero, suc, ◌+◌, ◌*◌, ◌<◌, ◌≤◌, Any, Contains, List, [], ◌∷◌, ◌++◌, length, take, get_or, flat_map, Option, None, Some, IfSome, codes}
 use Rattle.tre_show.specs.Interval.{number_text}
-use Rattle.tre_show.specs.Line.{lines_of}
+use Rattle.tre_show.specs.Line.{lines_of, offline_text}
 use Rattle.tre_show.specs.Order.{IsRising}
 use Rattle.tre_syntax.specs.Meaning.{Matches}
 use Rattle.tre_syntax.specs.PatternTree.{PatternTree}
-use Rattle.tre_trace.specs.Trace.{end_of, IsTrace}
+use Rattle.tre_trace.specs.Trace.{Timeline, quiet, end_of, IsTrace}
 use Rattle.tre_trace.specs.declared.segment.Segment.{Segment}
 use Rattle.tre_zone.specs.Zone.{Includes}
 use Rattle.tre_zone.specs.ZoneList.{SetHolds, IsApart, AreCanonical, AreTight, HoldExactly}
@@ -22,15 +22,18 @@ block_texts start (zones ∷ blocks) (segment ∷ segments) =
     ++ block_texts (start + segment.len) blocks segments
 block_texts start blocks segments = []
 
--- the line that closes the text of a trace, once its end is known
-abbrev pub closing_line : Bool → ℕ → List ℕ
-closing_line true end = codes "end " ++ number_text end ++ codes "\n"
-closing_line false end = []
+-- what closes the text of a trace once its end is known: the zones that the end completes, told as
+-- those of a whole match, and where it is
+abbrev pub closing_text : Option (List ZoneBounds) → ℕ → List ℕ
+closing_text (Some zones) end = offline_text zones end
+closing_text None end = []
 
--- The text of a trace with a block for each segment, and where it is closed, with its end.
-unfoldable pub online_text : List (List ZoneBounds) → List Segment → Bool → List ℕ
-online_text blocks trace closed =
-    block_texts 0 blocks trace ++ closing_line closed (end_of 0 trace)
+-- The text of a trace with a block for each segment, and where it is closed, with what its end
+-- completes and its end.
+unfoldable pub online_text : List (List ZoneBounds) → Option (List ZoneBounds) → List Segment →
+    List ℕ
+online_text blocks closing trace =
+    block_texts 0 blocks trace ++ closing_text closing (end_of 0 trace)
 
 -- The zones of some blocks, as one list.
 abbrev pub zones_of : List (List ZoneBounds) → List ZoneBounds
@@ -57,7 +60,8 @@ NoneIsIn earlier zones = (zone : ZoneBounds) → Contains zones zone →
 -- begin and end included; and none of them is told again of which the block before tells all.
 pub record IsBlock (blocks : List (List ZoneBounds)) (tree : PatternTree) (trace : List Segment)
     (i : ℕ) : Type 0 where
-  pub so_far : HoldExactly (zones_of (take (suc i) blocks)) (Matches tree (take (suc i) trace))
+  pub so_far : HoldExactly (zones_of (take (suc i) blocks))
+      (Matches tree (quiet (take (suc i) trace)))
   pub apart : IsApart (get_or blocks i [])
   pub tight : AreTight (get_or blocks i [])
   pub rising : IsRising (get_or blocks i [])
@@ -72,14 +76,30 @@ pub record IsTranscript (blocks : List (List ZoneBounds)) (tree : PatternTree)
   pub count : length blocks ≡ length trace
   pub each : (i : ℕ) → i < length trace → IsBlock blocks tree trace i
 
+-- What the end of the trace completes, where a block was told for each of its segments. Where no
+-- event happens there, that is nothing. Else all that is told is exactly the matches over the
+-- trace; the zones are a set as in a block, and none of them is told again of which the last block
+-- tells all; and their pairs end where the trace does.
+pub record IsClosing (blocks : List (List ZoneBounds)) (zones : List ZoneBounds)
+    (tree : PatternTree) (trace : Timeline) : Type 0 where
+  pub none : trace.last ≡ 0 → zones ≡ []
+  pub all : trace.last ≢ 0 → HoldExactly (zones_of blocks ++ zones) (Matches tree trace)
+  pub apart : IsApart zones
+  pub tight : AreTight zones
+  pub rising : IsRising zones
+  pub at_end : EndBetween (end_of 0 trace.segments) (end_of 0 trace.segments) zones
+  pub new : NoneIsIn (block_before (length blocks) blocks) zones
+
 -- The zones of each block have canonical bounds.
 abbrev pub AreCanonicalBlocks : List (List ZoneBounds) → Type 0
 AreCanonicalBlocks [] = Unit {0}
 AreCanonicalBlocks (zones ∷ blocks) = AreCanonical zones × AreCanonicalBlocks blocks
 
--- One block for each segment of a trace, and the zones have canonical bounds, as those of a
--- transcript have.
-pub record AreBlocksOf (blocks : List (List ZoneBounds)) (trace : List Segment) : Type 0 where
+-- One block for each segment of a trace, and what closes them where they are closed. The zones have
+-- canonical bounds, as those of a transcript have.
+pub record AreBlocksOf (blocks : List (List ZoneBounds)) (closing : Option (List ZoneBounds))
+    (trace : List Segment) : Type 0 where
   pub count : length blocks ≡ length trace
   pub is_trace : IsTrace trace
   pub canonical : AreCanonicalBlocks blocks
+  pub closed : IfSome closing AreCanonical

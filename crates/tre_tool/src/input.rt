@@ -62,12 +62,12 @@ fn feed_piece<S: Source, R: TraceReader>(
         R.represents reader.new (bytes ++ take allowed (take count buffer.new))) }
     ensures adds { (bytes : List ℕ) → R.represents reader.old bytes →
         IfOk result (λ count. Adds segments.old.items segments.new.items
-        (R.reading (R.names reader.old) false bytes)
-        (R.reading (R.names reader.old) false (bytes ++ take allowed (take count buffer.new)))) }
+        (R.reading (R.terms reader.old) false bytes)
+        (R.reading (R.terms reader.old) false (bytes ++ take allowed (take count buffer.new)))) }
     ensures stops { (bytes : List ℕ) → R.represents reader.old bytes →
-        IfErr result (StopsPiece (R.reading (R.names reader.old)) allowed (length buffer.old) bytes
+        IfErr result (StopsPiece (R.reading (R.terms reader.old)) allowed (length buffer.old) bytes
         (S.left input.old) (S.left input.new) segments.old.items segments.new.items) }
-    ensures names { R.names reader.new ≡ R.names reader.old }
+    ensures terms { R.terms reader.new ≡ R.terms reader.old }
     ensures length { length buffer.new ≡ length buffer.old }
     ensures finds { Keeps (S.found input.new) (S.left input.old) }
     ensures cause { HasReadCause (S.faults input.old) (S.faults input.new) result }
@@ -80,12 +80,13 @@ fn feed_piece<S: Source, R: TraceReader>(
     Ok(count)
 }
 
-// Reads a piece, and feeds it as far as the limit. Where none comes, the reader is told the end.
-// Says whether the input may go on. The segments that become complete are put behind the others,
-// also before a fault.
+// Reads a piece, and feeds it as far as the limit. Where none comes, the reader is told the end, and
+// tells the last events. Says whether the input may go on. The segments that become complete are
+// put behind the others, also before a fault.
 fn feed_next<S: Source, R: TraceReader>(
     limit: usize,
     taken: &mut usize,
+    last: &mut u64,
     buffer: &mut [u8],
     reader: &mut R,
     input: &mut S,
@@ -98,17 +99,17 @@ fn feed_next<S: Source, R: TraceReader>(
     ensures read { (file : Option (List ℕ)) (bytes : List ℕ) →
         IsFed (R.represents reader.old) (length buffer.old) limit file (S.left input.old)
         (S.found input.old) taken.old bytes →
-        HasRead (R.reading (R.names reader.old)) (length buffer.old) limit file (S.left input.new)
+        HasRead (R.reading (R.terms reader.old)) (length buffer.old) limit file (S.left input.new)
         (S.found input.new) bytes segments.old.items segments.new.items }
     ensures ends { (file : Option (List ℕ)) (bytes : List ℕ) →
         IsFed (R.represents reader.old) (length buffer.old) limit file (S.left input.old)
         (S.found input.old) taken.old bytes →
-        EndsTurn (R.represents reader.new) (R.reading (R.names reader.old)) (length buffer.old)
+        EndsTurn (R.represents reader.new) (R.reading (R.terms reader.old)) (length buffer.old)
         limit file (S.left input.new) (S.found input.new) taken.new bytes segments.old.items
-        segments.new.items result }
+        segments.new.items last.new result }
     ensures rises { IfOk result (λ more. IsTrue more → taken.old < taken.new) }
     ensures few { IfOk result (λ more. IsTrue more → taken.new ≤ limit + 1) }
-    ensures names { R.names reader.new ≡ R.names reader.old }
+    ensures terms { R.terms reader.new ≡ R.terms reader.old }
     ensures length { length buffer.new ≡ length buffer.old }
     ensures cause { HasReadCause (S.faults input.old) (S.faults input.new) result }
     ensures sound { IsTrue (S.sound input.old) → IsErrOf result Status.ReadFault → ⊥ }
@@ -122,7 +123,7 @@ fn feed_next<S: Source, R: TraceReader>(
     let room = buffer.len().min(allowed + 1);
     let count = feed_piece(allowed, &mut buffer[..room], reader, input, segments)?;
     if count == 0 {
-        reader.finish(segments)?;
+        *last = reader.finish(segments)?;
         return Ok(false);
     }
     *taken += count;
@@ -134,6 +135,8 @@ fn feed_next<S: Source, R: TraceReader>(
 pub struct Feed {
     limit: usize,
     taken: usize,
+    // The events at the end of the trace; none before it was read.
+    last: u64,
     buffer: Vec<u8>,
 }
 
@@ -169,6 +172,7 @@ impl Feed {
         Ok(Feed {
             limit,
             taken: 0,
+            last: 0,
             buffer,
         })
     }
@@ -189,21 +193,21 @@ impl Feed {
         ensures read { (file : Option (List ℕ)) (bytes : List ℕ) →
             IsFed (R.represents reader.old) (length self.old.buffer.items) self.old.limit file
             (S.left input.old) (S.found input.old) self.old.taken bytes →
-            HasRead (R.reading (R.names reader.old)) (length self.old.buffer.items) self.old.limit
+            HasRead (R.reading (R.terms reader.old)) (length self.old.buffer.items) self.old.limit
             file (S.left input.new) (S.found input.new) bytes segments.old.items
             segments.new.items }
         ensures ends { (file : Option (List ℕ)) (bytes : List ℕ) →
             IsFed (R.represents reader.old) (length self.old.buffer.items) self.old.limit file
             (S.left input.old) (S.found input.old) self.old.taken bytes →
-            EndsTurn (R.represents reader.new) (R.reading (R.names reader.old))
+            EndsTurn (R.represents reader.new) (R.reading (R.terms reader.old))
             (length self.old.buffer.items) self.old.limit file (S.left input.new)
             (S.found input.new) self.new.taken bytes segments.old.items segments.new.items
-            result }
+            self.new.last result }
         ensures limit { self.new.limit ≡ self.old.limit }
         ensures length { length self.new.buffer.items ≡ length self.old.buffer.items }
         ensures rises { IfOk result (λ more. IsTrue more → self.old.taken < self.new.taken) }
         ensures few { IfOk result (λ more. IsTrue more → self.new.taken ≤ self.new.limit + 1) }
-        ensures names { R.names reader.new ≡ R.names reader.old }
+        ensures terms { R.terms reader.new ≡ R.terms reader.old }
         ensures cause { HasReadCause (S.faults input.old) (S.faults input.new) result }
         ensures sound { IsTrue (S.sound input.old) → IsErrOf result Status.ReadFault → ⊥ }
         ensures same_opened { S.opened input.new ≡ S.opened input.old }
@@ -212,10 +216,18 @@ impl Feed {
         feed_next(
             self.limit,
             &mut self.taken,
+            &mut self.last,
             &mut self.buffer,
             reader,
             input,
             segments,
         )
+    }
+
+    /// The events at the end of the trace, once that was read.
+    pub fn last(&self) -> u64
+        ensures { result ≡ self.now.last }
+    {
+        self.last
     }
 }

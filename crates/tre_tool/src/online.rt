@@ -1,20 +1,19 @@
 // Matches that are told as the input comes: a block for each segment.
-ghost use Rattle.std.specs.Prelude.{◌≡◌, ◌≢◌, ◌≤◌, ◌+◌, ◌++◌, ◌∷◌, [], ℕ, List, Option, IsTrue, IfOk, IfErr, IfSome, OnOk, string_bytes, true, false};
-ghost use Rattle.std.specs.Io.KnownBytes.{Appends};
+ghost use Rattle.std.specs.Prelude.{◌≡◌, ◌≢◌, ◌≤◌, ◌+◌, ◌++◌, ◌∷◌, [], ℕ, List, Option, IsTrue, IfOk, IfErr, IfSome, OnOk, string_bytes, false};
 ghost use Rattle.tre_online.specs.Session.{pattern_of, ended_of, StandsFor, TellsNew};
-ghost use Rattle.tre_syntax.specs.Pattern.{pattern_tree, names_of};
+ghost use Rattle.tre_syntax.specs.Pattern.{pattern_tree};
 ghost use Rattle.tre_syntax.specs.PatternTree.{PatternTree};
+ghost use Rattle.tre_trace.specs.Trace.{timeline_of};
 ghost use Rattle.tre_trace.specs.declared.segment.Segment.{Segment};
 ghost use Rattle.tre_tool.specs.Answer.{status_of};
 ghost use Rattle.tre_tool.specs.Devices.{input_told, output_told};
 ghost use Rattle.tre_tool.specs.Input.{TakesAtMost};
-ghost use Rattle.tre_tool.specs.Outcome.{reading_in};
-ghost use Rattle.tre_tool.specs.Telling.{CanTell, HasTold, StopsAtSegment, StopsWithin, HasWriteCause, StopsAtEnd, EndsTelling};
-ghost use Rattle.tre_tool.specs.Transcript.{block_text, closing_line};
+ghost use Rattle.tre_tool.specs.Telling.{CanTell, HasTold, StopsAtSegment, StopsWithin, HasWriteCause, HasClosed, StopsAtEnd, EndsTelling};
+ghost use Rattle.tre_tool.specs.Transcript.{block_text};
 ghost use Rattle.tre_tool.specs.declared.job.TheConstants.{LIMIT_MAX};
 
 use crate::input::Feed;
-use crate::job::{Format, Job};
+use crate::job::Job;
 use crate::output::write_text;
 use crate::status::Status;
 use std::alloc::{AllocError, Global};
@@ -22,9 +21,7 @@ use tre_io::{Sink, Source};
 use tre_online::Session;
 use tre_show::{in_printed_order, number, offline_text, zone_lines};
 use tre_syntax::Pattern;
-use tre_text::TextReader;
 use tre_trace::{PushFault, Segment, TraceReader};
-use tre_vcd::VcdReader;
 use tre_zone::Zone;
 use tre_zoneset::ZoneSet;
 
@@ -119,34 +116,40 @@ fn tell_blocks<O: Sink>(
     Ok(())
 }
 
-// Writes the line that says where the trace ends.
-fn tell_end<O: Sink>(alloc: Global, end: u64, out: &mut O) -> Result<(), Status>
-    ensures all { OnOk result
-        (Appends (O.written out.old) (O.written out.new) (closing_line true end)) }
-    ensures stops { IfErr result (StopsAtEnd end (O.written out.old) (O.written out.new)) }
+// Writes what the end of the trace completes, and then where it is, as one text.
+fn tell_end<O: Sink>(alloc: Global, session: Session, last: u64, out: &mut O) -> Result<(), Status>
+    ensures told { (tree : PatternTree) (segments : List Segment) (before : Option (List ℕ)) →
+        HasTold session tree segments before (O.written out.old) →
+        OnOk result (HasClosed tree (timeline_of segments last) before (O.written out.new)) }
+    ensures stops { (tree : PatternTree) (segments : List Segment) (before : Option (List ℕ)) →
+        HasTold session tree segments before (O.written out.old) →
+        IfErr result (StopsAtEnd tree (timeline_of segments last) before (O.written out.new)) }
     ensures cause { HasWriteCause (O.faults out.old) (O.faults out.new) result }
 {
-    let text = offline_text(alloc, &[], end)?;
+    let end = session.at();
+    let told = session.close(last)?;
+    let zones = in_printed_order(told.into_zones());
+    let text = offline_text(alloc, &zones, end)?;
     write_text(text.as_str(), out)?;
     Ok(())
 }
 
-// Tells the blocks of the input of this name, piece by piece, and at its end where the trace ends.
+// Tells the blocks of the input of this name, piece by piece, and at its end what that completes.
 fn tell_input<S: Source, R: TraceReader, O: Sink>(
     alloc: Global,
     job: &Job,
     reader: &mut R,
-    session: &mut Session,
+    mut session: Session,
     input: &mut S,
     out: &mut O,
 ) -> Result<(), Status>
     requires closed { S.opened input.old ≡ false }
     requires fits { job.now.max_bytes ≤ LIMIT_MAX }
     requires fresh { R.represents reader.old [] }
-    requires nothing { (R.reading (R.names reader.old) false []).segments ≡ [] }
-    requires stands { StandsFor session.old [] }
-    ensures ends { EndsTelling (R.reading (R.names reader.old)) job.now.max_bytes
-        (pattern_tree (pattern_of session.old)) job.now.input
+    requires nothing { (R.reading (R.terms reader.old) false []).segments ≡ [] }
+    requires stands { StandsFor session [] }
+    ensures ends { EndsTelling (R.reading (R.terms reader.old)) job.now.max_bytes
+        (pattern_tree (pattern_of session)) job.now.input
         (input_told S.file_name S.file S.sound S.opened S.left S.found S.faults input.old input.new)
         (output_told O.written O.faults out.old out.new) (status_of result) }
     ensures bounded { IsTrue (S.opened input.new) →
@@ -158,27 +161,30 @@ fn tell_input<S: Source, R: TraceReader, O: Sink>(
     let mut segments = Vec::new(alloc);
     loop {
         let fed = feed.next(reader, input, &mut segments);
-        tell_blocks(alloc, &segments, session, out)?;
+        tell_blocks(alloc, &segments, &mut session, out)?;
         segments.clear();
         if !fed? {
             break;
         }
     }
-    tell_end(alloc, session.at(), out)?;
+    tell_end(alloc, session, feed.last(), out)?;
     Ok(())
 }
 
-/// Writes the block of each segment of the job's input as soon as it is complete, and the end.
-pub fn tell_matches<S: Source, O: Sink>(
+/// Writes the block of each segment of the job's input as soon as the reader has it, and the end.
+pub fn tell_matches<S: Source, R: TraceReader, O: Sink>(
     alloc: Global,
     pattern: Pattern,
     job: &Job,
+    reader: &mut R,
     input: &mut S,
     out: &mut O,
 ) -> Result<(), Status>
     requires closed { S.opened input.old ≡ false }
     requires fits { job.now.max_bytes ≤ LIMIT_MAX }
-    ensures ends { EndsTelling (reading_in job.now.format (names_of pattern)) job.now.max_bytes
+    requires fresh { R.represents reader.old [] }
+    requires nothing { (R.reading (R.terms reader.old) false []).segments ≡ [] }
+    ensures ends { EndsTelling (R.reading (R.terms reader.old)) job.now.max_bytes
         (pattern_tree pattern) job.now.input
         (input_told S.file_name S.file S.sound S.opened S.left S.found S.faults input.old input.new)
         (output_told O.written O.faults out.old out.new) (status_of result) }
@@ -187,18 +193,7 @@ pub fn tell_matches<S: Source, O: Sink>(
     ensures by_name { IsTrue (S.opened input.new) →
         IfSome (S.file_name input.old) (λ told. told ≡ job.now.input) }
 {
-    let names = pattern.names().try_clone()?;
-    let mut session = Session::new(alloc, pattern)?;
-    match job.format {
-        Format::Text => {
-            let mut reader = TextReader::new(alloc, names);
-            tell_input(alloc, job, &mut reader, &mut session, input, out)?;
-            Ok(())
-        }
-        Format::Vcd => {
-            let mut reader = VcdReader::new(alloc, names);
-            tell_input(alloc, job, &mut reader, &mut session, input, out)?;
-            Ok(())
-        }
-    }
+    let session = Session::new(alloc, pattern)?;
+    tell_input(alloc, job, reader, session, input, out)?;
+    Ok(())
 }

@@ -1,13 +1,13 @@
 ghost use Rattle.std.specs.Prelude.{◌≡◌, ◌≢◌, ◌+◌, ℕ, IsTrue, IfSome, IfOk, IfErr, false, map, string_bytes};
 ghost use Rattle.std.specs.Io.KnownBytes.{Appends};
 ghost use Rattle.tre_io.specs.Faults.{Rises};
-ghost use Rattle.tre_parse.specs.Outcome.{spelt, refused};
 ghost use Rattle.tre_syntax.specs.Pattern.{pattern_tree, names_of};
 ghost use Rattle.tre_tool.specs.Answer.{status_of};
 ghost use Rattle.tre_tool.specs.Input.{TakesAtMost};
 ghost use Rattle.tre_tool.specs.Job.{GivesJob, HaveNoFault};
 ghost use Rattle.tre_tool.specs.Devices.{input_told, output_told};
-ghost use Rattle.tre_tool.specs.Run.{IsOutcomeIn, AsksForNothing, AsksForMadeRun, ReadsInput, EndsAs, EndsMadeRun, IsComplete, IsLineTold};
+ghost use Rattle.tre_tool.specs.Request.{ArePatterns, IsRefusalIn, AsksForNothing, alone};
+ghost use Rattle.tre_tool.specs.Run.{AsksForMadeRun, ReadsInput, EndsAs, EndsMadeRun, IsComplete, IsLineTold};
 ghost use Rattle.tre_tool.specs.Status.{error_line};
 ghost use Rattle.tre_tool.specs.declared.job.Job.{Job};
 
@@ -24,10 +24,10 @@ use tre_syntax::Pattern;
 
 // The pattern of a job: a made run has its own, and others that of their text.
 fn pattern_of(alloc: Global, job: &Job) -> Result<Pattern, ParseFault>
-    ensures spells { IfOk result (λ pattern. IsOutcomeIn job.now.mode job.now.expr
-        (spelt (pattern_tree pattern) (names_of pattern))) }
+    ensures spells { IfOk result (λ pattern. ArePatterns job.now.mode job.now
+        (alone (pattern_tree pattern) (names_of pattern))) }
     ensures refuses { IfErr result (λ fault. fault ≢ ParseFault.Memory →
-        IsOutcomeIn job.now.mode job.now.expr (refused fault)) }
+        IsRefusalIn job.now.mode job.now (Status.Expression fault)) }
 {
     match job.mode {
         Mode::Generate { .. } => {
@@ -49,11 +49,11 @@ fn run_words<S: Source, O: Sink>(
     out: &mut O,
 ) -> Result<(), Status>
     requires { S.opened input.old ≡ false }
-    ensures ends { EndsAs (map string_bytes words.now)
+    ensures ends { EndsAs (GivesJob (map string_bytes words.now))
         (input_told S.file_name S.file S.sound S.opened S.left S.found S.faults input.old input.new)
         (output_told O.written O.faults out.old out.new)
         (status_of result) }
-    ensures untouched { AsksForNothing (map string_bytes words.now) →
+    ensures untouched { AsksForNothing (GivesJob (map string_bytes words.now)) →
         (input.new ≡ input.old) × (out.new ≡ out.old) }
     ensures source_untouched { (job : Job) → GivesJob (map string_bytes words.now) job →
         (ReadsInput job.mode → ⊥) → input.new ≡ input.old }
@@ -84,8 +84,9 @@ fn ending(ended: Result<(), Status>) -> Status
 
 /// Matches the pattern in the words over the input that they name, writes the zones of all matches
 /// to `out`, and tells `err` how the run ended. With `--online` it writes a block of zones for each
-/// segment as soon as that is complete, and with `--show` the pattern's text instead. With
-/// `--generate` as the first word it reads no input, and writes the summary of a made trace.
+/// segment as soon as that is complete, and at the end those that events there complete; with
+/// `--show` the pattern's text instead. With `--generate` as the first word it reads no input, and
+/// writes the summary of a made trace.
 ///
 /// The words are those after the program's name. What `ends` says of bytes holds where the source
 /// and the sinks tell their bytes; what it says of counts holds for every source and sink. A count
@@ -100,12 +101,12 @@ pub fn run<S: Source, O: Sink, E: Sink>(
     requires { S.opened input.old ≡ false }
 
     // What the status means, what was written, and why the run ended so.
-    ensures ends { EndsAs (map string_bytes words.now)
+    ensures ends { EndsAs (GivesJob (map string_bytes words.now))
         (input_told S.file_name S.file S.sound S.opened S.left S.found S.faults input.old input.new)
         (output_told O.written O.faults out.old out.new) result }
 
     // Where no fault was counted, what the words ask for and the input comes to decides the status.
-    ensures complete { IsComplete (map string_bytes words.now)
+    ensures complete { IsComplete (GivesJob (map string_bytes words.now))
         (input_told S.file_name S.file S.sound S.opened S.left S.found S.faults input.old input.new)
         (output_told O.written O.faults out.old out.new) result }
 
@@ -114,7 +115,7 @@ pub fn run<S: Source, O: Sink, E: Sink>(
         HaveNoFault (map string_bytes words.now) }
 
     // Words that ask for nothing leave the source and the output as they were.
-    ensures untouched { AsksForNothing (map string_bytes words.now) →
+    ensures untouched { AsksForNothing (GivesJob (map string_bytes words.now)) →
         (input.new ≡ input.old) × (out.new ≡ out.old) }
 
     // A run that shows the pattern's text, or makes its trace, reads no input.

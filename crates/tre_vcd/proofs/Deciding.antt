@@ -1,13 +1,14 @@
 -- Which statement of a past decides.
-use Rattle.std.proofs.Common.{◌≡◌, ◌≢◌, ◌↔◌, ℕ, zero, suc, ◌+◌, ◌*◌, ◌/◌, ◌%◌, ◌^◌, ◌<◌, Bool, true, false, List, [], ◌∷◌, ◌++◌, length, get_or, Option, None, Some, IsBitSet, refl, sym, ap, ◌∙◌, arith, if◌then◌else◌}
+use Rattle.std.proofs.Common.{◌≡◌, ◌≢◌, ◌↔◌, ℕ, zero, suc, ◌+◌, ◌*◌, ◌/◌, ◌%◌, ◌^◌, ◌<◌, ◌==◌, ◌&&◌, ◌||◌, not, Bool, true, false, List, [], ◌∷◌, ◌++◌, length, get_or, Option, None, Some, IsBitSet, refl, sym, ap, ◌∙◌, arith, if◌then◌else◌}
 use Rattle.std.specs.Int.{bit_at}
 use Rattle.std.specs.Str.{bytes_eq}
 use Rattle.std.proofs.Math.Nat.{pow-suc}
+use Rattle.std.proofs.lemmas.Bool.Decides.{nat_tests}
 use Rattle.std.proofs.lemmas.Nat.Bits.{bit_at-zero, bit_at_lowest, bit_at-suc}
 use Rattle.std.proofs.lemmas.Slice.Eq.{bytes_eq-Decides}
 use Rattle.tre_state.proofs.Bits.{bit_is}
-use Rattle.tre_vcd.specs.VcdReading.{Statement, scope, upscope, var, definitions, time, change, dump, dump_end, scopes_at, value_at, identifier_in, identifier_of, first_of, value_of, valuation_from}
-use Rattle.tre_vcd.specs.Deciding.{Keeps, LastChange, Leaves, FirstDeclaration, IsHigh}
+use Rattle.tre_vcd.specs.VcdReading.{Form, scalar, wide, Statement, scope, upscope, var, definitions, time, change, dump, dump_end, time_at, scopes_at, in_dump, value_at, happened_at, is_signal, is_event, identifier_in, identifier_of, first_of, passes, mask_from, valuation_at, events_at}
+use Rattle.tre_vcd.specs.Deciding.{Keeps, LastChange, StaysInTime, Happened, Leaves, FirstDeclaration, IsHigh, HasHappened}
 
 eq-same : (bytes : List ℕ) → bytes_eq bytes bytes ≡ true
 eq-same bytes = (bytes_eq-Decides bytes bytes).1 refl
@@ -32,7 +33,7 @@ value-behind (definitions ∷ later) earlier identifier keeps =
     value-behind later earlier identifier keeps
 value-behind (time ticks ∷ later) earlier identifier keeps =
     value-behind later earlier identifier keeps
-value-behind (change other value ∷ later) earlier identifier keeps =
+value-behind (change form other value ∷ later) earlier identifier keeps =
     ap (λ (b : Bool). if b then value else value_at (later ++ earlier) identifier)
     (eq-other identifier other (bytes_eq identifier other) refl keeps.0)
     ∙ value-behind later earlier identifier keeps.1
@@ -44,7 +45,7 @@ pub value-last : (past : List Statement) (identifier : List ℕ) (value : Bool) 
     identifier value → value_at past identifier ≡ value
 value-last past identifier value change_last =
     ap (λ (p : List Statement). value_at p identifier) change_last.parts
-    ∙ value-behind change_last.later (change identifier value ∷ change_last.earlier) identifier
+    ∙ value-behind change_last.later (change change_last.form identifier value ∷ change_last.earlier) identifier
     change_last.last
     ∙ ap (λ (b : Bool). if b then value else value_at change_last.earlier identifier)
     (eq-same identifier)
@@ -57,7 +58,7 @@ value-none (upscope ∷ past) identifier keeps = value-none past identifier keep
 value-none (var tokens ∷ past) identifier keeps = value-none past identifier keeps
 value-none (definitions ∷ past) identifier keeps = value-none past identifier keeps
 value-none (time ticks ∷ past) identifier keeps = value-none past identifier keeps
-value-none (change other value ∷ past) identifier keeps =
+value-none (change form other value ∷ past) identifier keeps =
     ap (λ (b : Bool). if b then value else value_at past identifier)
     (eq-other identifier other (bytes_eq identifier other) refl keeps.0)
     ∙ value-none past identifier keeps.1
@@ -70,31 +71,33 @@ last-later : (statement : Statement) (past : List Statement) (identifier : List 
     → LastChange past identifier value → LastChange (statement ∷ past) identifier value
 last-later statement past identifier value stays found = record {
   later = statement ∷ found.later;
+  form = found.form;
   earlier = found.earlier;
   parts = ap (λ (p : List Statement). statement ∷ p) found.parts;
   last = stays found.later found.last;
 }
 
-last-here : (other identifier : List ℕ) (value : Bool) (past : List Statement) → identifier ≡ other
-    → value ≡ true → LastChange (change other value ∷ past) identifier true
-last-here other identifier value past same is = record {
+last-here : (form : Form) (other identifier : List ℕ) (value : Bool) (past : List Statement) → identifier ≡ other
+    → value ≡ true → LastChange (change form other value ∷ past) identifier true
+last-here form other identifier value past same is = record {
   later = [];
+  form = form;
   earlier = past;
-  parts = ap (λ (o : List ℕ). change o value ∷ past) (sym same)
-      ∙ ap (λ (v : Bool). change identifier v ∷ past) is;
+  parts = ap (λ (o : List ℕ). change form o value ∷ past) (sym same)
+      ∙ ap (λ (v : Bool). change form identifier v ∷ past) is;
   last = tt;
 }
 
-last-change : (other identifier : List ℕ) (value : Bool) (past : List Statement) (same : Bool)
+last-change : (form : Form) (other identifier : List ℕ) (value : Bool) (past : List Statement) (same : Bool)
     → bytes_eq identifier other ≡ same
     → (value_at past identifier ≡ true → LastChange past identifier true)
     → (if same then value else value_at past identifier) ≡ true
-    → LastChange (change other value ∷ past) identifier true
-last-change other identifier value past true e more is = last-here other identifier value past
+    → LastChange (change form other value ∷ past) identifier true
+last-change form other identifier value past true e more is = last-here form other identifier value past
     ((bytes_eq-Decides identifier other).0 e) is
-last-change other identifier value past false e more is =
+last-change form other identifier value past false e more is =
     let apart : identifier ≢ other = λ same. cc (e, (bytes_eq-Decides identifier other).1 same) in
-    last-later (change other value) past identifier true (λ later keeps. (apart, keeps)) (more is)
+    last-later (change form other value) past identifier true (λ later keeps. (apart, keeps)) (more is)
 
 pub last-of : (past : List Statement) (identifier : List ℕ) → value_at past identifier ≡ true
     → LastChange past identifier true
@@ -109,64 +112,193 @@ last-of (definitions ∷ past) identifier is = last-later definitions past ident
     (λ later keeps. keeps) (last-of past identifier is)
 last-of (time ticks ∷ past) identifier is = last-later (time ticks) past identifier true
     (λ later keeps. keeps) (last-of past identifier is)
-last-of (change other value ∷ past) identifier is = last-change other identifier value past
+last-of (change form other value ∷ past) identifier is = last-change form other identifier value past
     (bytes_eq identifier other) refl (last-of past identifier) is
 last-of (dump ∷ past) identifier is = last-later dump past identifier true
     (λ later keeps. keeps) (last-of past identifier is)
 last-of (dump_end ∷ past) identifier is = last-later dump_end past identifier true
     (λ later keeps. keeps) (last-of past identifier is)
 
+-- ---- happenings
+
+happened-said : (outside same before : Bool) → before ≡ true → ((outside && same) || before) ≡ true
+happened-said true true before is = refl
+happened-said true false before is = is
+happened-said false same before is = is
+
+happened-time : (same before : Bool) → same ≡ true → before ≡ true
+    → (if same then before else false) ≡ true
+happened-time true before is more = more
+happened-time false before is more = is
+
+same-time : (one other : ℕ) → one ≡ other → (one == other) ≡ true
+same-time one other same = grind (arith, nat_tests)
+
+happened-behind : (later earlier : List Statement) (identifier : List ℕ) → StaysInTime later earlier
+    → happened_at earlier identifier ≡ true → happened_at (later ++ earlier) identifier ≡ true
+happened-behind [] earlier identifier stays is = is
+happened-behind (scope name ∷ later) earlier identifier stays is =
+    happened-behind later earlier identifier stays is
+happened-behind (upscope ∷ later) earlier identifier stays is =
+    happened-behind later earlier identifier stays is
+happened-behind (var tokens ∷ later) earlier identifier stays is =
+    happened-behind later earlier identifier stays is
+happened-behind (definitions ∷ later) earlier identifier stays is =
+    happened-behind later earlier identifier stays is
+happened-behind (time ticks ∷ later) earlier identifier stays is =
+    happened-time (ticks == time_at (later ++ earlier)) (happened_at (later ++ earlier) identifier)
+    (same-time ticks (time_at (later ++ earlier)) stays.0)
+    (happened-behind later earlier identifier stays.1 is)
+happened-behind (change scalar other value ∷ later) earlier identifier stays is =
+    happened-said (not (in_dump (later ++ earlier))) (bytes_eq identifier other)
+    (happened_at (later ++ earlier) identifier) (happened-behind later earlier identifier stays is)
+happened-behind (change wide other value ∷ later) earlier identifier stays is =
+    happened-behind later earlier identifier stays is
+happened-behind (dump ∷ later) earlier identifier stays is =
+    happened-behind later earlier identifier stays is
+happened-behind (dump_end ∷ later) earlier identifier stays is =
+    happened-behind later earlier identifier stays is
+
+said-here : (inside same before : Bool) → inside ≡ false → same ≡ true
+    → ((not inside && same) || before) ≡ true
+said-here false true before outside is = refl
+said-here false false before outside is = cc (is)
+said-here true same before outside is = cc (outside)
+
+happened-is : (past : List Statement) (identifier : List ℕ) → Happened past identifier
+    → happened_at past identifier ≡ true
+happened-is past identifier found =
+    ap (λ (p : List Statement). happened_at p identifier) found.parts
+    ∙ happened-behind found.later (change scalar identifier found.value ∷ found.earlier) identifier
+    found.now
+    (said-here (in_dump found.earlier) (bytes_eq identifier identifier)
+    (happened_at found.earlier identifier) found.outside (eq-same identifier))
+
+-- one more statement, which reaches no other time
+happened-later : (statement : Statement) (past : List Statement) (identifier : List ℕ)
+    → ((later earlier : List Statement) → past ≡ later ++ earlier → StaysInTime later earlier
+    → StaysInTime (statement ∷ later) earlier)
+    → Happened past identifier → Happened (statement ∷ past) identifier
+happened-later statement past identifier stays found = record {
+  later = statement ∷ found.later;
+  value = found.value;
+  earlier = found.earlier;
+  parts = ap (λ (p : List Statement). statement ∷ p) found.parts;
+  outside = found.outside;
+  now = stays found.later (change scalar identifier found.value ∷ found.earlier) found.parts
+      found.now;
+}
+
+happened-scalar : (other identifier : List ℕ) (value : Bool) (past : List Statement)
+    (inside same : Bool) → in_dump past ≡ inside → bytes_eq identifier other ≡ same
+    → (happened_at past identifier ≡ true → Happened past identifier)
+    → ((not inside && same) || happened_at past identifier) ≡ true
+    → Happened (change scalar other value ∷ past) identifier
+happened-scalar other identifier value past false true outside same more is = record {
+  later = [];
+  value = value;
+  earlier = past;
+  parts = ap (λ (o : List ℕ). change scalar o value ∷ past)
+      (sym ((bytes_eq-Decides identifier other).0 same));
+  outside = outside;
+  now = tt;
+}
+happened-scalar other identifier value past false false outside same more is =
+    happened-later (change scalar other value) past identifier (λ later earlier parts stays. stays)
+    (more is)
+happened-scalar other identifier value past true same outside e more is =
+    happened-later (change scalar other value) past identifier (λ later earlier parts stays. stays)
+    (more is)
+
+happened-at_time : (ticks : ℕ) (past : List Statement) (identifier : List ℕ) (same : Bool)
+    → (ticks == time_at past) ≡ same
+    → (happened_at past identifier ≡ true → Happened past identifier)
+    → (if same then happened_at past identifier else false) ≡ true
+    → Happened (time ticks ∷ past) identifier
+happened-at_time ticks past identifier true e more is =
+    let same : ticks ≡ time_at past = grind (arith, nat_tests) in
+    happened-later (time ticks) past identifier
+    (λ later earlier parts stays. (same ∙ ap time_at parts, stays)) (more is)
+happened-at_time ticks past identifier false e more is = cc (is)
+
+happened-of : (past : List Statement) (identifier : List ℕ) → happened_at past identifier ≡ true
+    → Happened past identifier
+happened-of [] identifier is = cc (is)
+happened-of (scope name ∷ past) identifier is = happened-later (scope name) past identifier
+    (λ later earlier parts stays. stays) (happened-of past identifier is)
+happened-of (upscope ∷ past) identifier is = happened-later upscope past identifier
+    (λ later earlier parts stays. stays) (happened-of past identifier is)
+happened-of (var tokens ∷ past) identifier is = happened-later (var tokens) past identifier
+    (λ later earlier parts stays. stays) (happened-of past identifier is)
+happened-of (definitions ∷ past) identifier is = happened-later definitions past identifier
+    (λ later earlier parts stays. stays) (happened-of past identifier is)
+happened-of (time ticks ∷ past) identifier is = happened-at_time ticks past identifier
+    (ticks == time_at past) refl (happened-of past identifier) is
+happened-of (change scalar other value ∷ past) identifier is = happened-scalar other identifier
+    value past (in_dump past) (bytes_eq identifier other) refl refl (happened-of past identifier) is
+happened-of (change wide other value ∷ past) identifier is = happened-later
+    (change wide other value) past identifier (λ later earlier parts stays. stays)
+    (happened-of past identifier is)
+happened-of (dump ∷ past) identifier is = happened-later dump past identifier
+    (λ later earlier parts stays. stays) (happened-of past identifier is)
+happened-of (dump_end ∷ past) identifier is = happened-later dump_end past identifier
+    (λ later earlier parts stays. stays) (happened-of past identifier is)
+
+pub happening-is : (past : List Statement) (identifier : List ℕ) → Happened past identifier
+    ↔ (happened_at past identifier ≡ true)
+happening-is past identifier = (happened-is past identifier, happened-of past identifier)
+
 -- ---- declarations
 
-pub declared-none : (past : List Statement) (name : List ℕ) → Leaves name past
-    → identifier_of past name ≡ None
-declared-none [] name leaves = refl
-declared-none (scope other ∷ past) name leaves = declared-none past name leaves
-declared-none (upscope ∷ past) name leaves = declared-none past name leaves
-declared-none (var tokens ∷ past) name leaves =
-    ap (λ (o : Option (List ℕ)). first_of o (identifier_in (scopes_at past) name tokens))
-    (declared-none past name leaves.1) ∙ leaves.0
-declared-none (definitions ∷ past) name leaves = declared-none past name leaves
-declared-none (time ticks ∷ past) name leaves = declared-none past name leaves
-declared-none (change other value ∷ past) name leaves = declared-none past name leaves
-declared-none (dump ∷ past) name leaves = declared-none past name leaves
-declared-none (dump_end ∷ past) name leaves = declared-none past name leaves
+pub declared-none : (test : List ℕ → List ℕ → Bool) (past : List Statement) (name : List ℕ) → Leaves test name past
+    → identifier_of test past name ≡ None
+declared-none test [] name leaves = refl
+declared-none test (scope other ∷ past) name leaves = declared-none test past name leaves
+declared-none test (upscope ∷ past) name leaves = declared-none test past name leaves
+declared-none test (var tokens ∷ past) name leaves =
+    ap (λ (o : Option (List ℕ)). first_of o (identifier_in test (scopes_at past) name tokens))
+    (declared-none test past name leaves.1) ∙ leaves.0
+declared-none test (definitions ∷ past) name leaves = declared-none test past name leaves
+declared-none test (time ticks ∷ past) name leaves = declared-none test past name leaves
+declared-none test (change form other value ∷ past) name leaves = declared-none test past name leaves
+declared-none test (dump ∷ past) name leaves = declared-none test past name leaves
+declared-none test (dump_end ∷ past) name leaves = declared-none test past name leaves
 
-declared-behind : (later earlier : List Statement) (name identifier : List ℕ)
-    → identifier_of earlier name ≡ Some identifier
-    → identifier_of (later ++ earlier) name ≡ Some identifier
-declared-behind [] earlier name identifier is = is
-declared-behind (scope other ∷ later) earlier name identifier is =
-    declared-behind later earlier name identifier is
-declared-behind (upscope ∷ later) earlier name identifier is =
-    declared-behind later earlier name identifier is
-declared-behind (var tokens ∷ later) earlier name identifier is =
-    ap (λ (o : Option (List ℕ)). first_of o (identifier_in (scopes_at (later ++ earlier)) name
+declared-behind : (test : List ℕ → List ℕ → Bool) (later earlier : List Statement) (name identifier : List ℕ)
+    → identifier_of test earlier name ≡ Some identifier
+    → identifier_of test (later ++ earlier) name ≡ Some identifier
+declared-behind test [] earlier name identifier is = is
+declared-behind test (scope other ∷ later) earlier name identifier is =
+    declared-behind test later earlier name identifier is
+declared-behind test (upscope ∷ later) earlier name identifier is =
+    declared-behind test later earlier name identifier is
+declared-behind test (var tokens ∷ later) earlier name identifier is =
+    ap (λ (o : Option (List ℕ)). first_of o (identifier_in test (scopes_at (later ++ earlier)) name
     tokens))
-    (declared-behind later earlier name identifier is)
-declared-behind (definitions ∷ later) earlier name identifier is =
-    declared-behind later earlier name identifier is
-declared-behind (time ticks ∷ later) earlier name identifier is =
-    declared-behind later earlier name identifier is
-declared-behind (change other value ∷ later) earlier name identifier is =
-    declared-behind later earlier name identifier is
-declared-behind (dump ∷ later) earlier name identifier is =
-    declared-behind later earlier name identifier is
-declared-behind (dump_end ∷ later) earlier name identifier is =
-    declared-behind later earlier name identifier is
+    (declared-behind test later earlier name identifier is)
+declared-behind test (definitions ∷ later) earlier name identifier is =
+    declared-behind test later earlier name identifier is
+declared-behind test (time ticks ∷ later) earlier name identifier is =
+    declared-behind test later earlier name identifier is
+declared-behind test (change form other value ∷ later) earlier name identifier is =
+    declared-behind test later earlier name identifier is
+declared-behind test (dump ∷ later) earlier name identifier is =
+    declared-behind test later earlier name identifier is
+declared-behind test (dump_end ∷ later) earlier name identifier is =
+    declared-behind test later earlier name identifier is
 
-declared-first : (past : List Statement) (name identifier : List ℕ) → FirstDeclaration past name
-    identifier → identifier_of past name ≡ Some identifier
-declared-first past name identifier found =
-    ap (λ (p : List Statement). identifier_of p name) found.parts
-    ∙ declared-behind found.later (var found.tokens ∷ found.earlier) name identifier
-    (ap (λ (o : Option (List ℕ)). first_of o (identifier_in (scopes_at found.earlier) name
+declared-first : (test : List ℕ → List ℕ → Bool) (past : List Statement) (name identifier : List ℕ) → FirstDeclaration test past name
+    identifier → identifier_of test past name ≡ Some identifier
+declared-first test past name identifier found =
+    ap (λ (p : List Statement). identifier_of test p name) found.parts
+    ∙ declared-behind test found.later (var found.tokens ∷ found.earlier) name identifier
+    (ap (λ (o : Option (List ℕ)). first_of o (identifier_in test (scopes_at found.earlier) name
     found.tokens))
-    (declared-none found.earlier name found.first) ∙ found.declares)
+    (declared-none test found.earlier name found.first) ∙ found.declares)
 
-first-later : (statement : Statement) (past : List Statement) (name identifier : List ℕ)
-    → FirstDeclaration past name identifier → FirstDeclaration (statement ∷ past) name identifier
-first-later statement past name identifier found = record {
+first-later : (test : List ℕ → List ℕ → Bool) (statement : Statement) (past : List Statement) (name identifier : List ℕ)
+    → FirstDeclaration test past name identifier → FirstDeclaration test (statement ∷ past) name identifier
+first-later test statement past name identifier found = record {
   later = statement ∷ found.later;
   earlier = found.earlier;
   tokens = found.tokens;
@@ -175,102 +307,82 @@ first-later statement past name identifier found = record {
   first = found.first;
 }
 
-leaves-var : (past : List Statement) (name : List ℕ) (tokens : List (List ℕ))
-    (before : Option (List ℕ)) → identifier_of past name ≡ before
-    → (identifier_of past name ≡ None → Leaves name past)
-    → first_of before (identifier_in (scopes_at past) name tokens) ≡ None
-    → Leaves name (var tokens ∷ past)
-leaves-var past name tokens None e leaves is = (is, leaves e)
-leaves-var past name tokens (Some own) e leaves is = cc (is)
+leaves-var : (test : List ℕ → List ℕ → Bool) (past : List Statement) (name : List ℕ) (tokens : List (List ℕ))
+    (before : Option (List ℕ)) → identifier_of test past name ≡ before
+    → (identifier_of test past name ≡ None → Leaves test name past)
+    → first_of before (identifier_in test (scopes_at past) name tokens) ≡ None
+    → Leaves test name (var tokens ∷ past)
+leaves-var test past name tokens None e leaves is = (is, leaves e)
+leaves-var test past name tokens (Some own) e leaves is = cc (is)
 
-leaves-none : (past : List Statement) (name : List ℕ) → identifier_of past name ≡ None
-    → Leaves name past
-leaves-none [] name is = tt
-leaves-none (scope other ∷ past) name is = leaves-none past name is
-leaves-none (upscope ∷ past) name is = leaves-none past name is
-leaves-none (var tokens ∷ past) name is = leaves-var past name tokens (identifier_of past name) refl
-    (leaves-none past name) is
-leaves-none (definitions ∷ past) name is = leaves-none past name is
-leaves-none (time ticks ∷ past) name is = leaves-none past name is
-leaves-none (change other value ∷ past) name is = leaves-none past name is
-leaves-none (dump ∷ past) name is = leaves-none past name is
-leaves-none (dump_end ∷ past) name is = leaves-none past name is
+leaves-none : (test : List ℕ → List ℕ → Bool) (past : List Statement) (name : List ℕ) → identifier_of test past name ≡ None
+    → Leaves test name past
+leaves-none test [] name is = tt
+leaves-none test (scope other ∷ past) name is = leaves-none test past name is
+leaves-none test (upscope ∷ past) name is = leaves-none test past name is
+leaves-none test (var tokens ∷ past) name is = leaves-var test past name tokens (identifier_of test past name) refl
+    (leaves-none test past name) is
+leaves-none test (definitions ∷ past) name is = leaves-none test past name is
+leaves-none test (time ticks ∷ past) name is = leaves-none test past name is
+leaves-none test (change form other value ∷ past) name is = leaves-none test past name is
+leaves-none test (dump ∷ past) name is = leaves-none test past name is
+leaves-none test (dump_end ∷ past) name is = leaves-none test past name is
 
-first-var : (past : List Statement) (name identifier : List ℕ) (tokens : List (List ℕ))
-    (before : Option (List ℕ)) → identifier_of past name ≡ before
-    → (identifier_of past name ≡ Some identifier → FirstDeclaration past name identifier)
-    → first_of before (identifier_in (scopes_at past) name tokens) ≡ Some identifier
-    → FirstDeclaration (var tokens ∷ past) name identifier
-first-var past name identifier tokens None e more is = record {
+first-var : (test : List ℕ → List ℕ → Bool) (past : List Statement) (name identifier : List ℕ) (tokens : List (List ℕ))
+    (before : Option (List ℕ)) → identifier_of test past name ≡ before
+    → (identifier_of test past name ≡ Some identifier → FirstDeclaration test past name identifier)
+    → first_of before (identifier_in test (scopes_at past) name tokens) ≡ Some identifier
+    → FirstDeclaration test (var tokens ∷ past) name identifier
+first-var test past name identifier tokens None e more is = record {
   later = [];
   earlier = past;
   tokens = tokens;
   parts = refl;
   declares = is;
-  first = leaves-none past name e;
+  first = leaves-none test past name e;
 }
-first-var past name identifier tokens (Some own) e more is = first-later (var tokens) past name
+first-var test past name identifier tokens (Some own) e more is = first-later test (var tokens) past name
     identifier (more (e ∙ is))
 
-first-of : (past : List Statement) (name identifier : List ℕ)
-    → identifier_of past name ≡ Some identifier → FirstDeclaration past name identifier
-first-of [] name identifier is = cc (is)
-first-of (scope other ∷ past) name identifier is = first-later (scope other) past name identifier
-    (first-of past name identifier is)
-first-of (upscope ∷ past) name identifier is = first-later upscope past name identifier
-    (first-of past name identifier is)
-first-of (var tokens ∷ past) name identifier is = first-var past name identifier tokens
-    (identifier_of past name) refl (first-of past name identifier) is
-first-of (definitions ∷ past) name identifier is = first-later definitions past name identifier
-    (first-of past name identifier is)
-first-of (time ticks ∷ past) name identifier is = first-later (time ticks) past name identifier
-    (first-of past name identifier is)
-first-of (change other value ∷ past) name identifier is = first-later (change other value) past name
-    identifier (first-of past name identifier is)
-first-of (dump ∷ past) name identifier is = first-later dump past name identifier
-    (first-of past name identifier is)
-first-of (dump_end ∷ past) name identifier is = first-later dump_end past name identifier
-    (first-of past name identifier is)
+first-of : (test : List ℕ → List ℕ → Bool) (past : List Statement) (name identifier : List ℕ)
+    → identifier_of test past name ≡ Some identifier → FirstDeclaration test past name identifier
+first-of test [] name identifier is = cc (is)
+first-of test (scope other ∷ past) name identifier is = first-later test (scope other) past name identifier
+    (first-of test past name identifier is)
+first-of test (upscope ∷ past) name identifier is = first-later test upscope past name identifier
+    (first-of test past name identifier is)
+first-of test (var tokens ∷ past) name identifier is = first-var test past name identifier tokens
+    (identifier_of test past name) refl (first-of test past name identifier) is
+first-of test (definitions ∷ past) name identifier is = first-later test definitions past name identifier
+    (first-of test past name identifier is)
+first-of test (time ticks ∷ past) name identifier is = first-later test (time ticks) past name identifier
+    (first-of test past name identifier is)
+first-of test (change form other value ∷ past) name identifier is = first-later test (change form other value) past name
+    identifier (first-of test past name identifier is)
+first-of test (dump ∷ past) name identifier is = first-later test dump past name identifier
+    (first-of test past name identifier is)
+first-of test (dump_end ∷ past) name identifier is = first-later test dump_end past name identifier
+    (first-of test past name identifier is)
 
-pub declared-is : (past : List Statement) (name identifier : List ℕ) → FirstDeclaration past name
-    identifier ↔ (identifier_of past name ≡ Some identifier)
-declared-is past name identifier = (
-  declared-first past name identifier,
-  first-of past name identifier,
+pub declared-is : (test : List ℕ → List ℕ → Bool) (past : List Statement) (name identifier : List ℕ) → FirstDeclaration test past name
+    identifier ↔ (identifier_of test past name ≡ Some identifier)
+declared-is test past name identifier = (
+  declared-first test past name identifier,
+  first-of test past name identifier,
 )
 
--- ---- valuations
+-- ---- masks
 
--- whether the proposition at the place is true
-abbrev pub value_in : List Statement → List (List ℕ) → ℕ → Bool
-value_in past [] i = false
-value_in past (name ∷ names) zero = value_of past (identifier_of past name)
-value_in past (name ∷ names) (suc i) = value_in past names i
+-- whether the name at the place has an identifier that passes the test
+abbrev pub passes_at : (List ℕ → Option (List ℕ)) → (List ℕ → Bool) → List (List ℕ) → ℕ → Bool
+passes_at identified test [] i = false
+passes_at identified test (name ∷ names) zero = passes test (identified name)
+passes_at identified test (name ∷ names) (suc i) = passes_at identified test names i
 
 twice-bit : (value : Bool) (i : ℕ) → (if value then 2 ^ suc i else 0)
     ≡ (if value then 2 ^ i else 0) * 2
 twice-bit true i = pow-suc 2 i
 twice-bit false i = refl
-
-twice : (past : List Statement) (names : List (List ℕ)) (i : ℕ) → valuation_from past (suc i) names
-    ≡ valuation_from past i names * 2
-twice past [] i = refl
-twice past (name ∷ names) i =
-    let one : i + 1 ≡ suc i = omega arith in
-    let two : suc i + 1 ≡ suc (suc i) = omega arith in
-    let bit = twice-bit (value_of past (identifier_of past name)) i in
-    let rest : valuation_from past (suc i + 1) names ≡ valuation_from past (i + 1) names * 2 =
-    ap (λ n. valuation_from past n names) two ∙ twice past names (suc i)
-    ∙ ap (λ n. valuation_from past n names * 2) (sym one) in
-    omega (arith, bit, rest)
-
--- the first bit and twice the others
-split-bits : (past : List Statement) (name : List ℕ) (names : List (List ℕ))
-    → valuation_from past 0 (name ∷ names)
-    ≡ (if value_of past (identifier_of past name) then 1 else 0) + valuation_from past 0 names * 2
-split-bits past name names = ap (λ n. (if value_of past (identifier_of past name) then 1 else 0) +
-    n)
-    (twice past names 0)
 
 lowest : (value : Bool) (rest : ℕ) → ((if value then 1 else 0) + rest * 2) % 2
     ≡ (if value then 1 else 0)
@@ -281,65 +393,131 @@ others : (value : Bool) (rest : ℕ) → ((if value then 1 else 0) + rest * 2) /
 others true rest = omega arith
 others false rest = omega arith
 
-pub bit_in : (past : List Statement) (names : List (List ℕ)) (i : ℕ)
-    → bit_at (valuation_from past 0 names) i ≡ (if value_in past names i then 1 else 0)
-bit_in past [] i = bit_at-zero i
-bit_in past (name ∷ names) zero =
-    bit_at_lowest (valuation_from past 0 (name ∷ names))
-    ∙ ap (λ n. n % 2) (split-bits past name names)
-    ∙ lowest (value_of past (identifier_of past name)) (valuation_from past 0 names)
-bit_in past (name ∷ names) (suc i) =
-    bit_at-suc (valuation_from past 0 (name ∷ names)) i
-    ∙ ap (λ n. bit_at (n / 2) i) (split-bits past name names)
-    ∙ ap (λ n. bit_at n i) (others (value_of past (identifier_of past name))
-    (valuation_from past 0 names))
-    ∙ bit_in past names i
-
 one-true : (value : Bool) → ◌≡◌ {A = ℕ} (if value then 1 else 0) 1 → value ≡ true
 one-true true is = refl
 one-true false is = absurd (omega (arith, is))
 
-high-of : (past : List Statement) (names : List (List ℕ)) (i : ℕ) → i < length names
-    → (identified : Option (List ℕ)) → identifier_of past (get_or names i []) ≡ identified
-    → value_of past identified ≡ true → IsHigh past names i
-high-of past names i within None e is = cc (is)
-high-of past names i within (Some identifier) e is = record {
-  within = within;
-  identifier = identifier;
-  declared = first-of past (get_or names i []) identifier e;
-  high = last-of past identifier is;
-}
+-- The name at the place has an identifier, which passes the test.
+pub record PassesAt (identified : List ℕ → Option (List ℕ)) (test : List ℕ → Bool)
+    (names : List (List ℕ)) (i : ℕ) : Type 0 where
+  pub within : i < length names
+  pub identifier : List ℕ
+  pub is : identified (get_or names i []) ≡ Some identifier
+  pub passes : test identifier ≡ true
 
--- the place is one of the names, and its value is that of the name there
-record IsAt (past : List Statement) (names : List (List ℕ)) (i : ℕ) : Type 0 where
-  within : i < length names
-  is : value_of past (identifier_of past (get_or names i [])) ≡ true
+module _ (identified : List ℕ → Option (List ℕ)) (test : List ℕ → Bool) where
+  twice : (names : List (List ℕ)) (i : ℕ) → mask_from identified test (suc i) names
+      ≡ mask_from identified test i names * 2
+  twice [] i = refl
+  twice (name ∷ names) i =
+      let one : i + 1 ≡ suc i = omega arith in
+      let two : suc i + 1 ≡ suc (suc i) = omega arith in
+      let bit = twice-bit (passes test (identified name)) i in
+      let rest : mask_from identified test (suc i + 1) names
+      ≡ mask_from identified test (i + 1) names * 2 =
+      ap (λ n. mask_from identified test n names) two ∙ twice names (suc i)
+      ∙ ap (λ n. mask_from identified test n names * 2) (sym one) in
+      omega (arith, bit, rest)
 
-is-at : (past : List Statement) (names : List (List ℕ)) (i : ℕ) → value_in past names i ≡ true
-    → IsAt past names i
-is-at past [] i is = cc (is)
-is-at past (name ∷ names) zero is = record { within = omega arith; is = is }
-is-at past (name ∷ names) (suc i) is =
-    let at = is-at past names i is in
-    record { within = omega (arith, at.within); is = at.is }
+  -- the first bit and twice the others
+  split-bits : (name : List ℕ) (names : List (List ℕ))
+      → mask_from identified test 0 (name ∷ names)
+      ≡ (if passes test (identified name) then 1 else 0) + mask_from identified test 0 names * 2
+  split-bits name names = ap (λ n. (if passes test (identified name) then 1 else 0) + n)
+      (twice names 0)
 
-value-at : (past : List Statement) (names : List (List ℕ)) (i : ℕ) → i < length names
-    → value_in past names i ≡ value_of past (identifier_of past (get_or names i []))
-value-at past [] i within = absurd (omega (arith, within))
-value-at past (name ∷ names) zero within = refl
-value-at past (name ∷ names) (suc i) within = value-at past names i (omega (arith, within))
+  pub bit_in : (names : List (List ℕ)) (i : ℕ) → bit_at (mask_from identified test 0 names) i
+      ≡ (if passes_at identified test names i then 1 else 0)
+  bit_in [] i = bit_at-zero i
+  bit_in (name ∷ names) zero =
+      bit_at_lowest (mask_from identified test 0 (name ∷ names))
+      ∙ ap (λ n. n % 2) (split-bits name names)
+      ∙ lowest (passes test (identified name)) (mask_from identified test 0 names)
+  bit_in (name ∷ names) (suc i) =
+      bit_at-suc (mask_from identified test 0 (name ∷ names)) i
+      ∙ ap (λ n. bit_at (n / 2) i) (split-bits name names)
+      ∙ ap (λ n. bit_at n i) (others (passes test (identified name))
+      (mask_from identified test 0 names))
+      ∙ bit_in names i
+
+  passes-here : (name : List ℕ) (names : List (List ℕ)) (own : Option (List ℕ))
+      → identified name ≡ own → passes test own ≡ true
+      → PassesAt identified test (name ∷ names) 0
+  passes-here name names None e is = cc (is)
+  passes-here name names (Some identifier) e is =
+      record { within = omega arith; identifier = identifier; is = e; passes = is }
+
+  passes-of : (names : List (List ℕ)) (i : ℕ) → passes_at identified test names i ≡ true
+      → PassesAt identified test names i
+  passes-of [] i is = cc (is)
+  passes-of (name ∷ names) zero is = passes-here name names (identified name) refl is
+  passes-of (name ∷ names) (suc i) is =
+      let at = passes-of names i is in
+      record {
+        within = omega (arith, at.within);
+        identifier = at.identifier;
+        is = at.is;
+        passes = at.passes;
+      }
+
+  passes-in : (names : List (List ℕ)) (i : ℕ) (identifier : List ℕ) → i < length names
+      → identified (get_or names i []) ≡ Some identifier → test identifier ≡ true
+      → passes_at identified test names i ≡ true
+  passes-in [] i identifier within is passed = absurd (omega (arith, within))
+  passes-in (name ∷ names) zero identifier within is passed = ap (passes test) is ∙ passed
+  passes-in (name ∷ names) (suc i) identifier within is passed =
+      passes-in names i identifier (omega (arith, within)) is passed
+
+  pub mask-is : (names : List (List ℕ)) (i : ℕ) → IsBitSet (mask_from identified test 0 names) i
+      ↔ PassesAt identified test names i
+  mask-is names i = (
+    λ set.
+        let one : bit_at (mask_from identified test 0 names) i ≡ 1 = (bit_is _ i).1 set in
+        passes-of names i (one-true (passes_at identified test names i)
+        (sym (bit_in names i) ∙ one)),
+    λ at.
+        (bit_is _ i).0 (bit_in names i ∙ ap (λ (b : Bool). if b then 1 else 0)
+        (passes-in names i at.identifier at.within at.is at.passes)),
+  )
 
 pub valuation-is : (past : List Statement) (names : List (List ℕ)) (i : ℕ)
-    → IsBitSet (valuation_from past 0 names) i ↔ IsHigh past names i
-valuation-is past names i = (
-  λ set.
-      let one : bit_at (valuation_from past 0 names) i ≡ 1 = (bit_is _ i).1 set in
-      let at : IsAt past names i = is-at past names i (one-true (value_in past names i)
-      (sym (bit_in past names i) ∙ one)) in
-      high-of past names i at.within (identifier_of past (get_or names i [])) refl at.is,
-  λ high.
-      let is : value_in past names i ≡ true = value-at past names i high.within
-      ∙ ap (value_of past) (declared-first past (get_or names i []) high.identifier high.declared)
-      ∙ value-last past high.identifier true high.high in
-      (bit_is _ i).0 (bit_in past names i ∙ ap (λ (b : Bool). if b then 1 else 0) is),
-)
+    → IsBitSet (valuation_at past names) i ↔ IsHigh past names i
+valuation-is past names i =
+    let is = mask-is (identifier_of is_signal past) (value_at past) names i in (
+      λ set.
+          let at = is.0 set in
+          record {
+            within = at.within;
+            identifier = at.identifier;
+            declared = first-of is_signal past (get_or names i []) at.identifier at.is;
+            high = last-of past at.identifier at.passes;
+          },
+      λ high.
+          is.1 (record {
+            within = high.within;
+            identifier = high.identifier;
+            is = declared-first is_signal past (get_or names i []) high.identifier high.declared;
+            passes = value-last past high.identifier true high.high;
+          }),
+    )
+
+pub events-are : (past : List Statement) (names : List (List ℕ)) (i : ℕ)
+    → IsBitSet (events_at past names) i ↔ HasHappened past names i
+events-are past names i =
+    let is = mask-is (identifier_of is_event past) (happened_at past) names i in (
+      λ set.
+          let at = is.0 set in
+          record {
+            within = at.within;
+            identifier = at.identifier;
+            declared = first-of is_event past (get_or names i []) at.identifier at.is;
+            happened = happened-of past at.identifier at.passes;
+          },
+      λ has.
+          is.1 (record {
+            within = has.within;
+            identifier = has.identifier;
+            is = declared-first is_event past (get_or names i []) has.identifier has.declared;
+            passes = happened-is past has.identifier has.happened;
+          }),
+    )

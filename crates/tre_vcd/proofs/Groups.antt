@@ -1,5 +1,5 @@
 -- What groups of tokens say.
-use Rattle.std.proofs.Common.{◌≡◌, ◌⊎◌, inl, inr, ⊎_elim, ℕ, ◌+◌, ◌-◌, ◌<◌, ◌≤◌, nat_lt, ◌==◌, ◌||◌, Bool, true, false, List, [], ◌∷◌, ◌++◌, append_assoc, append-nil, length, codes, Result, Ok, Err, refl, sym, ap, ◌∙◌, arith, if◌then◌else◌}
+use Rattle.std.proofs.Common.{◌≡◌, inl, inr, ⊎_elim, ℕ, ◌+◌, ◌-◌, ◌<◌, ◌≤◌, nat_lt, ◌==◌, ◌||◌, Bool, true, false, List, [], ◌∷◌, ◌++◌, append_assoc, append-nil, length, codes, Result, Ok, Err, refl, sym, ap, ◌∙◌, arith, if◌then◌else◌}
 use Rattle.std.proofs.lemmas.Bool.{or_cases}
 use Rattle.std.proofs.lemmas.Bool.Decides.{nat_tests}
 use Rattle.std.proofs.lemmas.List.Elements.{All-head, All-tail}
@@ -7,10 +7,12 @@ use Rattle.std.proofs.lemmas.Slice.Eq.{bytes_eq-Decides}
 use Rattle.std.specs.Str.{bytes_eq}
 use Rattle.tre_pairs.specs.declared.TheConstants.{TIME_MAX}
 use Rattle.tre_parts.specs.Format.{Step}
+use Rattle.tre_trace.specs.Reading.{Vocabulary}
+use Rattle.tre_trace.specs.Segments.{segment_with}
 use Rattle.tre_trace.specs.declared.fault.TraceKind.{TraceKind}
 use Rattle.tre_trace.specs.declared.segment.Segment.{Segment}
 use Rattle.tre_vcd.specs.Dumps.{AreInner, section_of, IsScalar, is_vector, is_number, IsVector, Write, AreSilent, Belongs, Fits, Bring, SayNext, Say, tokens_in}
-use Rattle.tre_vcd.specs.VcdReading.{is, is_end, is_dump, is_scalar, ends_true, is_defined, scopes_at, time_at, valuation_from, Statement, scope, upscope, var, definitions, time, change, dump, dump_end, Open, nothing, section, comment, vector, number, Place, goes_to, scope_says, section_says, command_says, time_says, dump_says, scalar_says, vector_says, value_says}
+use Rattle.tre_vcd.specs.VcdReading.{is, is_end, is_dump, is_scalar, ends_true, is_defined, scopes_at, time_at, valuation_at, events_at, segment_until, Terms, scalar, wide, Statement, scope, upscope, var, definitions, time, change, dump, dump_end, Open, nothing, section, comment, vector, number, Place, goes_to, scope_says, section_says, command_says, time_says, dump_says, scalar_says, vector_says, value_says}
 use Rattle.tre_vcd.proofs.TokenRuns.{with_front, with_front-none, then_run, stay, run, run-append}
 
 abbrev pub at : List Statement → Open → Place
@@ -19,62 +21,62 @@ at past inside = record { past = past; inside = inside }
 -- ---- sections
 
 -- the tokens of an open section, and its end
-inner_run : (names : List (List ℕ)) (past : List Statement) (command : List ℕ)
+inner_run : (terms : Terms) (past : List Statement) (command : List ℕ)
     (kept inner more : List (List ℕ)) → AreInner inner
-    → run names (at past (section command kept)) (inner ++ codes "$end" ∷ more)
-    ≡ then_run (section_says past command (kept ++ inner)) (λ now. run names now more)
-inner_run names past command kept [] more closed =
-    ap (λ tokens. then_run (section_says past command tokens) (λ now. run names now more))
+    → run terms (at past (section command kept)) (inner ++ codes "$end" ∷ more)
+    ≡ then_run (section_says past command (kept ++ inner)) (λ now. run terms now more)
+inner_run terms past command kept [] more closed =
+    ap (λ tokens. then_run (section_says past command tokens) (λ now. run terms now more))
     (sym (append-nil kept))
-inner_run names past command kept (token ∷ inner) more closed =
+inner_run terms past command kept (token ∷ inner) more closed =
     ap (λ (ends : Bool). then_run (if ends then section_says past command kept
     else goes_to past (section command (kept ++ token ∷ [])))
-    (λ now. run names now (inner ++ codes "$end" ∷ more)))
+    (λ now. run terms now (inner ++ codes "$end" ∷ more)))
     (All-head (λ t. is_end t ≡ false) token inner closed)
-    ∙ with_front-none (run names (at past (section command (kept ++ token ∷ [])))
+    ∙ with_front-none (run terms (at past (section command (kept ++ token ∷ [])))
     (inner ++ codes "$end" ∷ more))
-    ∙ inner_run names past command (kept ++ token ∷ []) inner more
+    ∙ inner_run terms past command (kept ++ token ∷ []) inner more
     (All-tail (λ t. is_end t ≡ false) token inner closed)
-    ∙ ap (λ tokens. then_run (section_says past command tokens) (λ now. run names now more))
+    ∙ ap (λ tokens. then_run (section_says past command tokens) (λ now. run terms now more))
     (append_assoc kept (token ∷ []) inner)
 
 -- the tokens of an open comment, and its end
-comment_run : (names : List (List ℕ)) (past : List Statement) (inner : List (List ℕ))
+comment_run : (terms : Terms) (past : List Statement) (inner : List (List ℕ))
     → AreInner inner
-    → run names (at past comment) (inner ++ codes "$end" ∷ []) ≡ stay (at past nothing)
-comment_run names past [] closed = refl
-comment_run names past (token ∷ inner) closed =
+    → run terms (at past comment) (inner ++ codes "$end" ∷ []) ≡ stay (at past nothing)
+comment_run terms past [] closed = refl
+comment_run terms past (token ∷ inner) closed =
     ap (λ (ends : Bool). then_run (goes_to past (if ends then nothing else comment))
-    (λ now. run names now (inner ++ codes "$end" ∷ [])))
+    (λ now. run terms now (inner ++ codes "$end" ∷ [])))
     (All-head (λ t. is_end t ≡ false) token inner closed)
-    ∙ with_front-none (run names (at past comment) (inner ++ codes "$end" ∷ []))
-    ∙ comment_run names past inner (All-tail (λ t. is_end t ≡ false) token inner closed)
+    ∙ with_front-none (run terms (at past comment) (inner ++ codes "$end" ∷ []))
+    ∙ comment_run terms past inner (All-tail (λ t. is_end t ≡ false) token inner closed)
 
 -- a section of a command that may stand there
-section_run : (names : List (List ℕ)) (past : List Statement) (command : List ℕ)
+section_run : (terms : Terms) (past : List Statement) (command : List ℕ)
     (inner : List (List ℕ)) (now : List Statement) → is_defined past ≡ false
-    → command_says names past command ≡ goes_to past (section command []) → AreInner inner
+    → command_says terms past command ≡ goes_to past (section command []) → AreInner inner
     → section_says past command inner ≡ goes_to now nothing
-    → run names (at past nothing) (section_of command inner) ≡ stay (at now nothing)
-section_run names past command inner now defined opens closed says =
-    ap (λ (is : Bool). then_run (if is then value_says names past command
-    else command_says names past command)
-    (λ place. run names place (inner ++ codes "$end" ∷ []))) defined
-    ∙ ap (λ said. then_run said (λ place. run names place (inner ++ codes "$end" ∷ []))) opens
-    ∙ with_front-none (run names (at past (section command [])) (inner ++ codes "$end" ∷ []))
-    ∙ inner_run names past command [] inner [] closed
+    → run terms (at past nothing) (section_of command inner) ≡ stay (at now nothing)
+section_run terms past command inner now defined opens closed says =
+    ap (λ (is : Bool). then_run (if is then value_says terms.names past command
+    else command_says terms past command)
+    (λ place. run terms place (inner ++ codes "$end" ∷ []))) defined
+    ∙ ap (λ said. then_run said (λ place. run terms place (inner ++ codes "$end" ∷ []))) opens
+    ∙ with_front-none (run terms (at past (section command [])) (inner ++ codes "$end" ∷ []))
+    ∙ inner_run terms past command [] inner [] closed
     ∙ ap (λ said. then_run said (λ place. stay place)) says
 
 -- one token behind the declarations
-value_run : (names : List (List ℕ)) (past : List Statement) (token : List ℕ)
+value_run : (terms : Terms) (past : List Statement) (token : List ℕ)
     (more : List (List ℕ)) (now : Place) → is_defined past ≡ true
-    → value_says names past token ≡ stay now
-    → run names (at past nothing) (token ∷ more) ≡ run names now more
-value_run names past token more now defined says =
-    ap (λ (is : Bool). then_run (if is then value_says names past token
-    else command_says names past token) (λ place. run names place more)) defined
-    ∙ ap (λ said. then_run said (λ place. run names place more)) says
-    ∙ with_front-none (run names now more)
+    → value_says terms.names past token ≡ stay now
+    → run terms (at past nothing) (token ∷ more) ≡ run terms now more
+value_run terms past token more now defined says =
+    ap (λ (is : Bool). then_run (if is then value_says terms.names past token
+    else command_says terms past token) (λ place. run terms place more)) defined
+    ∙ ap (λ said. then_run said (λ place. run terms place more)) says
+    ∙ with_front-none (run terms now more)
 
 -- ---- tests
 
@@ -124,13 +126,10 @@ other_time a b c ends some = grind (arith, nat_tests)
 -- ---- what one group says
 
 -- the segments that a statement brings
-abbrev pub brought : List (List ℕ) → List Statement → Statement → List Segment
-brought names past (time ticks) =
-    if ticks == time_at past then [] else record {
-      len = ticks - time_at past;
-      val = valuation_from past 0 names;
-    } ∷ []
-brought names past _ = []
+abbrev pub brought : Vocabulary → List Statement → Statement → List Segment
+brought asked past (time ticks) =
+    if ticks == time_at past then [] else segment_until asked past ticks ∷ []
+brought asked past _ = []
 
 -- these segments are said, and nothing is open behind them
 abbrev pub tells : List Segment → List Statement → Result (Step Place) TraceKind
@@ -141,13 +140,13 @@ then_stay (Err kind) = refl
 then_stay (Ok step) =
     ap (λ all. Ok (record { segments = all; state = step.state })) (append-nil step.segments)
 
-one_run : (names : List (List ℕ)) (past : List Statement) (token : List ℕ)
+one_run : (terms : Terms) (past : List Statement) (token : List ℕ)
     (said : Result (Step Place) TraceKind) → is_defined past ≡ true
-    → value_says names past token ≡ said → run names (at past nothing) (token ∷ []) ≡ said
-one_run names past token said defined says =
-    ap (λ (is : Bool). then_run (if is then value_says names past token
-    else command_says names past token) stay) defined
-    ∙ then_stay (value_says names past token)
+    → value_says terms.names past token ≡ said → run terms (at past nothing) (token ∷ []) ≡ said
+one_run terms past token said defined says =
+    ap (λ (is : Bool). then_run (if is then value_says terms.names past token
+    else command_says terms past token) stay) defined
+    ∙ then_stay (value_says terms.names past token)
     ∙ says
 
 if_later : (same : Bool) (segment : Segment) (now : List Statement)
@@ -157,20 +156,17 @@ if_later : (same : Bool) (segment : Segment) (now : List Statement)
 if_later true segment now = refl
 if_later false segment now = refl
 
-time_tells : (names : List (List ℕ)) (past : List Statement) (ticks : ℕ) → time_at past ≤ ticks
+time_tells : (asked : Vocabulary) (past : List Statement) (ticks : ℕ) → time_at past ≤ ticks
     → ticks ≤ TIME_MAX
-    → time_says names past ticks ≡ tells (brought names past (time ticks)) (time ticks ∷ past)
-time_tells names past ticks late in_time =
+    → time_says asked past ticks ≡ tells (brought asked past (time ticks)) (time ticks ∷ past)
+time_tells asked past ticks late in_time =
     rw (not_below ticks (time_at past) late, not_below TIME_MAX ticks in_time)
-    (if_later (ticks == time_at past) (record {
-      len = ticks - time_at past;
-      val = valuation_from past 0 names;
-    }) (time ticks ∷ past))
+    (if_later (ticks == time_at past) (segment_until asked past ticks) (time ticks ∷ past))
 
-scalar_value : (names : List (List ℕ)) (past : List Statement) (letter : ℕ) (identifier : List ℕ)
+scalar_value : (asked : Vocabulary) (past : List Statement) (letter : ℕ) (identifier : List ℕ)
     → is_scalar letter ≡ true
-    → value_says names past (letter ∷ identifier) ≡ scalar_says past letter identifier
-scalar_value names past letter identifier is =
+    → value_says asked past (letter ∷ identifier) ≡ scalar_says past letter identifier
+scalar_value asked past letter identifier is =
     rw (
       scalar_hash letter is,
       scalar_dollar letter is,
@@ -180,14 +176,14 @@ scalar_value names past letter identifier is =
     ) refl
 
 some_scalar : (past : List Statement) (letter : ℕ) (identifier : List ℕ) → 0 < length identifier
-    → scalar_says past letter identifier ≡ goes_to (change identifier (letter == 49) ∷ past) nothing
+    → scalar_says past letter identifier ≡ goes_to (change scalar identifier (letter == 49) ∷ past) nothing
 some_scalar past letter [] some = absurd (omega (arith, some))
 some_scalar past letter (byte ∷ bytes) some = refl
 
-vector_value : (names : List (List ℕ)) (past : List Statement) (letter : ℕ) (bits : List ℕ)
+vector_value : (asked : Vocabulary) (past : List Statement) (letter : ℕ) (bits : List ℕ)
     → is_vector letter ≡ true
-    → value_says names past (letter ∷ bits) ≡ vector_says past bits
-vector_value names past letter bits is =
+    → value_says asked past (letter ∷ bits) ≡ vector_says past bits
+vector_value asked past letter bits is =
     rw (vector_hash letter is, vector_dollar letter is, is) refl
 
 some_vector : (past : List Statement) (bits : List ℕ) → 0 < length bits
@@ -195,17 +191,17 @@ some_vector : (past : List Statement) (bits : List ℕ) → 0 < length bits
 some_vector past [] some = absurd (omega (arith, some))
 some_vector past (byte ∷ bytes) some = refl
 
-number_value : (names : List (List ℕ)) (past : List Statement) (letter : ℕ) (bytes : List ℕ)
-    → is_number letter ≡ true → value_says names past (letter ∷ bytes) ≡ goes_to past number
-number_value names past letter bytes is =
+number_value : (asked : Vocabulary) (past : List Statement) (letter : ℕ) (bytes : List ℕ)
+    → is_number letter ≡ true → value_says asked past (letter ∷ bytes) ≡ goes_to past number
+number_value asked past letter bytes is =
     rw (number_hash letter is, number_dollar letter is, number_vector letter is, is) refl
 
 pub is_word : (token word : List ℕ) → bytes_eq token word ≡ true → token ≡ word
 is_word token word same = (bytes_eq-Decides token word).0 same
 
-dump_value : (names : List (List ℕ)) (past : List Statement) (token : List ℕ)
-    → is_dump token ≡ true → value_says names past token ≡ dump_says past
-dump_value names past token opens =
+dump_value : (asked : Vocabulary) (past : List Statement) (token : List ℕ)
+    → is_dump token ≡ true → value_says asked past token ≡ dump_says past
+dump_value asked past token opens =
     ⊎_elim
     (λ first. ⊎_elim
     (λ other. ⊎_elim
@@ -219,153 +215,159 @@ dump_value names past token opens =
     (or_cases (is token (codes "$dumpall") || is token (codes "$dumpoff")
     || is token (codes "$dumpon")) (is token (codes "$dumpvars")) opens)
 
-change_run : (names : List (List ℕ)) (past : List Statement) (identifier : List ℕ) (value : Bool)
-    (tokens : List (List ℕ)) → IsScalar identifier value tokens ⊎ IsVector identifier value tokens
-    → is_defined past ≡ true
-    → run names (at past nothing) tokens ≡ tells [] (change identifier value ∷ past)
-change_run names past identifier value tokens (inl one) defined =
+scalar_run : (terms : Terms) (past : List Statement) (identifier : List ℕ) (value : Bool)
+    (tokens : List (List ℕ)) → IsScalar identifier value tokens → is_defined past ≡ true
+    → run terms (at past nothing) tokens ≡ tells [] (change scalar identifier value ∷ past)
+scalar_run terms past identifier value tokens one defined =
     rw (one.is, one.value_is)
-    (one_run names past (one.letter ∷ identifier)
-    (goes_to (change identifier (one.letter == 49) ∷ past) nothing) defined
-    (scalar_value names past one.letter identifier one.scalar
+    (one_run terms past (one.letter ∷ identifier)
+    (goes_to (change scalar identifier (one.letter == 49) ∷ past) nothing) defined
+    (scalar_value terms.names past one.letter identifier one.scalar
     ∙ some_scalar past one.letter identifier one.some))
-change_run names past identifier value tokens (inr one) defined =
+
+vector_run : (terms : Terms) (past : List Statement) (identifier : List ℕ) (value : Bool)
+    (tokens : List (List ℕ)) → IsVector identifier value tokens → is_defined past ≡ true
+    → run terms (at past nothing) tokens ≡ tells [] (change wide identifier value ∷ past)
+vector_run terms past identifier value tokens one defined =
     rw (one.is, one.value_is)
-    (value_run names past (one.letter ∷ one.bits) (identifier ∷ [])
+    (value_run terms past (one.letter ∷ one.bits) (identifier ∷ [])
     (at past (vector (ends_true one.bits))) defined
-    (vector_value names past one.letter one.bits one.vector ∙ some_vector past one.bits one.some))
+    (vector_value terms.names past one.letter one.bits one.vector
+    ∙ some_vector past one.bits one.some))
 
 -- what says something goes on behind it
-pub writes_run : (names : List (List ℕ)) (past : List Statement) (statement : Statement)
+pub writes_run : (terms : Terms) (past : List Statement) (statement : Statement)
     (tokens : List (List ℕ)) → Write statement tokens → Belongs past statement
-    → Fits names past statement
-    → run names (at past nothing) tokens ≡ tells (brought names past statement) (statement ∷ past)
-writes_run names past (scope name) tokens writes belongs fits =
+    → Fits terms past statement
+    → run terms (at past nothing) tokens ≡ tells (brought terms.names past statement) (statement ∷ past)
+writes_run terms past (scope name) tokens writes belongs fits =
     rw writes.is
-    (section_run names past (codes "$scope") writes.inner (scope name ∷ past) belongs refl
+    (section_run terms past (codes "$scope") writes.inner (scope name ∷ past) belongs refl
     writes.closed (ap (scope_says past) writes.holds.is))
-writes_run names past upscope tokens writes belongs fits =
+writes_run terms past upscope tokens writes belongs fits =
     rw writes.is
-    (section_run names past (codes "$upscope") writes.inner (upscope ∷ past) belongs.0
+    (section_run terms past (codes "$upscope") writes.inner (upscope ∷ past) belongs.0
     (rw (some_scopes (scopes_at past) belongs.1) refl) writes.closed refl)
-writes_run names past (var inner) tokens writes belongs fits =
+writes_run terms past (var inner) tokens writes belongs fits =
     rw writes.is
-    (section_run names past (codes "$var") writes.inner (var inner ∷ past) belongs refl
+    (section_run terms past (codes "$var") writes.inner (var inner ∷ past) belongs refl
     writes.closed
     (rw (enough_tokens (length writes.inner) writes.holds.enough)
     (ap (λ all. goes_to (var all ∷ past) nothing) writes.holds.is)))
-writes_run names past definitions tokens writes belongs fits =
+writes_run terms past definitions tokens writes belongs fits =
     rw writes.is
-    (section_run names past (codes "$enddefinitions") writes.inner (definitions ∷ past) belongs
+    (section_run terms past (codes "$enddefinitions") writes.inner (definitions ∷ past) belongs
     (rw fits refl) writes.closed refl)
-writes_run names past (time ticks) tokens writes belongs fits =
+writes_run terms past (time ticks) tokens writes belongs fits =
     rw writes.is
-    (one_run names past (35 ∷ writes.digits) (tells (brought names past (time ticks))
+    (one_run terms past (35 ∷ writes.digits) (tells (brought terms.names past (time ticks))
     (time ticks ∷ past)) belongs
-    (rw (writes.numeral, ← writes.value) (time_tells names past ticks fits.0 fits.1)))
-writes_run names past (change identifier value) tokens writes belongs fits =
-    change_run names past identifier value tokens writes belongs
-writes_run names past dump tokens writes belongs fits =
+    (rw (writes.numeral, ← writes.value) (time_tells terms.names past ticks fits.0 fits.1)))
+writes_run terms past (change scalar identifier value) tokens writes belongs fits =
+    scalar_run terms past identifier value tokens writes belongs
+writes_run terms past (change wide identifier value) tokens writes belongs fits =
+    vector_run terms past identifier value tokens writes belongs
+writes_run terms past dump tokens writes belongs fits =
     rw writes.is
-    (one_run names past writes.token (tells [] (dump ∷ past)) belongs.0
-    (dump_value names past writes.token writes.opens ∙ rw belongs.1 refl))
-writes_run names past dump_end tokens writes belongs fits =
+    (one_run terms past writes.token (tells [] (dump ∷ past)) belongs.0
+    (dump_value terms.names past writes.token writes.opens ∙ rw belongs.1 refl))
+writes_run terms past dump_end tokens writes belongs fits =
     rw writes
-    (one_run names past (codes "$end") (tells [] (dump_end ∷ past)) belongs.0
+    (one_run terms past (codes "$end") (tells [] (dump_end ∷ past)) belongs.0
     (rw belongs.1 refl))
 
 -- what says nothing changes nothing
-pub silent_run : (names : List (List ℕ)) (past : List Statement) (tokens : List (List ℕ))
+pub silent_run : (terms : Terms) (past : List Statement) (tokens : List (List ℕ))
     (defined : Bool) → is_defined past ≡ defined → AreSilent defined tokens
-    → run names (at past nothing) tokens ≡ stay (at past nothing)
-silent_run names past tokens false defined silent =
+    → run terms (at past nothing) tokens ≡ stay (at past nothing)
+silent_run terms past tokens false defined silent =
     let other = silent.other in
     rw silent.whole.is
-    (section_run names past silent.command silent.whole.inner past defined
+    (section_run terms past silent.command silent.whole.inner past defined
     (rw (other.begins, other.no_end, other.no_dump, other.no_upscope, other.no_definitions) refl)
     silent.whole.closed
     (rw (other.no_scope, other.no_upscope, other.no_var, other.no_definitions) refl))
-silent_run names past tokens true defined (inl remark) =
+silent_run terms past tokens true defined (inl remark) =
     rw remark.is
-    (value_run names past (codes "$comment") (remark.inner ++ codes "$end" ∷ []) (at past comment)
+    (value_run terms past (codes "$comment") (remark.inner ++ codes "$end" ∷ []) (at past comment)
     defined refl
-    ∙ comment_run names past remark.inner remark.closed)
-silent_run names past tokens true defined (inr one) =
+    ∙ comment_run terms past remark.inner remark.closed)
+silent_run terms past tokens true defined (inr one) =
     rw one.is
-    (value_run names past (one.letter ∷ one.bytes) (one.identifier ∷ []) (at past number) defined
-    (number_value names past one.letter one.bytes one.number))
+    (value_run terms past (one.letter ∷ one.bytes) (one.identifier ∷ []) (at past number) defined
+    (number_value terms.names past one.letter one.bytes one.number))
 
 -- ---- what groups say
 
-same_segment : (segment : Segment) (len val : ℕ) → segment.len ≡ len → segment.val ≡ val
-    → segment ≡ record { len = len; val = val }
-same_segment segment len val is_len is_val =
-    ap (λ n. record { len = n; val = segment.val }) is_len ∙ ap (λ n. record { len = len; val = n })
-    is_val
+same_segment : (segment : Segment) (len val ev : ℕ) → segment.len ≡ len → segment.val ≡ val
+    → segment.ev ≡ ev → segment ≡ segment_with len val ev
+same_segment segment len val ev is_len is_val is_ev =
+    ap (λ n. segment_with n segment.val segment.ev) is_len
+    ∙ ap (λ n. segment_with len n segment.ev) is_val ∙ ap (segment_with len val) is_ev
 
-time_brings : (names : List (List ℕ)) (past : List Statement) (ticks : ℕ)
-    (segments rest : List Segment) → Bring names past (time ticks) segments rest
-    → segments ≡ brought names past (time ticks) ++ rest
-time_brings names past ticks segments rest (inl none) =
+time_brings : (asked : Vocabulary) (past : List Statement) (ticks : ℕ)
+    (segments rest : List Segment) → Bring asked past (time ticks) segments rest
+    → segments ≡ brought asked past (time ticks) ++ rest
+time_brings asked past ticks segments rest (inl none) =
     rw (same_time ticks (time_at past) none.0) none.1
-time_brings names past ticks segments rest (inr one) =
+time_brings asked past ticks segments rest (inr one) =
     rw (other_time ticks (time_at past) one.segment.len one.reaches one.some)
     (one.is
     ∙ ap (λ first. first ∷ rest)
-    (same_segment one.segment (ticks - time_at past) (valuation_from past 0 names)
-    (omega (arith, one.reaches)) one.held))
+    (same_segment one.segment (ticks - time_at past) (valuation_at past asked.names)
+    (events_at past asked.events) (omega (arith, one.reaches)) one.held one.happened))
 
-brings : (names : List (List ℕ)) (past : List Statement) (statement : Statement)
-    (segments rest : List Segment) → Bring names past statement segments rest
-    → segments ≡ brought names past statement ++ rest
-brings names past (scope name) segments rest bring = bring
-brings names past upscope segments rest bring = bring
-brings names past (var tokens) segments rest bring = bring
-brings names past definitions segments rest bring = bring
-brings names past (time ticks) segments rest bring =
-    time_brings names past ticks segments rest bring
-brings names past (change identifier value) segments rest bring = bring
-brings names past dump segments rest bring = bring
-brings names past dump_end segments rest bring = bring
+brings : (asked : Vocabulary) (past : List Statement) (statement : Statement)
+    (segments rest : List Segment) → Bring asked past statement segments rest
+    → segments ≡ brought asked past statement ++ rest
+brings asked past (scope name) segments rest bring = bring
+brings asked past upscope segments rest bring = bring
+brings asked past (var tokens) segments rest bring = bring
+brings asked past definitions segments rest bring = bring
+brings asked past (time ticks) segments rest bring =
+    time_brings asked past ticks segments rest bring
+brings asked past (change form identifier value) segments rest bring = bring
+brings asked past dump segments rest bring = bring
+brings asked past dump_end segments rest bring = bring
 
 -- The tokens of groups lead to a past of which this holds.
-pub record LeadsTo (names : List (List ℕ)) (past : List Statement) (groups : List (List (List ℕ)))
+pub record LeadsTo (terms : Terms) (past : List Statement) (groups : List (List (List ℕ)))
     (segments : List Segment) (End : List Statement → Type 0) : Type 0 where
   pub now : List Statement
   pub ends : End now
-  pub runs : run names (at past nothing) (tokens_in groups) ≡ tells segments now
+  pub runs : run terms (at past nothing) (tokens_in groups) ≡ tells segments now
 
-pub groups_run : (names : List (List ℕ)) (past : List Statement) (groups : List (List (List ℕ)))
-    (segments : List Segment) (End : List Statement → Type 0) → Say names past groups segments End
-    → LeadsTo names past groups segments End
-groups_run names past [] segments End say = record {
+pub groups_run : (terms : Terms) (past : List Statement) (groups : List (List (List ℕ)))
+    (segments : List Segment) (End : List Statement → Type 0) → Say terms past groups segments End
+    → LeadsTo terms past groups segments End
+groups_run terms past [] segments End say = record {
   now = past;
   ends = say.1;
   runs = rw say.0 refl;
 }
-groups_run names past (tokens ∷ groups) segments End say =
+groups_run terms past (tokens ∷ groups) segments End say =
     ⊎_elim
-    (λ (silent : AreSilent (is_defined past) tokens × Say names past groups segments End).
-    let later = groups_run names past groups segments End silent.1 in record {
+    (λ (silent : AreSilent (is_defined past) tokens × Say terms past groups segments End).
+    let later = groups_run terms past groups segments End silent.1 in record {
       now = later.now;
       ends = later.ends;
       runs =
-          run-append names (at past nothing) tokens (tokens_in groups)
-          ∙ ap (λ said. then_run said (λ place. run names place (tokens_in groups)))
-          (silent_run names past tokens (is_defined past) refl silent.0)
-          ∙ with_front-none (run names (at past nothing) (tokens_in groups))
+          run-append terms (at past nothing) tokens (tokens_in groups)
+          ∙ ap (λ said. then_run said (λ place. run terms place (tokens_in groups)))
+          (silent_run terms past tokens (is_defined past) refl silent.0)
+          ∙ with_front-none (run terms (at past nothing) (tokens_in groups))
           ∙ later.runs;
     })
-    (λ (next : SayNext names past tokens segments (λ now rest. Say names now groups rest End)).
-    let later = groups_run names (next.statement ∷ past) groups next.rest End next.later in record {
+    (λ (next : SayNext terms past tokens segments (λ now rest. Say terms now groups rest End)).
+    let later = groups_run terms (next.statement ∷ past) groups next.rest End next.later in record {
       now = later.now;
       ends = later.ends;
       runs =
-          run-append names (at past nothing) tokens (tokens_in groups)
-          ∙ ap (λ said. then_run said (λ place. run names place (tokens_in groups)))
-          (writes_run names past next.statement tokens next.writes next.belongs next.fits)
-          ∙ ap (with_front (brought names past next.statement)) later.runs
+          run-append terms (at past nothing) tokens (tokens_in groups)
+          ∙ ap (λ said. then_run said (λ place. run terms place (tokens_in groups)))
+          (writes_run terms past next.statement tokens next.writes next.belongs next.fits)
+          ∙ ap (with_front (brought terms.names past next.statement)) later.runs
           ∙ ap (λ all. tells all later.now)
-          (sym (brings names past next.statement segments next.rest next.brings));
+          (sym (brings terms.names past next.statement segments next.rest next.brings));
     })
     say

@@ -5,6 +5,7 @@ mod Knowing
 mod Letters
 mod Naming
 mod NoRule
+mod Pasts
 mod Reading
 mod Rows
 mod Scoping

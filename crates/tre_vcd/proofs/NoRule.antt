@@ -7,10 +7,11 @@ use Rattle.std.specs.Str.Parse.{digits_value}
 use Rattle.tre_pairs.specs.declared.TheConstants.{TIME_MAX}
 use Rattle.tre_parts.specs.Format.{Step}
 use Rattle.tre_decimal.specs.Decimal.{is_numeral}
+use Rattle.tre_trace.specs.Reading.{Vocabulary}
 use Rattle.tre_trace.specs.declared.fault.TraceKind.{TraceKind}
 use Rattle.tre_trace.specs.declared.fault.TraceKind.TheVariants.{LineTooLong, BadNumber, Zero, TooLate, BadName, BadToken, UnknownName, TimeBack, CutShort, Spent, Memory}
 use Rattle.tre_vcd.specs.Dumps.{AreInner, IsTime, is_vector, is_number, AreSilent, FitsNoRule, EndsEarly, LacksName, HasFault}
-use Rattle.tre_vcd.specs.VcdReading.{is, is_end, is_dump, is_command, is_scalar, ends_true, is_defined, in_dump, scopes_at, time_at, Statement, scope, upscope, var, definitions, time, change, dump, dump_end, Open, nothing, section, Place, goes_to, scope_says, section_says, command_says, time_says, ticks_say, dump_says, dump_end_says, keyword_says, scalar_says, vector_says, value_says, first_says, token_at}
+use Rattle.tre_vcd.specs.VcdReading.{is, is_end, is_dump, is_command, is_scalar, ends_true, is_defined, in_dump, scopes_at, time_at, Terms, scalar, wide, Statement, scope, upscope, var, definitions, time, change, dump, dump_end, Open, nothing, section, Place, goes_to, scope_says, section_says, command_says, time_says, ticks_say, dump_says, dump_end_says, keyword_says, scalar_says, vector_says, value_says, first_says, token_at}
 use Rattle.tre_vcd.proofs.Groups.{at, is_word}
 use Rattle.tre_vcd.proofs.TokenRuns.{with_front-none, then_run, stay, run}
 
@@ -32,7 +33,7 @@ blanks_inner count = All-replicate (λ t. is_end t ≡ false) count [] refl
 
 -- ---- among the declarations
 
-module _ (names : List (List ℕ)) (past : List Statement) (token : List ℕ)
+module _ (terms : Terms) (past : List Statement) (token : List ℕ)
     (defined : is_defined past ≡ false) (none : FitsNoRule past token) where
   never_scope : is token (codes "$scope") ≡ false
   never_scope =
@@ -112,7 +113,7 @@ module _ (names : List (List ℕ)) (past : List Statement) (token : List ℕ)
   begun_not true is = refl
   begun_not false is = absurd (cc (is))
 
-  pub opens_nothing : command_says names past token ≡ Err BadToken
+  pub opens_nothing : command_says terms past token ≡ Err BadToken
   opens_nothing =
       by_cases (not (is_command token) || is_end token || is_dump token) _ _ (Err BadToken)
       (λ misplaced. refl)
@@ -125,9 +126,9 @@ module _ (names : List (List ℕ)) (past : List Statement) (token : List ℕ)
 
 -- ---- behind them
 
-module _ (names : List (List ℕ)) (past : List Statement) (byte : ℕ) (bytes : List ℕ)
+module _ (asked : Vocabulary) (past : List Statement) (byte : ℕ) (bytes : List ℕ)
     (defined : is_defined past ≡ true) (none : FitsNoRule past (byte ∷ bytes)) where
-  no_time : (byte == 35) ≡ true → ticks_say names past bytes ≡ Err BadToken
+  no_time : (byte == 35) ≡ true → ticks_say asked past bytes ≡ Err BadToken
   no_time hash =
       by_cases (is_numeral bytes) _ _ (Err BadToken)
       (λ numeral. absurd (none.says_nothing [] (time (digits_value 10 bytes)) (record {
@@ -175,14 +176,14 @@ module _ (names : List (List ℕ)) (past : List Statement) (byte : ℕ) (bytes :
       → vector_says past bits ≡ Err BadToken
   no_vector letter [] same = refl
   no_vector letter (bit ∷ bits) same =
-      absurd (none.says_nothing ([] ∷ []) (change [] (ends_true bytes)) (inr (record {
+      absurd (none.says_nothing ([] ∷ []) (change wide [] (ends_true bytes)) (record {
         letter = byte;
         bits = bytes;
         is = refl;
         vector = letter;
         some = subst (λ all. 0 < length all) same (omega arith);
         value_is = refl;
-      })) defined)
+      }) defined)
 
   no_number : is_number byte ≡ true → ⊥
   no_number letter =
@@ -198,15 +199,15 @@ module _ (names : List (List ℕ)) (past : List Statement) (byte : ℕ) (bytes :
       → scalar_says past byte identifier ≡ Err BadToken
   no_scalar letter [] same = refl
   no_scalar letter (first ∷ identifier) same =
-      absurd (none.says_nothing [] (change bytes (byte == 49)) (inl (record {
+      absurd (none.says_nothing [] (change scalar bytes (byte == 49)) (record {
         letter = byte;
         is = refl;
         scalar = letter;
         some = subst (λ all. 0 < length all) same (omega arith);
         value_is = refl;
-      })) defined)
+      }) defined)
 
-  pub says_no_value : value_says names past (byte ∷ bytes) ≡ Err BadToken
+  pub says_no_value : value_says asked past (byte ∷ bytes) ≡ Err BadToken
   says_no_value =
       by_cases (byte == 35) _ _ (Err BadToken) no_time
       (λ _. by_cases (byte == 36) _ _ (Err BadToken) (λ _. no_keyword)
@@ -218,56 +219,56 @@ module _ (names : List (List ℕ)) (past : List Statement) (byte : ℕ) (bytes :
 -- ---- every fault
 
 -- Behind these tokens something is open, and the token has this fault there.
-pub record Stops (names : List (List ℕ)) (past : List Statement) (begun : List (List ℕ))
+pub record Stops (terms : Terms) (past : List Statement) (begun : List (List ℕ))
     (token : List ℕ) (kind : TraceKind) : Type 0 where
   pub inside : Open
-  pub runs : run names (at past nothing) begun ≡ stay (at past inside)
-  pub stops : token_at names past inside token ≡ Err kind
+  pub runs : run terms (at past nothing) begun ≡ stay (at past inside)
+  pub stops : token_at terms past inside token ≡ Err kind
 
-no_rule : (names : List (List ℕ)) (past : List Statement) (token : List ℕ) (defined : Bool)
+no_rule : (terms : Terms) (past : List Statement) (token : List ℕ) (defined : Bool)
     → is_defined past ≡ defined → 0 < length token → FitsNoRule past token
-    → first_says names past token ≡ Err BadToken
-no_rule names past token false defined some none =
-    rw defined (opens_nothing names past token defined none)
-no_rule names past [] true defined some none = absurd (omega (arith, some))
-no_rule names past (byte ∷ bytes) true defined some none =
-    rw defined (says_no_value names past byte bytes defined none)
+    → first_says terms past token ≡ Err BadToken
+no_rule terms past token false defined some none =
+    rw defined (opens_nothing terms past token defined none)
+no_rule terms past [] true defined some none = absurd (omega (arith, some))
+no_rule terms past (byte ∷ bytes) true defined some none =
+    rw defined (says_no_value terms.names past byte bytes defined none)
 
-first_stops : (names : List (List ℕ)) (past : List Statement) (begun : List (List ℕ))
-    (token : List ℕ) (kind : TraceKind) → begun ≡ [] → first_says names past token ≡ Err kind
-    → Stops names past begun token kind
-first_stops names past begun token kind none stops = record {
+first_stops : (terms : Terms) (past : List Statement) (begun : List (List ℕ))
+    (token : List ℕ) (kind : TraceKind) → begun ≡ [] → first_says terms past token ≡ Err kind
+    → Stops terms past begun token kind
+first_stops terms past begun token kind none stops = record {
   inside = nothing;
   runs = rw none refl;
   stops = stops;
 }
 
-inner_open : (names : List (List ℕ)) (past : List Statement) (command : List ℕ)
+inner_open : (terms : Terms) (past : List Statement) (command : List ℕ)
     (kept inner : List (List ℕ)) → AreInner inner
-    → run names (at past (section command kept)) inner
+    → run terms (at past (section command kept)) inner
     ≡ stay (at past (section command (kept ++ inner)))
-inner_open names past command kept [] closed =
+inner_open terms past command kept [] closed =
     ap (λ all. stay (at past (section command all))) (sym (append-nil kept))
-inner_open names past command kept (token ∷ inner) closed =
+inner_open terms past command kept (token ∷ inner) closed =
     ap (λ (ends : Bool). then_run (if ends then section_says past command kept
     else goes_to past (section command (kept ++ token ∷ [])))
-    (λ now. run names now inner))
+    (λ now. run terms now inner))
     (All-head (λ t. is_end t ≡ false) token inner closed)
-    ∙ with_front-none (run names (at past (section command (kept ++ token ∷ []))) inner)
-    ∙ inner_open names past command (kept ++ token ∷ []) inner
+    ∙ with_front-none (run terms (at past (section command (kept ++ token ∷ []))) inner)
+    ∙ inner_open terms past command (kept ++ token ∷ []) inner
     (All-tail (λ t. is_end t ≡ false) token inner closed)
     ∙ ap (λ all. stay (at past (section command all))) (append_assoc kept (token ∷ []) inner)
 
-section_open : (names : List (List ℕ)) (past : List Statement) (command : List ℕ)
+section_open : (terms : Terms) (past : List Statement) (command : List ℕ)
     (inner : List (List ℕ)) → is_defined past ≡ false
-    → command_says names past command ≡ goes_to past (section command []) → AreInner inner
-    → run names (at past nothing) (command ∷ inner) ≡ stay (at past (section command inner))
-section_open names past command inner defined opens closed =
-    ap (λ (is : Bool). then_run (if is then value_says names past command
-    else command_says names past command) (λ place. run names place inner)) defined
-    ∙ ap (λ said. then_run said (λ place. run names place inner)) opens
-    ∙ with_front-none (run names (at past (section command [])) inner)
-    ∙ inner_open names past command [] inner closed
+    → command_says terms past command ≡ goes_to past (section command []) → AreInner inner
+    → run terms (at past nothing) (command ∷ inner) ≡ stay (at past (section command inner))
+section_open terms past command inner defined opens closed =
+    ap (λ (is : Bool). then_run (if is then value_says terms.names past command
+    else command_says terms past command) (λ place. run terms place inner)) defined
+    ∙ ap (λ said. then_run said (λ place. run terms place inner)) opens
+    ∙ with_front-none (run terms (at past (section command [])) inner)
+    ∙ inner_open terms past command [] inner closed
 
 short_scope : (past : List Statement) (inner : List (List ℕ)) → length inner < 2
     → scope_says past inner ≡ Err BadToken
@@ -278,29 +279,29 @@ short_scope past (kind ∷ name ∷ more) few = absurd (omega (arith, few))
 few_tokens : (count : ℕ) → count < 4 → nat_lt count 4 ≡ true
 few_tokens count few = grind (arith, nat_tests)
 
-early_stops : (names : List (List ℕ)) (past : List Statement) (begun : List (List ℕ))
-    (token : List ℕ) → EndsEarly past begun token → Stops names past begun token BadToken
-early_stops names past begun token early =
+early_stops : (terms : Terms) (past : List Statement) (begun : List (List ℕ))
+    (token : List ℕ) → EndsEarly past begun token → Stops terms past begun token BadToken
+early_stops terms past begun token early =
     ⊎_elim
     (λ one. record {
       inside = section (codes "$scope") one.inner;
       runs =
           rw one.is
-          (section_open names past (codes "$scope") one.inner early.defined refl one.closed);
+          (section_open terms past (codes "$scope") one.inner early.defined refl one.closed);
       stops = rw early.ends (short_scope past one.inner one.few);
     })
     (λ one. record {
       inside = section (codes "$var") one.inner;
       runs =
           rw one.is
-          (section_open names past (codes "$var") one.inner early.defined refl one.closed);
+          (section_open terms past (codes "$var") one.inner early.defined refl one.closed);
       stops = rw (early.ends, few_tokens (length one.inner) one.few) refl;
     })
     early.short
 
-lacks_name : (names : List (List ℕ)) (past : List Statement) (token : List ℕ)
-    → LacksName names past token → first_says names past token ≡ Err UnknownName
-lacks_name names past token lacks = rw (lacks.defined, lacks.ends, lacks.lacks) refl
+lacks_name : (terms : Terms) (past : List Statement) (token : List ℕ)
+    → LacksName terms.declared past token → first_says terms past token ≡ Err UnknownName
+lacks_name terms past token lacks = rw (lacks.defined, lacks.ends, lacks.lacks) refl
 
 below : (a b : ℕ) → a < b → nat_lt a b ≡ true
 below a b lt = grind (arith, nat_tests)
@@ -308,38 +309,38 @@ below a b lt = grind (arith, nat_tests)
 not_below : (a b : ℕ) → b ≤ a → nat_lt a b ≡ false
 not_below a b le = grind (arith, nat_tests)
 
-timed : (names : List (List ℕ)) (past : List Statement) (token : List ℕ) (ticks : ℕ)
+timed : (terms : Terms) (past : List Statement) (token : List ℕ) (ticks : ℕ)
     (said : Result (Step Place) TraceKind) → is_defined past ≡ true → IsTime ticks (token ∷ [])
-    → time_says names past ticks ≡ said → first_says names past token ≡ said
-timed names past token ticks said defined one says =
+    → time_says terms.names past ticks ≡ said → first_says terms past token ≡ said
+timed terms past token ticks said defined one says =
     let token_is : token ≡ 35 ∷ one.digits = cc (one.is) in
     rw (defined, token_is, one.numeral, ← one.value) says
 
-pub fault_stops : (names : List (List ℕ)) (past : List Statement) (begun : List (List ℕ))
-    (token : List ℕ) (kind : TraceKind) → 0 < length token → HasFault names past begun token kind
-    → Stops names past begun token kind
-fault_stops names past begun token BadToken some (inl none) =
-    first_stops names past begun token BadToken none.0
-    (no_rule names past token (is_defined past) refl some none.1)
-fault_stops names past begun token BadToken some (inr early) =
-    early_stops names past begun token early
-fault_stops names past begun token UnknownName some has =
-    first_stops names past begun token UnknownName has.0 (lacks_name names past token has.1)
-fault_stops names past begun token TimeBack some has =
+pub fault_stops : (terms : Terms) (past : List Statement) (begun : List (List ℕ))
+    (token : List ℕ) (kind : TraceKind) → 0 < length token → HasFault terms past begun token kind
+    → Stops terms past begun token kind
+fault_stops terms past begun token BadToken some (inl none) =
+    first_stops terms past begun token BadToken none.0
+    (no_rule terms past token (is_defined past) refl some none.1)
+fault_stops terms past begun token BadToken some (inr early) =
+    early_stops terms past begun token early
+fault_stops terms past begun token UnknownName some has =
+    first_stops terms past begun token UnknownName has.0 (lacks_name terms past token has.1)
+fault_stops terms past begun token TimeBack some has =
     let back = has.1 in
-    first_stops names past begun token TimeBack has.0
-    (timed names past token back.ticks (Err TimeBack) back.defined back.time
+    first_stops terms past begun token TimeBack has.0
+    (timed terms past token back.ticks (Err TimeBack) back.defined back.time
     (rw (below back.ticks (time_at past) back.holds) refl))
-fault_stops names past begun token TooLate some has =
+fault_stops terms past begun token TooLate some has =
     let late = has.1 in
-    first_stops names past begun token TooLate has.0
-    (timed names past token late.ticks (Err TooLate) late.defined late.time
+    first_stops terms past begun token TooLate has.0
+    (timed terms past token late.ticks (Err TooLate) late.defined late.time
     (rw (not_below late.ticks (time_at past) late.holds.0, below TIME_MAX late.ticks late.holds.1)
     refl))
-fault_stops names past begun token LineTooLong some has = absurd has
-fault_stops names past begun token BadNumber some has = absurd has
-fault_stops names past begun token Zero some has = absurd has
-fault_stops names past begun token BadName some has = absurd has
-fault_stops names past begun token CutShort some has = absurd has
-fault_stops names past begun token Spent some has = absurd has
-fault_stops names past begun token Memory some has = absurd has
+fault_stops terms past begun token LineTooLong some has = absurd has
+fault_stops terms past begun token BadNumber some has = absurd has
+fault_stops terms past begun token Zero some has = absurd has
+fault_stops terms past begun token BadName some has = absurd has
+fault_stops terms past begun token CutShort some has = absurd has
+fault_stops terms past begun token Spent some has = absurd has
+fault_stops terms past begun token Memory some has = absurd has

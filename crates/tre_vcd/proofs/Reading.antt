@@ -1,24 +1,28 @@
 -- What a token says at a place that the reader holds.
-use Rattle.std.proofs.Common.{◌≡◌, ℕ, ◌==◌, Bool, true, false, not, ◌&&◌, List, [], ◌∷◌, length, None, Some, refl, arith, if◌then◌else◌}
+use Rattle.std.proofs.Common.{◌≡◌, ℕ, ◌-◌, ◌^◌, ◌≤◌, min, nat_lt, ◌==◌, Bool, true, false, not, ◌&&◌, List, [], ◌∷◌, length, None, Some, Ok, refl, arith, if◌then◌else◌}
 use Rattle.std.proofs.lemmas.Bool.Decides.{nat_tests}
+use Rattle.std.specs.Str.Parse.{digits_value}
+use Rattle.tre_decimal.specs.Decimal.{is_numeral}
+use Rattle.tre_pairs.specs.declared.TheConstants.{TIME_MAX}
+use Rattle.tre_trace.specs.Reading.{Vocabulary}
 use Rattle.tre_trace.specs.declared.fault.TraceKind.TheVariants.{CutShort}
-use Rattle.tre_vcd.specs.VcdReading.{Open, nothing, section, comment, vector, number, Place, goes_to, token_at, token_says, end_says, is_whole}
+use Rattle.tre_vcd.specs.VcdReading.{Terms, scalar, Statement, time, change, Open, nothing, section, comment, vector, number, Place, time_at, segment_until, goes_to, ticks_say, scalar_says, token_at, token_says, end_says, is_whole}
 use Rattle.tre_vcd.specs.Sections.{Holds, inside_of, is_nothing, command_of}
 use Rattle.tre_vcd.specs.declared.command.Command.{Command}
 use Rattle.tre_vcd.specs.declared.inside.Inside.TheVariants.{Nothing, Section, Comment, Vector, Number}
 use Rattle.tre_vcd.specs.declared.token_reader.TokenReader.{TokenReader}
 
-pub says-empty : (names : List (List ℕ)) (place : Place) (part : List ℕ) → (length part == 0) ≡ true
-    → token_says names place part ≡ goes_to place.past place.inside
+pub says-empty : (terms : Terms) (place : Place) (part : List ℕ) → (length part == 0) ≡ true
+    → token_says terms place part ≡ goes_to place.past place.inside
 unfolding token_says
-says-empty names place [] empty = refl
-says-empty names place (byte ∷ bytes) empty = absurd (grind (arith, nat_tests))
+says-empty terms place [] empty = refl
+says-empty terms place (byte ∷ bytes) empty = absurd (grind (arith, nat_tests))
 
-pub says-token : (names : List (List ℕ)) (place : Place) (part : List ℕ) → (length part == 0)
-    ≡ false → token_says names place part ≡ token_at names place.past place.inside part
+pub says-token : (terms : Terms) (place : Place) (part : List ℕ) → (length part == 0)
+    ≡ false → token_says terms place part ≡ token_at terms place.past place.inside part
 unfolding token_says
-says-token names place [] some = absurd (grind (arith, nat_tests))
-says-token names place (byte ∷ bytes) some = refl
+says-token terms place [] some = absurd (grind (arith, nat_tests))
+says-token terms place (byte ∷ bytes) some = refl
 
 pub is-nothing : (inside : Open) → inside_of inside ≡ Nothing → inside ≡ nothing
 is-nothing nothing e = refl
@@ -81,3 +85,29 @@ pub end-held : (reader : TokenReader) (place : Place) (whole : Bool) → Holds r
 unfolding end_says
 end-held reader place whole holds is =
     rw (is, holds.past.defined, holds.past.dump, holds.inside, whole-kept place.inside) refl
+
+pub scalar-says : (past : List Statement) (letter : ℕ) (identifier : List ℕ)
+    → (length identifier == 0) ≡ false
+    → scalar_says past letter identifier
+    ≡ goes_to (change scalar identifier (letter == 49) ∷ past) nothing
+scalar-says past letter [] some = absurd (grind (arith, nat_tests))
+scalar-says past letter (byte ∷ bytes) some = refl
+
+not_below : (a b : ℕ) → b ≤ a → nat_lt a b ≡ false
+not_below a b le = grind (arith, nat_tests)
+
+-- A time within the limit that isn't below the last one says a segment, or nothing where it is the
+-- same.
+pub time-says : (asked : Vocabulary) (past : List Statement) (digits : List ℕ) (ticks : ℕ)
+    (same : Bool) → is_numeral digits ≡ true → ticks ≡ min (digits_value 10 digits) (2 ^ 64 - 1)
+    → time_at past ≤ ticks → ticks ≤ TIME_MAX → (ticks == time_at past) ≡ same
+    → ticks_say asked past digits
+    ≡ (if same then goes_to (time ticks ∷ past) nothing
+    else Ok (record {
+      segments = segment_until asked past ticks ∷ [];
+      state = record { past = time ticks ∷ past; inside = nothing };
+    }))
+time-says asked past digits ticks same numeral value late in_time is =
+    let exact : digits_value 10 digits ≡ ticks = omega (arith, value, in_time) in
+    rw (numeral, exact, not_below ticks (time_at past) late, not_below TIME_MAX ticks in_time, is)
+    refl

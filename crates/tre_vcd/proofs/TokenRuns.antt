@@ -10,7 +10,7 @@ use Rattle.tre_parts.specs.declared.spot.Spot.{Spot}
 use Rattle.tre_trace.specs.declared.fault.TraceKind.{TraceKind}
 use Rattle.tre_trace.specs.declared.segment.Segment.{Segment}
 use Rattle.tre_vcd.specs.Dumps.{IsToken, AreWhite, BeginsWith, Spaced}
-use Rattle.tre_vcd.specs.VcdReading.{is_white, Place, token_at, token_says, vcd_format}
+use Rattle.tre_vcd.specs.VcdReading.{is_white, Terms, Place, token_at, token_says, vcd_format}
 use Rattle.tre_vcd.proofs.Reading.{says-token}
 
 -- ---- tokens
@@ -32,10 +32,10 @@ abbrev pub stay : Place → Result (Step Place) TraceKind
 stay place = Ok (record { segments = []; state = place })
 
 -- what tokens say, one after the other
-abbrev pub run : List (List ℕ) → Place → List (List ℕ) → Result (Step Place) TraceKind
-run names place [] = stay place
-run names place (token ∷ tokens) =
-    then_run (token_at names place.past place.inside token) (λ now. run names now tokens)
+abbrev pub run : Terms → Place → List (List ℕ) → Result (Step Place) TraceKind
+run terms place [] = stay place
+run terms place (token ∷ tokens) =
+    then_run (token_at terms place.past place.inside token) (λ now. run terms now tokens)
 
 pub with_front-none : (said : Result (Step Place) TraceKind) → with_front [] said ≡ said
 with_front-none (Err kind) = refl
@@ -64,75 +64,75 @@ then_run-later (Ok step) one other more same =
     ap (with_front step.segments) (same step.state)
     ∙ sym (then_run-front step.segments (other step.state) more)
 
-pub run-append : (names : List (List ℕ)) (place : Place) (xs ys : List (List ℕ))
-    → run names place (xs ++ ys) ≡ then_run (run names place xs) (λ now. run names now ys)
-run-append names place [] ys = sym (with_front-none (run names place ys))
-run-append names place (x ∷ xs) ys =
-    then_run-later (token_at names place.past place.inside x) (λ now. run names now (xs ++ ys))
-    (λ now. run names now xs) (λ now. run names now ys)
-    (λ now. run-append names now xs ys)
+pub run-append : (terms : Terms) (place : Place) (xs ys : List (List ℕ))
+    → run terms place (xs ++ ys) ≡ then_run (run terms place xs) (λ now. run terms now ys)
+run-append terms place [] ys = sym (with_front-none (run terms place ys))
+run-append terms place (x ∷ xs) ys =
+    then_run-later (token_at terms place.past place.inside x) (λ now. run terms now (xs ++ ys))
+    (λ now. run terms now xs) (λ now. run terms now ys)
+    (λ now. run-append terms now xs ys)
 
 -- ---- their bytes
 
 -- Behind these bytes the reading goes on from this step.
-pub record ReadsTo (names : List (List ℕ)) (closed : Bool) (place : Place) (spot : Spot)
+pub record ReadsTo (terms : Terms) (closed : Bool) (place : Place) (spot : Spot)
     (bytes rest : List ℕ) (step : Step Place) : Type 0 where
   pub at : Spot
   pub offset : at.offset ≡ spot.offset + length bytes
-  pub reads : reading_from (vcd_format names) closed place spot (bytes ++ rest)
-      ≡ behind step.segments (reading_from (vcd_format names) closed step.state at rest)
+  pub reads : reading_from (vcd_format terms) closed place spot (bytes ++ rest)
+      ≡ behind step.segments (reading_from (vcd_format terms) closed step.state at rest)
 
-pub no_token : (names : List (List ℕ)) (place : Place) → part_says (vcd_format names) place []
+pub no_token : (terms : Terms) (place : Place) → part_says (vcd_format terms) place []
     ≡ stay place
 unfolding token_says
-no_token names place = refl
+no_token terms place = refl
 
-pub white_reads : (names : List (List ℕ)) (closed : Bool) (place : Place) (spot : Spot)
+pub white_reads : (terms : Terms) (closed : Bool) (place : Place) (spot : Spot)
     (bytes rest : List ℕ) → AreWhite bytes
-    → ReadsTo names closed place spot bytes rest (record { segments = []; state = place })
-white_reads names closed place spot [] rest white = record {
+    → ReadsTo terms closed place spot bytes rest (record { segments = []; state = place })
+white_reads terms closed place spot [] rest white = record {
   at = spot;
   offset = omega arith;
   reads = refl;
 }
-white_reads names closed place spot (byte ∷ bytes) rest white =
+white_reads terms closed place spot (byte ∷ bytes) rest white =
     let next =
-    white_reads names closed place (after_part spot 0) bytes rest
+    white_reads terms closed place (after_part spot 0) bytes rest
     (All-tail (λ b. is_white b ≡ true) byte bytes white) in
     record {
       at = next.at;
       offset = omega (arith, next.offset);
       reads =
-          reading-part (vcd_format names) closed place spot [] byte (bytes ++ rest)
+          reading-part (vcd_format terms) closed place spot [] byte (bytes ++ rest)
           (All-nil (λ b. is_white b ≡ false))
           (All-head (λ b. is_white b ≡ true) byte bytes white)
-          ∙ ap (λ said. read_on spot.offset said (λ now. reading_from (vcd_format names) closed now
-          (after_part spot 0) (bytes ++ rest))) (no_token names place)
+          ∙ ap (λ said. read_on spot.offset said (λ now. reading_from (vcd_format terms) closed now
+          (after_part spot 0) (bytes ++ rest))) (no_token terms place)
           ∙ next.reads;
     }
 
 -- what a token says, which white space ends
-pub token_reads : (names : List (List ℕ)) (closed : Bool) (place : Place) (spot : Spot)
+pub token_reads : (terms : Terms) (closed : Bool) (place : Place) (spot : Spot)
     (token : List ℕ) (separator : ℕ) (rest : List ℕ) → IsToken token → is_white separator ≡ true
-    → reading_from (vcd_format names) closed place spot (token ++ separator ∷ rest)
-    ≡ read_on spot.offset (token_at names place.past place.inside token)
-    (λ now. reading_from (vcd_format names) closed now (after_part spot (length token)) rest)
-token_reads names closed place spot token separator rest is ends =
-    reading-part (vcd_format names) closed place spot token separator rest is.whole ends
-    ∙ ap (λ said. read_on spot.offset said (λ now. reading_from (vcd_format names) closed now
+    → reading_from (vcd_format terms) closed place spot (token ++ separator ∷ rest)
+    ≡ read_on spot.offset (token_at terms place.past place.inside token)
+    (λ now. reading_from (vcd_format terms) closed now (after_part spot (length token)) rest)
+token_reads terms closed place spot token separator rest is ends =
+    reading-part (vcd_format terms) closed place spot token separator rest is.whole ends
+    ∙ ap (λ said. read_on spot.offset said (λ now. reading_from (vcd_format terms) closed now
     (after_part spot (length token)) rest))
     (rw (short_enough (length token) PART_MAX is.short)
-    (says-token names place token (grind (arith, nat_tests, is.some))))
+    (says-token terms place token (grind (arith, nat_tests, is.some))))
 
 -- One token, and what is known of the tokens behind it.
-module _ (names : List (List ℕ)) (closed : Bool) (place : Place) (spot : Spot) (token : List ℕ)
+module _ (terms : Terms) (closed : Bool) (place : Place) (spot : Spot) (token : List ℕ)
     (tokens : List (List ℕ)) (bytes rest : List ℕ)
     (spaced : BeginsWith token (Spaced tokens) bytes)
-    (later : (now : Place) (from : Spot) (more : Step Place) → run names now tokens ≡ Ok more
-    → ReadsTo names closed now from spaced.back rest more) where
-  white : ReadsTo names closed place spot spaced.front
+    (later : (now : Place) (from : Spot) (more : Step Place) → run terms now tokens ≡ Ok more
+    → ReadsTo terms closed now from spaced.back rest more) where
+  white : ReadsTo terms closed place spot spaced.front
       (token ++ spaced.separator ∷ (spaced.back ++ rest)) (record { segments = []; state = place })
-  white = white_reads names closed place spot spaced.front _ spaced.blank
+  white = white_reads terms closed place spot spaced.front _ spaced.blank
 
   together : bytes ++ rest ≡ spaced.front ++ (token ++ spaced.separator ∷ (spaced.back ++ rest))
   together =
@@ -149,53 +149,53 @@ module _ (names : List (List ℕ)) (closed : Bool) (place : Place) (spot : Spot)
         length-append token (spaced.separator ∷ spaced.back),
       )
 
-  go_on : (first more : Step Place) → token_at names place.past place.inside token ≡ Ok first
-      → run names first.state tokens ≡ Ok more
-      → ReadsTo names closed place spot bytes rest
+  go_on : (first more : Step Place) → token_at terms place.past place.inside token ≡ Ok first
+      → run terms first.state tokens ≡ Ok more
+      → ReadsTo terms closed place spot bytes rest
       (record { segments = first.segments ++ more.segments; state = more.state })
   go_on first more said runs =
       let next = later first.state (after_part white.at (length token)) more runs in
-      let end = reading_from (vcd_format names) closed more.state next.at rest in
+      let end = reading_from (vcd_format terms) closed more.state next.at rest in
       record {
         at = next.at;
         offset = omega (arith, next.offset, white.offset, long);
         reads =
-            ap (reading_from (vcd_format names) closed place spot) together
+            ap (reading_from (vcd_format terms) closed place spot) together
             ∙ white.reads
-            ∙ token_reads names closed place white.at token spaced.separator (spaced.back ++ rest)
+            ∙ token_reads terms closed place white.at token spaced.separator (spaced.back ++ rest)
             spaced.whole spaced.ends
-            ∙ ap (λ one. read_on white.at.offset one (λ now. reading_from (vcd_format names)
+            ∙ ap (λ one. read_on white.at.offset one (λ now. reading_from (vcd_format terms)
             closed now (after_part white.at (length token)) (spaced.back ++ rest))) said
             ∙ ap (behind first.segments) next.reads
-            ∙ ap (λ all. record { segments = all; fault = end.fault })
+            ∙ ap (λ all. record { segments = all; last = end.last; fault = end.fault })
             (sym (append_assoc first.segments more.segments end.segments));
       }
 
-  behind_first : (first step : Step Place) → token_at names place.past place.inside token
-      ≡ Ok first → (said : Result (Step Place) TraceKind) → run names first.state tokens ≡ said
-      → with_front first.segments said ≡ Ok step → ReadsTo names closed place spot bytes rest step
+  behind_first : (first step : Step Place) → token_at terms place.past place.inside token
+      ≡ Ok first → (said : Result (Step Place) TraceKind) → run terms first.state tokens ≡ said
+      → with_front first.segments said ≡ Ok step → ReadsTo terms closed place spot bytes rest step
   behind_first first step one (Err kind) runs is = absurd (cc (is))
   behind_first first step one (Ok more) runs is =
       let same : record { segments = first.segments ++ more.segments; state = more.state } ≡ step =
       cc (is) in
-      subst (ReadsTo names closed place spot bytes rest) same (go_on first more one runs)
+      subst (ReadsTo terms closed place spot bytes rest) same (go_on first more one runs)
 
   pub token_first : (step : Step Place) (said : Result (Step Place) TraceKind)
-      → token_at names place.past place.inside token ≡ said
-      → then_run said (λ now. run names now tokens) ≡ Ok step
-      → ReadsTo names closed place spot bytes rest step
+      → token_at terms place.past place.inside token ≡ said
+      → then_run said (λ now. run terms now tokens) ≡ Ok step
+      → ReadsTo terms closed place spot bytes rest step
   token_first step (Err kind) one is = absurd (cc (is))
   token_first step (Ok first) one is =
-      behind_first first step one (run names first.state tokens) refl is
+      behind_first first step one (run terms first.state tokens) refl is
 
-pub tokens_read : (names : List (List ℕ)) (closed : Bool) (place : Place) (spot : Spot)
+pub tokens_read : (terms : Terms) (closed : Bool) (place : Place) (spot : Spot)
     (tokens : List (List ℕ)) (bytes rest : List ℕ) (step : Step Place) → Spaced tokens bytes
-    → run names place tokens ≡ Ok step → ReadsTo names closed place spot bytes rest step
-tokens_read names closed place spot [] bytes rest step spaced runs =
+    → run terms place tokens ≡ Ok step → ReadsTo terms closed place spot bytes rest step
+tokens_read terms closed place spot [] bytes rest step spaced runs =
     let same : record { segments = []; state = place } ≡ step = cc (runs) in
-    subst (ReadsTo names closed place spot bytes rest) same
-    (white_reads names closed place spot bytes rest spaced)
-tokens_read names closed place spot (token ∷ tokens) bytes rest step spaced runs =
-    token_first names closed place spot token tokens bytes rest spaced
-    (λ now from more. tokens_read names closed now from tokens spaced.back rest more spaced.later)
-    step (token_at names place.past place.inside token) refl runs
+    subst (ReadsTo terms closed place spot bytes rest) same
+    (white_reads terms closed place spot bytes rest spaced)
+tokens_read terms closed place spot (token ∷ tokens) bytes rest step spaced runs =
+    token_first terms closed place spot token tokens bytes rest spaced
+    (λ now from more. tokens_read terms closed now from tokens spaced.back rest more spaced.later)
+    step (token_at terms place.past place.inside token) refl runs

@@ -1,15 +1,15 @@
 -- What stands in a token.
-use Rattle.std.proofs.Common.{◌≡◌, ℕ, suc, ◌-◌, ◌==◌, ◌<◌, ◌≤◌, nat_lt, Bool, true, false, ◌&&◌, List, [], ◌∷◌, length, length-take, map, get_or, take, subst, None, Some, codes, Result, refl, sym, ap, ◌∙◌, arith, if◌then◌else◌}
+use Rattle.std.proofs.Common.{◌≡◌, ℕ, suc, ◌-◌, ◌==◌, ◌<◌, ◌≤◌, nat_lt, Bool, true, false, not, ◌||◌, ◌&&◌, List, [], ◌∷◌, length, length-take, map, get_or, take, subst, None, Some, codes, Result, refl, sym, ap, ◌∙◌, arith, if◌then◌else◌}
 use Rattle.std.specs.Str.{bytes_eq}
 use Rattle.std.proofs.lemmas.List.{get_or-map}
 use Rattle.std.proofs.lemmas.Bool.Decides.{nat_tests}
-use Rattle.tre_vcd.specs.VcdReading.{Statement, Place, upscope, var, definitions, nothing, path, is_signal, identifier_in, goes_to, scope_says, declaration_says, section_says, ends_true}
+use Rattle.tre_vcd.specs.VcdReading.{Statement, Place, scope, upscope, var, definitions, nothing, path, is_signal, is_event, identifier_in, goes_to, scope_says, declaration_says, section_says, ends_true}
 use Rattle.tre_vcd.specs.Sections.{command_of}
 use Rattle.tre_vcd.specs.declared.command.Command.{Command}
 use Rattle.tre_vcd.specs.declared.command.Command.TheVariants.{Scope, Upscope, Var, EndDefinitions, Other}
 use Rattle.tre_parts.specs.Format.{Step}
 use Rattle.tre_trace.specs.declared.fault.TraceKind.{TraceKind}
-use Rattle.tre_vcd.specs.Kept.{Declares}
+use Rattle.tre_vcd.specs.Kept.{Declares, DeclaresNone}
 
 pub ends_true-last : (value : List ℕ) → 0 < length value
     → (get_or value (length value - 1) 0 == 49) ≡ ends_true value
@@ -34,31 +34,63 @@ pub declaration-long : (past : List Statement) (tokens : List (List ℕ))
 declaration-long past tokens long =
     rw (more (length tokens) 4 (omega (arith, long, length-take 5 tokens))) refl
 
--- four tokens declare a proposition, where they are a signal's
-pub declares-four : (scopes tokens : List (List ℕ)) → length (take 5 tokens) ≡ 4
-    → is_signal (get_or (take 5 tokens) 0 []) (get_or (take 5 tokens) 1 []) ≡ true
-    → Declares scopes tokens (get_or (take 5 tokens) 2 []) (get_or (take 5 tokens) 3 [])
-declares-four scopes [] four signal = absurd (omega (arith, four))
-declares-four scopes (a ∷ []) four signal = absurd (omega (arith, four))
-declares-four scopes (a ∷ b ∷ []) four signal = absurd (omega (arith, four))
-declares-four scopes (a ∷ b ∷ c ∷ []) four signal = absurd (omega (arith, four))
-declares-four scopes (a ∷ b ∷ c ∷ d ∷ []) four signal = record {
+pub scope-long : (past : List Statement) (tokens : List (List ℕ)) (name : List ℕ)
+    → 2 ≤ length (take 5 tokens) → name ≡ get_or (take 5 tokens) 1 []
+    → scope_says past tokens ≡ goes_to (scope name ∷ past) nothing
+scope-long past [] name long is = absurd (omega (arith, long))
+scope-long past (kind ∷ []) name long is = absurd (omega (arith, long))
+scope-long past (kind ∷ own ∷ tokens) name long is =
+    ap (λ (text : List ℕ). goes_to (scope text ∷ past) nothing) (sym is)
+
+-- four tokens declare a name, where their type and size pass the test
+declares-four : (test : List ℕ → List ℕ → Bool) (scopes tokens : List (List ℕ))
+    → length (take 5 tokens) ≡ 4
+    → test (get_or (take 5 tokens) 0 []) (get_or (take 5 tokens) 1 []) ≡ true
+    → Declares test scopes tokens (get_or (take 5 tokens) 2 []) (get_or (take 5 tokens) 3 [])
+declares-four test scopes [] four passed = absurd (omega (arith, four))
+declares-four test scopes (a ∷ []) four passed = absurd (omega (arith, four))
+declares-four test scopes (a ∷ b ∷ []) four passed = absurd (omega (arith, four))
+declares-four test scopes (a ∷ b ∷ c ∷ []) four passed = absurd (omega (arith, four))
+declares-four test scopes (a ∷ b ∷ c ∷ d ∷ []) four passed = record {
   is = λ name. ap (λ (s : Bool). if s && bytes_eq name (path scopes d) then Some c else None)
-      signal;
+      passed;
 }
-declares-four scopes (a ∷ b ∷ c ∷ d ∷ e ∷ tokens) four signal = absurd (omega (arith, four))
+declares-four test scopes (a ∷ b ∷ c ∷ d ∷ e ∷ tokens) four passed = absurd (omega (arith, four))
 
 -- other tokens declare none
-pub declares-none : (scopes tokens : List (List ℕ)) → (length (take 5 tokens) ≡ 4
-    → is_signal (get_or (take 5 tokens) 0 []) (get_or (take 5 tokens) 1 []) ≡ false)
-    → (name : List ℕ) → identifier_in scopes name tokens ≡ None
-declares-none scopes [] other name = refl
-declares-none scopes (a ∷ []) other name = refl
-declares-none scopes (a ∷ b ∷ []) other name = refl
-declares-none scopes (a ∷ b ∷ c ∷ []) other name = refl
-declares-none scopes (a ∷ b ∷ c ∷ d ∷ []) other name =
+declares-no_name : (test : List ℕ → List ℕ → Bool) (scopes tokens : List (List ℕ))
+    → (length (take 5 tokens) ≡ 4
+    → test (get_or (take 5 tokens) 0 []) (get_or (take 5 tokens) 1 []) ≡ false)
+    → (name : List ℕ) → identifier_in test scopes name tokens ≡ None
+declares-no_name test scopes [] other name = refl
+declares-no_name test scopes (a ∷ []) other name = refl
+declares-no_name test scopes (a ∷ b ∷ []) other name = refl
+declares-no_name test scopes (a ∷ b ∷ c ∷ []) other name = refl
+declares-no_name test scopes (a ∷ b ∷ c ∷ d ∷ []) other name =
     ap (λ (s : Bool). if s && bytes_eq name (path scopes d) then Some c else None) (other refl)
-declares-none scopes (a ∷ b ∷ c ∷ d ∷ e ∷ tokens) other name = refl
+declares-no_name test scopes (a ∷ b ∷ c ∷ d ∷ e ∷ tokens) other name = refl
+
+pub declares-none : (test : List ℕ → List ℕ → Bool) (scopes tokens : List (List ℕ))
+    → (length (take 5 tokens) ≡ 4
+    → test (get_or (take 5 tokens) 0 []) (get_or (take 5 tokens) 1 []) ≡ false)
+    → DeclaresNone test scopes tokens
+declares-none test scopes tokens other =
+    record { is = declares-no_name test scopes tokens other }
+
+signal-no : (one two three other : Bool) → (one && not (two || three || other)) ≡ true
+    → other ≡ false
+signal-no true false false false is = refl
+signal-no true false false true is = cc (is)
+signal-no true false true other is = cc (is)
+signal-no true true three other is = cc (is)
+signal-no false two three other is = cc (is)
+
+-- a proposition is no event
+pub signal-no_event : (kind size : List ℕ) → is_signal kind size ≡ true
+    → is_event kind size ≡ false
+signal-no_event kind size is =
+    signal-no (bytes_eq size (codes "1")) (bytes_eq kind (codes "real"))
+    (bytes_eq kind (codes "realtime")) (bytes_eq kind (codes "event")) is
 
 -- ---- the end of a section, by its command
 
@@ -96,19 +128,19 @@ pub kept-at : {X : Type 0} (f : X → List ℕ) (items : List X) (kept : List (L
 kept-at f items kept i d item bytes same below is read =
     read ∙ ap f is ∙ sym (get_or-map f items i d [] below) ∙ ap (λ all. get_or all i []) same
 
--- whether they are a signal's tokens is told by the first two of those that are kept
-pub same-signal : (kept : List (List ℕ)) (kind size : List ℕ) (value : Bool)
-    → kind ≡ get_or kept 0 [] → size ≡ get_or kept 1 [] → is_signal kind size ≡ value
-    → is_signal (get_or kept 0 []) (get_or kept 1 []) ≡ value
-same-signal kept kind size value first second is =
-    sym (ap (λ k. is_signal k size) first ∙ ap (λ s. is_signal (get_or kept 0 []) s) second) ∙ is
+-- whether type and size pass the test is told by the first two of the tokens that are kept
+pub same-test : (test : List ℕ → List ℕ → Bool) (kept : List (List ℕ)) (kind size : List ℕ)
+    (value : Bool) → kind ≡ get_or kept 0 [] → size ≡ get_or kept 1 [] → test kind size ≡ value
+    → test (get_or kept 0 []) (get_or kept 1 []) ≡ value
+same-test test kept kind size value first second is =
+    sym (ap (λ k. test k size) first ∙ ap (λ s. test (get_or kept 0 []) s) second) ∙ is
 
-pub declares-kept : (scopes tokens : List (List ℕ)) (identifier reference : List ℕ)
-    → identifier ≡ get_or (take 5 tokens) 2 [] → reference ≡ get_or (take 5 tokens) 3 []
-    → length (take 5 tokens) ≡ 4
-    → is_signal (get_or (take 5 tokens) 0 []) (get_or (take 5 tokens) 1 []) ≡ true
-    → Declares scopes tokens identifier reference
-declares-kept scopes tokens identifier reference third fourth four signal =
-    subst (λ one. Declares scopes tokens one reference) (sym third)
-    (subst (λ other. Declares scopes tokens (get_or (take 5 tokens) 2 []) other) (sym fourth)
-    (declares-four scopes tokens four signal))
+pub declares-kept : (test : List ℕ → List ℕ → Bool) (scopes tokens : List (List ℕ))
+    (identifier reference : List ℕ) → identifier ≡ get_or (take 5 tokens) 2 []
+    → reference ≡ get_or (take 5 tokens) 3 [] → length (take 5 tokens) ≡ 4
+    → test (get_or (take 5 tokens) 0 []) (get_or (take 5 tokens) 1 []) ≡ true
+    → Declares test scopes tokens identifier reference
+declares-kept test scopes tokens identifier reference third fourth four passed =
+    subst (λ one. Declares test scopes tokens one reference) (sym third)
+    (subst (λ other. Declares test scopes tokens (get_or (take 5 tokens) 2 []) other) (sym fourth)
+    (declares-four test scopes tokens four passed))

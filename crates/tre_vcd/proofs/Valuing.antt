@@ -1,51 +1,50 @@
--- The signals by their numbers, and their values as one number.
-use Rattle.std.proofs.Common.{◌≡◌, ◌≢◌, ◌↔◌, ◌⊎◌, ℕ, zero, suc, ◌<◌, ◌≤◌, Bool, true, false, List, [], ◌∷◌, ◌++◌, length, get_or, set, Option, None, Some, inl, inr, refl, sym, ap, ◌∙◌, subst, arith, if◌then◌else◌}
+-- The variables by their numbers, and their values as one number.
+use Rattle.std.proofs.Common.{◌≡◌, ◌≢◌, ◌↔◌, ◌⊎◌, ℕ, zero, suc, ◌+◌, ◌<◌, ◌≤◌, Bool, true, false, List, [], ◌∷◌, ◌++◌, length, get_or, set, Option, None, Some, inl, inr, refl, sym, ap, ◌∙◌, subst, arith, if◌then◌else◌}
 use Rattle.std.specs.Int.{bit_at}
 use Rattle.std.specs.Str.{bytes_eq}
 use Rattle.std.proofs.lemmas.Bool.{cases_eq}
 use Rattle.std.proofs.lemmas.Nat.Bits.{same_from_bits}
 use Rattle.std.proofs.lemmas.Slice.Eq.{bytes_eq-Decides}
 use Rattle.tre_state.specs.Sieve.{MayBe}
-use Rattle.tre_vcd.specs.VcdReading.{Statement, change, value_at, value_of, identifier_of, first_of, valuation_from}
-use Rattle.tre_vcd.specs.Kept.{AreKnown, IsSieveOf, identifier_kept, has_identifier, identifier_at}
-use Rattle.tre_vcd.specs.declared.signal.Signal.{Signal}
-use Rattle.tre_vcd.proofs.Deciding.{value_in, bit_in}
-use Rattle.tre_vcd.proofs.Knowing.{false_of}
+use Rattle.tre_vcd.specs.VcdReading.{first_of, passes, mask_from}
+use Rattle.tre_vcd.specs.Kept.{AreKnown, IsSieveOf, AreHaving, identifier_kept, has_identifier, identifier_at}
+use Rattle.tre_vcd.specs.declared.variable.Variable.{Variable}
+use Rattle.tre_vcd.proofs.Deciding.{passes_at, bit_in}
 
 -- ---- the identifier at a place
 
-pub at-within : (signals : List Signal) (k : ℕ) (d : Signal) → k < length signals
-    → identifier_at signals k ≡ identifier_kept (get_or signals k d)
+pub at-within : (variables : List Variable) (k : ℕ) (d : Variable) → k < length variables
+    → identifier_at variables k ≡ identifier_kept (get_or variables k d)
 at-within [] k d within = absurd (omega (arith, within))
-at-within (signal ∷ signals) zero d within = refl
-at-within (signal ∷ signals) (suc k) d within = at-within signals k d (omega (arith, within))
+at-within (variable ∷ variables) zero d within = refl
+at-within (variable ∷ variables) (suc k) d within = at-within variables k d (omega (arith, within))
 
-pub at-past : (signals : List Signal) (k : ℕ) → length signals ≤ k → identifier_at signals k ≡ None
+pub at-past : (variables : List Variable) (k : ℕ) → length variables ≤ k → identifier_at variables k ≡ None
 at-past [] k past = refl
-at-past (signal ∷ signals) zero past = absurd (omega (arith, past))
-at-past (signal ∷ signals) (suc k) past = at-past signals k (omega (arith, past))
+at-past (variable ∷ variables) zero past = absurd (omega (arith, past))
+at-past (variable ∷ variables) (suc k) past = at-past variables k (omega (arith, past))
 
-at-push : (signals : List Signal) (signal : Signal) (k : ℕ) → identifier_kept signal ≡ None
-    → identifier_at (signals ++ signal ∷ []) k ≡ identifier_at signals k
-at-push [] signal zero none = none
-at-push [] signal (suc k) none = refl
-at-push (first ∷ signals) signal zero none = refl
-at-push (first ∷ signals) signal (suc k) none = at-push signals signal k none
+at-push : (variables : List Variable) (variable : Variable) (k : ℕ) → identifier_kept variable ≡ None
+    → identifier_at (variables ++ variable ∷ []) k ≡ identifier_at variables k
+at-push [] variable zero none = none
+at-push [] variable (suc k) none = refl
+at-push (first ∷ variables) variable zero none = refl
+at-push (first ∷ variables) variable (suc k) none = at-push variables variable k none
 
-at-set : (signals : List Signal) (i : ℕ) (new : Signal) → i < length signals
-    → identifier_at (set signals i new) i ≡ identifier_kept new
+at-set : (variables : List Variable) (i : ℕ) (new : Variable) → i < length variables
+    → identifier_at (set variables i new) i ≡ identifier_kept new
 at-set [] i new within = absurd (omega (arith, within))
-at-set (signal ∷ signals) zero new within = refl
-at-set (signal ∷ signals) (suc i) new within = at-set signals i new (omega (arith, within))
+at-set (variable ∷ variables) zero new within = refl
+at-set (variable ∷ variables) (suc i) new within = at-set variables i new (omega (arith, within))
 
-at-set_other : (signals : List Signal) (i k : ℕ) (new : Signal) → k ≢ i
-    → identifier_at (set signals i new) k ≡ identifier_at signals k
+at-set_other : (variables : List Variable) (i k : ℕ) (new : Variable) → k ≢ i
+    → identifier_at (set variables i new) k ≡ identifier_at variables k
 at-set_other [] i k new other = refl
-at-set_other (signal ∷ signals) zero zero new other = absurd (other refl)
-at-set_other (signal ∷ signals) zero (suc k) new other = refl
-at-set_other (signal ∷ signals) (suc i) zero new other = refl
-at-set_other (signal ∷ signals) (suc i) (suc k) new other =
-    at-set_other signals i k new (λ same. other (ap suc same))
+at-set_other (variable ∷ variables) zero zero new other = absurd (other refl)
+at-set_other (variable ∷ variables) zero (suc k) new other = refl
+at-set_other (variable ∷ variables) (suc i) zero new other = refl
+at-set_other (variable ∷ variables) (suc i) (suc k) new other =
+    at-set_other variables i k new (λ same. other (ap suc same))
 
 has-is : (o : Option (List ℕ)) (identifier : List ℕ) (same : Bool)
     → same ≡ has_identifier o identifier → (same ≡ true) ↔ (o ≡ Some identifier)
@@ -57,24 +56,24 @@ has-is (Some own) identifier same is = (
       is ∙ (bytes_eq-Decides own identifier).1 alike,
 )
 
-pub has-at : (signals : List Signal) (k : ℕ) (d : Signal) (identifier : List ℕ) (same : Bool)
-    → k < length signals → same ≡ has_identifier (identifier_kept (get_or signals k d)) identifier
-    → (same ≡ true) ↔ (identifier_at signals k ≡ Some identifier)
-has-at signals k d identifier same within is =
-    rw (at-within signals k d within)
-    (has-is (identifier_kept (get_or signals k d)) identifier same is)
+pub has-at : (variables : List Variable) (k : ℕ) (d : Variable) (identifier : List ℕ) (same : Bool)
+    → k < length variables → same ≡ has_identifier (identifier_kept (get_or variables k d)) identifier
+    → (same ≡ true) ↔ (identifier_at variables k ≡ Some identifier)
+has-at variables k d identifier same within is =
+    rw (at-within variables k d within)
+    (has-is (identifier_kept (get_or variables k d)) identifier same is)
 
-pub has-none : (signals : List Signal) (k : ℕ) (identifier : List ℕ) → length signals ≤ k
-    → (false ≡ true) ↔ (identifier_at signals k ≡ Some identifier)
-has-none signals k identifier past = rw (at-past signals k past) (λ wrong. cc, λ some. cc)
+pub has-none : (variables : List Variable) (k : ℕ) (identifier : List ℕ) → length variables ≤ k
+    → (false ≡ true) ↔ (identifier_at variables k ≡ Some identifier)
+has-none variables k identifier past = rw (at-past variables k past) (λ wrong. cc, λ some. cc)
 
 -- ---- the sieve
 
-pub sieve-push : (signals : List Signal) (signal : Signal) (sieve : List ℕ)
-    → identifier_kept signal ≡ None → IsSieveOf signals sieve
-    → IsSieveOf (signals ++ signal ∷ []) sieve
-sieve-push signals signal sieve none is = record {
-  each = λ k identifier at. is.each k identifier (sym (at-push signals signal k none) ∙ at);
+pub sieve-push : (variables : List Variable) (variable : Variable) (sieve : List ℕ)
+    → identifier_kept variable ≡ None → IsSieveOf variables sieve
+    → IsSieveOf (variables ++ variable ∷ []) sieve
+sieve-push variables variable sieve none is = record {
+  each = λ k identifier at. is.each k identifier (sym (at-push variables variable k none) ∙ at);
 }
 
 one-of : (o : Option (List ℕ)) (identifier own : List ℕ) → first_of o (Some identifier) ≡ Some own
@@ -82,95 +81,130 @@ one-of : (o : Option (List ℕ)) (identifier own : List ℕ) → first_of o (Som
 one-of None identifier own is = inr cc
 one-of (Some other) identifier own is = inl is
 
-pub sieve-set : (signals : List Signal) (i : ℕ) (d new : Signal) (identifier : List ℕ)
-    (old now : List ℕ) → i < length signals
-    → identifier_kept new ≡ first_of (identifier_kept (get_or signals i d)) (Some identifier)
-    → IsSieveOf signals old → MayBe now identifier i
+pub sieve-set : (variables : List Variable) (i : ℕ) (d new : Variable) (identifier : List ℕ)
+    (old now : List ℕ) → i < length variables
+    → identifier_kept new ≡ first_of (identifier_kept (get_or variables i d)) (Some identifier)
+    → IsSieveOf variables old → MayBe now identifier i
     → ((other : List ℕ) (k : ℕ) → MayBe old other k → MayBe now other k)
-    → IsSieveOf (set signals i new) now
-sieve-set signals i d new identifier old now within made is added kept = record {
+    → IsSieveOf (set variables i new) now
+sieve-set variables i d new identifier old now within made is added kept = record {
   each = λ k own at. elim (cases_eq k i) [
     | inl same ↦
-        let here : identifier_at (set signals i new) i ≡ Some own =
-        ap (identifier_at (set signals i new)) (sym same) ∙ at in
-        elim (one-of (identifier_kept (get_or signals i d)) identifier own
-        (sym made ∙ sym (at-set signals i new within) ∙ here)) [
+        let here : identifier_at (set variables i new) i ≡ Some own =
+        ap (identifier_at (set variables i new)) (sym same) ∙ at in
+        elim (one-of (identifier_kept (get_or variables i d)) identifier own
+        (sym made ∙ sym (at-set variables i new within) ∙ here)) [
           | inl before ↦
-              let held : identifier_at signals k ≡ Some own =
-              ap (identifier_at signals) same ∙ at-within signals i d within ∙ before in
+              let held : identifier_at variables k ≡ Some own =
+              ap (identifier_at variables) same ∙ at-within variables i d within ∙ before in
               kept own k (is.each k own held)
           | inr given ↦
               subst (λ n. MayBe now own n) (sym same)
               (subst (λ (text : List ℕ). MayBe now text i) given added)
         ]
     | inr other ↦
-        kept own k (is.each k own (sym (at-set_other signals i k new other) ∙ at))
+        kept own k (is.each k own (sym (at-set_other variables i k new other) ∙ at))
   ];
 }
 
--- ---- the values
+-- ---- masks
 
 same-bytes : (bytes : List ℕ) → bytes_eq bytes bytes ≡ true
 same-bytes bytes = (bytes_eq-Decides bytes bytes).1 refl
 
-changed-one : (past : List Statement) (names : List (List ℕ)) (signals : List Signal)
-    (identifier : List ℕ) (value : Bool) (k : ℕ) → AreKnown past names signals
-    → identifier_at signals k ≡ Some identifier
-    → value_in (change identifier value ∷ past) names k ≡ value
-changed-one past [] signals identifier value k known at =
-    let none : identifier_at [] k ≡ Some identifier =
-    ap (λ all. identifier_at all k) (sym known) ∙ at in
-    absurd (cc (none))
-changed-one past (name ∷ names) [] identifier value k known at = absurd (cc (at))
-changed-one past (name ∷ names) (signal ∷ signals) identifier value zero known at =
-    ap (value_of (change identifier value ∷ past)) (sym known.0 ∙ at)
-    ∙ ap (λ (b : Bool). if b then value else value_at past identifier) (same-bytes identifier)
-changed-one past (name ∷ names) (signal ∷ signals) identifier value (suc k) known at =
-    changed-one past names signals identifier value k known.1 at
+test-other : (before now : List ℕ → Bool) (o : Option (List ℕ)) (identifier : List ℕ)
+    → ((other : List ℕ) → other ≢ identifier → now other ≡ before other)
+    → (o ≡ Some identifier → ⊥) → passes now o ≡ passes before o
+test-other before now None identifier others apart = refl
+test-other before now (Some own) identifier others apart =
+    others own (λ same. apart (ap Some same))
 
-value-other : (past : List Statement) (o : Option (List ℕ)) (identifier : List ℕ) (value : Bool)
-    → (o ≡ Some identifier → ⊥) → value_of (change identifier value ∷ past) o ≡ value_of past o
-value-other past None identifier value other = refl
-value-other past (Some own) identifier value other =
-    ap (λ (b : Bool). if b then value else value_at past own)
-    (false_of (bytes_eq own identifier)
-    (λ same. other (ap Some ((bytes_eq-Decides own identifier).0 same))))
+-- Where a test changes for one identifier.
+module _ (identified : List ℕ → Option (List ℕ)) (before now : List ℕ → Bool)
+    (identifier : List ℕ) (value : Bool) (is : now identifier ≡ value)
+    (others : (other : List ℕ) → other ≢ identifier → now other ≡ before other) where
+  changed-one : (names : List (List ℕ)) (variables : List Variable) (k : ℕ)
+      → AreKnown identified names variables → identifier_at variables k ≡ Some identifier
+      → passes_at identified now names k ≡ value
+  changed-one [] variables k known at =
+      let none : identifier_at [] k ≡ Some identifier =
+      ap (λ all. identifier_at all k) (sym known) ∙ at in
+      absurd (cc (none))
+  changed-one (name ∷ names) [] k known at = absurd (cc (at))
+  changed-one (name ∷ names) (variable ∷ variables) zero known at =
+      ap (passes now) (sym known.0 ∙ at) ∙ is
+  changed-one (name ∷ names) (variable ∷ variables) (suc k) known at =
+      changed-one names variables k known.1 at
 
-changed-other : (past : List Statement) (names : List (List ℕ)) (signals : List Signal)
-    (identifier : List ℕ) (value : Bool) (k : ℕ) → AreKnown past names signals
-    → (identifier_at signals k ≡ Some identifier → ⊥)
-    → value_in (change identifier value ∷ past) names k ≡ value_in past names k
-changed-other past [] signals identifier value k known other = refl
-changed-other past (name ∷ names) [] identifier value zero known other =
-    ap (value_of (change identifier value ∷ past)) known.0 ∙ sym (ap (value_of past) known.0)
-changed-other past (name ∷ names) [] identifier value (suc k) known other =
-    changed-other past names [] identifier value k known.1 (λ at. cc)
-changed-other past (name ∷ names) (signal ∷ signals) identifier value zero known other =
-    value-other past (identifier_of past name) identifier value (λ is. other (known.0 ∙ is))
-changed-other past (name ∷ names) (signal ∷ signals) identifier value (suc k) known other =
-    changed-other past names signals identifier value k known.1 other
+  changed-other : (names : List (List ℕ)) (variables : List Variable) (k : ℕ)
+      → AreKnown identified names variables → (identifier_at variables k ≡ Some identifier → ⊥)
+      → passes_at identified now names k ≡ passes_at identified before names k
+  changed-other [] variables k known apart = refl
+  changed-other (name ∷ names) [] zero known apart =
+      ap (passes now) known.0 ∙ sym (ap (passes before) known.0)
+  changed-other (name ∷ names) [] (suc k) known apart =
+      changed-other names [] k known.1 (λ at. cc)
+  changed-other (name ∷ names) (variable ∷ variables) zero known apart =
+      test-other before now (identified name) identifier others (λ same. apart (known.0 ∙ same))
+  changed-other (name ∷ names) (variable ∷ variables) (suc k) known apart =
+      changed-other names variables k known.1 apart
 
--- where the bits of just those signals that have the identifier become its value
-pub values-changed : (past : List Statement) (names : List (List ℕ)) (signals : List Signal)
-    (identifier : List ℕ) (value : Bool) (values new bits : ℕ) → AreKnown past names signals
-    → values ≡ valuation_from past 0 names
-    → ((k : ℕ) → bit_at bits k ≡ 1 → identifier_at signals k ≡ Some identifier)
-    → ((k : ℕ) → identifier_at signals k ≡ Some identifier → bit_at bits k ≡ 1)
-    → ((k : ℕ) → bit_at bits k ≡ 1 → bit_at new k ≡ (if value then 1 else 0))
-    → ((k : ℕ) → bit_at bits k ≢ 1 → bit_at new k ≡ bit_at values k)
-    → new ≡ valuation_from (change identifier value ∷ past) 0 names
-values-changed past names signals identifier value values new bits known is sound whole changed
-    kept =
-    let now = change identifier value ∷ past in
-    same_from_bits new (valuation_from now 0 names) (λ k. elim (cases_eq (bit_at bits k) 1) [
-      | inl set ↦
-          changed k set
-          ∙ sym (bit_in now names k
-          ∙ ap (λ (b : Bool). if b then 1 else 0)
-          (changed-one past names signals identifier value k known (sound k set)))
-      | inr clear ↦
-          kept k clear ∙ ap (λ n. bit_at n k) is ∙ bit_in past names k
-          ∙ sym (bit_in now names k
-          ∙ ap (λ (b : Bool). if b then 1 else 0)
-          (changed-other past names signals identifier value k known (λ at. clear (whole k at))))
-    ])
+  -- where the bits of just those variables that have the identifier become its value
+  pub mask-changed : (names : List (List ℕ)) (variables : List Variable) (old new bits : ℕ)
+      → AreKnown identified names variables → old ≡ mask_from identified before 0 names
+      → AreHaving variables identifier bits
+      → ((k : ℕ) → bit_at bits k ≡ 1 → bit_at new k ≡ (if value then 1 else 0))
+      → ((k : ℕ) → bit_at bits k ≢ 1 → bit_at new k ≡ bit_at old k)
+      → new ≡ mask_from identified now 0 names
+  mask-changed names variables old new bits known was having changed kept =
+      same_from_bits new (mask_from identified now 0 names) (λ k. elim (cases_eq (bit_at bits k) 1) [
+        | inl set ↦
+            changed k set
+            ∙ sym (bit_in identified now names k
+            ∙ ap (λ (b : Bool). if b then 1 else 0)
+            (changed-one names variables k known (having.sound k set)))
+        | inr clear ↦
+            kept k clear ∙ ap (λ n. bit_at n k) was ∙ bit_in identified before names k
+            ∙ sym (bit_in identified now names k
+            ∙ ap (λ (b : Bool). if b then 1 else 0)
+            (changed-other names variables k known (λ at. clear (having.whole k at))))
+      ])
+
+passes-same : (one other : List ℕ → Bool) (o : Option (List ℕ))
+    → ((identifier : List ℕ) → other identifier ≡ one identifier) → passes other o ≡ passes one o
+passes-same one other None same = refl
+passes-same one other (Some identifier) same = same identifier
+
+-- where names have the same identifiers, and these pass the same test
+pub mask-same : (old new : List ℕ → Option (List ℕ)) (one other : List ℕ → Bool) (i : ℕ)
+    (names : List (List ℕ)) → ((name : List ℕ) → new name ≡ old name)
+    → ((identifier : List ℕ) → other identifier ≡ one identifier)
+    → mask_from old one i names ≡ mask_from new other i names
+mask-same old new one other i [] names-same same = refl
+mask-same old new one other i (name ∷ names) names-same same =
+    let head : passes other (new name) ≡ passes one (old name) =
+    ap (passes other) (names-same name) ∙ passes-same one other (old name) same in
+    rw (head, mask-same old new one other (i + 1) names names-same same) refl
+
+passes-quiet : (test : List ℕ → Bool) (o : Option (List ℕ))
+    → ((identifier : List ℕ) → test identifier ≡ false) → passes test o ≡ false
+passes-quiet test None quiet = refl
+passes-quiet test (Some identifier) quiet = quiet identifier
+
+-- where no identifier passes the test
+pub mask-quiet : (identified : List ℕ → Option (List ℕ)) (test : List ℕ → Bool) (i : ℕ)
+    (names : List (List ℕ)) → ((identifier : List ℕ) → test identifier ≡ false)
+    → mask_from identified test i names ≡ 0
+mask-quiet identified test i [] quiet = refl
+mask-quiet identified test i (name ∷ names) quiet =
+    rw (passes-quiet test (identified name) quiet, mask-quiet identified test (i + 1) names quiet)
+    refl
+
+-- where no name has an identifier
+pub mask-empty : (identified : List ℕ → Option (List ℕ)) (test : List ℕ → Bool) (i : ℕ)
+    (names : List (List ℕ)) → AreKnown identified names []
+    → mask_from identified test i names ≡ 0
+mask-empty identified test i [] known = refl
+mask-empty identified test i (name ∷ names) known =
+    let none : passes test (identified name) ≡ false = ap (passes test) known.0 in
+    rw (none, mask-empty identified test (i + 1) names known.1) refl

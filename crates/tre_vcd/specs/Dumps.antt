@@ -1,16 +1,16 @@
 -- The bytes of a dump, said of its tokens: sections of declarations, then times and changes.
 use Rattle.std.specs.Prelude.{◌≡◌, ◌⊎◌, ℕ, ◌+◌, ◌<◌, ◌≤◌, nat_le, Bool, true, false, ◌||◌, ◌==◌, List, [], ◌∷◌, ◌++◌, length, codes, if◌then◌else◌}
 use Rattle.std.specs.Option.{option_map}
-use Rattle.std.specs.List.{All, list_all, list_any}
+use Rattle.std.specs.List.{All, list_any}
 use Rattle.std.specs.Str.Parse.{digits_value}
 use Rattle.tre_pairs.specs.declared.TheConstants.{TIME_MAX}
 use Rattle.tre_decimal.specs.Decimal.{is_numeral}
 use Rattle.tre_parts.specs.declared.TheConstants.{PART_MAX}
-use Rattle.tre_trace.specs.Reading.{Reading}
+use Rattle.tre_trace.specs.Reading.{Reading, Vocabulary}
 use Rattle.tre_trace.specs.declared.fault.TraceKind.{TraceKind}
 use Rattle.tre_trace.specs.declared.fault.TraceKind.TheVariants.{TooLate, BadToken, UnknownName, TimeBack}
 use Rattle.tre_trace.specs.declared.segment.Segment.{Segment}
-use Rattle.tre_vcd.specs.VcdReading.{is_white, is, is_end, is_dump, is_command, is_scalar, ends_true, is_declared, is_defined, in_dump, scopes_at, time_at, valuation_from, Statement, scope, upscope, var, definitions, time, change, dump, dump_end}
+use Rattle.tre_vcd.specs.VcdReading.{is_white, is, is_end, is_dump, is_command, is_scalar, ends_true, are_declared, is_defined, in_dump, scopes_at, time_at, valuation_at, events_at, Terms, scalar, wide, Statement, scope, upscope, var, definitions, time, change, dump, dump_end}
 
 -- ---- tokens and white space
 
@@ -124,8 +124,8 @@ Write upscope tokens = IsSection (codes "$upscope") IsAnything tokens
 Write (var inner) tokens = IsSection (codes "$var") (AreDeclaring inner) tokens
 Write definitions tokens = IsSection (codes "$enddefinitions") IsAnything tokens
 Write (time ticks) tokens = IsTime ticks tokens
-Write (change identifier value) tokens =
-    IsScalar identifier value tokens ⊎ IsVector identifier value tokens
+Write (change scalar identifier value) tokens = IsScalar identifier value tokens
+Write (change wide identifier value) tokens = IsVector identifier value tokens
 Write dump tokens = IsDump tokens
 Write dump_end tokens = tokens ≡ codes "$end" ∷ []
 
@@ -159,53 +159,53 @@ Belongs past upscope = (is_defined past ≡ false) × (0 < length (scopes_at pas
 Belongs past (var tokens) = is_defined past ≡ false
 Belongs past definitions = is_defined past ≡ false
 Belongs past (time ticks) = is_defined past ≡ true
-Belongs past (change identifier value) = is_defined past ≡ true
+Belongs past (change form identifier value) = is_defined past ≡ true
 Belongs past dump = (is_defined past ≡ true) × (in_dump past ≡ false)
 Belongs past dump_end = (is_defined past ≡ true) × (in_dump past ≡ true)
 
 -- The declarations end once all names are declared, and time doesn't run back.
-abbrev pub Fits : List (List ℕ) → List Statement → Statement → Type 0
-Fits names past definitions = list_all (is_declared past) names ≡ true
-Fits names past (time ticks) = (time_at past ≤ ticks) × (ticks ≤ TIME_MAX)
-Fits names past _ = Unit {0}
+abbrev pub Fits : Terms → List Statement → Statement → Type 0
+Fits terms past definitions = are_declared past terms.declared ≡ true
+Fits terms past (time ticks) = (time_at past ≤ ticks) × (ticks ≤ TIME_MAX)
+Fits terms past _ = Unit {0}
 
 -- The first of the segments reaches from the last time to this one, with the values held until
--- then.
-pub record IsReached (names : List (List ℕ)) (past : List Statement) (ticks : ℕ)
+-- then, and the events that happened at the last time.
+pub record IsReached (asked : Vocabulary) (past : List Statement) (ticks : ℕ)
     (segments rest : List Segment) : Type 0 where
   pub segment : Segment
   pub is : segments ≡ segment ∷ rest
   pub some : 1 ≤ segment.len
   pub reaches : time_at past + segment.len ≡ ticks
-  pub held : segment.val ≡ valuation_from past 0 names
+  pub held : segment.val ≡ valuation_at past asked.names
+  pub happened : segment.ev ≡ events_at past asked.events
 
 -- A later time brings a segment, and nothing else does.
-abbrev pub Bring : List (List ℕ) → List Statement → Statement → List Segment → List Segment
-    → Type 0
-Bring names past (time ticks) segments rest =
-    ((ticks ≡ time_at past) × (segments ≡ rest)) ⊎ IsReached names past ticks segments rest
-Bring names past _ segments rest = segments ≡ rest
+abbrev pub Bring : Vocabulary → List Statement → Statement → List Segment → List Segment → Type 0
+Bring asked past (time ticks) segments rest =
+    ((ticks ≡ time_at past) × (segments ≡ rest)) ⊎ IsReached asked past ticks segments rest
+Bring asked past _ segments rest = segments ≡ rest
 
 -- The tokens say something that belongs and fits here, and this holds of what was read then and of
 -- the later segments.
-pub record SayNext (names : List (List ℕ)) (past : List Statement) (tokens : List (List ℕ))
+pub record SayNext (terms : Terms) (past : List Statement) (tokens : List (List ℕ))
     (segments : List Segment) (Later : List Statement → List Segment → Type 0) : Type 0 where
   pub statement : Statement
   pub writes : Write statement tokens
   pub belongs : Belongs past statement
-  pub fits : Fits names past statement
+  pub fits : Fits terms past statement
   pub rest : List Segment
-  pub brings : Bring names past statement segments rest
+  pub brings : Bring terms.names past statement segments rest
   pub later : Later (statement ∷ past) rest
 
 -- Each group of tokens says nothing, or something that belongs and fits where it stands, these are
 -- all segments, and this holds of what was read then.
-abbrev pub Say : List (List ℕ) → List Statement → List (List (List ℕ)) → List Segment
+abbrev pub Say : Terms → List Statement → List (List (List ℕ)) → List Segment
     → (List Statement → Type 0) → Type 0
-Say names past [] segments End = (segments ≡ []) × End past
-Say names past (tokens ∷ groups) segments End =
-    (AreSilent (is_defined past) tokens × Say names past groups segments End)
-    ⊎ SayNext names past tokens segments (λ now rest. Say names now groups rest End)
+Say terms past [] segments End = (segments ≡ []) × End past
+Say terms past (tokens ∷ groups) segments End =
+    (AreSilent (is_defined past) tokens × Say terms past groups segments End)
+    ⊎ SayNext terms past tokens segments (λ now rest. Say terms now groups rest End)
 
 -- the tokens of all groups
 abbrev pub tokens_in : List (List (List ℕ)) → List (List ℕ)
@@ -216,6 +216,11 @@ tokens_in (tokens ∷ groups) = tokens ++ tokens_in groups
 pub record IsComplete (past : List Statement) : Type 0 where
   pub defined : is_defined past ≡ true
   pub closed : in_dump past ≡ false
+
+-- The same, with these events at the last time.
+pub record CompletesWith (asked : Vocabulary) (last : ℕ) (past : List Statement) : Type 0 where
+  pub complete : IsComplete past
+  pub happened : last ≡ events_at past asked.events
 
 -- ---- faults
 
@@ -238,11 +243,11 @@ pub record EndsEarly (past : List Statement) (begun : List (List ℕ)) (token : 
   pub ends : token ≡ codes "$end"
   pub short : IsShort (codes "$scope") 2 begun ⊎ IsShort (codes "$var") 4 begun
 
--- The declarations would end, and one of the names isn't declared.
-pub record LacksName (names : List (List ℕ)) (past : List Statement) (token : List ℕ) : Type 0 where
+-- The declarations would end, and one of the names that are needed isn't declared.
+pub record LacksName (needed : Vocabulary) (past : List Statement) (token : List ℕ) : Type 0 where
   pub defined : is_defined past ≡ false
   pub ends : token ≡ codes "$enddefinitions"
-  pub lacks : list_all (is_declared past) names ≡ false
+  pub lacks : are_declared past needed ≡ false
 
 -- The token is a time behind the declarations, and this holds of it.
 pub record HasTime (past : List Statement) (token : List ℕ) (P : ℕ → Type 0) : Type 0 where
@@ -252,15 +257,15 @@ pub record HasTime (past : List Statement) (token : List ℕ) (P : ℕ → Type 
   pub holds : P ticks
 
 -- The fault of a token, behind the past and the tokens of a group that was begun.
-abbrev pub HasFault : List (List ℕ) → List Statement → List (List ℕ) → List ℕ → TraceKind → Type 0
-HasFault names past begun token BadToken =
+abbrev pub HasFault : Terms → List Statement → List (List ℕ) → List ℕ → TraceKind → Type 0
+HasFault terms past begun token BadToken =
     ((begun ≡ []) × FitsNoRule past token) ⊎ EndsEarly past begun token
-HasFault names past begun token UnknownName = (begun ≡ []) × LacksName names past token
-HasFault names past begun token TimeBack =
+HasFault terms past begun token UnknownName = (begun ≡ []) × LacksName terms.declared past token
+HasFault terms past begun token TimeBack =
     (begun ≡ []) × HasTime past token (λ ticks. ticks < time_at past)
-HasFault names past begun token TooLate =
+HasFault terms past begun token TooLate =
     (begun ≡ []) × HasTime past token (λ ticks. (time_at past ≤ ticks) × (TIME_MAX < ticks))
-HasFault names past begun token _ = ⊥
+HasFault terms past begun token _ = ⊥
 
 -- ---- more white space
 
@@ -272,6 +277,7 @@ moved from offset = if nat_le from offset then offset + 1 else offset
 abbrev pub moved_reading : ℕ → Reading → Reading
 moved_reading from reading = record {
   segments = reading.segments;
+  last = reading.last;
   fault = option_map (λ fault. record { place = moved from fault.place; kind = fault.kind })
       reading.fault;
 }

@@ -2,9 +2,11 @@
 use Rattle.std.specs.Prelude.{◌≡◌, ℕ, zero, suc, Bool, false, List, [], ◌∷◌, ◌++◌, length, Option, None, Some, if◌then◌else◌}
 use Rattle.std.specs.Option.{option_map}
 use Rattle.std.specs.Str.{bytes_eq}
+use Rattle.std.specs.Int.{bit_at}
 use Rattle.tre_state.specs.Sieve.{MayBe}
-use Rattle.tre_vcd.specs.VcdReading.{Statement, is_defined, time_at, scopes_at, in_dump, value_at, identifier_of, identifier_in, valuation_from, path}
-use Rattle.tre_vcd.specs.declared.signal.Signal.{Signal}
+use Rattle.tre_vcd.specs.VcdReading.{Statement, is_defined, time_at, scopes_at, in_dump, value_at, happened_at, is_signal, is_event, identifier_of, identifier_in, first_of, valuation_at, events_at, path}
+use Rattle.tre_vcd.specs.declared.variable.Variable.{Variable}
+use Rattle.tre_vcd.specs.declared.variables.Variables.{Variables}
 use Rattle.tre_vcd.specs.declared.past.Past.{Past}
 
 -- ---- scopes
@@ -24,45 +26,77 @@ abbrev pub AreScopes : List (List ℕ) → List ℕ → List ℕ → Type 0
 AreScopes [] prefix lens = (prefix ≡ []) × (lens ≡ [])
 AreScopes (name ∷ scopes) prefix lens = IsInner name (AreScopes scopes) prefix lens
 
--- ---- signals
+-- ---- variables
 
-abbrev pub identifier_kept : Signal → Option (List ℕ)
-identifier_kept signal = option_map (λ bytes. bytes.items) signal.identifier
+abbrev pub identifier_kept : Variable → Option (List ℕ)
+identifier_kept variable = option_map (λ bytes. bytes.items) variable.identifier
 
 abbrev pub has_identifier : Option (List ℕ) → List ℕ → Bool
 has_identifier None identifier = false
 has_identifier (Some own) identifier = bytes_eq own identifier
 
--- the identifier of the signal at a place; none where there is no such signal
-abbrev pub identifier_at : List Signal → ℕ → Option (List ℕ)
+-- the identifier of the variable at a place; none where there is no such variable
+abbrev pub identifier_at : List Variable → ℕ → Option (List ℕ)
 identifier_at [] k = None
-identifier_at (signal ∷ signals) zero = identifier_kept signal
-identifier_at (signal ∷ signals) (suc k) = identifier_at signals k
+identifier_at (variable ∷ variables) zero = identifier_kept variable
+identifier_at (variable ∷ variables) (suc k) = identifier_at variables k
 
--- Each identifier may have the place of its signal.
-pub record IsSieveOf (signals : List Signal) (sieve : List ℕ) : Type 0 where
-  pub each : (k : ℕ) (identifier : List ℕ) → identifier_at signals k ≡ Some identifier
+-- Each identifier may have the place of its variable.
+pub record IsSieveOf (variables : List Variable) (sieve : List ℕ) : Type 0 where
+  pub each : (k : ℕ) (identifier : List ℕ) → identifier_at variables k ≡ Some identifier
       → MayBe sieve identifier k
 
--- The signals are those of the first names, and the names behind them are undeclared.
-abbrev pub AreKnown : List Statement → List (List ℕ) → List Signal → Type 0
-AreKnown past [] signals = signals ≡ []
-AreKnown past (name ∷ names) [] = (identifier_of past name ≡ None) × AreKnown past names []
-AreKnown past (name ∷ names) (signal ∷ signals) =
-    (identifier_kept signal ≡ identifier_of past name) × AreKnown past names signals
+-- The variables are those of the first names, and the names behind them have no identifier.
+abbrev pub AreKnown : (List ℕ → Option (List ℕ)) → List (List ℕ) → List Variable → Type 0
+AreKnown identified [] variables = variables ≡ []
+AreKnown identified (name ∷ names) [] = (identified name ≡ None) × AreKnown identified names []
+AreKnown identified (name ∷ names) (variable ∷ variables) =
+    (identifier_kept variable ≡ identified name) × AreKnown identified names variables
 
--- Each field is its look-back. Before the declarations end nothing has changed.
-pub record Knows (names : List (List ℕ)) (kept : Past) (past : List Statement) : Type 0 where
+-- What is kept of the identifiers of these names.
+pub record KeepsNames (identified : List ℕ → Option (List ℕ)) (names : List (List ℕ))
+    (kept : Variables) : Type 0 where
+  pub known : AreKnown identified names kept.list.items
+  pub sieve : IsSieveOf kept.list.items kept.sieve
+
+-- the identifiers, once a name has been declared with one: its first declaration counts
+abbrev pub and_declared : (List ℕ → Option (List ℕ)) → List ℕ → List ℕ → List ℕ
+    → Option (List ℕ)
+and_declared identified name identifier other =
+    first_of (identified other) (if bytes_eq other name then Some identifier else None)
+
+-- The bits are those of the variables that have this identifier.
+pub record AreHaving (variables : List Variable) (identifier : List ℕ) (bits : ℕ) : Type 0 where
+  pub sound : (k : ℕ) → bit_at bits k ≡ 1 → identifier_at variables k ≡ Some identifier
+  pub whole : (k : ℕ) → identifier_at variables k ≡ Some identifier → bit_at bits k ≡ 1
+
+-- ---- all fields
+
+-- Nothing has changed, and no event has happened.
+pub record IsQuiet (past : List Statement) : Type 0 where
+  pub values : (identifier : List ℕ) → value_at past identifier ≡ false
+  pub events : (identifier : List ℕ) → happened_at past identifier ≡ false
+
+-- Each field is its look-back, for propositions and events of these names. Before the declarations
+-- end it is quiet.
+pub record Knows (names event_names : List (List ℕ)) (kept : Past) (past : List Statement) : Type 0 where
   pub defined : kept.is_defined ≡ is_defined past
   pub dump : kept.in_dump ≡ in_dump past
   pub time : kept.time ≡ time_at past
   pub scopes : AreScopes (scopes_at past) kept.scopes.prefix.items kept.scopes.lens.items
-  pub signals : AreKnown past names kept.signals.items
-  pub sieve : IsSieveOf kept.signals.items kept.sieve
-  pub values : kept.values ≡ valuation_from past 0 names
-  pub quiet : is_defined past ≡ false → (identifier : List ℕ) → value_at past identifier ≡ false
+  pub propositions : KeepsNames (identifier_of is_signal past) names kept.propositions
+  pub events : KeepsNames (identifier_of is_event past) event_names kept.events
+  pub values : kept.values ≡ valuation_at past names
+  pub happened : kept.happened ≡ events_at past event_names
+  pub quiet : is_defined past ≡ false → IsQuiet past
 
--- The tokens declare the proposition of this path alone.
-pub record Declares (scopes tokens : List (List ℕ)) (identifier reference : List ℕ) : Type 0 where
-  pub is : (name : List ℕ) → identifier_in scopes name tokens
+-- By variables that pass the test, the tokens declare this path alone.
+pub record Declares (test : List ℕ → List ℕ → Bool) (scopes tokens : List (List ℕ))
+    (identifier reference : List ℕ) : Type 0 where
+  pub is : (name : List ℕ) → identifier_in test scopes name tokens
       ≡ (if bytes_eq name (path scopes reference) then Some identifier else None)
+
+-- By variables that pass the test, the tokens declare no name.
+pub record DeclaresNone (test : List ℕ → List ℕ → Bool) (scopes tokens : List (List ℕ)) : Type 0
+  where
+    pub is : (name : List ℕ) → identifier_in test scopes name tokens ≡ None

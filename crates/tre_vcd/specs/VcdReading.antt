@@ -7,13 +7,30 @@ use Rattle.std.specs.Option.{is_some}
 use Rattle.tre_pairs.specs.declared.TheConstants.{TIME_MAX}
 use Rattle.tre_decimal.specs.Decimal.{is_numeral}
 use Rattle.tre_parts.specs.Format.{Format, Step, reading_of}
-use Rattle.tre_trace.specs.Reading.{Reading}
+use Rattle.tre_trace.specs.Reading.{Reading, Vocabulary}
+use Rattle.tre_trace.specs.Segments.{segment_with}
 use Rattle.tre_trace.specs.declared.fault.TraceKind.{TraceKind}
+use Rattle.tre_trace.specs.declared.segment.Segment.{Segment}
 use Rattle.tre_trace.specs.declared.fault.TraceKind.TheVariants.{TooLate, BadToken, UnknownName, TimeBack, CutShort}
 
 -- White space is the byte 32, and the bytes 9 to 13.
 abbrev pub is_white : ℕ → Bool
 is_white byte = byte == 32 || (nat_le 9 byte && nat_le byte 13)
+
+-- What is asked of a dump: the names whose values and events are read, and those that it must
+-- declare.
+pub record Terms : Type 0 where
+  pub names : Vocabulary
+  pub declared : Vocabulary
+
+-- These names are read, and all of them must be declared.
+abbrev pub terms_of : Vocabulary → Terms
+terms_of names = record { names = names; declared = names }
+
+-- How a change is written: as one letter and its identifier, or as a vector.
+pub data Form : Type 0 where
+  scalar : Form
+  wide : Form
 
 -- what was read whole
 pub data Statement : Type 0 where
@@ -22,7 +39,7 @@ pub data Statement : Type 0 where
   var : List (List ℕ) → Statement
   definitions : Statement
   time : ℕ → Statement
-  change : List ℕ → Bool → Statement
+  change : Form → List ℕ → Bool → Statement
   dump : Statement
   dump_end : Statement
 
@@ -40,6 +57,10 @@ pub data Open : Type 0 where
 pub record Place : Type 0 where
   pub past : List Statement
   pub inside : Open
+
+-- before the first token
+abbrev pub first_place : Place
+first_place = record { past = []; inside = nothing }
 
 -- ---- what the past says
 
@@ -72,9 +93,19 @@ in_dump (_ ∷ past) = in_dump past
 -- the value of the last change of this identifier; false where there is none
 abbrev pub value_at : List Statement → List ℕ → Bool
 value_at [] identifier = false
-value_at (change other value ∷ past) identifier =
+value_at (change form other value ∷ past) identifier =
     if bytes_eq identifier other then value else value_at past identifier
 value_at (_ ∷ past) identifier = value_at past identifier
+
+-- The event of this identifier happened at the last time. A scalar change says it, whatever its
+-- value, but not in a dump section.
+abbrev pub happened_at : List Statement → List ℕ → Bool
+happened_at [] identifier = false
+happened_at (change scalar other value ∷ past) identifier =
+    (not (in_dump past) && bytes_eq identifier other) || happened_at past identifier
+happened_at (time ticks ∷ past) identifier =
+    if ticks == time_at past then happened_at past identifier else false
+happened_at (_ ∷ past) identifier = happened_at past identifier
 
 -- the names of the scopes, the outermost first, and the reference, joined by full stops (46)
 abbrev pub path : List (List ℕ) → List ℕ → List ℕ
@@ -88,39 +119,58 @@ is_signal kind size =
     && not (bytes_eq kind (codes "real") || bytes_eq kind (codes "realtime") || bytes_eq kind
     (codes "event"))
 
--- the identifier of a declaration in these scopes, where it declares the proposition of this name
-abbrev pub identifier_in : List (List ℕ) → List ℕ → List (List ℕ) → Option (List ℕ)
-identifier_in scopes name (kind ∷ size ∷ identifier ∷ reference ∷ []) =
-    if is_signal kind size && bytes_eq name (path scopes reference) then Some identifier else None
-identifier_in scopes name _ = None
+-- an event, of any size
+abbrev pub is_event : List ℕ → List ℕ → Bool
+is_event kind size = bytes_eq kind (codes "event")
+
+-- the identifier of a declaration in these scopes, where its type and size pass the test and it
+-- declares this name
+abbrev pub identifier_in : (List ℕ → List ℕ → Bool) → List (List ℕ) → List ℕ → List (List ℕ)
+    → Option (List ℕ)
+identifier_in test scopes name (kind ∷ size ∷ identifier ∷ reference ∷ []) =
+    if test kind size && bytes_eq name (path scopes reference) then Some identifier else None
+identifier_in test scopes name _ = None
 
 -- the first of two, where there is one, and else the second
 abbrev pub first_of : Option (List ℕ) → Option (List ℕ) → Option (List ℕ)
 first_of (Some identifier) other = Some identifier
 first_of None other = other
 
--- the identifier of the proposition of this name: that of its first declaration
-abbrev pub identifier_of : List Statement → List ℕ → Option (List ℕ)
-identifier_of [] name = None
-identifier_of (var tokens ∷ past) name =
-    first_of (identifier_of past name) (identifier_in (scopes_at past) name tokens)
-identifier_of (_ ∷ past) name = identifier_of past name
+-- the identifier of this name among the variables that pass the test: that of its first declaration
+abbrev pub identifier_of : (List ℕ → List ℕ → Bool) → List Statement → List ℕ → Option (List ℕ)
+identifier_of test [] name = None
+identifier_of test (var tokens ∷ past) name =
+    first_of (identifier_of test past name) (identifier_in test (scopes_at past) name tokens)
+identifier_of test (_ ∷ past) name = identifier_of test past name
 
--- the value of the proposition of this name
-abbrev pub value_of : List Statement → Option (List ℕ) → Bool
-value_of past None = false
-value_of past (Some identifier) = value_at past identifier
+-- whether there is an identifier, and it passes the test
+abbrev pub passes : (List ℕ → Bool) → Option (List ℕ) → Bool
+passes test None = false
+passes test (Some identifier) = test identifier
 
--- The valuation of the propositions of these names, the first of which has bit i.
-abbrev pub valuation_from : List Statement → ℕ → List (List ℕ) → ℕ
-valuation_from past i [] = 0
-valuation_from past i (name ∷ names) =
-    (if value_of past (identifier_of past name) then 2 ^ i else 0) + valuation_from past (i + 1)
-    names
+-- The names whose identifiers pass the test, the first of which has bit i.
+abbrev pub mask_from : (List ℕ → Option (List ℕ)) → (List ℕ → Bool) → ℕ → List (List ℕ) → ℕ
+mask_from identified test i [] = 0
+mask_from identified test i (name ∷ names) =
+    (if passes test (identified name) then 2 ^ i else 0) + mask_from identified test (i + 1) names
 
--- the proposition of this name has a declaration
-abbrev pub is_declared : List Statement → List ℕ → Bool
-is_declared past name = is_some (identifier_of past name)
+-- The valuation of the propositions of these names, the first of which has bit 0.
+abbrev pub valuation_at : List Statement → List (List ℕ) → ℕ
+valuation_at past names = mask_from (identifier_of is_signal past) (value_at past) 0 names
+
+-- The events of these names that happened at the last time, the first of which has bit 0.
+abbrev pub events_at : List Statement → List (List ℕ) → ℕ
+events_at past names = mask_from (identifier_of is_event past) (happened_at past) 0 names
+
+-- the name has a declaration whose type and size pass the test
+abbrev pub is_declared : (List ℕ → List ℕ → Bool) → List Statement → List ℕ → Bool
+is_declared test past name = is_some (identifier_of test past name)
+
+-- each of the names is declared, as a proposition or as an event
+abbrev pub are_declared : List Statement → Vocabulary → Bool
+are_declared past needed =
+    list_all (is_declared is_signal past) needed.names
+    && list_all (is_declared is_event past) needed.events
 
 -- ---- what a token says
 
@@ -164,22 +214,27 @@ section_says past command tokens =
     else goes_to past nothing)))
 
 -- a token among the declarations, where no section is open
-abbrev pub command_says : List (List ℕ) → List Statement → List ℕ → Result (Step Place) TraceKind
-command_says names past token =
+abbrev pub command_says : Terms → List Statement → List ℕ → Result (Step Place) TraceKind
+command_says terms past token =
     if not (is_command token) || is_end token || is_dump token then Err BadToken
     else (if is token (codes "$upscope") && length (scopes_at past) == 0 then Err BadToken
-    else (if is token (codes "$enddefinitions") && not (list_all (is_declared past) names) then Err
-    UnknownName
-    else goes_to past (section token [])))
+    else (if is token (codes "$enddefinitions") && not (are_declared past terms.declared)
+    then Err UnknownName else goes_to past (section token [])))
+
+-- the segment from the last time to this one: its values, and the events at its begin
+abbrev pub segment_until : Vocabulary → List Statement → ℕ → Segment
+segment_until asked past ticks =
+    segment_with (ticks - time_at past) (valuation_at past asked.names)
+    (events_at past asked.events)
 
 -- a time, behind the time that was reached
-abbrev pub time_says : List (List ℕ) → List Statement → ℕ → Result (Step Place) TraceKind
-time_says names past ticks =
+abbrev pub time_says : Vocabulary → List Statement → ℕ → Result (Step Place) TraceKind
+time_says asked past ticks =
     if nat_lt ticks (time_at past) then Err TimeBack
     else (if nat_lt TIME_MAX ticks then Err TooLate
     else (if ticks == time_at past then goes_to (time ticks ∷ past) nothing
     else Ok (record {
-      segments = record { len = ticks - time_at past; val = valuation_from past 0 names } ∷ [];
+      segments = segment_until asked past ticks ∷ [];
       state = record { past = time ticks ∷ past; inside = nothing };
     })))
 
@@ -204,7 +259,7 @@ is_scalar byte = list_any (λ letter. byte == letter) (codes "01xXzZuUwWlLhH-")
 -- a scalar change: the value's letter, and an identifier of one byte at least
 abbrev pub scalar_says : List Statement → ℕ → List ℕ → Result (Step Place) TraceKind
 scalar_says past letter [] = Err BadToken
-scalar_says past letter identifier = goes_to (change identifier (letter == 49) ∷ past) nothing
+scalar_says past letter identifier = goes_to (change scalar identifier (letter == 49) ∷ past) nothing
 
 -- whether the last byte is `1` (49)
 abbrev pub ends_true : List ℕ → Bool
@@ -218,41 +273,41 @@ vector_says past [] = Err BadToken
 vector_says past value = goes_to past (vector (ends_true value))
 
 -- `#` and decimal digits, one at least
-abbrev pub ticks_say : List (List ℕ) → List Statement → List ℕ → Result (Step Place) TraceKind
-ticks_say names past digits =
+abbrev pub ticks_say : Vocabulary → List Statement → List ℕ → Result (Step Place) TraceKind
+ticks_say asked past digits =
     if is_numeral digits
-    then time_says names past (digits_value 10 digits) else Err BadToken
+    then time_says asked past (digits_value 10 digits) else Err BadToken
 
 -- a token among the values, where nothing is open, by its first byte: `#`, `$`, the letters of
 -- vectors, those of reals and strings, and those of scalars
-abbrev pub value_says : List (List ℕ) → List Statement → List ℕ → Result (Step Place) TraceKind
-value_says names past [] = goes_to past nothing
-value_says names past (byte ∷ bytes) =
-    if byte == 35 then ticks_say names past bytes
+abbrev pub value_says : Vocabulary → List Statement → List ℕ → Result (Step Place) TraceKind
+value_says asked past [] = goes_to past nothing
+value_says asked past (byte ∷ bytes) =
+    if byte == 35 then ticks_say asked past bytes
     else (if byte == 36 then keyword_says past (byte ∷ bytes)
     else (if byte == 98 || byte == 66 then vector_says past bytes
     else (if list_any (λ letter. byte == letter) (codes "rRsS") then goes_to past number
     else (if is_scalar byte then scalar_says past byte bytes else Err BadToken))))
 
 -- a token where nothing is open
-abbrev pub first_says : List (List ℕ) → List Statement → List ℕ → Result (Step Place) TraceKind
-first_says names past token =
-    if is_defined past then value_says names past token else command_says names past token
+abbrev pub first_says : Terms → List Statement → List ℕ → Result (Step Place) TraceKind
+first_says terms past token =
+    if is_defined past then value_says terms.names past token else command_says terms past token
 
 -- what a token says at a place
-abbrev pub token_at : List (List ℕ) → List Statement → Open → List ℕ → Result (Step Place) TraceKind
-token_at names past nothing token = first_says names past token
-token_at names past (section command tokens) token =
+abbrev pub token_at : Terms → List Statement → Open → List ℕ → Result (Step Place) TraceKind
+token_at terms past nothing token = first_says terms past token
+token_at terms past (section command tokens) token =
     if is_end token then section_says past command tokens
     else goes_to past (section command (tokens ++ token ∷ []))
-token_at names past comment token = goes_to past (if is_end token then nothing else comment)
-token_at names past (vector value) token = goes_to (change token value ∷ past) nothing
-token_at names past number token = goes_to past nothing
+token_at terms past comment token = goes_to past (if is_end token then nothing else comment)
+token_at terms past (vector value) token = goes_to (change wide token value ∷ past) nothing
+token_at terms past number token = goes_to past nothing
 
 -- what stands between two separators: a token, or nothing where they are neighbours
-unfoldable pub token_says : List (List ℕ) → Place → List ℕ → Result (Step Place) TraceKind
-token_says names place [] = goes_to place.past place.inside
-token_says names place token = token_at names place.past place.inside token
+unfoldable pub token_says : Terms → Place → List ℕ → Result (Step Place) TraceKind
+token_says terms place [] = goes_to place.past place.inside
+token_says terms place token = token_at terms place.past place.inside token
 
 -- The input may end where the declarations have ended and nothing is open.
 abbrev pub is_whole : Open → Bool
@@ -265,16 +320,17 @@ end_says place =
     Some CutShort
 
 -- The format: tokens between white space. A fault is told with the offset of its token.
-abbrev pub vcd_format : List (List ℕ) → Format Place
-vcd_format names = record {
+abbrev pub vcd_format : Terms → Format Place
+vcd_format terms = record {
   separates = is_white;
-  start = record { past = []; inside = nothing };
+  start = first_place;
   place = λ spot. spot.offset;
-  says = token_says names;
+  says = token_says terms;
   at_end = end_says;
+  last = λ place. events_at place.past terms.names.events;
   time = λ place. time_at place.past;
 }
 
--- What the bytes say of a trace, for the propositions of these names.
-abbrev pub vcd_reading : List (List ℕ) → Bool → List ℕ → Reading
-vcd_reading names closed bytes = reading_of (vcd_format names) closed bytes
+-- What the bytes say of a trace, where this is asked of them.
+abbrev pub vcd_reading : Terms → Bool → List ℕ → Reading
+vcd_reading terms closed bytes = reading_of (vcd_format terms) closed bytes

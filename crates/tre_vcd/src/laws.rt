@@ -5,16 +5,16 @@ ghost use Rattle.tre_trace.specs.Reading.{Grows};
 ghost use Rattle.tre_trace.specs.Trace.{IsTrace};
 ghost use Rattle.tre_trace.specs.declared.fault.TraceKind.{TraceKind};
 ghost use Rattle.tre_trace.specs.declared.segment.Segment.{Segment};
-ghost use Rattle.tre_vcd.specs.Deciding.{Keeps, LastChange, Leaves, FirstDeclaration, IsHigh};
-ghost use Rattle.tre_vcd.specs.Dumps.{IsToken, Spaced, Say, tokens_in, IsComplete, HasFault, moved_reading};
-ghost use Rattle.tre_vcd.specs.VcdReading.{vcd_reading, is_white, path, Statement, value_at, identifier_of, valuation_from};
+ghost use Rattle.tre_vcd.specs.Deciding.{Keeps, LastChange, Happened, Leaves, FirstDeclaration, IsHigh, HasHappened};
+ghost use Rattle.tre_vcd.specs.Dumps.{IsToken, Spaced, Say, tokens_in, CompletesWith, HasFault, moved_reading};
+ghost use Rattle.tre_vcd.specs.VcdReading.{vcd_reading, Terms, is_white, path, Statement, value_at, happened_at, identifier_of, valuation_at, events_at};
 
 /// What is read of a dump is a trace, and nothing is taken back when more bytes come.
 pub fn reading()
-    ensures is_trace { (names : List (List ℕ)) (closed : Bool) (bytes : List ℕ) →
-        IsTrace (vcd_reading names closed bytes).segments }
-    ensures grows { (names : List (List ℕ)) (closed : Bool) (first more : List ℕ) →
-        Grows (vcd_reading names false first) (vcd_reading names closed (first ++ more)) }
+    ensures is_trace { (terms : Terms) (closed : Bool) (bytes : List ℕ) →
+        IsTrace (vcd_reading terms closed bytes).segments }
+    ensures grows { (terms : Terms) (closed : Bool) (first more : List ℕ) →
+        Grows (vcd_reading terms false first) (vcd_reading terms closed (first ++ more)) }
 {}
 
 /// The path of what stands in a scope is that of the scope, a full stop and its own name.
@@ -33,38 +33,54 @@ pub fn changes()
         value_at past identifier ≡ true → LastChange past identifier true }
 {}
 
-/// A proposition has the identifier of the first declaration of its name, and none where there is
-/// no such declaration.
+/// An event happened exactly where a scalar change of its identifier was read at the last time,
+/// outside a dump section.
+pub fn happenings()
+    ensures { (past : List Statement) (identifier : List ℕ) →
+        Happened past identifier ↔ (happened_at past identifier ≡ true) }
+{}
+
+/// A name has the identifier of its first declaration among the variables that pass a test, such as
+/// those of propositions or of events, and none where there is no such declaration.
 pub fn declarations()
-    ensures first { (past : List Statement) (name identifier : List ℕ) →
-        FirstDeclaration past name identifier ↔ (identifier_of past name ≡ Some identifier) }
-    ensures none { (past : List Statement) (name : List ℕ) →
-        Leaves name past → identifier_of past name ≡ None }
+    ensures first { (test : List ℕ → List ℕ → Bool) (past : List Statement)
+        (name identifier : List ℕ) → FirstDeclaration test past name identifier
+        ↔ (identifier_of test past name ≡ Some identifier) }
+    ensures none { (test : List ℕ → List ℕ → Bool) (past : List Statement) (name : List ℕ) →
+        Leaves test name past → identifier_of test past name ≡ None }
 {}
 
 /// On a segment exactly those propositions are true that are declared, and whose identifier changed
-/// last to true.
+/// last to true. Exactly those events happen that are declared, and that were said at that time.
 pub fn valuations()
-    ensures { (past : List Statement) (names : List (List ℕ)) (i : ℕ) →
-        IsBitSet (valuation_from past 0 names) i ↔ IsHigh past names i }
+    ensures values { (past : List Statement) (names : List (List ℕ)) (i : ℕ) →
+        IsBitSet (valuation_at past names) i ↔ IsHigh past names i }
+    ensures events { (past : List Statement) (events : List (List ℕ)) (i : ℕ) →
+        IsBitSet (events_at past events) i ↔ HasHappened past events i }
 {}
 
 /// Groups of tokens, each of which says nothing, or something that belongs and fits where it
 /// stands, are read as the segments between their times. Behind such groups a token that fits no
 /// rule has its fault, told with its offset, whatever follows.
 pub fn dump()
-    ensures trace { (names : List (List ℕ)) (closed : Bool) (groups : List (List (List ℕ)))
-        (bytes : List ℕ) (segments : List Segment) → Spaced (tokens_in groups) bytes →
-        Say names [] groups segments (λ past. closed ≡ true → IsComplete past) →
-        vcd_reading names closed bytes ≡ record { segments = segments; fault = None } }
-    ensures fault { (names : List (List ℕ)) (closed : Bool) (groups : List (List (List ℕ)))
+    ensures trace { (terms : Terms) (groups : List (List (List ℕ))) (bytes : List ℕ)
+        (segments : List Segment) (last : ℕ) → Spaced (tokens_in groups) bytes →
+        Say terms [] groups segments (CompletesWith terms.names last) →
+        vcd_reading terms true bytes
+        ≡ record { segments = segments; last = last; fault = None } }
+    ensures part { (terms : Terms) (groups : List (List (List ℕ))) (bytes : List ℕ)
+        (segments : List Segment) → Spaced (tokens_in groups) bytes →
+        Say terms [] groups segments (λ past. Unit {0}) →
+        vcd_reading terms false bytes ≡ record { segments = segments; last = 0; fault = None } }
+    ensures fault { (terms : Terms) (closed : Bool) (groups : List (List (List ℕ)))
         (begun : List (List ℕ)) (front token back : List ℕ) (separator : ℕ)
         (segments : List Segment) (kind : TraceKind) →
         Spaced (tokens_in groups ++ begun) front → IsToken token → is_white separator ≡ true →
-        Say names [] groups segments (λ past. HasFault names past begun token kind) →
-        vcd_reading names closed (front ++ (token ++ separator ∷ back))
+        Say terms [] groups segments (λ past. HasFault terms past begun token kind) →
+        vcd_reading terms closed (front ++ (token ++ separator ∷ back))
         ≡ record {
           segments = segments;
+          last = 0;
           fault =
               Some (record { place = length front; kind = kind });
         } }
@@ -73,15 +89,15 @@ pub fn dump()
 /// One more byte of white space beside another moves offsets and nothing else, and all white space
 /// is alike. A last token with none behind it is read as one with it, where the input is closed.
 pub fn white()
-    ensures more { (names : List (List ℕ)) (closed : Bool) (front back : List ℕ)
+    ensures more { (terms : Terms) (closed : Bool) (front back : List ℕ)
         (one other : ℕ) → is_white one ≡ true → is_white other ≡ true →
-        vcd_reading names closed (front ++ one ∷ other ∷ back)
-        ≡ moved_reading (length front + 1) (vcd_reading names closed (front ++ other ∷ back)) }
-    ensures alike { (names : List (List ℕ)) (closed : Bool) (front back : List ℕ)
+        vcd_reading terms closed (front ++ one ∷ other ∷ back)
+        ≡ moved_reading (length front + 1) (vcd_reading terms closed (front ++ other ∷ back)) }
+    ensures alike { (terms : Terms) (closed : Bool) (front back : List ℕ)
         (one other : ℕ) → is_white one ≡ true → is_white other ≡ true →
-        vcd_reading names closed (front ++ one ∷ back)
-        ≡ vcd_reading names closed (front ++ other ∷ back) }
-    ensures last { (names : List (List ℕ)) (bytes : List ℕ) (one : ℕ) → is_white one ≡ true →
-        vcd_reading names true (bytes ++ one ∷ [])
-        ≡ moved_reading (length bytes) (vcd_reading names true bytes) }
+        vcd_reading terms closed (front ++ one ∷ back)
+        ≡ vcd_reading terms closed (front ++ other ∷ back) }
+    ensures last { (terms : Terms) (bytes : List ℕ) (one : ℕ) → is_white one ≡ true →
+        vcd_reading terms true (bytes ++ one ∷ [])
+        ≡ moved_reading (length bytes) (vcd_reading terms true bytes) }
 {}

@@ -4,11 +4,12 @@
 //! over the tokens. It is tried on whole files in proofs/Rows.antt.
 //!
 //! [`VcdReader`] reads them in pieces. It keeps the token that isn't ended yet, the open section
-//! and scopes, the time, and the identifiers and values of its propositions, and nothing else.
-//! The layers above rely on the definition and on the contract of a `TraceReader`.
+//! and scopes, the time, the identifiers of its propositions and events, and which of them are true
+//! and have happened, and nothing else. The layers above rely on the definition and on the contract
+//! of a `TraceReader`.
 //!
 //! ```text
-//! let mut reader = VcdReader::new(alloc, names);
+//! let mut reader = VcdReader::new(alloc, TokenReader::new(alloc, names, events));
 //! reader.feed(b"$var wire 1 ! p $end $enddefinitions $end 1! #5", &mut segments)?;
 //! reader.finish(&mut segments)?; // one segment of five ticks, on which p is true
 //! ```
@@ -19,10 +20,14 @@ mod inside;
 pub mod laws;
 mod past;
 mod scopes;
-mod signal;
 mod token;
 mod token_reader;
-mod vcd_reader;
+mod variable;
+mod variables;
 mod white;
 
-pub use vcd_reader::VcdReader;
+pub use token_reader::TokenReader;
+use tre_parts::Parts;
+
+/// Reads a value change dump in pieces, token by token.
+pub type VcdReader = Parts<TokenReader>;

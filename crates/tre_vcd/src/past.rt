@@ -1,15 +1,13 @@
 // What the reader keeps of the statements that it has read.
-ghost use Rattle.std.specs.Prelude.{◌≡◌, ◌≤◌, ℕ, List, [], ◌∷◌, length, None, true, false, IfOk, OnOk};
-ghost use Rattle.std.specs.List.{list_all};
-ghost use Rattle.tre_state.specs.Names.{IsNameList};
-ghost use Rattle.tre_vcd.specs.VcdReading.{Statement, scope, upscope, var, definitions, time, change, dump, dump_end, is_defined, scopes_at, identifier_in, is_declared, valuation_from};
-ghost use Rattle.tre_vcd.specs.Kept.{Knows, AreKnown, Declares};
+ghost use Rattle.std.specs.Prelude.{◌≡◌, ◌==◌, ◌&&◌, not, length, ◌∷◌, ℕ, Bool, List, [], true, false, OnOk};
+ghost use Rattle.tre_vcd.specs.VcdReading.{Statement, scope, upscope, var, definitions, time, change, scalar, wide, dump, dump_end, is_defined, scopes_at, is_signal, is_event, are_declared, valuation_at, events_at};
+ghost use Rattle.tre_vcd.specs.Kept.{Knows, Declares, DeclaresNone};
 
 use crate::scopes::Scopes;
-use crate::signal::{Signal, are_declared, having, with_value};
+use crate::variable::with_value;
+use crate::variables::Variables;
 use std::alloc::{AllocError, Global};
-use tre_parts::find_name;
-use tre_state::{Names, Sieve};
+use tre_state::Names;
 
 // Each field is what a look back over the statements finds.
 #[derive(Drop)]
@@ -19,18 +17,18 @@ pub struct Past {
     pub in_dump: bool,
     pub time: u64,
     pub scopes: Scopes,
-    // Those of the first names; a name that has none yet isn't declared.
-    pub signals: Vec<Signal>,
-    // It was told of the identifier of each signal.
-    pub sieve: Sieve,
-    // Bit k is the value of signal k.
+    pub propositions: Variables,
+    pub events: Variables,
+    // Bit k is the value of proposition k.
     pub values: u64,
+    // Bit k says whether event k happened at the time.
+    pub happened: u64,
 }
 
 impl Past {
     // Nothing was read.
     pub fn new(alloc: Global) -> Past
-        ensures { (names : List (List ℕ)) → Knows names result [] }
+        ensures { (names event_names : List (List ℕ)) → Knows names event_names result [] }
     {
         Past {
             alloc,
@@ -38,122 +36,157 @@ impl Past {
             in_dump: false,
             time: 0,
             scopes: Scopes::new(alloc),
-            signals: Vec::new(alloc),
-            sieve: Sieve::new(),
+            propositions: Variables::new(alloc),
+            events: Variables::new(alloc),
             values: 0,
+            happened: 0,
         }
     }
 
     // A scope opens.
     pub fn enter(&mut self, name: &[u8]) -> Result<(), AllocError>
-        ensures { (names : List (List ℕ)) (past : List Statement) → Knows names self.old past →
-            OnOk result (Knows names self.new (scope name.now ∷ past)) }
+        ensures { (names event_names : List (List ℕ)) (past : List Statement) → Knows names event_names self.old past →
+            OnOk result (Knows names event_names self.new (scope name.now ∷ past)) }
     {
         self.scopes.enter(name)
     }
 
     // The innermost scope closes.
     pub fn leave(&mut self)
-        ensures { (names : List (List ℕ)) (past : List Statement) → Knows names self.old past →
-            Knows names self.new (upscope ∷ past) }
+        ensures { (names event_names : List (List ℕ)) (past : List Statement) → Knows names event_names self.old past →
+            Knows names event_names self.new (upscope ∷ past) }
     {
         self.scopes.leave();
     }
 
-    // There is a signal for each name.
-    fn fill(&mut self, names: &Names) -> Result<(), AllocError>
-        ensures known { (past : List Statement) → Knows names.now self.old past →
-            OnOk result (Knows names.now self.new past) }
-        ensures len { (past : List Statement) → Knows names.now self.old past →
-            OnOk result (length self.new.signals.items ≡ length names.now) }
-    {
-        for _ in self.signals.as_slice().len()..names.len() {
-            self.signals.push(Signal::new())?;
-        }
-        Ok(())
-    }
-
-    // A signal is declared in the open scopes, by these tokens of its declaration.
+    // A proposition is declared in the open scopes, by these tokens of its declaration.
     pub fn declare(
         &mut self,
         names: &Names,
         identifier: &[u8],
         reference: &[u8],
     ) -> Result<(), AllocError>
-        ensures { (past : List Statement) (tokens : List (List ℕ)) →
-            Knows names.now self.old past → is_defined past ≡ false →
-            Declares (scopes_at past) tokens identifier.now reference.now →
-            OnOk result (Knows names.now self.new (var tokens ∷ past)) }
+        ensures { (event_names : List (List ℕ)) (past : List Statement) (tokens : List (List ℕ)) →
+            Knows names.now event_names self.old past → is_defined past ≡ false →
+            Declares is_signal (scopes_at past) tokens identifier.now reference.now →
+            DeclaresNone is_event (scopes_at past) tokens →
+            OnOk result (Knows names.now event_names self.new (var tokens ∷ past)) }
     {
-        let name = self.scopes.path(self.alloc, reference)?;
-        self.fill(names)?;
-        if let Some(place) = find_name(names, &name) {
-            let number = usize::from(place);
-            if number < self.signals.as_slice().len() {
-                self.signals[number].declare(self.alloc, identifier)?;
-                self.sieve.add(identifier, place);
-            }
-        }
+        let path = self.scopes.path(self.alloc, reference)?;
+        self.propositions
+            .declare(self.alloc, names, &path, identifier)?;
+        Ok(())
+    }
+
+    // An event is declared in the open scopes, by these tokens of its declaration.
+    pub fn declare_event(
+        &mut self,
+        events: &Names,
+        identifier: &[u8],
+        reference: &[u8],
+    ) -> Result<(), AllocError>
+        ensures { (names : List (List ℕ)) (past : List Statement) (tokens : List (List ℕ)) →
+            Knows names events.now self.old past → is_defined past ≡ false →
+            Declares is_event (scopes_at past) tokens identifier.now reference.now →
+            DeclaresNone is_signal (scopes_at past) tokens →
+            OnOk result (Knows names events.now self.new (var tokens ∷ past)) }
+    {
+        let path = self.scopes.path(self.alloc, reference)?;
+        self.events.declare(self.alloc, events, &path, identifier)?;
         Ok(())
     }
 
     // The declarations end.
     pub fn define(&mut self)
-        ensures { (names : List (List ℕ)) (past : List Statement) → Knows names self.old past →
-            Knows names self.new (definitions ∷ past) }
+        ensures { (names event_names : List (List ℕ)) (past : List Statement) → Knows names event_names self.old past →
+            Knows names event_names self.new (definitions ∷ past) }
     {
         self.is_defined = true;
     }
 
-    // Whether each of the names is declared.
-    pub fn is_all_declared(&self, names: &Names) -> bool
-        ensures { (past : List Statement) → Knows names.now self.now past →
-            result ≡ list_all (is_declared past) names.now }
+    // Whether each of these names is declared, and each of these events.
+    pub fn is_all_declared(&self, names: &Names, events: &Names) -> bool
+        ensures { (past : List Statement) →
+            Knows names.now events.now self.now past →
+            result ≡ are_declared past (record { names = names.now; events = events.now }) }
     {
-        self.signals.as_slice().len() == names.len() && are_declared(&self.signals)
+        self.propositions.is_all_declared(names) && self.events.is_all_declared(events)
     }
 
     // A time is reached.
     pub fn reach(&mut self, ticks: u64)
-        ensures { (names : List (List ℕ)) (past : List Statement) → Knows names self.old past →
-            Knows names self.new (time ticks ∷ past) }
+        ensures { (names event_names : List (List ℕ)) (past : List Statement) → Knows names event_names self.old past →
+            Knows names event_names self.new (time ticks ∷ past) }
     {
-        self.time = ticks;
+        if ticks != self.time {
+            self.time = ticks;
+            self.happened = 0;
+        }
     }
 
-    // An identifier changes to this value.
+    // An identifier changes to this value, as a vector.
     #[inline(always)]
     pub fn change(&mut self, identifier: &[u8], value: bool)
-        ensures { (names : List (List ℕ)) (past : List Statement) → Knows names self.old past →
+        ensures { (names event_names : List (List ℕ)) (past : List Statement) → Knows names event_names self.old past →
             is_defined past ≡ true →
-            Knows names self.new (change identifier.now value ∷ past) }
+            Knows names event_names self.new (change wide identifier.now value ∷ past) }
     {
-        let numbers = self.sieve.numbers(identifier);
-        let changed = having(&self.signals, numbers, identifier);
+        let changed = self.propositions.having(identifier);
         self.values = with_value(self.values, changed, value);
+    }
+
+    // Whether a scalar change may say an event now.
+    #[inline(always)]
+    fn reads_events(&self) -> bool
+        ensures { result ≡ (not self.now.in_dump && not (length self.now.events.list.items == 0)) }
+    {
+        !self.in_dump && !self.events.is_empty()
+    }
+
+    // An identifier changes to this value, as a scalar, which says its event.
+    #[inline(always)]
+    pub fn change_scalar(&mut self, identifier: &[u8], value: bool)
+        ensures { (names event_names : List (List ℕ)) (past : List Statement) → Knows names event_names self.old past →
+            is_defined past ≡ true →
+            Knows names event_names self.new (change scalar identifier.now value ∷ past) }
+    {
+        let changed = self.propositions.having(identifier);
+        self.values = with_value(self.values, changed, value);
+        if self.reads_events() {
+            let said = self.events.having(identifier);
+            self.happened = with_value(self.happened, said, true);
+        }
     }
 
     // A dump section opens.
     pub fn open_dump(&mut self)
-        ensures { (names : List (List ℕ)) (past : List Statement) → Knows names self.old past →
-            Knows names self.new (dump ∷ past) }
+        ensures { (names event_names : List (List ℕ)) (past : List Statement) → Knows names event_names self.old past →
+            Knows names event_names self.new (dump ∷ past) }
     {
         self.in_dump = true;
     }
 
     // The dump section closes.
     pub fn close_dump(&mut self)
-        ensures { (names : List (List ℕ)) (past : List Statement) → Knows names self.old past →
-            Knows names self.new (dump_end ∷ past) }
+        ensures { (names event_names : List (List ℕ)) (past : List Statement) → Knows names event_names self.old past →
+            Knows names event_names self.new (dump_end ∷ past) }
     {
         self.in_dump = false;
     }
 
     // The values of the propositions now.
     pub fn valuation(&self) -> u64
-        ensures { (names : List (List ℕ)) (past : List Statement) → Knows names self.now past →
-            result ≡ valuation_from past 0 names }
+        ensures { (names event_names : List (List ℕ)) (past : List Statement) → Knows names event_names self.now past →
+            result ≡ valuation_at past names }
     {
         self.values
+    }
+
+    // The events that happened at the time.
+    pub fn events(&self) -> u64
+        ensures { (names event_names : List (List ℕ)) (past : List Statement) → Knows names event_names self.now past →
+            result ≡ events_at past event_names }
+    {
+        self.happened
     }
 }

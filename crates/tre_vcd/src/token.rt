@@ -1,7 +1,7 @@
 // What stands in a token.
-ghost use Rattle.std.specs.Prelude.{◌≡◌, ◌||◌, not};
+ghost use Rattle.std.specs.Prelude.{◌≡◌, ◌||◌, ℕ, List, not};
 ghost use Rattle.tre_vcd.specs.Letters.{letter_of};
-ghost use Rattle.tre_vcd.specs.VcdReading.{is, is_end, is_dump, is_command, is_signal, ends_true};
+ghost use Rattle.tre_vcd.specs.VcdReading.{is, is_end, is_dump, is_command, is_signal, is_event, ends_true};
 
 // Whether the token is this word.
 pub fn is(token: &[u8], word: &str) -> bool
@@ -82,4 +82,11 @@ pub fn is_signal(kind: &[u8], size: &[u8]) -> bool
     ensures { result ≡ is_signal kind.now size.now }
 {
     is(size, "1") && !(is(kind, "real") || is(kind, "realtime") || is(kind, "event"))
+}
+
+/// Whether a variable of this type is an event, whatever its size.
+pub fn is_event(kind: &[u8]) -> bool
+    ensures { (size : List ℕ) → result ≡ is_event kind.now size }
+{
+    is(kind, "event")
 }

@@ -3,15 +3,17 @@ ghost use Rattle.std.specs.Prelude.{◌≡◌, ◌≢◌, ℕ, List, [], ◌∷�
 ghost use Rattle.tre_parts.specs.Walk.{Tells};
 ghost use Rattle.tre_parts.specs.declared.said.Said.{Said};
 ghost use Rattle.tre_trace.specs.declared.fault.TraceKind.TheVariants.{Spent};
-ghost use Rattle.tre_vcd.specs.VcdReading.{Statement, Place, nothing, section, comment, vector, number, is_defined, goes_to, vcd_format, token_says, command_says, section_says, ticks_say, keyword_says, scalar_says, vector_says, value_says, scope_says, declaration_says, dump_says, dump_end_says, first_says, change, token_at};
-ghost use Rattle.tre_vcd.specs.Sections.{Holds, command_of, is_nothing};
+ghost use Rattle.tre_vcd.specs.VcdReading.{Terms, terms_of, first_place, wide, Statement, var, Place, nothing, section, comment, vector, number, is_defined, goes_to, vcd_format, token_says, command_says, section_says, ticks_say, keyword_says, scalar_says, vector_says, value_says, scope_says, declaration_says, dump_says, dump_end_says, first_says, change, token_at};
+ghost use Rattle.tre_vcd.specs.Sections.{Holds, asked_of, terms_kept, command_of, is_nothing};
 ghost use Rattle.tre_vcd.specs.Kept.{Knows};
 ghost use Rattle.tre_vcd.specs.Times.{vcd-keeps_time};
 
 use crate::command::{Command, command_of};
 use crate::inside::Inside;
 use crate::past::Past;
-use crate::token::{Letter, ends_true, is, is_dump, is_end, is_misplaced, is_signal, letter_of};
+use crate::token::{
+    Letter, ends_true, is, is_dump, is_end, is_event, is_misplaced, is_signal, letter_of,
+};
 use crate::white::White;
 use std::alloc::{AllocError, Global};
 use tre_decimal::read_numeral;
@@ -24,24 +26,30 @@ use tre_trace::{Segment, TraceKind};
 /// that there are more.
 const KEPT_MAX: usize = 5;
 
-/// Reads tokens. It keeps what later ones need of the past, what is open, and the first tokens of
-/// an open section.
+/// Reads the tokens of a dump for the propositions and the events of its names, all of which the
+/// dump must declare.
+///
+/// It keeps what later tokens need of the past, what is open, and the first tokens of an open
+/// section.
 #[derive(Drop)]
 pub struct TokenReader {
-    pub names: Names,
-    pub past: Past,
-    pub inside: Inside,
-    pub tokens: Vec<Vec<u8>>,
+    names: Names,
+    events: Names,
+    past: Past,
+    inside: Inside,
+    tokens: Vec<Vec<u8>>,
 }
 
 impl TokenReader {
     /// Nothing was read.
-    pub fn new(alloc: Global, names: Names) -> TokenReader
-        ensures begins { Holds result (record { past = []; inside = nothing }) }
-        ensures names { result.names ≡ names }
+    pub fn new(alloc: Global, names: Names, events: Names) -> TokenReader
+        ensures begins { ⟦<TokenReader as PartReader>⟧.holds result first_place }
+        ensures terms { ⟦<TokenReader as PartReader>⟧.terms result
+            ≡ terms_of (record { names = names; events = events }) }
     {
         TokenReader {
             names,
+            events,
             past: Past::new(alloc),
             inside: Inside::Nothing,
             tokens: Vec::new(alloc),
@@ -61,9 +69,9 @@ impl TokenReader {
         ensures tells { (past : List Statement) →
             Holds self.old (record { past = past; inside = nothing }) →
             is_defined past ≡ false →
-            Tells (command_says self.old.names past token.now) (Holds self.new) result }
+            Tells (command_says (terms_kept self.old) past token.now) (Holds self.new) result }
         ensures kinds { result ≢ Said.Wrong Spent }
-        ensures same_names { self.new.names ≡ self.old.names }
+        ensures same_terms { terms_kept self.new ≡ terms_kept self.old }
     {
         if is_misplaced(token) {
             return Said::Wrong(TraceKind::BadToken);
@@ -71,7 +79,7 @@ impl TokenReader {
         if is(token, "$upscope") && self.past.scopes.is_empty() {
             return Said::Wrong(TraceKind::BadToken);
         }
-        if is(token, "$enddefinitions") && !self.past.is_all_declared(&self.names) {
+        if is(token, "$enddefinitions") && !self.past.is_all_declared(&self.names, &self.events) {
             return Said::Wrong(TraceKind::UnknownName);
         }
         self.inside = Inside::Section(command_of(token));
@@ -85,7 +93,7 @@ impl TokenReader {
             Tells (goes_to past (section command (tokens ++ token.now ∷ []))) (Holds self.new)
             result }
         ensures kinds { result ≢ Said.Wrong Spent }
-        ensures same_names { self.new.names ≡ self.old.names }
+        ensures same_terms { terms_kept self.new ≡ terms_kept self.old }
     {
         if self.tokens.as_slice().len() >= KEPT_MAX {
             return Said::Nothing;
@@ -101,9 +109,9 @@ impl TokenReader {
         ensures tells { (past : List Statement) →
             Holds self.old (record { past = past; inside = nothing }) →
             is_defined past ≡ true →
-            Tells (ticks_say self.old.names past digits.now) (Holds self.new) result }
+            Tells (ticks_say (asked_of self.old) past digits.now) (Holds self.new) result }
         ensures kinds { result ≢ Said.Wrong Spent }
-        ensures same_names { self.new.names ≡ self.old.names }
+        ensures same_terms { terms_kept self.new ≡ terms_kept self.old }
     {
         let Some(ticks) = read_numeral(digits) else {
             return Said::Wrong(TraceKind::BadToken);
@@ -120,8 +128,9 @@ impl TokenReader {
         }
         let len = ticks - self.past.time;
         let val = self.past.valuation();
+        let ev = self.past.events();
         self.past.reach(ticks);
-        Said::Says(Segment { len, val })
+        Said::Says(Segment { len, val, ev })
     }
 
     // Reads a command among the values.
@@ -131,7 +140,7 @@ impl TokenReader {
             is_defined past ≡ true →
             Tells (keyword_says past token.now) (Holds self.new) result }
         ensures kinds { result ≢ Said.Wrong Spent }
-        ensures same_names { self.new.names ≡ self.old.names }
+        ensures same_terms { terms_kept self.new ≡ terms_kept self.old }
     {
         if is_dump(token) {
             return self.open_dump();
@@ -153,7 +162,7 @@ impl TokenReader {
             is_defined past ≡ true →
             Tells (dump_says past) (Holds self.new) result }
         ensures kinds { result ≢ Said.Wrong Spent }
-        ensures same_names { self.new.names ≡ self.old.names }
+        ensures same_terms { terms_kept self.new ≡ terms_kept self.old }
     {
         if self.past.in_dump {
             return Said::Wrong(TraceKind::BadToken);
@@ -169,7 +178,7 @@ impl TokenReader {
             is_defined past ≡ true →
             Tells (dump_end_says past) (Holds self.new) result }
         ensures kinds { result ≢ Said.Wrong Spent }
-        ensures same_names { self.new.names ≡ self.old.names }
+        ensures same_terms { terms_kept self.new ≡ terms_kept self.old }
     {
         if !self.past.in_dump {
             return Said::Wrong(TraceKind::BadToken);
@@ -186,12 +195,12 @@ impl TokenReader {
             is_defined past ≡ true →
             Tells (scalar_says past letter identifier.now) (Holds self.new) result }
         ensures kinds { result ≢ Said.Wrong Spent }
-        ensures same_names { self.new.names ≡ self.old.names }
+        ensures same_terms { terms_kept self.new ≡ terms_kept self.old }
     {
         if identifier.is_empty() {
             return Said::Wrong(TraceKind::BadToken);
         }
-        self.past.change(identifier, letter == b'1');
+        self.past.change_scalar(identifier, letter == b'1');
         Said::Nothing
     }
 
@@ -203,7 +212,7 @@ impl TokenReader {
             is_defined past ≡ true →
             Tells (vector_says past value.now) (Holds self.new) result }
         ensures kinds { result ≢ Said.Wrong Spent }
-        ensures same_names { self.new.names ≡ self.old.names }
+        ensures same_terms { terms_kept self.new ≡ terms_kept self.old }
     {
         if value.is_empty() {
             return Said::Wrong(TraceKind::BadToken);
@@ -218,9 +227,9 @@ impl TokenReader {
         ensures tells { (past : List Statement) →
             Holds self.old (record { past = past; inside = nothing }) →
             is_defined past ≡ true →
-            Tells (value_says self.old.names past token.now) (Holds self.new) result }
+            Tells (value_says (asked_of self.old) past token.now) (Holds self.new) result }
         ensures kinds { result ≢ Said.Wrong Spent }
-        ensures same_names { self.new.names ≡ self.old.names }
+        ensures same_terms { terms_kept self.new ≡ terms_kept self.old }
     {
         let Some((first, rest)) = token.split_first() else {
             return Said::Nothing;
@@ -244,9 +253,9 @@ impl TokenReader {
     fn read_first(&mut self, token: &[u8]) -> Said
         ensures tells { (past : List Statement) →
             Holds self.old (record { past = past; inside = nothing }) →
-            Tells (first_says self.old.names past token.now) (Holds self.new) result }
+            Tells (first_says (terms_kept self.old) past token.now) (Holds self.new) result }
         ensures kinds { result ≢ Said.Wrong Spent }
-        ensures same_names { self.new.names ≡ self.old.names }
+        ensures same_terms { terms_kept self.new ≡ terms_kept self.old }
     {
         if self.past.is_defined {
             return self.read_value(token);
@@ -259,9 +268,9 @@ impl TokenReader {
     fn read_identifier(&mut self, value: bool, identifier: &[u8]) -> Said
         ensures tells { (past : List Statement) →
             Holds self.old (record { past = past; inside = vector value }) →
-            Tells (goes_to (change identifier.now value ∷ past) nothing) (Holds self.new) result }
+            Tells (goes_to (change wide identifier.now value ∷ past) nothing) (Holds self.new) result }
         ensures kinds { result ≢ Said.Wrong Spent }
-        ensures same_names { self.new.names ≡ self.old.names }
+        ensures same_terms { terms_kept self.new ≡ terms_kept self.old }
     {
         self.past.change(identifier, value);
         self.inside = Inside::Nothing;
@@ -270,9 +279,9 @@ impl TokenReader {
 
     // Nothing is open any more.
     fn close(&mut self)
-        ensures holds { (past : List Statement) → Knows self.old.names self.old.past past →
+        ensures holds { (past : List Statement) → Knows self.old.names self.old.events self.old.past past →
             Holds self.new (record { past = past; inside = nothing }) }
-        ensures same_names { self.new.names ≡ self.old.names }
+        ensures same_terms { terms_kept self.new ≡ terms_kept self.old }
     {
         self.inside = Inside::Nothing;
         self.tokens.clear();
@@ -284,7 +293,7 @@ impl TokenReader {
             Holds self.old (record { past = past; inside = section word tokens }) →
             Tells (scope_says past tokens) (Holds self.new) result }
         ensures kinds { result ≢ Said.Wrong Spent }
-        ensures same_names { self.new.names ≡ self.old.names }
+        ensures same_terms { terms_kept self.new ≡ terms_kept self.old }
     {
         if self.tokens.as_slice().len() < 2 {
             return Said::Wrong(TraceKind::BadToken);
@@ -298,26 +307,44 @@ impl TokenReader {
         }
     }
 
+    // Four tokens declare a proposition, an event or neither, and any other number declares none.
+    fn declare(&mut self) -> Result<(), AllocError>
+        ensures knows { (past : List Statement) (word : List ℕ) (tokens : List (List ℕ)) →
+            Holds self.old (record { past = past; inside = section word tokens }) →
+            OnOk result (Knows self.new.names self.new.events self.new.past (var tokens ∷ past)) }
+        ensures same_terms { terms_kept self.new ≡ terms_kept self.old }
+    {
+        let tokens = self.tokens.as_slice();
+        if tokens.len() != 4 {
+            return Ok(());
+        }
+        if is_signal(&tokens[0], &tokens[1]) {
+            self.past.declare(&self.names, &tokens[2], &tokens[3])?;
+        } else if is_event(&tokens[0]) {
+            self.past
+                .declare_event(&self.events, &tokens[2], &tokens[3])?;
+        }
+        Ok(())
+    }
+
     // A variable is declared by the section that ends.
     fn end_declaration(&mut self) -> Said
         ensures tells { (past : List Statement) (word : List ℕ) (tokens : List (List ℕ)) →
             Holds self.old (record { past = past; inside = section word tokens }) →
             Tells (declaration_says past tokens) (Holds self.new) result }
         ensures kinds { result ≢ Said.Wrong Spent }
-        ensures same_names { self.new.names ≡ self.old.names }
+        ensures same_terms { terms_kept self.new ≡ terms_kept self.old }
     {
-        let tokens = self.tokens.as_slice();
-        if tokens.len() < 4 {
+        if self.tokens.as_slice().len() < 4 {
             return Said::Wrong(TraceKind::BadToken);
         }
-        if tokens.len() == 4 && is_signal(&tokens[0], &tokens[1]) {
-            match self.past.declare(&self.names, &tokens[2], &tokens[3]) {
-                Ok(()) => {}
-                Err(_) => return Said::Wrong(TraceKind::Memory),
+        match self.declare() {
+            Ok(()) => {
+                self.close();
+                Said::Nothing
             }
+            Err(_) => Said::Wrong(TraceKind::Memory),
         }
-        self.close();
-        Said::Nothing
     }
 
     // The section of this command ends.
@@ -327,7 +354,7 @@ impl TokenReader {
             command ≡ command_of word →
             Tells (section_says past word tokens) (Holds self.new) result }
         ensures kinds { result ≢ Said.Wrong Spent }
-        ensures same_names { self.new.names ≡ self.old.names }
+        ensures same_terms { terms_kept self.new ≡ terms_kept self.old }
     {
         match command {
             Command::Scope => self.end_scope(),
@@ -354,10 +381,10 @@ impl TokenReader {
         ensures tells { (past : List Statement) (word : List ℕ) (tokens : List (List ℕ)) →
             Holds self.old (record { past = past; inside = section word tokens }) →
             command ≡ command_of word →
-            Tells (token_at self.old.names past (section word tokens) token.now)
+            Tells (token_at (terms_kept self.old) past (section word tokens) token.now)
             (Holds self.new) result }
         ensures kinds { result ≢ Said.Wrong Spent }
-        ensures same_names { self.new.names ≡ self.old.names }
+        ensures same_terms { terms_kept self.new ≡ terms_kept self.old }
     {
         if is_end(token) {
             return self.end_section(command);
@@ -369,9 +396,9 @@ impl TokenReader {
     fn read_comment(&mut self, token: &[u8]) -> Said
         ensures tells { (past : List Statement) →
             Holds self.old (record { past = past; inside = comment }) →
-            Tells (token_at self.old.names past comment token.now) (Holds self.new) result }
+            Tells (token_at (terms_kept self.old) past comment token.now) (Holds self.new) result }
         ensures kinds { result ≢ Said.Wrong Spent }
-        ensures same_names { self.new.names ≡ self.old.names }
+        ensures same_terms { terms_kept self.new ≡ terms_kept self.old }
     {
         if is_end(token) {
             self.inside = Inside::Nothing;
@@ -385,7 +412,7 @@ impl TokenReader {
             Holds self.old (record { past = past; inside = number }) →
             Tells (goes_to past nothing) (Holds self.new) result }
         ensures kinds { result ≢ Said.Wrong Spent }
-        ensures same_names { self.new.names ≡ self.old.names }
+        ensures same_terms { terms_kept self.new ≡ terms_kept self.old }
     {
         self.inside = Inside::Nothing;
         Said::Nothing
@@ -395,7 +422,9 @@ impl TokenReader {
 impl PartReader for TokenReader {
     ghost State = { Place };
 
-    ghost names = { λ reader. reader.names };
+    ghost Terms = { Terms };
+
+    ghost terms = { terms_kept };
 
     ghost format = { vcd_format };
 
@@ -427,6 +456,10 @@ impl PartReader for TokenReader {
             return None;
         }
         Some(TraceKind::CutShort)
+    }
+
+    fn last(&self) -> u64 {
+        self.past.events()
     }
 
     fn place(&self, spot: Spot) -> u64 {

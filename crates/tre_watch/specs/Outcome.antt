@@ -3,6 +3,7 @@ use Rattle.std.specs.Prelude.{◌≡◌, ℕ, ◌+◌, nat_lt, Bool, true, false
 use Rattle.std.specs.List.{slice_split}
 use Rattle.tre_state.specs.Names.{place_of}
 use Rattle.tre_state.specs.declared.names.TheConstants.{NAMES_MAX}
+use Rattle.tre_trace.specs.Reading.{Vocabulary}
 use Rattle.tre_syntax.specs.PatternTree.{PatternTree}
 use Rattle.tre_parse.specs.Outcome.{Outcome as Parsed, spelt, refused, IsOutcome as ParsesTo}
 use Rattle.tre_watch.specs.declared.fault.WatchFault.{WatchFault}
@@ -10,10 +11,10 @@ use Rattle.tre_watch.specs.declared.fault.WatchFault.TheVariants.{TooLarge, BadL
 use Rattle.tre_watch.specs.declared.reader.TheConstants.{FILE_MAX}
 use Rattle.tre_watch.specs.Lines.{is_line_end, Said, silence, mistake, check, Says}
 
--- A pattern, by its tree and the names of its propositions.
+-- A pattern, by its tree and the names of its propositions and events.
 pub record SpeltPattern : Type 0 where
   pub tree : PatternTree
-  pub names : List (List ℕ)
+  pub names : Vocabulary
 
 -- The names of the checks and their patterns, in one order; or why there is no plan.
 pub data Outcome : Type 0 where

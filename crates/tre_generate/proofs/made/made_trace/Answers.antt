@@ -1,11 +1,12 @@
 use Rattle.std.proofs.Common.{arith, List, [], ◌∷◌, ◌++◌, sym, ap, ◌∙◌}
+use Rattle.tre_trace.specs.Trace.{Timeline, quiet}
 use Rattle.tre_trace.specs.declared.segment.Segment.{Segment}
 use Rattle.tre_generate.specs.Made.{made_segment}
 use Rattle.tre_generate.proofs.MadeTraces.{made_trace-none, made_trace-next, made_fits}
 use Rattle.tre_generate.proofs.made.made_trace.Goals as goal
 
 pub loop-number-init : goal.loop-number-init
-loop-number-init c = c.new-trace.ensures.empty ∙ sym made_trace-none
+loop-number-init c = c.new-trace.ensures.empty ∙ ap quiet (sym made_trace-none)
 
 pub push_made-requires : goal.push_made-requires
 push_made-requires c =
@@ -16,5 +17,5 @@ push_made-requires c =
 pub loop-number-preserved : goal.loop-number-preserved
 loop-number-preserved c =
     c.in_ok-push_made.ensures
-    ∙ ap (λ (list : List Segment). list ++ made_segment c.loop-number.number ∷ [])
-    c.loop-number.invariant ∙ sym (made_trace-next c.loop-number.number)
+    ∙ ap (λ (trace : Timeline). quiet (trace.segments ++ made_segment c.loop-number.number ∷ []))
+    c.loop-number.invariant ∙ ap quiet (sym (made_trace-next c.loop-number.number))

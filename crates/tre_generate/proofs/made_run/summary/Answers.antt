@@ -2,6 +2,7 @@ use Rattle.std.proofs.Common.{string_bytes}
 use Rattle.std.proofs.lemmas.Result.{IfOk-weaker}
 use Rattle.tre_offline.specs.MatchSet.{IsMatchSet}
 use Rattle.tre_syntax.specs.Pattern.{pattern_tree}
+use Rattle.tre_trace.specs.Trace.{quiet}
 use Rattle.tre_generate.specs.Made.{made_trace}
 use Rattle.tre_generate.specs.Tallies.{IsTally}
 use Rattle.tre_generate.specs.Told.{AreTold}
@@ -21,7 +22,7 @@ returns c =
     let whole = c.in_ok-whole.whole in
     let told = c.in_ok-told.told in
     let tally = c.count_probes-tally.result in
-    let matched : IsMatchSet whole tree (made_trace count) =
+    let matched : IsMatchSet whole tree (quiet (made_trace count)) =
     rw c.in_ok-trace.ensures at c.in_ok-whole.ensures in
     let are_told : AreTold tree (made_trace count) told =
     rw c.in_ok-trace.ensures at c.in_ok-told.ensures in

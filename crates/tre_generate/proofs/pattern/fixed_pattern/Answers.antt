@@ -1,7 +1,7 @@
 use Rattle.std.proofs.Common.{◌≡◌, false, true, refl, ◌∙◌}
 use Rattle.tre_syntax.specs.Expr.{tree_of}
 use Rattle.tre_generate.specs.FixedPattern.{fixed_tree}
-use Rattle.tre_generate.proofs.FixedTrees.{fixed_small, fixed_numbered}
+use Rattle.tre_generate.proofs.FixedTrees.{fixed_small, fixed_numbered, fixed_no_events}
 use Rattle.tre_generate.proofs.pattern.fixed_pattern.Goals as goal
 
 pub unreachable-requires : goal.unreachable-requires
@@ -10,5 +10,9 @@ unreachable-requires c =
     c.in_ok-expr.ensures
     ∙ rw (c.in_ok-once.ensures, c.in_ok-new.ensures.ok, c.in_ok-pulse_and_pause.ensures) refl in
     let never : false ≡ true = c.in-None.ensures.some.1
-    (rw tree fixed_small, rw (tree, c.in_ok-one_name.ensures) fixed_numbered) in
+    (
+      rw tree fixed_small,
+      rw (tree, c.in_ok-one_name.ensures) fixed_numbered,
+      rw (tree, c.new.ensures) fixed_no_events,
+    ) in
     cc

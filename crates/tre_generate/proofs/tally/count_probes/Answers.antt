@@ -1,5 +1,6 @@
 use Rattle.std.proofs.Common.{◌≡◌, ℕ, ◌*◌, List, length, ap, refl, sym, subst, ◌∙◌, arith}
 use Rattle.tre_trace.specs.Trace.{end_of, IsTrace}
+use Rattle.tre_trace.specs.Segments.{plain_segment}
 use Rattle.tre_trace.specs.declared.segment.Segment.{Segment}
 use Rattle.tre_zone.specs.ZoneList.{SetHolds}
 use Rattle.tre_generate.specs.Probes.{IsInside, IsProbed}
@@ -11,7 +12,7 @@ use Rattle.tre_generate.proofs.tally.count_probes.Goals as goal
 pub overflow_add-end : goal.overflow_add-end
 overflow_add-end c =
     let fits = place_fits c.segments-segment-items.result.now c.loop-segment.segment-index
-    c.loop-segment.begin (record { len = 0; val = 0 }) c.loop-segment-test.true
+    c.loop-segment.begin (plain_segment 0 0) c.loop-segment-test.true
     c.loop-segment.invariant.begin
     (subst IsTrace (sym c.segments-segment-items.ensures.segments)
     c.segments-segment-items.ensures.trace) in
@@ -20,7 +21,7 @@ overflow_add-end c =
 pub overflow_mul-probe : goal.overflow_mul-probe
 overflow_mul-probe c =
     let fits = place_fits c.segments-segment-items.result.now c.loop-segment.segment-index
-    c.loop-segment.begin (record { len = 0; val = 0 }) c.loop-segment-test.true
+    c.loop-segment.begin (plain_segment 0 0) c.loop-segment-test.true
     c.loop-segment.invariant.begin
     (subst IsTrace (sym c.segments-segment-items.ensures.segments)
     c.segments-segment-items.ensures.trace) in
@@ -29,7 +30,7 @@ overflow_mul-probe c =
 pub overflow_mul-probe-in-loop-segment : goal.overflow_mul-probe-in-loop-segment
 overflow_mul-probe-in-loop-segment c =
     let fits = place_fits c.segments-segment-items.result.now c.loop-segment.segment-index
-    c.loop-segment.begin (record { len = 0; val = 0 }) c.loop-segment-test.true
+    c.loop-segment.begin (plain_segment 0 0) c.loop-segment-test.true
     c.loop-segment.invariant.begin
     (subst IsTrace (sym c.segments-segment-items.ensures.segments)
     c.segments-segment-items.ensures.trace) in
@@ -38,7 +39,7 @@ overflow_mul-probe-in-loop-segment c =
 pub overflow_add-probe : goal.overflow_add-probe
 overflow_add-probe c =
     let fits = place_fits c.segments-segment-items.result.now c.loop-segment.segment-index
-    c.loop-segment.begin (record { len = 0; val = 0 }) c.loop-segment-test.true
+    c.loop-segment.begin (plain_segment 0 0) c.loop-segment-test.true
     c.loop-segment.invariant.begin
     (subst IsTrace (sym c.segments-segment-items.ensures.segments)
     c.segments-segment-items.ensures.trace) in
@@ -51,7 +52,7 @@ with_probe-tally-requires c =
     let whole = SetHolds c.args.whole.now in
     let told = SetHolds c.args.told.now in
     let tally = c.loop-segment.invariant.tally in
-    let size : length segments ≡ length c.args.trace.now =
+    let size : length segments ≡ length c.args.trace.now.segments =
     ap (λ list. length list) c.segments-segment-items.ensures.segments in
     let few = c.requires in
     let below = c.loop-segment-test.true in
@@ -70,7 +71,7 @@ loop-segment-preserved c =
     let segments = c.segments-segment-items.result.now in
     let place = c.loop-segment.segment-index in
     let begin = c.loop-segment.begin in
-    let next = place_next segments place begin (record { len = 0; val = 0 })
+    let next = place_next segments place begin (plain_segment 0 0)
     c.loop-segment-test.true c.loop-segment.invariant.begin in
     let last : 2 * c.end-last.result ≡ 2 * end_of 0 segments =
     ap (λ (t : ℕ). 2 * t) (c.end-last.ensures.end

@@ -4,6 +4,7 @@ use Rattle.tre_online.specs.Session.{ended_of, StandsFor, TellsNew}
 use Rattle.tre_syntax.specs.Pattern.{pattern_tree}
 use Rattle.tre_syntax.specs.PatternTree.{PatternTree}
 use Rattle.tre_trace.specs.Trace.{IsTrace}
+use Rattle.tre_trace.specs.Segments.{plain_segment}
 use Rattle.tre_trace.specs.declared.segment.Segment.{Segment}
 use Rattle.tre_generate.specs.Told.{AreTold}
 use Rattle.tre_generate.proofs.Refusals.{fits_within}
@@ -22,10 +23,10 @@ told_of-requires c =
     let items = c.segments-segment-items.result.now in
     let place = c.loop-segment.segment-index in
     let front = take place items in
-    let segment = get_or items place (record { len = 0; val = 0 }) in
+    let segment = get_or items place (plain_segment 0 0) in
     let whole : items ≡ front ++ segment ∷ drop (suc place) items =
     sym (ap (λ (back : List Segment). front ++ back)
-    (sym (drop-cons items place (record { len = 0; val = 0 }) c.loop-segment-test.true))
+    (sym (drop-cons items place (plain_segment 0 0) c.loop-segment-test.true))
     ∙ take-append-drop place items) in
     let trace : IsTrace items = subst IsTrace (sym c.segments-segment-items.ensures.segments)
     c.segments-segment-items.ensures.trace in
@@ -41,13 +42,13 @@ loop-segment-preserved c =
     let items = c.segments-segment-items.result.now in
     let place = c.loop-segment.segment-index in
     let segments = take place items in
-    let segment = get_or items place (record { len = 0; val = 0 }) in
+    let segment = get_or items place (plain_segment 0 0) in
     let old = c.loop-segment.session in
     let goes = c.in_ok-told.ensures.goes_on segments c.loop-segment.invariant.stands in
     let tells : TellsNew tree segments segment (ended_of old) c.in_ok-told.told =
     subst (λ (t : PatternTree). TellsNew t segments segment (ended_of old) c.in_ok-told.told)
     c.loop-segment.invariant.tree goes.tells in
-    let more = take_more items place (record { len = 0; val = 0 }) c.loop-segment-test.true in
+    let more = take_more items place (plain_segment 0 0) c.loop-segment-test.true in
     record {
       stands = subst (λ (list : List Segment). StandsFor c.told_of.new.session list) (sym more)
           goes.stands;
@@ -61,7 +62,7 @@ loop-segment-preserved c =
 
 pub returns : goal.returns
 returns c =
-    AreTold-set (pattern_tree c.args.pattern) c.args.trace.now c.loop-segment.zones.items
+    AreTold-set (pattern_tree c.args.pattern) c.args.trace.now.segments c.loop-segment.zones.items
     c.in_ok-told-2.told
     (subst (λ (list : List Segment). AreTold (pattern_tree c.args.pattern) list
     c.loop-segment.zones.items)

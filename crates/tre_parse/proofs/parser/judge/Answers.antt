@@ -1,5 +1,6 @@
 use Rattle.std.proofs.Common.{length, ◌-◌, refl, ◌∙◌, ap, arith, inr}
 use Rattle.tre_parse.specs.Outcome.{offset_of}
+use Rattle.tre_parse.specs.Scan.{vocabulary_in}
 use Rattle.tre_parse.specs.Answers.{text_tokens_in}
 use Rattle.tre_parse.proofs.Judging.{is_whole, none_found, first_found, empty_outcome, past_outcome, large_outcome, is_buildable, expr_is, expr_some, pattern_some, spelt_outcome}
 use Rattle.tre_parse.proofs.parser.judge.Goals as goal
@@ -35,7 +36,7 @@ unreachable-requires c =
     (none_found (text_tokens_in c.args.scan) c.args.whole c.requires.small c.requires.unkept
     c.in_default.is) c.in_default-past.is
     (omega arith) c.requires.numbered in
-    expr_some c.args.scan.names c.args.whole w.tree c.into_tree.result b c.into_tree.ensures
+    expr_some (vocabulary_in c.args.scan) c.args.whole w.tree c.into_tree.result b c.into_tree.ensures
     (omega arith) c.in_default-into_tree.is
 
 pub unreachable-requires-in_default-new : goal.unreachable-requires-in_default-new
@@ -45,9 +46,9 @@ unreachable-requires-in_default-new c =
     (none_found (text_tokens_in c.args.scan) c.args.whole c.requires.small c.requires.unkept
     c.in_default.is) c.in_default-past.is
     (omega arith) c.requires.numbered in
-    let e = expr_is c.args.scan.names c.args.whole w.tree c.into_tree.result
+    let e = expr_is (vocabulary_in c.args.scan) c.args.whole w.tree c.into_tree.result
     c.in-Some-into_tree.expr b c.into_tree.ensures c.in-Some-into_tree.is in
-    let never = c.in_default-new.ensures.some.1 (pattern_some c.args.scan.names c.args.whole w.tree
+    let never = c.in_default-new.ensures.some.1 (pattern_some (vocabulary_in c.args.scan) c.args.whole w.tree
     c.in-Some-into_tree.expr b e) in
     (cc)
 
@@ -58,7 +59,7 @@ returns c =
     (none_found (text_tokens_in c.args.scan) c.args.whole c.requires.small c.requires.unkept
     c.in_default.is) c.in_default-past.is
     (omega arith) c.requires.numbered in
-    let e = expr_is c.args.scan.names c.args.whole w.tree c.into_tree.result
+    let e = expr_is (vocabulary_in c.args.scan) c.args.whole w.tree c.into_tree.result
     c.in-Some-into_tree.expr b c.into_tree.ensures c.in-Some-into_tree.is in
     spelt_outcome (text_tokens_in c.args.scan) c.args.whole _ _ c.requires.small w
     (none_found (text_tokens_in c.args.scan) c.args.whole c.requires.small c.requires.unkept

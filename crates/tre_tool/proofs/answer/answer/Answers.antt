@@ -1,62 +1,25 @@
-use Rattle.std.proofs.Common.{◌≡◌, refl}
+use Rattle.std.proofs.Common.{refl}
 use Rattle.std.proofs.lemmas.Result.{err_from_is_err_and}
 use Rattle.tre_syntax.specs.Pattern.{pattern_tree, names_of}
 use Rattle.tre_tool.specs.Devices.{input_told, output_told}
-use Rattle.tre_tool.specs.Run.{request_for}
-use Rattle.tre_tool.specs.declared.job.Mode.TheVariants.{Online}
-use Rattle.tre_tool.specs.declared.status.Status.TheVariants.{Done, Memory}
-use Rattle.tre_tool.proofs.OnlineRuns.{EndsOver-telling}
+use Rattle.tre_tool.specs.Answer.{request_for}
+use Rattle.tre_tool.specs.declared.status.Status.TheVariants.{Memory}
+use Rattle.tre_tool.proofs.Alone.{shown_in, made_in}
 use Rattle.tre_tool.proofs.Promise.{EndsOver-stopped, EndsOver-cut, EndsOver-done}
-use Rattle.tre_tool.proofs.Stops.{StopsAs-memory}
+use Rattle.tre_tool.proofs.Stops.{StopsAs-memory, shows_at_once, makes_at_once}
 use Rattle.tre_tool.proofs.answer.answer.Goals as goal
-
-pub returns-in_err-text-in-Offline-clause-ends : goal.returns-in_err-text-in-Offline-clause-ends
-returns-in_err-text-in-Offline-clause-ends g c =
-    let p = err_from_is_err_and c.from_residual.result c.from_residual.ensures.1 in
-    rw (p.1, p.2) (EndsOver-stopped _ _ _ _ c.in_err-text-in-Offline.ensures.stops
-    (record { unwritten = refl; writes = refl }))
-
-pub returns-in_err-write_text-in-Offline-clause-ends :
-    goal.returns-in_err-write_text-in-Offline-clause-ends
-returns-in_err-write_text-in-Offline-clause-ends g c =
-    let p = err_from_is_err_and c.from_residual-in_err-write_text-in-Offline.result
-    c.from_residual-in_err-write_text-in-Offline.ensures.1 in
-    rw (p.1, p.2, c.in_err-write_text-in-Offline.ensures.status)
-    (EndsOver-cut _ _ _ _ (λ online. cc) c.in_ok-text-in-Offline.ensures.found
-    c.in_err-write_text-in-Offline.ensures.cause (rw c.as_str.ensures.value at
-    c.in_err-write_text-in-Offline.ensures.part))
-
-pub returns-in_ok-write_text-in-Offline-clause-ends :
-    goal.returns-in_ok-write_text-in-Offline-clause-ends
-returns-in_ok-write_text-in-Offline-clause-ends g c =
-    EndsOver-done _ _ _ _ c.in_ok-text-in-Offline.ensures.found
-    c.in_ok-write_text-in-Offline.ensures.good
-    (rw c.as_str.ensures.value at c.in_ok-write_text-in-Offline.ensures.all)
-
-pub returns-in_err-tell_matches-in-Online-clause-ends :
-    goal.returns-in_err-tell_matches-in-Online-clause-ends
-returns-in_err-tell_matches-in-Online-clause-ends g c =
-    let p = err_from_is_err_and c.from_residual-in_err-tell_matches-in-Online.result
-    c.from_residual-in_err-tell_matches-in-Online.ensures.1 in
-    rw (p.1, p.2) (EndsOver-telling _ _ _ c.in_err-tell_matches-in-Online.field-0.0 c.in-Online.is
-    c.in_err-tell_matches-in-Online.ensures.ends)
-
-pub returns-in_ok-tell_matches-in-Online-clause-ends :
-    goal.returns-in_ok-tell_matches-in-Online-clause-ends
-returns-in_ok-tell_matches-in-Online-clause-ends g c =
-    EndsOver-telling _ _ _ Done c.in-Online.is c.in_ok-tell_matches-in-Online.ensures.ends
 
 pub returns-in_err-text-in-Show-clause-ends : goal.returns-in_err-text-in-Show-clause-ends
 returns-in_err-text-in-Show-clause-ends g c =
-    let p = err_from_is_err_and c.from_residual-in_err-text-in-Show.result
-    c.from_residual-in_err-text-in-Show.ensures.1 in
+    let p = err_from_is_err_and c.from_residual.result
+    c.from_residual.ensures.1 in
     let request = request_for c.args.job.now (pattern_tree c.args.pattern)
     (names_of c.args.pattern) in
     let input = input_told g.S.Source.file_name g.S.Source.file g.S.Source.sound
     g.S.Source.opened g.S.Source.left g.S.Source.found g.S.Source.faults c.args.input.now
     c.args.input.now in
     let output = output_told g.O.Sink.written g.O.Sink.faults c.args.out.now c.args.out.now in
-    let once : c.args.job.now.mode ≡ Online → ⊥ = λ online. cc in
+    let once = shows_at_once c.args.job.now.mode c.in-Show.is in
     rw (p.1, p.2) (EndsOver-stopped request input output Memory
     (StopsAs-memory request input once refl) (record { unwritten = refl; writes = refl }))
 
@@ -66,10 +29,11 @@ returns-in_err-write_text-in-Show-clause-ends g c =
     let p = err_from_is_err_and c.from_residual-in_err-write_text-in-Show.result
     c.from_residual-in_err-write_text-in-Show.ensures.1 in
     rw (p.1, p.2, c.in_err-write_text-in-Show.ensures.status)
-    (EndsOver-cut _ _ _ _ (λ online. cc) (record {
+    (EndsOver-cut _ _ _ _ (shows_at_once c.args.job.now.mode c.in-Show.is) (record {
       reads = refl;
-      right = rw c.in-Show.is c.in_ok-text-in-Show.ensures;
-    }) c.in_err-write_text-in-Show.ensures.cause (rw c.as_str-in-Show.ensures.value at
+      right = shown_in c.args.job.now (pattern_tree c.args.pattern) (names_of c.args.pattern)
+          c.args.job.now.mode _ _ c.in-Show.is c.in_ok-text-in-Show.ensures;
+    }) c.in_err-write_text-in-Show.ensures.cause (rw c.as_str.ensures.value at
     c.in_err-write_text-in-Show.ensures.part))
 
 pub returns-in_ok-write_text-in-Show-clause-ends :
@@ -77,9 +41,10 @@ pub returns-in_ok-write_text-in-Show-clause-ends :
 returns-in_ok-write_text-in-Show-clause-ends g c =
     EndsOver-done _ _ _ _ (record {
       reads = refl;
-      right = rw c.in-Show.is c.in_ok-text-in-Show.ensures;
+      right = shown_in c.args.job.now (pattern_tree c.args.pattern) (names_of c.args.pattern)
+          c.args.job.now.mode _ _ c.in-Show.is c.in_ok-text-in-Show.ensures;
     }) c.in_ok-write_text-in-Show.ensures.good
-    (rw c.as_str-in-Show.ensures.value at c.in_ok-write_text-in-Show.ensures.all)
+    (rw c.as_str.ensures.value at c.in_ok-write_text-in-Show.ensures.all)
 
 pub returns-in_err-text-in-Generate-clause-ends : goal.returns-in_err-text-in-Generate-clause-ends
 returns-in_err-text-in-Generate-clause-ends g c =
@@ -91,7 +56,7 @@ returns-in_err-text-in-Generate-clause-ends g c =
     g.S.Source.opened g.S.Source.left g.S.Source.found g.S.Source.faults c.args.input.now
     c.args.input.now in
     let output = output_told g.O.Sink.written g.O.Sink.faults c.args.out.now c.args.out.now in
-    let once : c.args.job.now.mode ≡ Online → ⊥ = λ online. cc in
+    let once = makes_at_once c.args.job.now.mode _ c.in-Generate.is in
     rw (p.1, p.2) (EndsOver-stopped request input output Memory
     (StopsAs-memory request input once refl) (record { unwritten = refl; writes = refl }))
 
@@ -101,9 +66,10 @@ returns-in_err-write_text-in-Generate-clause-ends g c =
     let p = err_from_is_err_and c.from_residual-in_err-write_text-in-Generate.result
     c.from_residual-in_err-write_text-in-Generate.ensures.1 in
     rw (p.1, p.2, c.in_err-write_text-in-Generate.ensures.status)
-    (EndsOver-cut _ _ _ _ (λ online. cc) (record {
+    (EndsOver-cut _ _ _ _ (makes_at_once c.args.job.now.mode _ c.in-Generate.is) (record {
       reads = refl;
-      right = rw c.in-Generate.is c.in_ok-text-in-Generate.ensures;
+      right = made_in c.args.job.now (pattern_tree c.args.pattern) (names_of c.args.pattern)
+          c.args.job.now.mode _ _ _ c.in-Generate.is c.in_ok-text-in-Generate.ensures;
     }) c.in_err-write_text-in-Generate.ensures.cause (rw c.as_str-in-Generate.ensures.value at
     c.in_err-write_text-in-Generate.ensures.part))
 
@@ -112,6 +78,7 @@ pub returns-in_ok-write_text-in-Generate-clause-ends :
 returns-in_ok-write_text-in-Generate-clause-ends g c =
     EndsOver-done _ _ _ _ (record {
       reads = refl;
-      right = rw c.in-Generate.is c.in_ok-text-in-Generate.ensures;
+      right = made_in c.args.job.now (pattern_tree c.args.pattern) (names_of c.args.pattern)
+          c.args.job.now.mode _ _ _ c.in-Generate.is c.in_ok-text-in-Generate.ensures;
     }) c.in_ok-write_text-in-Generate.ensures.good
     (rw c.as_str-in-Generate.ensures.value at c.in_ok-write_text-in-Generate.ensures.all)

@@ -34,7 +34,7 @@ returns-in_err-feed-clause-stops g c =
     g.S.Source.left g.S.Source.found g.S.Source.faults c.args.input.now
     c.open.new.input in
     rw (p.1, p.2) (StopsReading-unread
-    (g.R.TraceReader.reading (g.R.TraceReader.names c.args.reader.now)) c.args.limit
+    (g.R.TraceReader.reading (g.R.TraceReader.terms c.args.reader.now)) c.args.limit
     c.args.name.now input c.in_err-feed.field-0.0
     (g.met.R.TraceReader.faultless c.args.reader.now [] c.requires.fresh)
     c.in_err-feed.ensures.nothing c.in_err-feed.ensures.cause c.in_err-feed.ensures.named
@@ -46,7 +46,7 @@ returns-in_err-next-clause-stops g c =
     c.from_residual-in_err-next.ensures.1 in
     let inv = c.loop-segments.invariant in
     let so_far = inv.collected in
-    let reading = g.R.TraceReader.reading (g.R.TraceReader.names c.args.reader.now) in
+    let reading = g.R.TraceReader.reading (g.R.TraceReader.terms c.args.reader.now) in
     let input = input_told g.S.Source.file_name g.S.Source.file g.S.Source.sound g.S.Source.opened
     g.S.Source.left g.S.Source.found g.S.Source.faults c.args.input.now
     c.next.new.input in
@@ -56,10 +56,10 @@ returns-in_err-next-clause-stops g c =
     (subst (λ n. HasReadCause {T = Bool} n input.faults_now (Err c.in_err-next.field-0.0))
     inv.no_fault c.in_err-next.ensures.cause)
     (λ good is. c.in_err-next.ensures.sound (rw inv.sound good) (ap Err is))
-    (subst (λ names. (g.R.TraceReader.reading names false (take c.args.limit so_far.bytes)).fault
-    ≡ None) inv.names (g.met.R.TraceReader.faultless c.loop-segments.reader
+    (subst (λ terms. (g.R.TraceReader.reading terms false (take c.args.limit so_far.bytes)).fault
+    ≡ None) inv.terms (g.met.R.TraceReader.faultless c.loop-segments.reader
     (take c.args.limit so_far.bytes) so_far.fed.fed))
-    (rw (inv.names, inv.limit) at
+    (rw (inv.terms, inv.limit) at
     c.in_err-next.ensures.ends (g.S.Source.file c.args.input.now) so_far.bytes so_far.fed))
 
 pub loop-segments-init : goal.loop-segments-init
@@ -74,7 +74,7 @@ loop-segments-init g c = record {
     told = rw (take-over {X = ℕ} c.args.limit [] (omega arith), c.requires.nothing)
         c.new-segments.ensures.items;
   };
-  names = refl;
+  terms = refl;
   opened = c.in_ok-feed.ensures.opened;
   sound = c.in_ok-feed.ensures.same_sound;
   no_fault = c.in_ok-feed.ensures.cause;
@@ -95,7 +95,7 @@ pub loop-segments-preserved : goal.loop-segments-preserved
 loop-segments-preserved g c =
     let inv = c.loop-segments.invariant in
     let so_far = inv.collected in
-    let reading = g.R.TraceReader.reading (g.R.TraceReader.names c.args.reader.now) in
+    let reading = g.R.TraceReader.reading (g.R.TraceReader.terms c.args.reader.now) in
     let input = input_told g.S.Source.file_name g.S.Source.file g.S.Source.sound g.S.Source.opened
     g.S.Source.left g.S.Source.found g.S.Source.faults c.args.input.now
     c.next.new.input in
@@ -105,10 +105,10 @@ loop-segments-preserved g c =
           (g.S.Source.file c.args.input.now) (g.S.Source.left c.next.new.input)
           (g.S.Source.found c.next.new.input) c.next.new.self.taken so_far.bytes
           c.loop-segments.segments.items c.next.new.segments.items
-          (rw (inv.names, inv.limit, c.if-not-branch.false) at
+          (rw (inv.terms, inv.limit, c.if-not-branch.false) at
           c.in_ok-next.ensures.ends (g.S.Source.file c.args.input.now) so_far.bytes so_far.fed)
           so_far.told);
-      names = c.next.ensures.names ∙ inv.names;
+      terms = c.next.ensures.terms ∙ inv.terms;
       opened = c.next.ensures.same_opened ∙ inv.opened;
       sound = c.next.ensures.same_sound ∙ inv.sound;
       no_fault = c.in_ok-next.ensures.cause ∙ inv.no_fault;
@@ -120,17 +120,18 @@ pub returns-clause-read : goal.returns-clause-read
 returns-clause-read g c =
     let inv = c.loop-segments.invariant in
     let so_far = inv.collected in
-    let reading = g.R.TraceReader.reading (g.R.TraceReader.names c.args.reader.now) in
+    let reading = g.R.TraceReader.reading (g.R.TraceReader.terms c.args.reader.now) in
     let input = input_told g.S.Source.file_name g.S.Source.file g.S.Source.sound g.S.Source.opened
     g.S.Source.left g.S.Source.found g.S.Source.faults c.args.input.now
     c.next.new.input in
-    rw c.in_ok-trace.ensures.same (IsWhole-ended reading c.args.limit input so_far.bytes
-    c.loop-segments.segments.items c.next.new.segments.items
+    rw (c.set_last.ensures.set, c.in_ok-trace.ensures.same, c.last.ensures)
+    (IsWhole-ended reading c.args.limit input so_far.bytes
+    c.loop-segments.segments.items c.next.new.segments.items c.next.new.self.last
     (c.next.ensures.same_opened ∙ inv.opened) (c.in_ok-next.ensures.cause ∙ inv.no_fault)
-    (rw (inv.names, inv.limit, c.if-not-branch.true) at
+    (rw (inv.terms, inv.limit, c.if-not-branch.true) at
     c.in_ok-next.ensures.ends (g.S.Source.file c.args.input.now) so_far.bytes so_far.fed)
     so_far.told
-    (g.met.R.TraceReader.is_trace (g.R.TraceReader.names c.args.reader.now) true so_far.bytes))
+    (g.met.R.TraceReader.is_trace (g.R.TraceReader.terms c.args.reader.now) true so_far.bytes))
 
 pub returns-in_err-trace-clause-stops : goal.returns-in_err-trace-clause-stops
 returns-in_err-trace-clause-stops g c =

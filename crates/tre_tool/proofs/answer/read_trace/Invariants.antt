@@ -11,10 +11,10 @@ invariant-loop-segments g l =
     let reader = g.R.TraceReader in
     record {
       collected : IsCollected (reader.represents l.reader) (reader.reading
-          (reader.names l.fn.reader)) (length l.feed.buffer.items) l.limit
+          (reader.terms l.fn.reader)) (length l.feed.buffer.items) l.limit
           (source.file l.fn.input) (source.left l.input) (source.found l.input) l.feed.taken
           l.segments.items;
-      names : reader.names l.reader ≡ reader.names l.fn.reader;
+      terms : reader.terms l.reader ≡ reader.terms l.fn.reader;
       opened : source.opened l.input ≡ true;
       sound : source.sound l.input ≡ source.sound l.fn.input;
       no_fault : source.faults l.input ≡ source.faults l.fn.input;

@@ -10,7 +10,7 @@ returns-then-taken-limit-clause-read g c = λ file bytes so_far.
 
 pub returns-then-taken-limit-clause-ends : goal.returns-then-taken-limit-clause-ends
 returns-then-taken-limit-clause-ends g c = λ file bytes so_far.
-    TellsAll-exceeds (g.R.TraceReader.reading (g.R.TraceReader.names c.args.reader.now))
+    TellsAll-exceeds (g.R.TraceReader.reading (g.R.TraceReader.terms c.args.reader.now))
     c.args.limit file _ bytes _ so_far.front (omega (arith, so_far.size, c.if-taken-limit.true))
     (g.met.R.TraceReader.faultless c.args.reader.now (take c.args.limit bytes) so_far.fed)
 
@@ -23,7 +23,7 @@ returns-in_err-count-clause-read g c =
     let short : length (take c.min-room.result c.args.buffer.now) ≤ length c.args.buffer.now
     = omega (arith, length-take {A = ℕ} c.min-room.result c.args.buffer.now) in
     λ file bytes so_far. HasRead-piece
-    (g.R.TraceReader.reading (g.R.TraceReader.names c.args.reader.now))
+    (g.R.TraceReader.reading (g.R.TraceReader.terms c.args.reader.now))
     (length (take c.min-room.result c.args.buffer.now)) (length c.args.buffer.now) c.args.limit file
     (g.S.Source.left c.args.input.now) (g.S.Source.found c.args.input.now) _ _ _ bytes _ _
     c.in_err-count.field-0.0 so_far inside c.feed_piece.ensures.finds
@@ -34,22 +34,22 @@ returns-in_err-count-clause-ends g c =
     let p = err_from_is_err_and c.from_residual.result c.from_residual.ensures.1 in
     let inside = c.if-taken-limit.false in
     λ file bytes so_far. rw (p.1, p.2) (StopsTurn-piece
-    (g.R.TraceReader.reading (g.R.TraceReader.names c.args.reader.now))
+    (g.R.TraceReader.reading (g.R.TraceReader.terms c.args.reader.now))
     (length (take c.min-room.result c.args.buffer.now)) (length c.args.buffer.now) c.args.limit file
     (g.S.Source.left c.args.input.now) (g.S.Source.found c.args.input.now) _ _ bytes _ _
     c.in_err-count.field-0.0
-    (λ closed first more. g.met.R.TraceReader.grows (g.R.TraceReader.names c.args.reader.now) closed
+    (λ closed first more. g.met.R.TraceReader.grows (g.R.TraceReader.terms c.args.reader.now) closed
     first more) so_far inside
     (c.in_err-count.ensures.stops bytes (IsFed-all so_far inside)))
 
-pub returns-in_err-finish-clause-read : goal.returns-in_err-finish-clause-read
-returns-in_err-finish-clause-read g c =
+pub returns-in_err-last-clause-read : goal.returns-in_err-last-clause-read
+returns-in_err-last-clause-read g c =
     let inside = c.if-taken-limit.false in
     let count = c.in_ok-count.count in
     let buffer = c.feed_piece.new.buffer in
     let none = c.if-count-eq0.true in
     λ file bytes so_far.
-    let adds = Adds-none (g.R.TraceReader.reading (g.R.TraceReader.names c.args.reader.now))
+    let adds = Adds-none (g.R.TraceReader.reading (g.R.TraceReader.terms c.args.reader.now))
     (c.args.limit - c.args.taken.now) count bytes buffer c.args.segments.now.items
     c.feed_piece.new.segments.items none
     (c.in_ok-count.ensures.adds bytes (IsFed-all so_far inside)) in
@@ -59,21 +59,21 @@ returns-in_err-finish-clause-read g c =
     (g.S.Source.found c.feed_piece.new.input) c.args.taken.now count bytes buffer so_far inside
     c.in_ok-count.ensures.taken c.feed_piece.ensures.finds (c.in_ok-count.ensures.end none) none
     (c.in_ok-count.ensures.goes_on bytes (IsFed-all so_far inside)) in
-    HasRead-end (g.R.TraceReader.reading (g.R.TraceReader.names c.args.reader.now))
+    HasRead-end (g.R.TraceReader.reading (g.R.TraceReader.terms c.args.reader.now))
     (length c.args.buffer.now) c.args.limit
     file _ _ bytes _ c.feed_piece.new.segments.items _ at_end adds
-    (rw c.in_ok-count.ensures.names at c.in_err-finish.ensures.refused bytes at_end.fed).adds_some
+    (rw c.in_ok-count.ensures.terms at c.in_err-last.ensures.refused bytes at_end.fed).adds_some
 
-pub returns-in_err-finish-clause-ends : goal.returns-in_err-finish-clause-ends
-returns-in_err-finish-clause-ends g c =
-    let p = err_from_is_err_and c.from_residual-in_err-finish.result
-    c.from_residual-in_err-finish.ensures.1 in
+pub returns-in_err-last-clause-ends : goal.returns-in_err-last-clause-ends
+returns-in_err-last-clause-ends g c =
+    let p = err_from_is_err_and c.from_residual-in_err-last.result
+    c.from_residual-in_err-last.ensures.1 in
     let inside = c.if-taken-limit.false in
     let count = c.in_ok-count.count in
     let buffer = c.feed_piece.new.buffer in
     let none = c.if-count-eq0.true in
     λ file bytes so_far.
-    let adds = Adds-none (g.R.TraceReader.reading (g.R.TraceReader.names c.args.reader.now))
+    let adds = Adds-none (g.R.TraceReader.reading (g.R.TraceReader.terms c.args.reader.now))
     (c.args.limit - c.args.taken.now) count bytes buffer c.args.segments.now.items
     c.feed_piece.new.segments.items none
     (c.in_ok-count.ensures.adds bytes (IsFed-all so_far inside)) in
@@ -83,10 +83,10 @@ returns-in_err-finish-clause-ends g c =
     (g.S.Source.found c.feed_piece.new.input) c.args.taken.now count bytes buffer so_far inside
     c.in_ok-count.ensures.taken c.feed_piece.ensures.finds (c.in_ok-count.ensures.end none) none
     (c.in_ok-count.ensures.goes_on bytes (IsFed-all so_far inside)) in
-    rw (p.1, p.2) (StopsTurn-end (g.R.TraceReader.reading (g.R.TraceReader.names c.args.reader.now))
+    rw (p.1, p.2) (StopsTurn-end (g.R.TraceReader.reading (g.R.TraceReader.terms c.args.reader.now))
     c.args.limit file _ _ bytes _
-    c.feed_piece.new.segments.items _ c.in_err-finish.field-0.0 at_end adds
-    (rw c.in_ok-count.ensures.names at c.in_err-finish.ensures.refused bytes at_end.fed))
+    c.feed_piece.new.segments.items _ c.in_err-last.field-0.0 at_end adds
+    (rw c.in_ok-count.ensures.terms at c.in_err-last.ensures.refused bytes at_end.fed))
 
 pub returns-then-count-eq0-clause-read : goal.returns-then-count-eq0-clause-read
 returns-then-count-eq0-clause-read g c =
@@ -95,7 +95,7 @@ returns-then-count-eq0-clause-read g c =
     let buffer = c.feed_piece.new.buffer in
     let none = c.if-count-eq0.true in
     λ file bytes so_far.
-    let adds = Adds-none (g.R.TraceReader.reading (g.R.TraceReader.names c.args.reader.now))
+    let adds = Adds-none (g.R.TraceReader.reading (g.R.TraceReader.terms c.args.reader.now))
     (c.args.limit - c.args.taken.now) count bytes buffer c.args.segments.now.items
     c.feed_piece.new.segments.items none
     (c.in_ok-count.ensures.adds bytes (IsFed-all so_far inside)) in
@@ -105,10 +105,10 @@ returns-then-count-eq0-clause-read g c =
     (g.S.Source.found c.feed_piece.new.input) c.args.taken.now count bytes buffer so_far inside
     c.in_ok-count.ensures.taken c.feed_piece.ensures.finds (c.in_ok-count.ensures.end none) none
     (c.in_ok-count.ensures.goes_on bytes (IsFed-all so_far inside)) in
-    HasRead-end (g.R.TraceReader.reading (g.R.TraceReader.names c.args.reader.now))
+    HasRead-end (g.R.TraceReader.reading (g.R.TraceReader.terms c.args.reader.now))
     (length c.args.buffer.now) c.args.limit
     file _ _ bytes _ c.feed_piece.new.segments.items _ at_end adds
-    (Adds-some (rw c.in_ok-count.ensures.names at c.in_ok-finish.ensures.adds bytes at_end.fed))
+    (Adds-some (rw c.in_ok-count.ensures.terms at c.in_ok-last.ensures.adds bytes at_end.fed))
 
 pub returns-then-count-eq0-clause-ends : goal.returns-then-count-eq0-clause-ends
 returns-then-count-eq0-clause-ends g c =
@@ -117,7 +117,7 @@ returns-then-count-eq0-clause-ends g c =
     let buffer = c.feed_piece.new.buffer in
     let none = c.if-count-eq0.true in
     λ file bytes so_far.
-    let adds = Adds-none (g.R.TraceReader.reading (g.R.TraceReader.names c.args.reader.now))
+    let adds = Adds-none (g.R.TraceReader.reading (g.R.TraceReader.terms c.args.reader.now))
     (c.args.limit - c.args.taken.now) count bytes buffer c.args.segments.now.items
     c.feed_piece.new.segments.items none
     (c.in_ok-count.ensures.adds bytes (IsFed-all so_far inside)) in
@@ -127,11 +127,12 @@ returns-then-count-eq0-clause-ends g c =
     (g.S.Source.found c.feed_piece.new.input) c.args.taken.now count bytes buffer so_far inside
     c.in_ok-count.ensures.taken c.feed_piece.ensures.finds (c.in_ok-count.ensures.end none) none
     (c.in_ok-count.ensures.goes_on bytes (IsFed-all so_far inside)) in
-    IsEnded-end (g.R.TraceReader.reading (g.R.TraceReader.names c.args.reader.now))
-    c.args.limit file _ _ bytes _ c.feed_piece.new.segments.items _
+    IsEnded-end (g.R.TraceReader.reading (g.R.TraceReader.terms c.args.reader.now))
+    c.args.limit file _ _ bytes _ c.feed_piece.new.segments.items _ _
     at_end adds
-    (rw c.in_ok-count.ensures.names at c.in_ok-finish.ensures.adds bytes at_end.fed)
-    (rw c.in_ok-count.ensures.names at c.in_ok-finish.ensures.whole bytes at_end.fed)
+    (rw c.in_ok-count.ensures.terms at c.in_ok-last.ensures.adds bytes at_end.fed)
+    (rw c.in_ok-count.ensures.terms at c.in_ok-last.ensures.whole bytes at_end.fed)
+    (rw c.in_ok-count.ensures.terms at c.in_ok-last.ensures.last bytes at_end.fed)
 
 pub returns-clause-read : goal.returns-clause-read
 returns-clause-read g c =
@@ -144,7 +145,7 @@ returns-clause-read g c =
     let short : length (take c.min-room.result c.args.buffer.now) ≤ length c.args.buffer.now
     = omega (arith, length-take {A = ℕ} c.min-room.result c.args.buffer.now) in
     λ file bytes so_far. HasRead-fed
-    (g.R.TraceReader.reading (g.R.TraceReader.names c.args.reader.now))
+    (g.R.TraceReader.reading (g.R.TraceReader.terms c.args.reader.now))
     (length (take c.min-room.result c.args.buffer.now)) (length c.args.buffer.now) c.args.limit file
     (g.S.Source.left c.args.input.now) (g.S.Source.found c.args.input.now) _ _ _ bytes _ _ so_far
     inside c.feed_piece.ensures.finds (record {
@@ -175,7 +176,7 @@ returns-clause-ends g c =
       length-take {A = ℕ} c.min-room.result c.args.buffer.now,
     ) in
     λ file bytes so_far. GoesOn-fed
-    (g.R.TraceReader.reading (g.R.TraceReader.names c.args.reader.now))
+    (g.R.TraceReader.reading (g.R.TraceReader.terms c.args.reader.now))
     (length c.args.buffer.now) c.args.limit file
     (g.S.Source.left c.args.input.now) (g.S.Source.found c.args.input.now) _ _ _ count bytes
     (take count buffer) _ _ so_far inside c.in_ok-count.ensures.taken c.feed_piece.ensures.finds

@@ -8,8 +8,10 @@ returns c =
       number = c.one_front.ensures.number;
     } in
     record {
-      blocks = λ blocks others trace other closed ended are are' same.
-          (text_once tells blocks others trace other closed ended are are' same).0;
-      lengths = λ blocks others trace other closed ended are are' same.
-          (text_once tells blocks others trace other closed ended are are' same).1;
+      blocks = λ blocks others closing ending trace other are are' same.
+          (text_once tells blocks others closing ending trace other are are' same).blocks_same;
+      closings = λ blocks others closing ending trace other are are' same.
+          (text_once tells blocks others closing ending trace other are are' same).closing_same;
+      lengths = λ blocks others closing ending trace other are are' same.
+          (text_once tells blocks others closing ending trace other are are' same).lengths_same;
     }

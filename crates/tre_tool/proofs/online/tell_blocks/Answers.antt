@@ -1,6 +1,7 @@
 use Rattle.std.proofs.Common.{◌≡◌, ◌+◌, suc, arith, [], ◌∷◌, ◌++◌, append_assoc, drop, drop-cons, take, get_or, sym, subst, ◌∙◌}
 use Rattle.std.proofs.lemmas.List.{take_more}
 use Rattle.std.proofs.lemmas.Result.{err_from_is_err_and}
+use Rattle.tre_trace.specs.Segments.{plain_segment}
 use Rattle.tre_tool.proofs.Cuts.{split_around}
 use Rattle.tre_tool.specs.Telling.{CanTell}
 use Rattle.tre_tool.proofs.Told.{CanTell-first, CanTell-next}
@@ -10,23 +11,23 @@ pub tell_block-requires : goal.tell_block-requires
 tell_block-requires g c =
     let segments = c.args.segments.now in
     let i = c.loop-segment.segment-index in
-    let segment = get_or segments i (record { len = 0; val = 0 }) in
+    let segment = get_or segments i (plain_segment 0 0) in
     CanTell-first c.loop-segment.session segment (drop (suc i) segments)
     (subst (CanTell c.loop-segment.session)
-    (drop-cons segments i (record { len = 0; val = 0 }) c.loop-segment-test.true)
+    (drop-cons segments i (plain_segment 0 0) c.loop-segment-test.true)
     c.loop-segment.invariant.rest)
 
 pub loop-segment-preserved : goal.loop-segment-preserved
 loop-segment-preserved g c =
     let segments = c.args.segments.now in
     let i = c.loop-segment.segment-index in
-    let segment = get_or segments i (record { len = 0; val = 0 }) in
+    let segment = get_or segments i (plain_segment 0 0) in
     let inv = c.loop-segment.invariant in
     let next : i + 1 ≡ suc i = omega arith in
-    let more = take_more segments i (record { len = 0; val = 0 }) c.loop-segment-test.true in
+    let more = take_more segments i (plain_segment 0 0) c.loop-segment-test.true in
     let can : CanTell c.loop-segment.session (segment ∷ drop (suc i) segments) =
     subst (CanTell c.loop-segment.session)
-    (drop-cons segments i (record { len = 0; val = 0 }) c.loop-segment-test.true) inv.rest in
+    (drop-cons segments i (plain_segment 0 0) c.loop-segment-test.true) inv.rest in
     record {
       told = λ tree front before so_far. rw (
         more,

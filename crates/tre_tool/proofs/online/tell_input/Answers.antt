@@ -1,4 +1,4 @@
-use Rattle.std.proofs.Common.{◌≡◌, ◌∙◌, Bool, false, true, Err, Some, None, [], length, take, refl, sym, subst, ap, arith}
+use Rattle.std.proofs.Common.{◌≡◌, ◌∙◌, Bool, false, true, Err, Some, None, [], ◌++◌, length, take, refl, sym, subst, ap, arith}
 use Rattle.std.proofs.lemmas.Result.{err_from_is_err_and}
 use Rattle.tre_online.specs.Session.{pattern_of}
 use Rattle.tre_syntax.specs.Pattern.{pattern_tree}
@@ -16,8 +16,8 @@ returns-in_err-feed-clause-ends g c =
     c.open.new.input in
     let output = output_told g.O.Sink.written g.O.Sink.faults c.args.out.now c.args.out.now in
     rw (p.1, p.2) (EndsTelling-unread
-    (g.R.TraceReader.reading (g.R.TraceReader.names c.args.reader.now)) c.args.job.now.max_bytes
-    (pattern_tree (pattern_of c.args.session.now)) c.args.job.now.input input output
+    (g.R.TraceReader.reading (g.R.TraceReader.terms c.args.reader.now)) c.args.job.now.max_bytes
+    (pattern_tree (pattern_of c.args.session)) c.args.job.now.input input output
     c.in_err-feed.field-0.0 c.requires.nothing
     (g.met.R.TraceReader.faultless c.args.reader.now [] c.requires.fresh)
     c.in_err-feed.ensures.nothing c.in_err-feed.ensures.finds
@@ -27,15 +27,15 @@ returns-in_err-feed-clause-ends g c =
 
 pub loop-segments-init : goal.loop-segments-init
 loop-segments-init g c = record {
-  telling = IsTelling-start (g.R.TraceReader.reading (g.R.TraceReader.names c.args.reader.now))
+  telling = IsTelling-start (g.R.TraceReader.reading (g.R.TraceReader.terms c.args.reader.now))
       (length c.in_ok-feed.feed.buffer.items) c.args.job.now.max_bytes
       (g.S.Source.file c.args.input.now) (g.S.Source.left c.open.new.input)
-      (g.S.Source.found c.open.new.input) c.in_ok-feed.feed.taken c.args.session.now
+      (g.S.Source.found c.open.new.input) c.in_ok-feed.feed.taken c.args.session
       (g.O.Sink.written c.args.out.now) c.requires.fresh c.requires.nothing
       c.in_ok-feed.ensures.bytes (c.in_ok-feed.ensures.finds c.in_ok-feed.ensures.opened)
       c.in_ok-feed.ensures.start c.requires.stands;
   empty = c.new-segments.ensures.items;
-  names = refl;
+  terms = refl;
   opened = c.in_ok-feed.ensures.opened;
   sound = c.in_ok-feed.ensures.same_sound;
   no_fault = c.in_ok-feed.ensures.cause;
@@ -63,14 +63,14 @@ pub tell_blocks-requires : goal.tell_blocks-requires
 tell_blocks-requires g c =
     let inv = c.loop-segments.invariant in
     let tel = inv.telling in
-    let names = g.R.TraceReader.names c.args.reader.now in
-    rw c.deref.ensures.value (CanTell-read (g.R.TraceReader.reading names)
+    let terms = g.R.TraceReader.terms c.args.reader.now in
+    rw c.deref.ensures.value (CanTell-read (g.R.TraceReader.reading terms)
     (length c.loop-segments.feed.buffer.items) c.args.job.now.max_bytes
     (g.S.Source.file c.args.input.now) (g.S.Source.left c.next-fed.new.input)
     (g.S.Source.found c.next-fed.new.input) tel.bytes
     c.next-fed.new.segments.items c.loop-segments.session
-    (λ closed bytes. g.met.R.TraceReader.is_trace names closed bytes)
-    (rw (inv.names, inv.limit, inv.empty) at
+    (λ closed bytes. g.met.R.TraceReader.is_trace terms closed bytes)
+    (rw (inv.terms, inv.limit, inv.empty) at
     c.next-fed.ensures.read (g.S.Source.file c.args.input.now) tel.bytes tel.fed)
     tel.told.stands)
 
@@ -80,12 +80,12 @@ returns-in_err-tell_blocks-clause-ends g c =
     c.from_residual-in_err-tell_blocks.ensures.1 in
     let inv = c.loop-segments.invariant in
     let tel = inv.telling in
-    let reading = g.R.TraceReader.reading (g.R.TraceReader.names c.args.reader.now) in
+    let reading = g.R.TraceReader.reading (g.R.TraceReader.terms c.args.reader.now) in
     let limit = c.args.job.now.max_bytes in
-    let tree = pattern_tree (pattern_of c.args.session.now) in
+    let tree = pattern_tree (pattern_of c.args.session) in
     let new = c.next-fed.new.segments.items in
     let file = g.S.Source.file c.args.input.now in
-    let has = rw (inv.names, inv.limit, inv.empty) at
+    let has = rw (inv.terms, inv.limit, inv.empty) at
     c.next-fed.ensures.read file tel.bytes tel.fed in
     let input = input_told g.S.Source.file_name g.S.Source.file g.S.Source.sound
     g.S.Source.opened g.S.Source.left g.S.Source.found g.S.Source.faults c.args.input.now
@@ -95,12 +95,12 @@ returns-in_err-tell_blocks-clause-ends g c =
     let stops = turn_stops (g.R.TraceReader.represents c.next-fed.new.reader) reading
     (length c.loop-segments.feed.buffer.items) limit file (g.S.Source.left c.next-fed.new.input)
     (g.S.Source.found c.next-fed.new.input) c.next-fed.new.self.taken tel.bytes [] new
-    c.next-fed.result (rw (inv.names, inv.limit, inv.empty) at
+    c.next-fed.new.self.last c.next-fed.result (rw (inv.terms, inv.limit, inv.empty) at
     c.next-fed.ensures.ends file tel.bytes tel.fed) in
     let within = rw c.deref.ensures.value at c.in_err-tell_blocks.ensures.stops tree
     (reading false (take limit tel.bytes)).segments (g.O.Sink.written c.args.out.now) tel.told in
     rw (p.1, p.2) (EndsTelling-within reading
-    (λ closed first more. g.met.R.TraceReader.grows (g.R.TraceReader.names c.args.reader.now)
+    (λ closed first more. g.met.R.TraceReader.grows (g.R.TraceReader.terms c.args.reader.now)
     closed first more) (length c.loop-segments.feed.buffer.items) limit tree
     c.args.job.now.input input output tel.bytes new c.in_err-tell_blocks.field-0.0
     c.next-fed.result has inv.room (c.next-fed.ensures.same_opened ∙ inv.opened)
@@ -122,12 +122,12 @@ returns-in_err-fed-clause-ends g c =
     c.from_residual-in_err-fed.ensures.1 in
     let inv = c.loop-segments.invariant in
     let tel = inv.telling in
-    let reading = g.R.TraceReader.reading (g.R.TraceReader.names c.args.reader.now) in
+    let reading = g.R.TraceReader.reading (g.R.TraceReader.terms c.args.reader.now) in
     let limit = c.args.job.now.max_bytes in
-    let tree = pattern_tree (pattern_of c.args.session.now) in
+    let tree = pattern_tree (pattern_of c.args.session) in
     let new = c.next-fed.new.segments.items in
     let file = g.S.Source.file c.args.input.now in
-    let has = rw (inv.names, inv.limit, inv.empty) at
+    let has = rw (inv.terms, inv.limit, inv.empty) at
     c.next-fed.ensures.read file tel.bytes tel.fed in
     let input = input_told g.S.Source.file_name g.S.Source.file g.S.Source.sound
     g.S.Source.opened g.S.Source.left g.S.Source.found g.S.Source.faults c.args.input.now
@@ -136,10 +136,10 @@ returns-in_err-fed-clause-ends g c =
     c.tell_blocks.new.out in
     let told = rw c.deref.ensures.value at c.in_ok-tell_blocks.ensures.told tree
     (reading false (take limit tel.bytes)).segments (g.O.Sink.written c.args.out.now) tel.told in
-    let stops = rw (inv.names, inv.limit, inv.empty) at
+    let stops = rw (inv.terms, inv.limit, inv.empty) at
     c.in_err-fed.ensures.ends file tel.bytes tel.fed in
     rw (p.1, p.2) (EndsTelling-stopped reading
-    (λ closed first more. g.met.R.TraceReader.grows (g.R.TraceReader.names c.args.reader.now)
+    (λ closed first more. g.met.R.TraceReader.grows (g.R.TraceReader.terms c.args.reader.now)
     closed first more) (length c.loop-segments.feed.buffer.items) limit
     tree c.args.job.now.input input output tel.bytes new c.in_err-fed.field-0.0 has inv.room
     (c.next-fed.ensures.same_opened ∙ inv.opened)
@@ -147,8 +147,8 @@ returns-in_err-fed-clause-ends g c =
     c.in_err-fed.ensures.cause)
     (λ good is. c.in_err-fed.ensures.sound (rw inv.sound good) (ap Err is))
     stops
-    (subst (λ names. (g.R.TraceReader.reading names false (take limit tel.bytes)).fault ≡ None)
-    inv.names (g.met.R.TraceReader.faultless c.loop-segments.reader (take limit tel.bytes)
+    (subst (λ terms. (g.R.TraceReader.reading terms false (take limit tel.bytes)).fault ≡ None)
+    inv.terms (g.met.R.TraceReader.faultless c.loop-segments.reader (take limit tel.bytes)
     tel.fed.fed))
     (c.in_ok-tell_blocks.ensures.cause ∙ inv.good) (HasTold-written told))
 
@@ -163,16 +163,16 @@ pub loop-segments-preserved : goal.loop-segments-preserved
 loop-segments-preserved g c =
     let inv = c.loop-segments.invariant in
     let tel = inv.telling in
-    let reading = g.R.TraceReader.reading (g.R.TraceReader.names c.args.reader.now) in
+    let reading = g.R.TraceReader.reading (g.R.TraceReader.terms c.args.reader.now) in
     let limit = c.args.job.now.max_bytes in
-    let tree = pattern_tree (pattern_of c.args.session.now) in
+    let tree = pattern_tree (pattern_of c.args.session) in
     let new = c.next-fed.new.segments.items in
     let file = g.S.Source.file c.args.input.now in
-    let has = rw (inv.names, inv.limit, inv.empty) at
+    let has = rw (inv.terms, inv.limit, inv.empty) at
     c.next-fed.ensures.read file tel.bytes tel.fed in
     let told = rw c.deref.ensures.value at c.in_ok-tell_blocks.ensures.told tree
     (reading false (take limit tel.bytes)).segments (g.O.Sink.written c.args.out.now) tel.told in
-    let more = rw (inv.names, inv.limit, inv.empty, c.if-not-branch.false) at
+    let more = rw (inv.terms, inv.limit, inv.empty, c.if-not-branch.false) at
     c.in_ok-fed.ensures.ends file tel.bytes tel.fed in
     record {
       telling = rw c.next-fed.ensures.length
@@ -181,7 +181,7 @@ loop-segments-preserved g c =
           c.next-fed.new.self.taken c.tell_blocks.new.session tree tel.bytes new
           (g.O.Sink.written c.args.out.now) (g.O.Sink.written c.tell_blocks.new.out) more told);
       empty = c.clear.ensures.items;
-      names = c.next-fed.ensures.names ∙ inv.names;
+      terms = c.next-fed.ensures.terms ∙ inv.terms;
       opened = c.next-fed.ensures.same_opened ∙ inv.opened;
       sound = c.next-fed.ensures.same_sound ∙ inv.sound;
       no_fault = c.in_ok-fed.ensures.cause ∙ inv.no_fault;
@@ -196,12 +196,12 @@ returns-in_err-tell_end-clause-ends g c =
     c.from_residual-in_err-tell_end.ensures.1 in
     let inv = c.loop-segments.invariant in
     let tel = inv.telling in
-    let reading = g.R.TraceReader.reading (g.R.TraceReader.names c.args.reader.now) in
+    let reading = g.R.TraceReader.reading (g.R.TraceReader.terms c.args.reader.now) in
     let limit = c.args.job.now.max_bytes in
-    let tree = pattern_tree (pattern_of c.args.session.now) in
+    let tree = pattern_tree (pattern_of c.args.session) in
     let new = c.next-fed.new.segments.items in
     let file = g.S.Source.file c.args.input.now in
-    let has = rw (inv.names, inv.limit, inv.empty) at
+    let has = rw (inv.terms, inv.limit, inv.empty) at
     c.next-fed.ensures.read file tel.bytes tel.fed in
     let input = input_told g.S.Source.file_name g.S.Source.file g.S.Source.sound
     g.S.Source.opened g.S.Source.left g.S.Source.found g.S.Source.faults c.args.input.now
@@ -209,22 +209,23 @@ returns-in_err-tell_end-clause-ends g c =
     let output = output_told g.O.Sink.written g.O.Sink.faults c.args.out.now c.tell_end.new.out in
     let told = rw c.deref.ensures.value at c.in_ok-tell_blocks.ensures.told tree
     (reading false (take limit tel.bytes)).segments (g.O.Sink.written c.args.out.now) tel.told in
-    let ended = rw (inv.names, inv.limit, inv.empty, c.if-not-branch.true) at
+    let ended = rw (inv.terms, inv.limit, inv.empty, c.if-not-branch.true) at
     c.in_ok-fed.ensures.ends file tel.bytes tel.fed in
-    let trace = g.met.R.TraceReader.is_trace (g.R.TraceReader.names c.args.reader.now) true
+    let trace = g.met.R.TraceReader.is_trace (g.R.TraceReader.terms c.args.reader.now) true
     tel.bytes in
     rw (p.1, p.2) (EndsTelling-cut reading
-    (λ closed first more. g.met.R.TraceReader.grows (g.R.TraceReader.names c.args.reader.now)
+    (λ closed first more. g.met.R.TraceReader.grows (g.R.TraceReader.terms c.args.reader.now)
     closed first more) (length c.loop-segments.feed.buffer.items) limit tree
-    c.args.job.now.input input output tel.bytes new (g.O.Sink.written c.tell_blocks.new.out)
-    c.at.result c.in_err-tell_end.field-0.0 has inv.room
+    c.args.job.now.input input output tel.bytes new c.next-fed.new.self.last
+    c.in_err-tell_end.field-0.0 has inv.room
     (c.next-fed.ensures.same_opened ∙ inv.opened) ended trace
-    (c.in_ok-fed.ensures.cause ∙ inv.no_fault) (HasTold-written told)
-    (c.at.ensures ∙ told.stands.at)
+    (c.in_ok-fed.ensures.cause ∙ inv.no_fault)
     (HasWriteCause-from {T = Unit {0}} _ _ output.faults_now (Err c.in_err-tell_end.field-0.0)
     (c.in_ok-tell_blocks.ensures.cause ∙ inv.good)
     c.in_err-tell_end.ensures.cause)
-    c.in_err-tell_end.ensures.stops)
+    (rw c.last.ensures at c.in_err-tell_end.ensures.stops tree
+    ((reading false (take limit tel.bytes)).segments ++ new) (g.O.Sink.written c.args.out.now)
+    told))
 
 pub returns-in_err-tell_end-clause-bounded : goal.returns-in_err-tell_end-clause-bounded
 returns-in_err-tell_end-clause-bounded g c =
@@ -237,12 +238,12 @@ pub returns-clause-ends : goal.returns-clause-ends
 returns-clause-ends g c =
     let inv = c.loop-segments.invariant in
     let tel = inv.telling in
-    let reading = g.R.TraceReader.reading (g.R.TraceReader.names c.args.reader.now) in
+    let reading = g.R.TraceReader.reading (g.R.TraceReader.terms c.args.reader.now) in
     let limit = c.args.job.now.max_bytes in
-    let tree = pattern_tree (pattern_of c.args.session.now) in
+    let tree = pattern_tree (pattern_of c.args.session) in
     let new = c.next-fed.new.segments.items in
     let file = g.S.Source.file c.args.input.now in
-    let has = rw (inv.names, inv.limit, inv.empty) at
+    let has = rw (inv.terms, inv.limit, inv.empty) at
     c.next-fed.ensures.read file tel.bytes tel.fed in
     let input = input_told g.S.Source.file_name g.S.Source.file g.S.Source.sound
     g.S.Source.opened g.S.Source.left g.S.Source.found g.S.Source.faults c.args.input.now
@@ -250,16 +251,18 @@ returns-clause-ends g c =
     let output = output_told g.O.Sink.written g.O.Sink.faults c.args.out.now c.tell_end.new.out in
     let told = rw c.deref.ensures.value at c.in_ok-tell_blocks.ensures.told tree
     (reading false (take limit tel.bytes)).segments (g.O.Sink.written c.args.out.now) tel.told in
-    let ended = rw (inv.names, inv.limit, inv.empty, c.if-not-branch.true) at
+    let ended = rw (inv.terms, inv.limit, inv.empty, c.if-not-branch.true) at
     c.in_ok-fed.ensures.ends file tel.bytes tel.fed in
-    let trace = g.met.R.TraceReader.is_trace (g.R.TraceReader.names c.args.reader.now) true
+    let trace = g.met.R.TraceReader.is_trace (g.R.TraceReader.terms c.args.reader.now) true
     tel.bytes in
     EndsTelling-done reading limit tree
-    c.args.job.now.input input output tel.bytes new (g.O.Sink.written c.tell_blocks.new.out)
-    c.at.result (c.next-fed.ensures.same_opened ∙ inv.opened) ended trace
+    c.args.job.now.input input output tel.bytes new c.next-fed.new.self.last
+    (c.next-fed.ensures.same_opened ∙ inv.opened) ended trace
     (c.in_ok-fed.ensures.cause ∙ inv.no_fault)
     (c.in_ok-tell_end.ensures.cause ∙ (c.in_ok-tell_blocks.ensures.cause ∙ inv.good))
-    (HasTold-written told) (c.at.ensures ∙ told.stands.at) c.in_ok-tell_end.ensures.all
+    (rw c.last.ensures at c.in_ok-tell_end.ensures.told tree
+    ((reading false (take limit tel.bytes)).segments ++ new) (g.O.Sink.written c.args.out.now)
+    told)
 
 pub returns-clause-bounded : goal.returns-clause-bounded
 returns-clause-bounded g c =

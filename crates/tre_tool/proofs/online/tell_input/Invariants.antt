@@ -14,12 +14,12 @@ invariant-loop-segments g l =
     let sink = g.O.Sink in
     record {
       telling : IsTelling (reader.represents l.reader) (reader.reading
-          (reader.names l.fn.reader)) (length l.feed.buffer.items) l.job.max_bytes
+          (reader.terms l.fn.reader)) (length l.feed.buffer.items) l.job.max_bytes
           (source.file l.fn.input) (source.left l.input) (source.found l.input) l.feed.taken
           l.session
           (pattern_tree (pattern_of l.fn.session)) (sink.written l.fn.out) (sink.written l.out);
       empty : l.segments.items ≡ [];
-      names : reader.names l.reader ≡ reader.names l.fn.reader;
+      terms : reader.terms l.reader ≡ reader.terms l.fn.reader;
       opened : source.opened l.input ≡ true;
       sound : source.sound l.input ≡ source.sound l.fn.input;
       no_fault : source.faults l.input ≡ source.faults l.fn.input;

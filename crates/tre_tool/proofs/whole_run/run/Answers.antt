@@ -1,11 +1,13 @@
+use Rattle.std.proofs.Common.{map, string_bytes}
 use Rattle.tre_tool.specs.Job.{made_job}
 use Rattle.tre_tool.proofs.MadeRuns.{EndsMadeRun-ends, gives_one}
-use Rattle.tre_tool.proofs.Promise.{IsComplete-ends, IsLineTold-of}
+use Rattle.tre_tool.proofs.Promise.{job_unique, IsComplete-ends, IsLineTold-of}
 use Rattle.tre_tool.proofs.whole_run.run.Goals as goal
 
 pub returns-clause-complete : goal.returns-clause-complete
 returns-clause-complete g c = rw c.ending-status.ensures
-    (IsComplete-ends _ _ _ _ c.run_words.ensures.ends)
+    (IsComplete-ends _ (job_unique (map string_bytes c.args.words.now)) _ _ _
+    c.run_words.ensures.ends)
 
 pub returns-clause-error_part : goal.returns-clause-error_part
 returns-clause-error_part g c = IsLineTold-of _ _ c.tell_status.result

@@ -31,7 +31,7 @@ pub returns-in_err-answer-clause-untouched : goal.returns-in_err-answer-clause-u
 returns-in_err-answer-clause-untouched g c =
     let asks = AsksFor-of _ c.in_ok-job.job _ _ c.in_ok-job.ensures.ok
     c.in_ok-pattern.ensures.spells in
-    λ nothing. absurd (nothing_asked _ _ asks nothing)
+    λ nothing. absurd (nothing_asked _ (job_unique (map string_bytes c.args.words.now)) _ asks nothing)
 
 pub returns-clause-ends : goal.returns-clause-ends
 returns-clause-ends g c =
@@ -43,7 +43,7 @@ pub returns-clause-untouched : goal.returns-clause-untouched
 returns-clause-untouched g c =
     let asks = AsksFor-of _ c.in_ok-job.job _ _ c.in_ok-job.ensures.ok
     c.in_ok-pattern.ensures.spells in
-    λ nothing. absurd (nothing_asked _ _ asks nothing)
+    λ nothing. absurd (nothing_asked _ (job_unique (map string_bytes c.args.words.now)) _ asks nothing)
 
 pub returns-in_err-answer-clause-by_name : goal.returns-in_err-answer-clause-by_name
 returns-in_err-answer-clause-by_name g c = λ job gives opened.

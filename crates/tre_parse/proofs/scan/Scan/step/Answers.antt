@@ -62,19 +62,19 @@ returns-in_ok-put_name-in-Name-clause-ok c =
       within = omega (arith, c.in-Name.ensures.fits, whole, size);
     })
 
-pub returns-in_ok-put-in-Sign-clause-ok : goal.returns-in_ok-put-in-Sign-clause-ok
-returns-in_ok-put-in-Sign-clause-ok c =
+pub returns-in_ok-put_sign-in-Sign-clause-ok : goal.returns-in_ok-put_sign-in-Sign-clause-ok
+returns-in_ok-put_sign-in-Sign-clause-ok c =
     let bytes = c.as_bytes.result.now in let at = c.args.at in let len = c.in-Sign.len in
     let same = c.as_bytes.ensures.value in
     let whole = ap length (take_rest bytes at) in
     let size = length-drop at bytes in
-    let P = λ (bs : List ℕ). GoesOn bs c.args.self.now at c.put.new.self (at + len) in
+    let P = λ (bs : List ℕ). GoesOn bs c.args.self.now at c.put_sign.new.self (at + len) in
     let e = rest_sign bytes at len c.in-Sign.token (omega (arith, c.requires, ap length same))
     (omega (arith, c.in-Sign.ensures.fits)) (omega (arith, c.in-Sign.ensures.fits, whole))
     (ap lexeme_of (sym (take_rest bytes at)) ∙ sym c.in-Sign.ensures.value) in
     subst P same (record {
-      leads = leads_word bytes c.args.self.now c.put.new.self at (at + len)
-          (sign c.in-Sign.token) c.in_ok-put-in-Sign.ensures e;
+      leads = leads_word bytes c.args.self.now c.put_sign.new.self at (at + len)
+          (sign c.in-Sign.token) c.in_ok-put_sign-in-Sign.ensures e;
       further = omega (arith, c.in-Sign.ensures.fits);
       within = omega (arith, c.in-Sign.ensures.fits, whole, size);
     })

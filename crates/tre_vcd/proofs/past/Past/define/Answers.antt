@@ -1,22 +1,13 @@
-use Rattle.std.proofs.Common.{◌∷◌, refl, ◌∙◌}
+use Rattle.std.proofs.Common.{true, refl}
 use Rattle.tre_vcd.specs.VcdReading.{definitions}
-use Rattle.tre_vcd.proofs.Knowing.{known-same, values-same}
+use Rattle.tre_vcd.proofs.Pasts.{knows-later}
 use Rattle.tre_vcd.proofs.past.Past.define.Goals as goal
 
 pub returns : goal.returns
-returns c = λ names past known. record {
-  defined = refl;
-  dump = known.dump;
-  time = known.time;
-  scopes = known.scopes;
-  signals = known-same past (definitions ∷ past) names c.args.self.now.signals.items (record {
-    identifiers = λ name. refl;
-    values = λ identifier. refl;
-  }) known.signals;
-  sieve = known.sieve;
-  values = known.values ∙ values-same past (definitions ∷ past) names 0 (record {
-    identifiers = λ name. refl;
-    values = λ identifier. refl;
-  });
-  quiet = λ e. cc;
-}
+returns c = λ names event_names past known.
+    knows-later names event_names c.args.self.now past definitions true c.args.self.now.in_dump
+    c.args.self.now.scopes refl known.dump refl (record {
+      identifiers = λ test name. refl;
+      values = λ identifier. refl;
+      events = λ identifier. refl;
+    }) (λ e. absurd (cc (e))) known.scopes known

@@ -1,22 +1,13 @@
-use Rattle.std.proofs.Common.{◌∷◌, refl, ◌∙◌}
-use Rattle.tre_vcd.specs.VcdReading.{upscope}
-use Rattle.tre_vcd.proofs.Knowing.{known-same, values-same}
+use Rattle.std.proofs.Common.{refl}
+use Rattle.tre_vcd.specs.VcdReading.{upscope, scopes_at}
+use Rattle.tre_vcd.proofs.Pasts.{knows-later}
 use Rattle.tre_vcd.proofs.past.Past.leave.Goals as goal
 
 pub returns : goal.returns
-returns c = λ names past known. record {
-  defined = known.defined;
-  dump = known.dump;
-  time = known.time;
-  scopes = c.leave.ensures _ known.scopes;
-  signals = known-same past (upscope ∷ past) names c.args.self.now.signals.items (record {
-    identifiers = λ name. refl;
-    values = λ identifier. refl;
-  }) known.signals;
-  sieve = known.sieve;
-  values = known.values ∙ values-same past (upscope ∷ past) names 0 (record {
-    identifiers = λ name. refl;
-    values = λ identifier. refl;
-  });
-  quiet = known.quiet;
-}
+returns c = λ names event_names past known.
+    knows-later names event_names c.args.self.now past upscope c.args.self.now.is_defined
+    c.args.self.now.in_dump c.leave.new.self known.defined known.dump refl (record {
+      identifiers = λ test name. refl;
+      values = λ identifier. refl;
+      events = λ identifier. refl;
+    }) (λ e. e) (c.leave.ensures (scopes_at past) known.scopes) known

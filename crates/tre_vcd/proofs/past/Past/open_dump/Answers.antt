@@ -1,22 +1,13 @@
-use Rattle.std.proofs.Common.{◌∷◌, refl, ◌∙◌}
+use Rattle.std.proofs.Common.{refl}
 use Rattle.tre_vcd.specs.VcdReading.{dump}
-use Rattle.tre_vcd.proofs.Knowing.{known-same, values-same}
+use Rattle.tre_vcd.proofs.Pasts.{knows-later}
 use Rattle.tre_vcd.proofs.past.Past.open_dump.Goals as goal
 
 pub returns : goal.returns
-returns c = λ names past known. record {
-  defined = known.defined;
-  dump = refl;
-  time = known.time;
-  scopes = known.scopes;
-  signals = known-same past (dump ∷ past) names c.args.self.now.signals.items (record {
-    identifiers = λ name. refl;
-    values = λ identifier. refl;
-  }) known.signals;
-  sieve = known.sieve;
-  values = known.values ∙ values-same past (dump ∷ past) names 0 (record {
-    identifiers = λ name. refl;
-    values = λ identifier. refl;
-  });
-  quiet = known.quiet;
-}
+returns c = λ names event_names past known.
+    knows-later names event_names c.args.self.now past dump c.args.self.now.is_defined _ c.args.self.now.scopes
+    known.defined refl refl (record {
+      identifiers = λ test name. refl;
+      values = λ identifier. refl;
+      events = λ identifier. refl;
+    }) (λ e. e) known.scopes known

@@ -1,22 +1,10 @@
-use Rattle.std.proofs.Common.{◌∷◌, refl, ◌∙◌}
-use Rattle.tre_vcd.specs.VcdReading.{time}
-use Rattle.tre_vcd.proofs.Knowing.{known-same, values-same}
+use Rattle.tre_vcd.proofs.Pasts.{knows-time, knows-same_time}
 use Rattle.tre_vcd.proofs.past.Past.reach.Goals as goal
 
-pub returns : goal.returns
-returns c = λ names past known. record {
-  defined = known.defined;
-  dump = known.dump;
-  time = refl;
-  scopes = known.scopes;
-  signals = known-same past (time c.args.ticks ∷ past) names c.args.self.now.signals.items (record {
-    identifiers = λ name. refl;
-    values = λ identifier. refl;
-  }) known.signals;
-  sieve = known.sieve;
-  values = known.values ∙ values-same past (time c.args.ticks ∷ past) names 0 (record {
-    identifiers = λ name. refl;
-    values = λ identifier. refl;
-  });
-  quiet = known.quiet;
-}
+pub returns-then-ticks-self : goal.returns-then-ticks-self
+returns-then-ticks-self c = λ names event_names past known.
+    knows-time names event_names c.args.self.now past c.args.ticks c.if-ticks-self.true known
+
+pub returns-else-ticks-self : goal.returns-else-ticks-self
+returns-else-ticks-self c = λ names event_names past known.
+    knows-same_time names event_names c.args.self.now past c.args.ticks c.if-ticks-self.false known

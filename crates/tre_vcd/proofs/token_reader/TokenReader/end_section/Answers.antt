@@ -1,7 +1,8 @@
-use Rattle.std.proofs.Common.{sym, ◌∙◌, subst}
+use Rattle.std.proofs.Common.{◌∷◌, sym, ◌∙◌, subst}
 use Rattle.tre_parts.specs.Walk.{Tells}
 use Rattle.tre_vcd.specs.Sections.{Holds}
-use Rattle.tre_vcd.specs.declared.command.Command.TheVariants.{Scope, Var}
+use Rattle.tre_vcd.specs.VcdReading.{upscope, definitions, nothing}
+use Rattle.tre_vcd.specs.declared.command.Command.TheVariants.{Scope, Upscope, Var, EndDefinitions}
 use Rattle.tre_vcd.proofs.Tokens.{section-ended}
 use Rattle.tre_vcd.proofs.token_reader.TokenReader.end_section.Goals as goal
 
@@ -16,3 +17,19 @@ returns-in-Var-clause-tells c = λ past word tokens holds is.
     subst (λ said. Tells said (Holds c.end_declaration.new.self) c.end_declaration.result)
     (sym (section-ended past word tokens Var (sym c.in-Var.is ∙ is)))
     (c.end_declaration.ensures.tells past word tokens holds)
+
+pub returns-in-Upscope-clause-tells : goal.returns-in-Upscope-clause-tells
+returns-in-Upscope-clause-tells c = λ past word tokens holds is. record {
+  state = record { past = upscope ∷ past; inside = nothing };
+  says = section-ended past word tokens Upscope (sym c.in-Upscope.is ∙ is);
+  is_held = c.close.ensures.holds (upscope ∷ past)
+      (c.leave.ensures c.args.self.now.names c.args.self.now.events past holds.past);
+}
+
+pub returns-in-EndDefinitions-clause-tells : goal.returns-in-EndDefinitions-clause-tells
+returns-in-EndDefinitions-clause-tells c = λ past word tokens holds is. record {
+  state = record { past = definitions ∷ past; inside = nothing };
+  says = section-ended past word tokens EndDefinitions (sym c.in-EndDefinitions.is ∙ is);
+  is_held = c.close-in-EndDefinitions.ensures.holds (definitions ∷ past)
+      (c.define.ensures c.args.self.now.names c.args.self.now.events past holds.past);
+}

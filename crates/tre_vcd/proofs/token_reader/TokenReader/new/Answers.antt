@@ -3,7 +3,7 @@ use Rattle.tre_vcd.proofs.token_reader.TokenReader.new.Goals as goal
 
 pub returns-clause-begins : goal.returns-clause-begins
 returns-clause-begins c = record {
-  past = c.new.ensures c.args.names;
+  past = c.new.ensures c.args.names c.args.events;
   inside = refl;
   tokens = ap (map _) c.new-2.ensures.items;
   suits = tt;

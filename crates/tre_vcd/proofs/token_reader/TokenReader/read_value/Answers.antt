@@ -1,5 +1,6 @@
 use Rattle.std.proofs.Common.{refl, sym, ◌∙◌}
 use Rattle.tre_vcd.specs.VcdReading.{number}
+use Rattle.tre_vcd.specs.Sections.{asked_of}
 use Rattle.tre_vcd.proofs.Letters.{number-says}
 use Rattle.tre_vcd.proofs.token_reader.TokenReader.read_value.Goals as goal
 
@@ -8,7 +9,7 @@ returns-in-Number-clause-tells c past holds defined =
     record {
       state = record { past = past; inside = number };
       says =
-          number-says c.args.self.now.names past c.args.token.now c.in-Some.first.now
+          number-says (asked_of c.args.self.now) past c.args.token.now c.in-Some.first.now
           c.in-Some.rest.now c.in-Some.ensures.cases.0 (sym c.letter_of.ensures ∙ c.in-Number.is);
       is_held = record { past = holds.past; inside = refl; tokens = holds.tokens; suits = defined };
     }

@@ -1,0 +1,60 @@
+-- What the bytes of an input say for each of the patterns of a request.
+use Rattle.std.specs.Prelude.{◌≡◌, ℕ, ◌≤◌, nat_le, Bool, true, List, [], ◌∷◌, length, take, map, All, None, IfSome}
+use Rattle.std.specs.Io.KnownBytes.{Consumes}
+use Rattle.tre_trace.specs.Reading.{Reading}
+use Rattle.tre_trace.specs.Trace.{Timeline, IsTrace, quiet}
+use Rattle.tre_trace.specs.declared.segment.Segment.{Segment}
+use Rattle.tre_tool.specs.Devices.{InputTold}
+use Rattle.tre_tool.specs.Outcome.{Outcome, reading_in, outcome_of, whole_reading}
+use Rattle.tre_tool.specs.Request.{Request, all_names}
+
+-- The readings of the bytes, closed or not yet: for each pattern that for its names. A dump must
+-- declare those of all patterns.
+abbrev pub readings_of : Request → Bool → List ℕ → List Reading
+readings_of request closed bytes = map (λ pattern.
+    reading_in request.job.format (all_names request.patterns) pattern.names closed bytes)
+    request.patterns
+
+-- Those of an input that has these bytes, of which it may have as many as the job says.
+abbrev pub readings_within : Request → List ℕ → List Reading
+readings_within request bytes =
+    readings_of request (nat_le (length bytes) request.job.max_bytes)
+    (take request.job.max_bytes bytes)
+
+-- All readings of an input are alike: in their first fault, and in how many segments they have, and
+-- of which lengths. So one serves for what they have in common.
+abbrev pub common : List Reading → Reading
+common [] = record { segments = []; last = 0; fault = None }
+common (reading ∷ readings) = reading
+
+-- what the readings of bytes have in common
+abbrev pub reading_for : Request → Bool → List ℕ → Reading
+reading_for request closed bytes = common (readings_of request closed bytes)
+
+-- What the bytes of an input come to for a request.
+abbrev pub outcome_for : Request → List ℕ → Outcome
+outcome_for request bytes = outcome_of (reading_for request) request.job.max_bytes bytes
+
+-- the segments of each reading
+abbrev pub segments_of : List Reading → List (List Segment)
+segments_of readings = map (λ reading. reading.segments) readings
+
+-- the traces of the first segments of each reading, as many as `count`
+abbrev pub fronts : ℕ → List Reading → List Timeline
+fronts count readings = map (λ reading. quiet (take count reading.segments)) readings
+
+-- The bytes are within the limit, and each pattern has its trace of them.
+pub record AreTraces (request : Request) (bytes : List ℕ) (traces : List Timeline) : Type 0 where
+  pub within : length bytes ≤ request.job.max_bytes
+  pub read : readings_of request true bytes ≡ map whole_reading traces
+  pub are_traces : All (λ trace. IsTrace trace.segments) traces
+
+-- The bytes that were read of an input come to this. So do all its bytes, where the source tells
+-- them, and within the limit they say the same segments.
+pub record InputComesTo (request : Request) (input : InputTold) (outcome : Outcome) : Type 0 where
+  pub bytes : List ℕ
+  pub front : Consumes input.file input.left bytes
+  pub comes : outcome_for request bytes ≡ outcome
+  pub whole : IfSome input.file (λ all. outcome_for request all ≡ outcome)
+  pub same : IfSome input.file (λ all. segments_of (readings_within request all)
+      ≡ segments_of (readings_within request bytes))

@@ -1,0 +1,394 @@
+-- What is known of the past, one statement later.
+use Rattle.std.proofs.Common.{◌≡◌, ◌≢◌, ℕ, ◌==◌, ◌||◌, ◌&&◌, not, Bool, true, false, None, Some, List, ◌∷◌, [], length, refl, sym, ap, ◌∙◌, arith, if◌then◌else◌}
+use Rattle.std.specs.Int.{bit_at}
+use Rattle.std.specs.Str.{bytes_eq}
+use Rattle.std.proofs.lemmas.Slice.Eq.{bytes_eq-Decides}
+use Rattle.std.proofs.lemmas.Bool.Decides.{nat_tests}
+use Rattle.tre_vcd.specs.VcdReading.{Form, Statement, var, time, change, scalar, is_defined, time_at, scopes_at, in_dump, value_at, happened_at, is_signal, is_event, identifier_of, first_of, path, valuation_at, events_at}
+use Rattle.tre_vcd.specs.Kept.{Knows, IsQuiet, AreScopes, AreKnown, KeepsNames, AreHaving, Declares, DeclaresNone, and_declared}
+use Rattle.tre_vcd.specs.declared.scopes.Scopes.{Scopes}
+use Rattle.tre_vcd.specs.declared.past.Past.{Past}
+use Rattle.tre_vcd.specs.declared.variables.Variables.{Variables}
+use Rattle.tre_vcd.proofs.Knowing.{keeps-same, first_of-none, false_of}
+use Rattle.tre_vcd.proofs.Valuing.{mask-same, mask-quiet, mask-empty, mask-changed}
+
+-- Looking back from two pasts, the same is found.
+pub record LooksSame (past now : List Statement) : Type 0 where
+  pub identifiers : (test : List ℕ → List ℕ → Bool) (name : List ℕ) → identifier_of test now name
+      ≡ identifier_of test past name
+  pub values : (identifier : List ℕ) → value_at now identifier ≡ value_at past identifier
+  pub events : (identifier : List ℕ) → happened_at now identifier ≡ happened_at past identifier
+
+values-same : (past now : List Statement) (names : List (List ℕ)) → LooksSame past now
+    → valuation_at past names ≡ valuation_at now names
+values-same past now names same =
+    mask-same (identifier_of is_signal past) (identifier_of is_signal now) (value_at past)
+    (value_at now) 0 names (same.identifiers is_signal) same.values
+
+events-same : (past now : List Statement) (names : List (List ℕ)) → LooksSame past now
+    → events_at past names ≡ events_at now names
+events-same past now names same =
+    mask-same (identifier_of is_event past) (identifier_of is_event now) (happened_at past)
+    (happened_at now) 0 names (same.identifiers is_event) same.events
+
+quiet-same : (past now : List Statement) → LooksSame past now → IsQuiet past → IsQuiet now
+quiet-same past now same quiet = record {
+  values = λ identifier. same.values identifier ∙ quiet.values identifier;
+  events = λ identifier. same.events identifier ∙ quiet.events identifier;
+}
+
+-- a statement that says nothing of names and times
+pub knows-later : (names event_names : List (List ℕ)) (kept : Past) (past : List Statement) (statement : Statement)
+    (defined dumps : Bool) (scopes : Scopes) → defined ≡ is_defined (statement ∷ past)
+    → dumps ≡ in_dump (statement ∷ past) → time_at (statement ∷ past) ≡ time_at past
+    → LooksSame past (statement ∷ past)
+    → (is_defined (statement ∷ past) ≡ false → is_defined past ≡ false)
+    → AreScopes (scopes_at (statement ∷ past)) scopes.prefix.items scopes.lens.items
+    → Knows names event_names kept past
+    → Knows names event_names (record kept { is_defined = defined; in_dump = dumps; scopes = scopes })
+    (statement ∷ past)
+knows-later names event_names kept past statement defined dumps scopes is_now dumps_now same_time same before
+    are known = record {
+      defined = is_now;
+      dump = dumps_now;
+      time = known.time ∙ sym same_time;
+      scopes = are;
+      propositions =
+          keeps-same (identifier_of is_signal past) (identifier_of is_signal (statement ∷ past))
+          names kept.propositions (same.identifiers is_signal) known.propositions;
+      events =
+          keeps-same (identifier_of is_event past) (identifier_of is_event (statement ∷ past))
+          event_names kept.events (same.identifiers is_event) known.events;
+      values = known.values ∙ values-same past (statement ∷ past) names same;
+      happened = known.happened ∙ events-same past (statement ∷ past) event_names same;
+      quiet = λ e. quiet-same past (statement ∷ past) same (known.quiet (before e));
+    }
+
+pub knows-begins : (names event_names : List (List ℕ)) (kept : Past) → kept.is_defined ≡ false
+    → kept.in_dump ≡ false → kept.time ≡ 0
+    → AreScopes [] kept.scopes.prefix.items kept.scopes.lens.items
+    → KeepsNames (λ name. None) names kept.propositions
+    → KeepsNames (λ name. None) event_names kept.events → kept.values ≡ 0 → kept.happened ≡ 0
+    → Knows names event_names kept []
+knows-begins names event_names kept defined dumps ticks scopes propositions events values happened = record {
+  defined = defined;
+  dump = dumps;
+  time = ticks;
+  scopes = scopes;
+  propositions =
+      keeps-same (λ name. None) (identifier_of is_signal []) names kept.propositions
+      (λ name. refl) propositions;
+  events =
+      keeps-same (λ name. None) (identifier_of is_event []) event_names kept.events
+      (λ name. refl) events;
+  values =
+      values
+      ∙ sym (mask-quiet (identifier_of is_signal []) (value_at []) 0 names
+      (λ identifier. refl));
+  happened =
+      happened
+      ∙ sym (mask-quiet (identifier_of is_event []) (happened_at []) 0 event_names
+      (λ identifier. refl));
+  quiet = λ e. record { values = λ identifier. refl; events = λ identifier. refl };
+}
+
+-- ---- times
+
+if_false : (same before : Bool) → before ≡ false → (if same then before else false) ≡ false
+if_false true before is = is
+if_false false before is = refl
+
+quiet-time : (past : List Statement) (ticks : ℕ) → IsQuiet past → IsQuiet (time ticks ∷ past)
+quiet-time past ticks quiet = record {
+  values = quiet.values;
+  events = λ identifier.
+      if_false (ticks == time_at past) (happened_at past identifier) (quiet.events identifier);
+}
+
+pub other_time : (ticks before : ℕ) → ticks ≢ before → (ticks == before) ≡ false
+other_time ticks before other = grind (arith, nat_tests)
+
+pub same_time : (ticks before : ℕ) → ticks ≡ before → (ticks == before) ≡ true
+same_time ticks before same = grind (arith, nat_tests)
+
+-- another time
+pub knows-time : (names event_names : List (List ℕ)) (kept : Past) (past : List Statement) (ticks : ℕ)
+    → ticks ≢ kept.time → Knows names event_names kept past
+    → Knows names event_names (record kept { time = ticks; happened = 0 }) (time ticks ∷ past)
+knows-time names event_names kept past ticks other known =
+    let later : (ticks == time_at past) ≡ false =
+    other_time ticks (time_at past) (λ e. other (e ∙ sym known.time)) in
+    record {
+      defined = known.defined;
+      dump = known.dump;
+      time = refl;
+      scopes = known.scopes;
+      propositions =
+          keeps-same (identifier_of is_signal past) (identifier_of is_signal (time ticks ∷ past))
+          names kept.propositions (λ name. refl) known.propositions;
+      events =
+          keeps-same (identifier_of is_event past) (identifier_of is_event (time ticks ∷ past))
+          event_names kept.events (λ name. refl) known.events;
+      values =
+          known.values
+          ∙ mask-same (identifier_of is_signal past) (identifier_of is_signal (time ticks ∷ past))
+          (value_at past) (value_at (time ticks ∷ past)) 0 names (λ name. refl)
+          (λ identifier. refl);
+      happened =
+          sym (mask-quiet (identifier_of is_event (time ticks ∷ past))
+          (happened_at (time ticks ∷ past)) 0 event_names
+          (λ identifier. ap (λ (b : Bool). if b then happened_at past identifier else false) later));
+      quiet = λ e. quiet-time past ticks (known.quiet e);
+    }
+
+-- the same time again
+pub knows-same_time : (names event_names : List (List ℕ)) (kept : Past) (past : List Statement) (ticks : ℕ)
+    → ticks ≡ kept.time → Knows names event_names kept past → Knows names event_names kept (time ticks ∷ past)
+knows-same_time names event_names kept past ticks is known =
+    let again : (ticks == time_at past) ≡ true =
+    same_time ticks (time_at past) (is ∙ known.time) in
+    let same : LooksSame past (time ticks ∷ past) = record {
+      identifiers = λ test name. refl;
+      values = λ identifier. refl;
+      events = λ identifier.
+          ap (λ (b : Bool). if b then happened_at past identifier else false) again;
+    } in
+    record {
+      defined = known.defined;
+      dump = known.dump;
+      time = sym is;
+      scopes = known.scopes;
+      propositions =
+          keeps-same (identifier_of is_signal past) (identifier_of is_signal (time ticks ∷ past))
+          names kept.propositions (same.identifiers is_signal) known.propositions;
+      events =
+          keeps-same (identifier_of is_event past) (identifier_of is_event (time ticks ∷ past))
+          event_names kept.events (same.identifiers is_event) known.events;
+      values = known.values ∙ values-same past (time ticks ∷ past) names same;
+      happened = known.happened ∙ events-same past (time ticks ∷ past) event_names same;
+      quiet = λ e. quiet-same past (time ticks ∷ past) same (known.quiet e);
+    }
+
+-- ---- changes
+
+value-own : (past : List Statement) (form : Form) (identifier : List ℕ) (value : Bool)
+    → value_at (change form identifier value ∷ past) identifier ≡ value
+value-own past form identifier value =
+    ap (λ (b : Bool). if b then value else value_at past identifier)
+    ((bytes_eq-Decides identifier identifier).1 refl)
+
+value-others : (past : List Statement) (form : Form) (identifier : List ℕ) (value : Bool)
+    (other : List ℕ) → other ≢ identifier
+    → value_at (change form identifier value ∷ past) other ≡ value_at past other
+value-others past form identifier value other apart =
+    ap (λ (b : Bool). if b then value else value_at past other)
+    (false_of (bytes_eq other identifier)
+    (λ same. apart ((bytes_eq-Decides other identifier).0 same)))
+
+-- what is known of a change but for the events
+pub knows-change : (names event_names : List (List ℕ)) (kept : Past) (past : List Statement) (form : Form)
+    (identifier : List ℕ) (value : Bool) (values happened bits : ℕ) → is_defined past ≡ true
+    → AreHaving kept.propositions.list.items identifier bits
+    → ((k : ℕ) → bit_at bits k ≡ 1 → bit_at values k ≡ (if value then 1 else 0))
+    → ((k : ℕ) → bit_at bits k ≢ 1 → bit_at values k ≡ bit_at kept.values k)
+    → happened ≡ events_at (change form identifier value ∷ past) event_names
+    → Knows names event_names kept past
+    → Knows names event_names (record kept { values = values; happened = happened })
+    (change form identifier value ∷ past)
+knows-change names event_names kept past form identifier value values happened bits defined having changed
+    stays events known =
+    let now : List Statement = change form identifier value ∷ past in
+    record {
+      defined = known.defined;
+      dump = known.dump;
+      time = known.time;
+      scopes = known.scopes;
+      propositions =
+          keeps-same (identifier_of is_signal past) (identifier_of is_signal now) names
+          kept.propositions (λ name. refl) known.propositions;
+      events =
+          keeps-same (identifier_of is_event past) (identifier_of is_event now) event_names
+          kept.events (λ name. refl) known.events;
+      values =
+          mask-changed (identifier_of is_signal past) (value_at past) (value_at now) identifier
+          value (value-own past form identifier value) (value-others past form identifier value)
+          names kept.propositions.list.items kept.values values bits
+          known.propositions.known known.values having changed stays
+          ∙ mask-same (identifier_of is_signal past) (identifier_of is_signal now) (value_at now)
+          (value_at now) 0 names (λ name. refl) (λ other. refl);
+      happened = events;
+      quiet = λ e.
+          let wrong : true ≡ false = sym defined ∙ e in
+          absurd (cc (wrong));
+    }
+
+-- the events stay where a change says none
+pub events-stay : (names event_names : List (List ℕ)) (kept : Past) (past : List Statement) (form : Form)
+    (identifier : List ℕ) (value : Bool)
+    → ((other : List ℕ) → happened_at (change form identifier value ∷ past) other
+    ≡ happened_at past other)
+    → Knows names event_names kept past
+    → kept.happened ≡ events_at (change form identifier value ∷ past) event_names
+events-stay names event_names kept past form identifier value same known =
+    known.happened
+    ∙ mask-same (identifier_of is_event past)
+    (identifier_of is_event (change form identifier value ∷ past)) (happened_at past)
+    (happened_at (change form identifier value ∷ past)) 0 event_names (λ name. refl) same
+
+said-inside : (past : List Statement) (identifier : List ℕ) (value : Bool) → in_dump past ≡ true
+    → (other : List ℕ) → happened_at (change scalar identifier value ∷ past) other
+    ≡ happened_at past other
+said-inside past identifier value inside other =
+    ap (λ (b : Bool). (not b && bytes_eq other identifier) || happened_at past other) inside
+
+said-own : (past : List Statement) (identifier : List ℕ) (value : Bool) → in_dump past ≡ false
+    → happened_at (change scalar identifier value ∷ past) identifier ≡ true
+said-own past identifier value outside =
+    ap (λ (b : Bool). (not b && bytes_eq identifier identifier) || happened_at past identifier)
+    outside
+    ∙ ap (λ (b : Bool). b || happened_at past identifier)
+    ((bytes_eq-Decides identifier identifier).1 refl)
+
+said-others : (past : List Statement) (identifier : List ℕ) (value : Bool)
+    → in_dump past ≡ false → (other : List ℕ) → other ≢ identifier
+    → happened_at (change scalar identifier value ∷ past) other ≡ happened_at past other
+said-others past identifier value outside other apart =
+    ap (λ (b : Bool). (not b && bytes_eq other identifier) || happened_at past other) outside
+    ∙ ap (λ (b : Bool). b || happened_at past other)
+    (false_of (bytes_eq other identifier)
+    (λ same. apart ((bytes_eq-Decides other identifier).0 same)))
+
+-- in a dump section
+pub events-inside : (names event_names : List (List ℕ)) (kept : Past) (past : List Statement)
+    (identifier : List ℕ) (value : Bool) → in_dump past ≡ true → Knows names event_names kept past
+    → kept.happened ≡ events_at (change scalar identifier value ∷ past) event_names
+events-inside names event_names kept past identifier value inside known =
+    events-stay names event_names kept past scalar identifier value
+    (said-inside past identifier value inside) known
+
+pub no_items : {X : Type 0} (items : List X) → (length items == 0) ≡ true → items ≡ []
+no_items [] is = refl
+no_items (item ∷ items) is = absurd (grind (arith, nat_tests))
+
+-- where no event is declared
+pub events-none : (names event_names : List (List ℕ)) (kept : Past) (past : List Statement)
+    (identifier : List ℕ) (value : Bool) → kept.events.list.items ≡ [] → Knows names event_names kept past
+    → kept.happened ≡ events_at (change scalar identifier value ∷ past) event_names
+events-none names event_names kept past identifier value empty known =
+    let now : List Statement = change scalar identifier value ∷ past in
+    let none : AreKnown (identifier_of is_event past) event_names [] =
+    rw (← empty) known.events.known in
+    known.happened
+    ∙ mask-empty (identifier_of is_event past) (happened_at past) 0 event_names none
+    ∙ sym (mask-empty (identifier_of is_event past) (happened_at now) 0 event_names none)
+    ∙ mask-same (identifier_of is_event past) (identifier_of is_event now) (happened_at now)
+    (happened_at now) 0 event_names (λ name. refl) (λ other. refl)
+
+-- where a scalar change says no event now
+pub events-unread : (names event_names : List (List ℕ)) (kept : Past) (past : List Statement)
+    (identifier : List ℕ) (value inside none : Bool) → kept.in_dump ≡ inside
+    → (length kept.events.list.items == 0) ≡ none → (not inside && not none) ≡ false
+    → Knows names event_names kept past
+    → kept.happened ≡ events_at (change scalar identifier value ∷ past) event_names
+events-unread names event_names kept past identifier value true none is e unread known =
+    events-inside names event_names kept past identifier value (sym known.dump ∙ is) known
+events-unread names event_names kept past identifier value false true is e unread known =
+    events-none names event_names kept past identifier value
+    (no_items kept.events.list.items e) known
+events-unread names event_names kept past identifier value false false is e unread known =
+    absurd (cc (unread))
+
+outside-of : (inside none : Bool) → (not inside && not none) ≡ true → inside ≡ false
+outside-of true none is = cc (is)
+outside-of false none is = refl
+
+pub outside-read : (kept : Past)
+    → (not kept.in_dump && not (length kept.events.list.items == 0)) ≡ true
+    → kept.in_dump ≡ false
+outside-read kept is = outside-of kept.in_dump (length kept.events.list.items == 0) is
+
+-- outside a dump section
+pub events-said : (names event_names : List (List ℕ)) (kept : Past) (past : List Statement)
+    (identifier : List ℕ) (value : Bool) (happened bits : ℕ) → in_dump past ≡ false
+    → AreHaving kept.events.list.items identifier bits
+    → ((k : ℕ) → bit_at bits k ≡ 1 → bit_at happened k ≡ 1)
+    → ((k : ℕ) → bit_at bits k ≢ 1 → bit_at happened k ≡ bit_at kept.happened k)
+    → Knows names event_names kept past
+    → happened ≡ events_at (change scalar identifier value ∷ past) event_names
+events-said names event_names kept past identifier value happened bits outside having changed stays known =
+    let now : List Statement = change scalar identifier value ∷ past in
+    mask-changed (identifier_of is_event past) (happened_at past) (happened_at now) identifier true
+    (said-own past identifier value outside) (said-others past identifier value outside)
+    event_names kept.events.list.items kept.happened happened bits known.events.known
+    known.happened having changed stays
+    ∙ mask-same (identifier_of is_event past) (identifier_of is_event now) (happened_at now)
+    (happened_at now) 0 event_names (λ name. refl) (λ other. refl)
+
+-- ---- declarations
+
+pub keeps-declared : (test : List ℕ → List ℕ → Bool) (past : List Statement)
+    (tokens names : List (List ℕ)) (identifier reference bytes : List ℕ) (kept : Variables)
+    → Declares test (scopes_at past) tokens identifier reference
+    → bytes ≡ path (scopes_at past) reference
+    → KeepsNames (and_declared (identifier_of test past) bytes identifier) names kept
+    → KeepsNames (identifier_of test (var tokens ∷ past)) names kept
+keeps-declared test past tokens names identifier reference bytes kept declares is keeps =
+    keeps-same (and_declared (identifier_of test past) bytes identifier)
+    (identifier_of test (var tokens ∷ past)) names kept
+    (λ name. ap (first_of (identifier_of test past name))
+    (declares.is name
+    ∙ ap (λ text. if bytes_eq name text then Some identifier else None) (sym is)))
+    keeps
+
+pub keeps-undeclared : (test : List ℕ → List ℕ → Bool) (past : List Statement)
+    (tokens names : List (List ℕ)) (kept : Variables) → DeclaresNone test (scopes_at past) tokens
+    → KeepsNames (identifier_of test past) names kept
+    → KeepsNames (identifier_of test (var tokens ∷ past)) names kept
+keeps-undeclared test past tokens names kept none keeps =
+    keeps-same (identifier_of test past) (identifier_of test (var tokens ∷ past)) names kept
+    (λ name. ap (first_of (identifier_of test past name)) (none.is name)
+    ∙ first_of-none (identifier_of test past name)) keeps
+
+-- a declaration changes no value
+pub knows-declared : (names event_names : List (List ℕ)) (kept : Past) (past : List Statement)
+    (tokens : List (List ℕ)) (propositions events : Variables) → is_defined past ≡ false
+    → KeepsNames (identifier_of is_signal (var tokens ∷ past)) names propositions
+    → KeepsNames (identifier_of is_event (var tokens ∷ past)) event_names events
+    → Knows names event_names kept past
+    → Knows names event_names (record kept { propositions = propositions; events = events })
+    (var tokens ∷ past)
+knows-declared names event_names kept past tokens propositions events before signals said known =
+    let quiet = known.quiet before in
+    let now : List Statement = var tokens ∷ past in
+    record {
+      defined = known.defined;
+      dump = known.dump;
+      time = known.time;
+      scopes = known.scopes;
+      propositions = signals;
+      events = said;
+      values =
+          known.values
+          ∙ mask-quiet (identifier_of is_signal past) (value_at past) 0 names quiet.values
+          ∙ sym (mask-quiet (identifier_of is_signal now) (value_at now) 0 names
+          quiet.values);
+      happened =
+          known.happened
+          ∙ mask-quiet (identifier_of is_event past) (happened_at past) 0 event_names
+          quiet.events
+          ∙ sym (mask-quiet (identifier_of is_event now) (happened_at now) 0 event_names
+          quiet.events);
+      quiet = λ e. record { values = quiet.values; events = quiet.events };
+    }
+
+-- a declaration of neither a proposition nor an event
+pub knows-undeclared : (names event_names : List (List ℕ)) (kept : Past) (past : List Statement)
+    (tokens : List (List ℕ)) → is_defined past ≡ false
+    → DeclaresNone is_signal (scopes_at past) tokens
+    → DeclaresNone is_event (scopes_at past) tokens → Knows names event_names kept past
+    → Knows names event_names kept (var tokens ∷ past)
+knows-undeclared names event_names kept past tokens before signals said known =
+    knows-declared names event_names kept past tokens kept.propositions kept.events before
+    (keeps-undeclared is_signal past tokens names kept.propositions signals
+    known.propositions)
+    (keeps-undeclared is_event past tokens event_names kept.events said known.events) known
