@@ -26,26 +26,51 @@ const REPEATED: &str = "[0,3] [0,3] [0,0]\n[0,0] (0,3] (0,3]\n[1,1] (1,3] (0,2]\
 const ZONES: [(&str, Eventful<'static>, u64, &str); 21] = [
     // At the begin of a segment, and at the last moment.
     ("event(a)", BOTH, 0, "[2,2] [2,2] [0,0]\n"),
-    ("event(a)", BOTH, 1, "[2,2] [2,2] [0,0]\n[5,5] [5,5] [0,0]\n"),
+    (
+        "event(a)",
+        BOTH,
+        1,
+        "[2,2] [2,2] [0,0]\n[5,5] [5,5] [0,0]\n",
+    ),
     ("event(a)", NOTHING, 1, "[0,0] [0,0] [0,0]\n"),
     ("event(a)", NOTHING, 0, ""),
     ("eps | event(a)", NOTHING, 1, "[0,0] [0,0] [0,0]\n"),
     // Two at one moment, and the same twice.
     ("event(a) & event(b)", BOTH, 1, "[2,2] [2,2] [0,0]\n"),
-    ("event(a);event(b)", BOTH, 3, "[2,2] [2,2] [0,0]\n[5,5] [5,5] [0,0]\n"),
+    (
+        "event(a);event(b)",
+        BOTH,
+        3,
+        "[2,2] [2,2] [0,0]\n[5,5] [5,5] [0,0]\n",
+    ),
     ("event(a);event(b)", BOTH, 2, "[2,2] [2,2] [0,0]\n"),
-    ("event(a);event(a)", BOTH, 1, "[2,2] [2,2] [0,0]\n[5,5] [5,5] [0,0]\n"),
+    (
+        "event(a);event(a)",
+        BOTH,
+        1,
+        "[2,2] [2,2] [0,0]\n[5,5] [5,5] [0,0]\n",
+    ),
     // The event closes the run.
     ("p % [2,2];event(a)", LONG, 1, "[1,1] [3,3] [2,2]\n"),
     ("p % [2,2];event(a)", LONG, 0, ""),
     ("p;event(a)", ENDED, 0, "[0,2) [2,2] (0,2]\n"),
     ("p;event(a)", ENDED, 1, "[0,2) [2,2] (0,2]\n"),
-    ("event(a);p", TURNS, 1, "[0,0] (0,3] (0,3]\n[1,1] (1,3] (0,2]\n"),
+    (
+        "event(a);p",
+        TURNS,
+        1,
+        "[0,0] (0,3] (0,3]\n[1,1] (1,3] (0,2]\n",
+    ),
     ("(event(a);p)*", TURNS, 0, REPEATED),
     ("(event(a);p)*", TURNS, 1, REPEATED),
     ("event(a) % [0,1]", BOTH, 0, "[2,2] [2,2] [0,0]\n"),
     ("event(a) % (0,1]", BOTH, 0, ""),
-    ("(event(a);true;event(a)) % [1,2]", TURNS, 1, "[0,0] [1,1] [1,1]\n[1,1] [3,3] [2,2]\n"),
+    (
+        "(event(a);true;event(a)) % [1,2]",
+        TURNS,
+        1,
+        "[0,0] [1,1] [1,1]\n[1,1] [3,3] [2,2]\n",
+    ),
     // One name stands for a proposition and for an event.
     ("event(p);p", BOTH, 1, "[2,2] (2,5] (0,3]\n"),
     ("rise(p) & event(a)", BOTH, 0, "[2,2] [2,2] [0,0]\n"),

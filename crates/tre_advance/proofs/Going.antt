@@ -1,6 +1,6 @@
 -- What a mark and the pairs that enter go on with: over a piece and what comes behind it, and over
 -- the piece alone.
-use Rattle.std.proofs.Common.{ℕ, ◌*◌, ◌<◌, ◌≤◌, List, [], ◌∷◌, arith}
+use Rattle.std.proofs.Common.{ℕ, ◌*◌, ◌<◌, ◌≤◌, [], ◌∷◌, arith}
 use Rattle.std.proofs.Math.Nat.{mul-pos, mul-le-mul_right}
 use Rattle.tre_pairs.specs.Pairs.{Pairs, Composed}
 use Rattle.tre_pairs.proofs.CutLaws.{IsCut}

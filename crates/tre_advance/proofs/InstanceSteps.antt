@@ -14,11 +14,10 @@ use Rattle.tre_zone.specs.ZoneList.{HoldExactly}
 use Rattle.tre_zone.specs.declared.zone_bounds.ZoneBounds.{ZoneBounds}
 use Rattle.tre_syntax.specs.Meaning.{MatchesRest}
 use Rattle.tre_syntax.specs.PatternTree.{PatternTree, intersection, restriction}
-use Rattle.tre_syntax.specs.Rest.{Rest}
 use Rattle.tre_edges.specs.Piece.{end_of_piece}
 use Rattle.tre_edges.specs.declared.piece.Piece.{Piece}
 use Rattle.tre_mark.specs.MarkTree.{MarkTree, intersection_none, intersection_one, restriction_none, restriction_one}
-use Rattle.tre_mark.specs.Marked.{AnyDuration, Marked, EndBetween, IsEntered, IsWellAt, IsUnbegun}
+use Rattle.tre_mark.specs.Marked.{AnyDuration, Marked, EndBetween, IsEntered, IsUnbegun}
 use Rattle.tre_mark.proofs.Agreeing.{agree_refl, agree_sym, agree_then, agree_composed, agree_either}
 use Rattle.tre_mark.proofs.Starts.{bare_open, nothing_open}
 use Rattle.tre_advance.specs.Instances.{IsRestriction, IsIntersection, LeavesRestriction, LeavesIntersection}
@@ -26,8 +25,8 @@ use Rattle.tre_advance.specs.Moves.{with_piece, StepsTo, EntersTo}
 use Rattle.tre_advance.proofs.Crossings.{cross_after}
 use Rattle.tre_advance.proofs.Going.{over, alone, behind, begin_end}
 use Rattle.tre_advance.proofs.Opening.{stepped_open}
-use Rattle.tre_advance.proofs.SetsOf.{set_agrees, set_of}
-use Rattle.tre_advance.proofs.Steps.{Followed, all_moments, steps_of, of_steps, enters_of, of_enters}
+use Rattle.tre_advance.proofs.SetsOf.{set_agrees}
+use Rattle.tre_advance.proofs.Steps.{all_moments, steps_of, of_steps, enters_of, of_enters}
 use Rattle.tre_advance.proofs.Takings.{entered_open, takes_of, taken_lasting, taken_both}
 
 -- Of what enters or is entered something crosses the end where what goes on does.

@@ -1,17 +1,16 @@
 -- Marks that can take in what begins later: over a piece, and where it ends.
-use Rattle.std.proofs.Common.{◌≡◌, ℕ, ◌*◌, ◌<◌, ◌≤◌, List, [], ◌∷◌, arith}
+use Rattle.std.proofs.Common.{ℕ, ◌*◌, ◌<◌, ◌≤◌, List, [], ◌∷◌, arith}
 use Rattle.tre_pairs.specs.Cuts.{Crossing}
-use Rattle.tre_pairs.specs.Pairs.{Pairs}
 use Rattle.tre_pairs.proofs.Laws.{Agree}
 use Rattle.tre_zone.specs.Held.{Held}
 use Rattle.tre_zone.specs.Interval.{LastsWithin}
 use Rattle.tre_zone.specs.declared.zone_bounds.ZoneBounds.{ZoneBounds}
-use Rattle.tre_syntax.specs.PatternTree.{PatternTree, atom, sequence, alternation, intersection, repetition, restriction}
+use Rattle.tre_syntax.specs.PatternTree.{PatternTree, sequence, alternation, intersection, repetition, restriction}
 use Rattle.tre_syntax.specs.Rest.{prefixed}
 use Rattle.tre_trace.specs.Trace.{Timeline, AreLong}
 use Rattle.tre_edges.specs.Piece.{end_of_piece}
 use Rattle.tre_edges.specs.declared.piece.Piece.{Piece}
-use Rattle.tre_mark.specs.MarkTree.{MarkTree, atom_mark, sequence_mark, alternation_mark, repetition_mark, intersection_none, intersection_one, restriction_none, restriction_one}
+use Rattle.tre_mark.specs.MarkTree.{MarkTree, sequence_mark, alternation_mark, repetition_mark, intersection_one, restriction_one}
 use Rattle.tre_mark.specs.Marked.{IsOpen, AnyDuration, CanTakeIn, Marked}
 use Rattle.tre_advance.specs.Advance.{before_piece, after_piece}
 use Rattle.tre_advance.specs.Moves.{with_piece}

@@ -2,13 +2,13 @@
 use Rattle.std.proofs.Common.{◌≡◌, ℕ, ◌+◌, ◌*◌, ◌<◌, ◌≤◌, List, [], ◌∷◌, ◌++◌, length, get_or, take, Option, None, Some, MatchOption, inl, inr, ⊎_elim, sym, subst, arith}
 use Rattle.std.proofs.Math.Nat.{mul-le-mul_right}
 use Rattle.std.proofs.lemmas.List.{take_more}
-use Rattle.tre_zone.specs.Held.{Held, EndBy, IsLatest}
+use Rattle.tre_zone.specs.Held.{EndBy, IsLatest}
 use Rattle.tre_zone.specs.Interval.{IntervalEnds}
 use Rattle.tre_zone.specs.ZoneList.{SetHolds, HoldExactly}
 use Rattle.tre_zone.specs.declared.zone_bounds.ZoneBounds.{ZoneBounds}
 use Rattle.tre_zone.proofs.ZoneListLemmas.{SetHolds-append}
 use Rattle.tre_advance.specs.Instances.{IsPast}
-use Rattle.tre_advance.specs.Shortening.{MayStillLast, AreRecent, IsOld, KeepsRecent}
+use Rattle.tre_advance.specs.Shortening.{AreRecent, IsOld, KeepsRecent}
 
 past_never : (high : Option ℕ) (to time m n : ℕ) → 0 < n
     → MatchOption high ⊥ (λ high. to + high < time) → m ≤ to * n

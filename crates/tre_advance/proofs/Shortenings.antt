@@ -9,7 +9,6 @@ use Rattle.tre_zone.specs.Held.{Held, EndAt}
 use Rattle.tre_zone.specs.Interval.{IntervalEnds, LastsWithin}
 use Rattle.tre_zone.specs.Longest.{LastsUpTo}
 use Rattle.tre_zone.specs.ZoneList.{SetHolds, HoldExactly}
-use Rattle.tre_zone.proofs.HeldSets.{IsOrdered-Held}
 use Rattle.tre_zone.proofs.Lasting.{LastsUpTo-downward, LastsUpTo-scales}
 use Rattle.tre_zone.specs.declared.zone_bounds.ZoneBounds.{ZoneBounds}
 use Rattle.tre_syntax.specs.Meaning.{MatchesRest}
@@ -17,11 +16,11 @@ use Rattle.tre_syntax.specs.PatternTree.{Atom, PatternTree, empty, literal, rise
 use Rattle.tre_syntax.specs.Rest.{Rest}
 use Rattle.tre_syntax.proofs.CutMeaning.{IsOrdered-rest}
 use Rattle.tre_mark.specs.MarkTree.{MarkTree, atom_mark, sequence_mark, alternation_mark, repetition_mark}
-use Rattle.tre_mark.specs.Marked.{GoesOn, Since, IsOpen, CanTakeIn, Marked, IsBegun, IsWellAt}
+use Rattle.tre_mark.specs.Marked.{GoesOn, Since, CanTakeIn, Marked, IsBegun, IsWellAt}
 use Rattle.tre_mark.proofs.Meanings.{IsOrdered-GoesOn, around_present}
 use Rattle.tre_advance.specs.Instances.{LeavesRestriction}
 use Rattle.tre_advance.proofs.SetsOf.{no_pair}
-use Rattle.tre_advance.specs.Shortening.{Shortens, MayStillLast, AreRecent, AreShort}
+use Rattle.tre_advance.specs.Shortening.{Shortens, AreRecent, AreShort}
 
 pub shortens_same : (longest : Option ℕ) (mark : MarkTree) → Shortens longest mark mark
 shortens_same longest mark = record {

@@ -1,8 +1,8 @@
 -- Steps where nothing has begun, and what is left of what has begun.
-use Rattle.std.proofs.Common.{◌≡◌, ℕ, ◌+◌, ◌-◌, ◌*◌, ◌<◌, ◌≤◌, List, [], Option, None, Some, Bool, true, false, MatchOption, MatchBool, inl, inr, ⊎_elim, subst, sym, arith}
+use Rattle.std.proofs.Common.{◌≡◌, ℕ, ◌+◌, ◌-◌, ◌*◌, ◌<◌, ◌≤◌, List, [], Option, None, Some, Bool, true, false, MatchOption, MatchBool, ⊎_elim, subst, arith}
 use Rattle.std.proofs.Math.Nat.{mul-pos, mul-le-mul_right}
 use Rattle.std.proofs.lemmas.Bool.{cases_lt}
-use Rattle.tre_pairs.specs.Pairs.{Pairs, Composed, Both, Lasting}
+use Rattle.tre_pairs.specs.Pairs.{Composed, Both, Lasting}
 use Rattle.tre_syntax.specs.PatternTree.{PatternTree, intersection, restriction}
 use Rattle.tre_syntax.specs.Rest.{Rest}
 use Rattle.tre_zone.specs.Held.{Held, IsLatest}
@@ -11,7 +11,7 @@ use Rattle.tre_zone.specs.declared.zone_bounds.ZoneBounds.{ZoneBounds}
 use Rattle.tre_edges.specs.Piece.{end_of_piece}
 use Rattle.tre_edges.specs.declared.piece.Piece.{Piece}
 use Rattle.tre_mark.specs.MarkTree.{MarkTree, intersection_none, intersection_one, restriction_none, restriction_one}
-use Rattle.tre_mark.specs.Marked.{Marked, EndBetween, IsBare, IsEntered}
+use Rattle.tre_mark.specs.Marked.{Marked, EndBetween, IsBare}
 use Rattle.tre_mark.proofs.Meanings.{around_present}
 use Rattle.tre_mark.proofs.Starts.{bare_nothing}
 use Rattle.tre_advance.specs.Instances.{IsPast, LeavesRestriction, LeavesIntersection}

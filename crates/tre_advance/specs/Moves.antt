@@ -36,7 +36,8 @@ pub record StepsTo (mark : MarkTree) (tree : PatternTree) (piece : Piece) (told 
 -- and the mark at its end stands for those that go on too.
 pub record EntersTo (old : MarkTree) (tree : PatternTree) (enter : List ZoneBounds) (piece : Piece)
     (told : List ZoneBounds) (rest : MarkTree) : Type 0 where
-  pub tells : IsSetOf told (Composed (Held enter) (MatchesRest tree (uncut (cut_behind piece (quiet [])))))
+  pub tells : IsSetOf told
+      (Composed (Held enter) (MatchesRest tree (uncut (cut_behind piece (quiet [])))))
   pub leaves : CanTakeIn (with_piece piece) old tree → (next : Timeline)
       → AreLong next.segments → (a b n : ℕ) → 0 < n
       → Marked (back_of (cut_behind piece next)) rest tree a b n

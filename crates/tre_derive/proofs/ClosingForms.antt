@@ -1,8 +1,7 @@
 -- What a residual stands for where the trace has ended, from what its parts stand for.
 use Rattle.std.proofs.Common.{◌≡◌, ℕ, ◌*◌, ◌<◌, ◌≤◌, ◌∙◌, Option, List, [], refl, sym, subst, arith}
 use Rattle.std.proofs.Math.Nat.{mul-pos}
-use Rattle.tre_pairs.specs.Cuts.{JoinedAt}
-use Rattle.tre_pairs.specs.Pairs.{Pairs, Composed, Either, Both, Lasting}
+use Rattle.tre_pairs.specs.Pairs.{Pairs, Either, Both, Lasting}
 use Rattle.tre_pairs.proofs.Agreement.{Agree-Either, Agree-Both, Agree-Lasting}
 use Rattle.tre_pairs.proofs.Chains.{Composed-at}
 use Rattle.tre_pairs.proofs.Laws.{Agree}
@@ -14,7 +13,6 @@ use Rattle.tre_zone.specs.Zone.{EndsAt}
 use Rattle.tre_zone.specs.ZoneList.{SetHolds, HoldExactly}
 use Rattle.tre_zone.specs.declared.zone_bounds.ZoneBounds.{ZoneBounds}
 use Rattle.tre_zone.proofs.ZoneListLemmas.{SetHolds-empty}
-use Rattle.tre_syntax.specs.AtTheEnd.{MatchesAtEnd}
 use Rattle.tre_syntax.specs.Meaning.{MatchesRest}
 use Rattle.tre_syntax.specs.PatternTree.{PatternTree}
 use Rattle.tre_syntax.proofs.Ends.{matches_at_end}

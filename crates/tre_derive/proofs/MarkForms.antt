@@ -1,22 +1,19 @@
 -- A mark stands for what residuals of its parts stand for.
-use Rattle.std.proofs.Common.{◌≡◌, ℕ, ◌*◌, ◌<◌, ◌↔◌, List, [], inl, inr, ⊎_elim, refl, sym, subst, arith}
-use Rattle.tre_pairs.specs.Cuts.{IsMoment, JoinedAt}
+use Rattle.std.proofs.Common.{◌≡◌, ℕ, ◌*◌, ◌<◌, ◌↔◌, List, [], inl, inr, ⊎_elim, refl, sym, subst}
 use Rattle.tre_zone.specs.Held.{Held, EndAt}
-use Rattle.tre_zone.specs.ZoneList.{HoldExactly}
 use Rattle.tre_zone.specs.Interval.{IntervalEnds}
 use Rattle.tre_zone.specs.declared.zone_bounds.ZoneBounds.{ZoneBounds}
 use Rattle.tre_zone.proofs.HeldSets.{Held-empty}
 use Rattle.tre_syntax.specs.Cut.{uncut}
-use Rattle.tre_syntax.specs.Meaning.{MatchesRest}
 use Rattle.tre_syntax.specs.PatternTree.{Atom, PatternTree, empty, literal, rise, fall, event, atom, sequence, alternation, intersection, repetition, restriction}
 use Rattle.tre_syntax.specs.Rest.{Rest}
-use Rattle.tre_edges.specs.Piece.{end_of_piece, rest_of_piece, cut_behind}
+use Rattle.tre_edges.specs.Piece.{rest_of_piece, cut_behind}
 use Rattle.tre_edges.specs.declared.piece.Piece.{Piece}
 use Rattle.tre_mark.specs.MarkTree.{MarkTree, atom_mark, sequence_mark, alternation_mark, repetition_mark, intersection_none, intersection_one, restriction_none, restriction_one}
-use Rattle.tre_mark.specs.Marked.{IsBegun, IsWell}
+use Rattle.tre_mark.specs.Marked.{IsWell}
 use Rattle.tre_advance.specs.Moves.{IsBriefTree, IsLiteralTree}
 use Rattle.tre_residual.specs.Residual.{ResidualTree, nothing, here, joined, preceded, followed, either, both, lasting, marked, Means}
-use Rattle.tre_derive.specs.Derivative.{EndingFrom, StandsBehind, StepsTo}
+use Rattle.tre_derive.specs.Derivative.{StepsTo}
 
 -- Where two residuals stand for the same pairs as the piece begins, what one does the other does.
 module _ (piece : Piece) (one other : ResidualTree)

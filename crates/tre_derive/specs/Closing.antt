@@ -1,6 +1,5 @@
 -- What a residual stands for where the trace has ended.
 use Rattle.std.specs.Prelude.{ℕ, Option, List, []}
-use Rattle.tre_pairs.specs.Pairs.{Pairs}
 use Rattle.tre_zone.specs.ZoneList.{SetHolds, HoldExactly}
 use Rattle.tre_zone.specs.declared.zone_bounds.ZoneBounds.{ZoneBounds}
 use Rattle.tre_trace.specs.Trace.{timeline_of}

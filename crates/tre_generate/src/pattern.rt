@@ -18,7 +18,9 @@ pub fn fixed_pattern(alloc: Global) -> Result<Pattern, AllocError>
     let once = pulse_and_pause(alloc)?;
     let again = Expr::Star(Box::new(alloc, pulse_and_pause(alloc)?)?);
     let expr = sequence(alloc, once, again)?;
-    match Pattern::new(expr, one_name(alloc)?, Names::new(alloc)) {
+    let names = one_name(alloc)?;
+    let events = Names::new(alloc);
+    match Pattern::new(expr, names, events) {
         Some(pattern) => Ok(pattern),
         None => unreachable!(),
     }

@@ -153,7 +153,7 @@ impl Past {
         let changed = self.propositions.having(identifier);
         self.values = with_value(self.values, changed, value);
         if self.reads_events() {
-            let said = self.events.having(identifier);
+            let said = self.events.having_apart(identifier);
             self.happened = with_value(self.happened, said, true);
         }
     }

@@ -85,6 +85,15 @@ impl Variables {
         self.list.as_slice().is_empty()
     }
 
+    // The same as `having`, apart from the code of its caller.
+    #[inline(never)]
+    pub fn having_apart(&self, identifier: &[u8]) -> u64
+        ensures { IsSieveOf self.now.list.items self.now.sieve →
+            AreHaving self.now.list.items identifier.now result }
+    {
+        self.having(identifier)
+    }
+
     // Which of them have this identifier: bit k stands for number k.
     #[inline(always)]
     pub fn having(&self, identifier: &[u8]) -> u64

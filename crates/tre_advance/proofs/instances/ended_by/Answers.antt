@@ -1,5 +1,5 @@
 use Rattle.std.proofs.Common.{List, subst}
-use Rattle.tre_zone.specs.Held.{EndBy, IsLatest}
+use Rattle.tre_zone.specs.Held.{IsLatest}
 use Rattle.tre_zone.specs.declared.zone_bounds.ZoneBounds.{ZoneBounds}
 use Rattle.tre_advance.proofs.instances.ended_by.Goals as goal
 

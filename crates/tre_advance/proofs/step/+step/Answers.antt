@@ -8,7 +8,6 @@ use Rattle.tre_mark.specs.MarkTree.{MarkTree, mark_of, sequence_mark, alternatio
 use Rattle.tre_mark.specs.Marked.{IsWellAt}
 use Rattle.tre_advance.specs.Moves.{StepsTo}
 use Rattle.tre_advance.proofs.CallForms.{IfOk-both, steps_moved, repetition_steps_to}
-use Rattle.tre_advance.proofs.InstanceSteps.{entered_ends}
 use Rattle.tre_advance.proofs.ShapeForms.{shape_sequence, shape_alternation, shape_repetition, shape_intersection, shape_restriction}
 use Rattle.tre_advance.proofs.step.+step.Goals as goal
 

@@ -3,7 +3,7 @@ use Rattle.tre_zone.specs.declared.zone_bounds.ZoneBounds.{ZoneBounds}
 use Rattle.tre_mark.specs.MarkTree.{mark_of}
 use Rattle.tre_edges.specs.Piece.{end_of_piece}
 use Rattle.tre_advance.specs.Instances.{LeavesIntersection}
-use Rattle.tre_advance.proofs.InstanceSteps.{later_ends, both_steps}
+use Rattle.tre_advance.proofs.InstanceSteps.{both_steps}
 use Rattle.tre_advance.proofs.step.go_on_both.Goals as goal
 
 pub returns : goal.returns

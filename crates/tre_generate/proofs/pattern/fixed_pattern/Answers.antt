@@ -12,7 +12,7 @@ unreachable-requires c =
     let never : false ≡ true = c.in-None.ensures.some.1
     (
       rw tree fixed_small,
-      rw (tree, c.in_ok-one_name.ensures) fixed_numbered,
-      rw (tree, c.new.ensures) fixed_no_events,
+      rw (tree, c.in_ok-names.ensures) fixed_numbered,
+      rw (tree, c.new-events.ensures) fixed_no_events,
     ) in
     cc

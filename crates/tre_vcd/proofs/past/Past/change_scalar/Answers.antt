@@ -15,7 +15,7 @@ returns-then-reads_events c = λ names event_names past known defined.
     (c.having-changed.ensures known.propositions.sieve) c.with_value-self.ensures.changed
     c.with_value-self.ensures.kept
     (events-said names event_names kept past identifier c.args.value happened
-    c.having-said.result outside (c.having-said.ensures known.events.sieve)
+    c.having_apart-said.result outside (c.having_apart-said.ensures known.events.sieve)
     c.with_value-self-then-reads_events.ensures.changed
     c.with_value-self-then-reads_events.ensures.kept known) known
 
