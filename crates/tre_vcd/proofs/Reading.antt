@@ -1,5 +1,5 @@
 -- What a token says at a place that the reader holds.
-use Rattle.std.proofs.Common.{◌≡◌, ℕ, ◌-◌, ◌^◌, ◌≤◌, min, nat_lt, ◌==◌, Bool, true, false, not, ◌&&◌, List, [], ◌∷◌, length, None, Some, Ok, refl, arith, if◌then◌else◌}
+use Rattle.std.proofs.Common.{◌≡◌, ℕ, ◌-◌, ◌^◌, ◌<◌, ◌≤◌, min, nat_lt, ◌==◌, Bool, true, false, not, ◌&&◌, List, [], ◌∷◌, length, None, Some, Ok, refl, arith, if◌then◌else◌}
 use Rattle.std.proofs.lemmas.Bool.Decides.{nat_tests}
 use Rattle.std.specs.Str.Parse.{digits_value}
 use Rattle.tre_decimal.specs.Decimal.{is_numeral}
@@ -12,17 +12,21 @@ use Rattle.tre_vcd.specs.declared.command.Command.{Command}
 use Rattle.tre_vcd.specs.declared.inside.Inside.TheVariants.{Nothing, Section, Comment, Vector, Number}
 use Rattle.tre_vcd.specs.declared.token_reader.TokenReader.{TokenReader}
 
-pub says-empty : (terms : Terms) (place : Place) (part : List ℕ) → (length part == 0) ≡ true
+pub says-empty : (terms : Terms) (place : Place) (part : List ℕ) → length part ≡ 0
     → token_says terms place part ≡ goes_to place.past place.inside
 unfolding token_says
 says-empty terms place [] empty = refl
-says-empty terms place (byte ∷ bytes) empty = absurd (grind (arith, nat_tests))
+says-empty terms place (byte ∷ bytes) empty = absurd (omega (arith, empty))
 
 pub says-token : (terms : Terms) (place : Place) (part : List ℕ) → (length part == 0)
     ≡ false → token_says terms place part ≡ token_at terms place.past place.inside part
 unfolding token_says
 says-token terms place [] some = absurd (grind (arith, nat_tests))
 says-token terms place (byte ∷ bytes) some = refl
+
+pub some-token : (token : List ℕ) → 0 < length token → (length token == 0) ≡ false
+some-token [] some = absurd (omega (arith, some))
+some-token (byte ∷ bytes) some = grind (arith, nat_tests)
 
 pub is-nothing : (inside : Open) → inside_of inside ≡ Nothing → inside ≡ nothing
 is-nothing nothing e = refl

@@ -45,7 +45,8 @@ impl Past {
 
     // A scope opens.
     pub fn enter(&mut self, name: &[u8]) -> Result<(), AllocError>
-        ensures { (names event_names : List (List ℕ)) (past : List Statement) → Knows names event_names self.old past →
+        ensures { (names event_names : List (List ℕ)) (past : List Statement) →
+            Knows names event_names self.old past →
             OnOk result (Knows names event_names self.new (scope name.now ∷ past)) }
     {
         self.scopes.enter(name)
@@ -53,7 +54,8 @@ impl Past {
 
     // The innermost scope closes.
     pub fn leave(&mut self)
-        ensures { (names event_names : List (List ℕ)) (past : List Statement) → Knows names event_names self.old past →
+        ensures { (names event_names : List (List ℕ)) (past : List Statement) →
+            Knows names event_names self.old past →
             Knows names event_names self.new (upscope ∷ past) }
     {
         self.scopes.leave();
@@ -98,7 +100,8 @@ impl Past {
 
     // The declarations end.
     pub fn define(&mut self)
-        ensures { (names event_names : List (List ℕ)) (past : List Statement) → Knows names event_names self.old past →
+        ensures { (names event_names : List (List ℕ)) (past : List Statement) →
+            Knows names event_names self.old past →
             Knows names event_names self.new (definitions ∷ past) }
     {
         self.is_defined = true;
@@ -115,7 +118,8 @@ impl Past {
 
     // A time is reached.
     pub fn reach(&mut self, ticks: u64)
-        ensures { (names event_names : List (List ℕ)) (past : List Statement) → Knows names event_names self.old past →
+        ensures { (names event_names : List (List ℕ)) (past : List Statement) →
+            Knows names event_names self.old past →
             Knows names event_names self.new (time ticks ∷ past) }
     {
         if ticks != self.time {
@@ -127,7 +131,8 @@ impl Past {
     // An identifier changes to this value, as a vector.
     #[inline(always)]
     pub fn change(&mut self, identifier: &[u8], value: bool)
-        ensures { (names event_names : List (List ℕ)) (past : List Statement) → Knows names event_names self.old past →
+        ensures { (names event_names : List (List ℕ)) (past : List Statement) →
+            Knows names event_names self.old past →
             is_defined past ≡ true →
             Knows names event_names self.new (change wide identifier.now value ∷ past) }
     {
@@ -146,7 +151,8 @@ impl Past {
     // An identifier changes to this value, as a scalar, which says its event.
     #[inline(always)]
     pub fn change_scalar(&mut self, identifier: &[u8], value: bool)
-        ensures { (names event_names : List (List ℕ)) (past : List Statement) → Knows names event_names self.old past →
+        ensures { (names event_names : List (List ℕ)) (past : List Statement) →
+            Knows names event_names self.old past →
             is_defined past ≡ true →
             Knows names event_names self.new (change scalar identifier.now value ∷ past) }
     {
@@ -160,7 +166,8 @@ impl Past {
 
     // A dump section opens.
     pub fn open_dump(&mut self)
-        ensures { (names event_names : List (List ℕ)) (past : List Statement) → Knows names event_names self.old past →
+        ensures { (names event_names : List (List ℕ)) (past : List Statement) →
+            Knows names event_names self.old past →
             Knows names event_names self.new (dump ∷ past) }
     {
         self.in_dump = true;
@@ -168,7 +175,8 @@ impl Past {
 
     // The dump section closes.
     pub fn close_dump(&mut self)
-        ensures { (names event_names : List (List ℕ)) (past : List Statement) → Knows names event_names self.old past →
+        ensures { (names event_names : List (List ℕ)) (past : List Statement) →
+            Knows names event_names self.old past →
             Knows names event_names self.new (dump_end ∷ past) }
     {
         self.in_dump = false;
@@ -176,7 +184,8 @@ impl Past {
 
     // The values of the propositions now.
     pub fn valuation(&self) -> u64
-        ensures { (names event_names : List (List ℕ)) (past : List Statement) → Knows names event_names self.now past →
+        ensures { (names event_names : List (List ℕ)) (past : List Statement) →
+            Knows names event_names self.now past →
             result ≡ valuation_at past names }
     {
         self.values
@@ -184,7 +193,8 @@ impl Past {
 
     // The events that happened at the time.
     pub fn events(&self) -> u64
-        ensures { (names event_names : List (List ℕ)) (past : List Statement) → Knows names event_names self.now past →
+        ensures { (names event_names : List (List ℕ)) (past : List Statement) →
+            Knows names event_names self.now past →
             result ≡ events_at past event_names }
     {
         self.happened

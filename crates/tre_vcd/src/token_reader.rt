@@ -1,5 +1,5 @@
 // The tokens of a dump, one after the other.
-ghost use Rattle.std.specs.Prelude.{◌≡◌, ◌≢◌, ℕ, List, [], ◌∷◌, ◌++◌, map, true, false, not, ◌&&◌, OnOk};
+ghost use Rattle.std.specs.Prelude.{◌≡◌, ◌≢◌, ◌<◌, ℕ, List, [], ◌∷◌, ◌++◌, length, map, true, false, not, ◌&&◌, OnOk};
 ghost use Rattle.tre_parts.specs.Walk.{Tells};
 ghost use Rattle.tre_parts.specs.declared.said.Said.{Said};
 ghost use Rattle.tre_trace.specs.declared.fault.TraceKind.TheVariants.{Spent};
@@ -12,7 +12,7 @@ use crate::command::{Command, command_of};
 use crate::inside::Inside;
 use crate::past::Past;
 use crate::token::{
-    Letter, ends_true, is, is_dump, is_end, is_event, is_misplaced, is_signal, letter_of,
+    Letter, ends_true, is, is_bit, is_dump, is_end, is_event, is_misplaced, is_signal, letter_of,
 };
 use crate::white::White;
 use std::alloc::{AllocError, Global};
@@ -53,6 +53,31 @@ impl TokenReader {
             past: Past::new(alloc),
             inside: Inside::Nothing,
             tokens: Vec::new(alloc),
+        }
+    }
+
+    // Whether the next token is among the values, and nothing is open.
+    #[inline(always)]
+    fn reads_values(&self) -> bool
+        ensures { result ≡ (self.now.past.is_defined && is_nothing self.now.inside) }
+    {
+        self.past.is_defined && self.inside.is_nothing()
+    }
+
+    // Reads a token of any kind.
+    fn read_token(&mut self, token: &[u8]) -> Said
+        requires some { 0 < length token.now }
+        ensures tells { (place : Place) → Holds self.old place →
+            Tells (token_says (terms_kept self.old) place token.now) (Holds self.new) result }
+        ensures kinds { result ≢ Said.Wrong Spent }
+        ensures same_terms { terms_kept self.new ≡ terms_kept self.old }
+    {
+        match self.inside {
+            Inside::Nothing => self.read_first(token),
+            Inside::Section(command) => self.read_inside(command, token),
+            Inside::Comment => self.read_comment(token),
+            Inside::Vector(value) => self.read_identifier(value, token),
+            Inside::Number => self.pass_over(),
         }
     }
 
@@ -268,7 +293,8 @@ impl TokenReader {
     fn read_identifier(&mut self, value: bool, identifier: &[u8]) -> Said
         ensures tells { (past : List Statement) →
             Holds self.old (record { past = past; inside = vector value }) →
-            Tells (goes_to (change wide identifier.now value ∷ past) nothing) (Holds self.new) result }
+            Tells (goes_to (change wide identifier.now value ∷ past) nothing) (Holds self.new)
+            result }
         ensures kinds { result ≢ Said.Wrong Spent }
         ensures same_terms { terms_kept self.new ≡ terms_kept self.old }
     {
@@ -279,7 +305,8 @@ impl TokenReader {
 
     // Nothing is open any more.
     fn close(&mut self)
-        ensures holds { (past : List Statement) → Knows self.old.names self.old.events self.old.past past →
+        ensures holds { (past : List Statement) →
+            Knows self.old.names self.old.events self.old.past past →
             Holds self.new (record { past = past; inside = nothing }) }
         ensures same_terms { terms_kept self.new ≡ terms_kept self.old }
     {
@@ -439,16 +466,16 @@ impl PartReader for TokenReader {
 
     #[inline(always)]
     fn read(&mut self, part: &[u8]) -> Said {
-        if part.is_empty() {
+        let Some((first, rest)) = part.split_first() else {
+            return Said::Nothing;
+        };
+        let letter = *first;
+        // Most tokens are changes of one bit.
+        if is_bit(letter) && !rest.is_empty() && self.reads_values() {
+            self.past.change_scalar(rest, letter == b'1');
             return Said::Nothing;
         }
-        match self.inside {
-            Inside::Nothing => self.read_first(part),
-            Inside::Section(command) => self.read_inside(command, part),
-            Inside::Comment => self.read_comment(part),
-            Inside::Vector(value) => self.read_identifier(value, part),
-            Inside::Number => self.pass_over(),
-        }
+        self.read_token(part)
     }
 
     fn at_end(&self) -> Option<TraceKind> {
