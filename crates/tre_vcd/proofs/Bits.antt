@@ -1,7 +1,7 @@
 -- What a change of one bit says.
 use Rattle.std.proofs.Common.{◌≡◌, ℕ, ◌==◌, ◌||◌, ◌&&◌, Bool, true, false, List, [], ◌∷◌, length, map, take, refl, sym, ap, ◌∙◌, arith}
 use Rattle.std.proofs.lemmas.Bool.Decides.{nat_tests}
-use Rattle.tre_vcd.specs.VcdReading.{Terms, scalar, Place, Open, change, is_scalar, is_defined, nothing, section, comment, vector, number, goes_to, token_says}
+use Rattle.tre_vcd.specs.VcdReading.{Terms, Statement, scalar, Place, Open, change, is_scalar, is_defined, nothing, section, comment, vector, number, goes_to, command_says, value_says, token_at, token_says}
 use Rattle.tre_vcd.specs.Sections.{Holds, inside_of, is_nothing, tokens_of}
 use Rattle.tre_vcd.specs.declared.inside.Inside.TheVariants.{Nothing}
 use Rattle.tre_vcd.specs.declared.token_reader.TheConstants.{KEPT_MAX}
@@ -13,16 +13,22 @@ bit_scalar : (letter : ℕ) → (letter == 48 || letter == 49) ≡ true → is_s
 bit_scalar letter is = grind (arith, nat_tests)
 
 -- where nothing is open among the values
+pub values-say : (terms : Terms) (place : Place) (part : List ℕ) (letter : ℕ) (rest : List ℕ)
+    → part ≡ letter ∷ rest → is_defined place.past ≡ true → place.inside ≡ nothing
+    → token_says terms place part ≡ value_says terms.names place.past part
+unfolding token_says
+values-say terms place part letter rest is defined open_none = rw (is, open_none, defined) refl
+
 pub bit-says : (terms : Terms) (place : Place) (part : List ℕ) (letter : ℕ) (rest : List ℕ)
     → part ≡ letter ∷ rest → (letter == 48 || letter == 49) ≡ true → (length rest == 0) ≡ false
     → is_defined place.past ≡ true → place.inside ≡ nothing
     → token_says terms place part
     ≡ goes_to (change scalar rest (letter == 49) ∷ place.past) nothing
-unfolding token_says
 bit-says terms place part letter rest is bit some defined open_none =
-    rw (is, open_none, defined)
-    (scalar_value terms.names place.past letter rest (bit_scalar letter bit)
-    ∙ scalar-says place.past letter rest some)
+    values-say terms place part letter rest is defined open_none
+    ∙ (ap (value_says terms.names place.past) is
+    ∙ (scalar_value terms.names place.past letter rest (bit_scalar letter bit)
+    ∙ scalar-says place.past letter rest some))
 
 -- Nothing is open, and the place is among the values.
 pub record AmongValues (reader : TokenReader) (place : Place) : Type 0 where
@@ -54,3 +60,19 @@ values-read reader place holds reads =
       stays = holds.inside ∙ ap inside_of shut;
       tokens = holds.tokens ∙ ap (λ (o : Open). take KEPT_MAX (tokens_of o)) shut;
     }
+
+not_defined : (a b : Bool) → (a && b) ≡ false → b ≡ true → a ≡ false
+not_defined false b is more = refl
+not_defined true true is more = absurd (cc (is))
+not_defined true false is more = absurd (cc (more))
+
+pub commands-read : (reader : TokenReader) (place : Place) → Holds reader place
+    → (reader.past.is_defined && is_nothing reader.inside) ≡ false → reader.inside ≡ Nothing
+    → is_defined place.past ≡ false
+commands-read reader place holds reads shut =
+    sym holds.past.defined
+    ∙ not_defined reader.past.is_defined (is_nothing reader.inside) reads (ap is_nothing shut)
+
+pub commands-say : (terms : Terms) (past : List Statement) (part : List ℕ)
+    → is_defined past ≡ false → token_at terms past nothing part ≡ command_says terms past part
+commands-say terms past part defined = rw defined refl

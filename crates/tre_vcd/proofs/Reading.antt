@@ -1,5 +1,5 @@
 -- What a token says at a place that the reader holds.
-use Rattle.std.proofs.Common.{◌≡◌, ℕ, ◌-◌, ◌^◌, ◌<◌, ◌≤◌, min, nat_lt, ◌==◌, Bool, true, false, not, ◌&&◌, List, [], ◌∷◌, length, None, Some, Ok, refl, arith, if◌then◌else◌}
+use Rattle.std.proofs.Common.{◌≡◌, ℕ, ◌-◌, ◌^◌, ◌≤◌, min, nat_lt, ◌==◌, Bool, true, false, not, ◌&&◌, List, [], ◌∷◌, length, None, Some, Ok, refl, arith, if◌then◌else◌}
 use Rattle.std.proofs.lemmas.Bool.Decides.{nat_tests}
 use Rattle.std.specs.Str.Parse.{digits_value}
 use Rattle.tre_decimal.specs.Decimal.{is_numeral}
@@ -24,9 +24,9 @@ unfolding token_says
 says-token terms place [] some = absurd (grind (arith, nat_tests))
 says-token terms place (byte ∷ bytes) some = refl
 
-pub some-token : (token : List ℕ) → 0 < length token → (length token == 0) ≡ false
-some-token [] some = absurd (omega (arith, some))
-some-token (byte ∷ bytes) some = grind (arith, nat_tests)
+pub some-token : (token : List ℕ) (letter : ℕ) (rest : List ℕ) → token ≡ letter ∷ rest
+    → (length token == 0) ≡ false
+some-token token letter rest is = rw is (grind (arith, nat_tests))
 
 pub is-nothing : (inside : Open) → inside_of inside ≡ Nothing → inside ≡ nothing
 is-nothing nothing e = refl

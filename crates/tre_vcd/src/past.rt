@@ -145,7 +145,7 @@ impl Past {
     fn reads_events(&self) -> bool
         ensures { result ≡ (not self.now.in_dump && not (length self.now.events.list.items == 0)) }
     {
-        !self.in_dump && !self.events.is_empty()
+        !self.events.is_empty() && !self.in_dump
     }
 
     // An identifier changes to this value, as a scalar, which says its event.

@@ -3,7 +3,7 @@ ghost use Rattle.std.specs.Prelude.{◌≡◌, ◌≢◌, ◌<◌, ℕ, List, []
 ghost use Rattle.tre_parts.specs.Walk.{Tells};
 ghost use Rattle.tre_parts.specs.declared.said.Said.{Said};
 ghost use Rattle.tre_trace.specs.declared.fault.TraceKind.TheVariants.{Spent};
-ghost use Rattle.tre_vcd.specs.VcdReading.{Terms, terms_of, first_place, wide, Statement, var, Place, nothing, section, comment, vector, number, is_defined, goes_to, vcd_format, token_says, command_says, section_says, ticks_say, keyword_says, scalar_says, vector_says, value_says, scope_says, declaration_says, dump_says, dump_end_says, first_says, change, token_at};
+ghost use Rattle.tre_vcd.specs.VcdReading.{Terms, terms_of, first_place, wide, Statement, var, Place, nothing, section, comment, vector, number, is_defined, goes_to, vcd_format, token_says, command_says, section_says, ticks_say, keyword_says, scalar_says, vector_says, value_says, scope_says, declaration_says, dump_says, dump_end_says, change, token_at};
 ghost use Rattle.tre_vcd.specs.Sections.{Holds, asked_of, terms_kept, command_of, is_nothing};
 ghost use Rattle.tre_vcd.specs.Kept.{Knows};
 ghost use Rattle.tre_vcd.specs.Times.{vcd-keeps_time};
@@ -62,23 +62,6 @@ impl TokenReader {
         ensures { result ≡ (self.now.past.is_defined && is_nothing self.now.inside) }
     {
         self.past.is_defined && self.inside.is_nothing()
-    }
-
-    // Reads a token of any kind.
-    fn read_token(&mut self, token: &[u8]) -> Said
-        requires some { 0 < length token.now }
-        ensures tells { (place : Place) → Holds self.old place →
-            Tells (token_says (terms_kept self.old) place token.now) (Holds self.new) result }
-        ensures kinds { result ≢ Said.Wrong Spent }
-        ensures same_terms { terms_kept self.new ≡ terms_kept self.old }
-    {
-        match self.inside {
-            Inside::Nothing => self.read_first(token),
-            Inside::Section(command) => self.read_inside(command, token),
-            Inside::Comment => self.read_comment(token),
-            Inside::Vector(value) => self.read_identifier(value, token),
-            Inside::Number => self.pass_over(),
-        }
     }
 
     // Whether the input may end here.
@@ -273,21 +256,6 @@ impl TokenReader {
         }
     }
 
-    // Reads a token where nothing is open.
-    #[inline(always)]
-    fn read_first(&mut self, token: &[u8]) -> Said
-        ensures tells { (past : List Statement) →
-            Holds self.old (record { past = past; inside = nothing }) →
-            Tells (first_says (terms_kept self.old) past token.now) (Holds self.new) result }
-        ensures kinds { result ≢ Said.Wrong Spent }
-        ensures same_terms { terms_kept self.new ≡ terms_kept self.old }
-    {
-        if self.past.is_defined {
-            return self.read_value(token);
-        }
-        self.read_command(token)
-    }
-
     // Reads the identifier that a vector waits for.
     #[inline(always)]
     fn read_identifier(&mut self, value: bool, identifier: &[u8]) -> Said
@@ -470,12 +438,21 @@ impl PartReader for TokenReader {
             return Said::Nothing;
         };
         let letter = *first;
-        // Most tokens are changes of one bit.
-        if is_bit(letter) && !rest.is_empty() && self.reads_values() {
-            self.past.change_scalar(rest, letter == b'1');
-            return Said::Nothing;
+        if self.reads_values() {
+            // Most tokens are changes of one bit.
+            if is_bit(letter) && !rest.is_empty() {
+                self.past.change_scalar(rest, letter == b'1');
+                return Said::Nothing;
+            }
+            return self.read_value(part);
         }
-        self.read_token(part)
+        match self.inside {
+            Inside::Nothing => self.read_command(part),
+            Inside::Section(command) => self.read_inside(command, part),
+            Inside::Comment => self.read_comment(part),
+            Inside::Vector(value) => self.read_identifier(value, part),
+            Inside::Number => self.pass_over(),
+        }
     }
 
     fn at_end(&self) -> Option<TraceKind> {

@@ -94,6 +94,9 @@ pub fn with_value(values: u64, bits: u64, value: bool) -> u64
         bit_at result k ≡ (if value then 1 else 0) }
     ensures kept { (k : ℕ) → bit_at bits k ≢ 1 → bit_at result k ≡ bit_at values k }
 {
+    if bits == 0 {
+        return values;
+    }
     if value {
         return values | bits;
     }
