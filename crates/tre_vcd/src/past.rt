@@ -4,7 +4,7 @@ ghost use Rattle.tre_vcd.specs.VcdReading.{Statement, scope, upscope, var, defin
 ghost use Rattle.tre_vcd.specs.Kept.{Knows, Declares, DeclaresNone};
 
 use crate::scopes::Scopes;
-use crate::variable::with_value;
+use crate::variable::set_value;
 use crate::variables::Variables;
 use std::alloc::{AllocError, Global};
 use tre_state::Names;
@@ -137,7 +137,7 @@ impl Past {
             Knows names event_names self.new (change wide identifier.now value ∷ past) }
     {
         let changed = self.propositions.having(identifier);
-        self.values = with_value(self.values, changed, value);
+        set_value(&mut self.values, changed, value);
     }
 
     // Whether a scalar change may say an event now.
@@ -157,10 +157,10 @@ impl Past {
             Knows names event_names self.new (change scalar identifier.now value ∷ past) }
     {
         let changed = self.propositions.having(identifier);
-        self.values = with_value(self.values, changed, value);
+        set_value(&mut self.values, changed, value);
         if self.reads_events() {
             let said = self.events.having_apart(identifier);
-            self.happened = with_value(self.happened, said, true);
+            set_value(&mut self.happened, said, true);
         }
     }
 
