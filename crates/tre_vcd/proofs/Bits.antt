@@ -7,7 +7,7 @@ use Rattle.tre_vcd.specs.declared.inside.Inside.TheVariants.{Nothing}
 use Rattle.tre_vcd.specs.declared.token_reader.TheConstants.{KEPT_MAX}
 use Rattle.tre_vcd.specs.declared.token_reader.TokenReader.{TokenReader}
 use Rattle.tre_vcd.proofs.Groups.{scalar_value}
-use Rattle.tre_vcd.proofs.Reading.{scalar-says}
+use Rattle.tre_vcd.proofs.Reading.{says-letter, scalar-says}
 
 bit_scalar : (letter : ℕ) → (letter == 48 || letter == 49) ≡ true → is_scalar letter ≡ true
 bit_scalar letter is = grind (arith, nat_tests)
@@ -16,8 +16,8 @@ bit_scalar letter is = grind (arith, nat_tests)
 pub values-say : (terms : Terms) (place : Place) (part : List ℕ) (letter : ℕ) (rest : List ℕ)
     → part ≡ letter ∷ rest → is_defined place.past ≡ true → place.inside ≡ nothing
     → token_says terms place part ≡ value_says terms.names place.past part
-unfolding token_says
-values-say terms place part letter rest is defined open_none = rw (is, open_none, defined) refl
+values-say terms place part letter rest is defined open_none =
+    says-letter terms place part letter rest is ∙ rw (open_none, defined) refl
 
 pub bit-says : (terms : Terms) (place : Place) (part : List ℕ) (letter : ℕ) (rest : List ℕ)
     → part ≡ letter ∷ rest → (letter == 48 || letter == 49) ≡ true → (length rest == 0) ≡ false

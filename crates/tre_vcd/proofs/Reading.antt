@@ -24,9 +24,11 @@ unfolding token_says
 says-token terms place [] some = absurd (grind (arith, nat_tests))
 says-token terms place (byte ∷ bytes) some = refl
 
-pub some-token : (token : List ℕ) (letter : ℕ) (rest : List ℕ) → token ≡ letter ∷ rest
-    → (length token == 0) ≡ false
-some-token token letter rest is = rw is (grind (arith, nat_tests))
+pub says-letter : (terms : Terms) (place : Place) (part : List ℕ) (letter : ℕ) (rest : List ℕ)
+    → part ≡ letter ∷ rest
+    → token_says terms place part ≡ token_at terms place.past place.inside part
+unfolding token_says
+says-letter terms place part letter rest is = rw is refl
 
 pub is-nothing : (inside : Open) → inside_of inside ≡ Nothing → inside ≡ nothing
 is-nothing nothing e = refl

@@ -69,7 +69,7 @@ pub fn letter_of(byte: u8) -> Letter
     }
 }
 
-/// Whether the byte is the letter of a bit that is known.
+/// Whether the byte is `0` or `1`, which are the values of most scalar changes.
 #[inline(always)]
 pub fn is_bit(byte: u8) -> bool
     ensures { result ≡ (byte == 48 || byte == 49) }

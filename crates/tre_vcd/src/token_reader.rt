@@ -1,5 +1,5 @@
 // The tokens of a dump, one after the other.
-ghost use Rattle.std.specs.Prelude.{◌≡◌, ◌≢◌, ◌<◌, ℕ, List, [], ◌∷◌, ◌++◌, length, map, true, false, not, ◌&&◌, OnOk};
+ghost use Rattle.std.specs.Prelude.{◌≡◌, ◌≢◌, ℕ, List, [], ◌∷◌, ◌++◌, map, true, false, not, ◌&&◌, OnOk};
 ghost use Rattle.tre_parts.specs.Walk.{Tells};
 ghost use Rattle.tre_parts.specs.declared.said.Said.{Said};
 ghost use Rattle.tre_trace.specs.declared.fault.TraceKind.TheVariants.{Spent};
@@ -56,7 +56,7 @@ impl TokenReader {
         }
     }
 
-    // Whether the next token is among the values, and nothing is open.
+    // Whether the next token is one among the values, where nothing is open.
     #[inline(always)]
     fn reads_values(&self) -> bool
         ensures { result ≡ (self.now.past.is_defined && is_nothing self.now.inside) }

@@ -3,7 +3,7 @@ use Rattle.tre_parts.specs.Walk.{Tells}
 use Rattle.tre_vcd.specs.VcdReading.{Open, scalar, change, nothing, token_at}
 use Rattle.tre_vcd.specs.Sections.{Holds, terms_kept}
 use Rattle.tre_vcd.proofs.Bits.{bit-says, values-say, values-read, commands-read, commands-say}
-use Rattle.tre_vcd.proofs.Reading.{says-empty, some-token, says-token, is-nothing, is-section, is-comment, is-vector, is-number}
+use Rattle.tre_vcd.proofs.Reading.{says-empty, says-letter, is-nothing, is-section, is-comment, is-vector, is-number}
 use Rattle.tre_vcd.proofs.token_reader.TokenReaderPartReader.read.Goals as goal
 
 pub returns-in_default-clause-tells : goal.returns-in_default-clause-tells
@@ -29,7 +29,9 @@ returns-then-not-is_empty-clause-tells c = λ state holds.
           c.in-Some.ensures.cases.0 (sym c.is_bit.ensures ∙ c.if-is_bit.true)
           (sym c.is_empty.ensures ∙ c.if-not-is_empty.true) reads.defined reads.open_none;
       is_held = record {
-        past = c.change_scalar.ensures reader.names reader.events state.past holds.past reads.defined;
+        past =
+            c.change_scalar.ensures reader.names reader.events state.past holds.past
+            reads.defined;
         inside = reads.stays;
         tokens = reads.tokens;
         suits = tt;
@@ -56,8 +58,8 @@ returns-in-Nothing-clause-tells c = λ state holds.
     let defined = commands-read c.args.self.now state holds
     (sym c.reads_values.ensures ∙ c.if-reads_values.false) c.in-Nothing.is in
     subst (λ said. Tells said (Holds c.read_command.new.self) c.read_command.result)
-    (sym (says-token terms state part (some-token part c.in-Some.first.now c.in-Some.rest.now
-    c.in-Some.ensures.cases.0)
+    (sym (says-letter terms state part c.in-Some.first.now c.in-Some.rest.now
+    c.in-Some.ensures.cases.0
     ∙ (ap (λ (o : Open). token_at terms state.past o part) is
     ∙ commands-say terms state.past part defined)))
     (c.read_command.ensures.tells state.past
@@ -70,7 +72,8 @@ returns-in-Comment-clause-tells c = λ state holds.
     let part = c.args.part.now in
     let is = is-comment state.inside (sym holds.inside ∙ c.in-Comment.is) in
     subst (λ said. Tells said (Holds c.read_comment.new.self) c.read_comment.result)
-    (sym (says-token terms state part (some-token part c.in-Some.first.now c.in-Some.rest.now c.in-Some.ensures.cases.0)
+    (sym (says-letter terms state part c.in-Some.first.now c.in-Some.rest.now
+    c.in-Some.ensures.cases.0
     ∙ ap (λ (o : Open). token_at terms state.past o part) is))
     (c.read_comment.ensures.tells state.past
     (subst (λ (o : Open). Holds c.args.self.now (record { past = state.past; inside = o })) is
@@ -82,7 +85,8 @@ returns-in-Vector-clause-tells c = λ state holds.
     let part = c.args.part.now in
     let is = is-vector state.inside c.in-Vector.value (sym holds.inside ∙ c.in-Vector.is) in
     subst (λ said. Tells said (Holds c.read_identifier.new.self) c.read_identifier.result)
-    (sym (says-token terms state part (some-token part c.in-Some.first.now c.in-Some.rest.now c.in-Some.ensures.cases.0)
+    (sym (says-letter terms state part c.in-Some.first.now c.in-Some.rest.now
+    c.in-Some.ensures.cases.0
     ∙ ap (λ (o : Open). token_at terms state.past o part) is))
     (c.read_identifier.ensures.tells state.past
     (subst (λ (o : Open). Holds c.args.self.now (record { past = state.past; inside = o })) is
@@ -94,7 +98,8 @@ returns-in-Number-clause-tells c = λ state holds.
     let part = c.args.part.now in
     let is = is-number state.inside (sym holds.inside ∙ c.in-Number.is) in
     subst (λ said. Tells said (Holds c.pass_over.new.self) c.pass_over.result)
-    (sym (says-token terms state part (some-token part c.in-Some.first.now c.in-Some.rest.now c.in-Some.ensures.cases.0)
+    (sym (says-letter terms state part c.in-Some.first.now c.in-Some.rest.now
+    c.in-Some.ensures.cases.0
     ∙ ap (λ (o : Open). token_at terms state.past o part) is))
     (c.pass_over.ensures.tells state.past
     (subst (λ (o : Open). Holds c.args.self.now (record { past = state.past; inside = o })) is
@@ -107,7 +112,8 @@ returns-in-Section-clause-tells c = λ state holds.
     let found = is-section state.inside c.in-Section.command
     (sym holds.inside ∙ c.in-Section.is) in
     subst (λ said. Tells said (Holds c.read_inside.new.self) c.read_inside.result)
-    (sym (says-token terms state part (some-token part c.in-Some.first.now c.in-Some.rest.now c.in-Some.ensures.cases.0)
+    (sym (says-letter terms state part c.in-Some.first.now c.in-Some.rest.now
+    c.in-Some.ensures.cases.0
     ∙ ap (λ (o : Open). token_at terms state.past o part) found.is))
     (c.read_inside.ensures.tells state.past found.word found.tokens
     (subst (λ (o : Open). Holds c.args.self.now (record { past = state.past; inside = o }))
