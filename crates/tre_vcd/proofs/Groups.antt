@@ -163,7 +163,7 @@ time_tells asked past ticks late in_time =
     rw (not_below ticks (time_at past) late, not_below TIME_MAX ticks in_time)
     (if_later (ticks == time_at past) (segment_until asked past ticks) (time ticks ∷ past))
 
-scalar_value : (asked : Vocabulary) (past : List Statement) (letter : ℕ) (identifier : List ℕ)
+pub scalar_value : (asked : Vocabulary) (past : List Statement) (letter : ℕ) (identifier : List ℕ)
     → is_scalar letter ≡ true
     → value_says asked past (letter ∷ identifier) ≡ scalar_says past letter identifier
 scalar_value asked past letter identifier is =

@@ -1,3 +1,4 @@
+mod Bits
 mod Deciding
 mod Dumps
 mod Groups

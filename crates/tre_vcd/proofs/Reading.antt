@@ -12,17 +12,23 @@ use Rattle.tre_vcd.specs.declared.command.Command.{Command}
 use Rattle.tre_vcd.specs.declared.inside.Inside.TheVariants.{Nothing, Section, Comment, Vector, Number}
 use Rattle.tre_vcd.specs.declared.token_reader.TokenReader.{TokenReader}
 
-pub says-empty : (terms : Terms) (place : Place) (part : List ℕ) → (length part == 0) ≡ true
+pub says-empty : (terms : Terms) (place : Place) (part : List ℕ) → length part ≡ 0
     → token_says terms place part ≡ goes_to place.past place.inside
 unfolding token_says
 says-empty terms place [] empty = refl
-says-empty terms place (byte ∷ bytes) empty = absurd (grind (arith, nat_tests))
+says-empty terms place (byte ∷ bytes) empty = absurd (omega (arith, empty))
 
 pub says-token : (terms : Terms) (place : Place) (part : List ℕ) → (length part == 0)
     ≡ false → token_says terms place part ≡ token_at terms place.past place.inside part
 unfolding token_says
 says-token terms place [] some = absurd (grind (arith, nat_tests))
 says-token terms place (byte ∷ bytes) some = refl
+
+pub says-letter : (terms : Terms) (place : Place) (part : List ℕ) (letter : ℕ) (rest : List ℕ)
+    → part ≡ letter ∷ rest
+    → token_says terms place part ≡ token_at terms place.past place.inside part
+unfolding token_says
+says-letter terms place part letter rest is = rw is refl
 
 pub is-nothing : (inside : Open) → inside_of inside ≡ Nothing → inside ≡ nothing
 is-nothing nothing e = refl

@@ -79,16 +79,17 @@ pub record IsQuiet (past : List Statement) : Type 0 where
 
 -- Each field is its look-back, for propositions and events of these names. Before the declarations
 -- end it is quiet.
-pub record Knows (names event_names : List (List ℕ)) (kept : Past) (past : List Statement) : Type 0 where
-  pub defined : kept.is_defined ≡ is_defined past
-  pub dump : kept.in_dump ≡ in_dump past
-  pub time : kept.time ≡ time_at past
-  pub scopes : AreScopes (scopes_at past) kept.scopes.prefix.items kept.scopes.lens.items
-  pub propositions : KeepsNames (identifier_of is_signal past) names kept.propositions
-  pub events : KeepsNames (identifier_of is_event past) event_names kept.events
-  pub values : kept.values ≡ valuation_at past names
-  pub happened : kept.happened ≡ events_at past event_names
-  pub quiet : is_defined past ≡ false → IsQuiet past
+pub record Knows (names event_names : List (List ℕ)) (kept : Past) (past : List Statement) : Type 0
+  where
+    pub defined : kept.is_defined ≡ is_defined past
+    pub dump : kept.in_dump ≡ in_dump past
+    pub time : kept.time ≡ time_at past
+    pub scopes : AreScopes (scopes_at past) kept.scopes.prefix.items kept.scopes.lens.items
+    pub propositions : KeepsNames (identifier_of is_signal past) names kept.propositions
+    pub events : KeepsNames (identifier_of is_event past) event_names kept.events
+    pub values : kept.values ≡ valuation_at past names
+    pub happened : kept.happened ≡ events_at past event_names
+    pub quiet : is_defined past ≡ false → IsQuiet past
 
 -- By variables that pass the test, the tokens declare this path alone.
 pub record Declares (test : List ℕ → List ℕ → Bool) (scopes tokens : List (List ℕ))

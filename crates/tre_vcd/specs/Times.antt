@@ -118,8 +118,8 @@ keeps-keyword past token =
 keeps-scalar : (past : List Statement) (letter : ℕ) (identifier : List ℕ) → KeepsOrder past
     (scalar_says past letter identifier)
 keeps-scalar past letter [] = keeps-err past BadToken
-keeps-scalar past letter (byte ∷ bytes) = keeps-goes past (change scalar (byte ∷ bytes) (letter == 49) ∷
-    past) nothing refl
+keeps-scalar past letter (byte ∷ bytes) =
+    keeps-goes past (change scalar (byte ∷ bytes) (letter == 49) ∷ past) nothing refl
 
 keeps-vector : (past : List Statement) (value : List ℕ) → KeepsOrder past (vector_says past value)
 keeps-vector past [] = keeps-err past BadToken
@@ -145,8 +145,8 @@ keeps-token terms past (section command tokens) token =
     (keeps-goes past past (section command (tokens ++ token ∷ [])) refl)
 keeps-token terms past comment token = keeps-goes past past (if is_end token then nothing else
     comment) refl
-keeps-token terms past (vector value) token = keeps-goes past (change wide token value ∷ past) nothing
-    refl
+keeps-token terms past (vector value) token =
+    keeps-goes past (change wide token value ∷ past) nothing refl
 keeps-token terms past number token = keeps-goes past past nothing refl
 
 keeps-part : (terms : Terms) (place : Place) (part : List ℕ) → KeepsOrder place.past

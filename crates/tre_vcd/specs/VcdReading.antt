@@ -259,7 +259,8 @@ is_scalar byte = list_any (λ letter. byte == letter) (codes "01xXzZuUwWlLhH-")
 -- a scalar change: the value's letter, and an identifier of one byte at least
 abbrev pub scalar_says : List Statement → ℕ → List ℕ → Result (Step Place) TraceKind
 scalar_says past letter [] = Err BadToken
-scalar_says past letter identifier = goes_to (change scalar identifier (letter == 49) ∷ past) nothing
+scalar_says past letter identifier =
+    goes_to (change scalar identifier (letter == 49) ∷ past) nothing
 
 -- whether the last byte is `1` (49)
 abbrev pub ends_true : List ℕ → Bool

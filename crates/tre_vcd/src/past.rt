@@ -4,7 +4,7 @@ ghost use Rattle.tre_vcd.specs.VcdReading.{Statement, scope, upscope, var, defin
 ghost use Rattle.tre_vcd.specs.Kept.{Knows, Declares, DeclaresNone};
 
 use crate::scopes::Scopes;
-use crate::variable::with_value;
+use crate::variable::set_value;
 use crate::variables::Variables;
 use std::alloc::{AllocError, Global};
 use tre_state::Names;
@@ -45,7 +45,8 @@ impl Past {
 
     // A scope opens.
     pub fn enter(&mut self, name: &[u8]) -> Result<(), AllocError>
-        ensures { (names event_names : List (List ℕ)) (past : List Statement) → Knows names event_names self.old past →
+        ensures { (names event_names : List (List ℕ)) (past : List Statement) →
+            Knows names event_names self.old past →
             OnOk result (Knows names event_names self.new (scope name.now ∷ past)) }
     {
         self.scopes.enter(name)
@@ -53,7 +54,8 @@ impl Past {
 
     // The innermost scope closes.
     pub fn leave(&mut self)
-        ensures { (names event_names : List (List ℕ)) (past : List Statement) → Knows names event_names self.old past →
+        ensures { (names event_names : List (List ℕ)) (past : List Statement) →
+            Knows names event_names self.old past →
             Knows names event_names self.new (upscope ∷ past) }
     {
         self.scopes.leave();
@@ -98,7 +100,8 @@ impl Past {
 
     // The declarations end.
     pub fn define(&mut self)
-        ensures { (names event_names : List (List ℕ)) (past : List Statement) → Knows names event_names self.old past →
+        ensures { (names event_names : List (List ℕ)) (past : List Statement) →
+            Knows names event_names self.old past →
             Knows names event_names self.new (definitions ∷ past) }
     {
         self.is_defined = true;
@@ -115,7 +118,8 @@ impl Past {
 
     // A time is reached.
     pub fn reach(&mut self, ticks: u64)
-        ensures { (names event_names : List (List ℕ)) (past : List Statement) → Knows names event_names self.old past →
+        ensures { (names event_names : List (List ℕ)) (past : List Statement) →
+            Knows names event_names self.old past →
             Knows names event_names self.new (time ticks ∷ past) }
     {
         if ticks != self.time {
@@ -127,12 +131,13 @@ impl Past {
     // An identifier changes to this value, as a vector.
     #[inline(always)]
     pub fn change(&mut self, identifier: &[u8], value: bool)
-        ensures { (names event_names : List (List ℕ)) (past : List Statement) → Knows names event_names self.old past →
+        ensures { (names event_names : List (List ℕ)) (past : List Statement) →
+            Knows names event_names self.old past →
             is_defined past ≡ true →
             Knows names event_names self.new (change wide identifier.now value ∷ past) }
     {
         let changed = self.propositions.having(identifier);
-        self.values = with_value(self.values, changed, value);
+        set_value(&mut self.values, changed, value);
     }
 
     // Whether a scalar change may say an event now.
@@ -140,27 +145,29 @@ impl Past {
     fn reads_events(&self) -> bool
         ensures { result ≡ (not self.now.in_dump && not (length self.now.events.list.items == 0)) }
     {
-        !self.in_dump && !self.events.is_empty()
+        !self.events.is_empty() && !self.in_dump
     }
 
     // An identifier changes to this value, as a scalar, which says its event.
     #[inline(always)]
     pub fn change_scalar(&mut self, identifier: &[u8], value: bool)
-        ensures { (names event_names : List (List ℕ)) (past : List Statement) → Knows names event_names self.old past →
+        ensures { (names event_names : List (List ℕ)) (past : List Statement) →
+            Knows names event_names self.old past →
             is_defined past ≡ true →
             Knows names event_names self.new (change scalar identifier.now value ∷ past) }
     {
         let changed = self.propositions.having(identifier);
-        self.values = with_value(self.values, changed, value);
+        set_value(&mut self.values, changed, value);
         if self.reads_events() {
             let said = self.events.having_apart(identifier);
-            self.happened = with_value(self.happened, said, true);
+            set_value(&mut self.happened, said, true);
         }
     }
 
     // A dump section opens.
     pub fn open_dump(&mut self)
-        ensures { (names event_names : List (List ℕ)) (past : List Statement) → Knows names event_names self.old past →
+        ensures { (names event_names : List (List ℕ)) (past : List Statement) →
+            Knows names event_names self.old past →
             Knows names event_names self.new (dump ∷ past) }
     {
         self.in_dump = true;
@@ -168,7 +175,8 @@ impl Past {
 
     // The dump section closes.
     pub fn close_dump(&mut self)
-        ensures { (names event_names : List (List ℕ)) (past : List Statement) → Knows names event_names self.old past →
+        ensures { (names event_names : List (List ℕ)) (past : List Statement) →
+            Knows names event_names self.old past →
             Knows names event_names self.new (dump_end ∷ past) }
     {
         self.in_dump = false;
@@ -176,7 +184,8 @@ impl Past {
 
     // The values of the propositions now.
     pub fn valuation(&self) -> u64
-        ensures { (names event_names : List (List ℕ)) (past : List Statement) → Knows names event_names self.now past →
+        ensures { (names event_names : List (List ℕ)) (past : List Statement) →
+            Knows names event_names self.now past →
             result ≡ valuation_at past names }
     {
         self.values
@@ -184,7 +193,8 @@ impl Past {
 
     // The events that happened at the time.
     pub fn events(&self) -> u64
-        ensures { (names event_names : List (List ℕ)) (past : List Statement) → Knows names event_names self.now past →
+        ensures { (names event_names : List (List ℕ)) (past : List Statement) →
+            Knows names event_names self.now past →
             result ≡ events_at past event_names }
     {
         self.happened

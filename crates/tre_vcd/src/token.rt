@@ -1,5 +1,5 @@
 // What stands in a token.
-ghost use Rattle.std.specs.Prelude.{◌≡◌, ◌||◌, ℕ, List, not};
+ghost use Rattle.std.specs.Prelude.{◌≡◌, ◌==◌, ◌||◌, ℕ, List, not};
 ghost use Rattle.tre_vcd.specs.Letters.{letter_of};
 ghost use Rattle.tre_vcd.specs.VcdReading.{is, is_end, is_dump, is_command, is_signal, is_event, ends_true};
 
@@ -67,6 +67,14 @@ pub fn letter_of(byte: u8) -> Letter
         b'$' => Letter::Keyword,
         _ => Letter::Other,
     }
+}
+
+/// Whether the byte is `0` or `1`, which are the values of most scalar changes.
+#[inline(always)]
+pub fn is_bit(byte: u8) -> bool
+    ensures { result ≡ (byte == 48 || byte == 49) }
+{
+    byte == b'0' || byte == b'1'
 }
 
 /// Whether the value of a vector is true: its last byte is `1`.

@@ -3,7 +3,7 @@ ghost use Rattle.std.specs.Prelude.{◌≡◌, ◌≢◌, ℕ, List, [], ◌∷�
 ghost use Rattle.tre_parts.specs.Walk.{Tells};
 ghost use Rattle.tre_parts.specs.declared.said.Said.{Said};
 ghost use Rattle.tre_trace.specs.declared.fault.TraceKind.TheVariants.{Spent};
-ghost use Rattle.tre_vcd.specs.VcdReading.{Terms, terms_of, first_place, wide, Statement, var, Place, nothing, section, comment, vector, number, is_defined, goes_to, vcd_format, token_says, command_says, section_says, ticks_say, keyword_says, scalar_says, vector_says, value_says, scope_says, declaration_says, dump_says, dump_end_says, first_says, change, token_at};
+ghost use Rattle.tre_vcd.specs.VcdReading.{Terms, terms_of, first_place, wide, Statement, var, Place, nothing, section, comment, vector, number, is_defined, goes_to, vcd_format, token_says, command_says, section_says, ticks_say, keyword_says, scalar_says, vector_says, value_says, scope_says, declaration_says, dump_says, dump_end_says, change, token_at};
 ghost use Rattle.tre_vcd.specs.Sections.{Holds, asked_of, terms_kept, command_of, is_nothing};
 ghost use Rattle.tre_vcd.specs.Kept.{Knows};
 ghost use Rattle.tre_vcd.specs.Times.{vcd-keeps_time};
@@ -12,7 +12,7 @@ use crate::command::{Command, command_of};
 use crate::inside::Inside;
 use crate::past::Past;
 use crate::token::{
-    Letter, ends_true, is, is_dump, is_end, is_event, is_misplaced, is_signal, letter_of,
+    Letter, ends_true, is, is_bit, is_dump, is_end, is_event, is_misplaced, is_signal, letter_of,
 };
 use crate::white::White;
 use std::alloc::{AllocError, Global};
@@ -54,6 +54,14 @@ impl TokenReader {
             inside: Inside::Nothing,
             tokens: Vec::new(alloc),
         }
+    }
+
+    // Whether the next token is one among the values, where nothing is open.
+    #[inline(always)]
+    fn reads_values(&self) -> bool
+        ensures { result ≡ (self.now.past.is_defined && is_nothing self.now.inside) }
+    {
+        self.past.is_defined && self.inside.is_nothing()
     }
 
     // Whether the input may end here.
@@ -248,27 +256,13 @@ impl TokenReader {
         }
     }
 
-    // Reads a token where nothing is open.
-    #[inline(always)]
-    fn read_first(&mut self, token: &[u8]) -> Said
-        ensures tells { (past : List Statement) →
-            Holds self.old (record { past = past; inside = nothing }) →
-            Tells (first_says (terms_kept self.old) past token.now) (Holds self.new) result }
-        ensures kinds { result ≢ Said.Wrong Spent }
-        ensures same_terms { terms_kept self.new ≡ terms_kept self.old }
-    {
-        if self.past.is_defined {
-            return self.read_value(token);
-        }
-        self.read_command(token)
-    }
-
     // Reads the identifier that a vector waits for.
     #[inline(always)]
     fn read_identifier(&mut self, value: bool, identifier: &[u8]) -> Said
         ensures tells { (past : List Statement) →
             Holds self.old (record { past = past; inside = vector value }) →
-            Tells (goes_to (change wide identifier.now value ∷ past) nothing) (Holds self.new) result }
+            Tells (goes_to (change wide identifier.now value ∷ past) nothing) (Holds self.new)
+            result }
         ensures kinds { result ≢ Said.Wrong Spent }
         ensures same_terms { terms_kept self.new ≡ terms_kept self.old }
     {
@@ -279,7 +273,8 @@ impl TokenReader {
 
     // Nothing is open any more.
     fn close(&mut self)
-        ensures holds { (past : List Statement) → Knows self.old.names self.old.events self.old.past past →
+        ensures holds { (past : List Statement) →
+            Knows self.old.names self.old.events self.old.past past →
             Holds self.new (record { past = past; inside = nothing }) }
         ensures same_terms { terms_kept self.new ≡ terms_kept self.old }
     {
@@ -439,11 +434,20 @@ impl PartReader for TokenReader {
 
     #[inline(always)]
     fn read(&mut self, part: &[u8]) -> Said {
-        if part.is_empty() {
+        let Some((first, rest)) = part.split_first() else {
             return Said::Nothing;
+        };
+        let letter = *first;
+        if self.reads_values() {
+            // Most tokens are changes of one bit.
+            if is_bit(letter) && !rest.is_empty() {
+                self.past.change_scalar(rest, letter == b'1');
+                return Said::Nothing;
+            }
+            return self.read_value(part);
         }
         match self.inside {
-            Inside::Nothing => self.read_first(part),
+            Inside::Nothing => self.read_command(part),
             Inside::Section(command) => self.read_inside(command, part),
             Inside::Comment => self.read_comment(part),
             Inside::Vector(value) => self.read_identifier(value, part),

@@ -87,17 +87,21 @@ pub fn having(variables: &[Variable], numbers: u64, identifier: &[u8]) -> u64
     having
 }
 
-// The values, where those of the bits become this one.
+// Gives those of the bits this value.
 #[inline(always)]
-pub fn with_value(values: u64, bits: u64, value: bool) -> u64
+pub fn set_value(values: &mut u64, bits: u64, value: bool)
     ensures changed { (k : ℕ) → bit_at bits k ≡ 1 →
-        bit_at result k ≡ (if value then 1 else 0) }
-    ensures kept { (k : ℕ) → bit_at bits k ≢ 1 → bit_at result k ≡ bit_at values k }
+        bit_at values.new k ≡ (if value then 1 else 0) }
+    ensures kept { (k : ℕ) → bit_at bits k ≢ 1 → bit_at values.new k ≡ bit_at values.old k }
 {
-    if value {
-        return values | bits;
+    if bits == 0 {
+        return;
     }
-    values ^ (values & bits)
+    if value {
+        *values |= bits;
+        return;
+    }
+    *values ^= *values & bits;
 }
 
 // Whether each of the variables is declared.

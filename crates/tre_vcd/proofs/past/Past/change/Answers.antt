@@ -7,8 +7,8 @@ pub returns : goal.returns
 returns c = λ names event_names past known defined.
     let kept = c.args.self.now in
     let identifier = c.args.identifier.now in
-    knows-change names event_names kept past wide identifier c.args.value c.with_value-self.result
+    knows-change names event_names kept past wide identifier c.args.value c.set_value.new.values
     kept.happened c.having-changed.result defined
-    (c.having-changed.ensures known.propositions.sieve) c.with_value-self.ensures.changed
-    c.with_value-self.ensures.kept
+    (c.having-changed.ensures known.propositions.sieve) c.set_value.ensures.changed
+    c.set_value.ensures.kept
     (events-stay names event_names kept past wide identifier c.args.value (λ other. refl) known) known

@@ -9,23 +9,23 @@ returns-then-reads_events c = λ names event_names past known defined.
     let identifier = c.args.identifier.now in
     let outside : in_dump past ≡ false =
     sym known.dump ∙ outside-read kept (sym c.reads_events.ensures ∙ c.if-reads_events.true) in
-    let happened = c.with_value-self-then-reads_events.result in
+    let happened = c.set_value-then-reads_events.new.values in
     knows-change names event_names kept past scalar identifier c.args.value
-    c.with_value-self.result happened c.having-changed.result defined
-    (c.having-changed.ensures known.propositions.sieve) c.with_value-self.ensures.changed
-    c.with_value-self.ensures.kept
+    c.set_value.new.values happened c.having-changed.result defined
+    (c.having-changed.ensures known.propositions.sieve) c.set_value.ensures.changed
+    c.set_value.ensures.kept
     (events-said names event_names kept past identifier c.args.value happened
     c.having_apart-said.result outside (c.having_apart-said.ensures known.events.sieve)
-    c.with_value-self-then-reads_events.ensures.changed
-    c.with_value-self-then-reads_events.ensures.kept known) known
+    c.set_value-then-reads_events.ensures.changed
+    c.set_value-then-reads_events.ensures.kept known) known
 
 pub returns-else-reads_events : goal.returns-else-reads_events
 returns-else-reads_events c = λ names event_names past known defined.
     let kept = c.args.self.now in
     let identifier = c.args.identifier.now in
     knows-change names event_names kept past scalar identifier c.args.value
-    c.with_value-self.result kept.happened c.having-changed.result defined
-    (c.having-changed.ensures known.propositions.sieve) c.with_value-self.ensures.changed
-    c.with_value-self.ensures.kept
+    c.set_value.new.values kept.happened c.having-changed.result defined
+    (c.having-changed.ensures known.propositions.sieve) c.set_value.ensures.changed
+    c.set_value.ensures.kept
     (events-unread names event_names kept past identifier c.args.value _ _ refl refl
     (sym c.reads_events.ensures ∙ c.if-reads_events.false) known) known

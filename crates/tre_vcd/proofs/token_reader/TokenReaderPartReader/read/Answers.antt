@@ -1,29 +1,70 @@
-use Rattle.std.proofs.Common.{sym, ap, ◌∙◌, subst}
+use Rattle.std.proofs.Common.{◌==◌, ◌∷◌, sym, ap, ◌∙◌, subst}
 use Rattle.tre_parts.specs.Walk.{Tells}
-use Rattle.tre_vcd.specs.VcdReading.{Open, token_at}
+use Rattle.tre_vcd.specs.VcdReading.{Open, scalar, change, nothing, token_at}
 use Rattle.tre_vcd.specs.Sections.{Holds, terms_kept}
-use Rattle.tre_vcd.proofs.Reading.{says-empty, says-token, is-nothing, is-section, is-comment, is-vector, is-number}
+use Rattle.tre_vcd.proofs.Bits.{bit-says, values-say, values-read, commands-read, commands-say}
+use Rattle.tre_vcd.proofs.Reading.{says-empty, says-letter, is-nothing, is-section, is-comment, is-vector, is-number}
 use Rattle.tre_vcd.proofs.token_reader.TokenReaderPartReader.read.Goals as goal
 
-pub returns-then-is_empty-clause-tells : goal.returns-then-is_empty-clause-tells
-returns-then-is_empty-clause-tells c = λ state holds. record {
+pub returns-in_default-clause-tells : goal.returns-in_default-clause-tells
+returns-in_default-clause-tells c = λ state holds. record {
   state = state;
-  says = says-empty (terms_kept c.args.self.now) state c.args.part.now
-      (sym c.is_empty.ensures ∙ c.if-is_empty.true);
+  says = says-empty (terms_kept c.args.self.now) state c.args.part.now c.in_default.ensures.cases;
   is_held = holds;
 }
+
+pub returns-then-not-is_empty-clause-tells : goal.returns-then-not-is_empty-clause-tells
+returns-then-not-is_empty-clause-tells c = λ state holds.
+    let reader = c.args.self.now in
+    let letter = c.in-Some.first.now in
+    let rest = c.in-Some.rest.now in
+    let reads = values-read reader state holds
+    (sym c.reads_values.ensures ∙ c.if-reads_values.true) in
+    record {
+      state = record {
+        past = change scalar rest (letter == 49) ∷ state.past;
+        inside = nothing;
+      };
+      says = bit-says (terms_kept reader) state c.args.part.now letter rest
+          c.in-Some.ensures.cases.0 (sym c.is_bit.ensures ∙ c.if-is_bit.true)
+          (sym c.is_empty.ensures ∙ c.if-not-is_empty.true) reads.defined reads.open_none;
+      is_held = record {
+        past =
+            c.change_scalar.ensures reader.names reader.events state.past holds.past
+            reads.defined;
+        inside = reads.stays;
+        tokens = reads.tokens;
+        suits = tt;
+      };
+    }
+
+pub returns-then-reads_values-clause-tells : goal.returns-then-reads_values-clause-tells
+returns-then-reads_values-clause-tells c = λ state holds.
+    let terms = terms_kept c.args.self.now in
+    let reads = values-read c.args.self.now state holds
+    (sym c.reads_values.ensures ∙ c.if-reads_values.true) in
+    subst (λ said. Tells said (Holds c.read_value.new.self) c.read_value.result)
+    (sym (values-say terms state c.args.part.now c.in-Some.first.now c.in-Some.rest.now
+    c.in-Some.ensures.cases.0 reads.defined reads.open_none))
+    (c.read_value.ensures.tells state.past
+    (subst (λ (o : Open). Holds c.args.self.now (record { past = state.past; inside = o }))
+    reads.open_none holds) reads.defined)
 
 pub returns-in-Nothing-clause-tells : goal.returns-in-Nothing-clause-tells
 returns-in-Nothing-clause-tells c = λ state holds.
     let terms = terms_kept c.args.self.now in
     let part = c.args.part.now in
     let is = is-nothing state.inside (sym holds.inside ∙ c.in-Nothing.is) in
-    subst (λ said. Tells said (Holds c.read_first.new.self) c.read_first.result)
-    (sym (says-token terms state part (sym c.is_empty.ensures ∙ c.if-is_empty.false)
-    ∙ ap (λ (o : Open). token_at terms state.past o part) is))
-    (c.read_first.ensures.tells state.past
+    let defined = commands-read c.args.self.now state holds
+    (sym c.reads_values.ensures ∙ c.if-reads_values.false) c.in-Nothing.is in
+    subst (λ said. Tells said (Holds c.read_command.new.self) c.read_command.result)
+    (sym (says-letter terms state part c.in-Some.first.now c.in-Some.rest.now
+    c.in-Some.ensures.cases.0
+    ∙ (ap (λ (o : Open). token_at terms state.past o part) is
+    ∙ commands-say terms state.past part defined)))
+    (c.read_command.ensures.tells state.past
     (subst (λ (o : Open). Holds c.args.self.now (record { past = state.past; inside = o })) is
-    holds))
+    holds) defined)
 
 pub returns-in-Comment-clause-tells : goal.returns-in-Comment-clause-tells
 returns-in-Comment-clause-tells c = λ state holds.
@@ -31,7 +72,8 @@ returns-in-Comment-clause-tells c = λ state holds.
     let part = c.args.part.now in
     let is = is-comment state.inside (sym holds.inside ∙ c.in-Comment.is) in
     subst (λ said. Tells said (Holds c.read_comment.new.self) c.read_comment.result)
-    (sym (says-token terms state part (sym c.is_empty.ensures ∙ c.if-is_empty.false)
+    (sym (says-letter terms state part c.in-Some.first.now c.in-Some.rest.now
+    c.in-Some.ensures.cases.0
     ∙ ap (λ (o : Open). token_at terms state.past o part) is))
     (c.read_comment.ensures.tells state.past
     (subst (λ (o : Open). Holds c.args.self.now (record { past = state.past; inside = o })) is
@@ -43,7 +85,8 @@ returns-in-Vector-clause-tells c = λ state holds.
     let part = c.args.part.now in
     let is = is-vector state.inside c.in-Vector.value (sym holds.inside ∙ c.in-Vector.is) in
     subst (λ said. Tells said (Holds c.read_identifier.new.self) c.read_identifier.result)
-    (sym (says-token terms state part (sym c.is_empty.ensures ∙ c.if-is_empty.false)
+    (sym (says-letter terms state part c.in-Some.first.now c.in-Some.rest.now
+    c.in-Some.ensures.cases.0
     ∙ ap (λ (o : Open). token_at terms state.past o part) is))
     (c.read_identifier.ensures.tells state.past
     (subst (λ (o : Open). Holds c.args.self.now (record { past = state.past; inside = o })) is
@@ -55,7 +98,8 @@ returns-in-Number-clause-tells c = λ state holds.
     let part = c.args.part.now in
     let is = is-number state.inside (sym holds.inside ∙ c.in-Number.is) in
     subst (λ said. Tells said (Holds c.pass_over.new.self) c.pass_over.result)
-    (sym (says-token terms state part (sym c.is_empty.ensures ∙ c.if-is_empty.false)
+    (sym (says-letter terms state part c.in-Some.first.now c.in-Some.rest.now
+    c.in-Some.ensures.cases.0
     ∙ ap (λ (o : Open). token_at terms state.past o part) is))
     (c.pass_over.ensures.tells state.past
     (subst (λ (o : Open). Holds c.args.self.now (record { past = state.past; inside = o })) is
@@ -68,7 +112,8 @@ returns-in-Section-clause-tells c = λ state holds.
     let found = is-section state.inside c.in-Section.command
     (sym holds.inside ∙ c.in-Section.is) in
     subst (λ said. Tells said (Holds c.read_inside.new.self) c.read_inside.result)
-    (sym (says-token terms state part (sym c.is_empty.ensures ∙ c.if-is_empty.false)
+    (sym (says-letter terms state part c.in-Some.first.now c.in-Some.rest.now
+    c.in-Some.ensures.cases.0
     ∙ ap (λ (o : Open). token_at terms state.past o part) found.is))
     (c.read_inside.ensures.tells state.past found.word found.tokens
     (subst (λ (o : Open). Holds c.args.self.now (record { past = state.past; inside = o }))

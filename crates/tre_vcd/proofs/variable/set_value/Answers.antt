@@ -2,15 +2,15 @@ use Rattle.std.proofs.Common.{◌≡◌, Bool, sym, ap, ◌∙◌, arith, bit_an
 use Rattle.std.specs.Int.{bit_at}
 use Rattle.std.specs.Int.Bits.{bit_or, bit_xor}
 use Rattle.std.proofs.lemmas.Nat.Bits.{bit_at_or, bit_at_and, bit_at_xor, bit_at-lt}
-use Rattle.tre_vcd.proofs.variable.with_value.Goals as goal
+use Rattle.tre_vcd.proofs.variable.set_value.Goals as goal
 
 pub returns-then-value-clause-kept : goal.returns-then-value-clause-kept
 returns-then-value-clause-kept c = λ k clear.
-    omega (arith, clear, bit_at_or c.args.values c.args.bits k, bit_at-lt c.args.bits k)
+    omega (arith, clear, bit_at_or c.args.values.now c.args.bits k, bit_at-lt c.args.bits k)
 
 pub returns-then-value-clause-changed : goal.returns-then-value-clause-changed
 returns-then-value-clause-changed c = λ k set.
-    let values = c.args.values in
+    let values = c.args.values.now in
     let bits = c.args.bits in
     let one : bit_at (bit_or values bits) k ≡ 1 =
     omega (arith, set, bit_at_or values bits k, bit_at-lt values k) in
@@ -18,7 +18,7 @@ returns-then-value-clause-changed c = λ k set.
 
 pub returns-clause-changed : goal.returns-clause-changed
 returns-clause-changed c = λ k set.
-    let values = c.args.values in
+    let values = c.args.values.now in
     let bits = c.args.bits in
     let none : bit_at (bit_xor values (bit_and values bits)) k ≡ 0 =
     omega (
@@ -35,8 +35,8 @@ returns-clause-kept c = λ k clear.
     omega (
       arith,
       clear,
-      bit_at_xor c.args.values (bit_and c.args.values c.args.bits) k,
-      bit_at_and c.args.values c.args.bits k,
+      bit_at_xor c.args.values.now (bit_and c.args.values.now c.args.bits) k,
+      bit_at_and c.args.values.now c.args.bits k,
       bit_at-lt c.args.bits k,
-      bit_at-lt c.args.values k,
+      bit_at-lt c.args.values.now k,
     )
