@@ -209,28 +209,24 @@ const DUMPS: [(&str, &str, &str, &str); 6] = [
 /// Whether a run of these words over the dump with this behind its head writes this.
 fn is_answer_of_dump(
     alloc: Global,
-    mode: &[&str],
-    pattern: &str,
+    words: &[&str],
     text: &str,
     out: &str,
 ) -> Result<bool, AllocError> {
-    let mut words = mode.to_vec(alloc)?;
-    for word in ["--format", "vcd", pattern] {
-        words.push(word)?;
-    }
     let dump = format!(in alloc; "{HEAD}{text}")?;
-    is_answer(alloc, &words, dump.as_str(), out)
+    is_answer(alloc, words, dump.as_str(), out)
 }
 
 #[test]
 fn events_in_dumps(rt: HostRuntime) -> Result<(), Fail> {
     for (pattern, text, out, blocks) in &DUMPS {
         assert!(rt;
-            is_answer_of_dump(rt.alloc(), &[], *pattern, *text, *out)?,
+            is_answer_of_dump(rt.alloc(), &["--format", "vcd", *pattern], *text, *out)?,
             "{pattern} on {text}"
         );
+        let words = ["--online", "--format", "vcd", *pattern];
         assert!(rt;
-            is_answer_of_dump(rt.alloc(), &["--online"], *pattern, *text, *blocks)?,
+            is_answer_of_dump(rt.alloc(), &words, *text, *blocks)?,
             "{pattern} on {text}, online"
         );
     }
