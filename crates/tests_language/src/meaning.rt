@@ -98,8 +98,18 @@ const EVENTS: [(&str, Happenings, Stretch, bool); 14] = [
     ("event(a) ; event(a)", (&[(3, 1, 1)], 0), (0, 0, 1), true),
     // A number of its own: the proposition p and the event p are two.
     ("event(p) ; p", (&[(3, 1, 1)], 0), (0, 3, 1), true),
-    ("event(p) ; p", (&[(2, 1, 1), (1, 1, 0)], 0), (2, 3, 1), false),
-    ("p ; event(q)", (&[(2, 1, 0), (2, 0, 1)], 0), (0, 2, 1), true),
+    (
+        "event(p) ; p",
+        (&[(2, 1, 1), (1, 1, 0)], 0),
+        (2, 3, 1),
+        false,
+    ),
+    (
+        "p ; event(q)",
+        (&[(2, 1, 0), (2, 0, 1)], 0),
+        (0, 2, 1),
+        true,
+    ),
 ];
 
 #[test]
@@ -108,7 +118,10 @@ fn events_have_numbers_of_their_own(rt: HostRuntime) -> Result<(), Fail> {
         let pattern = parse(rt.alloc(), *text)?;
         let trace = trace_with(rt.alloc(), trace.0, trace.1)?;
         let (a, b, n) = *stretch;
-        assert!(rt; decide(&pattern, &trace, a, b, n, 1) == *want, "{text} on {stretch:?}");
+        assert!(rt;
+            decide(&pattern, &trace, a, b, n, 1) == *want,
+            "{text} on {stretch:?}"
+        );
     }
     Ok(())
 }

@@ -230,7 +230,10 @@ fn propositions_and_events_have_names_of_their_own(rt: HostRuntime) -> Result<()
         let pattern = parse(rt.alloc(), *text)?;
         let names = joined(rt.alloc(), pattern.names())?;
         let others = joined(rt.alloc(), pattern.events())?;
-        assert!(rt; names.as_str() == *propositions && others.as_str() == *events, "{text}");
+        assert!(rt;
+            names.as_str() == *propositions && others.as_str() == *events,
+            "{text}"
+        );
     }
     Ok(())
 }

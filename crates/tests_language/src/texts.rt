@@ -15,7 +15,10 @@ const PATTERNS: [(&str, &str); 9] = [
     ("{p || q && !p}*", "{p || q && !p}*"),
     ("fall(!(p && q)) % (0,4]", "fall(!(p && q)) % (0,4]"),
     ("event ( ready )", "event(ready)"),
-    ("(event(a);p)*&event(b)?", "(event(a);p)* & (event(b) | eps)"),
+    (
+        "(event(a);p)*&event(b)?",
+        "(event(a);p)* & (event(b) | eps)",
+    ),
     ("p ; event(q) ; q ; event(p)", "p;event(q);q;event(p)"),
 ];
 

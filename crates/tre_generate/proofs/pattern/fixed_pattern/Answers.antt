@@ -9,8 +9,7 @@ unreachable-requires c =
     let tree : tree_of c.in_ok-expr.expr ≡ fixed_tree =
     c.in_ok-expr.ensures
     ∙ rw (c.in_ok-once.ensures, c.in_ok-new.ensures.ok, c.in_ok-pulse_and_pause.ensures) refl in
-    let never : false ≡ true = c.in-None.ensures.some.1
-    (
+    let never : false ≡ true = c.in-None.ensures.some.1 (
       rw tree fixed_small,
       rw (tree, c.in_ok-names.ensures) fixed_numbered,
       rw (tree, c.new-events.ensures) fixed_no_events,
