@@ -1,5 +1,6 @@
 mod Entries
 mod Fields
+mod Heads
 mod TraceLines
 mod Valuations
 mod Words

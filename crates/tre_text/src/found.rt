@@ -9,3 +9,12 @@ pub enum Found {
     Entry(u64, u64),
     Wrong(TraceKind),
 }
+
+/// What the first field of a line says.
+#[derive(Clone, Copy)]
+pub enum Head {
+    /// The names of events follow.
+    Events,
+    /// A segment takes so long, and the names of what is true follow.
+    Entry(u64),
+}

@@ -1,12 +1,11 @@
 // What one line of a text trace says.
-ghost use Rattle.std.specs.Prelude.{◌≡◌, ℕ, ◌+◌, ◌≤◌, List, ◌∷◌, true, false, IfNone, IfSome};
+ghost use Rattle.std.specs.Prelude.{◌≡◌, ◌+◌, ◌≤◌, true, false, IfNone, IfSome};
 ghost use Rattle.std.specs.List.{list_all};
-ghost use Rattle.tre_decimal.specs.Decimal.{is_numeral};
-ghost use Rattle.tre_text.specs.TextReading.{begins_comment, begins_events, fields_among, spells_word, with_name, valuation_after, fields_say, line_says};
-ghost use Rattle.tre_text.specs.Lines.{Finds};
+ghost use Rattle.tre_text.specs.TextReading.{begins_comment, begins_events, fields_among, spells_word, with_name, valuation_after, line_says};
+ghost use Rattle.tre_text.specs.Lines.{Finds, Heads, list_of, said_of};
 
 use crate::field::{next_field, skip_blanks, without_return};
-use crate::found::Found;
+use crate::found::{Found, Head};
 use crate::known::Known;
 use crate::word::{ends_word, word_end};
 use tre_decimal::read_numeral;
@@ -54,22 +53,44 @@ fn is_events(first: &[u8]) -> bool
     first.len() == 1 && first[0] == b'@'
 }
 
-// What a line says that begins with no number: events, or nothing that can be read.
-fn read_events(events: &Names, known: Known, first: &[u8], fields: &[u8]) -> Found
+// What the first field of a line says, where it is no comment.
+fn head_of(known: Known, first: &[u8]) -> Result<Head, TraceKind>
     requires no_comment { begins_comment first.now ≡ false }
-    requires no_numeral { is_numeral first.now ≡ false }
-    ensures { (names : List (List ℕ)) → Finds (fields_say (record {
-      names = names;
-      events =
-          events.now;
-    }) known (first.now ∷ fields_among fields.now)) known result }
+    ensures { Heads known first.now result }
 {
-    if !is_events(first) {
-        return Found::Wrong(TraceKind::BadNumber);
+    let Some(len) = read_numeral(first) else {
+        return if is_events(first) {
+            Ok(Head::Events)
+        } else {
+            Err(TraceKind::BadNumber)
+        };
+    };
+    if len == 0 {
+        return Err(TraceKind::Zero);
     }
-    match read_names(events, known.pending, fields) {
-        Some(pending) => Found::Events(pending),
-        None => Found::Wrong(TraceKind::BadName),
+    if known.end.saturating_add(len) > TIME_MAX {
+        return Err(TraceKind::TooLate);
+    }
+    Ok(Head::Entry(len))
+}
+
+// The names that may stand on such a line.
+fn list_of<'a>(head: Head, names: &'a Names, events: &'a Names) -> &'a Names
+    ensures { result.now ≡ list_of head names.now events.now }
+{
+    match head {
+        Head::Events => events,
+        Head::Entry(_) => names,
+    }
+}
+
+// What was said before: events are said besides those, and a segment begins anew.
+fn said_of(head: Head, known: Known) -> u64
+    ensures { result ≡ said_of head known }
+{
+    match head {
+        Head::Events => known.pending,
+        Head::Entry(_) => 0,
     }
 }
 
@@ -84,17 +105,16 @@ pub fn read_line(names: &Names, events: &Names, known: Known, line: &[u8]) -> Fo
     if first[0] == b'#' {
         return Found::Nothing;
     }
-    let Some(len) = read_numeral(first) else {
-        return read_events(events, known, first, fields);
+    let head = match head_of(known, first) {
+        Ok(head) => head,
+        Err(kind) => return Found::Wrong(kind),
     };
-    if len == 0 {
-        return Found::Wrong(TraceKind::Zero);
-    }
-    if known.end.saturating_add(len) > TIME_MAX {
-        return Found::Wrong(TraceKind::TooLate);
-    }
-    match read_names(names, 0, fields) {
-        Some(val) => Found::Entry(len, val),
-        None => Found::Wrong(TraceKind::BadName),
+    // One call for both: then the search for a name is a part of this function.
+    let Some(bits) = read_names(list_of(head, names, events), said_of(head, known), fields) else {
+        return Found::Wrong(TraceKind::BadName);
+    };
+    match head {
+        Head::Events => Found::Events(bits),
+        Head::Entry(len) => Found::Entry(len, bits),
     }
 }
