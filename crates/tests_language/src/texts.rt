@@ -23,7 +23,7 @@ const PATTERNS: [(&str, &str); 9] = [
 ];
 
 fn printed(alloc: Global, text: &str) -> Result<String, Fail> {
-    let pattern = parse(alloc, text)?;
+    let pattern = parse(alloc, text, 0)?;
     let printed = pattern_text(alloc, &pattern)?;
     Ok(printed)
 }
