@@ -4,12 +4,14 @@ ghost use Rattle.std.specs.Option.{option_map};
 ghost use Rattle.tre_decimal.specs.declared.TheConstants.{SCALE_MAX};
 ghost use Rattle.tre_num.specs.Defined.{Defined};
 ghost use Rattle.tre_syntax.specs.Pattern.{names_of};
+ghost use Rattle.tre_trace.specs.Trace.{IsTrace};
 ghost use Rattle.tre_zone.specs.ZoneList.{SetHolds};
 ghost use Rattle.tre_zoneset.specs.ZoneSet.{IsZoneSet};
 ghost use Rattle.tre_tool.specs.Answer.{request_for, IsFoundFor, IsFound, IsFresh, AreMatchesOver, AreOver, StopsAs};
 ghost use Rattle.tre_tool.specs.Devices.{input_told};
 ghost use Rattle.tre_tool.specs.Feeding.{IsWhole, StopsReading};
 ghost use Rattle.tre_tool.specs.Input.{TakesAtMost};
+ghost use Rattle.tre_tool.specs.Outcome.{IsReadingOf};
 ghost use Rattle.tre_tool.specs.Readings.{reading_of};
 ghost use Rattle.tre_tool.specs.Wanted.{AreZonesOf};
 ghost use Rattle.tre_words.specs.declared.job.TheConstants.{LIMIT_MAX};
@@ -30,8 +32,8 @@ use tre_zone::Zone;
 use tre_zoneset::ZoneSet;
 
 /// A pattern whose matches are taken away, and a reader of its trace.
-#[derive(Debug, Drop)]
-pub struct Taken<R: TraceReader> {
+#[derive(Drop)]
+pub struct Taken<R: Drop> {
     pub pattern: Pattern,
     pub reader: R,
 }
@@ -114,7 +116,7 @@ fn trace_of<R: TraceReader>(alloc: Global, bytes: &[u8], reader: &mut R) -> Resu
 }
 
 // The matches that are taken away, over these bytes.
-fn taken_matches<R: TraceReader>(
+fn taken_matches<R: TraceReader + Drop>(
     alloc: Global,
     bytes: &[u8],
     taken: Taken<R>,
@@ -133,7 +135,7 @@ fn taken_matches<R: TraceReader>(
 
 // The matches that are wanted over the job's input. For those that are taken away its bytes are kept
 // until they were read a second time.
-fn wanted_matches<S: Source, R: TraceReader>(
+fn wanted_matches<S: Source, R: TraceReader + Drop>(
     alloc: Global,
     pattern: &Pattern,
     taken: Option<Taken<R>>,
@@ -218,7 +220,7 @@ fn check_count(zones: &[Zone], most: Option<u64>) -> Result<(), Status>
 }
 
 /// The text of all matches that are wanted over the job's input.
-pub fn matches_text<S: Source, R: TraceReader>(
+pub fn matches_text<S: Source, R: TraceReader + Drop>(
     alloc: Global,
     pattern: &Pattern,
     taken: Option<Taken<R>>,
