@@ -1,5 +1,5 @@
 // From a job to the text that answers it.
-ghost use Rattle.std.specs.Prelude.{◌≡◌, ◌≢◌, ℕ, ◌≤◌, ◌+◌, ◌++◌, ◌∷◌, [], List, codes, false, true, IsTrue, IfOk, IfSome, None, Some, string_bytes};
+ghost use Rattle.std.specs.Prelude.{◌≡◌, ◌≤◌, ◌+◌, ◌++◌, [], List, codes, false, IsTrue, IfOk, IfSome, None, string_bytes};
 ghost use Rattle.std.specs.Option.{option_map};
 ghost use Rattle.tre_decimal.specs.declared.TheConstants.{SCALE_MAX};
 ghost use Rattle.tre_num.specs.Defined.{Defined};
@@ -11,8 +11,7 @@ ghost use Rattle.tre_tool.specs.Devices.{input_told, output_told};
 ghost use Rattle.tre_tool.specs.Input.{TakesAtMost};
 ghost use Rattle.tre_tool.specs.Readings.{reading_of};
 ghost use Rattle.tre_tool.specs.Run.{ReadsInput};
-ghost use Rattle.tre_words.specs.Job.{IsCount};
-ghost use Rattle.tre_words.specs.declared.job.TheConstants.{LIMIT_MAX};
+ghost use Rattle.tre_words.specs.Job.{IsJob};
 
 use crate::asked::Asked;
 use crate::offline::{Taken, matches_text};
@@ -41,11 +40,9 @@ fn answer_by<S: Source, R: TraceReader + Drop, O: Sink>(
     out: &mut O,
 ) -> Result<(), Status>
     requires closed { S.opened input.old ≡ false }
-    requires fits { job.now.max_bytes ≤ LIMIT_MAX }
-    requires scale { job.now.scale ≤ SCALE_MAX }
-    requires limited { (most : ℕ) → job.now.max_zones ≡ Some most → job.now.normal ≡ true }
+    requires job { IsJob job.now }
     requires reads { ReadsInput job.now.mode }
-    requires alone { job.now.mode ≢ Mode.Offline → taken ≡ None }
+    requires taken { job.now.minus ≡ None → taken ≡ None }
     requires fresh { IsFresh (R.represents reader.old) (R.reading (R.terms reader.old)) }
     requires fresh_taken { IfSome taken (λ taken.
         IsFresh (R.represents taken.reader) (R.reading (R.terms taken.reader))) }
@@ -120,11 +117,9 @@ fn answer_text<S: Source, O: Sink>(
     out: &mut O,
 ) -> Result<(), Status>
     requires closed { S.opened input.old ≡ false }
-    requires fits { job.now.max_bytes ≤ LIMIT_MAX }
-    requires scale { job.now.scale ≤ SCALE_MAX }
-    requires limited { (most : ℕ) → job.now.max_zones ≡ Some most → job.now.normal ≡ true }
+    requires job { IsJob job.now }
     requires reads { ReadsInput job.now.mode }
-    requires alone { job.now.mode ≢ Mode.Offline → asked.taken ≡ None }
+    requires taken { job.now.minus ≡ None → asked.taken ≡ None }
     requires format { job.now.format ≡ Format.Text }
     ensures ends { EndsOver
         (request_for job.now asked.definitions.items asked.pattern asked.taken)
@@ -203,11 +198,9 @@ fn answer_dump<S: Source, O: Sink>(
     out: &mut O,
 ) -> Result<(), Status>
     requires closed { S.opened input.old ≡ false }
-    requires fits { job.now.max_bytes ≤ LIMIT_MAX }
-    requires scale { job.now.scale ≤ SCALE_MAX }
-    requires limited { (most : ℕ) → job.now.max_zones ≡ Some most → job.now.normal ≡ true }
+    requires job { IsJob job.now }
     requires reads { ReadsInput job.now.mode }
-    requires alone { job.now.mode ≢ Mode.Offline → asked.taken ≡ None }
+    requires taken { job.now.minus ≡ None → asked.taken ≡ None }
     requires format { job.now.format ≡ Format.Vcd }
     ensures ends { EndsOver
         (request_for job.now asked.definitions.items asked.pattern asked.taken)
@@ -234,13 +227,10 @@ fn answer_rows<S: Source, O: Sink>(
     out: &mut O,
 ) -> Result<(), Status>
     requires closed { S.opened input.old ≡ false }
-    requires fits { job.now.max_bytes ≤ LIMIT_MAX }
-    requires scale { job.now.scale ≤ SCALE_MAX }
-    requires limited { (most : ℕ) → job.now.max_zones ≡ Some most → job.now.normal ≡ true }
+    requires job { IsJob job.now }
     requires reads { ReadsInput job.now.mode }
-    requires alone { job.now.mode ≢ Mode.Offline → asked.taken ≡ None }
+    requires taken { job.now.minus ≡ None → asked.taken ≡ None }
     requires format { job.now.format ≡ Format.Csv }
-    requires single { asked.taken ≡ None }
     ensures ends { EndsOver
         (request_for job.now asked.definitions.items asked.pattern asked.taken)
         (input_told S.file_name S.file S.sound S.opened S.left S.found S.faults input.old input.new)
@@ -266,12 +256,9 @@ fn answer_input<S: Source, O: Sink>(
     out: &mut O,
 ) -> Result<(), Status>
     requires closed { S.opened input.old ≡ false }
-    requires fits { job.now.max_bytes ≤ LIMIT_MAX }
-    requires scale { job.now.scale ≤ SCALE_MAX }
-    requires limited { (most : ℕ) → job.now.max_zones ≡ Some most → job.now.normal ≡ true }
+    requires job { IsJob job.now }
     requires reads { ReadsInput job.now.mode }
-    requires alone { job.now.mode ≢ Mode.Offline → asked.taken ≡ None }
-    requires single { job.now.format ≡ Format.Csv → asked.taken ≡ None }
+    requires taken { job.now.minus ≡ None → asked.taken ≡ None }
     ensures ends { EndsOver
         (request_for job.now asked.definitions.items asked.pattern asked.taken)
         (input_told S.file_name S.file S.sound S.opened S.left S.found S.faults input.old input.new)
@@ -318,12 +305,8 @@ pub fn answer<S: Source, O: Sink>(
     out: &mut O,
 ) -> Result<(), Status>
     requires closed { S.opened input.old ≡ false }
-    requires fits { job.now.max_bytes ≤ LIMIT_MAX }
-    requires scale { job.now.scale ≤ SCALE_MAX }
-    requires limited { (most : ℕ) → job.now.max_zones ≡ Some most → job.now.normal ≡ true }
-    requires alone { job.now.mode ≢ Mode.Offline → asked.taken ≡ None }
-    requires single { job.now.format ≡ Format.Csv → asked.taken ≡ None }
-    requires counted { (count : ℕ) → job.now.mode ≡ Mode.Generate count → IsCount count }
+    requires job { IsJob job.now }
+    requires taken { job.now.minus ≡ None → asked.taken ≡ None }
     ensures ends { EndsOver
         (request_for job.now asked.definitions.items asked.pattern asked.taken)
         (input_told S.file_name S.file S.sound S.opened S.left S.found S.faults input.old input.new)

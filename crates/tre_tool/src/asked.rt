@@ -1,5 +1,5 @@
 // What a job asks for, as its texts say it.
-ghost use Rattle.std.specs.Prelude.{◌≡◌, ◌≢◌, ◌≤◌, ◌∷◌, [], List, IfOk, IfErr};
+ghost use Rattle.std.specs.Prelude.{◌≡◌, ◌≢◌, ◌≤◌, ◌∷◌, [], List, None, IfOk, IfErr};
 ghost use Rattle.tre_decimal.specs.declared.TheConstants.{SCALE_MAX};
 ghost use Rattle.tre_syntax.specs.declared.pattern.Pattern.{Pattern};
 ghost use Rattle.tre_tool.specs.Answer.{sought_by, patterns_with};
@@ -43,6 +43,7 @@ fn taken_by(alloc: Global, job: &Job) -> Result<Option<Pattern>, Status>
         Spell job.now.scale (job.now.expr ∷ []) (sought_by pattern ∷ []) →
         Spell job.now.scale (texts_with job.now.expr job.now.minus)
         (patterns_with pattern taken)) }
+    ensures none { IfOk result (λ taken. job.now.minus ≡ None → taken ≡ None) }
     ensures refuses { IfErr result (λ status. status ≢ Status.Memory → (patterns : List Sought) →
         Spell job.now.scale (job.now.expr ∷ []) patterns → IsRefusalOf job.now status) }
 {
@@ -80,6 +81,7 @@ fn asked_by_texts(alloc: Global, job: &Job) -> Result<Asked, Status>
     requires { job.now.scale ≤ SCALE_MAX }
     ensures spells { IfOk result (λ asked. Spell job.now.scale
         (texts_with job.now.expr job.now.minus) (patterns_with asked.pattern asked.taken)) }
+    ensures none { IfOk result (λ asked. job.now.minus ≡ None → asked.taken ≡ None) }
     ensures defines { IfOk result (λ asked.
         AreDefinitions job.now.mode job.now asked.definitions.items) }
     ensures refuses { IfErr result (λ status. status ≢ Status.Memory →
@@ -99,6 +101,7 @@ fn asked_by_texts(alloc: Global, job: &Job) -> Result<Asked, Status>
 fn asked_of_made_run(alloc: Global) -> Result<Asked, Status>
     ensures pattern { IfOk result (λ asked. patterns_with asked.pattern asked.taken
         ≡ alone fixed_tree fixed_vocabulary) }
+    ensures none { IfOk result (λ asked. asked.taken ≡ None) }
     ensures definitions { IfOk result (λ asked. asked.definitions.items ≡ []) }
     ensures failed { IfErr result (λ status. status ≡ Status.Memory) }
 {
@@ -115,6 +118,7 @@ pub fn asked_by(alloc: Global, job: &Job) -> Result<Asked, Status>
     requires { job.now.scale ≤ SCALE_MAX }
     ensures patterns { IfOk result (λ asked. ArePatterns job.now.mode job.now
         (patterns_with asked.pattern asked.taken)) }
+    ensures none { IfOk result (λ asked. job.now.minus ≡ None → asked.taken ≡ None) }
     ensures defines { IfOk result (λ asked.
         AreDefinitions job.now.mode job.now asked.definitions.items) }
     ensures refuses { IfErr result (λ status. status ≢ Status.Memory →

@@ -1,7 +1,6 @@
 // The matches over a whole input, told at once.
 ghost use Rattle.std.specs.Prelude.{◌≡◌, ℕ, ◌≤◌, ◌+◌, List, [], false, IsTrue, IfOk, IfErr, IfSome, OnOk, length, string_bytes};
 ghost use Rattle.std.specs.Option.{option_map};
-ghost use Rattle.tre_decimal.specs.declared.TheConstants.{SCALE_MAX};
 ghost use Rattle.tre_num.specs.Defined.{Defined};
 ghost use Rattle.tre_syntax.specs.Pattern.{names_of};
 ghost use Rattle.tre_trace.specs.Trace.{IsTrace};
@@ -14,6 +13,7 @@ ghost use Rattle.tre_tool.specs.Input.{TakesAtMost};
 ghost use Rattle.tre_tool.specs.Outcome.{IsReadingOf};
 ghost use Rattle.tre_tool.specs.Readings.{reading_of};
 ghost use Rattle.tre_tool.specs.Wanted.{AreZonesOf};
+ghost use Rattle.tre_words.specs.Job.{IsJob};
 ghost use Rattle.tre_words.specs.declared.job.TheConstants.{LIMIT_MAX};
 
 use crate::input::Feed;
@@ -144,7 +144,7 @@ fn wanted_matches<S: Source, R: TraceReader + Drop>(
     input: &mut S,
 ) -> Result<Found, Status>
     requires closed { S.opened input.old ≡ false }
-    requires fits { job.now.max_bytes ≤ LIMIT_MAX }
+    requires job { IsJob job.now }
     requires offline { job.now.mode ≡ Mode.Offline }
     requires fresh { IsFresh (R.represents reader.old) (R.reading (R.terms reader.old)) }
     requires fresh_taken { IfSome taken (λ taken.
@@ -229,10 +229,8 @@ pub fn matches_text<S: Source, R: TraceReader + Drop>(
     input: &mut S,
 ) -> Result<String, Status>
     requires closed { S.opened input.old ≡ false }
-    requires fits { job.now.max_bytes ≤ LIMIT_MAX }
-    requires scale { job.now.scale ≤ SCALE_MAX }
+    requires job { IsJob job.now }
     requires offline { job.now.mode ≡ Mode.Offline }
-    requires limited { (most : ℕ) → job.now.max_zones ≡ Some most → job.now.normal ≡ true }
     requires fresh { IsFresh (R.represents reader.old) (R.reading (R.terms reader.old)) }
     requires fresh_taken { IfSome taken (λ taken.
         IsFresh (R.represents taken.reader) (R.reading (R.terms taken.reader))) }

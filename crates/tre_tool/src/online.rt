@@ -10,7 +10,7 @@ ghost use Rattle.tre_tool.specs.Devices.{input_told, output_told};
 ghost use Rattle.tre_tool.specs.Input.{TakesAtMost};
 ghost use Rattle.tre_tool.specs.Telling.{CanTell, HasTold, StopsAtSegment, StopsWithin, HasWriteCause, HasClosed, StopsAtEnd, EndsTelling};
 ghost use Rattle.tre_tool.specs.Transcript.{block_text};
-ghost use Rattle.tre_words.specs.declared.job.TheConstants.{LIMIT_MAX};
+ghost use Rattle.tre_words.specs.Job.{IsJob};
 ghost use Rattle.tre_decimal.specs.declared.TheConstants.{SCALE_MAX};
 
 use crate::input::Feed;
@@ -161,8 +161,7 @@ fn tell_input<S: Source, R: TraceReader, O: Sink>(
     out: &mut O,
 ) -> Result<(), Status>
     requires closed { S.opened input.old ≡ false }
-    requires fits { job.now.max_bytes ≤ LIMIT_MAX }
-    requires scale { job.now.scale ≤ SCALE_MAX }
+    requires job { IsJob job.now }
     requires fresh { R.represents reader.old [] }
     requires nothing { (R.reading (R.terms reader.old) false []).segments ≡ [] }
     requires stands { StandsFor session [] }
@@ -200,8 +199,7 @@ pub fn tell_matches<S: Source, R: TraceReader, O: Sink>(
     out: &mut O,
 ) -> Result<(), Status>
     requires closed { S.opened input.old ≡ false }
-    requires fits { job.now.max_bytes ≤ LIMIT_MAX }
-    requires scale { job.now.scale ≤ SCALE_MAX }
+    requires job { IsJob job.now }
     requires fresh { R.represents reader.old [] }
     requires nothing { (R.reading (R.terms reader.old) false []).segments ≡ [] }
     ensures ends { EndsTelling (R.reading (R.terms reader.old)) job.now.max_bytes job.now.scale
