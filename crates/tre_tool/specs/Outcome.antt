@@ -14,8 +14,8 @@ use Rattle.tre_words.specs.declared.job.Format.{Format}
 use Rattle.tre_words.specs.declared.job.Format.TheVariants.{Text, Vcd, Csv}
 use Rattle.tre_words.specs.declared.job.Job.{Job}
 
--- What bytes in the format and at the scale of a job say of a trace, for the propositions and events
--- of these names. A dump must declare all of `declared`; in rows the names are those of `lets`.
+-- What bytes in this format and at the scale of the job say of a trace, for the propositions and
+-- events of these names. A dump must declare all of `declared`, and for rows `lets` are defined.
 abbrev pub reading_in : Format → Job → List Defined → List Vocabulary → Vocabulary → Bool →
     List ℕ → Reading
 reading_in Text job lets declared names closed bytes =

@@ -175,10 +175,10 @@ fn taken_from_dump(
         ⟦<VcdReader as TraceReader>⟧.represents taken.reader [])) }
     ensures terms { IfOk result (λ found. IfSome found (λ other.
         ⟦<VcdReader as TraceReader>⟧.terms other.reader ≡ record {
-      names = names_of other.pattern;
-      declared = all_names (patterns_with first.now taken);
-      scale = scale;
-    })) }
+          names = names_of other.pattern;
+          declared = all_names (patterns_with first.now taken);
+          scale = scale;
+        })) }
 {
     match taken {
         None => Ok(None),

@@ -43,7 +43,7 @@ fn read_piece<S: Source>(input: &mut S, buffer: &mut [u8]) -> Result<usize, Stat
     Ok(count)
 }
 
-// Reads once, feeds what came, as far as it is allowed, and keeps it where it is to be kept. No byte
+// Reads once, feeds what came as far as it is allowed, and keeps it where it is asked for. No byte
 // comes only at the end.
 fn feed_piece<S: Source, R: TraceReader>(
     allowed: usize,
@@ -85,9 +85,9 @@ fn feed_piece<S: Source, R: TraceReader>(
     Ok(count)
 }
 
-// Reads a piece, and feeds it as far as the limit. Where none comes, the reader is told the end, and
-// tells the last events. Says whether the input may go on. The segments that become complete are
-// put behind the others, also before a fault.
+// Reads a piece, and feeds it as far as the limit. Where none comes, the reader is told the end,
+// and tells the last events. Says whether the input may go on. The segments that become complete
+// are put behind the others, also before a fault.
 fn feed_next<S: Source, R: TraceReader>(
     limit: usize,
     taken: &mut usize,
@@ -216,8 +216,9 @@ impl Feed {
             (length self.old.buffer.items) self.old.limit file (S.left input.old)
             (S.found input.old) self.old.taken bytes →
             EndsTurn (IsFedTo (R.represents reader.new) self.new.kept)
-            (R.reading (R.terms reader.old)) (length self.old.buffer.items) self.old.limit file (S.left input.new)
-            (S.found input.new) self.new.taken bytes segments.old.items segments.new.items
+            (R.reading (R.terms reader.old)) (length self.old.buffer.items) self.old.limit file
+            (S.left input.new) (S.found input.new) self.new.taken bytes segments.old.items
+            segments.new.items
             self.new.last result }
         ensures keeps { (bytes : List ℕ) → IsKept self.old.kept bytes →
             IfOk result (λ more. more ≡ false → IsKept self.new.kept bytes) }

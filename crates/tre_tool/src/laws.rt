@@ -1,5 +1,5 @@
-//! Laws of what words ask for, of the zones that answer it, and of the text that is told as the input
-//! comes, each as a function whose contract it is.
+//! Laws of what words ask for, of the zones that answer it, and of the text that is told as the
+//! input comes, each as a function whose contract it is.
 
 ghost use Rattle.std.specs.Prelude.{◌≡◌, ◌++◌, ◌∷◌, ◌<◌, ◌≤◌, ◌⊎◌, ◌↔◌, ℕ, true, List, [], Option, None, Some, length, map};
 ghost use Rattle.tre_syntax.specs.Meaning.{Matches};
@@ -28,8 +28,8 @@ pub fn one_request()
     one_reading();
 }
 
-/// Where the canonical zones are asked for, the bytes of an input have one answer, and either that or
-/// too many zones.
+/// Where the canonical zones are asked for, the bytes of an input have one answer, and either that
+/// or too many zones.
 pub fn one_canonical_answer()
     ensures text { (request : Request) (bytes text other : List ℕ) → request.job.normal ≡ true →
         IsOfflineAnswer request bytes text → IsOfflineAnswer request bytes other → text ≡ other }
@@ -54,10 +54,12 @@ pub fn parts_of_a_difference()
 
 /// What is told of one pattern without a label is the text of its blocks, and of what closes them.
 pub fn one_pattern_text()
-    ensures blocks { (scale : ℕ) (account : Account) (segments : List Segment) → account.pattern.label ≡ [] →
+    ensures blocks { (scale : ℕ) (account : Account) (segments : List Segment) →
+        account.pattern.label ≡ [] →
         length account.blocks ≡ length segments →
         blocks_text scale (account ∷ []) segments ≡ online_text scale account.blocks None segments }
-    ensures whole { (scale : ℕ) (account : Account) (segments : List Segment) → account.pattern.label ≡ [] →
+    ensures whole { (scale : ℕ) (account : Account) (segments : List Segment) →
+        account.pattern.label ≡ [] →
         length account.blocks ≡ length segments →
         blocks_text scale (account ∷ []) segments ++ ending_text scale (account ∷ []) segments
         ≡ online_text scale account.blocks (Some account.closing) segments }
@@ -70,11 +72,13 @@ pub fn one_online_text()
     ensures blocks { (scale : ℕ) (blocks others : List (List ZoneBounds))
         (closing ending : Option (List ZoneBounds)) (trace other : List Segment) →
         AreBlocksOf blocks closing trace → AreBlocksOf others ending other →
-        online_text scale blocks closing trace ≡ online_text scale others ending other → blocks ≡ others }
+        online_text scale blocks closing trace ≡ online_text scale others ending other →
+        blocks ≡ others }
     ensures closings { (scale : ℕ) (blocks others : List (List ZoneBounds))
         (closing ending : Option (List ZoneBounds)) (trace other : List Segment) →
         AreBlocksOf blocks closing trace → AreBlocksOf others ending other →
-        online_text scale blocks closing trace ≡ online_text scale others ending other → closing ≡ ending }
+        online_text scale blocks closing trace ≡ online_text scale others ending other →
+        closing ≡ ending }
     ensures lengths { (scale : ℕ) (blocks others : List (List ZoneBounds))
         (closing ending : Option (List ZoneBounds)) (trace other : List Segment) →
         AreBlocksOf blocks closing trace → AreBlocksOf others ending other →

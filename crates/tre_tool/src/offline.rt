@@ -133,8 +133,8 @@ fn taken_matches<R: TraceReader + Drop>(
     Ok(set)
 }
 
-// The matches that are wanted over the job's input. For those that are taken away its bytes are kept
-// until they were read a second time.
+// The matches that are wanted over the job's input. Where others are taken away, its bytes are kept
+// to be read once more.
 fn wanted_matches<S: Source, R: TraceReader + Drop>(
     alloc: Global,
     pattern: &Pattern,
