@@ -4,7 +4,7 @@ use Rattle.tre_tool.proofs.Lists.{take-over}
 use Rattle.tre_tool.specs.Devices.{input_told}
 use Rattle.tre_tool.specs.Input.{HasReadCause}
 use Rattle.tre_tool.proofs.Readings.{HasRead-bounded, IsCollected-more, IsFed-start, fed_within, IsWhole-ended, StopsReading-turn, StopsReading-unread}
-use Rattle.tre_tool.proofs.answer.read_trace.Goals as goal
+use Rattle.tre_tool.proofs.offline.read_trace.Goals as goal
 
 pub returns-in_err-next-clause-bounded : goal.returns-in_err-next-clause-bounded
 returns-in_err-next-clause-bounded g c =

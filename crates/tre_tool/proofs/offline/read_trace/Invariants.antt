@@ -1,7 +1,7 @@
 use Rattle.std.proofs.Common.{◌≡◌, ◌+◌, ◌-◌, true, length}
 use Rattle.tre_tool.specs.declared.input.TheConstants.{PIECE}
 use Rattle.tre_tool.proofs.Readings.{IsCollected}
-use Rattle.tre_tool.proofs.answer.read_trace.Given as goal
+use Rattle.tre_tool.proofs.offline.read_trace.Given as goal
 
 -- the bytes so far were fed as far as the limit, and gave these segments; no fault was counted, and
 -- the input is as it was

@@ -9,7 +9,7 @@ use Rattle.tre_tool.specs.Readings.{reading_for}
 use Rattle.tre_tool.specs.Request.{alone, all_names}
 use Rattle.tre_tool.proofs.Readings.{reading_in-nothing}
 use Rattle.tre_tool.proofs.Stops.{StopsAs-reading, IsFoundFor-read}
-use Rattle.tre_tool.proofs.answer.matches_text.Goals as goal
+use Rattle.tre_tool.proofs.offline.matches_text.Goals as goal
 
 pub read_trace-requires-clause-nothing : goal.read_trace-requires-clause-nothing
 read_trace-requires-clause-nothing g c =
