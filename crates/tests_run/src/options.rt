@@ -5,8 +5,8 @@ use crate::memory::ran_slowly;
 use std::alloc::{AllocError, Global};
 use std::test::Fail;
 
-/// Whether a run of the words over the input ends with this code, output and line of standard error,
-/// however much a read gives.
+/// Whether a run of the words over the input ends with this code, output and line, however much a
+/// read gives.
 fn ends_so(
     alloc: Global,
     words: &[&str],
