@@ -7,7 +7,7 @@ use tre_syntax::Expr;
 
 // Why a text is refused, if it is.
 fn fault(alloc: Global, text: &str) -> Option<ParseFault> {
-    match parse(alloc, text) {
+    match parse(alloc, text, 0) {
         Ok(_) => None,
         Err(fault) => Some(fault),
     }
@@ -94,7 +94,7 @@ fn limits(rt: HostRuntime) -> Result<(), Fail> {
 // Seven times "once or more" is a pattern still.
 #[test]
 fn nodes(rt: HostRuntime) -> Result<(), Fail> {
-    assert!(rt; parse(rt.alloc(), "p+++++++")?.nodes() == 510);
+    assert!(rt; parse(rt.alloc(), "p+++++++", 0)?.nodes() == 510);
     Ok(())
 }
 
@@ -227,7 +227,7 @@ const KINDS: [(&str, &str, &str); 4] = [
 #[test]
 fn propositions_and_events_have_names_of_their_own(rt: HostRuntime) -> Result<(), Fail> {
     for (text, propositions, events) in &KINDS {
-        let pattern = parse(rt.alloc(), *text)?;
+        let pattern = parse(rt.alloc(), *text, 0)?;
         let names = joined(rt.alloc(), pattern.names())?;
         let others = joined(rt.alloc(), pattern.events())?;
         assert!(rt;
@@ -240,7 +240,7 @@ fn propositions_and_events_have_names_of_their_own(rt: HostRuntime) -> Result<()
 
 // The operator at the root of an expression.
 fn root(alloc: Global, text: &str) -> Result<&'static str, ParseFault> {
-    let pattern = parse(alloc, text)?;
+    let pattern = parse(alloc, text, 0)?;
     Ok(match pattern.expr() {
         Expr::Eps => "eps",
         Expr::Lit(_) => "literal",

@@ -31,7 +31,7 @@ const REFUSED: [(&[u8], WatchFault); 10] = [
 ];
 
 fn fault(alloc: Global, bytes: &[u8]) -> Option<WatchFault> {
-    match read_plan(alloc, bytes) {
+    match read_plan(alloc, bytes, 0) {
         Ok(_) => None,
         Err(fault) => Some(fault),
     }
@@ -55,7 +55,7 @@ const PLANS: [(&[u8], &[&str]); 6] = [
 ];
 
 fn has_names(alloc: Global, bytes: &[u8], names: &[&str]) -> Result<bool, Fail> {
-    let Ok(plan) = read_plan(alloc, bytes) else {
+    let Ok(plan) = read_plan(alloc, bytes, 0) else {
         return Ok(false);
     };
     for (place, name) in names.iter().enumerate() {

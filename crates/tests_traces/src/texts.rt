@@ -8,7 +8,7 @@ use tre_trace::TraceKind::{LineTooLong, Spent};
 use tre_trace::{Segment, TraceFault, TraceKind, TraceReader};
 
 fn reader(alloc: Global, names: &str, events: &str) -> Result<TextReader, Fail> {
-    let lines = LineReader::new(names_of(alloc, names)?, names_of(alloc, events)?);
+    let lines = LineReader::new(names_of(alloc, names)?, names_of(alloc, events)?, 0);
     Ok(TextReader::new(alloc, lines))
 }
 

@@ -20,9 +20,9 @@ use Rattle.tre_tool.specs.Request.{alone, all_names}
 use Rattle.tre_tool.specs.Run.{ReadsInput, way_of, IsAnswerIn, StandsSoFar, EndsAtInput}
 use Rattle.tre_tool.specs.Standing.{BlocksStand, AllStand, BlocksSoFarStand, FirstBlocksStand, BlockIsCut, IsOnlineAnswer, AnswerIsCut, EndIsCut}
 use Rattle.tre_tool.specs.Transcript.{block_text, block_texts, online_text, IsTranscript, IsClosing}
-use Rattle.tre_tool.specs.declared.job.Job.{Job}
-use Rattle.tre_tool.specs.declared.job.Mode.{Mode}
-use Rattle.tre_tool.specs.declared.job.Mode.TheVariants.{Show, Generate}
+use Rattle.tre_words.specs.declared.job.Job.{Job}
+use Rattle.tre_words.specs.declared.job.Mode.{Mode}
+use Rattle.tre_words.specs.declared.job.Mode.TheVariants.{Show, Generate}
 use Rattle.tre_tool.proofs.Lists.{take-over}
 
 -- what is so of the one member of a list

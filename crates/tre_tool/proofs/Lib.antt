@@ -1,5 +1,4 @@
 pub mod Alone
-pub mod CommandLine
 pub mod Cuts
 pub mod Feeding
 pub mod Inputs

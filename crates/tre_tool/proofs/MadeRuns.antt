@@ -9,13 +9,13 @@ use Rattle.tre_generate.specs.Summary.{IsSummary}
 use Rattle.tre_generate.specs.declared.made_run.TheConstants.{SEGMENTS_MAX}
 use Rattle.tre_tool.specs.Devices.{InputTold, OutputTold}
 use Rattle.tre_decimal.specs.Decimal.{is_numeral}
-use Rattle.tre_tool.specs.Job.{GivesWhere, GivesJob, HaveNoFaultWhere, HaveNoFault, command_line, is_made_run, made_count, made_job, mode_for, number_written, is_given, IsCount}
+use Rattle.tre_words.specs.Job.{GivesWhere, GivesJob, HaveNoFaultWhere, HaveNoFault, command_line, is_made_run, made_count, made_job, mode_for, number_written, is_given, IsCount}
 use Rattle.tre_tool.specs.Request.{Request, alone, ArePatterns, IsRefusalIn, AsksFor, IsRefused}
 use Rattle.tre_tool.specs.Run.{ReadsInput, at_once, way_of, IsAnswerIn, StandsSoFar, IsCut, AsksForMadeRun, EndsAs, EndsMadeRun}
 use Rattle.tre_tool.specs.Standing.{FirstBlocksStand}
-use Rattle.tre_tool.specs.declared.job.Job.{Job}
-use Rattle.tre_tool.specs.declared.job.Mode.{Mode}
-use Rattle.tre_tool.specs.declared.job.Mode.TheVariants.{Generate}
+use Rattle.tre_words.specs.declared.job.Job.{Job}
+use Rattle.tre_words.specs.declared.job.Mode.{Mode}
+use Rattle.tre_words.specs.declared.job.Mode.TheVariants.{Generate}
 use Rattle.tre_tool.specs.declared.status.Status.{Status}
 use Rattle.tre_tool.specs.declared.status.Status.TheVariants.{Done, Usage, Expression, Trace, InputTooLong, ReadFault, WriteFault, Memory}
 

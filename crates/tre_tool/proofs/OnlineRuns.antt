@@ -10,9 +10,9 @@ use Rattle.tre_tool.specs.Request.{alone, all_names}
 use Rattle.tre_tool.specs.Run.{Way, at_once, as_it_comes, way_of, ReadsInput, IsAnswerIn, StandsSoFar, IsCut}
 use Rattle.tre_tool.specs.Standing.{FirstBlocksStand, BlockIsCut, EndIsCut}
 use Rattle.tre_tool.specs.Telling.{EndsTelling}
-use Rattle.tre_tool.specs.declared.job.Job.{Job}
-use Rattle.tre_tool.specs.declared.job.Mode.{Mode}
-use Rattle.tre_tool.specs.declared.job.Mode.TheVariants.{Online}
+use Rattle.tre_words.specs.declared.job.Job.{Job}
+use Rattle.tre_words.specs.declared.job.Mode.{Mode}
+use Rattle.tre_words.specs.declared.job.Mode.TheVariants.{Online}
 use Rattle.tre_tool.specs.declared.status.Status.{Status}
 use Rattle.tre_tool.specs.declared.status.Status.TheVariants.{Done, Usage, Expression, Trace, InputTooLong, ReadFault, WriteFault, Memory}
 use Rattle.tre_tool.proofs.Alone.{AllStand-fault, BlocksSoFarStand-alone, FirstBlocksStand-alone, BlockIsCut-alone, IsOnlineAnswer-alone, EndIsCut-alone, EndsAtInput-alone}

@@ -13,18 +13,18 @@ use Rattle.tre_trace.specs.Reading.{Vocabulary}
 use Rattle.tre_trace.specs.Trace.{Timeline, quiet}
 use Rattle.tre_tool.specs.Answer.{EndsOver, StopsAs, IsFoundFor, request_for}
 use Rattle.tre_tool.specs.Devices.{InputTold, OutputTold, NothingWritten, NothingDone, AllWritesGood}
-use Rattle.tre_tool.specs.Job.{GivesWhere, GivesJob, is_made_run}
+use Rattle.tre_words.specs.Job.{GivesWhere, GivesJob, is_made_run}
 use Rattle.tre_tool.specs.Outcome.{Outcome, completes, refuses, exceeds}
 use Rattle.tre_tool.specs.Readings.{AreTraces, common, reading_for, outcome_for}
 use Rattle.tre_tool.specs.Request.{Sought, Request, Spell, ArePatterns, IsRefusedText, IsRefusalOf, IsRefusalIn, AsksFor, Asks, IsRefused, GiveNone, AsksForNothing}
 use Rattle.tre_tool.specs.Run.{ReadsInput, IsAnswerIn, EndsAs, EndsDone, EndsAtInput, EndsReadFault, EndsWriteFault, IsStatusFor, IsUnlessMemory, IsComplete, IsLineTold}
 use Rattle.tre_tool.specs.Status.{words_status, parse_status}
-use Rattle.tre_tool.specs.declared.job.Format.{Format}
-use Rattle.tre_tool.specs.declared.job.Job.{Job}
-use Rattle.tre_tool.specs.declared.job.Mode.{Mode}
-use Rattle.tre_tool.specs.declared.job.Mode.TheVariants.{Offline, Online, Show, Generate}
-use Rattle.tre_tool.specs.declared.job.WordsFault.{WordsFault}
-use Rattle.tre_tool.specs.declared.job.WordsFault.TheVariants.{Usage as WordsUsage, Memory as WordsMemory}
+use Rattle.tre_words.specs.declared.job.Format.{Format}
+use Rattle.tre_words.specs.declared.job.Job.{Job}
+use Rattle.tre_words.specs.declared.job.Mode.{Mode}
+use Rattle.tre_words.specs.declared.job.Mode.TheVariants.{Offline, Online, Show, Generate}
+use Rattle.tre_words.specs.declared.job.WordsFault.{WordsFault}
+use Rattle.tre_words.specs.declared.job.WordsFault.TheVariants.{Usage as WordsUsage, Memory as WordsMemory}
 use Rattle.tre_tool.specs.declared.status.Status.{Status}
 use Rattle.tre_tool.specs.declared.status.Status.TheVariants.{Done, Usage, Expression, Trace, InputTooLong, ReadFault, WriteFault, Memory}
 use Rattle.tre_tool.proofs.Outcomes.{outcome_of-completes}

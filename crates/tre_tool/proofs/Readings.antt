@@ -12,8 +12,8 @@ use Rattle.tre_tool.specs.Feeding.{IsFed, HasRead, HasFailed, GoesOn, IsEnded, I
 use Rattle.tre_tool.specs.Devices.{InputTold, WereRead, AllReadsGood, AreAllBytes}
 use Rattle.tre_tool.specs.Input.{TakesAtMost, MayGoOn, HasReadCause}
 use Rattle.tre_tool.specs.Outcome.{reading_in}
-use Rattle.tre_tool.specs.declared.job.Format.{Format}
-use Rattle.tre_tool.specs.declared.job.Format.TheVariants.{Text, Vcd}
+use Rattle.tre_words.specs.declared.job.Format.{Format}
+use Rattle.tre_words.specs.declared.job.Format.TheVariants.{Text, Vcd}
 use Rattle.tre_tool.specs.declared.status.Status.{Status}
 use Rattle.tre_tool.specs.declared.status.Status.TheVariants.{Done, Usage, Expression, Trace, InputTooLong, ReadFault, WriteFault, Memory}
 use Rattle.tre_tool.proofs.Lists.{take-over}

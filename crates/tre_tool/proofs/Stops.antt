@@ -21,9 +21,9 @@ use Rattle.tre_tool.specs.Run.{ReadsInput, at_once, way_of, IsAnswerIn, StandsSo
 use Rattle.tre_tool.specs.Standing.{FirstBlocksStand}
 use Rattle.tre_tool.specs.Status.{trace_status}
 use Rattle.tre_tool.specs.Wanted.{IsWanted, AreZonesOf}
-use Rattle.tre_tool.specs.declared.job.Job.{Job}
-use Rattle.tre_tool.specs.declared.job.Mode.{Mode}
-use Rattle.tre_tool.specs.declared.job.Mode.TheVariants.{Offline, Online, Show, Generate}
+use Rattle.tre_words.specs.declared.job.Job.{Job}
+use Rattle.tre_words.specs.declared.job.Mode.{Mode}
+use Rattle.tre_words.specs.declared.job.Mode.TheVariants.{Offline, Online, Show, Generate}
 use Rattle.tre_tool.specs.declared.status.Status.{Status}
 use Rattle.tre_tool.specs.declared.status.Status.TheVariants.{Done, Usage, Expression, Trace, InputTooLong, ReadFault, WriteFault, Memory}
 use Rattle.tre_tool.proofs.Alone.{AreTraces-alone, EndsAtInput-alone}

@@ -1,19 +1,22 @@
 -- What the bytes of an input say for each of the patterns of a request.
 use Rattle.std.specs.Prelude.{◌≡◌, ℕ, ◌≤◌, nat_le, Bool, true, List, [], ◌∷◌, length, take, map, All, None, IfSome}
 use Rattle.std.specs.Io.KnownBytes.{Consumes}
-use Rattle.tre_trace.specs.Reading.{Reading}
+use Rattle.tre_trace.specs.Reading.{Reading, Vocabulary}
 use Rattle.tre_trace.specs.Trace.{Timeline, IsTrace, quiet}
 use Rattle.tre_trace.specs.declared.segment.Segment.{Segment}
 use Rattle.tre_tool.specs.Devices.{InputTold}
 use Rattle.tre_tool.specs.Outcome.{Outcome, reading_in, outcome_of, whole_reading}
 use Rattle.tre_tool.specs.Request.{Request, all_names}
 
--- The readings of the bytes, closed or not yet: for each pattern that for its names. A dump must
--- declare those of all patterns.
+-- What the bytes say for these names. A dump must declare those of all patterns.
+abbrev pub reading_of : Request → Vocabulary → Bool → List ℕ → Reading
+reading_of request names closed bytes = reading_in request.job.format request.job request.lets
+    (all_names request.patterns) names closed bytes
+
+-- The readings of the bytes, closed or not yet: for each pattern that for its names.
 abbrev pub readings_of : Request → Bool → List ℕ → List Reading
-readings_of request closed bytes = map (λ pattern.
-    reading_in request.job.format (all_names request.patterns) pattern.names closed bytes)
-    request.patterns
+readings_of request closed bytes =
+    map (λ pattern. reading_of request pattern.names closed bytes) request.patterns
 
 -- Those of an input that has these bytes, of which it may have as many as the job says.
 abbrev pub readings_within : Request → List ℕ → List Reading

@@ -2,7 +2,7 @@ use Rattle.std.proofs.Common.{◌+◌, refl, subst, map, string_bytes}
 use Rattle.std.proofs.lemmas.Result.{err_from_is_err_and}
 use Rattle.tre_tool.specs.declared.status.Status.TheVariants.{Done}
 use Rattle.tre_tool.specs.Input.{TakesAtMost}
-use Rattle.tre_tool.specs.declared.job.Job.{Job}
+use Rattle.tre_words.specs.declared.job.Job.{Job}
 use Rattle.tre_tool.proofs.MadeRuns.{IsCount-given}
 use Rattle.tre_tool.proofs.Promise.{named_as, told_as_such, EndsAs-refused, EndsAs-over, IsRefused-of, AsksFor-of, job_unique, kept_as, nothing_asked}
 use Rattle.tre_tool.proofs.whole_run.run_words.Goals as goal
