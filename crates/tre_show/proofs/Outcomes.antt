@@ -62,8 +62,8 @@ module _ (scale : ℕ) (names : Vocabulary) where
 
   none_empty : (tokens : List Token) → Stand scale names tokens → NoneEmpty tokens
   none_empty tokens stand = λ place ends at none.
-      well_behind Other at.front tokens (at.body ++ at.rest) stand at.split at.body at.rest ends refl
-      at.spelt none
+      well_behind Other at.front tokens (at.body ++ at.rest) stand at.split at.body at.rest ends
+      refl at.spelt none
 
 -- ---- the outcome
 

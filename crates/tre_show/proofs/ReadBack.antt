@@ -26,8 +26,6 @@ use Rattle.tre_syntax.specs.PatternTree.{seen_after}
 use Rattle.tre_parse.specs.declared.token.Token.{Token}
 use Rattle.tre_parse.specs.declared.token.Token.TheVariants.{Name, EventName, Number, Bar, DoubleBar, Ampersand, DoubleAmpersand, Percent, Begins, Ends, Eps, Rise, Fall, Inf, True, Event, EndOfText}
 use Rattle.tre_parse.specs.Lexeme.{is_blank, reserved, named, word_lexeme, number_len, number_lexeme, sign_lexeme, lexeme_of}
-use Rattle.tre_parse.specs.declared.lexeme.Lexeme.{Lexeme}
-use Rattle.tre_parse.specs.declared.lexeme.Lexeme.TheVariants.{Number as NumberLexeme}
 use Rattle.tre_parse.specs.declared.before.Before.{Before}
 use Rattle.tre_parse.specs.declared.before.Before.TheVariants.{Other}
 use Rattle.tre_parse.specs.Numbering.{numbers_in}
@@ -55,19 +53,17 @@ abbrev word_for : List ℕ → Option Token → RawToken
 word_for bytes None = name bytes
 word_for bytes (Some token) = sign token
 
--- A lexeme of just these bytes is taken.
-takes_front : (byte : ℕ) (bytes rest : List ℕ) (lexeme : Lexeme) (word : RawToken) (at : ℕ)
-    → lexeme_of (byte ∷ (bytes ++ rest)) ≡ lexeme
-    → ((next : ℕ → RawTokens) → scanned lexeme at (byte ∷ (bytes ++ rest)) next
+-- What stands there is a word of just these bytes.
+takes_front : (byte : ℕ) (bytes rest : List ℕ) (word : RawToken) (at : ℕ)
+    → ((next : ℕ → RawTokens)
+    → scanned (lexeme_of (byte ∷ (bytes ++ rest))) at (byte ∷ (bytes ++ rest)) next
     ≡ with_raw_token at word (next (length bytes)))
     → Takes word at (byte ∷ (bytes ++ rest)) rest
-takes_front byte bytes rest lexeme word at e is =
-    let go = λ (skip : ℕ). raw_tokens_from skip (at + 1) (bytes ++ rest) in
+takes_front byte bytes rest word at is =
     let end = skipped bytes rest (at + 1) in (
       at,
       end.0,
-      ap (λ l. scanned l at (byte ∷ (bytes ++ rest)) go) e ∙ is go
-          ∙ ap (with_raw_token at word) end.1,
+      is (λ skip. raw_tokens_from skip (at + 1) (bytes ++ rest)) ∙ ap (with_raw_token at word) end.1,
     )
 
 -- A word that is taken is a name or a reserved one.
@@ -90,12 +86,14 @@ scanned_word byte bytes rest o at next =
 
 -- A number that is taken.
 scanned_number : (byte : ℕ) (bytes rest : List ℕ) (at : ℕ) (next : ℕ → RawTokens)
-    → scanned (NumberLexeme (length (byte ∷ bytes))) at (byte ∷ (bytes ++ rest)) next
+    → number_len (byte ∷ (bytes ++ rest)) ≡ length (byte ∷ bytes)
+    → scanned (number_lexeme (byte ∷ (bytes ++ rest))) at (byte ∷ (bytes ++ rest)) next
     ≡ with_raw_token at (number (byte ∷ bytes)) (next (length bytes))
-scanned_number byte bytes rest at next =
+scanned_number byte bytes rest at next len =
     let whole = byte ∷ bytes in
     let less : length whole - 1 ≡ length bytes = omega arith in
-    ap (λ w. with_raw_token at (number w) (next (length whole - 1))) (take-append_seam whole rest)
+    ap (λ n. with_raw_token at (number (take n (whole ++ rest))) (next (n - 1))) len
+    ∙ ap (λ w. with_raw_token at (number w) (next (length whole - 1))) (take-append_seam whole rest)
     ∙ ap (λ n. with_raw_token at (number whole) (next n)) less
 
 -- which of the kinds the first byte chooses
@@ -122,12 +120,12 @@ takes_word byte bytes rest at starts all cut =
     let size = prefix_whole continues_name whole rest
     (All-cons (λ b. continues_name b ≡ true) byte bytes (start_continues byte starts) all)
     (cut_stops continues_name rest (λ b fails. fails) cut) in
-    takes_front byte bytes rest (named (length whole) (reserved whole))
-    (word_for whole (reserved whole)) at
-    (kind_word byte _ (word_lexeme (whole ++ rest)) _ starts
+    let lexeme = kind_word byte _ (word_lexeme (whole ++ rest)) _ starts
     ∙ ap (λ n. named n (reserved (take n (whole ++ rest)))) size
-    ∙ ap (λ w. named (length whole) (reserved w)) (take-append_seam whole rest))
-    (scanned_word byte bytes rest (reserved whole) at)
+    ∙ ap (λ w. named (length whole) (reserved w)) (take-append_seam whole rest) in
+    takes_front byte bytes rest (word_for whole (reserved whole)) at
+    (λ next. ap (λ l. scanned l at (whole ++ rest) next) lexeme
+    ∙ scanned_word byte bytes rest (reserved whole) at next)
 
 no_word : (o : Option Token) → (is_some o ≡ true → ⊥) → o ≡ None
 no_word None never = refl
@@ -155,10 +153,11 @@ takes_number scale n rest at writes small cut =
         → Takes (number text) at (text ++ rest) rest
     by [] is len = absurd (cc)
     by (d ∷ ds) is len =
-        takes_front d ds rest (NumberLexeme (length (d ∷ ds))) (number (d ∷ ds)) at
-        (kind_number d _ (word_lexeme (d ∷ (ds ++ rest))) (number_lexeme (d ∷ (ds ++ rest)))
-        (sign_lexeme (d ∷ (ds ++ rest))) (writes.begins d n ds is) ∙ ap NumberLexeme len)
-        (scanned_number d ds rest at)
+        let whole = d ∷ (ds ++ rest) in
+        let lexeme = kind_number d _ (word_lexeme whole) (number_lexeme whole)
+        (sign_lexeme whole) (writes.begins d n ds is) in
+        takes_front d ds rest (number (d ∷ ds)) at
+        (λ next. ap (λ l. scanned l at whole next) lexeme ∙ scanned_number d ds rest at next len)
 
 -- ---- the table
 

@@ -30,7 +30,13 @@ write_digits-requires-2 c =
     omega (arith, c.write_last-end.ensures.begin, c.write_sign-end.ensures.begin) in
     (
       omega (arith, size, begin, c.requires.room, c.requires.scale),
-      omega (arith, begin, c.requires.room, c.write_last-end.auto.buffer, c.write_sign-end.auto.buffer),
+      omega (
+        arith,
+        begin,
+        c.requires.room,
+        c.write_last-end.auto.buffer,
+        c.write_sign-end.auto.buffer,
+      ),
     )
 
 pub returns-clause-ascii : goal.returns-clause-ascii
