@@ -1,6 +1,6 @@
 -- A token that is printed is read as that token, before what can stand behind it; and so the text
 -- of tokens is read back, its names as the ones that were printed.
-use Rattle.std.proofs.Common.{◌≡◌, ℕ, suc, ◌+◌, ◌-◌, ◌<◌, ◌≤◌, ◌^◌, Bool, true, false, cond, ◌&&◌, ◌⊎◌, ⊎_elim}
+use Rattle.std.proofs.Common.{◌≡◌, ℕ, suc, ◌+◌, ◌-◌, ◌<◌, ◌≤◌, ◌^◌, true, false, cond, ◌&&◌, ◌⊎◌, ⊎_elim}
 use Rattle.std.proofs.Common.{Option, Some, None, List, [], ◌∷◌, ◌++◌, length, get_or, take, refl, sym, ap, ◌∙◌, subst, arith}
 use Rattle.std.specs.Prelude.{codes, nat_lt, ◌==◌, is_none, is_some, unwrap_or, if◌then◌else◌}
 use Rattle.std.specs.Char.{is_ascii_digit}
@@ -29,7 +29,7 @@ use Rattle.tre_parse.specs.Lexeme.{is_blank, reserved, named, word_lexeme, numbe
 use Rattle.tre_parse.specs.declared.before.Before.{Before}
 use Rattle.tre_parse.specs.declared.before.Before.TheVariants.{Other}
 use Rattle.tre_parse.specs.Numbering.{numbers_in}
-use Rattle.tre_parse.specs.Tokens.{RawToken, name, number, sign, RawTokens, raw_tokens_from, scanned, with_raw_token, kind_behind, before_sign, names_of_kind, names_with, vocabulary_with, Known, number_of, numbered, token_of, known_after, is_past, tokens_from, names_from, past_from}
+use Rattle.tre_parse.specs.Tokens.{RawToken, name, number, sign, RawTokens, raw_tokens_from, scanned, with_raw_token, kind_behind, before_sign, names_with, vocabulary_with, Known, number_of, numbered, token_of, known_after, is_past, tokens_from, names_from, past_from}
 use Rattle.tre_show.specs.StateText.{name_text}
 use Rattle.tre_show.proofs.TreeTokens.{printed, text_of, IsCut, StandsHere, StandFrom}
 use Rattle.tre_show.proofs.Written.{WritesNumbers, prefix_whole, cut_stops, written_len, units_read}
@@ -357,7 +357,7 @@ named_word scale kind known bytes i after is place vocabulary = record {
 }
 
 module _ (scale : ℕ) (writes : WritesNumbers scale) (names : Vocabulary)
-  (list : IsNameList names.names) (events : IsNameList names.events)
+    (list : IsNameList names.names) (events : IsNameList names.events)
   where
     -- A token by its word, and then the rest.
     word_read : (known next : Known) (token : Token) (word : RawToken) (rest : List Token)

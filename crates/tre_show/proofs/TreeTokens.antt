@@ -5,7 +5,6 @@ use Rattle.std.specs.Prelude.{nat_lt, codes, MatchOption}
 use Rattle.std.proofs.lemmas.Bool.Decides.{nat_tests}
 use Rattle.std.proofs.lemmas.Grind.{flat_map-append}
 use Rattle.tre_state.specs.Name.{continues_name}
-use Rattle.tre_state.specs.StateTree as state
 use Rattle.tre_state.specs.StateTree.{StateTree, always, proposition, negation, conjunction, disjunction}
 use Rattle.tre_trace.specs.Reading.{Vocabulary}
 use Rattle.tre_zone.specs.Interval.{IntervalEnds, IsInterval, HasNoDuration, kept_weak}
@@ -23,7 +22,7 @@ use Rattle.tre_parse.specs.declared.before.Before.TheVariants.{Other}
 use Rattle.tre_parse.specs.Numbering.{numbers_at, numbers_in}
 use Rattle.tre_parse.specs.Tokens.{kind_behind, before_sign}
 use Rattle.tre_decimal.specs.Decimal.{number_text}
-use Rattle.tre_show.specs.Interval.{lower_text, end_text, interval_text}
+use Rattle.tre_show.specs.Interval.{lower_text, end_text}
 use Rattle.tre_show.specs.Intervals.{HasIntervals}
 use Rattle.tre_show.specs.StateText.{in_parens, name_text, state_operand_text, state_text, literal_text}
 use Rattle.tre_show.specs.PatternText.{atom_text, operand_text}

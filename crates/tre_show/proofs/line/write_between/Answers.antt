@@ -1,4 +1,3 @@
-use Rattle.std.proofs.Common.{arith}
 use Rattle.tre_show.proofs.LineBytes.{between_ascii, bracketed}
 use Rattle.tre_show.proofs.line.write_between.Goals as goal
 

@@ -27,8 +27,7 @@ write_digits-requires-2 c =
     omega (arith, c.ranges.units.fits, div-le_self c.args.units c.pow.result) in
     let size = digits_fit front less in
     let begin : c.write_sign-end.result + 1 + c.args.scale ≡ c.args.end =
-    omega (arith, c.write_last-end.ensures.begin, c.write_sign-end.ensures.begin) in
-    (
+    omega (arith, c.write_last-end.ensures.begin, c.write_sign-end.ensures.begin) in (
       omega (arith, size, begin, c.requires.room, c.requires.scale),
       omega (
         arith,
