@@ -151,7 +151,9 @@ fault_or (Some fault) Rest rest = (refused fault, refl)
 
 pub outcome_is : (scale : ℕ) (text : List ℕ) → (outcome : Outcome) × IsOutcome scale text outcome
 outcome_is scale text =
-    let read = read_as (text_tokens_of scale text) (read_whole (text_tokens_of scale text).tokens) refl in
+    let read = read_as (text_tokens_of scale text) (read_whole
+    (text_tokens_of scale text).tokens) refl in
     fault_or (byte_fault text) (IsOutcomeWithin (text_tokens_of scale text))
-    (fault_or (limit_fault (text_tokens_of scale text)) (IsOutcomeOfTokens (text_tokens_of scale text))
+    (fault_or (limit_fault (text_tokens_of scale text)) (IsOutcomeOfTokens
+    (text_tokens_of scale text))
     read)

@@ -251,7 +251,8 @@ placed_offsets scale known (raw ∷ rest) = ap (λ ns. raw.at ∷ ns)
     (placed_offsets scale (known_after known raw.word) rest)
 
 -- A scan of a text holds its words.
-pub same_words : (scale : ℕ) (text : List ℕ) (scan : Scan) → IsScan scale text scan → text_tokens_in scan
+pub same_words : (scale : ℕ) (text : List ℕ) (scan : Scan) → IsScan scale text scan
+    → text_tokens_in scan
     ≡ text_tokens_of scale text
 same_words scale text scan s =
     let raw_tokens = raw_tokens_of text in
@@ -266,16 +267,19 @@ scan_numbered scale text scan s = let P = λ (w : TextTokens). IsNumberedByUse w
     subst P (sym (same_words scale text scan s)) (text_numbered scale text)
 
 pub answers_text : (scale : ℕ) (text : List ℕ) (scan : Scan) (result : Result Pattern ParseFault)
-    → length text ≤ TEXT_MAX → IsScan scale text scan → Answers (IsOutcomeWithin (text_tokens_in scan))
+    → length text ≤ TEXT_MAX → IsScan scale text scan → Answers (IsOutcomeWithin
+    (text_tokens_in scan))
     result → Answers (IsOutcome scale text) result
 answers_text scale text scan (Ok pattern) le s h =
     let P = λ (w : TextTokens). IsOutcomeWithin w (spelt (pattern_tree pattern)
     (names_of pattern)) in
-    words_outcome scale text _ (good_bytes text le s.good) (subst P (same_words scale text scan s) h)
+    words_outcome scale text _ (good_bytes text le s.good) (subst P
+    (same_words scale text scan s) h)
 answers_text scale text scan (Err fault) le s (inl h) = inl h
 answers_text scale text scan (Err fault) le s (inr h) =
     let P = λ (w : TextTokens). IsOutcomeWithin w (refused fault) in
-    inr (words_outcome scale text _ (good_bytes text le s.good) (subst P (same_words scale text scan s) h))
+    inr (words_outcome scale text _ (good_bytes text le s.good) (subst P
+    (same_words scale text scan s) h))
 
 -- The outcome is what is answered.
 pub answered : (scale : ℕ) (text : List ℕ) (outcome : Outcome) (result : Result Pattern ParseFault)

@@ -195,7 +195,8 @@ kind_seen EventKind EventKind known bytes rest m p e =
 kind_seen Proposition EventKind known bytes rest m p e = e
 kind_seen EventKind Proposition known bytes rest m p e = e
 
-spot_numbered : (scale : ℕ) (kind : NameKind) (word : RawToken) (at : ℕ) (known : Known) (rest : List Token)
+spot_numbered : (scale : ℕ) (kind : NameKind) (word : RawToken) (at : ℕ) (known : Known)
+    (rest : List Token)
     (later : Option ℕ) (m : ℕ) → IsPlain word →
     (if is_past known word then Some at else later) ≡ None →
     (later ≡ None → seen_after (length (names_of_kind kind (vocabulary_after known word)))
@@ -237,4 +238,5 @@ numbered_all scale EventKind raw_tokens h e =
 
 -- The words of a text are numbered by use.
 pub text_numbered : (scale : ℕ) (text : List ℕ) → IsNumberedByUse (text_tokens_of scale text)
-text_numbered scale text = λ e kind. numbered_all scale kind (raw_tokens_of text) (raw_tokens_plain 0 0 text) e
+text_numbered scale text = λ e kind. numbered_all scale kind (raw_tokens_of text)
+    (raw_tokens_plain 0 0 text) e

@@ -33,7 +33,8 @@ verdict_spells (Some at) large fault t tree kept names e = absurd (cc)
 verdict_spells None true fault t tree kept names e = absurd (cc)
 verdict_spells None false fault t tree kept names e = (cc, cc)
 
-judged_spells : (scale : ℕ) (text : List ℕ) (t tree : PatternTree) (names : Vocabulary) → bad_byte text
+judged_spells : (scale : ℕ) (text : List ℕ) (t tree : PatternTree) (names : Vocabulary)
+    → bad_byte text
     ≡ None → Spells expr (tokens_of scale text) t → IsOutcomeOfTree (text_tokens_of scale text) t
     (spelt tree names) → IsSpelling scale text tree names
 judged_spells scale text t tree names good h (inl k) = let no = k.2 in absurd (cc)
@@ -42,10 +43,13 @@ judged_spells scale text t tree names good h (inr k) =
     let P = λ (u : PatternTree). Spells expr (tokens_of scale text) u in
     record { tokens_alone = good; spells = subst P (sym same.0) h; numbered = same.1 }
 
-read_spells : (scale : ℕ) (text : List ℕ) (tree : PatternTree) (names : Vocabulary) → bad_byte text ≡ None
-    → IsOutcomeOfTokens (text_tokens_of scale text) (spelt tree names) → IsSpelling scale text tree names
+read_spells : (scale : ℕ) (text : List ℕ) (tree : PatternTree) (names : Vocabulary)
+    → bad_byte text ≡ None
+    → IsOutcomeOfTokens (text_tokens_of scale text) (spelt tree names)
+    → IsSpelling scale text tree names
 read_spells scale text tree names good (inl h) = let no = h.1 in absurd (cc)
-read_spells scale text tree names good (inr h) = judged_spells scale text h.0 tree names good h.1 h.2
+read_spells scale text tree names good (inr h) = judged_spells scale text h.0 tree names good h.1
+    h.2
 
 pub outcome_spells : (scale : ℕ) (text : List ℕ) (tree : PatternTree) (names : Vocabulary)
     → IsOutcome scale text (spelt tree names) → IsSpelling scale text tree names

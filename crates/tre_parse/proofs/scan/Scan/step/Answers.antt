@@ -74,7 +74,8 @@ returns-in_ok-put_number-in-Number-clause-ok c =
     (ap lexeme_of (sym (take_rest bytes at)) ∙ sym c.in-Number.ensures.value) in
     let again = c.as_bytes-in-Number.result.now in
     let count : len ≡ at + len - at = omega arith in
-    let taken = same_bytes number c.args.self.now c.put_number.new.self at (take len (drop at bytes))
+    let taken = same_bytes number c.args.self.now c.put_number.new.self at (take len
+    (drop at bytes))
     (take (at + len - at) (drop at again))
     (ap (λ bs. take len (drop at bs)) (same ∙ sym c.as_bytes-in-Number.ensures.value)
     ∙ ap (λ n. take n (drop at again)) count) c.in_ok-put_number-in-Number.ensures in
