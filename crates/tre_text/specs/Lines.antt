@@ -1,5 +1,5 @@
 -- What was found on a line.
-use Rattle.std.specs.Prelude.{◌≡◌, ◌≢◌, ℕ, ◌+◌, ◌≤◌, Some, List, ◌∷◌, true, Result, Ok, Err}
+use Rattle.std.specs.Prelude.{◌≡◌, ◌≢◌, ℕ, ◌+◌, ◌≤◌, Some, List, ◌∷◌, true, false, Result, Ok, Err}
 use Rattle.tre_pairs.specs.declared.TheConstants.{TIME_MAX}
 use Rattle.tre_parts.specs.Format.{Step}
 use Rattle.tre_decimal.specs.Decimal.{units_of}
@@ -21,8 +21,9 @@ Finds said known (Entry len val) = (said ≡ Ok (one_segment known len val)) ×
     (known.end + len ≤ TIME_MAX)
 Finds said known (Wrong kind) = (said ≡ Err kind) × (kind ≢ Spent)
 
--- The first field is a number of units, for which there is time.
+-- The first field is a number of units, for which there is time, and so no sign of events.
 pub record IsLength (scale : ℕ) (known : Known) (first : List ℕ) (len : ℕ) : Type 0 where
+  pub no_events : begins_events first ≡ false
   pub is : units_of scale first ≡ Some len
   pub some : len ≢ 0
   pub fits : known.end + len ≤ TIME_MAX

@@ -9,7 +9,7 @@ use Rattle.tre_text.specs.TextReading.{Terms, begins_comment, begins_events, spe
 use Rattle.tre_text.specs.declared.known.Known.{Known}
 use Rattle.tre_trace.specs.Reading.{Vocabulary}
 use Rattle.tre_trace.specs.declared.fault.TraceKind.{TraceKind}
-use Rattle.tre_trace.specs.declared.fault.TraceKind.TheVariants.{BadNumber, Zero, TooLate, BadName}
+use Rattle.tre_trace.specs.declared.fault.TraceKind.TheVariants.{Zero, TooLate, BadName}
 
 leads-nothing : (known now : Known) (step : Step Known) → known.end ≡ now.end
     → ◌≡◌ {A = Result (Step Known) TraceKind} (Ok (no_segment now)) (Ok step)

@@ -1,11 +1,14 @@
 //! Laws of the text format, each as a function whose contract it is.
 
 ghost use Rattle.std.specs.Prelude.{◌≡◌, ◌↔◌, ℕ, ◌+◌, Bool, true, false, None, Some, List, [], ◌∷◌, ◌++◌, length, IsBitSet};
+ghost use Rattle.tre_parts.specs.Alike.{AreAlike};
 ghost use Rattle.tre_text.specs.TextReading.{Terms, is_blank, fields_among, fields_of, valuation_of, IsNamed, text_reading};
 ghost use Rattle.tre_text.specs.TraceLines.{IsLine, IsOverlong, AreLines, ended, IsField, Say, HasFault};
 ghost use Rattle.tre_trace.specs.Trace.{end_of, IsTrace};
 ghost use Rattle.tre_trace.specs.declared.fault.TraceKind.{TraceKind};
 ghost use Rattle.tre_trace.specs.declared.segment.Segment.{Segment};
+
+use tre_decimal::begins_with_a_digit;
 
 /// Lines of which each is silent, says events or says a segment of a trace are that trace: with the
 /// events at its end where the input is closed, and without them while more may come. Where such
@@ -41,7 +44,9 @@ pub fn reading()
           fault =
               Some (record { place = length front + 1; kind = TraceKind.LineTooLong });
         } }
-{}
+{
+    begins_with_a_digit();
+}
 
 /// A last line without a line end is read as one with it, where the input is closed.
 pub fn last_line()
@@ -65,4 +70,11 @@ pub fn fields()
 pub fn naming()
     ensures { (names fields : List (List ℕ)) (i : ℕ) →
         IsBitSet (valuation_of names fields) i ↔ IsNamed names fields i }
+{}
+
+/// What a text says is the same whatever names it is read for, but for what is true: readings of the
+/// same bytes at one scale have the same fault, and segments of the same lengths.
+pub fn alike()
+    ensures { (one other : Terms) (closed : Bool) (bytes : List ℕ) → one.scale ≡ other.scale →
+        AreAlike (text_reading one closed bytes) (text_reading other closed bytes) }
 {}

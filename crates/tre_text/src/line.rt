@@ -9,7 +9,7 @@ use crate::field::{next_field, skip_blanks, without_return};
 use crate::found::{Found, Head};
 use crate::known::Known;
 use crate::word::{ends_word, word_end};
-use tre_decimal::read_units;
+use tre_decimal::{begins_with_a_digit, read_units};
 use tre_pairs::TIME_MAX;
 use tre_parts::find_name;
 use tre_state::Names;
@@ -60,6 +60,8 @@ fn head_of(known: Known, first: &[u8], scale: u8) -> Result<Head, TraceKind>
     requires scale { scale ≤ SCALE_MAX }
     ensures { Heads scale known first.now result }
 {
+    // For the proof: what is a number of units is no sign of events.
+    begins_with_a_digit();
     let Some(len) = read_units(first, scale) else {
         return if is_events(first) {
             Ok(Head::Events)

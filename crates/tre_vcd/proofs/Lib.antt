@@ -5,6 +5,7 @@ mod Groups
 mod Knowing
 mod Letters
 mod Naming
+mod Needing
 mod NoRule
 mod Pasts
 mod Reading

@@ -331,10 +331,8 @@ impl TokenReader {
     fn declare(&mut self) -> Result<(), AllocError>
         ensures knows { (past : List Statement) (word : List ℕ) (tokens : List (List ℕ)) →
             Holds self.old (record { past = past; inside = section word tokens }) →
-            OnOk result (Knows self.new.names self.new.events self.new.past (var tokens ∷ past)) }
-        ensures needed { (past : List Statement) (word : List ℕ) (tokens : List (List ℕ)) →
-            Holds self.old (record { past = past; inside = section word tokens }) →
-            OnOk result (KnowsAll (var tokens ∷ past) self.new.needed.items) }
+            OnOk result (Knows self.new.names self.new.events self.new.past (var tokens ∷ past)
+            × KnowsAll (var tokens ∷ past) self.new.needed.items) }
         ensures same_terms { terms_kept self.new ≡ terms_kept self.old }
     {
         let tokens = self.tokens.as_slice();
@@ -342,14 +340,18 @@ impl TokenReader {
             return Ok(());
         }
         let alloc = self.past.alloc;
+        let identifier = tokens[2].as_slice();
+        let reference = tokens[3].as_slice();
         if is_signal(&tokens[0], &tokens[1]) {
-            let path = self.past.scopes.path(alloc, &tokens[3])?;
-            self.past.declare(&self.names, &path, &tokens[2])?;
-            declare(&mut self.needed, alloc, &path, &tokens[2])?;
+            let path = self.past.scopes.path(alloc, reference)?;
+            let name = path.as_slice();
+            self.past.declare(&self.names, name, identifier)?;
+            declare(&mut self.needed, alloc, name, identifier)?;
         } else if is_event(&tokens[0]) {
-            let path = self.past.scopes.path(alloc, &tokens[3])?;
-            self.past.declare_event(&self.events, &path, &tokens[2])?;
-            declare_event(&mut self.needed, alloc, &path, &tokens[2])?;
+            let path = self.past.scopes.path(alloc, reference)?;
+            let name = path.as_slice();
+            self.past.declare_event(&self.events, name, identifier)?;
+            declare_event(&mut self.needed, alloc, name, identifier)?;
         }
         Ok(())
     }

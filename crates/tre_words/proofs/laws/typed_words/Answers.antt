@@ -7,21 +7,84 @@ pub returns-clause-pattern : goal.returns-clause-pattern
 unfolding command_line clap_on_literals
 returns-clause-pattern c = record {
   faultless = refl;
-  gives = record { expr = refl; input = refl; format = refl; max_bytes = refl; mode = refl };
+  gives = record {
+    says = record {
+      mode = refl;
+      format = refl;
+      input = refl;
+      max_bytes = refl;
+      scale = refl;
+      normal = refl;
+      max_zones = refl;
+      minus = refl;
+      lets = refl;
+      expr = refl;
+    };
+    together = record {
+      normal = λ e. cc;
+      max_zones = λ e. cc;
+      minus = λ e. cc;
+      columns = λ e. cc;
+      lets = λ e. cc;
+    };
+    offline = λ e. cc;
+  };
 }
 
 pub returns-clause-online : goal.returns-clause-online
 unfolding command_line clap_on_literals
 returns-clause-online c = record {
   faultless = refl;
-  gives = record { expr = refl; input = refl; format = refl; max_bytes = refl; mode = refl };
+  gives = record {
+    says = record {
+      mode = refl;
+      format = refl;
+      input = refl;
+      max_bytes = refl;
+      scale = refl;
+      normal = refl;
+      max_zones = refl;
+      minus = refl;
+      lets = refl;
+      expr = refl;
+    };
+    together = record {
+      normal = λ e. cc;
+      max_zones = λ e. cc;
+      minus = λ e. cc;
+      columns = λ e. cc;
+      lets = λ e. cc;
+    };
+    offline = λ e. cc;
+  };
 }
 
 pub returns-clause-dashes : goal.returns-clause-dashes
 unfolding command_line clap_on_literals
 returns-clause-dashes c = record {
   faultless = refl;
-  gives = record { expr = refl; input = refl; format = refl; max_bytes = refl; mode = refl };
+  gives = record {
+    says = record {
+      mode = refl;
+      format = refl;
+      input = refl;
+      max_bytes = refl;
+      scale = refl;
+      normal = refl;
+      max_zones = refl;
+      minus = refl;
+      lets = refl;
+      expr = refl;
+    };
+    together = record {
+      normal = λ e. cc;
+      max_zones = λ e. cc;
+      minus = λ e. cc;
+      columns = λ e. cc;
+      lets = λ e. cc;
+    };
+    offline = λ e. cc;
+  };
 }
 
 pub returns-clause-no_words : goal.returns-clause-no_words
