@@ -26,6 +26,8 @@ mod offline;
 #[cfg(test)]
 mod online;
 #[cfg(test)]
+mod options;
+#[cfg(test)]
 mod refusals;
 #[cfg(test)]
 mod words;

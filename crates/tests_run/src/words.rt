@@ -1,6 +1,6 @@
 // Runs by the words of a command line: which are refused, and that these touch nothing.
 
-use crate::memory::{FIRST_FAILS, SOUND, ran_soundly, ran_with, words_of};
+use crate::memory::{FIRST_FAILS, SOUND, ran_soundly, ran_with};
 use std::alloc::{AllocError, Global};
 use std::test::Fail;
 

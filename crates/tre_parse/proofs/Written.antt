@@ -1,5 +1,5 @@
 -- A number that is written is one token, where what follows doesn't go on with it.
-use Rattle.std.proofs.Common.{◌≡◌, ℕ, ◌+◌, ◌<◌, ◌^◌, ◌/◌, zero, suc, Bool, true, false, cond, ◌&&◌, List, [], ◌∷◌, ◌++◌, length, drop, refl, sym, ◌∙◌, ap, arith}
+use Rattle.std.proofs.Common.{◌≡◌, ℕ, ◌+◌, ◌<◌, ◌^◌, ◌/◌, zero, suc, Bool, true, false, cond, ◌&&◌, List, [], ◌∷◌, ◌++◌, length, drop, refl, sym, ◌∙◌, ap, subst, arith}
 use Rattle.std.specs.Prelude.{decimal, nat_lt, if◌then◌else◌}
 use Rattle.std.specs.Char.{is_ascii_digit}
 use Rattle.std.specs.List.{list_all, prefix_len}
@@ -86,6 +86,10 @@ written_len last (suc scale) units rest small end =
     let size = length-append whole (46 ∷ decimals) in
     let through = decimals_through decimals rest (last.digits (suc scale) units)
     (omega (arith, count)) end in
-    let behind = ap number_len (append_assoc whole (46 ∷ decimals) rest)
-    ∙ number_behind whole (46 ∷ (decimals ++ rest)) digits refl in
-    omega (arith, behind, through, size)
+    let total : length whole + (1 + length decimals) ≡ length (whole ++ 46 ∷ decimals) =
+    omega (arith, size) in
+    let P = λ (text : List ℕ). number_len (text ++ rest) ≡ length text in
+    subst P (sym (append_assoc whole (46 ∷ []) decimals))
+    (ap number_len (append_assoc whole (46 ∷ decimals) rest)
+    ∙ number_behind whole (46 ∷ (decimals ++ rest)) digits refl
+    ∙ ap (λ n. length whole + n) through ∙ total)
