@@ -35,25 +35,25 @@ told_alone : (piece : Piece) (here begun none told : List ZoneBounds) (tree : Pa
     → Agree (Held told)
     (Either (Composed (Either (Held here) (Held begun)) (MatchesRest tree (alone piece)))
     (Held begun))
-told_alone piece here begun none told tree empty tells =
+told_alone piece here begun none told tree nothing tells =
     agree_then (set_agrees tells.set)
     (agree_either
     (agree_composed (record {
       at = λ a b n some. (
-        (λ h. ⊎_elim (λ x. x) (λ x. absurd (no_pair none empty a b n x)) h),
+        (λ h. ⊎_elim (λ x. x) (λ x. absurd (no_pair none nothing a b n x)) h),
         (λ h. inl h),
       );
     }) (agree_refl (MatchesRest tree (alone piece))))
     (agree_refl (Held begun)))
 
-module _ (piece : Piece) (here begun none told : List ZoneBounds) (empty' : none ≡ []) where
+module _ (piece : Piece) (here begun none told : List ZoneBounds) (nothing : none ≡ []) where
   brief_by : (x : Atom) → IsBrief x → IsWellAt piece.begin (atom_mark here begun) (atom x)
       → TellsAtom here begun none (atom x) piece told
       → StepsTo (atom_mark here begun) (atom x) piece told (atom_mark [] [])
   brief_by x brief well tells =
       steps_of piece (atom x) told (atom_mark [] []) (atom_mark here begun)
       (brief_inner piece here begun told x brief
-      (agree_then (told_alone piece here begun none told (atom x) empty' tells)
+      (agree_then (told_alone piece here begun none told (atom x) nothing tells)
       (brief_tells piece here begun x well.well.0 brief
       (brief.begun piece.begin begun well.well.1))))
 
@@ -84,7 +84,7 @@ module _ (piece : Piece) (here begun none told : List ZoneBounds) (empty' : none
       let tree = atom (literal state) in
       steps_of piece tree told (atom_mark [] begun') (atom_mark here begun)
       (literal_inner piece here begun told begun' state
-      (agree_then (told_alone piece here begun none told tree empty' tells)
+      (agree_then (told_alone piece here begun none told tree nothing tells)
       (literal_tells piece here begun state well.well.0 well.well.1))
       (set_agrees kept))
   literal_steps_to begun' (atom empty) is well tells kept = absurd is
@@ -176,8 +176,8 @@ tells_atom piece here begun enter inside going told tree held set union = record
 pub tells_none : (piece : Piece) (here begun enter told : List ZoneBounds) (tree : PatternTree)
     → told ≡ [] → (here ≡ []) × (begun ≡ []) × (enter ≡ [])
     → TellsAtom here begun enter tree piece told
-tells_none piece here begun enter told tree empty none = record {
-  set = set_none told _ empty
+tells_none piece here begun enter told tree nothing none = record {
+  set = set_none told _ nothing
       (λ a b n some h. ⊎_elim
       (λ x. ⊎_elim
       (λ y. ⊎_elim

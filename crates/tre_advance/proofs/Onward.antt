@@ -428,7 +428,7 @@ module _ (piece : Piece) (here enter : List ZoneBounds) (body : MarkTree) (tree 
         → EntersTo body' tree told piece told' body''
         → none ≡ [] → KeepsHere (end_of_piece piece) none told body'' rest
         → Advances (repetition_mark here body) (repetition tree) enter piece told rest
-    repetition_advances told told' none body'' rest set e empty kept =
+    repetition_advances told told' none body'' rest set e nothing kept =
         let T' = end_of_piece piece in
         let inner = of_steps piece tree ended body' body f in
         let beside = of_enters piece tree told' body'' body' told e in
@@ -440,7 +440,7 @@ module _ (piece : Piece) (here enter : List ZoneBounds) (body : MarkTree) (tree 
         agree_then (record { at = kept.union.pairs })
         (agree_then (record {
           at = λ a b n some. (
-            (λ h. ⊎_elim (λ x. x) (λ x. absurd (no_pair none empty a b n x)) h),
+            (λ h. ⊎_elim (λ x. x) (λ x. absurd (no_pair none nothing a b n x)) h),
             (λ h. inl h),
           );
         }) (record { at = kept.ends.pairs })) in

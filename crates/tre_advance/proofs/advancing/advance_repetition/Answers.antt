@@ -16,8 +16,8 @@ unreachable-requires c =
     shape_repetition c.args.piece.now.begin c.args.mark.now (tree_of c.args.body.now)
     c.requires.well.well c.in_default.not-Star
 
-pub repeat-requires-starts : goal.repeat-requires-starts
-repeat-requires-starts c =
+pub repeat-requires-clause-starts : goal.repeat-requires-clause-starts
+repeat-requires-clause-starts c =
     let piece = c.args.piece.now in
     let here = c.in-Star.here in
     let body = mark_of c.deref.result.now in

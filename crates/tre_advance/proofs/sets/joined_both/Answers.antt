@@ -9,9 +9,9 @@ returns-then-is_empty c = IfOk-weaker c.try_clone.result _ _
     (c.is_empty.ensures.0 c.if-is_empty.true) same)) c.try_clone.ensures
 
 pub returns-then-is_empty-2 : goal.returns-then-is_empty-2
-returns-then-is_empty-2 c = IfOk-weaker c.try_clone-2.result _ _
+returns-then-is_empty-2 c = IfOk-weaker c.try_clone-then-is_empty-2.result _ _
     (λ zones same. either_right zones c.args.one.now c.args.other.now
-    (c.is_empty-2.ensures.0 c.if-is_empty-2.true) same) c.try_clone-2.ensures
+    (c.is_empty-2.ensures.0 c.if-is_empty-2.true) same) c.try_clone-then-is_empty-2.ensures
 
 pub returns : goal.returns
 returns c = IfOk-weaker c.of_both.result _ _

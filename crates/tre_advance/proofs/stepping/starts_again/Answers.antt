@@ -8,6 +8,6 @@ returns-then-all_among c = IfOk-weaker c.joined.result _ _
     (c.all_among.ensures c.if-all_among.true) set) c.joined.ensures
 
 pub returns : goal.returns
-returns c = IfOk-weaker c.joined-2.result _ _
+returns c = IfOk-weaker c.joined-3.result _ _
     (λ starts set. again_joined c.args.ended c.args.here.now c.args.entering.now
-    c.in_ok-first.first starts c.in_ok-first.ensures set) c.joined-2.ensures
+    c.in_ok-first.first starts c.in_ok-first.ensures set) c.joined-3.ensures

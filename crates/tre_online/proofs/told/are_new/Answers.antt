@@ -1,4 +1,5 @@
 use Rattle.std.proofs.Common.{List, subst}
+use Rattle.std.proofs.lemmas.Bool.{both_ways}
 use Rattle.std.proofs.lemmas.List.{take_all}
 use Rattle.tre_zone.specs.declared.zone_bounds.ZoneBounds.{ZoneBounds}
 use Rattle.tre_zoneset.specs.ZoneSet.{Without}
@@ -13,7 +14,7 @@ pub loop-zone-preserved : goal.loop-zone-preserved
 loop-zone-preserved c =
     stays_next c.args.zones.now c.loop-zone.zone-index c.zone-item.result c.loop-zone-test.true
     c.zone-item.is (WasTold c.args.earlier.now) c.loop-zone.invariant
-    (λ told. c.if-is_beside.false (c.is_beside.ensures.1 told))
+    (λ told. both_ways c.is_beside.result c.if-is_beside.false (c.is_beside.ensures.1 told))
 
 pub returns : goal.returns
 returns c = λ yes.
