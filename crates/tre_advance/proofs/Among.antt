@@ -1,7 +1,7 @@
 -- Zones that are among others.
-use Rattle.std.proofs.Common.{◌≡◌, ℕ, ◌+◌, ◌*◌, ◌<◌, ◌≤◌, List, [], Any, length, get_or, take, inl, inr, ⊎_elim, subst}
+use Rattle.std.proofs.Common.{◌≡◌, ℕ, ◌+◌, ◌<◌, ◌≤◌, List, [], Any, length, get_or, take, inl, inr, ⊎_elim, subst}
 use Rattle.std.proofs.lemmas.List.{take_all}
-use Rattle.tre_pairs.specs.Pairs.{Pairs, Composed, Either}
+use Rattle.tre_pairs.specs.Pairs.{Either}
 use Rattle.tre_pairs.proofs.Laws.{Agree}
 use Rattle.tre_zone.specs.Held.{Held, IsSetOf}
 use Rattle.tre_zone.specs.Zone.{Includes}

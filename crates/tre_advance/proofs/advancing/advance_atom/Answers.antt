@@ -1,9 +1,4 @@
-use Rattle.std.proofs.Common.{◌≡◌, ap, refl, subst}
-use Rattle.std.proofs.lemmas.Result.{IfOk-weaker}
 use Rattle.tre_syntax.specs.Expr.{tree_of}
-use Rattle.tre_mark.specs.MarkTree.{MarkTree, mark_of, atom_mark}
-use Rattle.tre_mark.specs.Marked.{IsWellAt}
-use Rattle.tre_advance.proofs.Onward.{advances_moved}
 use Rattle.tre_advance.proofs.ShapeForms.{shape_atomic}
 use Rattle.tre_advance.proofs.advancing.advance_atom.Goals as goal
 

@@ -1,4 +1,4 @@
-use Rattle.std.proofs.Common.{◌∙◌, [], ap, sym, subst}
+use Rattle.std.proofs.Common.{◌∙◌, ap, sym, subst}
 use Rattle.tre_syntax.specs.Expr.{tree_of}
 use Rattle.tre_mark.specs.MarkTree.{MarkTree, atom_mark}
 use Rattle.tre_advance.specs.Advance.{Advances}

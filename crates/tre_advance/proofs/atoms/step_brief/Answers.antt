@@ -1,7 +1,7 @@
 use Rattle.std.proofs.Common.{◌∙◌, [], ap, sym, subst}
 use Rattle.tre_syntax.specs.Expr.{tree_of}
 use Rattle.tre_mark.specs.MarkTree.{MarkTree, atom_mark}
-use Rattle.tre_advance.specs.Moves.{StepsTo, TellsAtom}
+use Rattle.tre_advance.specs.Moves.{StepsTo}
 use Rattle.tre_advance.proofs.AtomForms.{brief_steps_to}
 use Rattle.tre_advance.proofs.atoms.step_brief.Goals as goal
 

@@ -1,4 +1,4 @@
-use Rattle.std.proofs.Common.{List, subst, inl, inr, ⊎_elim}
+use Rattle.std.proofs.Common.{List, subst}
 use Rattle.tre_pairs.specs.Pairs.{Either}
 use Rattle.tre_zone.specs.Held.{Held, IsSetOf}
 use Rattle.tre_zone.specs.declared.zone_bounds.ZoneBounds.{ZoneBounds}
