@@ -1,5 +1,5 @@
--- The tokens of a text at a scale, their offsets, the names among them with their numbers, and the first
--- byte at which no token begins.
+-- The tokens of a text at a scale, their offsets, the names among them with their numbers, and the
+-- first byte at which no token begins.
 use Rattle.std.specs.Prelude.{ℕ, ◌+◌, ◌-◌, zero, suc, min, Bool, false, ◌&&◌, nat_lt, is_none, if◌then◌else◌, Option, Some, None, unwrap_or, List, [], ◌∷◌, ◌++◌, length, take, map}
 use Rattle.tre_pairs.specs.declared.TheConstants.{TIME_MAX}
 use Rattle.tre_decimal.specs.Decimal.{units_of}

@@ -27,10 +27,12 @@ ghost use Rattle.tre_parse.specs.Outcome.{text_tokens_of, deep_place, IsSpelling
 
 /// A text spells at most one pattern at a scale.
 pub fn one_spelling()
-    ensures tree { (scale : ℕ) (text : List ℕ) (tree other : PatternTree) (names others : Vocabulary) →
-        IsSpelling scale text tree names → IsSpelling scale text other others → tree ≡ other }
-    ensures names { (scale : ℕ) (text : List ℕ) (tree other : PatternTree) (names others : Vocabulary) →
-        IsSpelling scale text tree names → IsSpelling scale text other others → names ≡ others }
+    ensures tree { (scale : ℕ) (text : List ℕ) (tree other : PatternTree)
+        (names others : Vocabulary) → IsSpelling scale text tree names →
+        IsSpelling scale text other others → tree ≡ other }
+    ensures names { (scale : ℕ) (text : List ℕ) (tree other : PatternTree)
+        (names others : Vocabulary) → IsSpelling scale text tree names →
+        IsSpelling scale text other others → names ≡ others }
 {}
 
 /// Where a sign of the table stands, a sign of the table is taken that is at least as long; and no

@@ -19,7 +19,8 @@ use crate::scan::{Scan, scan_text};
 use std::alloc::Global;
 use tre_syntax::{NODES_MAX, Pattern};
 
-/// The pattern that the text spells at a scale: its numbers are whole numbers of units of 10^-scale.
+/// The pattern that the text spells at a scale. A number of it is a whole number of units, each of
+/// which is 10^-scale.
 ///
 /// The refusals come in the order of the variants of `ParseFault`, each over the whole text before
 /// the next. Want of memory may come at any point.

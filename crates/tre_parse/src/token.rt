@@ -6,8 +6,8 @@ pub enum Token {
     /// A name behind `event (`, by the number of its event. 64 stands for every one past the first
     /// 64.
     EventName(u8),
-    /// A number of units. One above the latest time, or a decimal that is no number of units, is the
-    /// one number after that.
+    /// A number of units. One above the latest time, or a decimal that is no number of units, is
+    /// the one number after that.
     Number(u64),
     /// `(`
     LeftParen,

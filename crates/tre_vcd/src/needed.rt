@@ -42,7 +42,8 @@ impl Needed {
         ensures same_names { vocabulary_of self.new ≡ vocabulary_of self.old }
     {
         self.propositions
-            .declare(alloc, &self.names, path, identifier)
+            .declare(alloc, &self.names, path, identifier)?;
+        Ok(())
     }
 
     // An event is declared by these tokens of its declaration.
@@ -60,7 +61,8 @@ impl Needed {
         ensures same_names { vocabulary_of self.new ≡ vocabulary_of self.old }
     {
         self.happenings
-            .declare(alloc, &self.events, path, identifier)
+            .declare(alloc, &self.events, path, identifier)?;
+        Ok(())
     }
 
     // Whether all of them are declared.
@@ -90,7 +92,8 @@ pub fn declare(
         return Ok(());
     };
     first.declare(alloc, path, identifier)?;
-    declare(others, alloc, path, identifier)
+    declare(others, alloc, path, identifier)?;
+    Ok(())
 }
 
 // An event is declared, where one of these needs it.
@@ -110,7 +113,8 @@ pub fn declare_event(
         return Ok(());
     };
     first.declare_event(alloc, path, identifier)?;
-    declare_event(others, alloc, path, identifier)
+    declare_event(others, alloc, path, identifier)?;
+    Ok(())
 }
 
 // Whether all that are needed are declared.

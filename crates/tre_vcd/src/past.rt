@@ -75,7 +75,8 @@ impl Past {
             OnOk result (Knows names.now event_names self.new (var tokens ∷ past)) }
     {
         self.propositions
-            .declare(self.alloc, names, path, identifier)
+            .declare(self.alloc, names, path, identifier)?;
+        Ok(())
     }
 
     // An event of this path is declared by these tokens of its declaration.
@@ -91,7 +92,8 @@ impl Past {
             DeclaresNone is_signal (scopes_at past) tokens →
             OnOk result (Knows names events.now self.new (var tokens ∷ past)) }
     {
-        self.events.declare(self.alloc, events, path, identifier)
+        self.events.declare(self.alloc, events, path, identifier)?;
+        Ok(())
     }
 
     // The declarations end.

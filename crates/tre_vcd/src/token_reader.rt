@@ -13,12 +13,12 @@ use crate::command::{Command, command_of};
 use crate::inside::Inside;
 use crate::needed::{Needed, are_declared, declare, declare_event};
 use crate::past::Past;
+use crate::scale::Scale;
 use crate::token::{
     Letter, ends_true, is, is_bit, is_dump, is_end, is_event, is_misplaced, is_signal, letter_of,
 };
 use crate::white::White;
 use std::alloc::{AllocError, Global};
-use tre_decimal::{SCALE_MAX, read_digits};
 use tre_pairs::TIME_MAX;
 use tre_parts::{PartReader, Said, Spot, first_of};
 use tre_state::Names;
@@ -37,7 +37,7 @@ pub struct TokenReader {
     names: Names,
     events: Names,
     needed: Vec<Needed>,
-    scale: u8,
+    scale: Scale,
     past: Past,
     inside: Inside,
     tokens: Vec<Vec<u8>>,
@@ -59,7 +59,7 @@ impl TokenReader {
             names,
             events,
             needed: Vec::new(alloc),
-            scale,
+            scale: Scale::new(scale),
             past: Past::new(alloc),
             inside: Inside::Nothing,
             tokens: Vec::new(alloc),
@@ -145,7 +145,7 @@ impl TokenReader {
         ensures kinds { result ≢ Said.Wrong Spent }
         ensures same_terms { terms_kept self.new ≡ terms_kept self.old }
     {
-        let Some(ticks) = read_digits(digits, self.scale.min(SCALE_MAX)) else {
+        let Some(ticks) = self.scale.time(digits) else {
             return Said::Wrong(TraceKind::BadToken);
         };
         if ticks < self.past.time {
@@ -299,7 +299,7 @@ impl TokenReader {
     fn close(&mut self)
         ensures holds { (past : List Statement) →
             Knows self.old.names self.old.events self.old.past past →
-            KnowsAll past self.old.needed.items → self.old.scale ≤ SCALE_MAX →
+            KnowsAll past self.old.needed.items →
             Holds self.new (record { past = past; inside = nothing }) }
         ensures same_terms { terms_kept self.new ≡ terms_kept self.old }
     {
@@ -331,10 +331,8 @@ impl TokenReader {
     fn declare(&mut self) -> Result<(), AllocError>
         ensures knows { (past : List Statement) (word : List ℕ) (tokens : List (List ℕ)) →
             Holds self.old (record { past = past; inside = section word tokens }) →
-            OnOk result (Knows self.new.names self.new.events self.new.past (var tokens ∷ past)) }
-        ensures needed { (past : List Statement) (word : List ℕ) (tokens : List (List ℕ)) →
-            Holds self.old (record { past = past; inside = section word tokens }) →
-            OnOk result (KnowsAll (var tokens ∷ past) self.new.needed.items) }
+            OnOk result (Knows self.new.names self.new.events self.new.past (var tokens ∷ past)
+            × KnowsAll (var tokens ∷ past) self.new.needed.items) }
         ensures same_terms { terms_kept self.new ≡ terms_kept self.old }
     {
         let tokens = self.tokens.as_slice();
@@ -342,14 +340,18 @@ impl TokenReader {
             return Ok(());
         }
         let alloc = self.past.alloc;
+        let identifier = tokens[2].as_slice();
+        let reference = tokens[3].as_slice();
         if is_signal(&tokens[0], &tokens[1]) {
-            let path = self.past.scopes.path(alloc, &tokens[3])?;
-            self.past.declare(&self.names, &path, &tokens[2])?;
-            declare(&mut self.needed, alloc, &path, &tokens[2])?;
+            let path = self.past.scopes.path(alloc, reference)?;
+            let name = path.as_slice();
+            self.past.declare(&self.names, name, identifier)?;
+            declare(&mut self.needed, alloc, name, identifier)?;
         } else if is_event(&tokens[0]) {
-            let path = self.past.scopes.path(alloc, &tokens[3])?;
-            self.past.declare_event(&self.events, &path, &tokens[2])?;
-            declare_event(&mut self.needed, alloc, &path, &tokens[2])?;
+            let path = self.past.scopes.path(alloc, reference)?;
+            let name = path.as_slice();
+            self.past.declare_event(&self.events, name, identifier)?;
+            declare_event(&mut self.needed, alloc, name, identifier)?;
         }
         Ok(())
     }

@@ -12,7 +12,8 @@ pub fn one_job()
         GivesJob words one → GivesJob words other → one ≡ other }
 {}
 
-/// The numbers of a job that words give are within their limits, and what it has may stand together.
+/// The numbers of a job that words give are within their limits, and what it has may stand
+/// together.
 pub fn given_is_job()
     ensures { (words : List (List ℕ)) (job : Job) → GivesJob words job → IsJob job }
 {}

@@ -43,6 +43,7 @@ fn may_stand(matches: &ArgMatches, job: &Job) -> bool
 // Reads words that `clap` reads.
 fn read_options(alloc: Global, words: &[String]) -> Result<Job, WordsFault>
     ensures ok { IfOk result (GivesFrom (matches_of command_line (map string_bytes words.now))) }
+    ensures is_job { IfOk result IsJob }
     ensures usage { IsErrOf result WordsFault.Usage →
         fault_of command_line (map string_bytes words.now) ≡ [] → (job : Job) →
         GivesFrom (matches_of command_line (map string_bytes words.now)) job → ⊥ }
