@@ -22,7 +22,7 @@ fn matches(
     stretch: &Stretch,
     cuts: u8,
 ) -> Result<bool, Fail> {
-    let pattern = parse(alloc, text)?;
+    let pattern = parse(alloc, text, 0)?;
     let trace = trace_of(alloc, lengths)?;
     let (a, b, n) = *stretch;
     Ok(decide(&pattern, &trace, a, b, n, cuts))
@@ -70,7 +70,7 @@ fn is_only_match(pattern: &Pattern, trace: &Trace, from: u8, to: u8) -> bool {
 
 #[test]
 fn a_pulse_is_matched_from_edge_to_edge(rt: HostRuntime) -> Result<(), Fail> {
-    let pattern = parse(rt.alloc(), "<:p:>")?;
+    let pattern = parse(rt.alloc(), "<:p:>", 0)?;
     let trace = trace_of(rt.alloc(), &[(2, 0), (3, 1), (1, 0)])?;
     assert!(rt; is_only_match(&pattern, &trace, 4, 10));
     Ok(())
@@ -115,7 +115,7 @@ const EVENTS: [(&str, Happenings, Stretch, bool); 14] = [
 #[test]
 fn events_have_numbers_of_their_own(rt: HostRuntime) -> Result<(), Fail> {
     for (text, trace, stretch, want) in &EVENTS {
-        let pattern = parse(rt.alloc(), *text)?;
+        let pattern = parse(rt.alloc(), *text, 0)?;
         let trace = trace_with(rt.alloc(), trace.0, trace.1)?;
         let (a, b, n) = *stretch;
         assert!(rt;
@@ -254,7 +254,7 @@ fn the_deepest_pattern_is_copied(rt: HostRuntime) -> Result<(), Fail> {
 
 #[test]
 fn a_copy_of_a_pattern_is_the_pattern(rt: HostRuntime) -> Result<(), Fail> {
-    let pattern = parse(rt.alloc(), "p;q;event(a);event(p)")?;
+    let pattern = parse(rt.alloc(), "p;q;event(a);event(p)", 0)?;
     let copy = pattern.try_clone(rt.alloc())?;
     assert!(rt; copy.expr() == pattern.expr());
     assert!(rt; copy.names().name(1) == Some("q"));

@@ -1,13 +1,14 @@
 // Tests of tre_parse.
 use std::alloc::{AllocError, Global};
 use std::test::Fail;
+use tre_decimal::SCALE_MAX;
 use tre_parse::{ParseFault, parse};
 use tre_state::Names;
 use tre_syntax::Expr;
 
 // Why a text is refused, if it is.
 fn fault(alloc: Global, text: &str) -> Option<ParseFault> {
-    match parse(alloc, text) {
+    match parse(alloc, text, 0) {
         Ok(_) => None,
         Err(fault) => Some(fault),
     }
@@ -46,6 +47,103 @@ const REFUSED: [(&str, ParseFault); 26] = [
 fn refused(rt: HostRuntime) {
     for (text, want) in &REFUSED {
         assert!(rt; fault(rt.alloc(), *text) == Some(*want), "{text}");
+    }
+}
+
+// The ends of the interval at the root of a pattern, or why there is no pattern.
+type Ends = Result<(u64, u64), ParseFault>;
+
+// Texts, a scale, and the ends of the interval in units. Offsets of faults are those of numbers,
+// not of brackets.
+const DECIMALS: [(&str, u8, Ends); 43] = [
+    ("p % [007,8]", 0, Ok((7, 8))),
+    ("p % [3.0,4]", 0, Ok((3, 4))),
+    ("p % [3,4.0000000000000000000000000]", 0, Ok((3, 4))),
+    ("p % [1.5,2]", 0, Err(ParseFault::Number { at: 5 })),
+    ("p % [3.,4]", 0, Err(ParseFault::BadByte { at: 6 })),
+    ("p % [.5,2]", 0, Err(ParseFault::BadByte { at: 5 })),
+    ("p % [0,1099511627776]", 0, Ok((0, 1_099_511_627_776))),
+    ("p % [0,1099511627776.0]", 0, Ok((0, 1_099_511_627_776))),
+    (
+        "p % [0,1099511627777]",
+        0,
+        Err(ParseFault::Number { at: 7 }),
+    ),
+    (
+        "p % [0,18446744073709551616]",
+        0,
+        Err(ParseFault::Number { at: 7 }),
+    ),
+    ("p % [0.5,1]", 1, Ok((5, 10))),
+    ("p % [00.50,1.00]", 1, Ok((5, 10))),
+    ("p % [0.5,0.4]", 1, Err(ParseFault::EmptyInterval { at: 4 })),
+    ("p % [0,0.05]", 1, Err(ParseFault::Number { at: 7 })),
+    ("p % [0.05,0.05]", 1, Err(ParseFault::Number { at: 5 })),
+    ("p % [0.05,1.]", 1, Err(ParseFault::BadByte { at: 11 })),
+    ("p % [1.2.3,4]", 1, Err(ParseFault::BadByte { at: 8 })),
+    ("p % [1..2,4]", 1, Err(ParseFault::BadByte { at: 6 })),
+    ("p % [3.p,4]", 1, Err(ParseFault::BadByte { at: 6 })),
+    ("p % [3 .5,4]", 1, Err(ParseFault::BadByte { at: 7 })),
+    ("p % [3. 5,4]", 1, Err(ParseFault::BadByte { at: 6 })),
+    ("p % [.5,2]", 1, Err(ParseFault::BadByte { at: 5 })),
+    ("p.5 % [1,2]", 1, Ok((10, 20))),
+    ("3.5p", 1, Err(ParseFault::Syntax { at: 0 })),
+    ("3.55p", 1, Err(ParseFault::Number { at: 0 })),
+    ("p;q % (1,2.25);", 1, Err(ParseFault::Number { at: 9 })),
+    ("p % [1.20000000000000000000000000,2]", 1, Ok((12, 20))),
+    (
+        "p % [1.20000000000000000000000001,2]",
+        1,
+        Err(ParseFault::Number { at: 5 }),
+    ),
+    ("p % [0,109951162777.6]", 1, Ok((0, 1_099_511_627_776))),
+    ("p % [0,109951162777.60]", 1, Ok((0, 1_099_511_627_776))),
+    (
+        "p % [0,109951162777.7]",
+        1,
+        Err(ParseFault::Number { at: 7 }),
+    ),
+    (
+        "p % [0,109951162777.70]",
+        1,
+        Err(ParseFault::Number { at: 7 }),
+    ),
+    ("p % [000.500,7]", 3, Ok((500, 7_000))),
+    ("p % [0.5001,7]", 3, Err(ParseFault::Number { at: 5 })),
+    ("p % [3.,4]", 3, Err(ParseFault::BadByte { at: 6 })),
+    ("p % [0,1099511627.776]", 3, Ok((0, 1_099_511_627_776))),
+    (
+        "p % [0,1099511627.777]",
+        3,
+        Err(ParseFault::Number { at: 7 }),
+    ),
+    ("p % [0.0000000010,1]", 9, Ok((1, 1_000_000_000))),
+    ("p % [0.0000000001,1]", 9, Err(ParseFault::Number { at: 5 })),
+    ("p % [0.5,.5]", 9, Err(ParseFault::BadByte { at: 9 })),
+    ("p % [0,1099.5116277760]", 9, Ok((0, 1_099_511_627_776))),
+    (
+        "p % [0,1099.511627777]",
+        9,
+        Err(ParseFault::Number { at: 7 }),
+    ),
+    ("p % [0,1100]", 9, Err(ParseFault::Number { at: 7 })),
+];
+
+fn ends(alloc: Global, text: &str, scale: u8) -> Ends {
+    let pattern = parse(alloc, text, scale.min(SCALE_MAX))?;
+    Ok(match pattern.expr() {
+        Expr::Within(_, interval) => (interval.low(), interval.high().unwrap_or(0)),
+        _ => (0, 0),
+    })
+}
+
+#[test]
+fn numbers_are_decimals_at_a_scale(rt: HostRuntime) {
+    for (text, scale, want) in &DECIMALS {
+        assert!(rt;
+            ends(rt.alloc(), *text, *scale) == *want,
+            "{text} at {scale}"
+        );
     }
 }
 
@@ -94,7 +192,7 @@ fn limits(rt: HostRuntime) -> Result<(), Fail> {
 // Seven times "once or more" is a pattern still.
 #[test]
 fn nodes(rt: HostRuntime) -> Result<(), Fail> {
-    assert!(rt; parse(rt.alloc(), "p+++++++")?.nodes() == 510);
+    assert!(rt; parse(rt.alloc(), "p+++++++", 0)?.nodes() == 510);
     Ok(())
 }
 
@@ -227,7 +325,7 @@ const KINDS: [(&str, &str, &str); 4] = [
 #[test]
 fn propositions_and_events_have_names_of_their_own(rt: HostRuntime) -> Result<(), Fail> {
     for (text, propositions, events) in &KINDS {
-        let pattern = parse(rt.alloc(), *text)?;
+        let pattern = parse(rt.alloc(), *text, 0)?;
         let names = joined(rt.alloc(), pattern.names())?;
         let others = joined(rt.alloc(), pattern.events())?;
         assert!(rt;
@@ -240,7 +338,7 @@ fn propositions_and_events_have_names_of_their_own(rt: HostRuntime) -> Result<()
 
 // The operator at the root of an expression.
 fn root(alloc: Global, text: &str) -> Result<&'static str, ParseFault> {
-    let pattern = parse(alloc, text)?;
+    let pattern = parse(alloc, text, 0)?;
     Ok(match pattern.expr() {
         Expr::Eps => "eps",
         Expr::Lit(_) => "literal",

@@ -3,7 +3,7 @@ use std::alloc::Global;
 use std::test::Fail;
 use tests_support::set_of;
 use tre_parse::parse;
-use tre_show::{number, offline_text, pattern_text, printed_order, zone_line, zone_lines};
+use tre_show::{offline_text, pattern_text, printed_order, zone_line, zone_lines};
 use tre_zone::Zone;
 
 // Patterns as an engineer writes them, and as they are printed.
@@ -23,8 +23,8 @@ const PATTERNS: [(&str, &str); 9] = [
 ];
 
 fn printed(alloc: Global, text: &str) -> Result<String, Fail> {
-    let pattern = parse(alloc, text)?;
-    let printed = pattern_text(alloc, &pattern)?;
+    let pattern = parse(alloc, text, 0)?;
+    let printed = pattern_text(alloc, &pattern, 0)?;
     Ok(printed)
 }
 
@@ -40,7 +40,7 @@ fn the_text_of_a_pattern_has_only_the_brackets_that_it_needs(rt: HostRuntime) ->
 #[test]
 fn a_zone_is_a_line(rt: HostRuntime) -> Result<(), Fail> {
     let mut out = String::from_str(rt.alloc(), "at 3\n")?;
-    zone_line(&Zone::span(0, 3), &mut out)?;
+    zone_line(&Zone::span(0, 3), 0, &mut out)?;
     assert!(rt; out.as_str() == "at 3\n[0,3) (0,3] (0,3]\n");
     Ok(())
 }
@@ -52,7 +52,7 @@ fn nothing_of_a_long_line_stays_in_the_next(rt: HostRuntime) -> Result<(), Fail>
         Zone::instants(7, 7),
     ];
     let mut out = String::new(rt.alloc());
-    zone_lines(&zones, &mut out)?;
+    zone_lines(&zones, 0, &mut out)?;
     let mut lines = out.as_str().lines();
     let long = "[1099511627774,1099511627776) (1099511627774,1099511627776] (0,2]";
     assert!(rt; lines.next() == Some(long));
@@ -64,7 +64,7 @@ fn nothing_of_a_long_line_stays_in_the_next(rt: HostRuntime) -> Result<(), Fail>
 // The text of a whole match of the zones of the lines.
 fn whole(alloc: Global, lines: &[&str], end: u64) -> Result<String, Fail> {
     let zones = printed_order(alloc, &set_of(alloc, lines)?)?;
-    let text = offline_text(alloc, &zones, end)?;
+    let text = offline_text(alloc, &zones, end, 0)?;
     Ok(text)
 }
 
@@ -78,14 +78,5 @@ fn lines_are_in_rising_order(rt: HostRuntime) -> Result<(), Fail> {
     let text = whole(rt.alloc(), &lines, 9)?;
     let want = "[0,3) (0,3] (0,3]\n[2,2] [2,2] [0,0]\n[5,9) (5,9] (0,4]\nend 9\n";
     assert!(rt; text.as_str() == want);
-    Ok(())
-}
-
-#[test]
-fn a_number_is_its_digits(rt: HostRuntime) -> Result<(), Fail> {
-    let mut out = String::from_str(rt.alloc(), "end ")?;
-    number(0, &mut out)?;
-    number(18446744073709551615, &mut out)?;
-    assert!(rt; out.as_str() == "end 018446744073709551615");
     Ok(())
 }

@@ -1,6 +1,7 @@
 // Tests of tre_watch.
 use std::alloc::Global;
 use std::test::Fail;
+use tre_decimal::SCALE_MAX;
 use tre_parse::ParseFault;
 use tre_watch::{FILE_MAX, WatchFault, read_plan};
 
@@ -31,7 +32,7 @@ const REFUSED: [(&[u8], WatchFault); 10] = [
 ];
 
 fn fault(alloc: Global, bytes: &[u8]) -> Option<WatchFault> {
-    match read_plan(alloc, bytes) {
+    match read_plan(alloc, bytes, 0) {
         Ok(_) => None,
         Err(fault) => Some(fault),
     }
@@ -41,6 +42,33 @@ fn fault(alloc: Global, bytes: &[u8]) -> Option<WatchFault> {
 fn refused(rt: HostRuntime) {
     for (bytes, want) in &REFUSED {
         assert!(rt; fault(rt.alloc(), *bytes) == Some(*want), "{want:?}");
+    }
+}
+
+// Files, a scale, and the fault in the number of a check, if there is one.
+const SCALED: [(&[u8], u8, Option<(u64, u64)>); 8] = [
+    (b"a = p % [0.5,1]", 0, Some((1, 6))),
+    (b"a = p % [0.5,1]", 1, None),
+    (b"a = p % [0.5,1]", 9, None),
+    (b"a = p\nb = p % [1.0,1.25]", 1, Some((2, 10))),
+    (b"a = p\nb = p % [1.0,1.25]", 3, None),
+    (b"a = p % [1,109951162777.6]", 1, None),
+    (b"a = p % [1,109951162777.6]", 3, Some((1, 8))),
+    (b"# 1.25\na = p % [01.000,1.000]", 0, None),
+];
+
+// The fault of a file whose number at an offset of a line is none.
+fn number_fault(place: Option<(u64, u64)>) -> Option<WatchFault> {
+    let (line, at) = place?;
+    let fault = ParseFault::Number { at };
+    Some(WatchFault::Pattern { line, fault })
+}
+
+#[test]
+fn checks_are_read_at_the_scale(rt: HostRuntime) {
+    for (bytes, scale, place) in &SCALED {
+        let read = read_plan(rt.alloc(), *bytes, (*scale).min(SCALE_MAX));
+        assert!(rt; read.err() == number_fault(*place), "{place:?} at {scale}");
     }
 }
 
@@ -55,7 +83,7 @@ const PLANS: [(&[u8], &[&str]); 6] = [
 ];
 
 fn has_names(alloc: Global, bytes: &[u8], names: &[&str]) -> Result<bool, Fail> {
-    let Ok(plan) = read_plan(alloc, bytes) else {
+    let Ok(plan) = read_plan(alloc, bytes, 0) else {
         return Ok(false);
     };
     for (place, name) in names.iter().enumerate() {

@@ -19,7 +19,7 @@ pub(crate) type Eventful<'a> = &'a [(u64, u64, u64)];
 
 /// The pattern that the text spells.
 pub(crate) fn pattern(alloc: Global, text: &str) -> Result<Pattern, Fail> {
-    let pattern = parse(alloc, text)?;
+    let pattern = parse(alloc, text, 0)?;
     Ok(pattern)
 }
 

@@ -4,7 +4,7 @@ use crate::memory::{SOUND, ran_over, ran_slowly, ran_soundly};
 use std::alloc::{AllocError, Global};
 use std::test::Fail;
 
-const DUMP: &str = "$date today $end\n$version worked $end\n$timescale 1 ns $end\n\
+pub(crate) const DUMP: &str = "$date today $end\n$version worked $end\n$timescale 1 ns $end\n\
     $scope module top $end\n$var wire 1 ! p $end\n$var reg 8 \" n [7:0] $end\n$upscope $end\n\
     $enddefinitions $end\n#0\n$dumpvars\n0!\nb0 \"\n$end\n#5\n1!\nb101 \"\n#9\n0!\n#10\n";
 

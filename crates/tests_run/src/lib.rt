@@ -1,4 +1,4 @@
-//! Tests of whole runs: of tre_tool over memory, from words and bytes to bytes, and of
+//! Tests of whole runs: of tre_tool over memory, from words and bytes to bytes, of tre_words, and of
 //! tre_generate.
 //!
 //! The crate has nothing but tests, and uses what it tests by its public calls, so that those
@@ -14,6 +14,8 @@ mod events;
 #[cfg(test)]
 mod failures;
 #[cfg(test)]
+mod jobs;
+#[cfg(test)]
 mod limits;
 #[cfg(test)]
 mod made_runs;
@@ -23,6 +25,8 @@ mod memory;
 mod offline;
 #[cfg(test)]
 mod online;
+#[cfg(test)]
+mod options;
 #[cfg(test)]
 mod refusals;
 #[cfg(test)]

@@ -30,7 +30,7 @@ fn a_made_trace_is_matched_both_ways(rt: HostRuntime) -> Result<(), Fail> {
 #[test]
 fn the_pattern_is_what_its_text_spells(rt: HostRuntime) -> Result<(), Fail> {
     let fixed = fixed_pattern(rt.alloc())?;
-    let spelt = parse(rt.alloc(), "(<:p:>;(!p % [1,2]))+")?;
+    let spelt = parse(rt.alloc(), "(<:p:>;(!p % [1,2]))+", 0)?;
     assert!(rt; fixed.expr() == spelt.expr());
     Ok(())
 }

@@ -1,9 +1,8 @@
-// The words of a command line: which are refused, and what the others ask for.
+// Runs by the words of a command line: which are refused, and that these touch nothing.
 
-use crate::memory::{FIRST_FAILS, SOUND, ran_soundly, ran_with, words_of};
+use crate::memory::{FIRST_FAILS, SOUND, ran_soundly, ran_with};
 use std::alloc::{AllocError, Global};
 use std::test::Fail;
-use tre_tool::{Format, Job, Mode, read_words};
 
 /// The code of a run over `3 p` with the words of the line.
 fn code_of(alloc: Global, line: &str) -> Result<u8, AllocError> {
@@ -47,29 +46,6 @@ fn lines_of_words(rt: HostRuntime) -> Result<(), Fail> {
     for (line, code) in &LINES {
         assert!(rt; code_of(rt.alloc(), *line)? == *code, "{line}");
     }
-    Ok(())
-}
-
-fn job(alloc: Global, words: &[&str]) -> Result<Job, Fail> {
-    let job = read_words(alloc, &words_of(alloc, words)?)?;
-    Ok(job)
-}
-
-#[test]
-fn words_give_a_job(rt: HostRuntime) -> Result<(), Fail> {
-    let job = job(rt.alloc(), &["p"])?;
-    assert!(rt; job.mode == Mode::Offline);
-    assert!(rt; job.format == Format::Text);
-    assert!(rt; job.input.text() == "-");
-    assert!(rt; job.max_bytes == 1_073_741_824);
-    assert!(rt; job.expr.text() == "p");
-    Ok(())
-}
-
-#[test]
-fn words_give_a_made_run(rt: HostRuntime) -> Result<(), Fail> {
-    let job = job(rt.alloc(), &["--generate", "10000"])?;
-    assert!(rt; job.mode == Mode::Generate { count: 10_000 });
     Ok(())
 }
 

@@ -10,7 +10,9 @@ use tre_vcd::{TokenReader, VcdReader};
 fn reader(alloc: Global, names: &str, events: &str) -> Result<VcdReader, Fail> {
     let names = names_of(alloc, names)?;
     let events = names_of(alloc, events)?;
-    Ok(VcdReader::new(alloc, TokenReader::new(alloc, names, events)))
+    let mut reader = TokenReader::new(alloc, names.try_clone()?, events.try_clone()?, 0);
+    reader.must_declare(&names, &events)?;
+    Ok(VcdReader::new(alloc, reader))
 }
 
 // Whether the dump, read in pieces of this many bytes, says this for the propositions of the names:

@@ -1,7 +1,7 @@
 -- The summary of a made trace that was matched.
 use Rattle.std.specs.Prelude.{◌≡◌, ℕ, List, ◌++◌, codes, length}
+use Rattle.tre_decimal.specs.Decimal.{number_text}
 use Rattle.tre_offline.specs.MatchSet.{IsMatchSet}
-use Rattle.tre_show.specs.Interval.{number_text}
 use Rattle.tre_syntax.specs.Meaning.{Matches}
 use Rattle.tre_syntax.specs.PatternTree.{PatternTree}
 use Rattle.tre_trace.specs.Trace.{end_of, quiet}
@@ -11,11 +11,12 @@ use Rattle.tre_generate.specs.Probes.{IsInside, IsProbed, IsCountOf}
 
 -- A line of a word and a number.
 abbrev pub number_line : List ℕ → ℕ → List ℕ
-number_line word number = word ++ number_text number ++ codes "\n"
+number_line word number = word ++ number_text 0 number ++ codes "\n"
 
 -- A line of a word and how many of all.
 abbrev pub share_line : List ℕ → ℕ → ℕ → List ℕ
-share_line word part all = word ++ number_text part ++ codes " of " ++ number_text all ++ codes "\n"
+share_line word part all =
+    word ++ number_text 0 part ++ codes " of " ++ number_text 0 all ++ codes "\n"
 
 -- The five lines: how many segments there are, when they end, how many zones were found in the
 -- whole trace, how many probes are held by them, and at how many the zones that were told segment

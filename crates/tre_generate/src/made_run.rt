@@ -7,8 +7,8 @@ use crate::made::made_trace;
 use crate::tally::{Tally, count_probes};
 use crate::told::told_zones;
 use std::alloc::{AllocError, Global};
+use tre_decimal::push_units;
 use tre_offline::matches;
-use tre_show::number;
 use tre_syntax::Pattern;
 
 /// How many segments a made trace may have.
@@ -54,7 +54,7 @@ fn push_number_line(text: &mut String, word: &str, value: u64) -> Result<(), All
         ≡ string_bytes text.old ++ number_line word.now value) }
 {
     text.push_str(word)?;
-    number(value, text)?;
+    push_units(text, value, 0)?;
     text.push_str("\n")?;
     Ok(())
 }
@@ -64,9 +64,9 @@ fn push_share_line(text: &mut String, word: &str, part: u64, all: u64) -> Result
         ≡ string_bytes text.old ++ share_line word.now part all) }
 {
     text.push_str(word)?;
-    number(part, text)?;
+    push_units(text, part, 0)?;
     text.push_str(" of ")?;
-    number(all, text)?;
+    push_units(text, all, 0)?;
     text.push_str("\n")?;
     Ok(())
 }

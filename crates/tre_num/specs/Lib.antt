@@ -8,3 +8,5 @@ pub mod Definitions
 pub mod Left
 pub mod Pieces
 pub mod Cut
+pub mod Kept
+pub mod Times

@@ -6,7 +6,7 @@ use Rattle.csv.specs.Reading.{records, default_config, strip_bom}
 use Rattle.csv.specs.Records.{field_at}
 use Rattle.tre_pairs.specs.declared.TheConstants.{TIME_MAX}
 use Rattle.tre_decimal.specs.Decimal.{units_of}
-use Rattle.tre_trace.specs.Reading.{Reading}
+use Rattle.tre_trace.specs.Reading.{Reading, Vocabulary}
 use Rattle.tre_trace.specs.Segments.{plain_segment}
 use Rattle.tre_trace.specs.declared.segment.Segment.{Segment}
 use Rattle.tre_trace.specs.declared.fault.TraceKind.{TraceKind}
@@ -112,16 +112,38 @@ abbrev pub under_header : Option (List Column) → ℕ → ℕ → List (List (L
 under_header None width scale rows = faulty 1 UnknownName
 under_header (Some columns) width scale rows = rows_from columns width scale 2 rows 0
 
--- records: a header and rows; without a record there is no column
-abbrev pub table_says : List Defined → List (List ℕ) → ℕ → List (List (List ℕ)) → Reading
-table_says definitions names scale [] =
-    under_header (columns_of definitions [] names) 0 scale []
-table_says definitions names scale (header ∷ rows) =
-    under_header (columns_of definitions header names) (length header) scale rows
+-- What a reading of rows hangs on: the definitions, the names of propositions and events, and the
+-- scale of the durations.
+pub record Terms : Type 0 where
+  pub definitions : List Defined
+  pub names : Vocabulary
+  pub scale : ℕ
 
--- What bytes say of a trace, for the propositions of these names: nothing while more may come, and
--- then what their records say.
-abbrev pub rows_reading : List Defined → List (List ℕ) → ℕ → Bool → List ℕ → Reading
-rows_reading definitions names scale false bytes = nothing
-rows_reading definitions names scale true bytes =
-    table_says definitions names scale (records default_config (strip_bom bytes))
+abbrev pub terms_of : List Defined → List (List ℕ) → List (List ℕ) → ℕ → Terms
+terms_of definitions names events scale = record {
+  definitions = definitions;
+  names = record { names = names; events = events };
+  scale = scale;
+}
+
+-- no columns where there is an event, since rows tell of none
+abbrev pub without_events : List (List ℕ) → Option (List Column) → Option (List Column)
+without_events [] columns = columns
+without_events (event ∷ events) columns = None
+
+-- the columns of all names, under this header
+abbrev pub compared : Terms → List (List ℕ) → Option (List Column)
+compared terms header =
+    without_events terms.names.events (columns_of terms.definitions header terms.names.names)
+
+-- records: a header and rows; without a record there is no column
+abbrev pub table_says : Terms → List (List (List ℕ)) → Reading
+table_says terms [] = under_header (compared terms []) 0 terms.scale []
+table_says terms (header ∷ rows) =
+    under_header (compared terms header) (length header) terms.scale rows
+
+-- What bytes say of a trace: nothing while more may come, and then what their records say.
+abbrev pub rows_reading : Terms → Bool → List ℕ → Reading
+rows_reading terms false bytes = nothing
+rows_reading terms true bytes =
+    table_says terms (records default_config (strip_bom bytes))

@@ -6,7 +6,7 @@ ghost use Rattle.csv.specs.Records.{fields_of};
 ghost use Rattle.tre_num.specs.Rows.{definition_of, place_in, column_for, columns_of};
 ghost use Rattle.tre_state.specs.declared.names.TheConstants.{NAMES_MAX};
 ghost use Rattle.tre_trace.specs.Reading.{IsPlaced};
-ghost use Rattle.tre_trace.specs.declared.fault.TraceKind.TheVariants.{UnknownName, Memory};
+ghost use Rattle.tre_trace.specs.declared.fault.TraceKind.TheVariants.{UnknownName, Spent, Memory};
 
 use crate::column::Column;
 use crate::definition::Definition;
@@ -15,8 +15,8 @@ use std::alloc::Global;
 use tre_state::Names;
 use tre_trace::{TraceFault, TraceKind};
 
-/// A name has no definition, or the header has no column for one.
-const UNKNOWN: TraceFault = TraceFault {
+/// A name has no definition, or the header has no column for one, or there is an event.
+pub(crate) const UNKNOWN: TraceFault = TraceFault {
     place: 1,
     kind: TraceKind::UnknownName,
 };
@@ -41,6 +41,7 @@ pub(crate) fn columns_of(
         (columns_of definitions.now (fields_of header.now) names.now ≡ None)
         × (fault ≡ record { place = 1; kind = UnknownName })) }
     ensures placed { IfErr result IsPlaced }
+    ensures never_spent { IfErr result (λ fault. fault.kind ≢ Spent) }
 {
     let mut columns = Vec::new(alloc);
     for number in 0..names.len() as u8 {

@@ -2,10 +2,10 @@
 //!
 //! A [`Definition`] names a comparison of a column with a whole number, as `hot = temp >= 80`.
 //! [`read_definitions`] reads a text of them, and what they say is in specs/Definitions.antt.
-//! [`read_rows`] reads comma-separated rows: the first is the header, whose later fields name the
-//! columns, and each row behind it is a segment, which lasts what its first field says. What the
-//! bytes say is `rows_reading` of specs/Rows.antt; the records are those that the crate csv
-//! promises for the bytes.
+//! A [`ColumnsReader`] reads comma-separated rows: the first is the header, whose later fields name
+//! the columns, and each row behind it is a segment, which lasts what its first field says. What
+//! the bytes say is `rows_reading` of specs/Rows.antt; the records are those that the crate csv
+//! promises for the bytes. [`read_rows`] does the same for bytes that lie in memory.
 //!
 //! ```text
 //! dt,temp
@@ -19,15 +19,19 @@ mod columns;
 mod comparison;
 mod definition;
 mod definitions;
+mod kept_bytes;
 pub mod laws;
 mod let_fault;
 mod parts;
+mod reader;
 mod row;
 mod rows;
+mod table;
 mod whole;
 
 pub use comparison::Comparison;
 pub use definition::Definition;
 pub use definitions::read_definitions;
 pub use let_fault::LetFault;
+pub use reader::ColumnsReader;
 pub use rows::read_rows;

@@ -1,6 +1,6 @@
 // What one row says.
 ghost use Rattle.std.specs.Prelude.{◌≡◌, ◌≢◌, ◌+◌, ◌<◌, ◌≤◌, ◌^◌, length, IfErr, IfOk, IfSome};
-ghost use Rattle.tre_trace.specs.declared.fault.TraceKind.TheVariants.{Memory};
+ghost use Rattle.tre_trace.specs.declared.fault.TraceKind.TheVariants.{Memory, Spent};
 ghost use Rattle.csv.specs.Records.{fields_of};
 ghost use Rattle.tre_decimal.specs.declared.TheConstants.{SCALE_MAX};
 ghost use Rattle.tre_pairs.specs.declared.TheConstants.{TIME_MAX};
@@ -27,7 +27,7 @@ pub(crate) fn read_row(
     requires in_time { end ≤ TIME_MAX }
     ensures says { result ≡ row_says columns.now width scale end (fields_of row.now) }
     ensures fits { IfOk result (λ segment. (1 ≤ segment.len) × (end + segment.len ≤ TIME_MAX)) }
-    ensures kinds { IfErr result (λ kind. kind ≢ Memory) }
+    ensures kinds { IfErr result (λ kind. (kind ≢ Memory) × (kind ≢ Spent)) }
 {
     if row.len() < width {
         return Err(TraceKind::CutShort);
@@ -48,7 +48,7 @@ fn read_duration(scale: u8, end: u64, row: &ByteRecord) -> Result<u64, TraceKind
     requires in_time { end ≤ TIME_MAX }
     ensures says { result ≡ duration_says scale end (fields_of row.now) }
     ensures fits { IfOk result (λ len. (1 ≤ len) × (end + len ≤ TIME_MAX)) }
-    ensures kinds { IfErr result (λ kind. kind ≢ Memory) }
+    ensures kinds { IfErr result (λ kind. (kind ≢ Memory) × (kind ≢ Spent)) }
 {
     let Some(field) = row.get(0) else {
         return Err(TraceKind::BadNumber);

@@ -7,9 +7,9 @@ use Rattle.tre_state.specs.Name.{starts_name}
 use Rattle.tre_trace.specs.Reading.{Vocabulary}
 use Rattle.tre_syntax.specs.PatternTree.{PatternTree}
 use Rattle.tre_parse.specs.declared.lexeme.Lexeme.{Lexeme}
-use Rattle.tre_parse.specs.declared.lexeme.Lexeme.TheVariants.{Blank, Wrong, Name, Sign}
+use Rattle.tre_parse.specs.declared.lexeme.Lexeme.TheVariants.{Blank, Wrong, Name, Number, Sign}
 use Rattle.tre_parse.specs.Lexeme.{is_blank, word_lexeme, number_lexeme, sign_lexeme, lexeme_of, FitsIn}
-use Rattle.tre_parse.specs.Tokens.{RawToken, name, sign, RawTokenAt, RawTokens, nothing_left, raw_tokens_from, scanned, with_raw_token, Known, nothing_known, token_of, known_after, tokens_from, names_from, raw_tokens_of, bad_byte}
+use Rattle.tre_parse.specs.Tokens.{RawToken, name, number, sign, RawTokenAt, RawTokens, nothing_left, raw_tokens_from, scanned, with_raw_token, Known, nothing_known, token_of, known_after, tokens_from, names_from, raw_tokens_of, bad_byte}
 use Rattle.tre_parse.specs.Grammar.{expr, Spells}
 use Rattle.tre_parse.specs.Outcome.{IsSpelling}
 use Rattle.tre_parse.specs.Blanks.{counted_on, SaysAs}
@@ -45,6 +45,11 @@ joined_scan (Name len) at xs rest long short second some h go =
     ap (λ w. with_raw_token at (name w) (long (len - 1))) (take_front len xs rest h.1)
     ∙ ap (with_raw_token at (name (take len xs))) (go (len - 1) (omega (arith, h.0, h.1)))
     ∙ joined_word at (name (take len xs)) (short (len - 1)).raw_tokens (short (len - 1)).bad second
+joined_scan (Number len) at xs rest long short second some h go =
+    ap (λ w. with_raw_token at (number w) (long (len - 1))) (take_front len xs rest h.1)
+    ∙ ap (with_raw_token at (number (take len xs))) (go (len - 1) (omega (arith, h.0, h.1)))
+    ∙ joined_word at (number (take len xs)) (short (len - 1)).raw_tokens (short (len - 1)).bad
+    second
 joined_scan (Sign token len) at xs rest long short second some h go =
     ap (with_raw_token at (sign token)) (go (len - 1) (omega (arith, h.0, h.1)))
     ∙ joined_word at (sign token) (short (len - 1)).raw_tokens (short (len - 1)).bad second
@@ -94,6 +99,8 @@ further_scan Blank at n bytes moved here go = go 0
 further_scan Wrong at n bytes moved here go = refl
 further_scan (Name len) at n bytes moved here go =
     ap (with_raw_token (at + n) (name (take len bytes))) (go (len - 1))
+further_scan (Number len) at n bytes moved here go =
+    ap (with_raw_token (at + n) (number (take len bytes))) (go (len - 1))
 further_scan (Sign token len) at n bytes moved here go =
     ap (with_raw_token (at + n) (sign token)) (go (len - 1))
 
@@ -141,8 +148,8 @@ bad_before front rest blank at h bad =
 
 -- What words say, wherever they stand.
 record SaySame (words other : RawTokens) : Type 0 where
-  tokens : (known : Known) → tokens_from known words.raw_tokens
-      ≡ tokens_from known other.raw_tokens
+  tokens : (scale : ℕ) (known : Known) → tokens_from scale known words.raw_tokens
+      ≡ tokens_from scale known other.raw_tokens
   names : (known : Known) → names_from known words.raw_tokens
       ≡ names_from known other.raw_tokens
   bad : is_none words.bad ≡ is_none other.bad
@@ -150,8 +157,9 @@ record SaySame (words other : RawTokens) : Type 0 where
 same_text : (text other : List ℕ) (words others : RawTokens) → raw_tokens_from 0 0 text ≡ words
     → raw_tokens_from 0 0 other ≡ others → SaySame words others → SaysAs text other
 same_text text other words others e f same = record {
-  tokens = ap (λ (l : RawTokens). tokens_from nothing_known l.raw_tokens) e ∙ same.tokens nothing_known
-      ∙ ap (λ (l : RawTokens). tokens_from nothing_known l.raw_tokens) (sym f);
+  tokens = λ scale. ap (λ (l : RawTokens). tokens_from scale nothing_known l.raw_tokens) e
+      ∙ same.tokens scale nothing_known
+      ∙ ap (λ (l : RawTokens). tokens_from scale nothing_known l.raw_tokens) (sym f);
   names = ap (λ (l : RawTokens). names_from nothing_known l.raw_tokens) e ∙ same.names nothing_known
       ∙ ap (λ (l : RawTokens). names_from nothing_known l.raw_tokens) (sym f);
   bad = ap (λ (l : RawTokens). is_none l.bad) e ∙ same.bad
@@ -162,11 +170,11 @@ none_moved : (n : ℕ) (bad : Option ℕ) → is_none (option_map (λ at. at + n
 none_moved n None = refl
 none_moved n (Some at) = refl
 
-tokens_moved : (n : ℕ) (raw_tokens : List RawTokenAt) (known : Known)
-    → tokens_from known (counted_on n raw_tokens) ≡ tokens_from known raw_tokens
-tokens_moved n [] known = refl
-tokens_moved n (raw ∷ rest) known = ap (λ l. token_of known raw.word ∷ l)
-    (tokens_moved n rest (known_after known raw.word))
+tokens_moved : (scale n : ℕ) (raw_tokens : List RawTokenAt) (known : Known)
+    → tokens_from scale known (counted_on n raw_tokens) ≡ tokens_from scale known raw_tokens
+tokens_moved scale n [] known = refl
+tokens_moved scale n (raw ∷ rest) known = ap (λ l. token_of scale known raw.word ∷ l)
+    (tokens_moved scale n rest (known_after known raw.word))
 
 names_moved : (n : ℕ) (raw_tokens : List RawTokenAt) (known : Known)
     → names_from known (counted_on n raw_tokens) ≡ names_from known raw_tokens
@@ -175,20 +183,20 @@ names_moved n (raw ∷ rest) known = names_moved n rest (known_after known raw.w
 
 same_moved : (n m : ℕ) (words : RawTokens) → SaySame (further n words) (further m words)
 same_moved n m words = record {
-  tokens = λ known. tokens_moved n words.raw_tokens known
-      ∙ sym (tokens_moved m words.raw_tokens known);
+  tokens = λ scale known. tokens_moved scale n words.raw_tokens known
+      ∙ sym (tokens_moved scale m words.raw_tokens known);
   names = λ known. names_moved n words.raw_tokens known
       ∙ sym (names_moved m words.raw_tokens known);
   bad = none_moved n words.bad ∙ sym (none_moved m words.bad);
 }
 
-tokens_behind : (front raw_tokens others : List RawTokenAt)
-    → ((known : Known) → tokens_from known raw_tokens ≡ tokens_from known others)
+tokens_behind : (scale : ℕ) (front raw_tokens others : List RawTokenAt)
+    → ((known : Known) → tokens_from scale known raw_tokens ≡ tokens_from scale known others)
     → (known : Known) →
-    tokens_from known (front ++ raw_tokens) ≡ tokens_from known (front ++ others)
-tokens_behind [] raw_tokens others same known = same known
-tokens_behind (raw ∷ rest) raw_tokens others same known =
-    ap (λ l. token_of known raw.word ∷ l) (tokens_behind rest raw_tokens others same
+    tokens_from scale known (front ++ raw_tokens) ≡ tokens_from scale known (front ++ others)
+tokens_behind scale [] raw_tokens others same known = same known
+tokens_behind scale (raw ∷ rest) raw_tokens others same known =
+    ap (λ l. token_of scale known raw.word ∷ l) (tokens_behind scale rest raw_tokens others same
     (known_after known raw.word))
 
 names_behind : (front raw_tokens others : List RawTokenAt)
@@ -202,9 +210,10 @@ names_behind (raw ∷ rest) raw_tokens others same known =
 same_behind : (front : List RawTokenAt) (bad : Option ℕ) (words others : RawTokens)
     → SaySame words others → SaySame (joined_at front bad words) (joined_at front bad others)
 same_behind front (Some at) words others same = record
-    { tokens = λ known. refl; names = λ known. refl; bad = refl }
+    { tokens = λ scale known. refl; names = λ known. refl; bad = refl }
 same_behind front None words others same = record {
-  tokens = tokens_behind front words.raw_tokens others.raw_tokens same.tokens;
+  tokens = λ scale. tokens_behind scale front words.raw_tokens others.raw_tokens
+      (same.tokens scale);
   names = names_behind front words.raw_tokens others.raw_tokens same.names;
   bad = same.bad;
 }
@@ -249,30 +258,30 @@ pub at_end : (text : List ℕ) (blank : ℕ) → is_blank blank ≡ true → Say
 at_end text blank h =
     same_text (text ++ blank ∷ []) text _ _ (text_parts text [] blank h
     ∙ joined_none (raw_tokens_of text) (bad_byte text)) refl
-    (record { tokens = λ known. refl; names = λ known. refl; bad = refl })
+    (record { tokens = λ scale known. refl; names = λ known. refl; bad = refl })
 
 none_same : (bad other : Option ℕ) → is_none bad ≡ is_none other → bad ≡ None → other ≡ None
 none_same bad None e h = refl
 none_same None (Some at) e h = absurd (cc)
 none_same (Some b) (Some at) e h = absurd (cc)
 
-same_spelling : (text other : List ℕ) (tree : PatternTree) (names : Vocabulary)
-    → SaysAs text other → IsSpelling text tree names → IsSpelling other tree names
-same_spelling text other tree names same spelling = record {
+same_spelling : (scale : ℕ) (text other : List ℕ) (tree : PatternTree) (names : Vocabulary)
+    → SaysAs text other → IsSpelling scale text tree names → IsSpelling scale other tree names
+same_spelling scale text other tree names same spelling = record {
   tokens_alone = none_same (bad_byte text) (bad_byte other) same.bad spelling.tokens_alone;
-  spells = subst (λ tokens. Spells expr tokens tree) same.tokens spelling.spells;
+  spells = subst (λ tokens. Spells expr tokens tree) (same.tokens scale) spelling.spells;
   numbered = spelling.numbered ∙ same.names;
 }
 
 -- Texts that say the same spell the same.
-pub spell_same : (text other : List ℕ) (tree : PatternTree) (names : Vocabulary)
+pub spell_same : (scale : ℕ) (text other : List ℕ) (tree : PatternTree) (names : Vocabulary)
     → SaysAs text other →
-    (IsSpelling text tree names → IsSpelling other tree names)
-    × (IsSpelling other tree names → IsSpelling text tree names)
-spell_same text other tree names same = (
-  same_spelling text other tree names same,
-  same_spelling other text tree names (record {
-    tokens = sym same.tokens;
+    (IsSpelling scale text tree names → IsSpelling scale other tree names)
+    × (IsSpelling scale other tree names → IsSpelling scale text tree names)
+spell_same scale text other tree names same = (
+  same_spelling scale text other tree names same,
+  same_spelling scale other text tree names (record {
+    tokens = λ at_scale. sym (same.tokens at_scale);
     names =
         sym same.names;
     bad = sym same.bad;

@@ -149,9 +149,11 @@ fault_or : (made : Option ParseFault) (Rest : Outcome → Type 0) → (outcome :
 fault_or None Rest rest = rest
 fault_or (Some fault) Rest rest = (refused fault, refl)
 
-pub outcome_is : (text : List ℕ) → (outcome : Outcome) × IsOutcome text outcome
-outcome_is text =
-    let read = read_as (text_tokens_of text) (read_whole (text_tokens_of text).tokens) refl in
-    fault_or (byte_fault text) (IsOutcomeWithin (text_tokens_of text))
-    (fault_or (limit_fault (text_tokens_of text)) (IsOutcomeOfTokens (text_tokens_of text))
+pub outcome_is : (scale : ℕ) (text : List ℕ) → (outcome : Outcome) × IsOutcome scale text outcome
+outcome_is scale text =
+    let read = read_as (text_tokens_of scale text) (read_whole
+    (text_tokens_of scale text).tokens) refl in
+    fault_or (byte_fault text) (IsOutcomeWithin (text_tokens_of scale text))
+    (fault_or (limit_fault (text_tokens_of scale text)) (IsOutcomeOfTokens
+    (text_tokens_of scale text))
     read)

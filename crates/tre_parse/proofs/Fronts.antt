@@ -1,17 +1,17 @@
 -- A token that begins before a blank ends before it, and doesn't depend on what follows.
-use Rattle.std.proofs.Common.{◌≡◌, ℕ, ◌+◌, ◌≤◌, ◌<◌, zero, suc, Bool, true, false, cond, ◌&&◌, Option, Some, None, List, [], ◌∷◌, ◌++◌, length, take, refl, sym, ◌∙◌, ap, arith}
-use Rattle.std.specs.Prelude.{if◌then◌else◌, min, nat_eq}
+use Rattle.std.proofs.Common.{◌≡◌, ℕ, ◌+◌, ◌≤◌, ◌<◌, zero, suc, Bool, true, false, cond, ◌&&◌, Option, Some, None, List, [], ◌∷◌, ◌++◌, length, take, drop, refl, sym, ◌∙◌, ap, arith}
+use Rattle.std.specs.Prelude.{if◌then◌else◌, nat_eq, nat_lt}
 use Rattle.std.specs.List.{prefix_len, take_while, starts_with}
 use Rattle.std.specs.Char.{is_ascii_digit}
 use Rattle.std.proofs.lemmas.Bool.Decides.{nat_tests}
+use Rattle.std.proofs.lemmas.List.{length-drop}
 use Rattle.std.proofs.lemmas.List.Sums.{prefix_len-le-length}
-use Rattle.tre_pairs.specs.declared.TheConstants.{TIME_MAX}
+use Rattle.tre_decimal.specs.Decimal.{is_point}
 use Rattle.tre_state.specs.Name.{starts_name, continues_name}
 use Rattle.tre_parse.specs.declared.token.Token.{Token}
-use Rattle.tre_parse.specs.declared.token.Token.TheVariants.{Number}
 use Rattle.tre_parse.specs.declared.lexeme.Lexeme.{Lexeme}
-use Rattle.tre_parse.specs.declared.lexeme.Lexeme.TheVariants.{Blank, Sign}
-use Rattle.tre_parse.specs.Lexeme.{is_blank, reserved, named, first_sign, word_lexeme, decimal, number_lexeme, sign_lexeme, lexeme_of, FitsIn}
+use Rattle.tre_parse.specs.declared.lexeme.Lexeme.TheVariants.{Blank, Number, Sign}
+use Rattle.tre_parse.specs.Lexeme.{is_blank, reserved, named, first_sign, word_lexeme, decimals_len, number_lexeme, sign_lexeme, lexeme_of, FitsIn}
 use Rattle.tre_parse.specs.declared.lexeme.TheConstants.{SIGNS}
 use Rattle.tre_parse.proofs.Table.{Each}
 
@@ -21,6 +21,9 @@ blank_ends_word c h = grind (arith, nat_tests)
 
 blank_ends_number : (c : ℕ) → is_blank c ≡ true → is_ascii_digit c ≡ false
 blank_ends_number c h = grind (arith, nat_tests)
+
+blank_no_point : (c : ℕ) → is_blank c ≡ true → is_point c ≡ false
+blank_no_point c h = grind (arith, nat_tests)
 
 -- What begins before a blank doesn't depend on what follows.
 prefix_ends : (p : ℕ → Bool) (xs : List ℕ) (c : ℕ) (ys : List ℕ) → p c ≡ false
@@ -32,6 +35,11 @@ pub take_front : (n : ℕ) (xs ys : List ℕ) → n ≤ length xs → take n (xs
 take_front zero xs ys h = refl
 take_front (suc n) [] ys h = absurd (omega arith)
 take_front (suc n) (x ∷ xs) ys h = ap (λ l. x ∷ l) (take_front n xs ys (omega arith))
+
+drop_front : (n : ℕ) (xs ys : List ℕ) → n ≤ length xs → drop n (xs ++ ys) ≡ drop n xs ++ ys
+drop_front zero xs ys h = refl
+drop_front (suc n) [] ys h = absurd (omega arith)
+drop_front (suc n) (x ∷ xs) ys h = drop_front n xs ys (omega arith)
 
 take_while_ends : (p : ℕ → Bool) (xs : List ℕ) (c : ℕ) (ys : List ℕ) → p c ≡ false
     → take_while p (xs ++ c ∷ ys) ≡ take_while p xs
@@ -48,14 +56,24 @@ word_front xs c ys h =
     ∙ ap (λ w. named (prefix_len continues_name xs) (reserved w))
     (take_while_ends continues_name xs c ys ends)
 
+decimals_front : (xs : List ℕ) (c : ℕ) (ys : List ℕ) → is_blank c ≡ true
+    → decimals_len (xs ++ c ∷ ys) ≡ decimals_len xs
+decimals_front [] c ys h =
+    ap (λ t. if t && nat_lt 0 (prefix_len is_ascii_digit ys)
+    then 1 + prefix_len is_ascii_digit ys else 0) (blank_no_point c h)
+decimals_front (x ∷ xs) c ys h =
+    ap (λ n. if is_point x && nat_lt 0 n then 1 + n else 0)
+    (prefix_ends is_ascii_digit xs c ys (blank_ends_number c h))
+
 number_front : (xs : List ℕ) (c : ℕ) (ys : List ℕ) → is_blank c ≡ true
     → number_lexeme (xs ++ c ∷ ys) ≡ number_lexeme xs
 number_front xs c ys h =
-    let ends = blank_ends_number c h in
-    ap (λ n. Sign (Number (min (decimal (take_while is_ascii_digit (xs ++ c ∷ ys))) (TIME_MAX + 1)))
-    n) (prefix_ends is_ascii_digit xs c ys ends)
-    ∙ ap (λ w. Sign (Number (min (decimal w) (TIME_MAX + 1))) (prefix_len is_ascii_digit xs))
-    (take_while_ends is_ascii_digit xs c ys ends)
+    let len = prefix_len is_ascii_digit xs in
+    ap (λ n. Number (n + decimals_len (drop n (xs ++ c ∷ ys))))
+    (prefix_ends is_ascii_digit xs c ys (blank_ends_number c h))
+    ∙ ap (λ rest. Number (len + decimals_len rest))
+    (drop_front len xs (c ∷ ys) (prefix_len-le-length is_ascii_digit xs))
+    ∙ ap (λ n. Number (len + n)) (decimals_front (drop len xs) c ys h)
 
 -- The text of a sign has no blank.
 abbrev no_blank : List ℕ → Bool
@@ -234,6 +252,23 @@ sign_fits xs some = first_fits (λ sign. sign.0.now) (λ sign. sign.1) SIGNS xs 
 first_passes : (p : ℕ → Bool) (x : ℕ) (xs : List ℕ) → p x ≡ true → 0 < prefix_len p (x ∷ xs)
 first_passes p x xs h = let n = ap (λ t. cond t (1 + prefix_len p xs) 0) h in omega (arith, n)
 
+decimals_within : (xs : List ℕ) → decimals_len xs ≤ length xs
+decimals_within [] = omega arith
+decimals_within (x ∷ xs) = by (is_point x && nat_lt 0 (prefix_len is_ascii_digit xs))
+  where
+    by : (has : Bool) → (if has then 1 + prefix_len is_ascii_digit xs else 0) ≤ length (x ∷ xs)
+    by true = omega (arith, prefix_len-le-length is_ascii_digit xs)
+    by false = omega arith
+
+pub number_fits : (xs : List ℕ) → 0 < prefix_len is_ascii_digit xs
+    → FitsIn (length xs) (number_lexeme xs)
+number_fits xs some =
+    let len = prefix_len is_ascii_digit xs in
+    let within = prefix_len-le-length is_ascii_digit xs in
+    let behind = decimals_within (drop len xs) in
+    let size = length-drop len xs in
+    (omega (arith, some), omega (arith, within, behind, size))
+
 fits_by : (available : ℕ) (blank starts digit : Bool) (word number other : Lexeme) → 1 ≤ available
     → (starts ≡ true → FitsIn available word) → (digit ≡ true → FitsIn available number) →
     FitsIn available other → FitsIn available (if blank then Blank else
@@ -255,5 +290,5 @@ lexeme_fits (z ∷ zs) some =
     (λ q. named_fits (length xs) (prefix_len continues_name xs)
     (reserved (take_while continues_name xs)) (first_passes continues_name z zs
     (starts_continues z q)) (prefix_len-le-length continues_name xs))
-    (λ q. (first_passes is_ascii_digit z zs q, prefix_len-le-length is_ascii_digit xs))
+    (λ q. number_fits xs (first_passes is_ascii_digit z zs q))
     (sign_fits xs (omega arith))

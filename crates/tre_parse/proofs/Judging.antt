@@ -223,9 +223,9 @@ spelt_outcome words operand tree names e w h q le same kept =
     (TooLarge (min (node_count w.tree) COUNT_MAX)) else spelt w.tree words.names)) q))
 
 -- The text as a whole.
-pub words_outcome : (text : List ℕ) (outcome : Outcome) → byte_fault text ≡ None
-    → IsOutcomeWithin (text_tokens_of text) outcome → IsOutcome text outcome
-words_outcome text outcome e h = along_none (byte_fault text) _ _ e h
+pub words_outcome : (scale : ℕ) (text : List ℕ) (outcome : Outcome) → byte_fault text ≡ None
+    → IsOutcomeWithin (text_tokens_of scale text) outcome → IsOutcome scale text outcome
+words_outcome scale text outcome e h = along_none (byte_fault text) _ _ e h
 
 short_by : (is : Bool) (n : ℕ) (first later : Option ParseFault) → nat_lt TEXT_MAX n ≡ is
     → n ≤ TEXT_MAX → (if is then first else later) ≡ later
@@ -238,52 +238,56 @@ good_bytes text le e = short_by (nat_lt TEXT_MAX (length text)) (length text) (S
     le ∙ ap (option_map (λ at. BadByte at)) e
 
 -- The tokens and the offsets of words that are listed together.
-placed_tokens : (known : Known) (raw_tokens : List RawTokenAt)
-    → tokens_in (placed_from known raw_tokens) ≡ tokens_from known raw_tokens
-placed_tokens known [] = refl
-placed_tokens known (raw ∷ rest) = ap (λ ts. token_of known raw.word ∷ ts)
-    (placed_tokens (known_after known raw.word) rest)
+placed_tokens : (scale : ℕ) (known : Known) (raw_tokens : List RawTokenAt)
+    → tokens_in (placed_from scale known raw_tokens) ≡ tokens_from scale known raw_tokens
+placed_tokens scale known [] = refl
+placed_tokens scale known (raw ∷ rest) = ap (λ ts. token_of scale known raw.word ∷ ts)
+    (placed_tokens scale (known_after known raw.word) rest)
 
-placed_offsets : (known : Known) (raw_tokens : List RawTokenAt)
-    → offsets_in (placed_from known raw_tokens) ≡ offsets_of raw_tokens
-placed_offsets known [] = refl
-placed_offsets known (raw ∷ rest) = ap (λ ns. raw.at ∷ ns)
-    (placed_offsets (known_after known raw.word) rest)
+placed_offsets : (scale : ℕ) (known : Known) (raw_tokens : List RawTokenAt)
+    → offsets_in (placed_from scale known raw_tokens) ≡ offsets_of raw_tokens
+placed_offsets scale known [] = refl
+placed_offsets scale known (raw ∷ rest) = ap (λ ns. raw.at ∷ ns)
+    (placed_offsets scale (known_after known raw.word) rest)
 
 -- A scan of a text holds its words.
-pub same_words : (text : List ℕ) (scan : Scan) → IsScan text scan → text_tokens_in scan
-    ≡ text_tokens_of text
-same_words text scan s =
+pub same_words : (scale : ℕ) (text : List ℕ) (scan : Scan) → IsScan scale text scan
+    → text_tokens_in scan
+    ≡ text_tokens_of scale text
+same_words scale text scan s =
     let raw_tokens = raw_tokens_of text in
     let z = s.size in let c = s.names in let d = s.past in
-    let a = ap tokens_in s.tokens ∙ placed_tokens nothing_known raw_tokens in
-    let b = ap offsets_in s.tokens ∙ placed_offsets nothing_known raw_tokens in
+    let a = ap tokens_in s.tokens ∙ placed_tokens scale nothing_known raw_tokens in
+    let b = ap offsets_in s.tokens ∙ placed_offsets scale nothing_known raw_tokens in
     (cc)
 
-pub scan_numbered : (text : List ℕ) (scan : Scan) → IsScan text scan
+pub scan_numbered : (scale : ℕ) (text : List ℕ) (scan : Scan) → IsScan scale text scan
     → IsNumberedByUse (text_tokens_in scan)
-scan_numbered text scan s = let P = λ (w : TextTokens). IsNumberedByUse w in
-    subst P (sym (same_words text scan s)) (text_numbered text)
+scan_numbered scale text scan s = let P = λ (w : TextTokens). IsNumberedByUse w in
+    subst P (sym (same_words scale text scan s)) (text_numbered scale text)
 
-pub answers_text : (text : List ℕ) (scan : Scan) (result : Result Pattern ParseFault)
-    → length text ≤ TEXT_MAX → IsScan text scan → Answers (IsOutcomeWithin (text_tokens_in scan))
-    result → Answers (IsOutcome text) result
-answers_text text scan (Ok pattern) le s h =
+pub answers_text : (scale : ℕ) (text : List ℕ) (scan : Scan) (result : Result Pattern ParseFault)
+    → length text ≤ TEXT_MAX → IsScan scale text scan → Answers (IsOutcomeWithin
+    (text_tokens_in scan))
+    result → Answers (IsOutcome scale text) result
+answers_text scale text scan (Ok pattern) le s h =
     let P = λ (w : TextTokens). IsOutcomeWithin w (spelt (pattern_tree pattern)
     (names_of pattern)) in
-    words_outcome text _ (good_bytes text le s.good) (subst P (same_words text scan s) h)
-answers_text text scan (Err fault) le s (inl h) = inl h
-answers_text text scan (Err fault) le s (inr h) =
+    words_outcome scale text _ (good_bytes text le s.good) (subst P
+    (same_words scale text scan s) h)
+answers_text scale text scan (Err fault) le s (inl h) = inl h
+answers_text scale text scan (Err fault) le s (inr h) =
     let P = λ (w : TextTokens). IsOutcomeWithin w (refused fault) in
-    inr (words_outcome text _ (good_bytes text le s.good) (subst P (same_words text scan s) h))
+    inr (words_outcome scale text _ (good_bytes text le s.good) (subst P
+    (same_words scale text scan s) h))
 
 -- The outcome is what is answered.
-pub answered : (text : List ℕ) (outcome : Outcome) (result : Result Pattern ParseFault)
-    → Answers (IsOutcome text) result → IsOutcome text outcome
+pub answered : (scale : ℕ) (text : List ℕ) (outcome : Outcome) (result : Result Pattern ParseFault)
+    → Answers (IsOutcome scale text) result → IsOutcome scale text outcome
     → Answers (λ answer. outcome ≡ answer) result
-answered text outcome (Ok pattern) h k = outcome_once text outcome _ k h
-answered text outcome (Err fault) (inl h) k = inl h
-answered text outcome (Err fault) (inr h) k = inr (outcome_once text outcome _ k h)
+answered scale text outcome (Ok pattern) h k = outcome_once scale text outcome _ k h
+answered scale text outcome (Err fault) (inl h) k = inl h
+answered scale text outcome (Err fault) (inr h) k = inr (outcome_once scale text outcome _ k h)
 
 pub limits_met : (words : TextTokens) → position is_big words.tokens ≡ None
     → deep_place 0 0 words.tokens ≡ None → limit_fault words ≡ None

@@ -6,6 +6,7 @@ pub mod Says
 pub mod Rules
 pub mod Whole
 pub mod Words
+pub mod Written
 pub mod Scans
 pub mod Counts
 pub mod Empties

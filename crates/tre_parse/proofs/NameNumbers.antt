@@ -12,7 +12,7 @@ use Rattle.tre_trace.specs.Reading.{Vocabulary}
 use Rattle.tre_syntax.specs.declared.name_kind.NameKind.{NameKind}
 use Rattle.tre_syntax.specs.declared.name_kind.NameKind.TheVariants.{Proposition, Event as EventKind}
 use Rattle.tre_parse.specs.declared.token.Token.{Token}
-use Rattle.tre_parse.specs.Tokens.{RawToken, name, sign, RawTokenAt, kind_behind, names_of_kind, names_with, vocabulary_with, Known, nothing_known, numbered, token_of, vocabulary_after, known_after, tokens_from, names_from, raw_tokens_of, tokens_of, names_of}
+use Rattle.tre_parse.specs.Tokens.{RawToken, name, number, sign, RawTokenAt, kind_behind, names_of_kind, names_with, vocabulary_with, Known, nothing_known, numbered, token_of, vocabulary_after, known_after, tokens_from, names_from, raw_tokens_of, tokens_of, names_of}
 use Rattle.tre_parse.specs.Past.{before_from, kind_after}
 use Rattle.tre_parse.specs.Numbering.{HasTokenAt}
 
@@ -86,6 +86,7 @@ word_on : (kind : NameKind) (known : Known) (word : RawToken) (bytes : List ℕ)
     HasPlace (names_of_kind kind (vocabulary_after known word)) bytes
     × (place_of (names_of_kind kind (vocabulary_after known word)) bytes
     ≡ place_of (names_of_kind kind known.vocabulary) bytes)
+word_on kind known (number digits) bytes h = (h, refl)
 word_on kind known (sign token) bytes h = (h, refl)
 word_on kind known (name other) bytes h =
     let P = λ (names : List (List ℕ)). HasPlace names bytes
@@ -117,10 +118,10 @@ final known front back at bytes =
     numbered kind (unwrap_or (place_of (names_of_kind kind (names_from known
     (front ++ (record { at = at; word = name bytes }) ∷ back))) bytes) NAMES_MAX)
 
-number_from : (front back : List RawTokenAt) (at : ℕ) (bytes : List ℕ) (known : Known) →
-    HasTokenAt (tokens_from known (front ++ (record { at = at; word = name bytes }) ∷ back))
+number_from : (scale : ℕ) (front back : List RawTokenAt) (at : ℕ) (bytes : List ℕ) (known : Known) →
+    HasTokenAt (tokens_from scale known (front ++ (record { at = at; word = name bytes }) ∷ back))
     (length front) (final known front back at bytes)
-number_from [] back at bytes known =
+number_from scale [] back at bytes known =
     let kind = kind_behind known.before in
     let names = names_of_kind kind known.vocabulary in
     let next = known_after known (name bytes) in
@@ -129,27 +130,29 @@ number_from [] back at bytes known =
     (placed names bytes (place_of names bytes) (nat_lt (length names) NAMES_MAX) refl refl) in
     record {
       before = [];
-      after = tokens_from next back;
-      split = ap (λ (o : Option ℕ). numbered kind (unwrap_or o NAMES_MAX) ∷ tokens_from next back)
+      after = tokens_from scale next back;
+      split = ap (λ (o : Option ℕ). numbered kind (unwrap_or o NAMES_MAX)
+          ∷ tokens_from scale next back)
           (sym (for_good kind next back bytes has ∙ ap (λ l. place_of l bytes) own));
       here = refl;
     }
-number_from (raw ∷ front) back at bytes known =
-    let h = number_from front back at bytes (known_after known raw.word) in
+number_from scale (raw ∷ front) back at bytes known =
+    let h = number_from scale front back at bytes (known_after known raw.word) in
     record {
-      before = token_of known raw.word ∷ h.before;
+      before = token_of scale known raw.word ∷ h.before;
       after = h.after;
-      split = ap (λ ts. token_of known raw.word ∷ ts) h.split;
+      split = ap (λ ts. token_of scale known raw.word ∷ ts) h.split;
       here = ap suc h.here;
     }
 
-pub name_number : (text bytes : List ℕ) (front back : List RawTokenAt) (at : ℕ) → raw_tokens_of text
-    ≡ front ++ (record { at = at; word = name bytes }) ∷ back →
-    HasTokenAt (tokens_of text) (length front) (numbered (kind_after front) (unwrap_or
+pub name_number : (scale : ℕ) (text bytes : List ℕ) (front back : List RawTokenAt) (at : ℕ)
+    → raw_tokens_of text ≡ front ++ (record { at = at; word = name bytes }) ∷ back →
+    HasTokenAt (tokens_of scale text) (length front) (numbered (kind_after front) (unwrap_or
     (place_of (names_of_kind (kind_after front) (names_of text)) bytes) NAMES_MAX))
-name_number text bytes front back at e =
+name_number scale text bytes front back at e =
     let kind = kind_after front in
-    let P = λ (raw_tokens : List RawTokenAt). HasTokenAt (tokens_from nothing_known raw_tokens)
+    let P = λ (raw_tokens : List RawTokenAt). HasTokenAt
+    (tokens_from scale nothing_known raw_tokens)
     (length front) (numbered kind (unwrap_or (place_of (names_of_kind kind
     (names_from nothing_known raw_tokens)) bytes) NAMES_MAX)) in
-    subst P (sym e) (number_from front back at bytes nothing_known)
+    subst P (sym e) (number_from scale front back at bytes nothing_known)

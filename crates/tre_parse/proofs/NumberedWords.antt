@@ -15,13 +15,13 @@ use Rattle.tre_trace.specs.Reading.{Vocabulary}
 use Rattle.tre_syntax.specs.declared.name_kind.NameKind.{NameKind}
 use Rattle.tre_syntax.specs.declared.name_kind.NameKind.TheVariants.{Proposition, Event as EventKind}
 use Rattle.tre_parse.specs.declared.token.Token.{Token}
-use Rattle.tre_parse.specs.declared.token.Token.TheVariants.{Name as Numbered, EventName, Eps, Rise, Fall, Inf, True, Event}
+use Rattle.tre_parse.specs.declared.token.Token.TheVariants.{Name as Numbered, EventName, Number as Units, Eps, Rise, Fall, Inf, True, Event}
 use Rattle.tre_parse.specs.declared.lexeme.Lexeme.{Lexeme}
-use Rattle.tre_parse.specs.declared.lexeme.Lexeme.TheVariants.{Blank, Wrong, Name, Sign}
+use Rattle.tre_parse.specs.declared.lexeme.Lexeme.TheVariants.{Blank, Wrong, Name, Number, Sign}
 use Rattle.tre_parse.specs.Lexeme.{is_blank, reserved, named, first_sign, word_lexeme, number_lexeme, sign_lexeme, lexeme_of}
 use Rattle.tre_parse.specs.declared.lexeme.TheConstants.{SIGNS}
 use Rattle.tre_parse.proofs.Table.{Each}
-use Rattle.tre_parse.specs.Tokens.{RawToken, name, sign, RawTokenAt, RawTokens, raw_tokens_from, scanned, kind_behind, names_of_kind, names_with, vocabulary_with, Known, nothing_known, numbered, token_of, vocabulary_after, known_after, tokens_from, names_from, past_from, is_past, raw_tokens_of}
+use Rattle.tre_parse.specs.Tokens.{RawToken, name, number, sign, RawTokenAt, RawTokens, raw_tokens_from, scanned, kind_behind, names_of_kind, names_with, vocabulary_with, Known, nothing_known, numbered, units_within, token_of, vocabulary_after, known_after, tokens_from, names_from, past_from, is_past, raw_tokens_of}
 use Rattle.tre_parse.specs.Numbering.{numbers_in, IsNumberedByUse}
 use Rattle.tre_parse.specs.Outcome.{text_tokens_of}
 
@@ -102,14 +102,14 @@ sign_no_name rest = first_no_name (λ sign. sign.0.now) (λ sign. sign.1) SIGNS 
       ),
     ))
 
-lexeme_by : (blank starts digit : Bool) (word number other : Lexeme) → SaysNoName word
-    → SaysNoName number → SaysNoName other →
+lexeme_by : (blank starts digit : Bool) (word decimal other : Lexeme) → SaysNoName word
+    → SaysNoName decimal → SaysNoName other →
     SaysNoName (if blank then Blank else (if starts then word else
-    (if digit then number else other)))
-lexeme_by true starts digit word number other h k m = tt
-lexeme_by false true digit word number other h k m = h
-lexeme_by false false true word number other h k m = k
-lexeme_by false false false word number other h k m = m
+    (if digit then decimal else other)))
+lexeme_by true starts digit word decimal other h k m = tt
+lexeme_by false true digit word decimal other h k m = h
+lexeme_by false false true word decimal other h k m = k
+lexeme_by false false false word decimal other h k m = m
 
 lexeme_no_name : (rest : List ℕ) → SaysNoName (lexeme_of rest)
 lexeme_no_name [] = tt
@@ -122,6 +122,7 @@ lexeme_no_name (b ∷ bs) =
 -- Names stand among the words by their bytes alone.
 abbrev IsPlain : RawToken → Type 0
 IsPlain (name bytes) = Unit {0}
+IsPlain (number bytes) = Unit {0}
 IsPlain (sign token) = IsNoName token
 
 abbrev ArePlain : List RawTokenAt → Type 0
@@ -134,6 +135,7 @@ scanned_plain : (lexeme : Lexeme) (at : ℕ) (bytes : List ℕ) (next : ℕ → 
 scanned_plain Blank at bytes next h go = go 0
 scanned_plain Wrong at bytes next h go = tt
 scanned_plain (Name len) at bytes next h go = (tt, go (len - 1))
+scanned_plain (Number len) at bytes next h go = (tt, go (len - 1))
 scanned_plain (Sign token len) at bytes next h go = (h, go (len - 1))
 
 raw_tokens_plain : (skip at : ℕ) (bytes : List ℕ) → ArePlain
@@ -193,40 +195,48 @@ kind_seen EventKind EventKind known bytes rest m p e =
 kind_seen Proposition EventKind known bytes rest m p e = e
 kind_seen EventKind Proposition known bytes rest m p e = e
 
-spot_numbered : (kind : NameKind) (word : RawToken) (at : ℕ) (known : Known) (rest : List Token)
+spot_numbered : (scale : ℕ) (kind : NameKind) (word : RawToken) (at : ℕ) (known : Known)
+    (rest : List Token)
     (later : Option ℕ) (m : ℕ) → IsPlain word →
     (if is_past known word then Some at else later) ≡ None →
     (later ≡ None → seen_after (length (names_of_kind kind (vocabulary_after known word)))
     (numbers_in kind rest) ≡ Some m) →
     seen_after (length (names_of_kind kind known.vocabulary))
-    (numbers_in kind (token_of known word ∷ rest)) ≡ Some m
-spot_numbered kind (name bytes) at known rest later m h e go =
+    (numbers_in kind (token_of scale known word ∷ rest)) ≡ Some m
+spot_numbered scale kind (name bytes) at known rest later m h e go =
     let split = past_none (is_past known (name bytes)) at later e in
     kind_seen kind (kind_behind known.before) known.vocabulary bytes rest m split.0 (go split.1)
-spot_numbered kind (sign token) at known rest later m h e go =
+spot_numbered scale kind (number bytes) at known rest later m h e go =
+    ap (seen_after (length (names_of_kind kind known.vocabulary)))
+    (no_name_numbers kind (Units (units_within scale bytes)) rest tt) ∙ go e
+spot_numbered scale kind (sign token) at known rest later m h e go =
     ap (seen_after (length (names_of_kind kind known.vocabulary))) (no_name_numbers kind token rest h)
     ∙ go e
 
-numbered_from : (kind : NameKind) (raw_tokens : List RawTokenAt) (known : Known)
+numbered_from : (scale : ℕ) (kind : NameKind) (raw_tokens : List RawTokenAt) (known : Known)
     → ArePlain raw_tokens → past_from known raw_tokens ≡ None →
     seen_after (length (names_of_kind kind known.vocabulary))
-    (numbers_in kind (tokens_from known raw_tokens))
+    (numbers_in kind (tokens_from scale known raw_tokens))
     ≡ Some (length (names_of_kind kind (names_from known raw_tokens)))
-numbered_from kind [] known h e = refl
-numbered_from kind (raw ∷ rest) known h e =
-    spot_numbered kind raw.word raw.at known (tokens_from (known_after known raw.word) rest)
+numbered_from scale kind [] known h e = refl
+numbered_from scale kind (raw ∷ rest) known h e =
+    spot_numbered scale kind raw.word raw.at known
+    (tokens_from scale (known_after known raw.word) rest)
     (past_from (known_after known raw.word) rest)
     (length (names_of_kind kind (names_from (known_after known raw.word) rest))) h.0 e
-    (λ later. numbered_from kind rest (known_after known raw.word) h.1 later)
+    (λ later. numbered_from scale kind rest (known_after known raw.word) h.1 later)
 
 -- Nothing is known at the beginning, of either kind.
-numbered_all : (kind : NameKind) (raw_tokens : List RawTokenAt) → ArePlain raw_tokens
+numbered_all : (scale : ℕ) (kind : NameKind) (raw_tokens : List RawTokenAt) → ArePlain raw_tokens
     → past_from nothing_known raw_tokens ≡ None →
-    seen_after 0 (numbers_in kind (tokens_from nothing_known raw_tokens))
+    seen_after 0 (numbers_in kind (tokens_from scale nothing_known raw_tokens))
     ≡ Some (length (names_of_kind kind (names_from nothing_known raw_tokens)))
-numbered_all Proposition raw_tokens h e = numbered_from Proposition raw_tokens nothing_known h e
-numbered_all EventKind raw_tokens h e = numbered_from EventKind raw_tokens nothing_known h e
+numbered_all scale Proposition raw_tokens h e =
+    numbered_from scale Proposition raw_tokens nothing_known h e
+numbered_all scale EventKind raw_tokens h e =
+    numbered_from scale EventKind raw_tokens nothing_known h e
 
 -- The words of a text are numbered by use.
-pub text_numbered : (text : List ℕ) → IsNumberedByUse (text_tokens_of text)
-text_numbered text = λ e kind. numbered_all kind (raw_tokens_of text) (raw_tokens_plain 0 0 text) e
+pub text_numbered : (scale : ℕ) (text : List ℕ) → IsNumberedByUse (text_tokens_of scale text)
+text_numbered scale text = λ e kind. numbered_all scale kind (raw_tokens_of text)
+    (raw_tokens_plain 0 0 text) e

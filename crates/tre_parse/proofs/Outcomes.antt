@@ -48,6 +48,8 @@ words_once : (words : TextTokens) (o q : Outcome) → IsOutcomeWithin words o
     → IsOutcomeWithin words q → o ≡ q
 words_once words = first_fault_once (limit_fault words) (IsOutcomeOfTokens words) (read_once words)
 
-pub outcome_once : (text : List ℕ) (o q : Outcome) → IsOutcome text o → IsOutcome text q → o ≡ q
-outcome_once text = first_fault_once (byte_fault text) (IsOutcomeWithin (text_tokens_of text))
-    (words_once (text_tokens_of text))
+pub outcome_once : (scale : ℕ) (text : List ℕ) (o q : Outcome) → IsOutcome scale text o
+    → IsOutcome scale text q → o ≡ q
+outcome_once scale text = first_fault_once (byte_fault text) (IsOutcomeWithin
+    (text_tokens_of scale text))
+    (words_once (text_tokens_of scale text))

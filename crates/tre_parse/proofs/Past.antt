@@ -16,7 +16,7 @@ use Rattle.tre_syntax.specs.declared.name_kind.NameKind.{NameKind}
 use Rattle.tre_syntax.specs.declared.name_kind.NameKind.TheVariants.{Proposition, Event as EventKind}
 use Rattle.tre_parse.specs.declared.before.Before.{Before}
 use Rattle.tre_parse.specs.declared.before.Before.TheVariants.{Other}
-use Rattle.tre_parse.specs.Tokens.{RawToken, name, sign, RawTokenAt, before_next, kind_behind, names_of_kind, names_with, vocabulary_with, Known, nothing_known, vocabulary_after, known_after, is_past, past_from, raw_tokens_of}
+use Rattle.tre_parse.specs.Tokens.{RawToken, name, number, sign, RawTokenAt, before_next, kind_behind, names_of_kind, names_with, vocabulary_with, Known, nothing_known, vocabulary_after, known_after, is_past, past_from, raw_tokens_of}
 use Rattle.tre_parse.specs.Past.{before_from, use_of, use_at, uses_from, uses_in, AreNamesOf, UsesFew, IsOneTooMany}
 
 -- ---- uses
@@ -143,6 +143,7 @@ word_used : (kind : NameKind) (front : List RawTokenAt) (known : Known) (word : 
     (names_of_kind kind (vocabulary_after known word))
 word_used kind front known (name bytes) h q =
     kind_used kind (kind_behind known.before) (uses_in kind front) known.vocabulary bytes h q
+word_used kind front known (number bytes) h q = unused (uses_in kind front) _ h
 word_used kind front known (sign token) h q = unused (uses_in kind front) _ h
 
 stands_on : (front : List RawTokenAt) (raw : RawTokenAt) (known : Known) → Stands front known
@@ -176,6 +177,7 @@ one_too_many front rest at (name bytes) known h q =
       full = f.0;
       none = not_among names bytes f.1;
     }
+one_too_many front rest at (number bytes) known h q = absurd (cc)
 one_too_many front rest at (sign token) known h q = absurd (cc)
 
 -- ---- the rest, behind what was read so far

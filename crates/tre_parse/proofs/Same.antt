@@ -4,7 +4,7 @@ use Rattle.std.specs.Prelude.{◌==◌}
 use Rattle.std.proofs.lemmas.Bool.{eqb-true}
 use denote.Struct.Field.{Field}
 use denote.Struct.Values.{Values}
-use denote.Enum.Declared.{Choice, values_one}
+use denote.Enum.Declared.{Choice}
 use denote.Enum.Compared.{Each, by}
 
 -- Values of one variant are the same where they are taken for it. Those of a variant with no field

@@ -3,10 +3,10 @@ use Rattle.std.proofs.Common.{◌≡◌, ℕ, ◌+◌, ◌-◌, ◌<◌, ◌≤�
 use Rattle.std.specs.Prelude.{if◌then◌else◌}
 use Rattle.std.proofs.lemmas.List.{drop-drop, length-drop}
 use Rattle.tre_parse.specs.declared.token.Token.{Token}
-use Rattle.tre_parse.specs.declared.lexeme.Lexeme.TheVariants.{Blank, Name, Sign}
+use Rattle.tre_parse.specs.declared.lexeme.Lexeme.TheVariants.{Blank, Name, Number, Sign}
 use Rattle.tre_parse.specs.declared.scan.Scan.{Scan}
 use Rattle.tre_parse.specs.Lexeme.{lexeme_of}
-use Rattle.tre_parse.specs.Tokens.{RawToken, name, sign, RawTokens, raw_tokens_from, scanned, with_raw_token, known_after, names_from, past_from, is_past, earlier}
+use Rattle.tre_parse.specs.Tokens.{RawToken, name, number, sign, RawTokens, raw_tokens_from, scanned, with_raw_token, known_after, names_from, past_from, is_past, earlier}
 use Rattle.tre_parse.specs.Scan.{rest_from, known_in, placed, placed_from, TakesToken, LeadsTo}
 
 -- The bytes of a word are passed over.
@@ -59,6 +59,15 @@ rest_name bytes at len h p q e =
     (λ skip. raw_tokens_from skip (at + 1) (drop (at + 1) bytes))) e
     ∙ ap (with_raw_token at (name (take len (drop at bytes)))) (rest_after bytes at len p q)
 
+pub rest_number : (bytes : List ℕ) (at len : ℕ) → at < length bytes → 0 < len
+    → len ≤ length (drop at bytes) → lexeme_of (drop at bytes) ≡ Number len →
+    rest_from bytes at ≡ with_raw_token at (number (take len (drop at bytes)))
+    (rest_from bytes (at + len))
+rest_number bytes at len h p q e =
+    rest_first bytes at h ∙ ap (λ x. scanned x at (drop at bytes)
+    (λ skip. raw_tokens_from skip (at + 1) (drop (at + 1) bytes))) e
+    ∙ ap (with_raw_token at (number (take len (drop at bytes)))) (rest_after bytes at len p q)
+
 pub rest_sign : (bytes : List ℕ) (at len : ℕ) (token : Token) → at < length bytes → 0 < len
     → len ≤ length (drop at bytes) → lexeme_of (drop at bytes) ≡ Sign token len →
     rest_from bytes at ≡ with_raw_token at (sign token) (rest_from bytes (at + len))
@@ -83,11 +92,13 @@ leads_word bytes old new at next word t e =
     let rest = (rest_from bytes next).raw_tokens in
     let raw_tokens = ap (λ (l : RawTokens). l.raw_tokens) e in
     record {
-      tokens = ap (λ s. old.tokens.items ++ placed_from (known_in old) s) raw_tokens
-          ∙ sym (append_assoc old.tokens.items (placed (known_in old) at word ∷ [])
-          (placed_from (known_after (known_in old) word) rest))
-          ∙ ap (λ l. l ++ placed_from (known_after (known_in old) word) rest) (sym t.tokens)
-          ∙ ap (λ k. new.tokens.items ++ placed_from k rest) (sym t.known);
+      tokens = ap (λ s. old.tokens.items ++ placed_from old.scale (known_in old) s) raw_tokens
+          ∙ sym (append_assoc old.tokens.items (placed old.scale (known_in old) at word ∷ [])
+          (placed_from old.scale (known_after (known_in old) word) rest))
+          ∙ ap (λ l. l ++ placed_from old.scale (known_after (known_in old) word) rest)
+          (sym t.tokens)
+          ∙ ap (λ k. new.tokens.items ++ placed_from old.scale k rest) (sym t.known)
+          ∙ ap (λ n. new.tokens.items ++ placed_from n (known_in new) rest) (sym t.same_scale);
       names = ap (λ s. names_from (known_in old) s) raw_tokens
           ∙ ap (λ k. names_from k rest) (sym t.known);
       past = ap (λ s. earlier old.past (past_from (known_in old) s)) raw_tokens
@@ -97,20 +108,23 @@ leads_word bytes old new at next word t e =
           ∙ ap (λ k. earlier new.past (past_from k rest)) (sym t.known);
       bad = ap (λ (l : RawTokens). l.bad) e;
       size = t.size;
+      same_scale = t.same_scale;
     }
 
-pub same_bytes : (bytes : List ℕ) (old new : Scan) (at : ℕ) (xs ys : List ℕ) → xs ≡ ys
-    → TakesToken old new at (name ys) → TakesToken old new at (name xs)
-same_bytes bytes old new at xs ys e t = let P = λ (zs : List ℕ). TakesToken old new at (name zs) in
+pub same_bytes : (word : List ℕ → RawToken) (old new : Scan) (at : ℕ) (xs ys : List ℕ) → xs ≡ ys
+    → TakesToken old new at (word ys) → TakesToken old new at (word xs)
+same_bytes word old new at xs ys e t = let P = λ (zs : List ℕ). TakesToken old new at (word zs) in
     subst P (sym e) t
 
 pub leads_same : (bytes : List ℕ) (scan : Scan) (at next : ℕ) → rest_from bytes at
     ≡ rest_from bytes next → LeadsTo bytes scan at scan next
 leads_same bytes scan at next e =
     record {
-      tokens = ap (λ (l : RawTokens). scan.tokens.items ++ placed_from (known_in scan) l.raw_tokens) e;
+      tokens = ap (λ (l : RawTokens). scan.tokens.items ++ placed_from scan.scale (known_in scan)
+          l.raw_tokens) e;
       names = ap (λ (l : RawTokens). names_from (known_in scan) l.raw_tokens) e;
       past = ap (λ (l : RawTokens). earlier scan.past (past_from (known_in scan) l.raw_tokens)) e;
       bad = ap (λ (l : RawTokens). l.bad) e;
       size = refl;
+      same_scale = refl;
     }

@@ -33,31 +33,35 @@ verdict_spells (Some at) large fault t tree kept names e = absurd (cc)
 verdict_spells None true fault t tree kept names e = absurd (cc)
 verdict_spells None false fault t tree kept names e = (cc, cc)
 
-judged_spells : (text : List ℕ) (t tree : PatternTree) (names : Vocabulary) → bad_byte text
-    ≡ None → Spells expr (tokens_of text) t → IsOutcomeOfTree (text_tokens_of text) t
-    (spelt tree names) → IsSpelling text tree names
-judged_spells text t tree names good h (inl k) = let no = k.2 in absurd (cc)
-judged_spells text t tree names good h (inr k) =
+judged_spells : (scale : ℕ) (text : List ℕ) (t tree : PatternTree) (names : Vocabulary)
+    → bad_byte text
+    ≡ None → Spells expr (tokens_of scale text) t → IsOutcomeOfTree (text_tokens_of scale text) t
+    (spelt tree names) → IsSpelling scale text tree names
+judged_spells scale text t tree names good h (inl k) = let no = k.2 in absurd (cc)
+judged_spells scale text t tree names good h (inr k) =
     let same = verdict_spells _ _ _ t tree _ names k.1 in
-    let P = λ (u : PatternTree). Spells expr (tokens_of text) u in
+    let P = λ (u : PatternTree). Spells expr (tokens_of scale text) u in
     record { tokens_alone = good; spells = subst P (sym same.0) h; numbered = same.1 }
 
-read_spells : (text : List ℕ) (tree : PatternTree) (names : Vocabulary) → bad_byte text ≡ None
-    → IsOutcomeOfTokens (text_tokens_of text) (spelt tree names) → IsSpelling text tree names
-read_spells text tree names good (inl h) = let no = h.1 in absurd (cc)
-read_spells text tree names good (inr h) = judged_spells text h.0 tree names good h.1 h.2
+read_spells : (scale : ℕ) (text : List ℕ) (tree : PatternTree) (names : Vocabulary)
+    → bad_byte text ≡ None
+    → IsOutcomeOfTokens (text_tokens_of scale text) (spelt tree names)
+    → IsSpelling scale text tree names
+read_spells scale text tree names good (inl h) = let no = h.1 in absurd (cc)
+read_spells scale text tree names good (inr h) = judged_spells scale text h.0 tree names good h.1
+    h.2
 
-pub outcome_spells : (text : List ℕ) (tree : PatternTree) (names : Vocabulary)
-    → IsOutcome text (spelt tree names) → IsSpelling text tree names
-outcome_spells text tree names h =
-    let bytes = unrefused (byte_fault text) (IsOutcomeWithin (text_tokens_of text)
+pub outcome_spells : (scale : ℕ) (text : List ℕ) (tree : PatternTree) (names : Vocabulary)
+    → IsOutcome scale text (spelt tree names) → IsSpelling scale text tree names
+outcome_spells scale text tree names h =
+    let bytes = unrefused (byte_fault text) (IsOutcomeWithin (text_tokens_of scale text)
     (spelt tree names)) tree names h in
-    let words = unrefused (limit_fault (text_tokens_of text))
-    (IsOutcomeOfTokens (text_tokens_of text) (spelt tree names)) tree names bytes.1 in
-    read_spells text tree names (none_bad _ (bad_byte text) bytes.0) words.1
+    let words = unrefused (limit_fault (text_tokens_of scale text))
+    (IsOutcomeOfTokens (text_tokens_of scale text) (spelt tree names)) tree names bytes.1 in
+    read_spells scale text tree names (none_bad _ (bad_byte text) bytes.0) words.1
 
-pub answer_spells : (text : List ℕ) (result : Result Pattern ParseFault)
-    → Answers (IsOutcome text) result → IfOk result (λ pattern. IsSpelling text
+pub answer_spells : (scale : ℕ) (text : List ℕ) (result : Result Pattern ParseFault)
+    → Answers (IsOutcome scale text) result → IfOk result (λ pattern. IsSpelling scale text
     (pattern_tree pattern) (names_of pattern))
-answer_spells text (Ok pattern) h = outcome_spells text _ _ h
-answer_spells text (Err fault) h = tt
+answer_spells scale text (Ok pattern) h = outcome_spells scale text _ _ h
+answer_spells scale text (Err fault) h = tt

@@ -12,7 +12,7 @@ use Rattle.tre_state.specs.Name.{starts_name, continues_name, is_reserved, IsWor
 use Rattle.tre_parse.specs.declared.token.Token.{Token}
 use Rattle.tre_parse.specs.declared.token.Token.TheVariants.{Eps, Rise, Fall, Inf, True, Event}
 use Rattle.tre_parse.specs.declared.lexeme.Lexeme.{Lexeme}
-use Rattle.tre_parse.specs.declared.lexeme.Lexeme.TheVariants.{Blank, Name, Sign}
+use Rattle.tre_parse.specs.declared.lexeme.Lexeme.TheVariants.{Blank, Name, Number, Sign}
 use Rattle.tre_parse.specs.Lexeme.{is_blank, reserved, named, word_lexeme, first_sign, sign_lexeme, lexeme_of}
 use Rattle.tre_parse.specs.declared.lexeme.TheConstants.{SIGNS}
 
@@ -74,14 +74,14 @@ first_no_name text token (x ∷ xs) rest len e = by (first_no_name text token xs
 sign_no_name : (rest : List ℕ) (len : ℕ) → sign_lexeme rest ≡ Name len → ⊥
 sign_no_name rest len e = first_no_name (λ sign. sign.0.now) (λ sign. sign.1) SIGNS rest len e
 
-name_starts : (blank starts digit : Bool) (word sign : Lexeme) (token : Token) (n len : ℕ)
+name_starts : (blank starts digit : Bool) (word sign : Lexeme) (n len : ℕ)
     → (sign ≡ Name len → ⊥) →
-    (if blank then Blank else (if starts then word else (if digit then Sign token n else sign)))
+    (if blank then Blank else (if starts then word else (if digit then Number n else sign)))
     ≡ Name len → (starts ≡ true) × (word ≡ Name len)
-name_starts true starts digit word sign token n len never e = absurd (cc)
-name_starts false true digit word sign token n len never e = (refl, e)
-name_starts false false true word sign token n len never e = absurd (cc)
-name_starts false false false word sign token n len never e = absurd (never e)
+name_starts true starts digit word sign n len never e = absurd (cc)
+name_starts false true digit word sign n len never e = (refl, e)
+name_starts false false true word sign n len never e = absurd (cc)
+name_starts false false false word sign n len never e = absurd (never e)
 
 word_from : (b : ℕ) (bs : List ℕ) (len : ℕ) → starts_name b ≡ true
     → prefix_len continues_name (b ∷ bs) ≡ len → IsWord (take len (b ∷ bs))
@@ -96,7 +96,7 @@ pub name_bytes : (rest : List ℕ) (len : ℕ) → lexeme_of rest ≡ Name len �
 name_bytes [] len e = absurd (cc)
 name_bytes (b ∷ bs) len e =
     let found = name_starts (is_blank b) (starts_name b) (is_ascii_digit b) (word_lexeme (b ∷ bs))
-    (sign_lexeme (b ∷ bs)) _ _ len (sign_no_name (b ∷ bs) len) e in
+    (sign_lexeme (b ∷ bs)) _ len (sign_no_name (b ∷ bs) len) e in
     let known = named_name (prefix_len continues_name (b ∷ bs)) len
     (reserved (take_while continues_name (b ∷ bs))) found.1 in
     let word = take_while continues_name (b ∷ bs) in

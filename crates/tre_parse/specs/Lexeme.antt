@@ -1,18 +1,18 @@
 -- What stands at a place of a text: the longest token there, a blank, or a byte at which no token
 -- begins.
-use Rattle.std.specs.Prelude.{ℕ, ◌+◌, ◌-◌, ◌*◌, ◌≤◌, ◌<◌, Bool, ◌||◌, ◌==◌, if◌then◌else◌, Option, Some, None, List, [], ◌∷◌, length, fold, min, nat_eq}
+use Rattle.std.specs.Prelude.{ℕ, ◌+◌, ◌≤◌, ◌<◌, Bool, ◌&&◌, ◌||◌, ◌==◌, if◌then◌else◌, Option, Some, None, List, [], ◌∷◌, length, drop, nat_eq, nat_lt}
 use Rattle.std.specs.Char.{is_ascii_digit}
 use Rattle.std.specs.List.{prefix_len, take_while, zip, starts_with}
 use Rattle.std.specs.Map.{lookup}
 use Rattle.std.specs.Str.{bytes_eq}
-use Rattle.tre_pairs.specs.declared.TheConstants.{TIME_MAX}
+use Rattle.tre_decimal.specs.Decimal.{is_point}
 use Rattle.tre_state.specs.declared.name.TheConstants.{RESERVED}
 use Rattle.tre_state.specs.Name.{starts_name, continues_name}
 use Rattle.tre_parse.specs.declared.token.Token.{Token}
-use Rattle.tre_parse.specs.declared.token.Token.TheVariants.{Number, Eps, Rise, Fall, Inf, True, Event}
+use Rattle.tre_parse.specs.declared.token.Token.TheVariants.{Eps, Rise, Fall, Inf, True, Event}
 use Rattle.tre_parse.specs.declared.lexeme.TheConstants.{SIGNS}
 use Rattle.tre_parse.specs.declared.lexeme.Lexeme.{Lexeme}
-use Rattle.tre_parse.specs.declared.lexeme.Lexeme.TheVariants.{Blank, Wrong, Name, Sign}
+use Rattle.tre_parse.specs.declared.lexeme.Lexeme.TheVariants.{Blank, Wrong, Name, Number, Sign}
 
 -- A space (32), a tab (9), CR (13) or LF (10).
 abbrev pub is_blank : ℕ → Bool
@@ -33,16 +33,21 @@ abbrev pub word_lexeme : List ℕ → Lexeme
 word_lexeme rest =
     named (prefix_len continues_name rest) (reserved (take_while continues_name rest))
 
--- The whole number that decimal digits spell.
-abbrev pub decimal : List ℕ → ℕ
-decimal digits = fold (λ n digit. 10 * n + (digit - 48)) 0 digits
+-- How many bytes the decimals have that stand there: a point, and as many digits as there are, one
+-- at least.
+abbrev pub decimals_len : List ℕ → ℕ
+decimals_len [] = 0
+decimals_len (byte ∷ rest) =
+    if is_point byte && nat_lt 0 (prefix_len is_ascii_digit rest)
+    then 1 + prefix_len is_ascii_digit rest else 0
 
--- A number: as many digits as there are. All those above the latest time
--- are the one number after it.
+-- A number: as many digits as there are, and the decimals behind them, where there are any.
+abbrev pub number_len : List ℕ → ℕ
+number_len rest =
+    prefix_len is_ascii_digit rest + decimals_len (drop (prefix_len is_ascii_digit rest) rest)
+
 abbrev pub number_lexeme : List ℕ → Lexeme
-number_lexeme rest =
-    Sign (Number (min (decimal (take_while is_ascii_digit rest)) (TIME_MAX + 1)))
-    (prefix_len is_ascii_digit rest)
+number_lexeme rest = Number (number_len rest)
 
 -- The first of the signs that the rest begins with, and its number of bytes.
 abbrev pub first_sign : {A : Type 0} → (A → List ℕ) → (A → Token) → List A → List ℕ → Lexeme
@@ -66,5 +71,6 @@ lexeme_of (byte ∷ rest) =
 -- The lexeme takes at least one byte, and no more than there are.
 abbrev pub FitsIn : ℕ → Lexeme → Type 0
 FitsIn available (Name len) = (0 < len) × (len ≤ available)
+FitsIn available (Number len) = (0 < len) × (len ≤ available)
 FitsIn available (Sign token len) = (0 < len) × (len ≤ available)
 FitsIn available _ = 1 ≤ available

@@ -16,10 +16,11 @@ use Rattle.tre_parse.specs.Begins.{Begins}
 use Rattle.tre_parse.specs.Parts.{IsEmptyInterval}
 use Rattle.tre_parse.specs.Tokens.{earlier, nothing_known, raw_tokens_of, bad_byte, tokens_of, names_of, past_from, offsets_of}
 
--- The text spells the expression, and its names are these.
-pub record IsSpelling (text : List ℕ) (tree : PatternTree) (names : Vocabulary) : Type 0 where
+-- The text spells the expression at the scale, and its names are these.
+pub record IsSpelling (scale : ℕ) (text : List ℕ) (tree : PatternTree) (names : Vocabulary)
+    : Type 0 where
   pub tokens_alone : bad_byte text ≡ None
-  pub spells : Spells expr (tokens_of text) tree
+  pub spells : Spells expr (tokens_of scale text) tree
   pub numbered : names ≡ names_of text
 
 -- What becomes of a text.
@@ -27,7 +28,7 @@ pub data Outcome : Type 0 where
   spelt : PatternTree → Vocabulary → Outcome
   refused : ParseFault → Outcome
 
--- What a text is made of: its bytes, how many, its tokens, the offset of each, its names of each
+-- What a text is made of: how many bytes, its tokens, the offset of each, its names of each
 -- kind by first use, and the offset of the first name past the first NAMES_MAX of its kind.
 pub record TextTokens : Type 0 where
   pub size : ℕ
@@ -36,11 +37,11 @@ pub record TextTokens : Type 0 where
   pub names : Vocabulary
   pub past : Option ℕ
 
-abbrev pub text_tokens_of : List ℕ → TextTokens
-text_tokens_of text =
+abbrev pub text_tokens_of : ℕ → List ℕ → TextTokens
+text_tokens_of scale text =
     record {
       size = length text;
-      tokens = tokens_of text;
+      tokens = tokens_of scale text;
       offsets = offsets_of (raw_tokens_of text);
       names = names_of text;
       past = past_from nothing_known (raw_tokens_of text);
@@ -50,7 +51,7 @@ text_tokens_of text =
 abbrev pub offset_of : TextTokens → ℕ → ℕ
 offset_of words place = slice_index_or words.offsets place words.size
 
--- A number above the latest time.
+-- A number that is no number of units, or one above the latest time.
 abbrev pub is_big : Token → Bool
 is_big (Number n) = nat_lt TIME_MAX n
 is_big _ = false
@@ -79,7 +80,8 @@ byte_fault text =
     if nat_lt TEXT_MAX (length text) then Some TooLong else option_map (λ at. BadByte at)
     (bad_byte text)
 
--- A number above the latest time, or else too many open brackets.
+-- A number that is no number of units, or one above the latest time; or else too many open
+-- brackets.
 abbrev pub limit_fault : TextTokens → Option ParseFault
 limit_fault words =
     earlier (option_map (λ place. TooBig (offset_of words place)) (position is_big words.tokens))
@@ -154,9 +156,9 @@ IsOutcomeWithin words outcome =
     MatchOption (limit_fault words) (IsOutcomeOfTokens words outcome)
     (λ fault. outcome ≡ refused fault)
 
--- The text has this outcome. It has exactly one, and want of memory aside it is what `parse`
--- answers.
-abbrev pub IsOutcome : List ℕ → Outcome → Type 0
-IsOutcome text outcome =
-    MatchOption (byte_fault text) (IsOutcomeWithin (text_tokens_of text) outcome)
+-- The text has this outcome at the scale. It has exactly one, and want of memory aside it is what
+-- `parse` answers.
+abbrev pub IsOutcome : ℕ → List ℕ → Outcome → Type 0
+IsOutcome scale text outcome =
+    MatchOption (byte_fault text) (IsOutcomeWithin (text_tokens_of scale text) outcome)
     (λ fault. outcome ≡ refused fault)

@@ -21,14 +21,14 @@ vocabulary_in scan = record { names = scan.names; events = scan.events }
 abbrev pub known_in : Scan → Known
 known_in scan = record { vocabulary = vocabulary_in scan; before = scan.before }
 
--- Each word's token, with its offset.
-abbrev pub placed : Known → ℕ → RawToken → TokenAt
-placed known at word = record { token = token_of known word; at = at }
+-- Each word's token at a scale, with its offset.
+abbrev pub placed : ℕ → Known → ℕ → RawToken → TokenAt
+placed scale known at word = record { token = token_of scale known word; at = at }
 
-abbrev pub placed_from : Known → List RawTokenAt → List TokenAt
-placed_from known [] = []
-placed_from known (raw ∷ rest) =
-    placed known raw.at raw.word ∷ placed_from (known_after known raw.word) rest
+abbrev pub placed_from : ℕ → Known → List RawTokenAt → List TokenAt
+placed_from scale known [] = []
+placed_from scale known (raw ∷ rest) =
+    placed scale known raw.at raw.word ∷ placed_from scale (known_after known raw.word) rest
 
 -- The scan after one more token.
 pub record Puts (old new : Scan) (at : ℕ) (token : Token) : Type 0 where
@@ -36,6 +36,7 @@ pub record Puts (old new : Scan) (at : ℕ) (token : Token) : Type 0 where
   pub known : known_in new ≡ known_in old
   pub past : new.past ≡ old.past
   pub size : new.size ≡ old.size
+  pub same_scale : new.scale ≡ old.scale
 
 -- The scan once a name is among those of its kind.
 pub record Numbers (old new : Scan) (bytes : List ℕ) : Type 0 where
@@ -43,6 +44,7 @@ pub record Numbers (old new : Scan) (bytes : List ℕ) : Type 0 where
   pub known : known_in new ≡ known_after (known_in old) (name bytes)
   pub past : new.past ≡ old.past
   pub size : new.size ≡ old.size
+  pub same_scale : new.scale ≡ old.scale
 
 abbrev pub IsNumbered : Scan → Scan → List ℕ → Result ℕ NameFault → Type 0
 IsNumbered old new bytes (Ok number) =
@@ -54,15 +56,16 @@ IsNumbered old new bytes (Err Lacking) = Unit {0}
 
 -- The scan after one more word.
 pub record TakesToken (old new : Scan) (at : ℕ) (word : RawToken) : Type 0 where
-  pub tokens : new.tokens.items ≡ old.tokens.items ++ placed (known_in old) at word ∷ []
+  pub tokens : new.tokens.items ≡ old.tokens.items ++ placed old.scale (known_in old) at word ∷ []
   pub known : known_in new ≡ known_after (known_in old) word
   pub past : new.past ≡ earlier old.past (if is_past (known_in old) word then Some at else None)
   pub size : new.size ≡ old.size
+  pub same_scale : new.scale ≡ old.scale
 
 -- From one offset the scan comes to the same in the end as from a later one.
 pub record LeadsTo (bytes : List ℕ) (old : Scan) (at : ℕ) (new : Scan) (next : ℕ) : Type 0 where
-  pub tokens : old.tokens.items ++ placed_from (known_in old)
-      (rest_from bytes at).raw_tokens ≡ new.tokens.items ++ placed_from (known_in new)
+  pub tokens : old.tokens.items ++ placed_from old.scale (known_in old)
+      (rest_from bytes at).raw_tokens ≡ new.tokens.items ++ placed_from new.scale (known_in new)
       (rest_from bytes next).raw_tokens
   pub names : names_from (known_in old) (rest_from bytes at).raw_tokens ≡ names_from
       (known_in new) (rest_from bytes next).raw_tokens
@@ -71,6 +74,7 @@ pub record LeadsTo (bytes : List ℕ) (old : Scan) (at : ℕ) (new : Scan) (next
       (rest_from bytes next).raw_tokens)
   pub bad : (rest_from bytes at).bad ≡ (rest_from bytes next).bad
   pub size : new.size ≡ old.size
+  pub same_scale : new.scale ≡ old.scale
 
 -- One step of the scan: it goes on, or says at which byte no token begins.
 pub record GoesOn (bytes : List ℕ) (old : Scan) (at : ℕ) (new : Scan) (next : ℕ) : Type 0 where
@@ -82,9 +86,9 @@ abbrev pub IsBadByte : List ℕ → ℕ → ParseFault → Type 0
 IsBadByte bytes at fault =
     (fault ≡ Memory) ⊎ ((at' : ℕ) × (fault ≡ BadByte at') × ((rest_from bytes at).bad ≡ Some at'))
 
--- The scan of a whole text.
-pub record IsScan (text : List ℕ) (scan : Scan) : Type 0 where
-  pub tokens : scan.tokens.items ≡ placed_from nothing_known (raw_tokens_of text)
+-- The scan of a whole text at a scale.
+pub record IsScan (scale : ℕ) (text : List ℕ) (scan : Scan) : Type 0 where
+  pub tokens : scan.tokens.items ≡ placed_from scale nothing_known (raw_tokens_of text)
   pub names : vocabulary_in scan ≡ names_of text
   pub past : scan.past ≡ past_from nothing_known (raw_tokens_of text)
   pub good : bad_byte text ≡ None

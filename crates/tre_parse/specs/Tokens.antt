@@ -1,22 +1,25 @@
--- The tokens of a text with their offsets, the names among them with their numbers, and the first
--- byte at which no token begins.
-use Rattle.std.specs.Prelude.{ℕ, ◌+◌, ◌-◌, zero, suc, Bool, false, ◌&&◌, nat_lt, is_none, if◌then◌else◌, Option, Some, None, unwrap_or, List, [], ◌∷◌, ◌++◌, length, take, map}
+-- The tokens of a text at a scale, their offsets, the names among them with their numbers, and the
+-- first byte at which no token begins.
+use Rattle.std.specs.Prelude.{ℕ, ◌+◌, ◌-◌, zero, suc, min, Bool, false, ◌&&◌, nat_lt, is_none, if◌then◌else◌, Option, Some, None, unwrap_or, List, [], ◌∷◌, ◌++◌, length, take, map}
+use Rattle.tre_pairs.specs.declared.TheConstants.{TIME_MAX}
+use Rattle.tre_decimal.specs.Decimal.{units_of}
 use Rattle.tre_state.specs.declared.names.TheConstants.{NAMES_MAX}
 use Rattle.tre_state.specs.Names.{place_of}
 use Rattle.tre_trace.specs.Reading.{Vocabulary}
 use Rattle.tre_syntax.specs.declared.name_kind.NameKind.{NameKind}
 use Rattle.tre_syntax.specs.declared.name_kind.NameKind.TheVariants.{Proposition, Event as EventKind}
 use Rattle.tre_parse.specs.declared.token.Token.{Token}
-use Rattle.tre_parse.specs.declared.token.Token.TheVariants.{Name as Numbered, EventName, LeftParen, Event}
+use Rattle.tre_parse.specs.declared.token.Token.TheVariants.{Name as Numbered, EventName, Number as Units, LeftParen, Event}
 use Rattle.tre_parse.specs.declared.before.Before.{Before}
 use Rattle.tre_parse.specs.declared.before.Before.TheVariants.{EventWord, EventParen, Other}
 use Rattle.tre_parse.specs.declared.lexeme.Lexeme.{Lexeme}
-use Rattle.tre_parse.specs.declared.lexeme.Lexeme.TheVariants.{Blank, Wrong, Name, Sign}
+use Rattle.tre_parse.specs.declared.lexeme.Lexeme.TheVariants.{Blank, Wrong, Name, Number, Sign}
 use Rattle.tre_parse.specs.Lexeme.{lexeme_of}
 
--- A name by its bytes, or another token.
+-- A name or a number by its bytes, or another token.
 pub data RawToken : Type 0 where
   name : List ℕ → RawToken
+  number : List ℕ → RawToken
   sign : Token → RawToken
 
 -- A raw token of the text and the offset of its first byte.
@@ -41,6 +44,7 @@ abbrev pub scanned : Lexeme → ℕ → List ℕ → (ℕ → RawTokens) → Raw
 scanned Blank at bytes next = next 0
 scanned Wrong at bytes next = record { raw_tokens = []; bad = Some at }
 scanned (Name len) at bytes next = with_raw_token at (name (take len bytes)) (next (len - 1))
+scanned (Number len) at bytes next = with_raw_token at (number (take len bytes)) (next (len - 1))
 scanned (Sign token len) at bytes next = with_raw_token at (sign token) (next (len - 1))
 
 -- The raw tokens of bytes at an offset, the first `skip` of which belong to the one before.
@@ -63,6 +67,7 @@ before_sign before _ = Other
 
 abbrev pub before_next : Before → RawToken → Before
 before_next before (name bytes) = Other
+before_next before (number bytes) = Other
 before_next before (sign token) = before_sign before token
 
 abbrev pub kind_behind : Before → NameKind
@@ -103,29 +108,37 @@ number_of kind known bytes =
     place_of (names_with (names_of_kind kind known.vocabulary) bytes) bytes
 
 abbrev pub numbered : NameKind → ℕ → Token
-numbered Proposition number = Numbered number
-numbered EventKind number = EventName number
+numbered Proposition place = Numbered place
+numbered EventKind place = EventName place
 
--- The token of a name has its number, and NAMES_MAX where it has none.
-abbrev pub token_of : Known → RawToken → Token
-token_of known (name bytes) =
+-- The number of units that a number is at a scale. Where it is none, or one above the latest time,
+-- it is the one number after that.
+abbrev pub units_within : ℕ → List ℕ → ℕ
+units_within scale bytes = min (unwrap_or (units_of scale bytes) (TIME_MAX + 1)) (TIME_MAX + 1)
+
+-- The token of a name has its number, and NAMES_MAX where it has none. That of a number has its
+-- units.
+abbrev pub token_of : ℕ → Known → RawToken → Token
+token_of scale known (name bytes) =
     numbered (kind_behind known.before)
     (unwrap_or (number_of (kind_behind known.before) known bytes) NAMES_MAX)
-token_of known (sign token) = token
+token_of scale known (number bytes) = Units (units_within scale bytes)
+token_of scale known (sign token) = token
 
 abbrev pub vocabulary_after : Known → RawToken → Vocabulary
 vocabulary_after known (name bytes) =
     vocabulary_with (kind_behind known.before) known.vocabulary bytes
+vocabulary_after known (number bytes) = known.vocabulary
 vocabulary_after known (sign token) = known.vocabulary
 
 abbrev pub known_after : Known → RawToken → Known
 known_after known word =
     record { vocabulary = vocabulary_after known word; before = before_next known.before word }
 
-abbrev pub tokens_from : Known → List RawTokenAt → List Token
-tokens_from known [] = []
-tokens_from known (raw ∷ rest) =
-    token_of known raw.word ∷ tokens_from (known_after known raw.word) rest
+abbrev pub tokens_from : ℕ → Known → List RawTokenAt → List Token
+tokens_from scale known [] = []
+tokens_from scale known (raw ∷ rest) =
+    token_of scale known raw.word ∷ tokens_from scale (known_after known raw.word) rest
 
 abbrev pub names_from : Known → List RawTokenAt → Vocabulary
 names_from known [] = known.vocabulary
@@ -134,6 +147,7 @@ names_from known (raw ∷ rest) = names_from (known_after known raw.word) rest
 -- Whether a word is a name past the first NAMES_MAX of its kind.
 abbrev pub is_past : Known → RawToken → Bool
 is_past known (name bytes) = is_none (number_of (kind_behind known.before) known bytes)
+is_past known (number bytes) = false
 is_past known (sign token) = false
 
 -- The offset of the first name past the first NAMES_MAX of its kind.
@@ -152,8 +166,8 @@ raw_tokens_of text = (raw_tokens_from 0 0 text).raw_tokens
 abbrev pub bad_byte : List ℕ → Option ℕ
 bad_byte text = (raw_tokens_from 0 0 text).bad
 
-abbrev pub tokens_of : List ℕ → List Token
-tokens_of text = tokens_from nothing_known (raw_tokens_of text)
+abbrev pub tokens_of : ℕ → List ℕ → List Token
+tokens_of scale text = tokens_from scale nothing_known (raw_tokens_of text)
 
 abbrev pub names_of : List ℕ → Vocabulary
 names_of text = names_from nothing_known (raw_tokens_of text)

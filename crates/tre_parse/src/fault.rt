@@ -8,7 +8,7 @@ pub enum ParseFault {
     TooLong,
     /// The first byte at which no token begins.
     BadByte { at: u64 },
-    /// The first number above the latest time.
+    /// The first number that is no number of units, or is above the latest time.
     Number { at: u64 },
     /// The first bracket at which 201 are open.
     TooDeep { at: u64 },

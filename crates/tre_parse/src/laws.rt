@@ -13,7 +13,7 @@ ghost use Rattle.tre_parse.specs.Depth.{open_from, IsDeepAt};
 ghost use Rattle.tre_parse.specs.Strength.{Groups, StateGroups};
 ghost use Rattle.std.specs.Char.{is_ascii_digit};
 ghost use Rattle.tre_state.specs.Name.{starts_name, continues_name};
-ghost use Rattle.tre_parse.specs.Ends.{bytes_in, EndsRun};
+ghost use Rattle.tre_parse.specs.Ends.{bytes_in, EndsRun, EndsNumber};
 ghost use Rattle.tre_parse.specs.Past.{kind_after, UsesFew, IsOneTooMany};
 ghost use Rattle.tre_parse.specs.Lexeme.{is_blank, sign_lexeme, lexeme_of};
 ghost use Rattle.tre_parse.specs.Signs.{IsSign, TakesSign};
@@ -25,12 +25,14 @@ ghost use Rattle.tre_parse.specs.Blanks.{counted_on, SaysAs};
 ghost use Rattle.tre_parse.specs.declared.token.Token.{Token};
 ghost use Rattle.tre_parse.specs.Outcome.{text_tokens_of, deep_place, IsSpelling, Outcome, spelt, IsOutcome};
 
-/// A text spells at most one pattern.
+/// A text spells at most one pattern at a scale.
 pub fn one_spelling()
-    ensures tree { (text : List ℕ) (tree other : PatternTree) (names others : Vocabulary) →
-        IsSpelling text tree names → IsSpelling text other others → tree ≡ other }
-    ensures names { (text : List ℕ) (tree other : PatternTree) (names others : Vocabulary) →
-        IsSpelling text tree names → IsSpelling text other others → names ≡ others }
+    ensures tree { (scale : ℕ) (text : List ℕ) (tree other : PatternTree)
+        (names others : Vocabulary) → IsSpelling scale text tree names →
+        IsSpelling scale text other others → tree ≡ other }
+    ensures names { (scale : ℕ) (text : List ℕ) (tree other : PatternTree)
+        (names others : Vocabulary) → IsSpelling scale text tree names →
+        IsSpelling scale text other others → names ≡ others }
 {}
 
 /// Where a sign of the table stands, a sign of the table is taken that is at least as long; and no
@@ -42,12 +44,13 @@ pub fn longest_sign()
         sign_lexeme bytes ≡ Sign token len → IsSign (take len bytes) token }
 {}
 
-/// A word has as many bytes as can stand in a name, and a number as many digits as there are.
+/// A word has as many bytes as can stand in a name, and a number as many digits as there are, and
+/// with a point behind them as many more, where there are any.
 pub fn longest_word()
     ensures words { (byte : ℕ) (rest : List ℕ) → starts_name byte ≡ true →
         EndsRun continues_name (byte ∷ rest) (bytes_in (lexeme_of (byte ∷ rest))) }
     ensures numbers { (byte : ℕ) (rest : List ℕ) → is_ascii_digit byte ≡ true →
-        EndsRun is_ascii_digit (byte ∷ rest) (bytes_in (lexeme_of (byte ∷ rest))) }
+        EndsNumber (byte ∷ rest) (bytes_in (lexeme_of (byte ∷ rest))) }
 {}
 
 /// Tokens begin a rule exactly where some further tokens complete them to what it spells.
@@ -58,21 +61,21 @@ pub fn beginnings()
         IsCompletable (SpellsState rule) tokens }
 {}
 
-/// Every text has an outcome.
+/// Every text has an outcome at each scale.
 pub fn some_outcome()
-    ensures { (text : List ℕ) → (outcome : Outcome) × IsOutcome text outcome }
+    ensures { (scale : ℕ) (text : List ℕ) → (outcome : Outcome) × IsOutcome scale text outcome }
 {}
 
-/// A text has at most one outcome.
+/// A text has at most one outcome at a scale.
 pub fn one_outcome()
-    ensures { (text : List ℕ) (outcome other : Outcome) → IsOutcome text outcome →
-        IsOutcome text other → outcome ≡ other }
+    ensures { (scale : ℕ) (text : List ℕ) (outcome other : Outcome) →
+        IsOutcome scale text outcome → IsOutcome scale text other → outcome ≡ other }
 {}
 
 /// An outcome that is a pattern is the one that the text spells.
 pub fn outcome_is_spelt()
-    ensures { (text : List ℕ) (tree : PatternTree) (names : Vocabulary) →
-        IsOutcome text (spelt tree names) → IsSpelling text tree names }
+    ensures { (scale : ℕ) (text : List ℕ) (tree : PatternTree) (names : Vocabulary) →
+        IsOutcome scale text (spelt tree names) → IsSpelling scale text tree names }
 {}
 
 /// `;` binds more than `&`, and `&` more than `|`. Each of them groups to the left.
@@ -130,10 +133,10 @@ pub fn blank_says_nothing()
         SaysAs (blank ∷ text) text }
     ensures at_end { (text : List ℕ) (blank : ℕ) → is_blank blank ≡ true →
         SaysAs (text ++ blank ∷ []) text }
-    ensures spelling { (text other : List ℕ) (tree : PatternTree) (names : Vocabulary) →
+    ensures spelling { (scale : ℕ) (text other : List ℕ) (tree : PatternTree) (names : Vocabulary) →
         SaysAs text other →
-        (IsSpelling text tree names → IsSpelling other tree names)
-        × (IsSpelling other tree names → IsSpelling text tree names) }
+        (IsSpelling scale text tree names → IsSpelling scale other tree names)
+        × (IsSpelling scale other tree names → IsSpelling scale text tree names) }
 {}
 
 /// The place of the first bracket too many, said of the fronts of the tokens: with the token there
@@ -147,18 +150,18 @@ pub fn depth()
 /// it, `NAMES_MAX` for a name that isn't among them; and where none is past the first `NAMES_MAX`
 /// of its kind, the lists have them by first use from the left.
 pub fn numbers_of_names()
-    ensures number { (text bytes : List ℕ) (front back : List RawTokenAt) (at : ℕ) →
+    ensures number { (scale : ℕ) (text bytes : List ℕ) (front back : List RawTokenAt) (at : ℕ) →
         raw_tokens_of text ≡ front ++ (record { at = at; word = name bytes }) ∷ back →
-        HasTokenAt (tokens_of text) (length front)
+        HasTokenAt (tokens_of scale text) (length front)
         (numbered (kind_after front) (unwrap_or
         (place_of (names_of_kind (kind_after front) (names_of text)) bytes) NAMES_MAX)) }
-    ensures first_use { (text : List ℕ) → IsNumberedByUse (text_tokens_of text) }
+    ensures first_use { (scale : ℕ) (text : List ℕ) → IsNumberedByUse (text_tokens_of scale text) }
 {}
 
 /// A name is past the first `NAMES_MAX` of its kind where it is first used that is none of the
 /// `NAMES_MAX` different ones used before it, and no name is where no more than `NAMES_MAX` of
 /// either kind are used.
 pub fn one_name_too_many()
-    ensures { (text : List ℕ) → MatchOption (text_tokens_of text).past
+    ensures { (scale : ℕ) (text : List ℕ) → MatchOption (text_tokens_of scale text).past
         (UsesFew (raw_tokens_of text)) (IsOneTooMany (raw_tokens_of text)) }
 {}

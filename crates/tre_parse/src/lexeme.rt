@@ -1,12 +1,11 @@
-ghost use Rattle.std.specs.Prelude.{◌≡◌, ◌<◌, ◌≤◌, ◌+◌, ℕ, length, min, All, IsTrue};
+ghost use Rattle.std.specs.Prelude.{◌≡◌, ◌<◌, ◌≤◌, ◌+◌, ℕ, length, All, IsTrue};
 ghost use Rattle.std.specs.Char.{is_ascii_digit};
-ghost use Rattle.std.specs.List.{prefix_len, AllPass};
+ghost use Rattle.std.specs.List.{prefix_len};
 ghost use Rattle.tre_state.specs.Name.{continues_name, starts_name};
-ghost use Rattle.tre_parse.specs.Lexeme.{is_blank, reserved, word_lexeme, decimal, number_lexeme, first_sign, lexeme_of, FitsIn};
+ghost use Rattle.tre_parse.specs.Lexeme.{is_blank, reserved, word_lexeme, decimals_len, number_lexeme, first_sign, lexeme_of, FitsIn};
 
 use crate::sign;
 use crate::token::Token;
-use tre_pairs::TIME_MAX;
 use tre_state::{continues_name, starts_name};
 
 /// What stands at a place of a text.
@@ -18,6 +17,8 @@ pub(crate) enum Lexeme {
     Wrong,
     /// A name of so many bytes.
     Name(usize),
+    /// A number of so many bytes.
+    Number(usize),
     /// Another token, and its number of bytes.
     Sign(Token, usize),
 }
@@ -44,9 +45,6 @@ pub(crate) const SIGNS: [(&str, Token); 19] = [
     (sign::QUESTION, Token::Question),
     (sign::PERCENT, Token::Percent),
 ];
-
-// A number for all those above the latest time.
-const NUMBER_CAP: u64 = TIME_MAX + 1;
 
 /// What the rest of a text begins with: the longest token there, if one begins.
 pub(crate) fn lexeme_of(rest: &[u8]) -> Lexeme
@@ -110,33 +108,34 @@ fn reserved(word: &[u8]) -> Option<Token>
     }
 }
 
-// A number at the front of the rest.
+// A number at the front of the rest: digits, and a point with digits behind it, where that follows.
 fn number_lexeme(rest: &[u8]) -> Lexeme
     requires { 0 < prefix_len is_ascii_digit rest.now }
     ensures value { result ≡ number_lexeme rest.now }
     ensures fits { FitsIn (length rest.now) result }
 {
     let len = digits_len(rest);
-    Lexeme::Sign(Token::Number(capped_decimal(&rest[..len])), len)
+    Lexeme::Number(len + decimals_len(&rest[len..]))
+}
+
+// How many bytes a point at the front has with the digits behind it, where it has any.
+fn decimals_len(rest: &[u8]) -> usize
+    ensures len { result ≡ decimals_len rest.now }
+    ensures within { result ≤ length rest.now }
+{
+    if rest.is_empty() || rest[0] != b'.' {
+        return 0;
+    }
+    let digits = digits_len(&rest[1..]);
+    if digits == 0 { 0 } else { 1 + digits }
 }
 
 // How many digits stand at the front.
 fn digits_len(rest: &[u8]) -> usize
-    ensures { result ≡ prefix_len is_ascii_digit rest.now }
+    ensures len { result ≡ prefix_len is_ascii_digit rest.now }
+    ensures within { result ≤ length rest.now }
 {
     rest.iter().take_while(|byte| byte.is_ascii_digit()).count()
-}
-
-// The number that the digits spell, or the cap where it is above the latest time.
-fn capped_decimal(digits: &[u8]) -> u64
-    requires { AllPass is_ascii_digit digits.now }
-    ensures { result ≡ min (decimal digits.now) (TIME_MAX + 1) }
-{
-    let mut value: u64 = 0;
-    for digit in digits {
-        value = (10 * value + u64::from(*digit - b'0')).min(NUMBER_CAP);
-    }
-    value
 }
 
 // The first of the signs that the rest begins with.

@@ -3,11 +3,15 @@
 //! The central call is `parse`. The grammar stands in specs/Grammar.antt as a relation between
 //! tokens and what they spell, apart from the way in which the parser reads them: once, from the
 //! left, by one function for each rule. The layers above may rely on `IsOutcome`, which says for
-//! every text what becomes of it: a text has one outcome, and `parse` answers it or `Memory`.
+//! every text and scale what becomes of it: a text has one outcome, and `parse` answers it or
+//! `Memory`. Numbers are decimals that are whole numbers of units, which `units_of` of tre_decimal
+//! tells.
 //!
 //! ```text
-//! parse(alloc, "<:p:> % [2,5]")?     rise(p), then p, then fall(p), which lasts 2 to 5 ticks
-//! parse(alloc, "p % [3,2]")          Err(ParseFault::EmptyInterval { at: 4 })
+//! parse(alloc, "<:p:> % [2,5]", 0)?     rise(p), then p, then fall(p), which lasts 2 to 5 units
+//! parse(alloc, "<:p:> % [0.2,0.5]", 1)? the same, of units of a tenth
+//! parse(alloc, "p % [3,2]", 0)          Err(ParseFault::EmptyInterval { at: 4 })
+//! parse(alloc, "p % [0,0.05]", 1)       Err(ParseFault::Number { at: 7 })
 //! ```
 #![tactic(auto)]
 

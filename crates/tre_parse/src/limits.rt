@@ -14,7 +14,8 @@ pub(crate) const DEPTH_MAX: usize = 200;
 /// The count of nodes goes no higher than this.
 pub(crate) const COUNT_MAX: u64 = 1_000_000_000;
 
-/// The place of the first number above the latest time.
+/// The place of the first number above the latest time, which stands for those that are no number
+/// of units too.
 pub(crate) fn first_big(tokens: &[TokenAt]) -> Option<usize>
     ensures { result ≡ position is_big (tokens_in tokens.now) }
 {

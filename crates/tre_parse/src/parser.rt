@@ -1,4 +1,5 @@
-ghost use Rattle.std.specs.Prelude.{◌≡◌, [], Ok, Some, None, IfOk, MatchResult};
+ghost use Rattle.std.specs.Prelude.{◌≡◌, ◌≤◌, [], Ok, Some, None, IfOk, MatchResult};
+ghost use Rattle.tre_decimal.specs.declared.TheConstants.{SCALE_MAX};
 ghost use Rattle.tre_syntax.specs.Pattern.{pattern_tree, names_of};
 ghost use Rattle.tre_parse.specs.Front.{tokens_in};
 ghost use Rattle.tre_parse.specs.Reader.{PatternTask};
@@ -18,21 +19,23 @@ use crate::scan::{Scan, scan_text};
 use std::alloc::Global;
 use tre_syntax::{NODES_MAX, Pattern};
 
-/// The pattern that the text spells.
+/// The pattern that the text spells at a scale. A number of it is a whole number of units, each of
+/// which is 10^-scale.
 ///
 /// The refusals come in the order of the variants of `ParseFault`, each over the whole text before
 /// the next. Want of memory may come at any point.
-pub fn parse(alloc: Global, text: &str) -> Result<Pattern, ParseFault>
-    ensures spelling { IfOk result (λ pattern. IsSpelling text.now (pattern_tree pattern)
+pub fn parse(alloc: Global, text: &str, scale: u8) -> Result<Pattern, ParseFault>
+    requires { scale ≤ SCALE_MAX }
+    ensures spelling { IfOk result (λ pattern. IsSpelling scale text.now (pattern_tree pattern)
         (names_of pattern)) }
-    ensures outcome { Answers (IsOutcome text.now) result }
-    ensures only { (outcome : Outcome) → IsOutcome text.now outcome →
+    ensures outcome { Answers (IsOutcome scale text.now) result }
+    ensures only { (outcome : Outcome) → IsOutcome scale text.now outcome →
         Answers (λ answer. outcome ≡ answer) result }
 {
     if text.len() > TEXT_MAX {
         return Err(ParseFault::TooLong);
     }
-    let scan = scan_text(alloc, text)?;
+    let scan = scan_text(alloc, text, scale)?;
     let pattern = parse_words(alloc, scan)?;
     Ok(pattern)
 }

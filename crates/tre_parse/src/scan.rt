@@ -1,7 +1,8 @@
 ghost use Rattle.std.specs.Prelude.{◌≡◌, ◌-◌, ◌<◌, ◌≤◌, ℕ, ◌+◌, ◌++◌, [], ◌∷◌, Some, None, length, take, drop, OnOk, IfOk, IfErr};
 ghost use Rattle.tre_state.specs.Name.{IsName};
 ghost use Rattle.tre_state.specs.Names.{place_of};
-ghost use Rattle.tre_parse.specs.Tokens.{name, sign, names_with};
+ghost use Rattle.tre_decimal.specs.declared.TheConstants.{SCALE_MAX};
+ghost use Rattle.tre_parse.specs.Tokens.{name, number, sign, names_with, units_within};
 ghost use Rattle.tre_parse.specs.Outcome.{offset_of};
 ghost use Rattle.tre_parse.specs.Answers.{text_tokens_in};
 ghost use Rattle.tre_parse.specs.Scan.{Puts, IsNumbered, TakesToken, GoesOn, IsBadByte, IsScan};
@@ -11,11 +12,16 @@ use crate::fault::ParseFault;
 use crate::lexeme::{Lexeme, lexeme_of};
 use crate::token::{Token, TokenAt};
 use std::alloc::{AllocError, Global};
+use tre_decimal::read_units;
+use tre_pairs::TIME_MAX;
 use tre_state::{NAMES_MAX, NameFault, Names};
 use tre_syntax::NameKind;
 
 /// The number of a name past the first `NAMES_MAX` of its kind.
 pub(crate) const PAST: u8 = NAMES_MAX as u8;
+
+// The number for those above the latest time, and for those that are no number of units.
+const NUMBER_CAP: u64 = TIME_MAX + 1;
 
 /// The tokens of a text, each with its offset, and the names among them.
 #[derive(Drop)]
@@ -31,6 +37,8 @@ pub(crate) struct Scan {
     pub(crate) past: Option<u64>,
     /// How many bytes the text has.
     pub(crate) size: u64,
+    /// The scale of its numbers.
+    pub(crate) scale: u8,
 }
 
 impl Scan {
@@ -68,6 +76,16 @@ impl Scan {
         Ok(())
     }
 
+    // A number by its bytes.
+    fn put_number(&mut self, bytes: &[u8], at: usize) -> Result<(), AllocError>
+        requires { self.old.scale ≤ SCALE_MAX }
+        ensures { OnOk result (TakesToken self.old self.new at (number bytes.now)) }
+    {
+        self.put(Token::Number(units_within(bytes, self.scale)), at)?;
+        self.before = Before::Other;
+        Ok(())
+    }
+
     // The number of a name among those of its kind.
     fn number(&mut self, word: &str) -> Result<u8, NameFault>
         requires { IsName word.now }
@@ -101,7 +119,8 @@ impl Scan {
 
     // What stands at an offset; answers the offset after it.
     fn step(&mut self, text: &str, at: usize) -> Result<usize, ParseFault>
-        requires { at < length text.now }
+        requires place { at < length text.now }
+        requires scale { self.old.scale ≤ SCALE_MAX }
         ensures ok { IfOk result (GoesOn text.now self.old at self.new) }
         ensures err { IfErr result (IsBadByte text.now at) }
     {
@@ -112,12 +131,26 @@ impl Scan {
                 self.put_name(name_at(text, at, len), at)?;
                 Ok(at + len)
             }
+            Lexeme::Number(len) => {
+                self.put_number(&text.as_bytes()[at..at + len], at)?;
+                Ok(at + len)
+            }
             Lexeme::Sign(token, len) => {
                 self.put_sign(token, at)?;
                 Ok(at + len)
             }
         }
     }
+}
+
+// The number of units of a decimal, and the cap where it is none or one above the latest time.
+fn units_within(bytes: &[u8], scale: u8) -> u64
+    requires { scale ≤ SCALE_MAX }
+    ensures { result ≡ units_within scale bytes.now }
+{
+    read_units(bytes, scale)
+        .unwrap_or(NUMBER_CAP)
+        .min(NUMBER_CAP)
 }
 
 // The name of so many bytes at an offset.
@@ -129,9 +162,10 @@ fn name_at(text: &str, at: usize, len: usize) -> &str
     &text[at..at + len]
 }
 
-/// The tokens of a text. Refuses the first byte at which no token begins.
-pub(crate) fn scan_text(alloc: Global, text: &str) -> Result<Scan, ParseFault>
-    ensures ok { IfOk result (IsScan text.now) }
+/// The tokens of a text at a scale. Refuses the first byte at which no token begins.
+pub(crate) fn scan_text(alloc: Global, text: &str, scale: u8) -> Result<Scan, ParseFault>
+    requires { scale ≤ SCALE_MAX }
+    ensures ok { IfOk result (IsScan scale text.now) }
     ensures err { IfErr result (IsBadByte text.now 0) }
 {
     let mut scan = Scan {
@@ -141,6 +175,7 @@ pub(crate) fn scan_text(alloc: Global, text: &str) -> Result<Scan, ParseFault>
         before: Before::Other,
         past: None,
         size: text.len() as u64,
+        scale,
     };
     let mut at = 0;
     while at < text.len() {

@@ -6,7 +6,8 @@ pub enum Token {
     /// A name behind `event (`, by the number of its event. 64 stands for every one past the first
     /// 64.
     EventName(u8),
-    /// A number. All those above the latest time are the one number after it.
+    /// A number of units. One above the latest time, or a decimal that is no number of units, is
+    /// the one number after that.
     Number(u64),
     /// `(`
     LeftParen,

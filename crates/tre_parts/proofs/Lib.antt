@@ -1,3 +1,4 @@
+pub mod Alike
 mod Cuts
 pub mod Walks
 mod Feeding

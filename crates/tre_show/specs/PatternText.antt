@@ -1,4 +1,5 @@
--- The text of an expression, over the names of its propositions and events.
+-- The text of an expression, over the names of its propositions and events. The ends of its
+-- intervals are units of a scale.
 use Rattle.std.specs.Prelude.{ℕ, nat_lt, List, ◌++◌, codes}
 use Rattle.tre_trace.specs.Reading.{Vocabulary}
 use Rattle.tre_syntax.specs.PatternTree.{Atom, empty, literal, rise, fall, event}
@@ -18,21 +19,22 @@ atom_text names (event number) = codes "event(" ++ name_text names.events number
 
 -- The text of an expression as an operand: in parentheses where its operator binds less than
 -- `least`. From the loosest, operators are `|`, `&`, `;`, and then the signs behind an operand.
-abbrev pub operand_text : ℕ → Vocabulary → PatternTree → List ℕ
-operand_text least names (atom x) = atom_text names x
-operand_text least names (sequence e f) =
+abbrev pub operand_text : ℕ → ℕ → Vocabulary → PatternTree → List ℕ
+operand_text scale least names (atom x) = atom_text names x
+operand_text scale least names (sequence e f) =
     in_parens (nat_lt SEQUENCE least)
-    (operand_text SEQUENCE names e ++ codes ";" ++ operand_text POSTFIX names f)
-operand_text least names (intersection e f) =
+    (operand_text scale SEQUENCE names e ++ codes ";" ++ operand_text scale POSTFIX names f)
+operand_text scale least names (intersection e f) =
     in_parens (nat_lt INTERSECTION least)
-    (operand_text INTERSECTION names e ++ codes " & " ++ operand_text SEQUENCE names f)
-operand_text least names (alternation e f) =
+    (operand_text scale INTERSECTION names e ++ codes " & " ++ operand_text scale SEQUENCE names f)
+operand_text scale least names (alternation e f) =
     in_parens (nat_lt ALTERNATION least)
-    (operand_text ALTERNATION names e ++ codes " | " ++ operand_text INTERSECTION names f)
-operand_text least names (repetition e) = operand_text POSTFIX names e ++ codes "*"
-operand_text least names (restriction e ends) =
-    operand_text POSTFIX names e ++ codes " % " ++ interval_text ends
+    (operand_text scale ALTERNATION names e ++ codes " | "
+    ++ operand_text scale INTERSECTION names f)
+operand_text scale least names (repetition e) = operand_text scale POSTFIX names e ++ codes "*"
+operand_text scale least names (restriction e ends) =
+    operand_text scale POSTFIX names e ++ codes " % " ++ interval_text scale ends
 
 -- The text of an expression.
-abbrev pub expression_text : Vocabulary → PatternTree → List ℕ
-expression_text names tree = operand_text ALTERNATION names tree
+abbrev pub expression_text : ℕ → Vocabulary → PatternTree → List ℕ
+expression_text scale names tree = operand_text scale ALTERNATION names tree

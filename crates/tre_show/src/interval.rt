@@ -1,48 +1,60 @@
 // The text of an interval.
-ghost use Rattle.std.specs.Prelude.{◌≡◌, ◌++◌, codes, string_bytes, OnOk};
+ghost use Rattle.std.specs.Prelude.{◌≡◌, ◌≤◌, ◌++◌, codes, string_bytes, OnOk};
 ghost use Rattle.std.specs.Prelude.{if◌then◌else◌};
+ghost use Rattle.tre_decimal.specs.declared.TheConstants.{SCALE_MAX};
 ghost use Rattle.tre_zone.specs.Interval.{IsInterval};
-ghost use Rattle.tre_show.specs.Interval.{number_text, lower_text, upper_text};
-ghost use Rattle.tre_show.specs.Interval.{end_text, interval_text};
+ghost use Rattle.tre_show.specs.Interval.{lower_text, upper_text, end_text, interval_text};
 
-use crate::decimal::number;
 use std::alloc::AllocError;
+use tre_decimal::push_units;
 use tre_parse::sign;
 use tre_zone::Interval;
 
-pub(crate) fn push_lower(text: &mut String, low: u64, weak: bool) -> Result<(), AllocError>
-    ensures { OnOk result (string_bytes text.new ≡ string_bytes text.old ++ lower_text low weak) }
+fn push_lower(text: &mut String, low: u64, weak: bool, scale: u8) -> Result<(), AllocError>
+    requires { scale ≤ SCALE_MAX }
+    ensures { OnOk result (string_bytes text.new
+        ≡ string_bytes text.old ++ lower_text scale low weak) }
 {
     text.push_str(opening(weak))?;
-    number(low, text)?;
+    push_units(text, low, scale)?;
     text.push_str(sign::COMMA)?;
     Ok(())
 }
 
-pub(crate) fn push_upper(text: &mut String, high: u64, weak: bool) -> Result<(), AllocError>
-    ensures { OnOk result (string_bytes text.new ≡ string_bytes text.old ++ upper_text high weak) }
+fn push_upper(text: &mut String, high: u64, weak: bool, scale: u8) -> Result<(), AllocError>
+    requires { scale ≤ SCALE_MAX }
+    ensures { OnOk result (string_bytes text.new
+        ≡ string_bytes text.old ++ upper_text scale high weak) }
 {
-    number(high, text)?;
+    push_units(text, high, scale)?;
     text.push_str(closing(weak))?;
     Ok(())
 }
 
-pub(crate) fn push_interval(text: &mut String, interval: &Interval) -> Result<(), AllocError>
+/// The text of an interval.
+pub(crate) fn push_interval(
+    text: &mut String,
+    interval: &Interval,
+    scale: u8,
+) -> Result<(), AllocError>
+    requires { scale ≤ SCALE_MAX }
     ensures text { OnOk result (string_bytes text.new
-        ≡ string_bytes text.old ++ interval_text interval.now) }
+        ≡ string_bytes text.old ++ interval_text scale interval.now) }
     ensures interval { OnOk result (IsInterval interval.now) }
 {
-    push_lower(text, interval.low(), interval.low_weak())?;
-    push_end(text, interval.high(), interval.high_weak())?;
+    push_lower(text, interval.low(), interval.low_weak(), scale)?;
+    push_end(text, interval.high(), interval.high_weak(), scale)?;
     Ok(())
 }
 
-fn push_end(text: &mut String, high: Option<u64>, weak: bool) -> Result<(), AllocError>
-    ensures { OnOk result (string_bytes text.new ≡ string_bytes text.old ++ end_text high weak) }
+fn push_end(text: &mut String, high: Option<u64>, weak: bool, scale: u8) -> Result<(), AllocError>
+    requires { scale ≤ SCALE_MAX }
+    ensures { OnOk result (string_bytes text.new
+        ≡ string_bytes text.old ++ end_text scale high weak) }
 {
     match high {
         None => push_infinite(text),
-        Some(high) => push_upper(text, high, weak),
+        Some(high) => push_upper(text, high, weak, scale),
     }
 }
 

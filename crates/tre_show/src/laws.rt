@@ -7,40 +7,48 @@ ghost use Rattle.tre_zone.specs.ZoneList.{AreCanonical};
 ghost use Rattle.std.specs.Cmp.Lexicographic.{slice_cmp};
 ghost use Rattle.std.specs.Ordering.{int_cmp};
 ghost use Rattle.std.specs.declared.cmp.Ordering.TheVariants.{Less};
-ghost use Rattle.tre_show.specs.Interval.{number_text};
+ghost use Rattle.tre_decimal.specs.Decimal.{number_text};
 ghost use Rattle.tre_show.specs.Line.{line_of, lines_of, offline_text, TellsZone};
 ghost use Rattle.tre_show.specs.Order.{sort_key, LineComesBefore};
 
-/// The line of a zone tells exactly the pairs that the zone holds.
+use tre_decimal::one_number;
+
+/// At each scale, the line of a zone tells exactly the pairs that the zone holds.
 pub fn line_tells_zone()
-    ensures { (zone : ZoneBounds) → IsCanonical zone → TellsZone (line_of zone) zone }
+    ensures { (scale : ℕ) (zone : ZoneBounds) → IsCanonical zone →
+        TellsZone scale (line_of scale zone) zone }
 {}
 
-/// A printed text is that of one list of zones, and of one end. The end of a trace is at most
-/// `TIME_MAX`.
+/// A printed text is that of one list of zones, and of one end, at each scale. The end of a trace
+/// is at most `TIME_MAX`.
 pub fn one_text()
-    ensures zones { (zones others : List ZoneBounds) (end other : ℕ) →
+    ensures zones { (scale : ℕ) (zones others : List ZoneBounds) (end other : ℕ) →
         AreCanonical zones → AreCanonical others →
-        offline_text zones end ≡ offline_text others other → zones ≡ others }
-    ensures end { (zones others : List ZoneBounds) (end other : ℕ) →
+        offline_text scale zones end ≡ offline_text scale others other → zones ≡ others }
+    ensures end { (scale : ℕ) (zones others : List ZoneBounds) (end other : ℕ) →
         AreCanonical zones → AreCanonical others → end ≤ TIME_MAX → other ≤ TIME_MAX →
-        offline_text zones end ≡ offline_text others other → end ≡ other }
-{}
+        offline_text scale zones end ≡ offline_text scale others other → end ≡ other }
+{
+    one_number();
+}
 
 /// Where a longer text goes on with lines of zones and a letter of the alphabet behind them (97 is
 /// the byte of `a`), they are those of one list of zones; where it goes on with a number that fills
 /// its line, that is one number. What follows is the same too.
 pub fn one_front()
-    ensures lines { (zones others : List ZoneBounds) (letter other : ℕ) (rest other_rest : List ℕ) →
+    ensures lines { (scale : ℕ) (zones others : List ZoneBounds) (letter other : ℕ)
+        (rest other_rest : List ℕ) →
         AreCanonical zones → AreCanonical others → 97 ≤ letter → 97 ≤ other →
-        lines_of zones ++ (letter ∷ rest) ≡ lines_of others ++ (other ∷ other_rest) →
+        lines_of scale zones ++ (letter ∷ rest) ≡ lines_of scale others ++ (other ∷ other_rest) →
         (zones ≡ others) × (letter ≡ other) × (rest ≡ other_rest) }
-    ensures number { (number other : ℕ) (rest other_rest : List ℕ) →
+    ensures number { (scale number other : ℕ) (rest other_rest : List ℕ) →
         number < 2 ^ 64 → other < 2 ^ 64 →
-        number_text number ++ (codes "\n" ++ rest)
-        ≡ number_text other ++ (codes "\n" ++ other_rest) →
+        number_text scale number ++ (codes "\n" ++ rest)
+        ≡ number_text scale other ++ (codes "\n" ++ other_rest) →
         (number ≡ other) × (rest ≡ other_rest) }
-{}
+{
+    one_number();
+}
 
 /// The order of the lines, by the ranges that stand on them: the begin decides, or else the end, or
 /// else the duration; in each the low end, or else the high end; and of two equal numbers a low end

@@ -1,43 +1,67 @@
 // The text of a whole match.
-ghost use Rattle.std.specs.Prelude.{◌≡◌, ◌++◌, string_bytes, IfOk, OnOk};
+ghost use Rattle.std.specs.Prelude.{◌≡◌, ◌≤◌, ◌++◌, string_bytes, IfOk, OnOk};
+ghost use Rattle.tre_decimal.specs.declared.TheConstants.{SCALE_MAX};
 ghost use Rattle.tre_show.specs.Line.{lines_of, offline_text};
 
-use crate::decimal::number;
 use crate::line::{LINE_MAX, LINE_NUMBERS, LINE_SIGNS, push_line};
 use itoa::Buffer;
 use std::alloc::{AllocError, Global};
+use tre_decimal::push_units;
 use tre_zone::Zone;
 
 /// Appends the lines of the zones, in their order. Where there is no memory for one of them, those
 /// before it stay.
-pub fn zone_lines(zones: &[Zone], out: &mut String) -> Result<(), AllocError>
-    ensures { OnOk result (string_bytes out.new ≡ string_bytes out.old ++ lines_of zones.now) }
+pub fn zone_lines(zones: &[Zone], scale: u8, out: &mut String) -> Result<(), AllocError>
+    requires { scale ≤ SCALE_MAX }
+    ensures { OnOk result
+        (string_bytes out.new ≡ string_bytes out.old ++ lines_of scale zones.now) }
 {
     let mut buffer = [0; LINE_MAX];
     for zone in zones {
-        push_line(zone, &mut buffer, out)?;
+        push_line(zone, scale, &mut buffer, out)?;
     }
     Ok(())
 }
 
 // How many bytes so many lines have at the most, and one more, where no number is past the end.
-fn room_for(lines: usize, end: u64) -> usize {
-    let mut buffer = Buffer::new();
-    let digits = buffer.format(end).len();
+fn room_for(lines: usize, end: u64, scale: u8) -> usize
+    requires { scale ≤ SCALE_MAX }
+{
+    let number = number_len(end, scale);
     lines
         .saturating_add(1)
-        .saturating_mul(LINE_NUMBERS * digits + LINE_SIGNS)
+        .saturating_mul(LINE_NUMBERS * number + LINE_SIGNS)
+}
+
+// How many bytes a number of units has: its digits, and more than the decimals one, and the point.
+fn number_len(units: u64, scale: u8) -> usize
+    requires { scale ≤ SCALE_MAX }
+    ensures { result ≤ 41 }
+{
+    let mut buffer = Buffer::new();
+    let digits = buffer.format(units).len();
+    if scale == 0 {
+        digits
+    } else {
+        digits.max(usize::from(scale) + 1) + 1
+    }
 }
 
 /// The lines of the zones, and then the end of the trace.
-pub fn offline_text(alloc: Global, zones: &[Zone], end: u64) -> Result<String, AllocError>
-    ensures { IfOk result (λ text. string_bytes text ≡ offline_text zones.now end) }
+pub fn offline_text(
+    alloc: Global,
+    zones: &[Zone],
+    end: u64,
+    scale: u8,
+) -> Result<String, AllocError>
+    requires { scale ≤ SCALE_MAX }
+    ensures { IfOk result (λ text. string_bytes text ≡ offline_text scale zones.now end) }
 {
     // All of it at once: a text that grows is copied, and takes its memory twice meanwhile.
-    let mut text = String::with_capacity(alloc, room_for(zones.len(), end))?;
-    zone_lines(zones, &mut text)?;
+    let mut text = String::with_capacity(alloc, room_for(zones.len(), end, scale))?;
+    zone_lines(zones, scale, &mut text)?;
     text.push_str("end ")?;
-    number(end, &mut text)?;
+    push_units(&mut text, end, scale)?;
     text.push_str("\n")?;
     Ok(text)
 }

@@ -1,5 +1,6 @@
 // The text of a pattern.
-ghost use Rattle.std.specs.Prelude.{◌≡◌, ◌++◌, codes, string_bytes, IfOk, OnOk};
+ghost use Rattle.std.specs.Prelude.{◌≡◌, ◌≤◌, ◌++◌, codes, string_bytes, IfOk, OnOk};
+ghost use Rattle.tre_decimal.specs.declared.TheConstants.{SCALE_MAX};
 ghost use Rattle.tre_state.specs.State.{tree_of as state_tree_of};
 ghost use Rattle.tre_syntax.specs.Expr.{tree_of};
 ghost use Rattle.tre_syntax.specs.Pattern.{pattern_tree, names_of};
@@ -16,6 +17,7 @@ use crate::state::{
     push_close, push_literal, push_name, push_open, push_spaced, push_state, push_text,
 };
 use std::alloc::{AllocError, Global};
+use tre_decimal::{begins_with_a_digit, last_digits_are_digits, written_is_read};
 use tre_parse::laws::one_outcome;
 use tre_parse::sign;
 use tre_state::{Names, State};
@@ -34,13 +36,14 @@ const POSTFIX: u8 = 3;
 /// The text of the pattern, which spells it.
 ///
 /// It goes as deep as the expression does, which is at most as deep as a pattern has nodes.
-pub fn pattern_text(alloc: Global, pattern: &Pattern) -> Result<String, AllocError>
+pub fn pattern_text(alloc: Global, pattern: &Pattern, scale: u8) -> Result<String, AllocError>
+    requires { scale ≤ SCALE_MAX }
     ensures text { IfOk result (λ text. string_bytes text
-        ≡ expression_text (names_of pattern.now) (pattern_tree pattern.now)) }
+        ≡ expression_text scale (names_of pattern.now) (pattern_tree pattern.now)) }
     ensures spelling { IfOk result (λ text.
-        IsSpelling (string_bytes text) (pattern_tree pattern.now) (names_of pattern.now)) }
+        IsSpelling scale (string_bytes text) (pattern_tree pattern.now) (names_of pattern.now)) }
     ensures outcome { IfOk result (λ text.
-        (outcome : Outcome) → IsOutcome (string_bytes text) outcome →
+        (outcome : Outcome) → IsOutcome scale (string_bytes text) outcome →
         IsReadBack (pattern_tree pattern.now) (names_of pattern.now) outcome) }
 {
     // For the proof: the calls say that the names of each kind are names, and no two of them the
@@ -49,8 +52,12 @@ pub fn pattern_text(alloc: Global, pattern: &Pattern) -> Result<String, AllocErr
     let _events = pattern.events().len();
     // A text has one outcome.
     one_outcome();
+    // A number that is written is taken whole, and read back as it was.
+    written_is_read();
+    last_digits_are_digits();
+    begins_with_a_digit();
     let mut text = String::new(alloc);
-    push_operand(&mut text, pattern, pattern.expr(), ALTERNATION)?;
+    push_operand(&mut text, pattern, pattern.expr(), ALTERNATION, scale)?;
     Ok(text)
 }
 
@@ -61,9 +68,11 @@ fn push_operand(
     pattern: &Pattern,
     expr: &Expr,
     least: u8,
+    scale: u8,
 ) -> Result<(), AllocError>
-    ensures text { OnOk result (string_bytes text.new
-        ≡ string_bytes text.old ++ operand_text least (names_of pattern.now) (tree_of expr.now)) }
+    requires { scale ≤ SCALE_MAX }
+    ensures text { OnOk result (string_bytes text.new ≡ string_bytes text.old
+        ++ operand_text scale least (names_of pattern.now) (tree_of expr.now)) }
     ensures intervals { OnOk result (HasIntervals (tree_of expr.now)) }
 {
     match expr {
@@ -74,32 +83,32 @@ fn push_operand(
         Expr::Event(number) => push_event(text, pattern.events(), *number),
         Expr::Seq(e, f) => {
             push_open(text, SEQUENCE < least)?;
-            push_operand(text, pattern, e, SEQUENCE)?;
+            push_operand(text, pattern, e, SEQUENCE, scale)?;
             push_text(text, sign::SEMICOLON)?;
-            push_operand(text, pattern, f, POSTFIX)?;
+            push_operand(text, pattern, f, POSTFIX, scale)?;
             push_close(text, SEQUENCE < least)
         }
         Expr::Meet(e, f) => {
             push_open(text, INTERSECTION < least)?;
-            push_operand(text, pattern, e, INTERSECTION)?;
+            push_operand(text, pattern, e, INTERSECTION, scale)?;
             push_spaced(text, sign::AMPERSAND)?;
-            push_operand(text, pattern, f, SEQUENCE)?;
+            push_operand(text, pattern, f, SEQUENCE, scale)?;
             push_close(text, INTERSECTION < least)
         }
         Expr::Alt(e, f) => {
             push_open(text, ALTERNATION < least)?;
-            push_operand(text, pattern, e, ALTERNATION)?;
+            push_operand(text, pattern, e, ALTERNATION, scale)?;
             push_spaced(text, sign::BAR)?;
-            push_operand(text, pattern, f, INTERSECTION)?;
+            push_operand(text, pattern, f, INTERSECTION, scale)?;
             push_close(text, ALTERNATION < least)
         }
         Expr::Star(e) => {
-            push_operand(text, pattern, e, POSTFIX)?;
+            push_operand(text, pattern, e, POSTFIX, scale)?;
             push_text(text, sign::STAR)
         }
         Expr::Within(e, interval) => {
-            push_operand(text, pattern, e, POSTFIX)?;
-            push_duration(text, interval)
+            push_operand(text, pattern, e, POSTFIX, scale)?;
+            push_duration(text, interval, scale)
         }
     }
 }
@@ -128,11 +137,12 @@ fn push_event(text: &mut String, events: &Names, number: u8) -> Result<(), Alloc
 }
 
 // The interval that durations are restricted to.
-fn push_duration(text: &mut String, interval: &Interval) -> Result<(), AllocError>
+fn push_duration(text: &mut String, interval: &Interval, scale: u8) -> Result<(), AllocError>
+    requires { scale ≤ SCALE_MAX }
     ensures text { OnOk result (string_bytes text.new
-        ≡ string_bytes text.old ++ (codes " % " ++ interval_text interval.now)) }
+        ≡ string_bytes text.old ++ (codes " % " ++ interval_text scale interval.now)) }
     ensures interval { OnOk result (IsInterval interval.now) }
 {
     push_spaced(text, sign::PERCENT)?;
-    push_interval(text, interval)
+    push_interval(text, interval, scale)
 }

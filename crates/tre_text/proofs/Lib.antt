@@ -1,3 +1,4 @@
+mod Alike
 mod Entries
 mod Fields
 mod Heads

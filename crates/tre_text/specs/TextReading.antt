@@ -1,11 +1,10 @@
 -- What the bytes of a text trace say.
 use Rattle.std.specs.Prelude.{◌≡◌, ℕ, ◌+◌, ◌^◌, nat_le, Bool, false, ◌&&◌, ◌||◌, ◌==◌, List, [], ◌∷◌, Option, None, Some, Result, Ok, Err, if◌then◌else◌}
 use Rattle.std.specs.List.{slice_split, list_all, Contains}
-use Rattle.std.specs.Str.Parse.{digits_value}
 use Rattle.std.specs.Int.Bits.{bit_or}
 use Rattle.tre_pairs.specs.declared.TheConstants.{TIME_MAX}
 use Rattle.tre_parts.specs.Format.{Format, Step, reading_of}
-use Rattle.tre_decimal.specs.Decimal.{is_numeral}
+use Rattle.tre_decimal.specs.Decimal.{units_of}
 use Rattle.tre_state.specs.Name.{starts_name, continues_name}
 use Rattle.tre_state.specs.Names.{place_of}
 use Rattle.tre_text.specs.declared.known.Known.{Known}
@@ -13,6 +12,11 @@ use Rattle.tre_trace.specs.Reading.{Reading, Vocabulary}
 use Rattle.tre_trace.specs.Segments.{segment_with}
 use Rattle.tre_trace.specs.declared.fault.TraceKind.{TraceKind}
 use Rattle.tre_trace.specs.declared.fault.TraceKind.TheVariants.{BadNumber, Zero, TooLate, BadName}
+
+-- What a text is read by: the names whose truth and events are read, and the scale of its durations.
+pub record Terms : Type 0 where
+  pub names : Vocabulary
+  pub scale : ℕ
 
 -- a line end is the byte 10
 abbrev pub is_line_end : ℕ → Bool
@@ -99,7 +103,7 @@ one_segment known len val = record {
   state = known_at (known.end + len) 0;
 }
 
--- What a line says on which this many ticks and these fields stand.
+-- What a line says on which this many units and these fields stand.
 abbrev pub entry_says : Vocabulary → Known → ℕ → List (List ℕ) → Result (Step Known) TraceKind
 entry_says vocabulary known len fields =
     if len == 0 then Err Zero
@@ -118,35 +122,39 @@ events_say vocabulary known fields =
     (valuation_after vocabulary.events known.pending fields)))
     else Err BadName
 
+-- The same, where the units are those of its first field, if it is a number of units.
+abbrev pub duration_says : Vocabulary → Known → Option ℕ → List (List ℕ)
+    → Result (Step Known) TraceKind
+duration_says vocabulary known None fields = Err BadNumber
+duration_says vocabulary known (Some len) fields = entry_says vocabulary known len fields
+
 -- What fields say: none and a comment say nothing; behind `@` stand the names of events; else the
 -- first is a duration, and the others are the names of what is true.
-abbrev pub fields_say : Vocabulary → Known → List (List ℕ) → Result (Step Known) TraceKind
-fields_say vocabulary known [] = Ok (no_segment known)
-fields_say vocabulary known (first ∷ fields) =
+abbrev pub fields_say : Terms → Known → List (List ℕ) → Result (Step Known) TraceKind
+fields_say terms known [] = Ok (no_segment known)
+fields_say terms known (first ∷ fields) =
     if begins_comment first then Ok (no_segment known)
-    else (if begins_events first then events_say vocabulary known fields
-    else (if is_numeral first then entry_says vocabulary known (digits_value 10 first) fields
-    else Err BadNumber))
+    else (if begins_events first then events_say terms.names known fields
+    else duration_says terms.names known (units_of terms.scale first) fields)
 
 -- what a line says behind what is known
-unfoldable pub line_says : Vocabulary → Known → List ℕ → Result (Step Known) TraceKind
-line_says vocabulary known line = fields_say vocabulary known (fields_of line)
+unfoldable pub line_says : Terms → Known → List ℕ → Result (Step Known) TraceKind
+line_says terms known line = fields_say terms known (fields_of line)
 
 -- The text format: lines, of which each later one needs to know when the trace so far ends and which
 -- events were said since. A fault is told with the number of its line, and the input may end
 -- anywhere.
-abbrev pub text_format : Vocabulary → Format Known
-text_format vocabulary = record {
+abbrev pub text_format : Terms → Format Known
+text_format terms = record {
   separates = is_line_end;
   start = known_at 0 0;
   place = λ spot. spot.number;
-  says = line_says vocabulary;
+  says = line_says terms;
   at_end = λ known. None;
   last = λ known. known.pending;
   time = λ known. known.end;
 }
 
--- What the bytes say of a trace, for the propositions and events of these names: lines are numbered
--- from 1.
-abbrev pub text_reading : Vocabulary → Bool → List ℕ → Reading
-text_reading vocabulary closed bytes = reading_of (text_format vocabulary) closed bytes
+-- What the bytes say of a trace by these terms: lines are numbered from 1.
+abbrev pub text_reading : Terms → Bool → List ℕ → Reading
+text_reading terms closed bytes = reading_of (text_format terms) closed bytes

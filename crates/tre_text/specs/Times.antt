@@ -1,16 +1,15 @@
 -- A line says its segment in the order of time.
-use Rattle.std.proofs.Common.{◌≡◌, ℕ, ◌+◌, ◌≤◌, nat_le, ◌==◌, Bool, true, false, List, [], ◌∷◌, Result, Ok, Err, refl, arith, subst, if◌then◌else◌}
+use Rattle.std.proofs.Common.{◌≡◌, ℕ, ◌+◌, ◌≤◌, nat_le, ◌==◌, Bool, true, false, List, [], ◌∷◌, Option, None, Some, Result, Ok, Err, refl, arith, subst, if◌then◌else◌}
 use Rattle.std.proofs.lemmas.Bool.Decides.{nat_tests}
 use Rattle.std.specs.List.{list_all}
-use Rattle.std.specs.Str.Parse.{digits_value}
 use Rattle.tre_pairs.specs.declared.TheConstants.{TIME_MAX}
 use Rattle.tre_parts.specs.Format.{Step, Leads, KeepsTime}
-use Rattle.tre_decimal.specs.Decimal.{is_numeral}
-use Rattle.tre_text.specs.TextReading.{begins_comment, begins_events, spells_word, valuation_of, valuation_after, known_at, no_segment, one_segment, entry_says, events_say, fields_say, fields_of, line_says, text_format}
+use Rattle.tre_decimal.specs.Decimal.{units_of}
+use Rattle.tre_text.specs.TextReading.{Terms, begins_comment, begins_events, spells_word, valuation_of, valuation_after, known_at, no_segment, one_segment, duration_says, events_say, fields_say, fields_of, line_says, text_format}
 use Rattle.tre_text.specs.declared.known.Known.{Known}
 use Rattle.tre_trace.specs.Reading.{Vocabulary}
 use Rattle.tre_trace.specs.declared.fault.TraceKind.{TraceKind}
-use Rattle.tre_trace.specs.declared.fault.TraceKind.TheVariants.{BadNumber, Zero, TooLate, BadName}
+use Rattle.tre_trace.specs.declared.fault.TraceKind.TheVariants.{Zero, TooLate, BadName}
 
 leads-nothing : (known now : Known) (step : Step Known) → known.end ≡ now.end
     → ◌≡◌ {A = Result (Step Known) TraceKind} (Ok (no_segment now)) (Ok step)
@@ -62,37 +61,43 @@ leads-events known pending step true is =
     leads-nothing known (known_at known.end pending) step refl is
 leads-events known pending step false is = cc
 
-leads-first : (vocabulary : Vocabulary) (known : Known) (first : List ℕ) (fields : List (List ℕ))
-    (step : Step Known) → (comment events numeral : Bool)
-    → (if comment then Ok (no_segment known) else (if events then events_say vocabulary known fields
-    else (if numeral then entry_says vocabulary known (digits_value 10 first) fields
-    else Err BadNumber))) ≡ Ok step
+leads-duration : (vocabulary : Vocabulary) (known : Known) (fields : List (List ℕ))
+    (step : Step Known) → (units : Option ℕ)
+    → duration_says vocabulary known units fields ≡ Ok step
     → Leads known.end step.segments step.state.end
-leads-first vocabulary known first fields step true events numeral is =
+leads-duration vocabulary known fields step None is = cc
+leads-duration vocabulary known fields step (Some len) is =
+    leads-entry known len (valuation_of vocabulary.names fields) step
+    (list_all spells_word fields) (len == 0) refl is
+
+leads-first : (vocabulary : Vocabulary) (known : Known) (fields : List (List ℕ))
+    (step : Step Known) → (comment events : Bool) (units : Option ℕ)
+    → (if comment then Ok (no_segment known) else (if events then events_say vocabulary known fields
+    else duration_says vocabulary known units fields)) ≡ Ok step
+    → Leads known.end step.segments step.state.end
+leads-first vocabulary known fields step true events units is =
     leads-nothing known known step refl is
-leads-first vocabulary known first fields step false true numeral is =
+leads-first vocabulary known fields step false true units is =
     leads-events known (valuation_after vocabulary.events known.pending fields) step
     (list_all spells_word fields) is
-leads-first vocabulary known first fields step false false true is =
-    leads-entry known (digits_value 10 first) (valuation_of vocabulary.names fields) step
-    (list_all spells_word fields) (digits_value 10 first == 0) refl is
-leads-first vocabulary known first fields step false false false is = cc
+leads-first vocabulary known fields step false false units is =
+    leads-duration vocabulary known fields step units is
 
-leads-fields : (vocabulary : Vocabulary) (known : Known) (fields : List (List ℕ))
-    (step : Step Known) → fields_say vocabulary known fields ≡ Ok step
+leads-fields : (terms : Terms) (known : Known) (fields : List (List ℕ))
+    (step : Step Known) → fields_say terms known fields ≡ Ok step
     → Leads known.end step.segments step.state.end
-leads-fields vocabulary known [] step is = leads-nothing known known step refl is
-leads-fields vocabulary known (first ∷ fields) step is =
-    leads-first vocabulary known first fields step (begins_comment first) (begins_events first)
-    (is_numeral first) is
+leads-fields terms known [] step is = leads-nothing known known step refl is
+leads-fields terms known (first ∷ fields) step is =
+    leads-first terms.names known fields step (begins_comment first) (begins_events first)
+    (units_of terms.scale first) is
 
-leads-line : (vocabulary : Vocabulary) (known : Known) (line : List ℕ) (step : Step Known)
-    → line_says vocabulary known line ≡ Ok step → Leads known.end step.segments step.state.end
+leads-line : (terms : Terms) (known : Known) (line : List ℕ) (step : Step Known)
+    → line_says terms known line ≡ Ok step → Leads known.end step.segments step.state.end
 unfolding line_says
-leads-line vocabulary known line step is = leads-fields vocabulary known (fields_of line) step is
+leads-line terms known line step is = leads-fields terms known (fields_of line) step is
 
-pub text-keeps_time : (vocabulary : Vocabulary) → KeepsTime (text_format vocabulary)
-text-keeps_time vocabulary = record {
+pub text-keeps_time : (terms : Terms) → KeepsTime (text_format terms)
+text-keeps_time terms = record {
   begins = refl;
-  leads = λ known line step is. leads-line vocabulary known line step is;
+  leads = λ known line step is. leads-line terms known line step is;
 }

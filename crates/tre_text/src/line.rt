@@ -1,6 +1,7 @@
 // What one line of a text trace says.
 ghost use Rattle.std.specs.Prelude.{◌≡◌, ◌+◌, ◌≤◌, true, false, IfNone, IfSome};
 ghost use Rattle.std.specs.List.{list_all};
+ghost use Rattle.tre_decimal.specs.declared.TheConstants.{SCALE_MAX};
 ghost use Rattle.tre_text.specs.TextReading.{begins_comment, begins_events, fields_among, spells_word, with_name, valuation_after, line_says};
 ghost use Rattle.tre_text.specs.Lines.{Finds, Heads, list_of, said_of};
 
@@ -8,7 +9,7 @@ use crate::field::{next_field, skip_blanks, without_return};
 use crate::found::{Found, Head};
 use crate::known::Known;
 use crate::word::{ends_word, word_end};
-use tre_decimal::read_numeral;
+use tre_decimal::{begins_with_a_digit, read_units};
 use tre_pairs::TIME_MAX;
 use tre_parts::find_name;
 use tre_state::Names;
@@ -54,11 +55,14 @@ fn is_events(first: &[u8]) -> bool
 }
 
 // What the first field of a line says, where it is no comment.
-fn head_of(known: Known, first: &[u8]) -> Result<Head, TraceKind>
+fn head_of(known: Known, first: &[u8], scale: u8) -> Result<Head, TraceKind>
     requires no_comment { begins_comment first.now ≡ false }
-    ensures { Heads known first.now result }
+    requires scale { scale ≤ SCALE_MAX }
+    ensures { Heads scale known first.now result }
 {
-    let Some(len) = read_numeral(first) else {
+    // For the proof: what is a number of units is no sign of events.
+    begins_with_a_digit();
+    let Some(len) = read_units(first, scale) else {
         return if is_events(first) {
             Ok(Head::Events)
         } else {
@@ -94,10 +98,14 @@ fn said_of(head: Head, known: Known) -> u64
     }
 }
 
-/// What a line says behind what is known, for the propositions and the events of these names.
-pub fn read_line(names: &Names, events: &Names, known: Known, line: &[u8]) -> Found
-    ensures { Finds (line_says (record { names = names.now; events = events.now }) known line.now)
-        known result }
+/// What a line says behind what is known, for the propositions and the events of these names, where
+/// its duration has this scale.
+pub fn read_line(names: &Names, events: &Names, scale: u8, known: Known, line: &[u8]) -> Found
+    requires { scale ≤ SCALE_MAX }
+    ensures { Finds (line_says (record {
+      names = record { names = names.now; events = events.now };
+      scale = scale;
+    }) known line.now) known result }
 {
     let Some((first, fields)) = next_field(without_return(line)) else {
         return Found::Nothing;
@@ -105,7 +113,7 @@ pub fn read_line(names: &Names, events: &Names, known: Known, line: &[u8]) -> Fo
     if first[0] == b'#' {
         return Found::Nothing;
     }
-    let head = match head_of(known, first) {
+    let head = match head_of(known, first, scale) {
         Ok(head) => head,
         Err(kind) => return Found::Wrong(kind),
     };

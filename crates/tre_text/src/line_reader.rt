@@ -1,9 +1,9 @@
 // The lines of a text trace, one after the other.
-ghost use Rattle.std.specs.Prelude.{◌≡◌};
-ghost use Rattle.tre_text.specs.TextReading.{known_at, text_format};
+ghost use Rattle.std.specs.Prelude.{◌≡◌, ◌≤◌};
+ghost use Rattle.tre_decimal.specs.declared.TheConstants.{SCALE_MAX};
+ghost use Rattle.tre_text.specs.TextReading.{Terms, known_at, text_format};
 ghost use Rattle.tre_text.specs.Times.{text-keeps_time};
 ghost use Rattle.tre_text.specs.declared.known.Known.{Known};
-ghost use Rattle.tre_trace.specs.Reading.{Vocabulary};
 
 use crate::found::Found;
 use crate::known::Known;
@@ -13,28 +13,32 @@ use tre_parts::{PartReader, Said, Spot};
 use tre_state::Names;
 use tre_trace::{Segment, TraceKind};
 
-/// Reads the lines of a text trace for the propositions and the events of its names.
+/// Reads the lines of a text trace for the propositions and the events of its names, where
+/// durations have its scale.
 #[derive(Drop)]
 pub struct LineReader {
     names: Names,
     events: Names,
+    scale: u8,
     known: Known,
+    ghost small: { scale ≤ SCALE_MAX },
 }
 
 impl LineReader {
     /// Nothing is read.
-    pub fn new(names: Names, events: Names) -> LineReader
+    pub fn new(names: Names, events: Names, scale: u8) -> LineReader
+        requires { scale ≤ SCALE_MAX }
         ensures begins { ⟦<LineReader as PartReader>⟧.holds result (known_at 0 0) }
         ensures terms { ⟦<LineReader as PartReader>⟧.terms result ≡ record {
-          names = names;
-          events =
-              events;
+          names = record { names = names; events = events };
+          scale = scale;
         } }
     {
         let known = Known { end: 0, pending: 0 };
         LineReader {
             names,
             events,
+            scale,
             known,
         }
     }
@@ -43,9 +47,12 @@ impl LineReader {
 impl PartReader for LineReader {
     ghost State = { Known };
 
-    ghost Terms = { Vocabulary };
+    ghost Terms = { Terms };
 
-    ghost terms = { λ reader. record { names = reader.names; events = reader.events } };
+    ghost terms = { λ reader. record {
+      names = record { names = reader.names; events = reader.events };
+      scale = reader.scale;
+    } };
 
     ghost format = { text_format };
 
@@ -58,7 +65,7 @@ impl PartReader for LineReader {
     }
 
     fn read(&mut self, part: &[u8]) -> Said {
-        match read_line(&self.names, &self.events, self.known, part) {
+        match read_line(&self.names, &self.events, self.scale, self.known, part) {
             Found::Nothing => Said::Nothing,
             Found::Events(pending) => {
                 self.known.pending = pending;

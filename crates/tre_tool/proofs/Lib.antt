@@ -1,7 +1,7 @@
 pub mod Alone
-pub mod CommandLine
 pub mod Cuts
 pub mod Feeding
+pub mod Found
 pub mod Inputs
 pub mod Lists
 pub mod MadeRuns
@@ -16,3 +16,4 @@ pub mod Tellings
 pub mod Told
 pub mod Transcripts
 pub mod Turns
+pub mod Wanted

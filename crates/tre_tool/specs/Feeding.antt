@@ -9,14 +9,25 @@ use Rattle.tre_trace.specs.declared.fault.TraceFault.{TraceFault}
 use Rattle.tre_tool.specs.Devices.{InputTold, AllReadsGood, AreAllBytes}
 use Rattle.tre_tool.specs.Input.{MayGoOn}
 use Rattle.tre_tool.specs.Outcome.{Outcome, IsReadingOf, IsInputKind, ComesTo, reading_within, refuses, exceeds}
+use Rattle.tre_tool.specs.declared.kept.Kept.{Kept}
 use Rattle.tre_tool.specs.declared.status.Status.{Status}
 use Rattle.tre_tool.specs.declared.status.Status.TheVariants.{Trace, InputTooLong, ReadFault, Memory}
 
--- The whole input was read, it is within the limit, and it is this trace.
+-- These bytes were kept, where they were asked for.
+pub record IsKept (kept : Kept) (bytes : List ℕ) : Type 0 where
+  pub all : IsTrue kept.asked → kept.bytes.items ≡ bytes
+
+-- The reader was fed these bytes, and they were kept.
+pub record IsFedTo (represents : List ℕ → Type 0) (kept : Kept) (bytes : List ℕ) : Type 0 where
+  pub fed : represents bytes
+  pub is_kept : IsKept kept bytes
+
+-- The whole input was read, it is within the limit, it is this trace, and its bytes were kept.
 pub record IsWhole (reading : Bool → List ℕ → Reading) (limit : ℕ) (input : InputTold)
-    (trace : Timeline) : Type 0 where
+    (kept : Kept) (trace : Timeline) : Type 0 where
   pub reads : AllReadsGood input
   pub bytes : List ℕ
+  pub is_kept : IsKept kept bytes
   pub all : AreAllBytes input bytes
   pub within : length bytes ≤ limit
   pub reads_as : IsReadingOf trace (reading true bytes)

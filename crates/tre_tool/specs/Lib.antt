@@ -1,7 +1,6 @@
--- What a reader must believe: what words ask for, what an input comes to and what is taken of it,
+-- What a reader must believe: what a job asks for, what an input comes to and what is taken of it,
 -- what is wanted, what is told as the input comes and stands in the output, how a run ends, and how
 -- that is told.
-pub mod Job
 pub mod Request
 pub mod Outcome
 pub mod Devices

@@ -1,6 +1,8 @@
 -- What the bytes of an input say in a format, and what they come to.
 use Rattle.std.specs.Prelude.{◌≡◌, ◌≢◌, ℕ, nat_le, Bool, true, false, List, length, take, Option, None, Some, IfSome}
 use Rattle.std.specs.Io.KnownBytes.{Consumes}
+use Rattle.tre_num.specs.Defined.{Defined}
+use Rattle.tre_num.specs.Rows.{rows_reading}
 use Rattle.tre_text.specs.TextReading.{text_reading}
 use Rattle.tre_trace.specs.Reading.{Reading, Vocabulary}
 use Rattle.tre_trace.specs.Trace.{Timeline, timeline_of}
@@ -8,15 +10,20 @@ use Rattle.tre_trace.specs.declared.fault.TraceFault.{TraceFault}
 use Rattle.tre_trace.specs.declared.fault.TraceKind.{TraceKind}
 use Rattle.tre_trace.specs.declared.fault.TraceKind.TheVariants.{Spent, Memory}
 use Rattle.tre_vcd.specs.VcdReading.{vcd_reading}
-use Rattle.tre_tool.specs.declared.job.Format.{Format}
-use Rattle.tre_tool.specs.declared.job.Format.TheVariants.{Text, Vcd}
+use Rattle.tre_words.specs.declared.job.Format.{Format}
+use Rattle.tre_words.specs.declared.job.Format.TheVariants.{Text, Vcd, Csv}
+use Rattle.tre_words.specs.declared.job.Job.{Job}
 
--- What bytes in a format say of a trace, for the propositions and events of these names. A dump
--- must declare all of `declared`.
-abbrev pub reading_in : Format → Vocabulary → Vocabulary → Bool → List ℕ → Reading
-reading_in Text declared names closed bytes = text_reading names closed bytes
-reading_in Vcd declared names closed bytes =
-    vcd_reading (record { names = names; declared = declared }) closed bytes
+-- What bytes in this format and at the scale of the job say of a trace, for the propositions and
+-- events of these names. A dump must declare all of `declared`, and for rows `lets` are defined.
+abbrev pub reading_in : Format → Job → List Defined → List Vocabulary → Vocabulary → Bool →
+    List ℕ → Reading
+reading_in Text job lets declared names closed bytes =
+    text_reading (record { names = names; scale = job.scale }) closed bytes
+reading_in Vcd job lets declared names closed bytes = vcd_reading
+    (record { names = names; declared = declared; scale = job.scale }) closed bytes
+reading_in Csv job lets declared names closed bytes = rows_reading
+    (record { definitions = lets; names = names; scale = job.scale }) closed bytes
 
 -- the reading that is this trace, and has no fault
 abbrev pub whole_reading : Timeline → Reading

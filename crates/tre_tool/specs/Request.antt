@@ -1,16 +1,19 @@
--- What words ask for: a job, and the patterns that it looks for.
-use Rattle.std.specs.Prelude.{◌≡◌, ◌≢◌, ◌⊎◌, ℕ, List, [], ◌∷◌, flat_map}
+-- What words ask for: a job, the patterns that it looks for, and the definitions of their names.
+use Rattle.std.specs.Prelude.{◌≡◌, ◌≢◌, ◌⊎◌, ℕ, List, [], ◌∷◌, map, Option, None, Some}
 use Rattle.tre_generate.specs.FixedPattern.{fixed_tree, fixed_vocabulary}
+use Rattle.tre_num.specs.Defined.{Defined}
+use Rattle.tre_num.specs.Definitions.{Define, parts_of, IsRefused as IsRefusedAt}
+use Rattle.tre_num.specs.declared.let_fault.LetFault.{LetFault}
 use Rattle.tre_parse.specs.Outcome.{IsOutcome, spelt, refused}
 use Rattle.tre_parse.specs.declared.fault.ParseFault.{ParseFault}
 use Rattle.tre_parse.specs.declared.fault.ParseFault.TheVariants.{Memory as ParseMemory}
 use Rattle.tre_syntax.specs.PatternTree.{PatternTree}
 use Rattle.tre_trace.specs.Reading.{Vocabulary}
-use Rattle.tre_tool.specs.declared.job.Job.{Job}
-use Rattle.tre_tool.specs.declared.job.Mode.{Mode}
-use Rattle.tre_tool.specs.declared.job.Mode.TheVariants.{Generate}
+use Rattle.tre_words.specs.declared.job.Job.{Job}
+use Rattle.tre_words.specs.declared.job.Mode.{Mode}
+use Rattle.tre_words.specs.declared.job.Mode.TheVariants.{Offline, Generate}
 use Rattle.tre_tool.specs.declared.status.Status.{Status}
-use Rattle.tre_tool.specs.declared.status.Status.TheVariants.{Expression}
+use Rattle.tre_tool.specs.declared.status.Status.TheVariants.{Expression, Minus, Definitions}
 
 -- A pattern that is looked for, and the label that stands before each line on it.
 pub record Sought : Type 0 where
@@ -18,44 +21,81 @@ pub record Sought : Type 0 where
   pub tree : PatternTree
   pub names : Vocabulary
 
--- A job, and its patterns.
+-- A job, its patterns, and what the names of columns mean in them.
 pub record Request : Type 0 where
   pub job : Job
   pub patterns : List Sought
+  pub lets : List Defined
 
--- the names of all patterns
-abbrev pub all_names : List Sought → Vocabulary
-all_names patterns = record {
-  names = flat_map (λ pattern. pattern.names.names) patterns;
-  events = flat_map (λ pattern. pattern.names.events) patterns;
-}
+-- the names of each of the patterns
+abbrev pub all_names : List Sought → List Vocabulary
+all_names patterns = map (λ pattern. pattern.names) patterns
+
+-- a pattern without a label
+abbrev pub unlabelled : PatternTree → Vocabulary → Sought
+unlabelled tree names = record { label = []; tree = tree; names = names }
 
 -- one pattern, without a label
 abbrev pub alone : PatternTree → Vocabulary → List Sought
-alone tree names = record { label = []; tree = tree; names = names } ∷ []
+alone tree names = unlabelled tree names ∷ []
 
--- Each of the texts spells its pattern within the limits. None has a label.
-abbrev pub Spell : List (List ℕ) → List Sought → Type 0
-Spell [] [] = Unit {0}
-Spell (text ∷ texts) (pattern ∷ patterns) =
-    (pattern.label ≡ []) × IsOutcome text (spelt pattern.tree pattern.names)
-    × Spell texts patterns
-Spell texts patterns = ⊥
+-- Each of the texts spells its pattern at this scale, within the limits. None has a label.
+abbrev pub Spell : ℕ → List (List ℕ) → List Sought → Type 0
+Spell scale [] [] = Unit {0}
+Spell scale (text ∷ texts) (pattern ∷ patterns) =
+    (pattern.label ≡ []) × IsOutcome scale text (spelt pattern.tree pattern.names)
+    × Spell scale texts patterns
+Spell scale texts patterns = ⊥
+
+-- the texts of patterns: of the one that is looked for, and of the one that is taken away, if there
+-- is one
+abbrev pub texts_with : List ℕ → Option (List ℕ) → List (List ℕ)
+texts_with text None = text ∷ []
+texts_with text (Some taken) = text ∷ taken ∷ []
 
 -- The patterns of a job in this mode: those of its texts. A made run has one of its own, whatever
 -- the text is.
 abbrev pub ArePatterns : Mode → Job → List Sought → Type 0
 ArePatterns (Generate count) job patterns = patterns ≡ alone fixed_tree fixed_vocabulary
-ArePatterns mode job patterns = Spell (job.expr ∷ []) patterns
+ArePatterns mode job patterns = Spell job.scale (texts_with job.expr job.minus) patterns
+
+-- A text of definitions is these, and where there is none there are none.
+abbrev pub AreDefinedBy : Option (List ℕ) → List Defined → Type 0
+AreDefinedBy None lets = lets ≡ []
+AreDefinedBy (Some text) lets = Define (parts_of text) lets
+
+-- The definitions of a job in this mode: only a run that tells all matches at once reads them.
+abbrev pub AreDefinitions : Mode → Job → List Defined → Type 0
+AreDefinitions Offline job lets = AreDefinedBy job.lets lets
+AreDefinitions mode job lets = lets ≡ []
 
 -- The text is refused with this fault, which is no want of memory.
-pub record IsRefusedText (text : List ℕ) (fault : ParseFault) : Type 0 where
-  pub refuses : IsOutcome text (refused fault)
+pub record IsRefusedText (scale : ℕ) (text : List ℕ) (fault : ParseFault) : Type 0 where
+  pub refuses : IsOutcome scale text (refused fault)
   pub never_memory : fault ≢ ParseMemory
 
--- What a job gives is refused so, before its input is looked at: its text.
+-- The text of the pattern that is taken away is, and that of the one that is looked for isn't.
+pub record IsRefusedMinus (job : Job) (fault : ParseFault) : Type 0 where
+  pub patterns : List Sought
+  pub spelt : Spell job.scale (job.expr ∷ []) patterns
+  pub text : List ℕ
+  pub given : job.minus ≡ Some text
+  pub refuses : IsRefusedText job.scale text fault
+
+-- A definition is refused, and no pattern is. Only a run that tells all matches at once reads them.
+pub record AreRefusedDefinitions (job : Job) (fault : LetFault) : Type 0 where
+  pub offline : job.mode ≡ Offline
+  pub patterns : List Sought
+  pub spelt : Spell job.scale (texts_with job.expr job.minus) patterns
+  pub text : List ℕ
+  pub given : job.lets ≡ Some text
+  pub refuses : IsRefusedAt (parts_of text) fault
+
+-- What a job gives is refused so, before its input is looked at: the first of its texts that is.
 abbrev pub IsRefusalOf : Job → Status → Type 0
-IsRefusalOf job (Expression fault) = IsRefusedText job.expr fault
+IsRefusalOf job (Expression fault) = IsRefusedText job.scale job.expr fault
+IsRefusalOf job (Minus fault) = IsRefusedMinus job fault
+IsRefusalOf job (Definitions fault) = AreRefusedDefinitions job fault
 IsRefusalOf job refusal = ⊥
 
 -- A job in this mode is. Of a made run nothing is refused.
@@ -63,10 +103,11 @@ abbrev pub IsRefusalIn : Mode → Job → Status → Type 0
 IsRefusalIn (Generate count) job refusal = ⊥
 IsRefusalIn mode job refusal = IsRefusalOf job refusal
 
--- The words give this job, and these are its patterns. `Gives` is what they give.
+-- The words give this job, and these are its patterns and definitions. `Gives` is what they give.
 pub record AsksFor (Gives : Job → Type 0) (request : Request) : Type 0 where
   pub gives : Gives request.job
   pub patterns : ArePatterns request.job.mode request.job request.patterns
+  pub definitions : AreDefinitions request.job.mode request.job request.lets
 
 -- They ask for something of which this is true.
 pub record Asks (Gives : Job → Type 0) (IsSo : Request → Type 0) : Type 0 where

@@ -9,17 +9,17 @@ use Rattle.tre_generate.specs.Summary.{IsSummary}
 use Rattle.tre_show.specs.PatternText.{expression_text}
 use Rattle.tre_tool.specs.Devices.{InputTold, OutputTold, AllReadsGood, AllWritesGood, NothingWritten, NothingDone, OfAllBytes}
 use Rattle.tre_tool.specs.Input.{MayGoOn}
-use Rattle.tre_tool.specs.Job.{is_made_run, made_count}
 use Rattle.tre_tool.specs.Outcome.{Outcome, completes, refuses, exceeds, IsInputKind}
 use Rattle.tre_tool.specs.Readings.{readings_within, reading_for, outcome_for, InputComesTo}
 use Rattle.tre_tool.specs.Request.{Request, AsksFor, Asks, IsRefused, GiveNone}
 use Rattle.tre_tool.specs.Standing.{AllStand, BlocksSoFarStand, FirstBlocksStand, BlockIsCut, IsOnlineAnswer, EndIsCut}
-use Rattle.tre_tool.specs.Wanted.{IsOfflineAnswer}
-use Rattle.tre_tool.specs.declared.job.Job.{Job}
-use Rattle.tre_tool.specs.declared.job.Mode.{Mode}
-use Rattle.tre_tool.specs.declared.job.Mode.TheVariants.{Offline, Online, Show, Generate}
+use Rattle.tre_tool.specs.Wanted.{IsOfflineAnswer, AreTooMany}
+use Rattle.tre_words.specs.Job.{is_made_run, made_count}
+use Rattle.tre_words.specs.declared.job.Job.{Job}
+use Rattle.tre_words.specs.declared.job.Mode.{Mode}
+use Rattle.tre_words.specs.declared.job.Mode.TheVariants.{Offline, Online, Show, Generate}
 use Rattle.tre_tool.specs.declared.status.Status.{Status}
-use Rattle.tre_tool.specs.declared.status.Status.TheVariants.{Done, Usage, Trace, InputTooLong, ReadFault, WriteFault, Memory}
+use Rattle.tre_tool.specs.declared.status.Status.TheVariants.{Done, Usage, Trace, InputTooLong, TooManyZones, ReadFault, WriteFault, Memory}
 
 -- The modes of a run that reads the input.
 abbrev pub ReadsInput : Mode → Type 0
@@ -45,7 +45,8 @@ IsAnswerIn Offline request input text =
 IsAnswerIn Online request input text =
     OfAllBytes input (λ bytes. IsOnlineAnswer request bytes text)
 IsAnswerIn Show request input text = text ≡ flat_map
-    (λ pattern. expression_text pattern.names pattern.tree ++ codes "\n") request.patterns
+    (λ pattern. expression_text request.job.scale pattern.names pattern.tree ++ codes "\n")
+    request.patterns
 IsAnswerIn (Generate count) request input text =
     All (λ pattern. IsSummary pattern.tree count text) request.patterns
 
@@ -100,6 +101,14 @@ pub record EndsAtInput (outcome : Outcome) (request : Request) (input : InputTol
   pub stands : StandsSoFar (way_of request.job.mode) output
       (AllStand request (readings_within request cause.bytes) output)
 
+-- `TooManyZones`: the input was read to its end, its zones are so many, and more than there may be.
+pub record EndsTooMany (zones : ℕ) (request : Request) (input : InputTold) (output : OutputTold)
+    : Type 0 where
+  pub offline : request.job.mode ≡ Offline
+  pub reads : AllReadsGood input
+  pub cause : OfAllBytes input (λ bytes. AreTooMany request bytes zones)
+  pub nothing : NothingWritten output
+
 -- `ReadFault`: one failure to open or read was counted, and a source that is sound under the name
 -- of the job's input has none. What was read before it has no fault, and is within the limit.
 pub record EndsReadFault (request : Request) (input : InputTold) (output : OutputTold) : Type 0
@@ -147,6 +156,8 @@ EndsAs Gives input output (Trace fault) = IsInputKind fault.kind
     × Asks Gives (λ request. EndsAtInput (refuses fault) request input output)
 EndsAs Gives input output InputTooLong =
     Asks Gives (λ request. EndsAtInput exceeds request input output)
+EndsAs Gives input output (TooManyZones zones) =
+    Asks Gives (λ request. EndsTooMany zones request input output)
 EndsAs Gives input output ReadFault = Asks Gives (λ request. EndsReadFault request input output)
 EndsAs Gives input output WriteFault = Asks Gives (λ request. EndsWriteFault request input output)
 EndsAs Gives input output Memory = EndsMemory Gives input output
@@ -156,9 +167,15 @@ EndsAs Gives input output refusal = EndsRefused Gives refusal input output
 abbrev pub IsUnlessMemory : Status → Status → Type 0
 IsUnlessMemory wanted status = (status ≡ wanted) ⊎ (status ≡ Memory)
 
+-- It is one that a run has which was answered: its answer was written, or has too many zones.
+abbrev pub IsAnswered : Status → Type 0
+IsAnswered Done = Unit {0}
+IsAnswered (TooManyZones zones) = Unit {0}
+IsAnswered status = ⊥
+
 -- the status that must come for what the input comes to; want of memory is free
 abbrev pub IsStatusFor : Outcome → Status → Type 0
-IsStatusFor (completes trace) status = IsUnlessMemory Done status
+IsStatusFor (completes trace) status = IsAnswered status ⊎ (status ≡ Memory)
 IsStatusFor (refuses fault) status = IsUnlessMemory (Trace fault) status
 IsStatusFor exceeds status = IsUnlessMemory InputTooLong status
 

@@ -17,7 +17,7 @@ pub record BlocksStand (request : Request) (readings : List Reading) (count : �
   pub accounts : List Account
   pub are : AreAccounts request.patterns (fronts count readings) accounts
   pub written : Appends output.written_before output.written_now
-      (blocks_text accounts (take count (common readings).segments))
+      (blocks_text request.job.scale accounts (take count (common readings).segments))
 
 -- The blocks of all their segments were.
 abbrev pub AllStand : Request → List Reading → OutputTold → Type 0
@@ -71,8 +71,9 @@ pub record BlockIsCut (request : Request) (input : InputTold) (output : OutputTo
   pub few : count < length (common readings).segments
   pub accounts : List Account
   pub are : AreAccounts request.patterns (fronts (suc count) readings) accounts
-  pub cut : IsCutBehind (blocks_text accounts (take count (common readings).segments))
-      (blocks_text accounts (take (suc count) (common readings).segments))
+  pub cut : IsCutBehind
+      (blocks_text request.job.scale accounts (take count (common readings).segments))
+      (blocks_text request.job.scale accounts (take (suc count) (common readings).segments))
       output.written_before output.written_now
 
 -- The text is right for a run to the end over an input of these bytes: the blocks of all segments,
@@ -83,15 +84,16 @@ pub record IsOnlineAnswer (request : Request) (bytes text : List ℕ) : Type 0 w
   pub accounts : List Account
   pub told : AreAccounts request.patterns traces accounts
   pub closed : AreClosed accounts
-  pub printed : text ≡ blocks_text accounts (reading_for request true bytes).segments
-      ++ ending_text accounts (reading_for request true bytes).segments
+  pub printed : text
+      ≡ blocks_text request.job.scale accounts (reading_for request true bytes).segments
+      ++ ending_text request.job.scale accounts (reading_for request true bytes).segments
 
 -- The text is right over these bytes, and its end is cut: all blocks stand there.
 pub record AnswerIsCut (request : Request) (output : OutputTold) (bytes : List ℕ) : Type 0 where
   pub text : List ℕ
   pub right : IsOnlineAnswer request bytes text
   pub cut : IsCutBehind
-      (blocks_text right.accounts (reading_for request true bytes).segments) text
+      (blocks_text request.job.scale right.accounts (reading_for request true bytes).segments) text
       output.written_before output.written_now
 
 -- The whole input was read, and the end of its right answer is cut.

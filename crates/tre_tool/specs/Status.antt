@@ -4,11 +4,13 @@ use Rattle.tre_trace.specs.declared.fault.TraceKind.{TraceKind}
 use Rattle.tre_trace.specs.declared.fault.TraceKind.TheVariants.{LineTooLong, BadNumber, Zero, TooLate, BadName, BadToken, UnknownName, TimeBack, CutShort, Spent, Memory as KindMemory}
 use Rattle.tre_parse.specs.declared.fault.ParseFault.{ParseFault}
 use Rattle.tre_parse.specs.declared.fault.ParseFault.TheVariants.{TooLong, BadByte, Number, TooDeep, Syntax, EmptyInterval, TooManyNames, TooLarge, Memory as ParseMemory}
+use Rattle.tre_num.specs.declared.let_fault.LetFault.{LetFault}
+use Rattle.tre_num.specs.declared.let_fault.LetFault.TheVariants.{BadLet, Twice, Memory as LetMemory}
 use Rattle.tre_trace.specs.declared.fault.TraceFault.{TraceFault}
-use Rattle.tre_tool.specs.declared.job.WordsFault.{WordsFault}
-use Rattle.tre_tool.specs.declared.job.WordsFault.TheVariants.{Usage as WordsUsage, Memory as WordsMemory}
+use Rattle.tre_words.specs.declared.job.WordsFault.{WordsFault}
+use Rattle.tre_words.specs.declared.job.WordsFault.TheVariants.{Usage as WordsUsage, Memory as WordsMemory}
 use Rattle.tre_tool.specs.declared.status.Status.{Status}
-use Rattle.tre_tool.specs.declared.status.Status.TheVariants.{Done, Usage, Expression, Trace, InputTooLong, ReadFault, WriteFault, Memory}
+use Rattle.tre_tool.specs.declared.status.Status.TheVariants.{Done, Usage, Expression, Minus, Definitions, Trace, InputTooLong, TooManyZones, ReadFault, WriteFault, Memory}
 
 -- how a run ends over words that give no job, or that memory was wanting to read
 abbrev pub words_status : WordsFault → Status
@@ -19,6 +21,16 @@ words_status WordsMemory = Memory
 abbrev pub parse_status : ParseFault → Status
 parse_status ParseMemory = Memory
 parse_status fault = Expression fault
+
+-- how it ends over a text that is refused of a pattern that is taken away
+abbrev pub minus_status : ParseFault → Status
+minus_status ParseMemory = Memory
+minus_status fault = Minus fault
+
+-- how it ends over definitions that are refused
+abbrev pub let_status : LetFault → Status
+let_status LetMemory = Memory
+let_status fault = Definitions fault
 
 -- how a run ends over an input with a fault of this kind
 abbrev pub trace_status : TraceKind → TraceFault → Status
@@ -35,6 +47,9 @@ code_of InputTooLong = 5
 code_of ReadFault = 6
 code_of WriteFault = 7
 code_of Memory = 8
+code_of (TooManyZones zones) = 9
+code_of (Minus fault) = 10
+code_of (Definitions fault) = 11
 
 abbrev pub kind_name : TraceKind → List ℕ
 kind_name LineTooLong = codes "LineTooLong"
@@ -78,16 +93,26 @@ abbrev pub digits_of : Option ℕ → List ℕ
 digits_of None = []
 digits_of (Some n) = decimal n
 
+-- the words on a refused pattern, up to the line's end
+abbrev pub refusal_words : ParseFault → List ℕ
+refusal_words fault = fault_words fault ++ (digits_of (fault_number fault) ++ codes "\n")
+
 -- what standard error is told
 abbrev pub error_line : Status → List ℕ
 error_line Done = []
 error_line Usage = codes "montre: wrong arguments\n"
-error_line (Expression fault) =
-    codes "montre: expression: "
-    ++ (fault_words fault ++ (digits_of (fault_number fault) ++ codes "\n"))
+error_line (Expression fault) = codes "montre: expression: " ++ refusal_words fault
+error_line (Minus fault) = codes "montre: minus expression: " ++ refusal_words fault
+error_line (Definitions (BadLet at)) =
+    codes "montre: definitions: BadLet at " ++ (decimal at ++ codes "\n")
+error_line (Definitions (Twice at)) =
+    codes "montre: definitions: Twice at " ++ (decimal at ++ codes "\n")
+error_line (Definitions LetMemory) = codes "montre: definitions: Memory\n"
 error_line (Trace fault) =
     codes "montre: trace: " ++ kind_name fault.kind ++ codes " at " ++ decimal fault.place
     ++ codes "\n"
+error_line (TooManyZones zones) =
+    codes "montre: too many zones " ++ (decimal zones ++ codes "\n")
 error_line InputTooLong = codes "montre: input too long\n"
 error_line ReadFault = codes "montre: read fault\n"
 error_line WriteFault = codes "montre: write fault\n"

@@ -27,32 +27,33 @@ pub record CanTell (session : Session) (segments : List Segment) : Type 0 where
   pub is_trace : IsTrace (front ++ (segments ++ rest))
 
 -- The session was given these segments, and the block of each was written.
-pub record HasTold (session : Session) (tree : PatternTree) (segments : List Segment)
+pub record HasTold (session : Session) (scale : ℕ) (tree : PatternTree) (segments : List Segment)
     (before now : Option (List ℕ)) : Type 0 where
   pub stands : StandsFor session segments
   pub same_tree : pattern_tree (pattern_of session) ≡ tree
   pub blocks : List (List ZoneBounds)
   pub transcript : IsTranscript blocks tree segments
-  pub written : Appends before now (online_text blocks None segments)
+  pub written : Appends before now (online_text scale blocks None segments)
   pub ended : IsPermutation (ended_of session) (block_before (length blocks) blocks)
 
 -- A segment was told behind others, or it stopped there: memory was wanting and nothing of its
 -- block was written, or a write failed within it.
-abbrev pub StopsAtSegment : PatternTree → List Segment → Segment → Option (List ℕ) →
+abbrev pub StopsAtSegment : ℕ → PatternTree → List Segment → Segment → Option (List ℕ) →
     Option (List ℕ) → Status → Type 0
-StopsAtSegment tree front segment before now WriteFault =
-    LastBlockIsCut tree front segment before now
-StopsAtSegment tree front segment before now Memory = BlocksWritten tree front before now
-StopsAtSegment tree front segment before now _ = ⊥
+StopsAtSegment scale tree front segment before now WriteFault =
+    LastBlockIsCut scale tree front segment before now
+StopsAtSegment scale tree front segment before now Memory =
+    BlocksWritten scale tree front before now
+StopsAtSegment scale tree front segment before now _ = ⊥
 
 -- Of some segments behind others the telling stopped at one.
-pub record StopsWithin (tree : PatternTree) (segments more : List Segment)
+pub record StopsWithin (scale : ℕ) (tree : PatternTree) (segments more : List Segment)
     (before now : Option (List ℕ)) (status : Status) : Type 0 where
   pub front : List Segment
   pub segment : Segment
   pub rest : List Segment
   pub split : more ≡ front ++ segment ∷ rest
-  pub stops : StopsAtSegment tree (segments ++ front) segment before now status
+  pub stops : StopsAtSegment scale tree (segments ++ front) segment before now status
 
 -- A failed write is one that was counted, and nothing else raises the count.
 abbrev pub HasWriteCause : {T : Type 0} → ℕ → ℕ → Result T Status → Type 0
@@ -61,79 +62,80 @@ HasWriteCause before now (Err WriteFault) = now ≡ counted before
 HasWriteCause before now (Err _) = now ≡ before
 
 -- The blocks of a trace were written, and what its end completes, and its end.
-pub record HasClosed (tree : PatternTree) (trace : Timeline) (before now : Option (List ℕ)) : Type 0
-  where
-    pub blocks : List (List ZoneBounds)
-    pub zones : List ZoneBounds
-    pub transcript : IsTranscript blocks tree trace.segments
-    pub closes : IsClosing blocks zones tree trace
-    pub written : Appends before now (online_text blocks (Some zones) trace.segments)
-
--- The blocks of a trace were written, and a first part of what stands behind them.
-pub record ClosingIsCut (tree : PatternTree) (trace : Timeline) (before now : Option (List ℕ))
-    : Type 0 where
+pub record HasClosed (scale : ℕ) (tree : PatternTree) (trace : Timeline)
+    (before now : Option (List ℕ)) : Type 0 where
   pub blocks : List (List ZoneBounds)
   pub zones : List ZoneBounds
   pub transcript : IsTranscript blocks tree trace.segments
   pub closes : IsClosing blocks zones tree trace
-  pub cut : IsCutBehind (online_text blocks None trace.segments)
-      (online_text blocks (Some zones) trace.segments) before now
+  pub written : Appends before now (online_text scale blocks (Some zones) trace.segments)
+
+-- The blocks of a trace were written, and a first part of what stands behind them.
+pub record ClosingIsCut (scale : ℕ) (tree : PatternTree) (trace : Timeline)
+    (before now : Option (List ℕ)) : Type 0 where
+  pub blocks : List (List ZoneBounds)
+  pub zones : List ZoneBounds
+  pub transcript : IsTranscript blocks tree trace.segments
+  pub closes : IsClosing blocks zones tree trace
+  pub cut : IsCutBehind (online_text scale blocks None trace.segments)
+      (online_text scale blocks (Some zones) trace.segments) before now
 
 -- What stands there where the end of a trace wasn't told, or a first part of it was.
-abbrev pub StopsAtEnd : PatternTree → Timeline → Option (List ℕ) → Option (List ℕ) → Status →
+abbrev pub StopsAtEnd : ℕ → PatternTree → Timeline → Option (List ℕ) → Option (List ℕ) → Status →
     Type 0
-StopsAtEnd tree trace before now WriteFault = ClosingIsCut tree trace before now
-StopsAtEnd tree trace before now Memory = BlocksWritten tree trace.segments before now
-StopsAtEnd tree trace before now _ = ⊥
+StopsAtEnd scale tree trace before now WriteFault = ClosingIsCut scale tree trace before now
+StopsAtEnd scale tree trace before now Memory = BlocksWritten scale tree trace.segments before now
+StopsAtEnd scale tree trace before now _ = ⊥
 
 -- The whole input was told, with what its end completes.
-pub record IsTold (reading : Bool → List ℕ → Reading) (limit : ℕ) (tree : PatternTree)
-    (input : InputTold) (output : OutputTold) : Type 0 where
+pub record IsTold (reading : Bool → List ℕ → Reading) (limit scale : ℕ)
+    (tree : PatternTree) (input : InputTold) (output : OutputTold) : Type 0 where
   pub reads : AllReadsGood input
   pub text : List ℕ
-  pub right : OfAllBytes input (λ bytes. IsOnlineAnswer reading limit tree bytes text)
+  pub right : OfAllBytes input (λ bytes. IsOnlineAnswer reading limit scale tree bytes text)
   pub writes : AllWritesGood output
   pub written : Appends output.written_before output.written_now text
 
 -- The bytes of the input come to no trace, and all blocks before that were told.
-pub record IsToldToFault (reading : Bool → List ℕ → Reading) (limit : ℕ) (tree : PatternTree)
-    (input : InputTold) (output : OutputTold) (outcome : Outcome) : Type 0 where
+pub record IsToldToFault (reading : Bool → List ℕ → Reading) (limit scale : ℕ)
+    (tree : PatternTree) (input : InputTold) (output : OutputTold) (outcome : Outcome)
+    : Type 0 where
   pub decided : IsDecided reading limit input outcome
-  pub stands : AllBlocksStand reading limit tree decided.cause.bytes output
+  pub stands : AllBlocksStand reading limit scale tree decided.cause.bytes output
 
 -- A read of the input of this name failed where it might go on, and all that was complete was told.
-pub record IsToldToFailedRead (reading : Bool → List ℕ → Reading) (limit : ℕ)
+pub record IsToldToFailedRead (reading : Bool → List ℕ → Reading) (limit scale : ℕ)
     (tree : PatternTree) (name : List ℕ) (input : InputTold) (output : OutputTold) : Type 0 where
   pub unread : IsUnread reading limit name input
-  pub stands : BlocksSoFarStand reading limit tree input output
+  pub stands : BlocksSoFarStand reading limit scale tree input output
 
 -- A write failed.
-pub record IsToldToFailedWrite (reading : Bool → List ℕ → Reading) (limit : ℕ)
+pub record IsToldToFailedWrite (reading : Bool → List ℕ → Reading) (limit scale : ℕ)
     (tree : PatternTree) (input : InputTold) (output : OutputTold) : Type 0 where
   pub cause : output.faults_now ≡ counted output.faults_before
   pub reads : AllReadsGood input
-  pub stands : BlockIsCut reading limit tree input output
-      ⊎ EndIsCut reading limit tree input output
+  pub stands : BlockIsCut reading limit scale tree input output
+      ⊎ EndIsCut reading limit scale tree input output
 
 -- Memory was wanting.
-pub record IsToldToMemory (reading : Bool → List ℕ → Reading) (limit : ℕ) (tree : PatternTree)
-    (input : InputTold) (output : OutputTold) : Type 0 where
+pub record IsToldToMemory (reading : Bool → List ℕ → Reading) (limit scale : ℕ)
+    (tree : PatternTree) (input : InputTold) (output : OutputTold) : Type 0 where
   pub reads : AllReadsGood input
-  pub stands : FirstBlocksStand reading limit tree input output
+  pub stands : FirstBlocksStand reading limit scale tree input output
 
 -- How the telling of an input of this name ends, status by status.
-abbrev pub EndsTelling : (Bool → List ℕ → Reading) → ℕ → PatternTree → List ℕ → InputTold →
+abbrev pub EndsTelling : (Bool → List ℕ → Reading) → ℕ → ℕ → PatternTree → List ℕ → InputTold →
     OutputTold → Status → Type 0
-EndsTelling reading limit tree name input output Done =
-    IsTold reading limit tree input output
-EndsTelling reading limit tree name input output (Trace fault) =
-    IsInputKind fault.kind × IsToldToFault reading limit tree input output (refuses fault)
-EndsTelling reading limit tree name input output InputTooLong =
-    IsToldToFault reading limit tree input output exceeds
-EndsTelling reading limit tree name input output ReadFault =
-    IsToldToFailedRead reading limit tree name input output
-EndsTelling reading limit tree name input output WriteFault =
-    IsToldToFailedWrite reading limit tree input output
-EndsTelling reading limit tree name input output Memory =
-    IsToldToMemory reading limit tree input output
-EndsTelling reading limit tree name input output _ = ⊥
+EndsTelling reading limit scale tree name input output Done =
+    IsTold reading limit scale tree input output
+EndsTelling reading limit scale tree name input output (Trace fault) =
+    IsInputKind fault.kind × IsToldToFault reading limit scale tree input output (refuses fault)
+EndsTelling reading limit scale tree name input output InputTooLong =
+    IsToldToFault reading limit scale tree input output exceeds
+EndsTelling reading limit scale tree name input output ReadFault =
+    IsToldToFailedRead reading limit scale tree name input output
+EndsTelling reading limit scale tree name input output WriteFault =
+    IsToldToFailedWrite reading limit scale tree input output
+EndsTelling reading limit scale tree name input output Memory =
+    IsToldToMemory reading limit scale tree input output
+EndsTelling reading limit scale tree name input output _ = ⊥

@@ -1,6 +1,6 @@
 -- What a run tells as the input comes: a block of zones for each segment of the trace.
 use Rattle.std.specs.Prelude.{◌≡◌, ◌≢◌, ℕ, zero, suc, ◌+◌, ◌*◌, ◌<◌, ◌≤◌, Any, Contains, List, [], ◌∷◌, ◌++◌, length, take, get_or, flat_map, Option, None, Some, IfSome, codes}
-use Rattle.tre_show.specs.Interval.{number_text}
+use Rattle.tre_decimal.specs.Decimal.{number_text}
 use Rattle.tre_show.specs.Line.{lines_of, offline_text}
 use Rattle.tre_show.specs.Order.{IsRising}
 use Rattle.tre_syntax.specs.Meaning.{Matches}
@@ -11,29 +11,30 @@ use Rattle.tre_zone.specs.Zone.{Includes}
 use Rattle.tre_zone.specs.ZoneList.{SetHolds, IsApart, AreCanonical, AreTight, HoldExactly}
 use Rattle.tre_zone.specs.declared.zone_bounds.ZoneBounds.{ZoneBounds}
 
--- The text of a block: the lines of its zones, and then when its segment ends.
-unfoldable pub block_text : List ZoneBounds → ℕ → List ℕ
-block_text zones end = lines_of zones ++ codes "at " ++ number_text end ++ codes "\n"
+-- The text of a block at a scale: the lines of its zones, and then when its segment ends.
+unfoldable pub block_text : ℕ → List ZoneBounds → ℕ → List ℕ
+block_text scale zones end =
+    lines_of scale zones ++ codes "at " ++ number_text scale end ++ codes "\n"
 
 -- The texts of the blocks of segments of which the first begins at `start`.
-abbrev pub block_texts : ℕ → List (List ZoneBounds) → List Segment → List ℕ
-block_texts start (zones ∷ blocks) (segment ∷ segments) =
-    block_text zones (start + segment.len)
-    ++ block_texts (start + segment.len) blocks segments
-block_texts start blocks segments = []
+abbrev pub block_texts : ℕ → ℕ → List (List ZoneBounds) → List Segment → List ℕ
+block_texts scale start (zones ∷ blocks) (segment ∷ segments) =
+    block_text scale zones (start + segment.len)
+    ++ block_texts scale (start + segment.len) blocks segments
+block_texts scale start blocks segments = []
 
 -- what closes the text of a trace once its end is known: the zones that the end completes, told as
 -- those of a whole match, and where it is
-abbrev pub closing_text : Option (List ZoneBounds) → ℕ → List ℕ
-closing_text (Some zones) end = offline_text zones end
-closing_text None end = []
+abbrev pub closing_text : ℕ → Option (List ZoneBounds) → ℕ → List ℕ
+closing_text scale (Some zones) end = offline_text scale zones end
+closing_text scale None end = []
 
 -- The text of a trace with a block for each segment, and where it is closed, with what its end
 -- completes and its end.
-unfoldable pub online_text : List (List ZoneBounds) → Option (List ZoneBounds) → List Segment →
-    List ℕ
-online_text blocks closing trace =
-    block_texts 0 blocks trace ++ closing_text closing (end_of 0 trace)
+unfoldable pub online_text : ℕ → List (List ZoneBounds) → Option (List ZoneBounds) →
+    List Segment → List ℕ
+online_text scale blocks closing trace =
+    block_texts scale 0 blocks trace ++ closing_text scale closing (end_of 0 trace)
 
 -- The zones of some blocks, as one list.
 abbrev pub zones_of : List (List ZoneBounds) → List ZoneBounds

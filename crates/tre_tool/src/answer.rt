@@ -1,125 +1,58 @@
 // From a job to the text that answers it.
-ghost use Rattle.std.specs.Prelude.{◌≡◌, ℕ, ◌≤◌, ◌+◌, ◌++◌, [], codes, false, IsTrue, IsErrOf, IfOk, IfErr, IfSome, Some, string_bytes};
+ghost use Rattle.std.specs.Prelude.{◌≡◌, ◌≤◌, ◌+◌, ◌++◌, [], List, codes, false, IsTrue, IfOk, IfSome, None, string_bytes};
+ghost use Rattle.std.specs.Option.{option_map};
+ghost use Rattle.tre_decimal.specs.declared.TheConstants.{SCALE_MAX};
+ghost use Rattle.tre_num.specs.Defined.{Defined};
 ghost use Rattle.tre_show.specs.PatternText.{expression_text};
 ghost use Rattle.tre_syntax.specs.Pattern.{pattern_tree, names_of};
-ghost use Rattle.tre_tool.specs.Answer.{status_of, request_for, EndsOver, IsFoundFor, StopsAs};
+ghost use Rattle.tre_tool.specs.Answer.{status_of, patterns_with, request_for, EndsOver, IsFresh};
+ghost use Rattle.tre_tool.specs.Request.{all_names};
 ghost use Rattle.tre_tool.specs.Devices.{input_told, output_told};
-ghost use Rattle.tre_tool.specs.Feeding.{IsWhole, StopsReading};
-ghost use Rattle.tre_tool.specs.Job.{IsCount};
 ghost use Rattle.tre_tool.specs.Input.{TakesAtMost};
-ghost use Rattle.tre_tool.specs.Readings.{reading_for};
+ghost use Rattle.tre_tool.specs.Readings.{reading_of};
 ghost use Rattle.tre_tool.specs.Run.{ReadsInput};
-ghost use Rattle.tre_tool.specs.declared.job.TheConstants.{LIMIT_MAX};
+ghost use Rattle.tre_words.specs.Job.{IsJob};
 
-use crate::input::Feed;
-use crate::job::{Format, Job, Mode};
+use crate::asked::Asked;
+use crate::offline::{Taken, matches_text};
 use crate::online::tell_matches;
 use crate::output::write_text;
 use crate::status::Status;
 use std::alloc::{AllocError, Global};
 use tre_generate::summary;
 use tre_io::{Sink, Source};
-use tre_offline::matches;
-use tre_show::{in_printed_order, offline_text, pattern_text};
+use tre_num::{ColumnsReader, Definition};
+use tre_show::pattern_text;
 use tre_syntax::Pattern;
 use tre_text::{LineReader, TextReader};
-use tre_trace::{Trace, TraceReader};
+use tre_trace::TraceReader;
 use tre_vcd::{TokenReader, VcdReader};
-
-// Reads the trace that the input of this name is, where it has at most `limit` bytes.
-fn read_trace<S: Source, R: TraceReader>(
-    alloc: Global,
-    name: &str,
-    limit: usize,
-    reader: &mut R,
-    input: &mut S,
-) -> Result<Trace, Status>
-    requires closed { S.opened input.old ≡ false }
-    requires fresh { R.represents reader.old [] }
-    requires nothing { (R.reading (R.terms reader.old) false []).segments ≡ [] }
-    requires fits { limit ≤ LIMIT_MAX }
-    ensures by_name { IsTrue (S.opened input.new) →
-        IfSome (S.file_name input.old) (λ told. told ≡ name.now) }
-    ensures read { IfOk result (IsWhole (R.reading (R.terms reader.old)) limit
-        (input_told S.file_name S.file S.sound S.opened S.left S.found S.faults input.old
-        input.new)) }
-    ensures stops { IfErr result (StopsReading (R.reading (R.terms reader.old)) limit name.now
-        (input_told S.file_name S.file S.sound S.opened S.left S.found S.faults input.old
-        input.new)) }
-    ensures bounded { IsTrue (S.opened input.new) →
-        TakesAtMost (limit + 1) (S.file input.old) (S.left input.new) }
-{
-    let mut feed = Feed::open(alloc, name, limit, input)?;
-    let mut segments = Vec::new(alloc);
-    loop {
-        if !feed.next(reader, input, &mut segments)? {
-            break;
-        }
-    }
-    let mut trace = Trace::of_segments(alloc, segments)?;
-    trace.set_last(feed.last());
-    Ok(trace)
-}
-
-// The text of all matches of the pattern over the job's input.
-fn matches_text<S: Source, R: TraceReader>(
-    alloc: Global,
-    pattern: &Pattern,
-    job: &Job,
-    reader: &mut R,
-    input: &mut S,
-) -> Result<String, Status>
-    requires closed { S.opened input.old ≡ false }
-    requires fits { job.now.max_bytes ≤ LIMIT_MAX }
-    requires offline { job.now.mode ≡ Mode.Offline }
-    requires fresh { R.represents reader.old [] }
-    requires same { R.reading (R.terms reader.old)
-        ≡ reading_for (request_for job.now (pattern_tree pattern.now) (names_of pattern.now)) }
-    ensures found { IfOk result (λ text. IsFoundFor
-        (request_for job.now (pattern_tree pattern.now) (names_of pattern.now))
-        (input_told S.file_name S.file S.sound S.opened S.left S.found S.faults input.old input.new)
-        (string_bytes text)) }
-    ensures stops { IfErr result (StopsAs
-        (request_for job.now (pattern_tree pattern.now) (names_of pattern.now))
-        (input_told S.file_name S.file S.sound S.opened S.left S.found S.faults input.old
-        input.new)) }
-    ensures bounded { IsTrue (S.opened input.new) →
-        TakesAtMost (job.now.max_bytes + 1) (S.file input.old) (S.left input.new) }
-    ensures by_name { IsTrue (S.opened input.new) →
-        IfSome (S.file_name input.old) (λ told. told ≡ job.now.input) }
-{
-    let trace = read_trace(
-        alloc,
-        job.input.text(),
-        job.max_bytes as usize,
-        reader,
-        input,
-    )?;
-    let end = trace.end();
-    let set = matches(alloc, pattern, &trace)?;
-    // The text needs the memory that the trace took.
-    drop(trace);
-    let zones = in_printed_order(set.into_zones());
-    let text = offline_text(alloc, &zones, end)?;
-    Ok(text)
-}
+use tre_words::{Format, Job, Mode};
 
 // Writes what answers a job of which the reader reads the input.
-fn answer_by<S: Source, R: TraceReader, O: Sink>(
+fn answer_by<S: Source, R: TraceReader + Drop, O: Sink>(
     alloc: Global,
     pattern: Pattern,
+    taken: Option<Taken<R>>,
     job: &Job,
     reader: &mut R,
     input: &mut S,
     out: &mut O,
 ) -> Result<(), Status>
     requires closed { S.opened input.old ≡ false }
-    requires fits { job.now.max_bytes ≤ LIMIT_MAX }
+    requires job { IsJob job.now }
     requires reads { ReadsInput job.now.mode }
-    requires fresh { R.represents reader.old [] }
-    requires same { R.reading (R.terms reader.old)
-        ≡ reading_for (request_for job.now (pattern_tree pattern) (names_of pattern)) }
-    ensures ends { EndsOver (request_for job.now (pattern_tree pattern) (names_of pattern))
+    requires taken { job.now.minus ≡ None → taken ≡ None }
+    requires fresh { IsFresh (R.represents reader.old) (R.reading (R.terms reader.old)) }
+    requires fresh_taken { IfSome taken (λ taken.
+        IsFresh (R.represents taken.reader) (R.reading (R.terms taken.reader))) }
+    ensures ends { (lets : List Defined) →
+        R.reading (R.terms reader.old) ≡ reading_of (request_for job.now lets pattern
+        (option_map (λ taken. taken.pattern) taken)) (names_of pattern) →
+        IfSome taken (λ other. R.reading (R.terms other.reader) ≡ reading_of
+        (request_for job.now lets pattern (option_map (λ taken. taken.pattern) taken))
+        (names_of other.pattern)) →
+        EndsOver (request_for job.now lets pattern (option_map (λ taken. taken.pattern) taken))
         (input_told S.file_name S.file S.sound S.opened S.left S.found S.faults input.old input.new)
         (output_told O.written O.faults out.old out.new) (status_of result) }
     ensures bounded { IsTrue (S.opened input.new) →
@@ -133,25 +66,63 @@ fn answer_by<S: Source, R: TraceReader, O: Sink>(
             Ok(())
         }
         _ => {
-            let text = matches_text(alloc, &pattern, job, reader, input)?;
+            let text = matches_text(alloc, &pattern, taken, job, reader, input)?;
             write_text(text.as_str(), out)?;
             Ok(())
         }
     }
 }
 
-// Writes what answers a job that reads its input, by the reader of its format.
-fn answer_input<S: Source, O: Sink>(
+// A reader of a text trace for the names of the pattern.
+fn text_reader(alloc: Global, pattern: &Pattern, scale: u8) -> Result<TextReader, AllocError>
+    requires { scale ≤ SCALE_MAX }
+    ensures fresh { IfOk result (λ reader. ⟦<TextReader as TraceReader>⟧.represents reader []) }
+    ensures terms { IfOk result (λ reader. ⟦<TextReader as TraceReader>⟧.terms reader
+        ≡ record { names = names_of pattern.now; scale = scale }) }
+{
+    let names = pattern.names().try_clone()?;
+    let events = pattern.events().try_clone()?;
+    Ok(TextReader::new(alloc, LineReader::new(names, events, scale)))
+}
+
+// The pattern that is taken away, if there is one, with a reader of its own.
+fn taken_from_text(
     alloc: Global,
-    pattern: Pattern,
+    taken: Option<Pattern>,
+    scale: u8,
+) -> Result<Option<Taken<TextReader>>, AllocError>
+    requires { scale ≤ SCALE_MAX }
+    ensures pattern { IfOk result (λ found. option_map (λ taken. taken.pattern) found ≡ taken) }
+    ensures fresh { IfOk result (λ found. IfSome found (λ taken.
+        ⟦<TextReader as TraceReader>⟧.represents taken.reader [])) }
+    ensures terms { IfOk result (λ found. IfSome found (λ taken.
+        ⟦<TextReader as TraceReader>⟧.terms taken.reader
+        ≡ record { names = names_of taken.pattern; scale = scale })) }
+{
+    match taken {
+        None => Ok(None),
+        Some(pattern) => {
+            let reader = text_reader(alloc, &pattern, scale)?;
+            Ok(Some(Taken { pattern, reader }))
+        }
+    }
+}
+
+// Writes what answers a job over a text trace.
+fn answer_text<S: Source, O: Sink>(
+    alloc: Global,
+    asked: Asked,
     job: &Job,
     input: &mut S,
     out: &mut O,
 ) -> Result<(), Status>
     requires closed { S.opened input.old ≡ false }
-    requires fits { job.now.max_bytes ≤ LIMIT_MAX }
+    requires job { IsJob job.now }
     requires reads { ReadsInput job.now.mode }
-    ensures ends { EndsOver (request_for job.now (pattern_tree pattern) (names_of pattern))
+    requires taken { job.now.minus ≡ None → asked.taken ≡ None }
+    requires format { job.now.format ≡ Format.Text }
+    ensures ends { EndsOver
+        (request_for job.now asked.definitions.items asked.pattern asked.taken)
         (input_told S.file_name S.file S.sound S.opened S.left S.found S.faults input.old input.new)
         (output_told O.written O.faults out.old out.new) (status_of result) }
     ensures bounded { IsTrue (S.opened input.new) →
@@ -159,28 +130,168 @@ fn answer_input<S: Source, O: Sink>(
     ensures by_name { IsTrue (S.opened input.new) →
         IfSome (S.file_name input.old) (λ told. told ≡ job.now.input) }
 {
+    let mut reader = text_reader(alloc, &asked.pattern, job.scale)?;
+    let taken = taken_from_text(alloc, asked.taken, job.scale)?;
+    answer_by(alloc, asked.pattern, taken, job, &mut reader, input, out)?;
+    Ok(())
+}
+
+// A reader of a dump for the names of the pattern, which must declare those of every pattern.
+fn dump_reader(
+    alloc: Global,
+    pattern: &Pattern,
+    first: &Pattern,
+    second: Option<&Pattern>,
+    scale: u8,
+) -> Result<VcdReader, AllocError>
+    requires { scale ≤ SCALE_MAX }
+    ensures fresh { IfOk result (λ reader. ⟦<VcdReader as TraceReader>⟧.represents reader []) }
+    ensures terms { IfOk result (λ reader. ⟦<VcdReader as TraceReader>⟧.terms reader ≡ record {
+      names = names_of pattern.now;
+      declared = all_names (patterns_with first.now (option_map (λ second. second.now) second));
+      scale = scale;
+    }) }
+{
     let names = pattern.names().try_clone()?;
     let events = pattern.events().try_clone()?;
+    let mut tokens = TokenReader::new(alloc, names, events, scale);
+    tokens.must_declare(first.names(), first.events())?;
+    if let Some(second) = second {
+        tokens.must_declare(second.names(), second.events())?;
+    }
+    Ok(VcdReader::new(alloc, tokens))
+}
+
+// The pattern that is taken away, if there is one, with a reader of its own.
+fn taken_from_dump(
+    alloc: Global,
+    first: &Pattern,
+    taken: Option<Pattern>,
+    scale: u8,
+) -> Result<Option<Taken<VcdReader>>, AllocError>
+    requires { scale ≤ SCALE_MAX }
+    ensures pattern { IfOk result (λ found. option_map (λ taken. taken.pattern) found ≡ taken) }
+    ensures fresh { IfOk result (λ found. IfSome found (λ taken.
+        ⟦<VcdReader as TraceReader>⟧.represents taken.reader [])) }
+    ensures terms { IfOk result (λ found. IfSome found (λ other.
+        ⟦<VcdReader as TraceReader>⟧.terms other.reader ≡ record {
+          names = names_of other.pattern;
+          declared = all_names (patterns_with first.now taken);
+          scale = scale;
+        })) }
+{
+    match taken {
+        None => Ok(None),
+        Some(pattern) => {
+            let reader = dump_reader(alloc, &pattern, first, Some(&pattern), scale)?;
+            Ok(Some(Taken { pattern, reader }))
+        }
+    }
+}
+
+// Writes what answers a job over a dump.
+fn answer_dump<S: Source, O: Sink>(
+    alloc: Global,
+    asked: Asked,
+    job: &Job,
+    input: &mut S,
+    out: &mut O,
+) -> Result<(), Status>
+    requires closed { S.opened input.old ≡ false }
+    requires job { IsJob job.now }
+    requires reads { ReadsInput job.now.mode }
+    requires taken { job.now.minus ≡ None → asked.taken ≡ None }
+    requires format { job.now.format ≡ Format.Vcd }
+    ensures ends { EndsOver
+        (request_for job.now asked.definitions.items asked.pattern asked.taken)
+        (input_told S.file_name S.file S.sound S.opened S.left S.found S.faults input.old input.new)
+        (output_told O.written O.faults out.old out.new) (status_of result) }
+    ensures bounded { IsTrue (S.opened input.new) →
+        TakesAtMost (job.now.max_bytes + 1) (S.file input.old) (S.left input.new) }
+    ensures by_name { IsTrue (S.opened input.new) →
+        IfSome (S.file_name input.old) (λ told. told ≡ job.now.input) }
+{
+    let pattern = asked.pattern;
+    let mut reader = dump_reader(alloc, &pattern, &pattern, asked.taken.as_ref(), job.scale)?;
+    let taken = taken_from_dump(alloc, &pattern, asked.taken, job.scale)?;
+    answer_by(alloc, pattern, taken, job, &mut reader, input, out)?;
+    Ok(())
+}
+
+// Writes what answers a job over rows, where nothing is taken away.
+fn answer_rows<S: Source, O: Sink>(
+    alloc: Global,
+    asked: Asked,
+    job: &Job,
+    input: &mut S,
+    out: &mut O,
+) -> Result<(), Status>
+    requires closed { S.opened input.old ≡ false }
+    requires job { IsJob job.now }
+    requires reads { ReadsInput job.now.mode }
+    requires taken { job.now.minus ≡ None → asked.taken ≡ None }
+    requires format { job.now.format ≡ Format.Csv }
+    ensures ends { EndsOver
+        (request_for job.now asked.definitions.items asked.pattern asked.taken)
+        (input_told S.file_name S.file S.sound S.opened S.left S.found S.faults input.old input.new)
+        (output_told O.written O.faults out.old out.new) (status_of result) }
+    ensures bounded { IsTrue (S.opened input.new) →
+        TakesAtMost (job.now.max_bytes + 1) (S.file input.old) (S.left input.new) }
+    ensures by_name { IsTrue (S.opened input.new) →
+        IfSome (S.file_name input.old) (λ told. told ≡ job.now.input) }
+{
+    let names = asked.pattern.names().try_clone()?;
+    let events = asked.pattern.events().try_clone()?;
+    let mut reader = ColumnsReader::new(alloc, asked.definitions, names, events, job.scale);
+    answer_by(alloc, asked.pattern, None, job, &mut reader, input, out)?;
+    Ok(())
+}
+
+// Writes what answers a job that reads its input, by the reader of its format.
+fn answer_input<S: Source, O: Sink>(
+    alloc: Global,
+    asked: Asked,
+    job: &Job,
+    input: &mut S,
+    out: &mut O,
+) -> Result<(), Status>
+    requires closed { S.opened input.old ≡ false }
+    requires job { IsJob job.now }
+    requires reads { ReadsInput job.now.mode }
+    requires taken { job.now.minus ≡ None → asked.taken ≡ None }
+    ensures ends { EndsOver
+        (request_for job.now asked.definitions.items asked.pattern asked.taken)
+        (input_told S.file_name S.file S.sound S.opened S.left S.found S.faults input.old input.new)
+        (output_told O.written O.faults out.old out.new) (status_of result) }
+    ensures bounded { IsTrue (S.opened input.new) →
+        TakesAtMost (job.now.max_bytes + 1) (S.file input.old) (S.left input.new) }
+    ensures by_name { IsTrue (S.opened input.new) →
+        IfSome (S.file_name input.old) (λ told. told ≡ job.now.input) }
+{
     match job.format {
         Format::Text => {
-            let mut reader = TextReader::new(alloc, LineReader::new(names, events));
-            answer_by(alloc, pattern, job, &mut reader, input, out)?;
+            answer_text(alloc, asked, job, input, out)?;
             Ok(())
         }
         Format::Vcd => {
-            let mut reader = VcdReader::new(alloc, TokenReader::new(alloc, names, events));
-            answer_by(alloc, pattern, job, &mut reader, input, out)?;
+            answer_dump(alloc, asked, job, input, out)?;
+            Ok(())
+        }
+        Format::Csv => {
+            answer_rows(alloc, asked, job, input, out)?;
             Ok(())
         }
     }
 }
 
 // The text of the pattern, and a line end.
-fn shown_text(alloc: Global, pattern: &Pattern) -> Result<String, AllocError>
+fn shown_text(alloc: Global, pattern: &Pattern, scale: u8) -> Result<String, AllocError>
+    requires { scale ≤ SCALE_MAX }
     ensures { IfOk result (λ text. string_bytes text
-        ≡ expression_text (names_of pattern.now) (pattern_tree pattern.now) ++ codes "\n") }
+        ≡ expression_text scale (names_of pattern.now) (pattern_tree pattern.now)
+        ++ codes "\n") }
 {
-    let mut text = pattern_text(alloc, pattern)?;
+    let mut text = pattern_text(alloc, pattern, scale)?;
     text.push_str("\n")?;
     Ok(text)
 }
@@ -188,15 +299,16 @@ fn shown_text(alloc: Global, pattern: &Pattern) -> Result<String, AllocError>
 /// Writes what answers a job: at once where all is known, or as the input comes.
 pub fn answer<S: Source, O: Sink>(
     alloc: Global,
-    pattern: Pattern,
+    asked: Asked,
     job: &Job,
     input: &mut S,
     out: &mut O,
 ) -> Result<(), Status>
     requires closed { S.opened input.old ≡ false }
-    requires fits { job.now.max_bytes ≤ LIMIT_MAX }
-    requires counted { (count : ℕ) → job.now.mode ≡ Mode.Generate count → IsCount count }
-    ensures ends { EndsOver (request_for job.now (pattern_tree pattern) (names_of pattern))
+    requires job { IsJob job.now }
+    requires taken { job.now.minus ≡ None → asked.taken ≡ None }
+    ensures ends { EndsOver
+        (request_for job.now asked.definitions.items asked.pattern asked.taken)
         (input_told S.file_name S.file S.sound S.opened S.left S.found S.faults input.old input.new)
         (output_told O.written O.faults out.old out.new) (status_of result) }
     ensures bounded { IsTrue (S.opened input.new) →
@@ -207,17 +319,17 @@ pub fn answer<S: Source, O: Sink>(
 {
     match job.mode {
         Mode::Show => {
-            let text = shown_text(alloc, &pattern)?;
+            let text = shown_text(alloc, &asked.pattern, job.scale)?;
             write_text(text.as_str(), out)?;
             Ok(())
         }
         Mode::Generate { count } => {
-            let text = summary(alloc, pattern, count)?;
+            let text = summary(alloc, asked.pattern, count)?;
             write_text(text.as_str(), out)?;
             Ok(())
         }
         _ => {
-            answer_input(alloc, pattern, job, input, out)?;
+            answer_input(alloc, asked, job, input, out)?;
             Ok(())
         }
     }

@@ -4,9 +4,10 @@ ghost use Rattle.std.specs.Io.KnownBytes.{Consumes, IsAtEnd, Keeps};
 ghost use Rattle.tre_trace.specs.Reading.{Adds};
 ghost use Rattle.tre_trace.specs.declared.reader.TheConstants.{FED_MAX};
 ghost use Rattle.tre_tool.specs.Input.{HasReadCause};
-ghost use Rattle.tre_tool.specs.declared.job.TheConstants.{LIMIT_MAX};
-ghost use Rattle.tre_tool.specs.Feeding.{StopsPiece, IsFed, HasRead, EndsTurn};
+ghost use Rattle.tre_words.specs.declared.job.TheConstants.{LIMIT_MAX};
+ghost use Rattle.tre_tool.specs.Feeding.{StopsPiece, IsFed, IsFedTo, IsKept, HasRead, EndsTurn};
 
+use crate::kept::Kept;
 use crate::status::Status;
 use std::alloc::{AllocError, Global};
 use tre_io::Source;
@@ -42,10 +43,12 @@ fn read_piece<S: Source>(input: &mut S, buffer: &mut [u8]) -> Result<usize, Stat
     Ok(count)
 }
 
-// Reads once, and feeds what came, as far as it is allowed. No byte comes only at the end.
+// Reads once, feeds what came as far as it is allowed, and keeps it where it is asked for. No byte
+// comes only at the end.
 fn feed_piece<S: Source, R: TraceReader>(
     allowed: usize,
     buffer: &mut [u8],
+    kept: &mut Kept,
     reader: &mut R,
     input: &mut S,
     segments: &mut Vec<Segment>,
@@ -57,16 +60,20 @@ fn feed_piece<S: Source, R: TraceReader>(
         Consumes (S.left input.old) (S.left input.new) (take count buffer.new)) }
     ensures within { IfOk result (λ count. count ≤ length buffer.new) }
     ensures end { IfOk result (λ count. count ≡ 0 → IsAtEnd (S.left input.new)) }
-    ensures goes_on { (bytes : List ℕ) → R.represents reader.old bytes →
+    ensures goes_on { (bytes : List ℕ) → IsFedTo (R.represents reader.old) kept.old bytes →
+        IfOk result (λ count. IsFedTo (R.represents reader.new) kept.new
+        (bytes ++ take allowed (take count buffer.new))) }
+    ensures keeps { (bytes : List ℕ) → IsKept kept.old bytes →
         IfOk result (λ count.
-        R.represents reader.new (bytes ++ take allowed (take count buffer.new))) }
-    ensures adds { (bytes : List ℕ) → R.represents reader.old bytes →
+        IsKept kept.new (bytes ++ take allowed (take count buffer.new))) }
+    ensures adds { (bytes : List ℕ) → IsFedTo (R.represents reader.old) kept.old bytes →
         IfOk result (λ count. Adds segments.old.items segments.new.items
         (R.reading (R.terms reader.old) false bytes)
         (R.reading (R.terms reader.old) false (bytes ++ take allowed (take count buffer.new)))) }
-    ensures stops { (bytes : List ℕ) → R.represents reader.old bytes →
+    ensures stops { (bytes : List ℕ) → IsFedTo (R.represents reader.old) kept.old bytes →
         IfErr result (StopsPiece (R.reading (R.terms reader.old)) allowed (length buffer.old) bytes
         (S.left input.old) (S.left input.new) segments.old.items segments.new.items) }
+    ensures asked { kept.new.asked ≡ kept.old.asked }
     ensures terms { R.terms reader.new ≡ R.terms reader.old }
     ensures length { length buffer.new ≡ length buffer.old }
     ensures finds { Keeps (S.found input.new) (S.left input.old) }
@@ -76,18 +83,21 @@ fn feed_piece<S: Source, R: TraceReader>(
     ensures same_sound { S.sound input.new ≡ S.sound input.old }
 {
     let count = read_piece(input, buffer)?;
-    reader.feed(&buffer[..count.min(allowed)], segments)?;
+    let piece = &buffer[..count.min(allowed)];
+    reader.feed(piece, segments)?;
+    kept.keep(piece)?;
     Ok(count)
 }
 
-// Reads a piece, and feeds it as far as the limit. Where none comes, the reader is told the end, and
-// tells the last events. Says whether the input may go on. The segments that become complete are
-// put behind the others, also before a fault.
+// Reads a piece, and feeds it as far as the limit. Where none comes, the reader is told the end,
+// and tells the last events. Says whether the input may go on. The segments that become complete
+// are put behind the others, also before a fault.
 fn feed_next<S: Source, R: TraceReader>(
     limit: usize,
     taken: &mut usize,
     last: &mut u64,
     buffer: &mut [u8],
+    kept: &mut Kept,
     reader: &mut R,
     input: &mut S,
     segments: &mut Vec<Segment>,
@@ -97,16 +107,19 @@ fn feed_next<S: Source, R: TraceReader>(
     requires fed { R.fed_of reader.old ≤ taken.old }
     requires room { 0 < length buffer.old }
     ensures read { (file : Option (List ℕ)) (bytes : List ℕ) →
-        IsFed (R.represents reader.old) (length buffer.old) limit file (S.left input.old)
-        (S.found input.old) taken.old bytes →
+        IsFed (IsFedTo (R.represents reader.old) kept.old) (length buffer.old) limit file
+        (S.left input.old) (S.found input.old) taken.old bytes →
         HasRead (R.reading (R.terms reader.old)) (length buffer.old) limit file (S.left input.new)
         (S.found input.new) bytes segments.old.items segments.new.items }
     ensures ends { (file : Option (List ℕ)) (bytes : List ℕ) →
-        IsFed (R.represents reader.old) (length buffer.old) limit file (S.left input.old)
-        (S.found input.old) taken.old bytes →
-        EndsTurn (R.represents reader.new) (R.reading (R.terms reader.old)) (length buffer.old)
-        limit file (S.left input.new) (S.found input.new) taken.new bytes segments.old.items
-        segments.new.items last.new result }
+        IsFed (IsFedTo (R.represents reader.old) kept.old) (length buffer.old) limit file
+        (S.left input.old) (S.found input.old) taken.old bytes →
+        EndsTurn (IsFedTo (R.represents reader.new) kept.new) (R.reading (R.terms reader.old))
+        (length buffer.old) limit file (S.left input.new) (S.found input.new) taken.new bytes
+        segments.old.items segments.new.items last.new result }
+    ensures keeps { (bytes : List ℕ) → IsKept kept.old bytes →
+        IfOk result (λ more. more ≡ false → IsKept kept.new bytes) }
+    ensures asked { kept.new.asked ≡ kept.old.asked }
     ensures rises { IfOk result (λ more. IsTrue more → taken.old < taken.new) }
     ensures few { IfOk result (λ more. IsTrue more → taken.new ≤ limit + 1) }
     ensures terms { R.terms reader.new ≡ R.terms reader.old }
@@ -121,7 +134,7 @@ fn feed_next<S: Source, R: TraceReader>(
     }
     let allowed = limit - *taken;
     let room = buffer.len().min(allowed + 1);
-    let count = feed_piece(allowed, &mut buffer[..room], reader, input, segments)?;
+    let count = feed_piece(allowed, &mut buffer[..room], kept, reader, input, segments)?;
     if count == 0 {
         *last = reader.finish(segments)?;
         return Ok(false);
@@ -138,14 +151,18 @@ pub struct Feed {
     // The events at the end of the trace; none before it was read.
     last: u64,
     buffer: Vec<u8>,
+    // What was fed, where it is kept.
+    kept: Kept,
 }
 
 impl Feed {
-    /// Opens the input of this name, of which at most `limit` bytes are fed.
+    /// Opens the input of this name, of which at most `limit` bytes are fed, and put behind those
+    /// that are kept.
     pub fn open<S: Source>(
         alloc: Global,
         name: &str,
         limit: usize,
+        kept: Kept,
         input: &mut S,
     ) -> Result<Feed, Status>
         requires closed { S.opened input.old ≡ false }
@@ -154,6 +171,7 @@ impl Feed {
         ensures start { IfOk result (λ feed. feed.taken ≡ 0) }
         ensures limit { IfOk result (λ feed. feed.limit ≡ limit) }
         ensures room { IfOk result (λ feed. length feed.buffer.items ≡ PIECE) }
+        ensures kept { IfOk result (λ feed. feed.kept ≡ kept) }
         ensures by_name { IsTrue (S.opened input.new) →
             IfSome (S.file_name input.old) (λ told. told ≡ name.now) }
         ensures named { IfErr result (λ status. status ≢ Status.ReadFault →
@@ -174,6 +192,7 @@ impl Feed {
             taken: 0,
             last: 0,
             buffer,
+            kept,
         })
     }
 
@@ -191,18 +210,24 @@ impl Feed {
         requires fed { R.fed_of reader.old ≤ self.old.taken }
         requires room { 0 < length self.old.buffer.items }
         ensures read { (file : Option (List ℕ)) (bytes : List ℕ) →
-            IsFed (R.represents reader.old) (length self.old.buffer.items) self.old.limit file
-            (S.left input.old) (S.found input.old) self.old.taken bytes →
+            IsFed (IsFedTo (R.represents reader.old) self.old.kept)
+            (length self.old.buffer.items) self.old.limit file (S.left input.old)
+            (S.found input.old) self.old.taken bytes →
             HasRead (R.reading (R.terms reader.old)) (length self.old.buffer.items) self.old.limit
             file (S.left input.new) (S.found input.new) bytes segments.old.items
             segments.new.items }
         ensures ends { (file : Option (List ℕ)) (bytes : List ℕ) →
-            IsFed (R.represents reader.old) (length self.old.buffer.items) self.old.limit file
-            (S.left input.old) (S.found input.old) self.old.taken bytes →
-            EndsTurn (R.represents reader.new) (R.reading (R.terms reader.old))
-            (length self.old.buffer.items) self.old.limit file (S.left input.new)
-            (S.found input.new) self.new.taken bytes segments.old.items segments.new.items
+            IsFed (IsFedTo (R.represents reader.old) self.old.kept)
+            (length self.old.buffer.items) self.old.limit file (S.left input.old)
+            (S.found input.old) self.old.taken bytes →
+            EndsTurn (IsFedTo (R.represents reader.new) self.new.kept)
+            (R.reading (R.terms reader.old)) (length self.old.buffer.items) self.old.limit file
+            (S.left input.new) (S.found input.new) self.new.taken bytes segments.old.items
+            segments.new.items
             self.new.last result }
+        ensures keeps { (bytes : List ℕ) → IsKept self.old.kept bytes →
+            IfOk result (λ more. more ≡ false → IsKept self.new.kept bytes) }
+        ensures asked { self.new.kept.asked ≡ self.old.kept.asked }
         ensures limit { self.new.limit ≡ self.old.limit }
         ensures length { length self.new.buffer.items ≡ length self.old.buffer.items }
         ensures rises { IfOk result (λ more. IsTrue more → self.old.taken < self.new.taken) }
@@ -218,6 +243,7 @@ impl Feed {
             &mut self.taken,
             &mut self.last,
             &mut self.buffer,
+            &mut self.kept,
             reader,
             input,
             segments,
@@ -229,5 +255,12 @@ impl Feed {
         ensures { result ≡ self.now.last }
     {
         self.last
+    }
+
+    /// What was fed, where it was kept.
+    pub fn into_kept(self) -> Kept
+        ensures { result ≡ self.kept }
+    {
+        self.kept
     }
 }

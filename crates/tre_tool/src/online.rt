@@ -10,29 +10,33 @@ ghost use Rattle.tre_tool.specs.Devices.{input_told, output_told};
 ghost use Rattle.tre_tool.specs.Input.{TakesAtMost};
 ghost use Rattle.tre_tool.specs.Telling.{CanTell, HasTold, StopsAtSegment, StopsWithin, HasWriteCause, HasClosed, StopsAtEnd, EndsTelling};
 ghost use Rattle.tre_tool.specs.Transcript.{block_text};
-ghost use Rattle.tre_tool.specs.declared.job.TheConstants.{LIMIT_MAX};
+ghost use Rattle.tre_words.specs.Job.{IsJob};
+ghost use Rattle.tre_decimal.specs.declared.TheConstants.{SCALE_MAX};
 
 use crate::input::Feed;
-use crate::job::Job;
+use crate::kept::Kept;
 use crate::output::write_text;
 use crate::status::Status;
 use std::alloc::{AllocError, Global};
+use tre_decimal::push_units;
 use tre_io::{Sink, Source};
 use tre_online::Session;
-use tre_show::{in_printed_order, number, offline_text, zone_lines};
+use tre_show::{in_printed_order, offline_text, zone_lines};
 use tre_syntax::Pattern;
 use tre_trace::{PushFault, Segment, TraceReader};
+use tre_words::Job;
 use tre_zone::Zone;
 use tre_zoneset::ZoneSet;
 
 // The text of the block of a segment that ends at `at`.
-fn block_text(alloc: Global, zones: &[Zone], at: u64) -> Result<String, AllocError>
-    ensures { IfOk result (λ text. string_bytes text ≡ block_text zones.now at) }
+fn block_text(alloc: Global, zones: &[Zone], at: u64, scale: u8) -> Result<String, AllocError>
+    requires { scale ≤ SCALE_MAX }
+    ensures { IfOk result (λ text. string_bytes text ≡ block_text scale zones.now at) }
 {
     let mut text = String::new(alloc);
-    zone_lines(zones, &mut text)?;
+    zone_lines(zones, scale, &mut text)?;
     text.push_str("at ")?;
-    number(at, &mut text)?;
+    push_units(&mut text, at, scale)?;
     text.push_str("\n")?;
     Ok(text)
 }
@@ -71,24 +75,26 @@ fn told_of(segment: Segment, session: &mut Session) -> Result<ZoneSet, Status>
 fn tell_block<O: Sink>(
     alloc: Global,
     segment: Segment,
+    scale: u8,
     session: &mut Session,
     out: &mut O,
 ) -> Result<(), Status>
-    requires { CanTell session.old (segment ∷ []) }
+    requires comes { CanTell session.old (segment ∷ []) }
+    requires scale { scale ≤ SCALE_MAX }
     ensures stands { (segments : List Segment) → StandsFor session.old segments →
         OnOk result (StandsFor session.new (segments ++ segment ∷ [])) }
     ensures told { (tree : PatternTree) (segments : List Segment) (before : Option (List ℕ)) →
-        HasTold session.old tree segments before (O.written out.old) →
-        OnOk result (HasTold session.new tree (segments ++ segment ∷ []) before
+        HasTold session.old scale tree segments before (O.written out.old) →
+        OnOk result (HasTold session.new scale tree (segments ++ segment ∷ []) before
         (O.written out.new)) }
     ensures stops { (tree : PatternTree) (segments : List Segment) (before : Option (List ℕ)) →
-        HasTold session.old tree segments before (O.written out.old) →
-        IfErr result (StopsAtSegment tree segments segment before (O.written out.new)) }
+        HasTold session.old scale tree segments before (O.written out.old) →
+        IfErr result (StopsAtSegment scale tree segments segment before (O.written out.new)) }
     ensures cause { HasWriteCause (O.faults out.old) (O.faults out.new) result }
 {
     let told = told_of(segment, session)?;
     let zones = in_printed_order(told.into_zones());
-    let text = block_text(alloc, &zones, session.at())?;
+    let text = block_text(alloc, &zones, session.at(), scale)?;
     write_text(text.as_str(), out)?;
     Ok(())
 }
@@ -97,39 +103,50 @@ fn tell_block<O: Sink>(
 fn tell_blocks<O: Sink>(
     alloc: Global,
     segments: &[Segment],
+    scale: u8,
     session: &mut Session,
     out: &mut O,
 ) -> Result<(), Status>
-    requires { CanTell session.old segments.now }
+    requires comes { CanTell session.old segments.now }
+    requires scale { scale ≤ SCALE_MAX }
     ensures told { (tree : PatternTree) (front : List Segment) (before : Option (List ℕ)) →
-        HasTold session.old tree front before (O.written out.old) →
-        OnOk result (HasTold session.new tree (front ++ segments.now) before
+        HasTold session.old scale tree front before (O.written out.old) →
+        OnOk result (HasTold session.new scale tree (front ++ segments.now) before
         (O.written out.new)) }
     ensures stops { (tree : PatternTree) (front : List Segment) (before : Option (List ℕ)) →
-        HasTold session.old tree front before (O.written out.old) →
-        IfErr result (StopsWithin tree front segments.now before (O.written out.new)) }
+        HasTold session.old scale tree front before (O.written out.old) →
+        IfErr result (StopsWithin scale tree front segments.now before (O.written out.new)) }
     ensures cause { HasWriteCause (O.faults out.old) (O.faults out.new) result }
 {
     for segment in segments {
-        tell_block(alloc, *segment, session, out)?;
+        tell_block(alloc, *segment, scale, session, out)?;
     }
     Ok(())
 }
 
 // Writes what the end of the trace completes, and then where it is, as one text.
-fn tell_end<O: Sink>(alloc: Global, session: Session, last: u64, out: &mut O) -> Result<(), Status>
+fn tell_end<O: Sink>(
+    alloc: Global,
+    session: Session,
+    last: u64,
+    scale: u8,
+    out: &mut O,
+) -> Result<(), Status>
+    requires { scale ≤ SCALE_MAX }
     ensures told { (tree : PatternTree) (segments : List Segment) (before : Option (List ℕ)) →
-        HasTold session tree segments before (O.written out.old) →
-        OnOk result (HasClosed tree (timeline_of segments last) before (O.written out.new)) }
+        HasTold session scale tree segments before (O.written out.old) →
+        OnOk result (HasClosed scale tree (timeline_of segments last) before
+        (O.written out.new)) }
     ensures stops { (tree : PatternTree) (segments : List Segment) (before : Option (List ℕ)) →
-        HasTold session tree segments before (O.written out.old) →
-        IfErr result (StopsAtEnd tree (timeline_of segments last) before (O.written out.new)) }
+        HasTold session scale tree segments before (O.written out.old) →
+        IfErr result (StopsAtEnd scale tree (timeline_of segments last) before
+        (O.written out.new)) }
     ensures cause { HasWriteCause (O.faults out.old) (O.faults out.new) result }
 {
     let end = session.at();
     let told = session.close(last)?;
     let zones = in_printed_order(told.into_zones());
-    let text = offline_text(alloc, &zones, end)?;
+    let text = offline_text(alloc, &zones, end, scale)?;
     write_text(text.as_str(), out)?;
     Ok(())
 }
@@ -144,11 +161,11 @@ fn tell_input<S: Source, R: TraceReader, O: Sink>(
     out: &mut O,
 ) -> Result<(), Status>
     requires closed { S.opened input.old ≡ false }
-    requires fits { job.now.max_bytes ≤ LIMIT_MAX }
+    requires job { IsJob job.now }
     requires fresh { R.represents reader.old [] }
     requires nothing { (R.reading (R.terms reader.old) false []).segments ≡ [] }
     requires stands { StandsFor session [] }
-    ensures ends { EndsTelling (R.reading (R.terms reader.old)) job.now.max_bytes
+    ensures ends { EndsTelling (R.reading (R.terms reader.old)) job.now.max_bytes job.now.scale
         (pattern_tree (pattern_of session)) job.now.input
         (input_told S.file_name S.file S.sound S.opened S.left S.found S.faults input.old input.new)
         (output_told O.written O.faults out.old out.new) (status_of result) }
@@ -157,17 +174,18 @@ fn tell_input<S: Source, R: TraceReader, O: Sink>(
     ensures by_name { IsTrue (S.opened input.new) →
         IfSome (S.file_name input.old) (λ told. told ≡ job.now.input) }
 {
-    let mut feed = Feed::open(alloc, job.input.text(), job.max_bytes as usize, input)?;
+    let kept = Kept::new(alloc, false);
+    let mut feed = Feed::open(alloc, job.input.text(), job.max_bytes as usize, kept, input)?;
     let mut segments = Vec::new(alloc);
     loop {
         let fed = feed.next(reader, input, &mut segments);
-        tell_blocks(alloc, &segments, &mut session, out)?;
+        tell_blocks(alloc, &segments, job.scale, &mut session, out)?;
         segments.clear();
         if !fed? {
             break;
         }
     }
-    tell_end(alloc, session, feed.last(), out)?;
+    tell_end(alloc, session, feed.last(), job.scale, out)?;
     Ok(())
 }
 
@@ -181,10 +199,10 @@ pub fn tell_matches<S: Source, R: TraceReader, O: Sink>(
     out: &mut O,
 ) -> Result<(), Status>
     requires closed { S.opened input.old ≡ false }
-    requires fits { job.now.max_bytes ≤ LIMIT_MAX }
+    requires job { IsJob job.now }
     requires fresh { R.represents reader.old [] }
     requires nothing { (R.reading (R.terms reader.old) false []).segments ≡ [] }
-    ensures ends { EndsTelling (R.reading (R.terms reader.old)) job.now.max_bytes
+    ensures ends { EndsTelling (R.reading (R.terms reader.old)) job.now.max_bytes job.now.scale
         (pattern_tree pattern) job.now.input
         (input_told S.file_name S.file S.sound S.opened S.left S.found S.faults input.old input.new)
         (output_told O.written O.faults out.old out.new) (status_of result) }

@@ -1,12 +1,13 @@
-ghost use Rattle.std.specs.Prelude.{◌≡◌, List, flat_map, OnOk, OnErr};
+ghost use Rattle.std.specs.Prelude.{◌≡◌, ◌++◌, List, codes, decimal, flat_map, OnOk, OnErr};
 ghost use Rattle.std.specs.Io.KnownBytes.{Appends};
 ghost use Rattle.tre_io.specs.Faults.{HasCause};
 ghost use Rattle.tre_io.specs.Written.{AppendsPart};
-ghost use Rattle.tre_tool.specs.Status.{kind_name, fault_words, fault_number, error_line};
+ghost use Rattle.tre_tool.specs.Status.{kind_name, fault_words, fault_number, refusal_words, error_line};
 
 use crate::Status;
 use itoa::Buffer;
 use tre_io::{Failed, Sink, put_all};
+use tre_num::LetFault;
 use tre_parse::ParseFault;
 use tre_trace::TraceKind;
 
@@ -72,22 +73,51 @@ fn put_pieces<E: Sink>(err: &mut E, pieces: &[&str]) -> Result<(), Failed>
     Ok(())
 }
 
-fn tell_fault<E: Sink>(fault: &ParseFault, err: &mut E) -> Result<(), Failed>
+// Tells of a refused pattern, behind these words.
+fn tell_fault<E: Sink>(front: &str, fault: &ParseFault, err: &mut E) -> Result<(), Failed>
     ensures line { OnOk result (Appends (E.written err.old) (E.written err.new)
-        (error_line (Status.Expression fault.now))) }
+        (front.now ++ refusal_words fault.now)) }
     ensures part { OnErr result (AppendsPart (E.written err.old) (E.written err.new)
-        (error_line (Status.Expression fault.now))) }
+        (front.now ++ refusal_words fault.now)) }
     ensures cause { HasCause (E.faults err.old) (E.faults err.new) result }
 {
     let words = fault_words(fault);
     match fault_number(fault) {
-        None => put_pieces(err, &["montre: expression: ", words, "\n"]),
+        None => put_pieces(err, &[front, words, "\n"]),
         Some(number) => {
             let mut buffer = Buffer::new();
             let digits = buffer.format(number);
-            put_pieces(err, &["montre: expression: ", words, digits, "\n"])
+            put_pieces(err, &[front, words, digits, "\n"])
         }
     }
+}
+
+// Tells of refused definitions.
+fn tell_definitions<E: Sink>(fault: &LetFault, err: &mut E) -> Result<(), Failed>
+    ensures line { OnOk result (Appends (E.written err.old) (E.written err.new)
+        (error_line (Status.Definitions fault.now))) }
+    ensures part { OnErr result (AppendsPart (E.written err.old) (E.written err.new)
+        (error_line (Status.Definitions fault.now))) }
+    ensures cause { HasCause (E.faults err.old) (E.faults err.new) result }
+{
+    match fault {
+        LetFault::BadLet { at } => tell_number(err, "montre: definitions: BadLet at ", *at),
+        LetFault::Twice { at } => tell_number(err, "montre: definitions: Twice at ", *at),
+        LetFault::Memory => put_pieces(err, &["montre: definitions: Memory\n"]),
+    }
+}
+
+// Tells a line that ends with a number.
+fn tell_number<E: Sink>(err: &mut E, front: &str, number: u64) -> Result<(), Failed>
+    ensures line { OnOk result (Appends (E.written err.old) (E.written err.new)
+        (front.now ++ (decimal number ++ codes "\n"))) }
+    ensures part { OnErr result (AppendsPart (E.written err.old) (E.written err.new)
+        (front.now ++ (decimal number ++ codes "\n"))) }
+    ensures cause { HasCause (E.faults err.old) (E.faults err.new) result }
+{
+    let mut buffer = Buffer::new();
+    let digits = buffer.format(number);
+    put_pieces(err, &[front, digits, "\n"])
 }
 
 /// Tells standard error how the run ended. It takes no memory: the line goes out piece by piece.
@@ -103,13 +133,16 @@ pub fn tell_status<E: Sink>(status: &Status, err: &mut E) -> Result<(), Failed>
     match status {
         Status::Done => Ok(()),
         Status::Usage => put_pieces(err, &["montre: wrong arguments\n"]),
-        Status::Expression(fault) => tell_fault(fault, err),
+        Status::Expression(fault) => tell_fault("montre: expression: ", fault, err),
+        Status::Minus(fault) => tell_fault("montre: minus expression: ", fault, err),
+        Status::Definitions(fault) => tell_definitions(fault, err),
         Status::Trace(fault) => {
             let mut buffer = Buffer::new();
             let place = buffer.format(fault.place);
             let name = kind_name(fault.kind);
             put_pieces(err, &["montre: trace: ", name, " at ", place, "\n"])
         }
+        Status::TooManyZones { zones } => tell_number(err, "montre: too many zones ", *zones),
         Status::InputTooLong => put_pieces(err, &["montre: input too long\n"]),
         Status::ReadFault => put_pieces(err, &["montre: read fault\n"]),
         Status::WriteFault => put_pieces(err, &["montre: write fault\n"]),

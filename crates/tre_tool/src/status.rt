@@ -1,10 +1,11 @@
 ghost use Rattle.std.specs.Prelude.{◌≡◌};
 
-use crate::job::WordsFault;
 use std::alloc::AllocError;
 use tre_io::Failed;
+use tre_num::LetFault;
 use tre_parse::ParseFault;
 use tre_trace::{TraceFault, TraceKind};
+use tre_words::WordsFault;
 
 /// How a run ended.
 #[derive(Clone, Copy, Debug, PartialEq, Eq)]
@@ -15,10 +16,16 @@ pub enum Status {
     Usage,
     /// The pattern was refused.
     Expression(ParseFault),
+    /// The pattern that is taken away was refused.
+    Minus(ParseFault),
+    /// The definitions were refused.
+    Definitions(LetFault),
     /// The first fault of the input.
     Trace(TraceFault),
     /// The input has more bytes than it may have.
     InputTooLong,
+    /// There are so many zones, which are more than there may be.
+    TooManyZones { zones: u64 },
     /// The input couldn't be opened or read.
     ReadFault,
     /// The output couldn't be written.
@@ -43,6 +50,9 @@ impl Status {
             Status::ReadFault => 6,
             Status::WriteFault => 7,
             Status::Memory => 8,
+            Status::TooManyZones { .. } => 9,
+            Status::Minus(_) => 10,
+            Status::Definitions(_) => 11,
         }
     }
 }
@@ -82,6 +92,20 @@ impl From<ParseFault> for Status {
         match fault {
             ParseFault::Memory => Status::Memory,
             _ => Status::Expression(fault),
+        }
+    }
+}
+
+impl From<LetFault> for Status {
+    ghost use Rattle.std.specs.Prelude.{◌≡◌};
+    ghost use Rattle.tre_tool.specs.Status.{let_status};
+
+    ghost from_gives = { λ fault status. status ≡ let_status fault };
+
+    fn from(fault: LetFault) -> Self {
+        match fault {
+            LetFault::Memory => Status::Memory,
+            _ => Status::Definitions(fault),
         }
     }
 }

@@ -1,45 +1,22 @@
-ghost use Rattle.std.specs.Prelude.{◌≡◌, ◌≢◌, ◌+◌, ℕ, IsTrue, IfSome, IfOk, IfErr, false, map, string_bytes};
+ghost use Rattle.std.specs.Prelude.{◌≡◌, ◌≢◌, ◌+◌, ℕ, IsTrue, IfSome, false, map, string_bytes};
 ghost use Rattle.std.specs.Io.KnownBytes.{Appends};
 ghost use Rattle.tre_io.specs.Faults.{Rises};
-ghost use Rattle.tre_syntax.specs.Pattern.{pattern_tree, names_of};
 ghost use Rattle.tre_tool.specs.Answer.{status_of};
 ghost use Rattle.tre_tool.specs.Input.{TakesAtMost};
-ghost use Rattle.tre_tool.specs.Job.{GivesJob, HaveNoFault};
 ghost use Rattle.tre_tool.specs.Devices.{input_told, output_told};
-ghost use Rattle.tre_tool.specs.Request.{ArePatterns, IsRefusalIn, AsksForNothing, alone};
+ghost use Rattle.tre_tool.specs.Request.{AsksForNothing};
 ghost use Rattle.tre_tool.specs.Run.{AsksForMadeRun, ReadsInput, EndsAs, EndsMadeRun, IsComplete, IsLineTold};
 ghost use Rattle.tre_tool.specs.Status.{error_line};
-ghost use Rattle.tre_tool.specs.declared.job.Job.{Job};
+ghost use Rattle.tre_words.specs.Job.{GivesJob, HaveNoFault};
+ghost use Rattle.tre_words.specs.declared.job.Job.{Job};
 
 use crate::answer::answer;
-use crate::job::{Job, Mode};
+use crate::asked::asked_by;
 use crate::report::tell_status;
 use crate::status::Status;
-use crate::words::read_words;
 use std::alloc::Global;
-use tre_generate::fixed_pattern;
 use tre_io::{Sink, Source};
-use tre_parse::{ParseFault, parse};
-use tre_syntax::Pattern;
-
-// The pattern of a job: a made run has its own, and others that of their text.
-fn pattern_of(alloc: Global, job: &Job) -> Result<Pattern, ParseFault>
-    ensures spells { IfOk result (λ pattern. ArePatterns job.now.mode job.now
-        (alone (pattern_tree pattern) (names_of pattern))) }
-    ensures refuses { IfErr result (λ fault. fault ≢ ParseFault.Memory →
-        IsRefusalIn job.now.mode job.now (Status.Expression fault)) }
-{
-    match job.mode {
-        Mode::Generate { .. } => {
-            let pattern = fixed_pattern(alloc)?;
-            Ok(pattern)
-        }
-        _ => {
-            let pattern = parse(alloc, job.expr.text())?;
-            Ok(pattern)
-        }
-    }
-}
+use tre_words::read_words;
 
 // Runs, and leaves it to the caller to tell how the run ended.
 fn run_words<S: Source, O: Sink>(
@@ -67,8 +44,8 @@ fn run_words<S: Source, O: Sink>(
         HaveNoFault (map string_bytes words.now) }
 {
     let job = read_words(alloc, words)?;
-    let pattern = pattern_of(alloc, &job)?;
-    answer(alloc, pattern, &job, input, out)?;
+    let asked = asked_by(alloc, &job)?;
+    answer(alloc, asked, &job, input, out)?;
     Ok(())
 }
 
@@ -83,10 +60,11 @@ fn ending(ended: Result<(), Status>) -> Status
 }
 
 /// Matches the pattern in the words over the input that they name, writes the zones of all matches
-/// to `out`, and tells `err` how the run ended. With `--online` it writes a block of zones for each
-/// segment as soon as that is complete, and at the end those that events there complete; with
-/// `--show` the pattern's text instead. With `--generate` as the first word it reads no input, and
-/// writes the summary of a made trace.
+/// to `out`, and tells `err` how the run ended. With `--minus` those of another pattern are taken
+/// away, and with `--normal` the zones are the one list that their pairs have. With `--online` it
+/// writes a block of zones for each segment as soon as that is complete, and at the end those that
+/// events there complete; with `--show` the pattern's text instead. With `--generate` as the first
+/// word it reads no input, and writes the summary of a made trace.
 ///
 /// The words are those after the program's name. What `ends` says of bytes holds where the source
 /// and the sinks tell their bytes; what it says of counts holds for every source and sink. A count

@@ -15,7 +15,7 @@ bit_scalar letter is = grind (arith, nat_tests)
 -- where nothing is open among the values
 pub values-say : (terms : Terms) (place : Place) (part : List ℕ) (letter : ℕ) (rest : List ℕ)
     → part ≡ letter ∷ rest → is_defined place.past ≡ true → place.inside ≡ nothing
-    → token_says terms place part ≡ value_says terms.names place.past part
+    → token_says terms place part ≡ value_says terms place.past part
 values-say terms place part letter rest is defined open_none =
     says-letter terms place part letter rest is ∙ rw (open_none, defined) refl
 
@@ -26,8 +26,8 @@ pub bit-says : (terms : Terms) (place : Place) (part : List ℕ) (letter : ℕ) 
     ≡ goes_to (change scalar rest (letter == 49) ∷ place.past) nothing
 bit-says terms place part letter rest is bit some defined open_none =
     values-say terms place part letter rest is defined open_none
-    ∙ (ap (value_says terms.names place.past) is
-    ∙ (scalar_value terms.names place.past letter rest (bit_scalar letter bit)
+    ∙ (ap (value_says terms place.past) is
+    ∙ (scalar_value terms place.past letter rest (bit_scalar letter bit)
     ∙ scalar-says place.past letter rest some))
 
 -- Nothing is open, and the place is among the values.

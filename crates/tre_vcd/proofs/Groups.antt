@@ -59,7 +59,7 @@ section_run : (terms : Terms) (past : List Statement) (command : List ℕ)
     → section_says past command inner ≡ goes_to now nothing
     → run terms (at past nothing) (section_of command inner) ≡ stay (at now nothing)
 section_run terms past command inner now defined opens closed says =
-    ap (λ (is : Bool). then_run (if is then value_says terms.names past command
+    ap (λ (is : Bool). then_run (if is then value_says terms past command
     else command_says terms past command)
     (λ place. run terms place (inner ++ codes "$end" ∷ []))) defined
     ∙ ap (λ said. then_run said (λ place. run terms place (inner ++ codes "$end" ∷ []))) opens
@@ -70,10 +70,10 @@ section_run terms past command inner now defined opens closed says =
 -- one token behind the declarations
 value_run : (terms : Terms) (past : List Statement) (token : List ℕ)
     (more : List (List ℕ)) (now : Place) → is_defined past ≡ true
-    → value_says terms.names past token ≡ stay now
+    → value_says terms past token ≡ stay now
     → run terms (at past nothing) (token ∷ more) ≡ run terms now more
 value_run terms past token more now defined says =
-    ap (λ (is : Bool). then_run (if is then value_says terms.names past token
+    ap (λ (is : Bool). then_run (if is then value_says terms past token
     else command_says terms past token) (λ place. run terms place more)) defined
     ∙ ap (λ said. then_run said (λ place. run terms place more)) says
     ∙ with_front-none (run terms now more)
@@ -142,11 +142,11 @@ then_stay (Ok step) =
 
 one_run : (terms : Terms) (past : List Statement) (token : List ℕ)
     (said : Result (Step Place) TraceKind) → is_defined past ≡ true
-    → value_says terms.names past token ≡ said → run terms (at past nothing) (token ∷ []) ≡ said
+    → value_says terms past token ≡ said → run terms (at past nothing) (token ∷ []) ≡ said
 one_run terms past token said defined says =
-    ap (λ (is : Bool). then_run (if is then value_says terms.names past token
+    ap (λ (is : Bool). then_run (if is then value_says terms past token
     else command_says terms past token) stay) defined
-    ∙ then_stay (value_says terms.names past token)
+    ∙ then_stay (value_says terms past token)
     ∙ says
 
 if_later : (same : Bool) (segment : Segment) (now : List Statement)
@@ -163,10 +163,10 @@ time_tells asked past ticks late in_time =
     rw (not_below ticks (time_at past) late, not_below TIME_MAX ticks in_time)
     (if_later (ticks == time_at past) (segment_until asked past ticks) (time ticks ∷ past))
 
-pub scalar_value : (asked : Vocabulary) (past : List Statement) (letter : ℕ) (identifier : List ℕ)
+pub scalar_value : (terms : Terms) (past : List Statement) (letter : ℕ) (identifier : List ℕ)
     → is_scalar letter ≡ true
-    → value_says asked past (letter ∷ identifier) ≡ scalar_says past letter identifier
-scalar_value asked past letter identifier is =
+    → value_says terms past (letter ∷ identifier) ≡ scalar_says past letter identifier
+scalar_value terms past letter identifier is =
     rw (
       scalar_hash letter is,
       scalar_dollar letter is,
@@ -180,10 +180,10 @@ some_scalar : (past : List Statement) (letter : ℕ) (identifier : List ℕ) →
 some_scalar past letter [] some = absurd (omega (arith, some))
 some_scalar past letter (byte ∷ bytes) some = refl
 
-vector_value : (asked : Vocabulary) (past : List Statement) (letter : ℕ) (bits : List ℕ)
+vector_value : (terms : Terms) (past : List Statement) (letter : ℕ) (bits : List ℕ)
     → is_vector letter ≡ true
-    → value_says asked past (letter ∷ bits) ≡ vector_says past bits
-vector_value asked past letter bits is =
+    → value_says terms past (letter ∷ bits) ≡ vector_says past bits
+vector_value terms past letter bits is =
     rw (vector_hash letter is, vector_dollar letter is, is) refl
 
 some_vector : (past : List Statement) (bits : List ℕ) → 0 < length bits
@@ -191,17 +191,17 @@ some_vector : (past : List Statement) (bits : List ℕ) → 0 < length bits
 some_vector past [] some = absurd (omega (arith, some))
 some_vector past (byte ∷ bytes) some = refl
 
-number_value : (asked : Vocabulary) (past : List Statement) (letter : ℕ) (bytes : List ℕ)
-    → is_number letter ≡ true → value_says asked past (letter ∷ bytes) ≡ goes_to past number
-number_value asked past letter bytes is =
+number_value : (terms : Terms) (past : List Statement) (letter : ℕ) (bytes : List ℕ)
+    → is_number letter ≡ true → value_says terms past (letter ∷ bytes) ≡ goes_to past number
+number_value terms past letter bytes is =
     rw (number_hash letter is, number_dollar letter is, number_vector letter is, is) refl
 
 pub is_word : (token word : List ℕ) → bytes_eq token word ≡ true → token ≡ word
 is_word token word same = (bytes_eq-Decides token word).0 same
 
-dump_value : (asked : Vocabulary) (past : List Statement) (token : List ℕ)
-    → is_dump token ≡ true → value_says asked past token ≡ dump_says past
-dump_value asked past token opens =
+dump_value : (terms : Terms) (past : List Statement) (token : List ℕ)
+    → is_dump token ≡ true → value_says terms past token ≡ dump_says past
+dump_value terms past token opens =
     ⊎_elim
     (λ first. ⊎_elim
     (λ other. ⊎_elim
@@ -222,7 +222,7 @@ scalar_run terms past identifier value tokens one defined =
     rw (one.is, one.value_is)
     (one_run terms past (one.letter ∷ identifier)
     (goes_to (change scalar identifier (one.letter == 49) ∷ past) nothing) defined
-    (scalar_value terms.names past one.letter identifier one.scalar
+    (scalar_value terms past one.letter identifier one.scalar
     ∙ some_scalar past one.letter identifier one.some))
 
 vector_run : (terms : Terms) (past : List Statement) (identifier : List ℕ) (value : Bool)
@@ -232,12 +232,12 @@ vector_run terms past identifier value tokens one defined =
     rw (one.is, one.value_is)
     (value_run terms past (one.letter ∷ one.bits) (identifier ∷ [])
     (at past (vector (ends_true one.bits))) defined
-    (vector_value terms.names past one.letter one.bits one.vector
+    (vector_value terms past one.letter one.bits one.vector
     ∙ some_vector past one.bits one.some))
 
 -- what says something goes on behind it
 pub writes_run : (terms : Terms) (past : List Statement) (statement : Statement)
-    (tokens : List (List ℕ)) → Write statement tokens → Belongs past statement
+    (tokens : List (List ℕ)) → Write terms.scale statement tokens → Belongs past statement
     → Fits terms past statement
     → run terms (at past nothing) tokens ≡ tells (brought terms.names past statement) (statement ∷ past)
 writes_run terms past (scope name) tokens writes belongs fits =
@@ -270,7 +270,7 @@ writes_run terms past (change wide identifier value) tokens writes belongs fits 
 writes_run terms past dump tokens writes belongs fits =
     rw writes.is
     (one_run terms past writes.token (tells [] (dump ∷ past)) belongs.0
-    (dump_value terms.names past writes.token writes.opens ∙ rw belongs.1 refl))
+    (dump_value terms past writes.token writes.opens ∙ rw belongs.1 refl))
 writes_run terms past dump_end tokens writes belongs fits =
     rw writes
     (one_run terms past (codes "$end") (tells [] (dump_end ∷ past)) belongs.0
@@ -295,7 +295,7 @@ silent_run terms past tokens true defined (inl remark) =
 silent_run terms past tokens true defined (inr one) =
     rw one.is
     (value_run terms past (one.letter ∷ one.bytes) (one.identifier ∷ []) (at past number) defined
-    (number_value terms.names past one.letter one.bytes one.number))
+    (number_value terms past one.letter one.bytes one.number))
 
 -- ---- what groups say
 

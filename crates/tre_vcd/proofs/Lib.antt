@@ -1,3 +1,4 @@
+mod Alike
 mod Bits
 mod Deciding
 mod Dumps
@@ -5,6 +6,7 @@ mod Groups
 mod Knowing
 mod Letters
 mod Naming
+mod Needing
 mod NoRule
 mod Pasts
 mod Reading

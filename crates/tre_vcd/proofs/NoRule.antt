@@ -1,5 +1,5 @@
 -- Where a token stops the reading.
-use Rattle.std.proofs.Common.{◌≡◌, inl, inr, ⊎_elim, ℕ, ◌<◌, ◌≤◌, nat_lt, ◌==◌, ◌||◌, ◌&&◌, not, Bool, true, false, List, [], ◌∷◌, ◌++◌, append_assoc, append-nil, length, replicate, codes, Result, Err, refl, sym, ap, subst, ◌∙◌, arith, if◌then◌else◌}
+use Rattle.std.proofs.Common.{◌≡◌, inl, inr, ⊎_elim, ℕ, ◌*◌, ◌^◌, ◌<◌, ◌≤◌, nat_lt, ◌==◌, ◌||◌, ◌&&◌, not, Bool, true, false, List, [], ◌∷◌, ◌++◌, append_assoc, append-nil, length, replicate, codes, Result, Err, refl, sym, ap, subst, ◌∙◌, arith, if◌then◌else◌}
 use Rattle.std.proofs.lemmas.Bool.{cases_Bool, or_parts}
 use Rattle.std.proofs.lemmas.Bool.Decides.{nat_tests}
 use Rattle.std.proofs.lemmas.List.Elements.{All-nil, All-head, All-tail, All-replicate}
@@ -7,7 +7,6 @@ use Rattle.std.specs.Str.Parse.{digits_value}
 use Rattle.tre_pairs.specs.declared.TheConstants.{TIME_MAX}
 use Rattle.tre_parts.specs.Format.{Step}
 use Rattle.tre_decimal.specs.Decimal.{is_numeral}
-use Rattle.tre_trace.specs.Reading.{Vocabulary}
 use Rattle.tre_trace.specs.declared.fault.TraceKind.{TraceKind}
 use Rattle.tre_trace.specs.declared.fault.TraceKind.TheVariants.{LineTooLong, BadNumber, Zero, TooLate, BadName, BadToken, UnknownName, TimeBack, CutShort, Spent, Memory}
 use Rattle.tre_vcd.specs.Dumps.{AreInner, IsTime, is_vector, is_number, AreSilent, FitsNoRule, EndsEarly, LacksName, HasFault}
@@ -34,7 +33,7 @@ blanks_inner count = All-replicate (λ t. is_end t ≡ false) count [] refl
 -- ---- among the declarations
 
 module _ (terms : Terms) (past : List Statement) (token : List ℕ)
-    (defined : is_defined past ≡ false) (none : FitsNoRule past token) where
+    (defined : is_defined past ≡ false) (none : FitsNoRule terms.scale past token) where
   never_scope : is token (codes "$scope") ≡ false
   never_scope =
       ⊎_elim
@@ -126,12 +125,12 @@ module _ (terms : Terms) (past : List Statement) (token : List ℕ)
 
 -- ---- behind them
 
-module _ (asked : Vocabulary) (past : List Statement) (byte : ℕ) (bytes : List ℕ)
-    (defined : is_defined past ≡ true) (none : FitsNoRule past (byte ∷ bytes)) where
-  no_time : (byte == 35) ≡ true → ticks_say asked past bytes ≡ Err BadToken
+module _ (terms : Terms) (past : List Statement) (byte : ℕ) (bytes : List ℕ)
+    (defined : is_defined past ≡ true) (none : FitsNoRule terms.scale past (byte ∷ bytes)) where
+  no_time : (byte == 35) ≡ true → ticks_say terms past bytes ≡ Err BadToken
   no_time hash =
       by_cases (is_numeral bytes) _ _ (Err BadToken)
-      (λ numeral. absurd (none.says_nothing [] (time (digits_value 10 bytes)) (record {
+      (λ numeral. absurd (none.says_nothing [] (time (digits_value 10 bytes * 10 ^ terms.scale)) (record {
         digits = bytes;
         is = ap (λ b. (b ∷ bytes) ∷ []) (byte_is byte 35 hash);
         numeral = numeral;
@@ -207,7 +206,7 @@ module _ (asked : Vocabulary) (past : List Statement) (byte : ℕ) (bytes : List
         value_is = refl;
       }) defined)
 
-  pub says_no_value : value_says asked past (byte ∷ bytes) ≡ Err BadToken
+  pub says_no_value : value_says terms past (byte ∷ bytes) ≡ Err BadToken
   says_no_value =
       by_cases (byte == 35) _ _ (Err BadToken) no_time
       (λ _. by_cases (byte == 36) _ _ (Err BadToken) (λ _. no_keyword)
@@ -226,13 +225,13 @@ pub record Stops (terms : Terms) (past : List Statement) (begun : List (List ℕ
   pub stops : token_at terms past inside token ≡ Err kind
 
 no_rule : (terms : Terms) (past : List Statement) (token : List ℕ) (defined : Bool)
-    → is_defined past ≡ defined → 0 < length token → FitsNoRule past token
+    → is_defined past ≡ defined → 0 < length token → FitsNoRule terms.scale past token
     → first_says terms past token ≡ Err BadToken
 no_rule terms past token false defined some none =
     rw defined (opens_nothing terms past token defined none)
 no_rule terms past [] true defined some none = absurd (omega (arith, some))
 no_rule terms past (byte ∷ bytes) true defined some none =
-    rw defined (says_no_value terms.names past byte bytes defined none)
+    rw defined (says_no_value terms past byte bytes defined none)
 
 first_stops : (terms : Terms) (past : List Statement) (begun : List (List ℕ))
     (token : List ℕ) (kind : TraceKind) → begun ≡ [] → first_says terms past token ≡ Err kind
@@ -264,7 +263,7 @@ section_open : (terms : Terms) (past : List Statement) (command : List ℕ)
     → command_says terms past command ≡ goes_to past (section command []) → AreInner inner
     → run terms (at past nothing) (command ∷ inner) ≡ stay (at past (section command inner))
 section_open terms past command inner defined opens closed =
-    ap (λ (is : Bool). then_run (if is then value_says terms.names past command
+    ap (λ (is : Bool). then_run (if is then value_says terms past command
     else command_says terms past command) (λ place. run terms place inner)) defined
     ∙ ap (λ said. then_run said (λ place. run terms place inner)) opens
     ∙ with_front-none (run terms (at past (section command [])) inner)
@@ -310,7 +309,7 @@ not_below : (a b : ℕ) → b ≤ a → nat_lt a b ≡ false
 not_below a b le = grind (arith, nat_tests)
 
 timed : (terms : Terms) (past : List Statement) (token : List ℕ) (ticks : ℕ)
-    (said : Result (Step Place) TraceKind) → is_defined past ≡ true → IsTime ticks (token ∷ [])
+    (said : Result (Step Place) TraceKind) → is_defined past ≡ true → IsTime terms.scale ticks (token ∷ [])
     → time_says terms.names past ticks ≡ said → first_says terms past token ≡ said
 timed terms past token ticks said defined one says =
     let token_is : token ≡ 35 ∷ one.digits = cc (one.is) in

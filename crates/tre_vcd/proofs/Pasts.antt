@@ -1,5 +1,5 @@
 -- What is known of the past, one statement later.
-use Rattle.std.proofs.Common.{◌≡◌, ◌≢◌, ℕ, ◌==◌, ◌||◌, ◌&&◌, not, Bool, true, false, None, Some, List, ◌∷◌, [], length, refl, sym, ap, ◌∙◌, arith, if◌then◌else◌}
+use Rattle.std.proofs.Common.{◌≡◌, ◌≢◌, ℕ, ◌==◌, ◌||◌, ◌&&◌, not, Bool, true, false, None, List, ◌∷◌, [], length, refl, sym, ap, ◌∙◌, arith, if◌then◌else◌}
 use Rattle.std.specs.Int.{bit_at}
 use Rattle.std.specs.Str.{bytes_eq}
 use Rattle.std.proofs.lemmas.Slice.Eq.{bytes_eq-Decides}
@@ -327,18 +327,14 @@ events-said names event_names kept past identifier value happened bits outside h
 -- ---- declarations
 
 pub keeps-declared : (test : List ℕ → List ℕ → Bool) (past : List Statement)
-    (tokens names : List (List ℕ)) (identifier reference bytes : List ℕ) (kept : Variables)
-    → Declares test (scopes_at past) tokens identifier reference
-    → bytes ≡ path (scopes_at past) reference
-    → KeepsNames (and_declared (identifier_of test past) bytes identifier) names kept
+    (tokens names : List (List ℕ)) (identifier path : List ℕ) (kept : Variables)
+    → Declares test (scopes_at past) tokens identifier path
+    → KeepsNames (and_declared (identifier_of test past) path identifier) names kept
     → KeepsNames (identifier_of test (var tokens ∷ past)) names kept
-keeps-declared test past tokens names identifier reference bytes kept declares is keeps =
-    keeps-same (and_declared (identifier_of test past) bytes identifier)
+keeps-declared test past tokens names identifier path kept declares keeps =
+    keeps-same (and_declared (identifier_of test past) path identifier)
     (identifier_of test (var tokens ∷ past)) names kept
-    (λ name. ap (first_of (identifier_of test past name))
-    (declares.is name
-    ∙ ap (λ text. if bytes_eq name text then Some identifier else None) (sym is)))
-    keeps
+    (λ name. ap (first_of (identifier_of test past name)) (declares.is name)) keeps
 
 pub keeps-undeclared : (test : List ℕ → List ℕ → Bool) (past : List Statement)
     (tokens names : List (List ℕ)) (kept : Variables) → DeclaresNone test (scopes_at past) tokens

@@ -1,7 +1,8 @@
 -- Files and what they say, by computation.
 use Rattle.std.specs.Prelude.{◌≡◌, ℕ, List, [], ◌∷◌, ◌++◌, true, None, Some, codes, refl}
 use Rattle.tre_trace.specs.Segments.{segment_with, plain_segment}
-use Rattle.tre_vcd.specs.VcdReading.{Terms, terms_of, vcd_reading, token_says, end_says}
+use Rattle.tre_trace.specs.Reading.{Vocabulary}
+use Rattle.tre_vcd.specs.VcdReading.{Terms, vcd_reading, token_says, end_says}
 use Rattle.tre_parts.specs.Format.{reading_from}
 use Rattle.tre_trace.specs.declared.fault.TraceKind.TheVariants.{UnknownName, TimeBack, CutShort}
 
@@ -10,7 +11,9 @@ lines [] = []
 lines (line ∷ rest) = line ++ 10 ∷ lines rest
 
 abbrev asking : List (List ℕ) → Terms
-asking names = terms_of (record { names = names; events = [] })
+asking names =
+    let asked : Vocabulary = record { names = names; events = [] } in
+    record { names = asked; declared = asked ∷ []; scale = 0 }
 
 abbrev worked : List ℕ
 worked =
@@ -60,13 +63,17 @@ with_events values =
     ++ values
 
 abbrev asking_event : Terms
-asking_event = terms_of (record { names = []; events = codes "top.e" ∷ [] })
+asking_event = record {
+  names = record { names = []; events = codes "top.e" ∷ [] };
+  declared = [];
+  scale = 3;
+}
 
--- at a time, in a dump section, and at the last time
+-- at a time, in a dump section, and at the last time, of a thousand units each
 events_say : vcd_reading asking_event true
     (with_events (codes "#4 1% #6 $dumpall 1% $end #7 #7 0% "))
     ≡ record {
-      segments = plain_segment 4 0 ∷ segment_with 2 0 1 ∷ plain_segment 1 0 ∷ [];
+      segments = plain_segment 4000 0 ∷ segment_with 2000 0 1 ∷ plain_segment 1000 0 ∷ [];
       last = 1;
       fault = None;
     }

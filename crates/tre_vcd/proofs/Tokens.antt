@@ -46,7 +46,8 @@ scope-long past (kind ∷ own ∷ tokens) name long is =
 declares-four : (test : List ℕ → List ℕ → Bool) (scopes tokens : List (List ℕ))
     → length (take 5 tokens) ≡ 4
     → test (get_or (take 5 tokens) 0 []) (get_or (take 5 tokens) 1 []) ≡ true
-    → Declares test scopes tokens (get_or (take 5 tokens) 2 []) (get_or (take 5 tokens) 3 [])
+    → Declares test scopes tokens (get_or (take 5 tokens) 2 [])
+    (path scopes (get_or (take 5 tokens) 3 []))
 declares-four test scopes [] four passed = absurd (omega (arith, four))
 declares-four test scopes (a ∷ []) four passed = absurd (omega (arith, four))
 declares-four test scopes (a ∷ b ∷ []) four passed = absurd (omega (arith, four))
@@ -136,11 +137,13 @@ same-test test kept kind size value first second is =
     sym (ap (λ k. test k size) first ∙ ap (λ s. test (get_or kept 0 []) s) second) ∙ is
 
 pub declares-kept : (test : List ℕ → List ℕ → Bool) (scopes tokens : List (List ℕ))
-    (identifier reference : List ℕ) → identifier ≡ get_or (take 5 tokens) 2 []
-    → reference ≡ get_or (take 5 tokens) 3 [] → length (take 5 tokens) ≡ 4
+    (identifier reference name : List ℕ) → identifier ≡ get_or (take 5 tokens) 2 []
+    → reference ≡ get_or (take 5 tokens) 3 [] → name ≡ path scopes reference
+    → length (take 5 tokens) ≡ 4
     → test (get_or (take 5 tokens) 0 []) (get_or (take 5 tokens) 1 []) ≡ true
-    → Declares test scopes tokens identifier reference
-declares-kept test scopes tokens identifier reference third fourth four passed =
-    subst (λ one. Declares test scopes tokens one reference) (sym third)
-    (subst (λ other. Declares test scopes tokens (get_or (take 5 tokens) 2 []) other) (sym fourth)
+    → Declares test scopes tokens identifier name
+declares-kept test scopes tokens identifier reference name third fourth named four passed =
+    subst (λ one. Declares test scopes tokens one name) (sym third)
+    (subst (λ other. Declares test scopes tokens (get_or (take 5 tokens) 2 []) other)
+    (sym (named ∙ ap (path scopes) fourth))
     (declares-four test scopes tokens four passed))

@@ -1,7 +1,7 @@
 -- The bytes of a dump, said of its tokens: sections of declarations, then times and changes.
-use Rattle.std.specs.Prelude.{◌≡◌, ◌⊎◌, ℕ, ◌+◌, ◌<◌, ◌≤◌, nat_le, Bool, true, false, ◌||◌, ◌==◌, List, [], ◌∷◌, ◌++◌, length, codes, if◌then◌else◌}
+use Rattle.std.specs.Prelude.{◌≡◌, ◌⊎◌, ℕ, ◌+◌, ◌*◌, ◌^◌, ◌<◌, ◌≤◌, nat_le, Bool, true, false, ◌||◌, ◌==◌, List, [], ◌∷◌, ◌++◌, length, codes, if◌then◌else◌}
 use Rattle.std.specs.Option.{option_map}
-use Rattle.std.specs.List.{All, list_any}
+use Rattle.std.specs.List.{All, list_all, list_any}
 use Rattle.std.specs.Str.Parse.{digits_value}
 use Rattle.tre_pairs.specs.declared.TheConstants.{TIME_MAX}
 use Rattle.tre_decimal.specs.Decimal.{is_numeral}
@@ -71,12 +71,12 @@ pub record AreDeclaring (tokens inner : List (List ℕ)) : Type 0 where
   pub is : inner ≡ tokens
   pub enough : 4 ≤ length inner
 
--- One token: `#` (35) and the ticks in decimal digits.
-pub record IsTime (ticks : ℕ) (tokens : List (List ℕ)) : Type 0 where
+-- One token: `#` (35) and decimal digits, whose value is 10^scale units each.
+pub record IsTime (scale ticks : ℕ) (tokens : List (List ℕ)) : Type 0 where
   pub digits : List ℕ
   pub is : tokens ≡ (35 ∷ digits) ∷ []
   pub numeral : is_numeral digits ≡ true
-  pub value : ticks ≡ digits_value 10 digits
+  pub value : ticks ≡ digits_value 10 digits * 10 ^ scale
 
 -- One token: the letter of the value, and the identifier. `1` (49) alone is true.
 pub record IsScalar (identifier : List ℕ) (value : Bool) (tokens : List (List ℕ)) : Type 0 where
@@ -117,17 +117,17 @@ pub record IsDump (tokens : List (List ℕ)) : Type 0 where
   pub is : tokens ≡ token ∷ []
   pub opens : is_dump token ≡ true
 
--- The tokens say this.
-abbrev pub Write : Statement → List (List ℕ) → Type 0
-Write (scope name) tokens = IsSection (codes "$scope") (HasName name) tokens
-Write upscope tokens = IsSection (codes "$upscope") IsAnything tokens
-Write (var inner) tokens = IsSection (codes "$var") (AreDeclaring inner) tokens
-Write definitions tokens = IsSection (codes "$enddefinitions") IsAnything tokens
-Write (time ticks) tokens = IsTime ticks tokens
-Write (change scalar identifier value) tokens = IsScalar identifier value tokens
-Write (change wide identifier value) tokens = IsVector identifier value tokens
-Write dump tokens = IsDump tokens
-Write dump_end tokens = tokens ≡ codes "$end" ∷ []
+-- At this scale the tokens say this.
+abbrev pub Write : ℕ → Statement → List (List ℕ) → Type 0
+Write scale (scope name) tokens = IsSection (codes "$scope") (HasName name) tokens
+Write scale upscope tokens = IsSection (codes "$upscope") IsAnything tokens
+Write scale (var inner) tokens = IsSection (codes "$var") (AreDeclaring inner) tokens
+Write scale definitions tokens = IsSection (codes "$enddefinitions") IsAnything tokens
+Write scale (time ticks) tokens = IsTime scale ticks tokens
+Write scale (change scalar identifier value) tokens = IsScalar identifier value tokens
+Write scale (change wide identifier value) tokens = IsVector identifier value tokens
+Write scale dump tokens = IsDump tokens
+Write scale dump_end tokens = tokens ≡ codes "$end" ∷ []
 
 -- A command of the declarations that says nothing.
 pub record IsOther (command : List ℕ) : Type 0 where
@@ -163,9 +163,9 @@ Belongs past (change form identifier value) = is_defined past ≡ true
 Belongs past dump = (is_defined past ≡ true) × (in_dump past ≡ false)
 Belongs past dump_end = (is_defined past ≡ true) × (in_dump past ≡ true)
 
--- The declarations end once all names are declared, and time doesn't run back.
+-- The declarations end once all names that are needed are declared, and time doesn't run back.
 abbrev pub Fits : Terms → List Statement → Statement → Type 0
-Fits terms past definitions = are_declared past terms.declared ≡ true
+Fits terms past definitions = list_all (are_declared past) terms.declared ≡ true
 Fits terms past (time ticks) = (time_at past ≤ ticks) × (ticks ≤ TIME_MAX)
 Fits terms past _ = Unit {0}
 
@@ -191,7 +191,7 @@ Bring asked past _ segments rest = segments ≡ rest
 pub record SayNext (terms : Terms) (past : List Statement) (tokens : List (List ℕ))
     (segments : List Segment) (Later : List Statement → List Segment → Type 0) : Type 0 where
   pub statement : Statement
-  pub writes : Write statement tokens
+  pub writes : Write terms.scale statement tokens
   pub belongs : Belongs past statement
   pub fits : Fits terms past statement
   pub rest : List Segment
@@ -225,10 +225,10 @@ pub record CompletesWith (asked : Vocabulary) (last : ℕ) (past : List Statemen
 -- ---- faults
 
 -- No group that says nothing begins with the token, and none that says what belongs here.
-pub record FitsNoRule (past : List Statement) (token : List ℕ) : Type 0 where
+pub record FitsNoRule (scale : ℕ) (past : List Statement) (token : List ℕ) : Type 0 where
   pub not_silent : (more : List (List ℕ)) → ¬ AreSilent (is_defined past) (token ∷ more)
   pub says_nothing : (more : List (List ℕ)) (statement : Statement)
-      → Write statement (token ∷ more) → ¬ Belongs past statement
+      → Write scale statement (token ∷ more) → ¬ Belongs past statement
 
 -- A section of this command was begun, and has fewer tokens than this so far.
 pub record IsShort (command : List ℕ) (least : ℕ) (tokens : List (List ℕ)) : Type 0 where
@@ -244,27 +244,29 @@ pub record EndsEarly (past : List Statement) (begun : List (List ℕ)) (token : 
   pub short : IsShort (codes "$scope") 2 begun ⊎ IsShort (codes "$var") 4 begun
 
 -- The declarations would end, and one of the names that are needed isn't declared.
-pub record LacksName (needed : Vocabulary) (past : List Statement) (token : List ℕ) : Type 0 where
-  pub defined : is_defined past ≡ false
-  pub ends : token ≡ codes "$enddefinitions"
-  pub lacks : are_declared past needed ≡ false
+pub record LacksName (needed : List Vocabulary) (past : List Statement) (token : List ℕ) : Type 0
+  where
+    pub defined : is_defined past ≡ false
+    pub ends : token ≡ codes "$enddefinitions"
+    pub lacks : list_all (are_declared past) needed ≡ false
 
 -- The token is a time behind the declarations, and this holds of it.
-pub record HasTime (past : List Statement) (token : List ℕ) (P : ℕ → Type 0) : Type 0 where
-  pub defined : is_defined past ≡ true
-  pub ticks : ℕ
-  pub time : IsTime ticks (token ∷ [])
-  pub holds : P ticks
+pub record HasTime (scale : ℕ) (past : List Statement) (token : List ℕ) (P : ℕ → Type 0) : Type 0
+  where
+    pub defined : is_defined past ≡ true
+    pub ticks : ℕ
+    pub time : IsTime scale ticks (token ∷ [])
+    pub holds : P ticks
 
 -- The fault of a token, behind the past and the tokens of a group that was begun.
 abbrev pub HasFault : Terms → List Statement → List (List ℕ) → List ℕ → TraceKind → Type 0
 HasFault terms past begun token BadToken =
-    ((begun ≡ []) × FitsNoRule past token) ⊎ EndsEarly past begun token
+    ((begun ≡ []) × FitsNoRule terms.scale past token) ⊎ EndsEarly past begun token
 HasFault terms past begun token UnknownName = (begun ≡ []) × LacksName terms.declared past token
 HasFault terms past begun token TimeBack =
-    (begun ≡ []) × HasTime past token (λ ticks. ticks < time_at past)
+    (begun ≡ []) × HasTime terms.scale past token (λ ticks. ticks < time_at past)
 HasFault terms past begun token TooLate =
-    (begun ≡ []) × HasTime past token (λ ticks. (time_at past ≤ ticks) × (TIME_MAX < ticks))
+    (begun ≡ []) × HasTime terms.scale past token (λ ticks. (time_at past ≤ ticks) × (TIME_MAX < ticks))
 HasFault terms past begun token _ = ⊥
 
 -- ---- more white space

@@ -4,10 +4,12 @@ use Rattle.std.specs.Option.{option_map}
 use Rattle.std.specs.Str.{bytes_eq}
 use Rattle.std.specs.Int.{bit_at}
 use Rattle.tre_state.specs.Sieve.{MayBe}
-use Rattle.tre_vcd.specs.VcdReading.{Statement, is_defined, time_at, scopes_at, in_dump, value_at, happened_at, is_signal, is_event, identifier_of, identifier_in, first_of, valuation_at, events_at, path}
+use Rattle.tre_trace.specs.Reading.{Vocabulary}
+use Rattle.tre_vcd.specs.VcdReading.{Statement, is_defined, time_at, scopes_at, in_dump, value_at, happened_at, is_signal, is_event, identifier_of, identifier_in, first_of, valuation_at, events_at}
 use Rattle.tre_vcd.specs.declared.variable.Variable.{Variable}
 use Rattle.tre_vcd.specs.declared.variables.Variables.{Variables}
 use Rattle.tre_vcd.specs.declared.past.Past.{Past}
+use Rattle.tre_vcd.specs.declared.needed.Needed.{Needed}
 
 -- ---- scopes
 
@@ -91,11 +93,28 @@ pub record Knows (names event_names : List (List ℕ)) (kept : Past) (past : Lis
     pub happened : kept.happened ≡ events_at past event_names
     pub quiet : is_defined past ≡ false → IsQuiet past
 
+-- ---- names that must be declared
+
+abbrev pub vocabulary_of : Needed → Vocabulary
+vocabulary_of needed = record { names = needed.names; events = needed.events }
+
+-- It is kept which of the names that are needed were declared.
+pub record KnowsNeeded (past : List Statement) (needed : Needed) : Type 0 where
+  pub propositions : KeepsNames (identifier_of is_signal past) needed.names needed.propositions
+  pub events : KeepsNames (identifier_of is_event past) needed.events needed.happenings
+
+-- It is kept of each of them.
+abbrev pub KnowsAll : List Statement → List Needed → Type 0
+KnowsAll past [] = Unit {0}
+KnowsAll past (needed ∷ others) = KnowsNeeded past needed × KnowsAll past others
+
+-- ---- what a declaration declares
+
 -- By variables that pass the test, the tokens declare this path alone.
 pub record Declares (test : List ℕ → List ℕ → Bool) (scopes tokens : List (List ℕ))
-    (identifier reference : List ℕ) : Type 0 where
+    (identifier path : List ℕ) : Type 0 where
   pub is : (name : List ℕ) → identifier_in test scopes name tokens
-      ≡ (if bytes_eq name (path scopes reference) then Some identifier else None)
+      ≡ (if bytes_eq name path then Some identifier else None)
 
 -- By variables that pass the test, the tokens declare no name.
 pub record DeclaresNone (test : List ℕ → List ℕ → Bool) (scopes tokens : List (List ℕ)) : Type 0

@@ -1,8 +1,8 @@
 -- What the reader keeps of what is open.
 use Rattle.std.specs.Prelude.{◌≡◌, ℕ, Bool, true, false, List, [], codes, map, take, if◌then◌else◌}
 use Rattle.tre_trace.specs.Reading.{Vocabulary}
-use Rattle.tre_vcd.specs.VcdReading.{Terms, terms_of, Open, nothing, section, comment, vector, number, Place, is, is_defined}
-use Rattle.tre_vcd.specs.Kept.{Knows}
+use Rattle.tre_vcd.specs.VcdReading.{Terms, Open, nothing, section, comment, vector, number, Place, is, is_defined}
+use Rattle.tre_vcd.specs.Kept.{Knows, KnowsAll, vocabulary_of}
 use Rattle.tre_vcd.specs.declared.command.Command.{Command}
 use Rattle.tre_vcd.specs.declared.command.Command.TheVariants.{Scope, Upscope, Var, EndDefinitions, Other}
 use Rattle.tre_vcd.specs.declared.inside.Inside.{Inside}
@@ -49,12 +49,17 @@ abbrev pub asked_of : TokenReader → Vocabulary
 asked_of reader = record { names = reader.names; events = reader.events }
 
 abbrev pub terms_kept : TokenReader → Terms
-terms_kept reader = terms_of (asked_of reader)
+terms_kept reader = record {
+  names = asked_of reader;
+  declared = map vocabulary_of reader.needed.items;
+  scale = reader.scale.exponent;
+}
 
 -- The reader is at this place: it knows the past, and of what is open it keeps what counts. Of a
 -- section the first `KEPT_MAX` tokens do.
 pub record Holds (reader : TokenReader) (place : Place) : Type 0 where
   pub past : Knows reader.names reader.events reader.past place.past
+  pub needed : KnowsAll place.past reader.needed.items
   pub inside : reader.inside ≡ inside_of place.inside
   pub tokens : map (λ token. token.items) reader.tokens.items
       ≡ take KEPT_MAX (tokens_of place.inside)

@@ -1,7 +1,7 @@
 -- A token says its segment in the order of time.
-use Rattle.std.proofs.Common.{◌≡◌, ℕ, ◌<◌, ◌≤◌, nat_lt, ◌==◌, ◌||◌, ◌&&◌, not, Bool, true, false, List, [], ◌∷◌, ◌++◌, length, codes, Result, Ok, Err, refl, sym, arith, subst, if◌then◌else◌}
+use Rattle.std.proofs.Common.{◌≡◌, ℕ, ◌*◌, ◌^◌, ◌<◌, ◌≤◌, nat_lt, ◌==◌, ◌||◌, ◌&&◌, not, Bool, true, false, List, [], ◌∷◌, ◌++◌, length, codes, Result, Ok, Err, refl, sym, arith, subst, if◌then◌else◌}
 use Rattle.std.proofs.lemmas.Bool.Decides.{nat_tests}
-use Rattle.std.specs.List.{list_any}
+use Rattle.std.specs.List.{list_all, list_any}
 use Rattle.std.specs.Str.Parse.{digits_value}
 use Rattle.tre_pairs.specs.declared.TheConstants.{TIME_MAX}
 use Rattle.tre_decimal.specs.Decimal.{is_numeral}
@@ -58,7 +58,7 @@ keeps-command terms past token =
     (keeps-err past BadToken)
     (keeps-if past (is token (codes "$upscope") && length (scopes_at past) == 0) _ _
     (keeps-err past BadToken)
-    (keeps-if past (is token (codes "$enddefinitions") && not (are_declared past terms.declared)) _
+    (keeps-if past (is token (codes "$enddefinitions") && not (list_all (are_declared past) terms.declared)) _
     _ (keeps-err past UnknownName) (keeps-goes past past (section token []) refl)))
 
 keeps-later : (asked : Vocabulary) (past : List Statement) (ticks : ℕ) → time_at past < ticks
@@ -99,11 +99,11 @@ keeps-ticks asked past ticks false false false e l s =
     let fits : ticks ≤ TIME_MAX = grind (arith, nat_tests) in
     keeps-later asked past ticks (omega (arith, not_before, other)) fits
 
-keeps-number : (asked : Vocabulary) (past : List Statement) (digits : List ℕ) → KeepsOrder past
-    (ticks_say asked past digits)
-keeps-number asked past digits =
+keeps-number : (terms : Terms) (past : List Statement) (digits : List ℕ) → KeepsOrder past
+    (ticks_say terms past digits)
+keeps-number terms past digits =
     keeps-if past (is_numeral digits) _ _
-    (keeps-ticks asked past (digits_value 10 digits) _ _ _ refl refl refl)
+    (keeps-ticks terms.names past (digits_value 10 digits * 10 ^ terms.scale) _ _ _ refl refl refl)
     (keeps-err past BadToken)
 
 keeps-keyword : (past : List Statement) (token : List ℕ) → KeepsOrder past (keyword_says past token)
@@ -125,11 +125,11 @@ keeps-vector : (past : List Statement) (value : List ℕ) → KeepsOrder past (v
 keeps-vector past [] = keeps-err past BadToken
 keeps-vector past (byte ∷ bytes) = keeps-goes past past (vector (ends_true (byte ∷ bytes))) refl
 
-keeps-value : (asked : Vocabulary) (past : List Statement) (token : List ℕ) → KeepsOrder past
-    (value_says asked past token)
-keeps-value asked past [] = keeps-goes past past nothing refl
-keeps-value asked past (byte ∷ bytes) =
-    keeps-if past (byte == 35) _ _ (keeps-number asked past bytes)
+keeps-value : (terms : Terms) (past : List Statement) (token : List ℕ) → KeepsOrder past
+    (value_says terms past token)
+keeps-value terms past [] = keeps-goes past past nothing refl
+keeps-value terms past (byte ∷ bytes) =
+    keeps-if past (byte == 35) _ _ (keeps-number terms past bytes)
     (keeps-if past (byte == 36) _ _ (keeps-keyword past (byte ∷ bytes))
     (keeps-if past (byte == 98 || byte == 66) _ _ (keeps-vector past bytes)
     (keeps-if past (list_any (λ letter. byte == letter) (codes "rRsS")) _ _
@@ -139,7 +139,7 @@ keeps-value asked past (byte ∷ bytes) =
 keeps-token : (terms : Terms) (past : List Statement) (inside : Open) (token : List ℕ)
     → KeepsOrder past (token_at terms past inside token)
 keeps-token terms past nothing token = keeps-if past (is_defined past) _ _
-    (keeps-value terms.names past token) (keeps-command terms past token)
+    (keeps-value terms past token) (keeps-command terms past token)
 keeps-token terms past (section command tokens) token =
     keeps-if past (is_end token) _ _ (keeps-section past command tokens)
     (keeps-goes past past (section command (tokens ++ token ∷ [])) refl)

@@ -1,5 +1,5 @@
 -- What the tokens of a value change dump say (IEEE Std 1364-2005, clause 18).
-use Rattle.std.specs.Prelude.{ℕ, ◌+◌, ◌-◌, ◌^◌, nat_le, nat_lt, Bool, true, false, not, ◌&&◌, ◌||◌, ◌==◌, List, [], ◌∷◌, ◌++◌, drop, length, Option, None, Some, Result, Ok, Err, codes, if◌then◌else◌}
+use Rattle.std.specs.Prelude.{ℕ, ◌+◌, ◌-◌, ◌*◌, ◌^◌, nat_le, nat_lt, Bool, true, false, not, ◌&&◌, ◌||◌, ◌==◌, List, [], ◌∷◌, ◌++◌, drop, length, Option, None, Some, Result, Ok, Err, codes, if◌then◌else◌}
 use Rattle.std.specs.List.{list_all, list_any}
 use Rattle.std.specs.Str.{bytes_eq}
 use Rattle.std.specs.Str.Parse.{digits_value}
@@ -18,14 +18,19 @@ abbrev pub is_white : ℕ → Bool
 is_white byte = byte == 32 || (nat_le 9 byte && nat_le byte 13)
 
 -- What is asked of a dump: the names whose values and events are read, and those that it must
--- declare.
+-- declare. A time of the dump is 10^scale units of time.
 pub record Terms : Type 0 where
   pub names : Vocabulary
-  pub declared : Vocabulary
+  pub declared : List Vocabulary
+  pub scale : ℕ
 
--- These names are read, and all of them must be declared.
-abbrev pub terms_of : Vocabulary → Terms
-terms_of names = record { names = names; declared = names }
+-- The same, and the dump must declare these names too.
+abbrev pub requiring : Terms → Vocabulary → Terms
+requiring terms needed = record {
+  names = terms.names;
+  declared = terms.declared ++ needed ∷ [];
+  scale = terms.scale;
+}
 
 -- How a change is written: as one letter and its identifier, or as a vector.
 pub data Form : Type 0 where
@@ -218,7 +223,7 @@ abbrev pub command_says : Terms → List Statement → List ℕ → Result (Step
 command_says terms past token =
     if not (is_command token) || is_end token || is_dump token then Err BadToken
     else (if is token (codes "$upscope") && length (scopes_at past) == 0 then Err BadToken
-    else (if is token (codes "$enddefinitions") && not (are_declared past terms.declared)
+    else (if is token (codes "$enddefinitions") && not (list_all (are_declared past) terms.declared)
     then Err UnknownName else goes_to past (section token [])))
 
 -- the segment from the last time to this one: its values, and the events at its begin
@@ -273,18 +278,19 @@ abbrev pub vector_says : List Statement → List ℕ → Result (Step Place) Tra
 vector_says past [] = Err BadToken
 vector_says past value = goes_to past (vector (ends_true value))
 
--- `#` and decimal digits, one at least
-abbrev pub ticks_say : Vocabulary → List Statement → List ℕ → Result (Step Place) TraceKind
-ticks_say asked past digits =
+-- `#` and decimal digits, one at least and no point: the time in units
+abbrev pub ticks_say : Terms → List Statement → List ℕ → Result (Step Place) TraceKind
+ticks_say terms past digits =
     if is_numeral digits
-    then time_says asked past (digits_value 10 digits) else Err BadToken
+    then time_says terms.names past (digits_value 10 digits * 10 ^ terms.scale)
+    else Err BadToken
 
 -- a token among the values, where nothing is open, by its first byte: `#`, `$`, the letters of
 -- vectors, those of reals and strings, and those of scalars
-abbrev pub value_says : Vocabulary → List Statement → List ℕ → Result (Step Place) TraceKind
-value_says asked past [] = goes_to past nothing
-value_says asked past (byte ∷ bytes) =
-    if byte == 35 then ticks_say asked past bytes
+abbrev pub value_says : Terms → List Statement → List ℕ → Result (Step Place) TraceKind
+value_says terms past [] = goes_to past nothing
+value_says terms past (byte ∷ bytes) =
+    if byte == 35 then ticks_say terms past bytes
     else (if byte == 36 then keyword_says past (byte ∷ bytes)
     else (if byte == 98 || byte == 66 then vector_says past bytes
     else (if list_any (λ letter. byte == letter) (codes "rRsS") then goes_to past number
@@ -293,7 +299,7 @@ value_says asked past (byte ∷ bytes) =
 -- a token where nothing is open
 abbrev pub first_says : Terms → List Statement → List ℕ → Result (Step Place) TraceKind
 first_says terms past token =
-    if is_defined past then value_says terms.names past token else command_says terms past token
+    if is_defined past then value_says terms past token else command_says terms past token
 
 -- what a token says at a place
 abbrev pub token_at : Terms → List Statement → Open → List ℕ → Result (Step Place) TraceKind

@@ -9,7 +9,7 @@
 //! of a `TraceReader`.
 //!
 //! ```text
-//! let mut reader = VcdReader::new(alloc, TokenReader::new(alloc, names, events));
+//! let mut reader = VcdReader::new(alloc, TokenReader::new(alloc, names, events, 0));
 //! reader.feed(b"$var wire 1 ! p $end $enddefinitions $end 1! #5", &mut segments)?;
 //! reader.finish(&mut segments)?; // one segment of five ticks, on which p is true
 //! ```
@@ -18,7 +18,9 @@
 mod command;
 mod inside;
 pub mod laws;
+mod needed;
 mod past;
+mod scale;
 mod scopes;
 mod token;
 mod token_reader;

@@ -1,6 +1,6 @@
 // What the reader keeps of the statements that it has read.
 ghost use Rattle.std.specs.Prelude.{◌≡◌, ◌==◌, ◌&&◌, not, length, ◌∷◌, ℕ, Bool, List, [], true, false, OnOk};
-ghost use Rattle.tre_vcd.specs.VcdReading.{Statement, scope, upscope, var, definitions, time, change, scalar, wide, dump, dump_end, is_defined, scopes_at, is_signal, is_event, are_declared, valuation_at, events_at};
+ghost use Rattle.tre_vcd.specs.VcdReading.{Statement, scope, upscope, var, definitions, time, change, scalar, wide, dump, dump_end, is_defined, scopes_at, is_signal, is_event, valuation_at, events_at};
 ghost use Rattle.tre_vcd.specs.Kept.{Knows, Declares, DeclaresNone};
 
 use crate::scopes::Scopes;
@@ -61,40 +61,38 @@ impl Past {
         self.scopes.leave();
     }
 
-    // A proposition is declared in the open scopes, by these tokens of its declaration.
+    // A proposition of this path is declared by these tokens of its declaration.
     pub fn declare(
         &mut self,
         names: &Names,
+        path: &[u8],
         identifier: &[u8],
-        reference: &[u8],
     ) -> Result<(), AllocError>
         ensures { (event_names : List (List ℕ)) (past : List Statement) (tokens : List (List ℕ)) →
             Knows names.now event_names self.old past → is_defined past ≡ false →
-            Declares is_signal (scopes_at past) tokens identifier.now reference.now →
+            Declares is_signal (scopes_at past) tokens identifier.now path.now →
             DeclaresNone is_event (scopes_at past) tokens →
             OnOk result (Knows names.now event_names self.new (var tokens ∷ past)) }
     {
-        let path = self.scopes.path(self.alloc, reference)?;
         self.propositions
-            .declare(self.alloc, names, &path, identifier)?;
+            .declare(self.alloc, names, path, identifier)?;
         Ok(())
     }
 
-    // An event is declared in the open scopes, by these tokens of its declaration.
+    // An event of this path is declared by these tokens of its declaration.
     pub fn declare_event(
         &mut self,
         events: &Names,
+        path: &[u8],
         identifier: &[u8],
-        reference: &[u8],
     ) -> Result<(), AllocError>
         ensures { (names : List (List ℕ)) (past : List Statement) (tokens : List (List ℕ)) →
             Knows names events.now self.old past → is_defined past ≡ false →
-            Declares is_event (scopes_at past) tokens identifier.now reference.now →
+            Declares is_event (scopes_at past) tokens identifier.now path.now →
             DeclaresNone is_signal (scopes_at past) tokens →
             OnOk result (Knows names events.now self.new (var tokens ∷ past)) }
     {
-        let path = self.scopes.path(self.alloc, reference)?;
-        self.events.declare(self.alloc, events, &path, identifier)?;
+        self.events.declare(self.alloc, events, path, identifier)?;
         Ok(())
     }
 
@@ -105,15 +103,6 @@ impl Past {
             Knows names event_names self.new (definitions ∷ past) }
     {
         self.is_defined = true;
-    }
-
-    // Whether each of these names is declared, and each of these events.
-    pub fn is_all_declared(&self, names: &Names, events: &Names) -> bool
-        ensures { (past : List Statement) →
-            Knows names.now events.now self.now past →
-            result ≡ are_declared past (record { names = names.now; events = events.now }) }
-    {
-        self.propositions.is_all_declared(names) && self.events.is_all_declared(events)
     }
 
     // A time is reached.

@@ -1,22 +1,24 @@
 // The tokens of a dump, one after the other.
-ghost use Rattle.std.specs.Prelude.{◌≡◌, ◌≢◌, ℕ, List, [], ◌∷◌, ◌++◌, map, true, false, not, ◌&&◌, OnOk};
+ghost use Rattle.std.specs.Prelude.{◌≡◌, ◌≢◌, ◌≤◌, ℕ, List, [], ◌∷◌, ◌++◌, map, true, false, not, ◌&&◌, OnOk};
+ghost use Rattle.tre_decimal.specs.declared.TheConstants.{SCALE_MAX};
 ghost use Rattle.tre_parts.specs.Walk.{Tells};
 ghost use Rattle.tre_parts.specs.declared.said.Said.{Said};
 ghost use Rattle.tre_trace.specs.declared.fault.TraceKind.TheVariants.{Spent};
-ghost use Rattle.tre_vcd.specs.VcdReading.{Terms, terms_of, first_place, wide, Statement, var, Place, nothing, section, comment, vector, number, is_defined, goes_to, vcd_format, token_says, command_says, section_says, ticks_say, keyword_says, scalar_says, vector_says, value_says, scope_says, declaration_says, dump_says, dump_end_says, change, token_at};
+ghost use Rattle.tre_vcd.specs.VcdReading.{Terms, requiring, first_place, wide, Statement, var, Place, nothing, section, comment, vector, number, is_defined, goes_to, vcd_format, token_says, command_says, section_says, ticks_say, keyword_says, scalar_says, vector_says, value_says, scope_says, declaration_says, dump_says, dump_end_says, change, token_at};
 ghost use Rattle.tre_vcd.specs.Sections.{Holds, asked_of, terms_kept, command_of, is_nothing};
-ghost use Rattle.tre_vcd.specs.Kept.{Knows};
+ghost use Rattle.tre_vcd.specs.Kept.{Knows, KnowsAll};
 ghost use Rattle.tre_vcd.specs.Times.{vcd-keeps_time};
 
 use crate::command::{Command, command_of};
 use crate::inside::Inside;
+use crate::needed::{Needed, are_declared, declare, declare_event};
 use crate::past::Past;
+use crate::scale::Scale;
 use crate::token::{
     Letter, ends_true, is, is_bit, is_dump, is_end, is_event, is_misplaced, is_signal, letter_of,
 };
 use crate::white::White;
 use std::alloc::{AllocError, Global};
-use tre_decimal::read_numeral;
 use tre_pairs::TIME_MAX;
 use tre_parts::{PartReader, Said, Spot, first_of};
 use tre_state::Names;
@@ -26,34 +28,56 @@ use tre_trace::{Segment, TraceKind};
 /// that there are more.
 const KEPT_MAX: usize = 5;
 
-/// Reads the tokens of a dump for the propositions and the events of its names, all of which the
-/// dump must declare.
+/// Reads the tokens of a dump for the propositions and the events of its names.
 ///
-/// It keeps what later tokens need of the past, what is open, and the first tokens of an open
-/// section.
+/// It keeps what later tokens need of the past, what is open, the first tokens of an open section,
+/// and of the names that the dump must declare those that it has declared.
 #[derive(Drop)]
 pub struct TokenReader {
     names: Names,
     events: Names,
+    needed: Vec<Needed>,
+    scale: Scale,
     past: Past,
     inside: Inside,
     tokens: Vec<Vec<u8>>,
 }
 
 impl TokenReader {
-    /// Nothing was read.
-    pub fn new(alloc: Global, names: Names, events: Names) -> TokenReader
+    /// Nothing was read, and no name must be declared. A tick of the dump is 10^scale units of time.
+    pub fn new(alloc: Global, names: Names, events: Names, scale: u8) -> TokenReader
+        requires { scale ≤ SCALE_MAX }
         ensures begins { ⟦<TokenReader as PartReader>⟧.holds result first_place }
         ensures terms { ⟦<TokenReader as PartReader>⟧.terms result
-            ≡ terms_of (record { names = names; events = events }) }
+            ≡ record {
+              names = record { names = names; events = events };
+              declared = [];
+              scale = scale;
+            } }
     {
         TokenReader {
             names,
             events,
+            needed: Vec::new(alloc),
+            scale: Scale::new(scale),
             past: Past::new(alloc),
             inside: Inside::Nothing,
             tokens: Vec::new(alloc),
         }
+    }
+
+    /// The dump must declare these names and events too, whether they are read or not. To be called
+    /// before the first token.
+    pub fn must_declare(&mut self, names: &Names, events: &Names) -> Result<(), AllocError>
+        ensures begins { ⟦<TokenReader as PartReader>⟧.holds self.old first_place →
+            OnOk result (⟦<TokenReader as PartReader>⟧.holds self.new first_place) }
+        ensures terms { OnOk result (⟦<TokenReader as PartReader>⟧.terms self.new
+            ≡ requiring (⟦<TokenReader as PartReader>⟧.terms self.old)
+            (record { names = names.now; events = events.now })) }
+    {
+        let needed = Needed::new(self.past.alloc, names, events)?;
+        self.needed.push(needed)?;
+        Ok(())
     }
 
     // Whether the next token is one among the values, where nothing is open.
@@ -87,7 +111,7 @@ impl TokenReader {
         if is(token, "$upscope") && self.past.scopes.is_empty() {
             return Said::Wrong(TraceKind::BadToken);
         }
-        if is(token, "$enddefinitions") && !self.past.is_all_declared(&self.names, &self.events) {
+        if is(token, "$enddefinitions") && !are_declared(&self.needed) {
             return Said::Wrong(TraceKind::UnknownName);
         }
         self.inside = Inside::Section(command_of(token));
@@ -117,11 +141,11 @@ impl TokenReader {
         ensures tells { (past : List Statement) →
             Holds self.old (record { past = past; inside = nothing }) →
             is_defined past ≡ true →
-            Tells (ticks_say (asked_of self.old) past digits.now) (Holds self.new) result }
+            Tells (ticks_say (terms_kept self.old) past digits.now) (Holds self.new) result }
         ensures kinds { result ≢ Said.Wrong Spent }
         ensures same_terms { terms_kept self.new ≡ terms_kept self.old }
     {
-        let Some(ticks) = read_numeral(digits) else {
+        let Some(ticks) = self.scale.time(digits) else {
             return Said::Wrong(TraceKind::BadToken);
         };
         if ticks < self.past.time {
@@ -235,7 +259,7 @@ impl TokenReader {
         ensures tells { (past : List Statement) →
             Holds self.old (record { past = past; inside = nothing }) →
             is_defined past ≡ true →
-            Tells (value_says (asked_of self.old) past token.now) (Holds self.new) result }
+            Tells (value_says (terms_kept self.old) past token.now) (Holds self.new) result }
         ensures kinds { result ≢ Said.Wrong Spent }
         ensures same_terms { terms_kept self.new ≡ terms_kept self.old }
     {
@@ -275,6 +299,7 @@ impl TokenReader {
     fn close(&mut self)
         ensures holds { (past : List Statement) →
             Knows self.old.names self.old.events self.old.past past →
+            KnowsAll past self.old.needed.items →
             Holds self.new (record { past = past; inside = nothing }) }
         ensures same_terms { terms_kept self.new ≡ terms_kept self.old }
     {
@@ -306,18 +331,27 @@ impl TokenReader {
     fn declare(&mut self) -> Result<(), AllocError>
         ensures knows { (past : List Statement) (word : List ℕ) (tokens : List (List ℕ)) →
             Holds self.old (record { past = past; inside = section word tokens }) →
-            OnOk result (Knows self.new.names self.new.events self.new.past (var tokens ∷ past)) }
+            OnOk result (Knows self.new.names self.new.events self.new.past (var tokens ∷ past)
+            × KnowsAll (var tokens ∷ past) self.new.needed.items) }
         ensures same_terms { terms_kept self.new ≡ terms_kept self.old }
     {
         let tokens = self.tokens.as_slice();
         if tokens.len() != 4 {
             return Ok(());
         }
+        let alloc = self.past.alloc;
+        let identifier = tokens[2].as_slice();
+        let reference = tokens[3].as_slice();
         if is_signal(&tokens[0], &tokens[1]) {
-            self.past.declare(&self.names, &tokens[2], &tokens[3])?;
+            let path = self.past.scopes.path(alloc, reference)?;
+            let name = path.as_slice();
+            self.past.declare(&self.names, name, identifier)?;
+            declare(&mut self.needed, alloc, name, identifier)?;
         } else if is_event(&tokens[0]) {
-            self.past
-                .declare_event(&self.events, &tokens[2], &tokens[3])?;
+            let path = self.past.scopes.path(alloc, reference)?;
+            let name = path.as_slice();
+            self.past.declare_event(&self.events, name, identifier)?;
+            declare_event(&mut self.needed, alloc, name, identifier)?;
         }
         Ok(())
     }

@@ -27,31 +27,32 @@ spelt_in-push [] pattern = refl
 spelt_in-push (first ∷ patterns) pattern =
     ap (λ (rest : List SpeltPattern). spelt_of first ∷ rest) (spelt_in-push patterns pattern)
 
-module _ (number : ℕ) (line : List ℕ) (names : List (List ℕ)) (patterns : List Pattern)
+module _ (scale number : ℕ) (line : List ℕ) (names : List (List ℕ)) (patterns : List Pattern)
     (name text : List ℕ) (says : Says line (check name text)) (few : length names < NAMES_MAX)
     (none : place_of names name ≡ None) where
   -- the text's pattern was added
-  pub found_leads : (pattern : Pattern) → ParsesTo text (spelt (spelt_of pattern).tree (spelt_of pattern).names)
+  pub found_leads : (pattern : Pattern) → ParsesTo scale text (spelt (spelt_of pattern).tree
+      (spelt_of pattern).names)
       → (new_names : List (List ℕ)) (new_patterns : List Pattern)
       → new_names ≡ names ++ name ∷ [] → new_patterns ≡ patterns ++ pattern ∷ []
-      → Leads number line names (spelt_in patterns) new_names (spelt_in new_patterns)
+      → Leads scale number line names (spelt_in patterns) new_names (spelt_in new_patterns)
   found_leads pattern parses new_names new_patterns is are =
       subst (λ (list : List (List ℕ)).
-      Leads number line names (spelt_in patterns) list (spelt_in new_patterns)) (sym is)
+      Leads scale number line names (spelt_in patterns) list (spelt_in new_patterns)) (sym is)
       (subst (λ (list : List SpeltPattern).
-      Leads number line names (spelt_in patterns) (names ++ name ∷ []) list)
+      Leads scale number line names (spelt_in patterns) (names ++ name ∷ []) list)
       (sym (ap (λ (list : List Pattern). spelt_in list) are ∙ spelt_in-push patterns pattern))
-      (leads_check number line names (spelt_in patterns) name text says few none
+      (leads_check scale number line names (spelt_in patterns) name text says few none
       (spelt_of pattern) parses))
 
   -- the text has a fault, or there was no memory
   pub found_stops : (fault : WatchFault)
-      → (fault ≡ Memory) ⊎ ((parsed : ParseFault) × ParsesTo text (refused parsed)
+      → (fault ≡ Memory) ⊎ ((parsed : ParseFault) × ParsesTo scale text (refused parsed)
       × (parsed ≢ ParseMemory) × (fault ≡ PatternFault number parsed))
-      → Stops number line names (spelt_in patterns) fault
+      → Stops scale number line names (spelt_in patterns) fault
   found_stops fault why =
-      ⊎_elim (λ e. stops_memory number line names (spelt_in patterns) fault e)
+      ⊎_elim (λ e. stops_memory scale number line names (spelt_in patterns) fault e)
       (λ h.
-      subst (λ (f : WatchFault). Stops number line names (spelt_in patterns) f) (sym h.3)
-      (stops_text number line names (spelt_in patterns) name text says few none h.0 h.1 h.2))
+      subst (λ (f : WatchFault). Stops scale number line names (spelt_in patterns) f) (sym h.3)
+      (stops_text scale number line names (spelt_in patterns) name text says few none h.0 h.1 h.2))
       why

@@ -98,10 +98,10 @@ says_some line =
 
 -- ---- what becomes of the lines
 
-module _ (number : ℕ) (On : Outcome → SpeltPattern → Type 0)
+module _ (scale number : ℕ) (On : Outcome → SpeltPattern → Type 0)
     (on : (pattern : SpeltPattern) → (outcome : Outcome) × On outcome pattern) where
-  parsed_some : (text : List ℕ) (parsed : Parsed) → ParsesTo text parsed
-      → (outcome : Outcome) × ParsesOn text number outcome (On outcome)
+  parsed_some : (text : List ℕ) (parsed : Parsed) → ParsesTo scale text parsed
+      → (outcome : Outcome) × ParsesOn scale text number outcome (On outcome)
   parsed_some text (refused fault) parses = (
     faulty (Pattern number fault),
     record { parsed = refused fault; parses = parses; after = refl },
@@ -113,44 +113,46 @@ module _ (number : ℕ) (On : Outcome → SpeltPattern → Type 0)
       )
 
   found_some : (place : Option ℕ) (text : List ℕ)
-      → (outcome : Outcome) × AfterName place text number outcome (On outcome)
-  found_some None text = let made = text_outcome text in parsed_some text made.0 made.1
+      → (outcome : Outcome) × AfterName scale place text number outcome (On outcome)
+  found_some None text = let made = text_outcome scale text in parsed_some text made.0 made.1
   found_some (Some place) text = (faulty (Twice number), refl)
 
   counted_some : (room : Bool) (place : Option ℕ) (text : List ℕ)
-      → (outcome : Outcome) × AfterCount room place text number outcome (On outcome)
+      → (outcome : Outcome) × AfterCount scale room place text number outcome (On outcome)
   counted_some true place text = found_some place text
   counted_some false place text = (faulty (TooMany number), refl)
 
-follows_some : (said : Said) (names : List (List ℕ)) (patterns : List SpeltPattern) (number : ℕ)
+follows_some : (scale : ℕ) (said : Said) (names : List (List ℕ)) (patterns : List SpeltPattern)
+    (number : ℕ)
     (On : Outcome → List (List ℕ) → List SpeltPattern → Type 0)
     → ((names : List (List ℕ)) (patterns : List SpeltPattern)
     → (outcome : Outcome) × On outcome names patterns)
-    → (outcome : Outcome) × Follows said names patterns number outcome (On outcome)
-follows_some silence names patterns number On on = on names patterns
-follows_some mistake names patterns number On on = (faulty (BadLine number), refl)
-follows_some (check name text) names patterns number On on =
-    counted_some number
+    → (outcome : Outcome) × Follows scale said names patterns number outcome (On outcome)
+follows_some scale silence names patterns number On on = on names patterns
+follows_some scale mistake names patterns number On on = (faulty (BadLine number), refl)
+follows_some scale (check name text) names patterns number On on =
+    counted_some scale number
     (λ outcome pattern. On outcome (names ++ name ∷ []) (patterns ++ pattern ∷ []))
     (λ pattern. on (names ++ name ∷ []) (patterns ++ pattern ∷ []))
     (nat_lt (length names) NAMES_MAX) (place_of names name) text
 
-lines_some : (lines : List (List ℕ)) (names : List (List ℕ)) (patterns : List SpeltPattern)
-    (number : ℕ) → (outcome : Outcome) × IsOutcomeFrom names patterns number lines outcome
+lines_some : (scale : ℕ) (lines : List (List ℕ)) (names : List (List ℕ))
+    (patterns : List SpeltPattern)
+    (number : ℕ) → (outcome : Outcome) × IsOutcomeFrom scale names patterns number lines outcome
 unfolding IsOutcomeFrom
-lines_some [] names patterns number = (ended names patterns, refl)
-lines_some (line ∷ lines) names patterns number =
+lines_some scale [] names patterns number = (ended names patterns, refl)
+lines_some scale (line ∷ lines) names patterns number =
     let says = says_some line in
-    let next = follows_some says.0 names patterns number
-    (λ outcome names patterns. IsOutcomeFrom names patterns (number + 1) lines outcome)
-    (λ names patterns. lines_some lines names patterns (number + 1)) in
+    let next = follows_some scale says.0 names patterns number
+    (λ outcome names patterns. IsOutcomeFrom scale names patterns (number + 1) lines outcome)
+    (λ names patterns. lines_some scale lines names patterns (number + 1)) in
     (next.0, (says.0, says.1, next.1))
 
-file_some : (large : Bool) (bytes : List ℕ)
+file_some : (scale : ℕ) (large : Bool) (bytes : List ℕ)
     → (outcome : Outcome) × MatchBool large (outcome ≡ faulty TooLarge)
-    (IsOutcomeFrom [] [] 1 (slice_split is_line_end bytes) outcome)
-file_some true bytes = (faulty TooLarge, refl)
-file_some false bytes = lines_some (slice_split is_line_end bytes) [] [] 1
+    (IsOutcomeFrom scale [] [] 1 (slice_split is_line_end bytes) outcome)
+file_some scale true bytes = (faulty TooLarge, refl)
+file_some scale false bytes = lines_some scale (slice_split is_line_end bytes) [] [] 1
 
-pub outcome_is : (bytes : List ℕ) → (outcome : Outcome) × IsOutcome bytes outcome
-outcome_is bytes = file_some (nat_lt FILE_MAX (length bytes)) bytes
+pub outcome_is : (scale : ℕ) (bytes : List ℕ) → (outcome : Outcome) × IsOutcome scale bytes outcome
+outcome_is scale bytes = file_some scale (nat_lt FILE_MAX (length bytes)) bytes

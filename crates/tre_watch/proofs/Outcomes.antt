@@ -45,7 +45,7 @@ says_once line (check name text) (check other others) one two =
     let f = same.1 in
     cc
 
-module _ (number : ℕ) (one other : Outcome) where
+module _ (scale number : ℕ) (one other : Outcome) where
   after_once : (parsed : Parsed) (On On' : SpeltPattern → Type 0)
       → ((pattern : SpeltPattern) → On pattern → On' pattern → one ≡ other)
       → AfterText parsed number one On → AfterText parsed number other On' → one ≡ other
@@ -55,22 +55,24 @@ module _ (number : ℕ) (one other : Outcome) where
 
   parses_once : (text : List ℕ) (On On' : SpeltPattern → Type 0)
       → ((pattern : SpeltPattern) → On pattern → On' pattern → one ≡ other)
-      → ParsesOn text number one On → ParsesOn text number other On' → one ≡ other
+      → ParsesOn scale text number one On → ParsesOn scale text number other On' → one ≡ other
   parses_once text On On' once first second =
       after_once first.parsed On On' once first.after
       (subst (λ (parsed : Parsed). AfterText parsed number other On')
-      (sym (outcome_once text first.parsed second.parsed first.parses second.parses))
+      (sym (outcome_once scale text first.parsed second.parsed first.parses second.parses))
       second.after)
 
   found_once : (place : Option ℕ) (text : List ℕ) (On On' : SpeltPattern → Type 0)
       → ((pattern : SpeltPattern) → On pattern → On' pattern → one ≡ other)
-      → AfterName place text number one On → AfterName place text number other On' → one ≡ other
+      → AfterName scale place text number one On → AfterName scale place text number other On'
+      → one ≡ other
   found_once None text On On' once first second = parses_once text On On' once first second
   found_once (Some place) text On On' once first second = first ∙ sym second
 
   counted_once : (room : Bool) (place : Option ℕ) (text : List ℕ) (On On' : SpeltPattern → Type 0)
       → ((pattern : SpeltPattern) → On pattern → On' pattern → one ≡ other)
-      → AfterCount room place text number one On → AfterCount room place text number other On'
+      → AfterCount scale room place text number one On
+      → AfterCount scale room place text number other On'
       → one ≡ other
   counted_once true place text On On' once first second =
       found_once place text On On' once first second
@@ -80,7 +82,8 @@ module _ (number : ℕ) (one other : Outcome) where
       (On On' : List (List ℕ) → List SpeltPattern → Type 0)
       → ((names : List (List ℕ)) (patterns : List SpeltPattern) → On names patterns
       → On' names patterns → one ≡ other)
-      → Follows said names patterns number one On → Follows said names patterns number other On'
+      → Follows scale said names patterns number one On
+      → Follows scale said names patterns number other On'
       → one ≡ other
   follows_once silence names patterns On On' once first second = once names patterns first second
   follows_once mistake names patterns On On' once first second = first ∙ sym second
@@ -90,62 +93,65 @@ module _ (number : ℕ) (one other : Outcome) where
       (λ pattern. On' (names ++ name ∷ []) (patterns ++ pattern ∷ []))
       (λ pattern. once (names ++ name ∷ []) (patterns ++ pattern ∷ [])) first second
 
-lines_once : (lines : List (List ℕ)) (names : List (List ℕ)) (patterns : List SpeltPattern)
-    (number : ℕ) (one other : Outcome) → IsOutcomeFrom names patterns number lines one
-    → IsOutcomeFrom names patterns number lines other → one ≡ other
+lines_once : (scale : ℕ) (lines : List (List ℕ)) (names : List (List ℕ))
+    (patterns : List SpeltPattern)
+    (number : ℕ) (one other : Outcome) → IsOutcomeFrom scale names patterns number lines one
+    → IsOutcomeFrom scale names patterns number lines other → one ≡ other
 unfolding IsOutcomeFrom
-lines_once [] names patterns number one other first second = first ∙ sym second
-lines_once (line ∷ lines) names patterns number one other first second =
+lines_once scale [] names patterns number one other first second = first ∙ sym second
+lines_once scale (line ∷ lines) names patterns number one other first second =
     let same = says_once line first.0 second.0 first.1 second.1 in
-    follows_once number one other first.0 names patterns
-    (λ names patterns. IsOutcomeFrom names patterns (number + 1) lines one)
-    (λ names patterns. IsOutcomeFrom names patterns (number + 1) lines other)
-    (λ names patterns. lines_once lines names patterns (number + 1) one other)
+    follows_once scale number one other first.0 names patterns
+    (λ names patterns. IsOutcomeFrom scale names patterns (number + 1) lines one)
+    (λ names patterns. IsOutcomeFrom scale names patterns (number + 1) lines other)
+    (λ names patterns. lines_once scale lines names patterns (number + 1) one other)
     first.2
-    (subst (λ (said : Said). Follows said names patterns number other
-    (λ names patterns. IsOutcomeFrom names patterns (number + 1) lines other)) (sym same)
+    (subst (λ (said : Said). Follows scale said names patterns number other
+    (λ names patterns. IsOutcomeFrom scale names patterns (number + 1) lines other)) (sym same)
     second.2)
 
-file_once : (large : Bool) (bytes : List ℕ) (one other : Outcome)
+file_once : (scale : ℕ) (large : Bool) (bytes : List ℕ) (one other : Outcome)
     → MatchBool large (one ≡ faulty TooLarge)
-    (IsOutcomeFrom [] [] 1 (slice_split is_line_end bytes) one)
+    (IsOutcomeFrom scale [] [] 1 (slice_split is_line_end bytes) one)
     → MatchBool large (other ≡ faulty TooLarge)
-    (IsOutcomeFrom [] [] 1 (slice_split is_line_end bytes) other)
+    (IsOutcomeFrom scale [] [] 1 (slice_split is_line_end bytes) other)
     → one ≡ other
-file_once true bytes one other first second = first ∙ sym second
-file_once false bytes one other first second =
-    lines_once (slice_split is_line_end bytes) [] [] 1 one other first second
+file_once scale true bytes one other first second = first ∙ sym second
+file_once scale false bytes one other first second =
+    lines_once scale (slice_split is_line_end bytes) [] [] 1 one other first second
 
-pub one_outcome : (bytes : List ℕ) (one other : Outcome) → IsOutcome bytes one
-    → IsOutcome bytes other → one ≡ other
-one_outcome bytes one other first second =
-    file_once (nat_lt FILE_MAX (length bytes)) bytes one other first second
+pub one_outcome : (scale : ℕ) (bytes : List ℕ) (one other : Outcome) → IsOutcome scale bytes one
+    → IsOutcome scale bytes other → one ≡ other
+one_outcome scale bytes one other first second =
+    file_once scale (nat_lt FILE_MAX (length bytes)) bytes one other first second
 
 -- ---- one line
 
-with_room : (room : Bool) (place : Option ℕ) (text : List ℕ) (number : ℕ) (outcome : Outcome)
-    (On : SpeltPattern → Type 0) → room ≡ true → AfterName place text number outcome On
-    → AfterCount room place text number outcome On
-with_room true place text number outcome On e a = a
-with_room false place text number outcome On e a = absurd (cc)
+with_room : (scale : ℕ) (room : Bool) (place : Option ℕ) (text : List ℕ) (number : ℕ)
+    (outcome : Outcome)
+    (On : SpeltPattern → Type 0) → room ≡ true → AfterName scale place text number outcome On
+    → AfterCount scale room place text number outcome On
+with_room scale true place text number outcome On e a = a
+with_room scale false place text number outcome On e a = absurd (cc)
 
-without_room : (room : Bool) (place : Option ℕ) (text : List ℕ) (number : ℕ) (outcome : Outcome)
+without_room : (scale : ℕ) (room : Bool) (place : Option ℕ) (text : List ℕ) (number : ℕ)
+    (outcome : Outcome)
     (On : SpeltPattern → Type 0) → room ≡ false → outcome ≡ faulty (TooMany number)
-    → AfterCount room place text number outcome On
-without_room true place text number outcome On e a = absurd (cc)
-without_room false place text number outcome On e a = a
+    → AfterCount scale room place text number outcome On
+without_room scale true place text number outcome On e a = absurd (cc)
+without_room scale false place text number outcome On e a = a
 
-with_new : (place : Option ℕ) (text : List ℕ) (number : ℕ) (outcome : Outcome)
-    (On : SpeltPattern → Type 0) → place ≡ None → ParsesOn text number outcome On
-    → AfterName place text number outcome On
-with_new None text number outcome On e a = a
-with_new (Some place) text number outcome On e a = absurd (cc)
+with_new : (scale : ℕ) (place : Option ℕ) (text : List ℕ) (number : ℕ) (outcome : Outcome)
+    (On : SpeltPattern → Type 0) → place ≡ None → ParsesOn scale text number outcome On
+    → AfterName scale place text number outcome On
+with_new scale None text number outcome On e a = a
+with_new scale (Some place) text number outcome On e a = absurd (cc)
 
-with_old : (place : Option ℕ) (k : ℕ) (text : List ℕ) (number : ℕ) (outcome : Outcome)
+with_old : (scale : ℕ) (place : Option ℕ) (k : ℕ) (text : List ℕ) (number : ℕ) (outcome : Outcome)
     (On : SpeltPattern → Type 0) → place ≡ Some k → outcome ≡ faulty (Twice number)
-    → AfterName place text number outcome On
-with_old None k text number outcome On e a = absurd (cc)
-with_old (Some place) k text number outcome On e a = a
+    → AfterName scale place text number outcome On
+with_old scale None k text number outcome On e a = absurd (cc)
+with_old scale (Some place) k text number outcome On e a = a
 
 has_room : (names : List (List ℕ)) → length names < NAMES_MAX
     → nat_lt (length names) NAMES_MAX ≡ true
@@ -155,95 +161,99 @@ has_no_room : (names : List (List ℕ)) → NAMES_MAX ≤ length names
     → nat_lt (length names) NAMES_MAX ≡ false
 has_no_room names many = grind (arith, nat_tests)
 
-module _ (number : ℕ) (line : List ℕ) (names : List (List ℕ)) (patterns : List SpeltPattern) where
-  pub leads_silence : Says line silence → Leads number line names patterns names patterns
-  unfolding IsOutcomeFrom
-  leads_silence says = record {
-    on = λ lines outcome rest. (silence, says, rest);
-    paired = λ e. e;
-  }
-
-  pub stops_mistake : Says line mistake → Stops number line names patterns (BadLine number)
-  unfolding IsOutcomeFrom
-  stops_mistake says = record {
-    why = inr (λ lines. (mistake, says, refl));
-    never_memory = tt;
-  }
-
-  pub stops_memory : (fault : WatchFault) → fault ≡ Memory → Stops number line names patterns fault
-  stops_memory fault e = record { why = inl e; never_memory = rw e tt }
-
-  module _ (name text : List ℕ) (says : Says line (check name text)) where
-    -- what becomes of the lines behind it
-    abbrev On : List (List ℕ) → Outcome → SpeltPattern → Type 0
-    On lines outcome pattern =
-        IsOutcomeFrom (names ++ name ∷ []) (patterns ++ pattern ∷ []) (number + 1) lines outcome
-
-    pub stops_many : NAMES_MAX ≤ length names → Stops number line names patterns (TooMany number)
+module _ (scale number : ℕ) (line : List ℕ) (names : List (List ℕ)) (patterns : List SpeltPattern)
+  where
+    pub leads_silence : Says line silence → Leads scale number line names patterns names patterns
     unfolding IsOutcomeFrom
-    stops_many many = record {
-      why = inr (λ lines. (
-        check name text,
-        says,
-        without_room (nat_lt (length names) NAMES_MAX) (place_of names name) text number
-            (faulty (TooMany number)) (On lines (faulty (TooMany number)))
-            (has_no_room names many) refl,
-      ));
+    leads_silence says = record {
+      on = λ lines outcome rest. (silence, says, rest);
+      paired = λ e. e;
+    }
+
+    pub stops_mistake : Says line mistake → Stops scale number line names patterns (BadLine number)
+    unfolding IsOutcomeFrom
+    stops_mistake says = record {
+      why = inr (λ lines. (mistake, says, refl));
       never_memory = tt;
     }
 
-    pub stops_twice : length names < NAMES_MAX → (place : ℕ) → place_of names name ≡ Some place
-        → Stops number line names patterns (Twice number)
-    unfolding IsOutcomeFrom
-    stops_twice few place is = record {
-      why = inr (λ lines. (
-        check name text,
-        says,
-        with_room (nat_lt (length names) NAMES_MAX) (place_of names name) text number
-            (faulty (Twice number)) (On lines (faulty (Twice number))) (has_room names few)
-            (with_old (place_of names name) place text number (faulty (Twice number))
-            (On lines (faulty (Twice number))) is refl),
-      ));
-      never_memory = tt;
-    }
+    pub stops_memory : (fault : WatchFault) → fault ≡ Memory
+        → Stops scale number line names patterns fault
+    stops_memory fault e = record { why = inl e; never_memory = rw e tt }
 
-    pub stops_text : length names < NAMES_MAX → place_of names name ≡ None → (fault : ParseFault)
-        → ParsesTo text (refused fault) → fault ≢ ParseMemory
-        → Stops number line names patterns (Pattern number fault)
-    unfolding IsOutcomeFrom
-    stops_text few none fault parses other = record {
-      why = inr (λ lines. (
-        check name text,
-        says,
-        with_room (nat_lt (length names) NAMES_MAX) (place_of names name) text number
-            (faulty (Pattern number fault)) (On lines (faulty (Pattern number fault)))
-            (has_room names few)
-            (with_new (place_of names name) text number (faulty (Pattern number fault))
-            (On lines (faulty (Pattern number fault))) none
-            (record { parsed = refused fault; parses = parses; after = refl })),
-      ));
-      never_memory = other;
-    }
+    module _ (name text : List ℕ) (says : Says line (check name text)) where
+      -- what becomes of the lines behind it
+      abbrev On : List (List ℕ) → Outcome → SpeltPattern → Type 0
+      On lines outcome pattern =
+          IsOutcomeFrom scale (names ++ name ∷ []) (patterns ++ pattern ∷ [])
+          (number + 1) lines outcome
 
-    pub leads_check : length names < NAMES_MAX → place_of names name ≡ None
-        → (pattern : SpeltPattern) → ParsesTo text (spelt pattern.tree pattern.names)
-        → Leads number line names patterns (names ++ name ∷ []) (patterns ++ pattern ∷ [])
-    unfolding IsOutcomeFrom
-    leads_check few none pattern parses = record {
-      on = λ lines outcome rest. (
-        check name text,
-        says,
-        with_room (nat_lt (length names) NAMES_MAX) (place_of names name) text number outcome
-            (On lines outcome) (has_room names few)
-            (with_new (place_of names name) text number outcome (On lines outcome) none
-            (record {
-              parsed = spelt pattern.tree pattern.names;
-              parses = parses;
-              after = rest;
-            })),
-      );
-      paired = λ e. omega (arith, length_push names name, length_push patterns pattern);
-    }
+      pub stops_many : NAMES_MAX ≤ length names → Stops scale number line names patterns
+          (TooMany number)
+      unfolding IsOutcomeFrom
+      stops_many many = record {
+        why = inr (λ lines. (
+          check name text,
+          says,
+          without_room scale (nat_lt (length names) NAMES_MAX) (place_of names name) text number
+              (faulty (TooMany number)) (On lines (faulty (TooMany number)))
+              (has_no_room names many) refl,
+        ));
+        never_memory = tt;
+      }
+
+      pub stops_twice : length names < NAMES_MAX → (place : ℕ) → place_of names name ≡ Some place
+          → Stops scale number line names patterns (Twice number)
+      unfolding IsOutcomeFrom
+      stops_twice few place is = record {
+        why = inr (λ lines. (
+          check name text,
+          says,
+          with_room scale (nat_lt (length names) NAMES_MAX) (place_of names name) text number
+              (faulty (Twice number)) (On lines (faulty (Twice number))) (has_room names few)
+              (with_old scale (place_of names name) place text number (faulty (Twice number))
+              (On lines (faulty (Twice number))) is refl),
+        ));
+        never_memory = tt;
+      }
+
+      pub stops_text : length names < NAMES_MAX → place_of names name ≡ None → (fault : ParseFault)
+          → ParsesTo scale text (refused fault) → fault ≢ ParseMemory
+          → Stops scale number line names patterns (Pattern number fault)
+      unfolding IsOutcomeFrom
+      stops_text few none fault parses other = record {
+        why = inr (λ lines. (
+          check name text,
+          says,
+          with_room scale (nat_lt (length names) NAMES_MAX) (place_of names name) text number
+              (faulty (Pattern number fault)) (On lines (faulty (Pattern number fault)))
+              (has_room names few)
+              (with_new scale (place_of names name) text number (faulty (Pattern number fault))
+              (On lines (faulty (Pattern number fault))) none
+              (record { parsed = refused fault; parses = parses; after = refl })),
+        ));
+        never_memory = other;
+      }
+
+      pub leads_check : length names < NAMES_MAX → place_of names name ≡ None
+          → (pattern : SpeltPattern) → ParsesTo scale text (spelt pattern.tree pattern.names)
+          → Leads scale number line names patterns (names ++ name ∷ []) (patterns ++ pattern ∷ [])
+      unfolding IsOutcomeFrom
+      leads_check few none pattern parses = record {
+        on = λ lines outcome rest. (
+          check name text,
+          says,
+          with_room scale (nat_lt (length names) NAMES_MAX) (place_of names name) text number outcome
+              (On lines outcome) (has_room names few)
+              (with_new scale (place_of names name) text number outcome (On lines outcome) none
+              (record {
+                parsed = spelt pattern.tree pattern.names;
+                parses = parses;
+                after = rest;
+              })),
+        );
+        paired = λ e. omega (arith, length_push names name, length_push patterns pattern);
+      }
 
 -- ---- all lines
 
@@ -272,26 +282,26 @@ lines_last rest none =
     (λ k below. not_true (is_line_end (get_or rest k 0)) (none k (omega arith) below)))
 
 -- What becomes of the rest of the file with these checks becomes of the file.
-pub record Reaches (bytes : List ℕ) (names : List (List ℕ)) (patterns : List SpeltPattern)
-    (number : ℕ) (rest : List ℕ) : Type 0 where
+pub record Reaches (scale : ℕ) (bytes : List ℕ) (names : List (List ℕ))
+    (patterns : List SpeltPattern) (number : ℕ) (rest : List ℕ) : Type 0 where
   pub on : (outcome : Outcome)
-      → IsOutcomeFrom names patterns number (slice_split is_line_end rest) outcome
-      → IsOutcomeFrom [] [] 1 (slice_split is_line_end bytes) outcome
+      → IsOutcomeFrom scale names patterns number (slice_split is_line_end rest) outcome
+      → IsOutcomeFrom scale [] [] 1 (slice_split is_line_end bytes) outcome
   pub paired : length names ≡ length patterns
 
-pub Reaches-start : (bytes : List ℕ) → Reaches bytes [] [] 1 bytes
-Reaches-start bytes = record { on = λ outcome h. h; paired = refl }
+pub Reaches-start : (scale : ℕ) (bytes : List ℕ) → Reaches scale bytes [] [] 1 bytes
+Reaches-start scale bytes = record { on = λ outcome h. h; paired = refl }
 
-module _ (bytes : List ℕ) (names : List (List ℕ)) (patterns : List SpeltPattern) (number : ℕ)
-    (rest : List ℕ) (reaches : Reaches bytes names patterns number rest) where
+module _ (scale : ℕ) (bytes : List ℕ) (names : List (List ℕ)) (patterns : List SpeltPattern)
+    (number : ℕ) (rest : List ℕ) (reaches : Reaches scale bytes names patterns number rest) where
   pub Reaches-next : (end : ℕ) → NoneBefore (Passes (is_byte 10) rest) 0 (length rest) end
       → Passes (is_byte 10) rest end → (new_names : List (List ℕ))
       (new_patterns : List SpeltPattern)
-      → Leads number (take end rest) names patterns new_names new_patterns
-      → Reaches bytes new_names new_patterns (number + 1) (drop (end + 1) rest)
+      → Leads scale number (take end rest) names patterns new_names new_patterns
+      → Reaches scale bytes new_names new_patterns (number + 1) (drop (end + 1) rest)
   Reaches-next end before at new_names new_patterns leads = record {
     on = λ outcome h. reaches.on outcome
-        (subst (λ (lines : List (List ℕ)). IsOutcomeFrom names patterns number lines outcome)
+        (subst (λ (lines : List (List ℕ)). IsOutcomeFrom scale names patterns number lines outcome)
         (sym (lines_next rest end before at))
         (leads.on (slice_split is_line_end (drop (end + 1) rest)) outcome h));
     paired = leads.paired reaches.paired;
@@ -299,37 +309,39 @@ module _ (bytes : List ℕ) (names : List (List ℕ)) (patterns : List SpeltPatt
 
   pub Reaches-stop : (end : ℕ) → NoneBefore (Passes (is_byte 10) rest) 0 (length rest) end
       → Passes (is_byte 10) rest end → (fault : WatchFault)
-      → Stops number (take end rest) names patterns fault
+      → Stops scale number (take end rest) names patterns fault
       → (fault ≡ Memory)
-      ⊎ IsOutcomeFrom [] [] 1 (slice_split is_line_end bytes) (faulty fault)
+      ⊎ IsOutcomeFrom scale [] [] 1 (slice_split is_line_end bytes) (faulty fault)
   Reaches-stop end before at fault stops =
       ⊎_elim (λ e. inl e)
       (λ why. inr (reaches.on (faulty fault)
-      (subst (λ (lines : List (List ℕ)). IsOutcomeFrom names patterns number lines (faulty fault))
+      (subst (λ (lines : List (List ℕ)). IsOutcomeFrom scale names patterns number lines
+      (faulty fault))
       (sym (lines_next rest end before at))
       (why (slice_split is_line_end (drop (end + 1) rest))))))
       stops.why
 
   pub Reaches-last_stop : Nowhere (Passes (is_byte 10) rest) 0 (length rest)
-      → (fault : WatchFault) → Stops number rest names patterns fault
+      → (fault : WatchFault) → Stops scale number rest names patterns fault
       → (fault ≡ Memory)
-      ⊎ IsOutcomeFrom [] [] 1 (slice_split is_line_end bytes) (faulty fault)
+      ⊎ IsOutcomeFrom scale [] [] 1 (slice_split is_line_end bytes) (faulty fault)
   Reaches-last_stop none fault stops =
       ⊎_elim (λ e. inl e)
       (λ why. inr (reaches.on (faulty fault)
-      (subst (λ (lines : List (List ℕ)). IsOutcomeFrom names patterns number lines (faulty fault))
+      (subst (λ (lines : List (List ℕ)). IsOutcomeFrom scale names patterns number lines
+      (faulty fault))
       (sym (lines_last rest none)) (why []))))
       stops.why
 
   pub Reaches-end : Nowhere (Passes (is_byte 10) rest) 0 (length rest)
       → (new_names : List (List ℕ)) (new_patterns : List SpeltPattern)
-      → Leads number rest names patterns new_names new_patterns
-      → IsOutcomeFrom [] [] 1 (slice_split is_line_end bytes) (ended new_names new_patterns)
+      → Leads scale number rest names patterns new_names new_patterns
+      → IsOutcomeFrom scale [] [] 1 (slice_split is_line_end bytes) (ended new_names new_patterns)
   unfolding IsOutcomeFrom
   Reaches-end none new_names new_patterns leads =
       reaches.on (ended new_names new_patterns)
       (subst (λ (lines : List (List ℕ)).
-      IsOutcomeFrom names patterns number lines (ended new_names new_patterns))
+      IsOutcomeFrom scale names patterns number lines (ended new_names new_patterns))
       (sym (lines_last rest none)) (leads.on [] (ended new_names new_patterns) refl))
 
 pub ended_empty : (names : List (List ℕ)) (patterns : List SpeltPattern) → names ≡ []
@@ -343,25 +355,26 @@ ended_some (name ∷ names) patterns some = refl
 
 -- ---- the answer
 
-small_file : (large : Bool) (bytes : List ℕ) (outcome : Outcome) → large ≡ false
-    → IsOutcomeFrom [] [] 1 (slice_split is_line_end bytes) outcome
+small_file : (scale : ℕ) (large : Bool) (bytes : List ℕ) (outcome : Outcome) → large ≡ false
+    → IsOutcomeFrom scale [] [] 1 (slice_split is_line_end bytes) outcome
     → MatchBool large (outcome ≡ faulty TooLarge)
-    (IsOutcomeFrom [] [] 1 (slice_split is_line_end bytes) outcome)
-small_file true bytes outcome e is = absurd (cc)
-small_file false bytes outcome e is = is
+    (IsOutcomeFrom scale [] [] 1 (slice_split is_line_end bytes) outcome)
+small_file scale true bytes outcome e is = absurd (cc)
+small_file scale false bytes outcome e is = is
 
 not_large : (bytes : List ℕ) → length bytes ≤ FILE_MAX
     → nat_lt FILE_MAX (length bytes) ≡ false
 not_large bytes small = grind (arith, nat_tests)
 
-pub answers_file : (bytes : List ℕ) → length bytes ≤ FILE_MAX → (answer : Result Plan WatchFault)
-    → Answers (IsOutcomeFrom [] [] 1 (slice_split is_line_end bytes)) answer
-    → Answers (IsOutcome bytes) answer
-answers_file bytes small (Ok plan) is =
-    small_file (nat_lt FILE_MAX (length bytes)) bytes _ (not_large bytes small) is
-answers_file bytes small (Err fault) is =
+pub answers_file : (scale : ℕ) (bytes : List ℕ) → length bytes ≤ FILE_MAX
+    → (answer : Result Plan WatchFault)
+    → Answers (IsOutcomeFrom scale [] [] 1 (slice_split is_line_end bytes)) answer
+    → Answers (IsOutcome scale bytes) answer
+answers_file scale bytes small (Ok plan) is =
+    small_file scale (nat_lt FILE_MAX (length bytes)) bytes _ (not_large bytes small) is
+answers_file scale bytes small (Err fault) is =
     ⊎_elim (λ e. inl e)
-    (λ h. inr (small_file (nat_lt FILE_MAX (length bytes)) bytes (faulty fault)
+    (λ h. inr (small_file scale (nat_lt FILE_MAX (length bytes)) bytes (faulty fault)
     (not_large bytes small) h)) is
 
 -- A test for more that says no.
@@ -369,9 +382,9 @@ pub at_most : (t : Bool) (most count : ℕ) → t ≡ false → IsTrue t ↔ (mo
 at_most t most count e is =
     ⊎_elim (λ lt. let told = is.1 lt in absurd (cc)) (λ le. le) (cases_lt most count)
 
-pub answers_only : (bytes : List ℕ) (answer : Result Plan WatchFault)
-    → Answers (IsOutcome bytes) answer → (outcome : Outcome) → IsOutcome bytes outcome
+pub answers_only : (scale : ℕ) (bytes : List ℕ) (answer : Result Plan WatchFault)
+    → Answers (IsOutcome scale bytes) answer → (outcome : Outcome) → IsOutcome scale bytes outcome
     → Answers (λ other. outcome ≡ other) answer
-answers_only bytes (Ok plan) is outcome other = one_outcome bytes outcome _ other is
-answers_only bytes (Err fault) is outcome other =
-    ⊎_elim (λ e. inl e) (λ h. inr (one_outcome bytes outcome (faulty fault) other h)) is
+answers_only scale bytes (Ok plan) is outcome other = one_outcome scale bytes outcome _ other is
+answers_only scale bytes (Err fault) is outcome other =
+    ⊎_elim (λ e. inl e) (λ h. inr (one_outcome scale bytes outcome (faulty fault) other h)) is

@@ -27,31 +27,32 @@ AfterText (refused fault) number outcome On =
     outcome ≡ faulty (Pattern number fault)
 AfterText (spelt tree names) number outcome On = On (record { tree = tree; names = names })
 
--- The text comes to this by the grammar of patterns.
-pub record ParsesOn (text : List ℕ) (number : ℕ) (outcome : Outcome) (On : SpeltPattern → Type 0)
-    : Type 0 where
+-- The text comes to this by the grammar of patterns, at the scale.
+pub record ParsesOn (scale : ℕ) (text : List ℕ) (number : ℕ) (outcome : Outcome)
+    (On : SpeltPattern → Type 0) : Type 0 where
   pub parsed : Parsed
-  pub parses : ParsesTo text parsed
+  pub parses : ParsesTo scale text parsed
   pub after : AfterText parsed number outcome On
 
 -- What becomes of a check, by the place of an earlier one of its name.
-abbrev pub AfterName : Option ℕ → List ℕ → ℕ → Outcome → (SpeltPattern → Type 0) → Type 0
-AfterName None text number outcome On = ParsesOn text number outcome On
-AfterName (Some place) text number outcome On = outcome ≡ faulty (Twice number)
+abbrev pub AfterName : ℕ → Option ℕ → List ℕ → ℕ → Outcome → (SpeltPattern → Type 0) → Type 0
+AfterName scale None text number outcome On = ParsesOn scale text number outcome On
+AfterName scale (Some place) text number outcome On = outcome ≡ faulty (Twice number)
 
 -- What becomes of a check, by whether there may be one more.
-abbrev pub AfterCount : Bool → Option ℕ → List ℕ → ℕ → Outcome → (SpeltPattern → Type 0) → Type 0
-AfterCount true place text number outcome On = AfterName place text number outcome On
-AfterCount false place text number outcome On = outcome ≡ faulty (TooMany number)
+abbrev pub AfterCount : ℕ → Bool → Option ℕ → List ℕ → ℕ → Outcome → (SpeltPattern → Type 0)
+    → Type 0
+AfterCount scale true place text number outcome On = AfterName scale place text number outcome On
+AfterCount scale false place text number outcome On = outcome ≡ faulty (TooMany number)
 
 -- What becomes of a line behind the checks with these names and patterns, by what it says. Where it
 -- has no fault, On goes on.
-abbrev pub Follows : Said → List (List ℕ) → List SpeltPattern → ℕ → Outcome
+abbrev pub Follows : ℕ → Said → List (List ℕ) → List SpeltPattern → ℕ → Outcome
     → (List (List ℕ) → List SpeltPattern → Type 0) → Type 0
-Follows silence names patterns number outcome On = On names patterns
-Follows mistake names patterns number outcome On = outcome ≡ faulty (BadLine number)
-Follows (check name text) names patterns number outcome On =
-    AfterCount (nat_lt (length names) NAMES_MAX) (place_of names name) text number outcome
+Follows scale silence names patterns number outcome On = On names patterns
+Follows scale mistake names patterns number outcome On = outcome ≡ faulty (BadLine number)
+Follows scale (check name text) names patterns number outcome On =
+    AfterCount scale (nat_lt (length names) NAMES_MAX) (place_of names name) text number outcome
     (λ pattern. On (names ++ name ∷ []) (patterns ++ pattern ∷ []))
 
 -- What becomes of no more lines.
@@ -60,18 +61,18 @@ ended [] patterns = faulty Empty
 ended (name ∷ names) patterns = planned (name ∷ names) patterns
 
 -- What becomes of the lines from this one on, behind the checks with these names and patterns.
-unfoldable pub IsOutcomeFrom : List (List ℕ) → List SpeltPattern → ℕ → List (List ℕ) → Outcome
-    → Type 0
-IsOutcomeFrom names patterns number [] outcome = outcome ≡ ended names patterns
-IsOutcomeFrom names patterns number (line ∷ lines) outcome =
+unfoldable pub IsOutcomeFrom : ℕ → List (List ℕ) → List SpeltPattern → ℕ → List (List ℕ)
+    → Outcome → Type 0
+IsOutcomeFrom scale names patterns number [] outcome = outcome ≡ ended names patterns
+IsOutcomeFrom scale names patterns number (line ∷ lines) outcome =
     (said : Said) × Says line said
-    × Follows said names patterns number outcome
-    (λ names patterns. IsOutcomeFrom names patterns (number + 1) lines outcome)
+    × Follows scale said names patterns number outcome
+    (λ names patterns. IsOutcomeFrom scale names patterns (number + 1) lines outcome)
 
--- The file has this outcome. It has exactly one, and want of memory aside it is what `read_plan`
--- answers.
-abbrev pub IsOutcome : List ℕ → Outcome → Type 0
-IsOutcome bytes outcome =
+-- The file has this outcome at the scale. It has exactly one, and want of memory aside it is what
+-- `read_plan` answers.
+abbrev pub IsOutcome : ℕ → List ℕ → Outcome → Type 0
+IsOutcome scale bytes outcome =
     MatchBool (nat_lt FILE_MAX (length bytes))
     (outcome ≡ faulty TooLarge)
-    (IsOutcomeFrom [] [] 1 (slice_split is_line_end bytes) outcome)
+    (IsOutcomeFrom scale [] [] 1 (slice_split is_line_end bytes) outcome)

@@ -23,11 +23,12 @@ Answers IsIt (Err fault) = (fault ≡ Memory) ⊎ IsIt (faulty fault)
 
 -- The line leads from some checks to others: what becomes of the lines behind it with those becomes
 -- of it and them with these.
-pub record Leads (number : ℕ) (line : List ℕ) (names : List (List ℕ)) (patterns : List SpeltPattern)
-    (new_names : List (List ℕ)) (new_patterns : List SpeltPattern) : Type 0 where
+pub record Leads (scale number : ℕ) (line : List ℕ) (names : List (List ℕ))
+    (patterns : List SpeltPattern) (new_names : List (List ℕ)) (new_patterns : List SpeltPattern)
+    : Type 0 where
   pub on : (lines : List (List ℕ)) (outcome : Outcome)
-      → IsOutcomeFrom new_names new_patterns (number + 1) lines outcome
-      → IsOutcomeFrom names patterns number (line ∷ lines) outcome
+      → IsOutcomeFrom scale new_names new_patterns (number + 1) lines outcome
+      → IsOutcomeFrom scale names patterns number (line ∷ lines) outcome
   pub paired : length names ≡ length patterns → length new_names ≡ length new_patterns
 
 -- Where there was no memory, the fault says so itself, and none inside it does.
@@ -36,19 +37,19 @@ NeverMemoryInside (PatternFault number fault) = fault ≢ ParseMemory
 NeverMemoryInside _ = Unit {0}
 
 -- The line has this fault, or there was no memory.
-pub record Stops (number : ℕ) (line : List ℕ) (names : List (List ℕ))
+pub record Stops (scale number : ℕ) (line : List ℕ) (names : List (List ℕ))
     (patterns : List SpeltPattern) (fault : WatchFault) : Type 0 where
   pub why : (fault ≡ Memory) ⊎ ((lines : List (List ℕ))
-      → IsOutcomeFrom names patterns number (line ∷ lines) (faulty fault))
+      → IsOutcomeFrom scale names patterns number (line ∷ lines) (faulty fault))
   pub never_memory : NeverMemoryInside fault
 
 -- The text has this pattern; or it has this fault, or there was no memory.
-abbrev pub FindsPattern : List ℕ → ℕ → Result Pattern WatchFault → Type 0
-FindsPattern text number (Ok pattern) =
-    ParsesTo text (spelt (pattern_tree pattern) (names_of pattern))
-FindsPattern text number (Err fault) =
+abbrev pub FindsPattern : ℕ → List ℕ → ℕ → Result Pattern WatchFault → Type 0
+FindsPattern scale text number (Ok pattern) =
+    ParsesTo scale text (spelt (pattern_tree pattern) (names_of pattern))
+FindsPattern scale text number (Err fault) =
     (fault ≡ Memory)
-    ⊎ ((parsed : ParseFault) × ParsesTo text (refused parsed) × (parsed ≢ ParseMemory)
+    ⊎ ((parsed : ParseFault) × ParsesTo scale text (refused parsed) × (parsed ≢ ParseMemory)
     × (fault ≡ PatternFault number parsed))
 
 -- The fault of a line whose text has this fault.

@@ -1,5 +1,6 @@
 // The checks of a plan, one line after another.
-ghost use Rattle.std.specs.Prelude.{◌≡◌, ℕ, None, List, [], ◌∷◌, ◌++◌, MatchResult};
+ghost use Rattle.std.specs.Prelude.{◌≡◌, ◌≤◌, ℕ, None, List, [], ◌∷◌, ◌++◌, MatchResult};
+ghost use Rattle.tre_decimal.specs.declared.TheConstants.{SCALE_MAX};
 ghost use Rattle.tre_state.specs.Name.{IsName};
 ghost use Rattle.tre_state.specs.Names.{place_of};
 ghost use Rattle.tre_watch.specs.declared.fault.WatchFault.{WatchFault};
@@ -18,18 +19,20 @@ pub(crate) fn add_line(
     alloc: Global,
     names: &mut Names,
     patterns: &mut Vec<Pattern>,
+    scale: u8,
     number: u64,
     line: &[u8],
 ) -> Result<(), WatchFault>
+    requires { scale ≤ SCALE_MAX }
     ensures { MatchResult result
-        (λ _. Leads number line.now names.old (spelt_in patterns.old.items) names.new
+        (λ _. Leads scale number line.now names.old (spelt_in patterns.old.items) names.new
         (spelt_in patterns.new.items))
-        (λ fault. Stops number line.now names.old (spelt_in patterns.old.items) fault) }
+        (λ fault. Stops scale number line.now names.old (spelt_in patterns.old.items) fault) }
 {
     match read_line(line) {
         Line::Silent => Ok(()),
         Line::Bad => Err(WatchFault::BadLine { line: number }),
-        Line::Check { name, text } => add_check(alloc, names, patterns, number, name, text),
+        Line::Check { name, text } => add_check(alloc, names, patterns, scale, number, name, text),
     }
 }
 
@@ -38,15 +41,17 @@ fn add_check(
     alloc: Global,
     names: &mut Names,
     patterns: &mut Vec<Pattern>,
+    scale: u8,
     number: u64,
     name: &str,
     text: &str,
 ) -> Result<(), WatchFault>
-    requires { IsName name.now }
+    requires scale { scale ≤ SCALE_MAX }
+    requires is_name { IsName name.now }
     ensures { (line : List ℕ) → Says line (check name.now text.now) → MatchResult result
-        (λ _. Leads number line names.old (spelt_in patterns.old.items) names.new
+        (λ _. Leads scale number line names.old (spelt_in patterns.old.items) names.new
         (spelt_in patterns.new.items))
-        (λ fault. Stops number line names.old (spelt_in patterns.old.items) fault) }
+        (λ fault. Stops scale number line names.old (spelt_in patterns.old.items) fault) }
 {
     if names.len() >= NAMES_MAX {
         return Err(WatchFault::TooMany { line: number });
@@ -54,7 +59,7 @@ fn add_check(
     if names.find(name).is_some() {
         return Err(WatchFault::Twice { line: number });
     }
-    match pattern_of(alloc, number, text) {
+    match pattern_of(alloc, scale, number, text) {
         Ok(pattern) => add_pair(names, patterns, name, pattern),
         Err(fault) => Err(fault),
     }
@@ -92,10 +97,11 @@ fn push(patterns: &mut Vec<Pattern>, pattern: Pattern) -> Result<(), WatchFault>
 }
 
 // The pattern of the text on the line of this number.
-fn pattern_of(alloc: Global, number: u64, text: &str) -> Result<Pattern, WatchFault>
-    ensures { FindsPattern text.now number result }
+fn pattern_of(alloc: Global, scale: u8, number: u64, text: &str) -> Result<Pattern, WatchFault>
+    requires { scale ≤ SCALE_MAX }
+    ensures { FindsPattern scale text.now number result }
 {
-    match parse(alloc, text) {
+    match parse(alloc, text, scale) {
         Ok(pattern) => Ok(pattern),
         Err(fault) => Err(fault_at(number, fault)),
     }

@@ -2,7 +2,8 @@
 //!
 //! [`read_plan`] reads the bytes of such a file. Each line is blank, a comment, or a check: a name,
 //! `=` and a pattern. The layers above may rely on `IsOutcome` (specs/Outcome.antt), which says for
-//! every file what becomes of it: it has one outcome, and `read_plan` answers that or `Memory`.
+//! every file and scale what becomes of it: it has one outcome, and `read_plan` answers that or
+//! `Memory`.
 //!
 //! ```text
 //! # of the bus

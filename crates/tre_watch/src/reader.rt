@@ -1,5 +1,6 @@
 ghost use Rattle.std.specs.Prelude.{◌≡◌, ◌+◌, ◌≤◌, ◌↔◌, ◌<◌, length, drop, IsTrue, [], IfErr};
 ghost use Rattle.std.specs.List.{slice_split};
+ghost use Rattle.tre_decimal.specs.declared.TheConstants.{SCALE_MAX};
 ghost use Rattle.tre_watch.specs.Lines.{is_line_end};
 ghost use Rattle.tre_watch.specs.Outcome.{Outcome, IsOutcome, IsOutcomeFrom};
 ghost use Rattle.tre_watch.specs.Steps.{Answers, NeverMemoryInside};
@@ -14,19 +15,20 @@ use tre_state::Names;
 /// How many bytes a file may have.
 pub const FILE_MAX: usize = 1_048_576;
 
-/// The plan that the bytes of a file say.
+/// The plan that the bytes of a file say, each of its patterns at the scale.
 ///
 /// The first 1,048,577 bytes of a file are enough to be given, since more make no other answer.
-pub fn read_plan(alloc: Global, bytes: &[u8]) -> Result<Plan, WatchFault>
-    ensures outcome { Answers (IsOutcome bytes.now) result }
-    ensures only { (outcome : Outcome) → IsOutcome bytes.now outcome →
+pub fn read_plan(alloc: Global, bytes: &[u8], scale: u8) -> Result<Plan, WatchFault>
+    requires { scale ≤ SCALE_MAX }
+    ensures outcome { Answers (IsOutcome scale bytes.now) result }
+    ensures only { (outcome : Outcome) → IsOutcome scale bytes.now outcome →
         Answers (λ answer. outcome ≡ answer) result }
     ensures never_memory { IfErr result NeverMemoryInside }
 {
     if is_too_large(bytes) {
         return Err(WatchFault::TooLarge);
     }
-    let plan = read_lines(alloc, bytes)?;
+    let plan = read_lines(alloc, bytes, scale)?;
     Ok(plan)
 }
 
@@ -37,9 +39,11 @@ fn is_too_large(bytes: &[u8]) -> bool
 }
 
 // The plan that the lines of the bytes say.
-fn read_lines(alloc: Global, bytes: &[u8]) -> Result<Plan, WatchFault>
-    requires { length bytes.now ≤ FILE_MAX }
-    ensures outcome { Answers (IsOutcomeFrom [] [] 1 (slice_split is_line_end bytes.now)) result }
+fn read_lines(alloc: Global, bytes: &[u8], scale: u8) -> Result<Plan, WatchFault>
+    requires small { length bytes.now ≤ FILE_MAX }
+    requires scale { scale ≤ SCALE_MAX }
+    ensures outcome { Answers
+        (IsOutcomeFrom scale [] [] 1 (slice_split is_line_end bytes.now)) result }
     ensures never_memory { IfErr result NeverMemoryInside }
 {
     let mut names = Names::new(alloc);
@@ -47,11 +51,18 @@ fn read_lines(alloc: Global, bytes: &[u8]) -> Result<Plan, WatchFault>
     let mut rest = bytes;
     let mut number = 1;
     while let Some(end) = memchr(b'\n', rest) {
-        add_line(alloc, &mut names, &mut patterns, number, &rest[..end])?;
+        add_line(
+            alloc,
+            &mut names,
+            &mut patterns,
+            scale,
+            number,
+            &rest[..end],
+        )?;
         rest = behind_line(rest, end);
         number += 1;
     }
-    add_line(alloc, &mut names, &mut patterns, number, rest)?;
+    add_line(alloc, &mut names, &mut patterns, scale, number, rest)?;
     if names.is_empty() {
         return Err(WatchFault::Empty);
     }

@@ -5,7 +5,8 @@ use Rattle.tre_parse.proofs.laws.one_spelling.Goals as goal
 
 pub returns : goal.returns
 returns c = record {
-  tree = λ text tree other names others h k. spelt_once (tokens_of text) tree other h.spells
+  tree = λ scale text tree other names others h k. spelt_once
+      (tokens_of scale text) tree other h.spells
       k.spells;
-  names = λ text tree other names others h k. h.numbered ∙ sym k.numbered;
+  names = λ scale text tree other names others h k. h.numbered ∙ sym k.numbered;
 }

@@ -14,9 +14,9 @@ returns-then-first-eq35 c =
     ∙ c.in-Some.ensures.field)
     c.in-Some.ensures.some c.if-first-eq35.true
 
-pub head_of-requires : goal.head_of-requires
-head_of-requires c =
-    record { no_comment = no_comment c.in-Some.first.now c.in-Some.ensures.some c.if-first-eq35.false }
+pub head_of-requires-clause-no_comment : goal.head_of-requires-clause-no_comment
+head_of-requires-clause-no_comment c =
+    no_comment c.in-Some.first.now c.in-Some.ensures.some c.if-first-eq35.false
 
 pub returns-in-Err : goal.returns-in-Err
 returns-in-Err c = (
@@ -29,21 +29,26 @@ returns-in-Err c = (
 pub returns-in_default-read_names : goal.returns-in_default-read_names
 returns-in_default-read_names c = (
   no_name-behind _ _ _ c.in-Some.first.now _ (ap fields_among (sym c.without_return.ensures)
-      ∙ c.in-Some.ensures.field) c.in-Ok.head c.in-Ok.ensures
-      c.in_default-read_names.ensures.other,
+      ∙ c.in-Some.ensures.field)
+      (no_comment c.in-Some.first.now c.in-Some.ensures.some c.if-first-eq35.false)
+      c.in-Ok.head c.in-Ok.ensures c.in_default-read_names.ensures.other,
   λ e. cc,
 )
 
 pub returns-in-Events : goal.returns-in-Events
 returns-in-Events c =
     events-behind _ _ _ c.in-Some.first.now _ (ap fields_among (sym c.without_return.ensures)
-    ∙ c.in-Some.ensures.field) c.in-Ok.head c.in-Ok.ensures _
+    ∙ c.in-Some.ensures.field)
+    (no_comment c.in-Some.first.now c.in-Some.ensures.some c.if-first-eq35.false)
+    c.in-Ok.head c.in-Ok.ensures _
     (rw (sym c.list_of.ensures, sym c.said_of.ensures) c.in-Some-read_names.ensures.value)
     c.in-Some-read_names.ensures.names c.in-Events.is
 
 pub returns-in-Entry : goal.returns-in-Entry
 returns-in-Entry c =
     segment-behind _ _ _ c.in-Some.first.now _ (ap fields_among (sym c.without_return.ensures)
-    ∙ c.in-Some.ensures.field) c.in-Ok.head c.in-Ok.ensures _
+    ∙ c.in-Some.ensures.field)
+    (no_comment c.in-Some.first.now c.in-Some.ensures.some c.if-first-eq35.false)
+    c.in-Ok.head c.in-Ok.ensures _
     (rw (sym c.list_of.ensures, sym c.said_of.ensures) c.in-Some-read_names.ensures.value)
     c.in-Some-read_names.ensures.names c.in-Entry.len c.in-Entry.is

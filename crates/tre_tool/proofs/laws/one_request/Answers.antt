@@ -1,4 +1,4 @@
-use Rattle.tre_tool.specs.Job.{GivesJob}
+use Rattle.tre_words.specs.Job.{GivesJob}
 use Rattle.tre_tool.proofs.Promise.{job_unique, request_unique}
 use Rattle.tre_tool.proofs.laws.one_request.Goals as goal
 

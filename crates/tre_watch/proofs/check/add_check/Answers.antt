@@ -7,13 +7,14 @@ use Rattle.tre_watch.proofs.check.add_check.Goals as goal
 
 pub returns-then-len-ge-NAMES_MAX : goal.returns-then-len-ge-NAMES_MAX
 returns-then-len-ge-NAMES_MAX c = λ line says.
-    stops_many c.args.number line c.args.names.now (spelt_in c.args.patterns.now.items)
+    stops_many c.args.scale c.args.number line c.args.names.now (spelt_in c.args.patterns.now.items)
     c.args.name.now c.args.text.now says (omega (arith, c.len.ensures.len))
 
 pub returns-then-is_some : goal.returns-then-is_some
 returns-then-is_some c = λ line says.
     let some = is_there c.find.result (sym c.if-is_some.ensures) in
-    stops_twice c.args.number line c.args.names.now (spelt_in c.args.patterns.now.items)
+    stops_twice c.args.scale c.args.number line c.args.names.now
+    (spelt_in c.args.patterns.now.items)
     c.args.name.now c.args.text.now says (omega (arith, c.len.ensures.len)) some.0
     (sym c.find.ensures ∙ some.1)
 
@@ -21,16 +22,18 @@ pub returns-in-Ok : goal.returns-in-Ok
 returns-in-Ok c = λ line says.
     MatchResult-weaker c.add_pair.result c.add_pair.ensures
     (λ _ h.
-    found_leads c.args.number line c.args.names.now c.args.patterns.now.items c.args.name.now
+    found_leads c.args.scale c.args.number line c.args.names.now c.args.patterns.now.items
+    c.args.name.now
     c.args.text.now says (omega (arith, c.len.ensures.len))
     (sym c.find.ensures ∙ is_absent c.find.result (sym c.if-is_some.ensures)) c.in-Ok.pattern
     c.in-Ok.ensures c.add_pair.new.names c.add_pair.new.patterns.items h.0 h.1)
-    (λ fault e. stops_memory c.args.number line c.args.names.now
+    (λ fault e. stops_memory c.args.scale c.args.number line c.args.names.now
     (spelt_in c.args.patterns.now.items) fault e)
 
 pub returns-in-Err : goal.returns-in-Err
 returns-in-Err c = λ line says.
-    found_stops c.args.number line c.args.names.now c.args.patterns.now.items c.args.name.now
+    found_stops c.args.scale c.args.number line c.args.names.now c.args.patterns.now.items
+    c.args.name.now
     c.args.text.now says (omega (arith, c.len.ensures.len))
     (sym c.find.ensures ∙ is_absent c.find.result (sym c.if-is_some.ensures)) c.in-Err.fault
     c.in-Err.ensures

@@ -11,7 +11,7 @@ use Rattle.tre_watch.proofs.reader.read_lines.Goals as goal
 pub loop-end-init : goal.loop-end-init
 loop-end-init c = record {
   reaches = rw (c.new-names.ensures, c.new-patterns.ensures.items)
-      (Reaches-start c.args.bytes.now);
+      (Reaches-start c.args.scale c.args.bytes.now);
   small = omega arith;
 }
 
@@ -25,7 +25,7 @@ loop-end-preserved c =
     let small = c.loop-end.invariant.small in
     record {
       reaches = rw c.behind_line-rest.ensures
-          (Reaches-next c.args.bytes.now c.loop-end.names
+          (Reaches-next c.args.scale c.args.bytes.now c.loop-end.names
           (spelt_in c.loop-end.patterns.items) c.loop-end.number c.loop-end.rest.now
           c.loop-end.invariant.reaches c.in-Some.end c.in-Some.ensures.0 c.in-Some.ensures.1
           c.add_line.new.names (spelt_in c.add_line.new.patterns.items)
@@ -37,7 +37,8 @@ pub returns-in_err-add_line-clause-outcome : goal.returns-in_err-add_line-clause
 returns-in_err-add_line-clause-outcome c =
     let p = err_from_is_err_and c.from_residual.result c.from_residual.ensures.1 in
     rw (p.1, p.2)
-    (Reaches-stop c.args.bytes.now c.loop-end.names (spelt_in c.loop-end.patterns.items)
+    (Reaches-stop c.args.scale c.args.bytes.now c.loop-end.names
+    (spelt_in c.loop-end.patterns.items)
     c.loop-end.number c.loop-end.rest.now c.loop-end.invariant.reaches c.in-Some.end
     c.in-Some.ensures.0 c.in-Some.ensures.1 c.in_err-add_line.field-0.0 c.in_err-add_line.ensures)
 
@@ -46,7 +47,8 @@ returns-in_err-add_line-2-clause-outcome c =
     let p = err_from_is_err_and c.from_residual-in_err-add_line-2.result
     c.from_residual-in_err-add_line-2.ensures.1 in
     rw (p.1, p.2)
-    (Reaches-last_stop c.args.bytes.now c.loop-end.names (spelt_in c.loop-end.patterns.items)
+    (Reaches-last_stop c.args.scale c.args.bytes.now c.loop-end.names
+    (spelt_in c.loop-end.patterns.items)
     c.loop-end.number c.loop-end.rest.now c.loop-end.invariant.reaches c.in_default.ensures
     c.in_err-add_line-2.field-0.0 c.in_err-add_line-2.ensures)
 
@@ -54,9 +56,9 @@ pub returns-then-is_empty-clause-outcome : goal.returns-then-is_empty-clause-out
 returns-then-is_empty-clause-outcome c =
     let none = c.is_empty.ensures.0 c.if-is_empty.true in
     inr (subst (λ (outcome : Outcome).
-    IsOutcomeFrom [] [] 1 (slice_split is_line_end c.args.bytes.now) outcome)
+    IsOutcomeFrom c.args.scale [] [] 1 (slice_split is_line_end c.args.bytes.now) outcome)
     (ended_empty c.add_line-2.new.names (spelt_in c.add_line-2.new.patterns.items) none)
-    (Reaches-end c.args.bytes.now c.loop-end.names (spelt_in c.loop-end.patterns.items)
+    (Reaches-end c.args.scale c.args.bytes.now c.loop-end.names (spelt_in c.loop-end.patterns.items)
     c.loop-end.number c.loop-end.rest.now c.loop-end.invariant.reaches c.in_default.ensures
     c.add_line-2.new.names (spelt_in c.add_line-2.new.patterns.items)
     c.in_ok-add_line-2.ensures))
@@ -66,9 +68,9 @@ returns-clause-outcome c =
     let some : c.add_line-2.new.names ≡ [] → ⊥ =
     λ none. let told = c.is_empty.ensures.1 none in absurd (cc) in
     subst (λ (outcome : Outcome).
-    IsOutcomeFrom [] [] 1 (slice_split is_line_end c.args.bytes.now) outcome)
+    IsOutcomeFrom c.args.scale [] [] 1 (slice_split is_line_end c.args.bytes.now) outcome)
     (ended_some c.add_line-2.new.names (spelt_in c.add_line-2.new.patterns.items) some)
-    (Reaches-end c.args.bytes.now c.loop-end.names (spelt_in c.loop-end.patterns.items)
+    (Reaches-end c.args.scale c.args.bytes.now c.loop-end.names (spelt_in c.loop-end.patterns.items)
     c.loop-end.number c.loop-end.rest.now c.loop-end.invariant.reaches c.in_default.ensures
     c.add_line-2.new.names (spelt_in c.add_line-2.new.patterns.items)
     c.in_ok-add_line-2.ensures)

@@ -5,7 +5,7 @@ use Rattle.tre_watch.proofs.reader.read_lines.Given as goal
 
 abbrev pub invariant-loop-end : goal.invariant-loop-end
 invariant-loop-end l = record {
-  reaches : Reaches l.bytes l.names (spelt_in l.patterns.items) l.number l.rest;
+  reaches : Reaches l.scale l.bytes l.names (spelt_in l.patterns.items) l.number l.rest;
   small : l.number + length l.rest ≤ length l.bytes + 1;
 }
 

@@ -10,16 +10,18 @@ returns-in_err-plan-clause-only c = λ outcome other.
     let small = at_most c.is_too_large.result FILE_MAX (length c.args.bytes.now)
     c.if-is_too_large.false c.is_too_large.ensures in
     rw (p.1, p.2)
-    (answers_only c.args.bytes.now (Err c.in_err-plan.field-0.0)
-    (answers_file c.args.bytes.now small (Err c.in_err-plan.field-0.0) c.in_err-plan.ensures.outcome)
+    (answers_only c.args.scale c.args.bytes.now (Err c.in_err-plan.field-0.0)
+    (answers_file c.args.scale c.args.bytes.now small
+    (Err c.in_err-plan.field-0.0) c.in_err-plan.ensures.outcome)
     outcome other)
 
 pub returns-clause-only : goal.returns-clause-only
 returns-clause-only c = λ outcome other.
     let small = at_most c.is_too_large.result FILE_MAX (length c.args.bytes.now)
     c.if-is_too_large.false c.is_too_large.ensures in
-    answers_only c.args.bytes.now (Ok c.in_ok-plan.plan)
-    (answers_file c.args.bytes.now small (Ok c.in_ok-plan.plan) c.in_ok-plan.ensures.outcome)
+    answers_only c.args.scale c.args.bytes.now (Ok c.in_ok-plan.plan)
+    (answers_file c.args.scale c.args.bytes.now small
+    (Ok c.in_ok-plan.plan) c.in_ok-plan.ensures.outcome)
     outcome other
 
 pub returns-in_err-plan-clause-never_memory : goal.returns-in_err-plan-clause-never_memory

@@ -1,11 +1,11 @@
-use Rattle.std.proofs.Common.{ℕ, ◌+◌, List, sym, ◌∙◌, ap, subst, arith, take, drop, length, length-drop}
+use Rattle.std.proofs.Common.{◌≡◌, ℕ, ◌+◌, ◌-◌, List, sym, ◌∙◌, ap, subst, arith, take, drop, length, length-drop}
 use Rattle.std.proofs.lemmas.List.{take_rest}
 use Rattle.tre_state.specs.Name.{IsName}
-use Rattle.tre_parse.specs.Tokens.{name, sign}
+use Rattle.tre_parse.specs.Tokens.{name, number, sign}
 use Rattle.tre_parse.specs.Lexeme.{lexeme_of}
 use Rattle.tre_parse.specs.Scan.{GoesOn}
 use Rattle.tre_parse.proofs.Words.{name_bytes}
-use Rattle.tre_parse.proofs.Scans.{rest_blank, rest_name, rest_sign, leads_word, leads_same, same_bytes}
+use Rattle.tre_parse.proofs.Scans.{rest_blank, rest_name, rest_number, rest_sign, leads_word, leads_same, same_bytes}
 use Rattle.tre_parse.proofs.scan.Scan.step.Goals as goal
 
 pub name_at-requires : goal.name_at-requires
@@ -34,12 +34,12 @@ returns-in-Blank-clause-ok c =
     let bytes = c.as_bytes.result.now in
     let same = c.as_bytes.ensures.value in
     let P = λ (bs : List ℕ). GoesOn bs c.args.self.now c.args.at c.args.self.now (c.args.at + 1) in
-    let e = rest_blank bytes c.args.at (omega (arith, c.requires, ap length same))
+    let e = rest_blank bytes c.args.at (omega (arith, c.requires.place, ap length same))
     (ap lexeme_of (sym (take_rest bytes c.args.at)) ∙ sym c.in-Blank.ensures.value) in
     subst P same (record {
       leads = leads_same bytes c.args.self.now c.args.at (c.args.at + 1) e;
       further = omega arith;
-      within = omega (arith, c.requires, ap length same);
+      within = omega (arith, c.requires.place, ap length same);
     })
 
 pub returns-in_ok-put_name-in-Name-clause-ok : goal.returns-in_ok-put_name-in-Name-clause-ok
@@ -49,10 +49,10 @@ returns-in_ok-put_name-in-Name-clause-ok c =
     let whole = ap length (take_rest bytes at) in
     let size = length-drop at bytes in
     let P = λ (bs : List ℕ). GoesOn bs c.args.self.now at c.put_name.new.self (at + len) in
-    let e = rest_name bytes at len (omega (arith, c.requires, ap length same))
+    let e = rest_name bytes at len (omega (arith, c.requires.place, ap length same))
     (omega (arith, c.in-Name.ensures.fits)) (omega (arith, c.in-Name.ensures.fits, whole))
     (ap lexeme_of (sym (take_rest bytes at)) ∙ sym c.in-Name.ensures.value) in
-    let taken = same_bytes bytes c.args.self.now c.put_name.new.self at (take len (drop at bytes))
+    let taken = same_bytes name c.args.self.now c.put_name.new.self at (take len (drop at bytes))
     c.name_at.result.now (ap (λ bs. take len (drop at bs)) same ∙ sym c.name_at.ensures)
     c.in_ok-put_name-in-Name.ensures.ok in
     subst P same (record {
@@ -62,6 +62,30 @@ returns-in_ok-put_name-in-Name-clause-ok c =
       within = omega (arith, c.in-Name.ensures.fits, whole, size);
     })
 
+pub returns-in_ok-put_number-in-Number-clause-ok : goal.returns-in_ok-put_number-in-Number-clause-ok
+returns-in_ok-put_number-in-Number-clause-ok c =
+    let bytes = c.as_bytes.result.now in let at = c.args.at in let len = c.in-Number.len in
+    let same = c.as_bytes.ensures.value in
+    let whole = ap length (take_rest bytes at) in
+    let size = length-drop at bytes in
+    let P = λ (bs : List ℕ). GoesOn bs c.args.self.now at c.put_number.new.self (at + len) in
+    let e = rest_number bytes at len (omega (arith, c.requires.place, ap length same))
+    (omega (arith, c.in-Number.ensures.fits)) (omega (arith, c.in-Number.ensures.fits, whole))
+    (ap lexeme_of (sym (take_rest bytes at)) ∙ sym c.in-Number.ensures.value) in
+    let again = c.as_bytes-in-Number.result.now in
+    let count : len ≡ at + len - at = omega arith in
+    let taken = same_bytes number c.args.self.now c.put_number.new.self at (take len
+    (drop at bytes))
+    (take (at + len - at) (drop at again))
+    (ap (λ bs. take len (drop at bs)) (same ∙ sym c.as_bytes-in-Number.ensures.value)
+    ∙ ap (λ n. take n (drop at again)) count) c.in_ok-put_number-in-Number.ensures in
+    subst P same (record {
+      leads = leads_word bytes c.args.self.now c.put_number.new.self at (at + len)
+          (number (take len (drop at bytes))) taken e;
+      further = omega (arith, c.in-Number.ensures.fits);
+      within = omega (arith, c.in-Number.ensures.fits, whole, size);
+    })
+
 pub returns-in_ok-put_sign-in-Sign-clause-ok : goal.returns-in_ok-put_sign-in-Sign-clause-ok
 returns-in_ok-put_sign-in-Sign-clause-ok c =
     let bytes = c.as_bytes.result.now in let at = c.args.at in let len = c.in-Sign.len in
@@ -69,7 +93,7 @@ returns-in_ok-put_sign-in-Sign-clause-ok c =
     let whole = ap length (take_rest bytes at) in
     let size = length-drop at bytes in
     let P = λ (bs : List ℕ). GoesOn bs c.args.self.now at c.put_sign.new.self (at + len) in
-    let e = rest_sign bytes at len c.in-Sign.token (omega (arith, c.requires, ap length same))
+    let e = rest_sign bytes at len c.in-Sign.token (omega (arith, c.requires.place, ap length same))
     (omega (arith, c.in-Sign.ensures.fits)) (omega (arith, c.in-Sign.ensures.fits, whole))
     (ap lexeme_of (sym (take_rest bytes at)) ∙ sym c.in-Sign.ensures.value) in
     subst P same (record {

@@ -1,6 +1,8 @@
-use Rattle.std.proofs.Common.{◌≡◌, length, map, take, true, false, sym, ap, ◌∙◌, arith}
+use Rattle.std.proofs.Common.{◌≡◌, ◌∷◌, length, map, take, true, false, sym, ap, subst, ◌∙◌, arith}
 use Rattle.std.proofs.lemmas.List.{length-map}
-use Rattle.tre_vcd.specs.VcdReading.{scopes_at, is_signal, is_event}
+use Rattle.tre_vcd.specs.VcdReading.{var, path, scopes_at, is_signal, is_event}
+use Rattle.tre_vcd.specs.Kept.{KnowsAll}
+use Rattle.tre_vcd.proofs.Needing.{needed-undeclared, written-back}
 use Rattle.tre_vcd.proofs.Pasts.{knows-undeclared}
 use Rattle.tre_vcd.proofs.Tokens.{declares-kept, declares-none, kept-at, same-test, signal-no_event}
 use Rattle.tre_vcd.proofs.token_reader.TokenReader.declare.Goals as goal
@@ -13,14 +15,17 @@ returns-then-tokens-ne4-clause-knows c = λ past word tokens holds.
     ap (map (λ token. token.items)) c.as_slice-tokens.ensures.value ∙ holds.tokens in
     let count : length all ≡ length (take 5 tokens) =
     sym (length-map all (λ token. token.items)) ∙ ap length kept in
-    knows-undeclared reader.names reader.events reader.past past tokens holds.suits
-    (declares-none is_signal (scopes_at past) tokens
-    (λ four. absurd (c.if-tokens-ne4.true (count ∙ four))))
-    (declares-none is_event (scopes_at past) tokens
-    (λ four. absurd (c.if-tokens-ne4.true (count ∙ four)))) holds.past
+    let none = declares-none is_signal (scopes_at past) tokens
+    (λ four. absurd (c.if-tokens-ne4.true (count ∙ four))) in
+    let silent = declares-none is_event (scopes_at past) tokens
+    (λ four. absurd (c.if-tokens-ne4.true (count ∙ four))) in (
+      knows-undeclared reader.names reader.events reader.past past tokens holds.suits none silent
+          holds.past,
+      needed-undeclared past tokens reader.needed.items none silent holds.needed,
+    )
 
-pub returns-in_ok-declare-clause-knows : goal.returns-in_ok-declare-clause-knows
-returns-in_ok-declare-clause-knows c = λ past word tokens holds.
+pub returns-in_ok-declare-2-clause-knows : goal.returns-in_ok-declare-2-clause-knows
+returns-in_ok-declare-2-clause-knows c = λ past word tokens holds.
     let reader = c.args.self.now in
     let all = c.as_slice-tokens.result.now in
     let kept : map (λ token. token.items) all ≡ take 5 tokens =
@@ -35,23 +40,33 @@ returns-in_ok-declare-clause-knows c = λ past word tokens holds.
     c.index-tokens-1.result c.deref-2.result.now kept (omega (arith, four)) c.index-tokens-1.is
     c.deref-2.ensures.value in
     let third = kept-at (λ token. token.items) all (take 5 tokens) 2 c.index-tokens-2.result
-    c.index-tokens-2.result c.deref-then-is_signal.result.now kept (omega (arith, four))
-    c.index-tokens-2.is c.deref-then-is_signal.ensures.value in
+    c.index-tokens-2.result c.as_slice-identifier.result.now kept (omega (arith, four)) c.index-tokens-2.is
+    c.as_slice-identifier.ensures.value in
     let fourth = kept-at (λ token. token.items) all (take 5 tokens) 3 c.index-tokens-3.result
-    c.index-tokens-3.result c.deref-then-is_signal-2.result.now kept (omega (arith, four))
-    c.index-tokens-3.is c.deref-then-is_signal-2.ensures.value in
+    c.index-tokens-3.result c.as_slice-reference.result.now kept (omega (arith, four)) c.index-tokens-3.is
+    c.as_slice-reference.ensures.value in
     let signal = sym c.is_signal.ensures ∙ c.if-is_signal.true in
-    c.in_ok-declare.ensures reader.events past tokens holds.past holds.suits
-    (declares-kept is_signal (scopes_at past) tokens c.deref-then-is_signal.result.now
-    c.deref-then-is_signal-2.result.now third fourth (sym count ∙ four)
+    let named : c.as_slice-name.result.now ≡ path (scopes_at past) c.as_slice-reference.result.now =
+    c.as_slice-name.ensures.value ∙ c.in_ok-path.ensures (scopes_at past) holds.past.scopes in
+    let declares =
+    declares-kept is_signal (scopes_at past) tokens c.as_slice-identifier.result.now
+    c.as_slice-reference.result.now c.as_slice-name.result.now third fourth named
+    (sym count ∙ four)
     (same-test is_signal (take 5 tokens) c.deref.result.now c.deref-2.result.now true first second
-    signal))
-    (declares-none is_event (scopes_at past) tokens
+    signal) in
+    let none =
+    declares-none is_event (scopes_at past) tokens
     (λ _. same-test is_event (take 5 tokens) c.deref.result.now c.deref-2.result.now false first
-    second (signal-no_event c.deref.result.now c.deref-2.result.now signal)))
+    second (signal-no_event c.deref.result.now c.deref-2.result.now signal)) in (
+      c.in_ok-declare.ensures reader.events past tokens holds.past holds.suits declares none,
+      written-back (var tokens ∷ past) c.declare-then-is_signal.new.all reader.needed.items reader.needed.len
+          (omega (arith, c.declare-then-is_signal.auto.all, c.deref_mut.ensures.len))
+          (c.in_ok-declare-2.ensures.knows past tokens
+          (subst (KnowsAll past) (sym c.deref_mut.ensures.value) holds.needed) declares none),
+    )
 
-pub returns-in_ok-declare_event-clause-knows : goal.returns-in_ok-declare_event-clause-knows
-returns-in_ok-declare_event-clause-knows c = λ past word tokens holds.
+pub returns-in_ok-declare_event-2-clause-knows : goal.returns-in_ok-declare_event-2-clause-knows
+returns-in_ok-declare_event-2-clause-knows c = λ past word tokens holds.
     let reader = c.args.self.now in
     let all = c.as_slice-tokens.result.now in
     let kept : map (λ token. token.items) all ≡ take 5 tokens =
@@ -62,29 +77,36 @@ returns-in_ok-declare_event-clause-knows c = λ past word tokens holds.
     let first = kept-at (λ token. token.items) all (take 5 tokens) 0 c.index-tokens-0.result
     c.index-tokens-0.result c.deref.result.now kept (omega (arith, four)) c.index-tokens-0.is
     c.deref.ensures.value in
-    let kind = kept-at (λ token. token.items) all (take 5 tokens) 0
-    c.index-tokens-0-else-is_signal.result c.index-tokens-0-else-is_signal.result
-    c.deref-else-is_signal.result.now kept (omega (arith, four)) c.index-tokens-0-else-is_signal.is
+    let kind = kept-at (λ token. token.items) all (take 5 tokens) 0 c.index-tokens-0-else-is_signal.result
+    c.index-tokens-0-else-is_signal.result c.deref-else-is_signal.result.now kept (omega (arith, four)) c.index-tokens-0-else-is_signal.is
     c.deref-else-is_signal.ensures.value in
     let second = kept-at (λ token. token.items) all (take 5 tokens) 1 c.index-tokens-1.result
     c.index-tokens-1.result c.deref-2.result.now kept (omega (arith, four)) c.index-tokens-1.is
     c.deref-2.ensures.value in
-    let third = kept-at (λ token. token.items) all (take 5 tokens) 2
-    c.index-tokens-2-then-is_event.result c.index-tokens-2-then-is_event.result
-    c.deref-then-is_event.result.now kept (omega (arith, four)) c.index-tokens-2-then-is_event.is
-    c.deref-then-is_event.ensures.value in
-    let fourth = kept-at (λ token. token.items) all (take 5 tokens) 3
-    c.index-tokens-3-then-is_event.result c.index-tokens-3-then-is_event.result
-    c.deref-then-is_event-2.result.now kept (omega (arith, four)) c.index-tokens-3-then-is_event.is
-    c.deref-then-is_event-2.ensures.value in
-    c.in_ok-declare_event.ensures reader.names past tokens holds.past holds.suits
-    (declares-kept is_event (scopes_at past) tokens c.deref-then-is_event.result.now
-    c.deref-then-is_event-2.result.now third fourth (sym count ∙ four)
+    let third = kept-at (λ token. token.items) all (take 5 tokens) 2 c.index-tokens-2.result
+    c.index-tokens-2.result c.as_slice-identifier.result.now kept (omega (arith, four)) c.index-tokens-2.is
+    c.as_slice-identifier.ensures.value in
+    let fourth = kept-at (λ token. token.items) all (take 5 tokens) 3 c.index-tokens-3.result
+    c.index-tokens-3.result c.as_slice-reference.result.now kept (omega (arith, four)) c.index-tokens-3.is
+    c.as_slice-reference.ensures.value in
+    let named : c.as_slice-name-then-is_event.result.now ≡ path (scopes_at past) c.as_slice-reference.result.now =
+    c.as_slice-name-then-is_event.ensures.value ∙ c.in_ok-path-2.ensures (scopes_at past) holds.past.scopes in
+    let declares =
+    declares-kept is_event (scopes_at past) tokens c.as_slice-identifier.result.now
+    c.as_slice-reference.result.now c.as_slice-name-then-is_event.result.now third fourth named
+    (sym count ∙ four)
     (same-test is_event (take 5 tokens) c.deref-else-is_signal.result.now c.deref-2.result.now true
-    kind second (sym (c.is_event.ensures c.deref-2.result.now) ∙ c.if-is_event.true)))
-    (declares-none is_signal (scopes_at past) tokens
+    kind second (sym (c.is_event.ensures c.deref-2.result.now) ∙ c.if-is_event.true)) in
+    let none =
+    declares-none is_signal (scopes_at past) tokens
     (λ _. same-test is_signal (take 5 tokens) c.deref.result.now c.deref-2.result.now false first
-    second (sym c.is_signal.ensures ∙ c.if-is_signal.false)))
+    second (sym c.is_signal.ensures ∙ c.if-is_signal.false)) in (
+      c.in_ok-declare_event.ensures reader.names past tokens holds.past holds.suits declares none,
+      written-back (var tokens ∷ past) c.declare_event-then-is_event.new.all reader.needed.items reader.needed.len
+          (omega (arith, c.declare_event-then-is_event.auto.all, c.deref_mut-then-is_event.ensures.len))
+          (c.in_ok-declare_event-2.ensures.knows past tokens
+          (subst (KnowsAll past) (sym c.deref_mut-then-is_event.ensures.value) holds.needed) declares none),
+    )
 
 pub returns-else-is_event-clause-knows : goal.returns-else-is_event-clause-knows
 returns-else-is_event-clause-knows c = λ past word tokens holds.
@@ -92,22 +114,26 @@ returns-else-is_event-clause-knows c = λ past word tokens holds.
     let all = c.as_slice-tokens.result.now in
     let kept : map (λ token. token.items) all ≡ take 5 tokens =
     ap (map (λ token. token.items)) c.as_slice-tokens.ensures.value ∙ holds.tokens in
+    let count : length all ≡ length (take 5 tokens) =
+    sym (length-map all (λ token. token.items)) ∙ ap length kept in
     let four : length all ≡ 4 = omega (arith, c.if-tokens-ne4.false) in
     let first = kept-at (λ token. token.items) all (take 5 tokens) 0 c.index-tokens-0.result
     c.index-tokens-0.result c.deref.result.now kept (omega (arith, four)) c.index-tokens-0.is
     c.deref.ensures.value in
-    let kind = kept-at (λ token. token.items) all (take 5 tokens) 0
-    c.index-tokens-0-else-is_signal.result c.index-tokens-0-else-is_signal.result
-    c.deref-else-is_signal.result.now kept (omega (arith, four)) c.index-tokens-0-else-is_signal.is
+    let kind = kept-at (λ token. token.items) all (take 5 tokens) 0 c.index-tokens-0-else-is_signal.result
+    c.index-tokens-0-else-is_signal.result c.deref-else-is_signal.result.now kept (omega (arith, four)) c.index-tokens-0-else-is_signal.is
     c.deref-else-is_signal.ensures.value in
     let second = kept-at (λ token. token.items) all (take 5 tokens) 1 c.index-tokens-1.result
     c.index-tokens-1.result c.deref-2.result.now kept (omega (arith, four)) c.index-tokens-1.is
     c.deref-2.ensures.value in
-    knows-undeclared reader.names reader.events reader.past past tokens holds.suits
-    (declares-none is_signal (scopes_at past) tokens
+    let none = declares-none is_signal (scopes_at past) tokens
     (λ _. same-test is_signal (take 5 tokens) c.deref.result.now c.deref-2.result.now false first
-    second (sym c.is_signal.ensures ∙ c.if-is_signal.false)))
-    (declares-none is_event (scopes_at past) tokens
+    second (sym c.is_signal.ensures ∙ c.if-is_signal.false)) in
+    let silent = declares-none is_event (scopes_at past) tokens
     (λ _. same-test is_event (take 5 tokens) c.deref-else-is_signal.result.now
     c.deref-2.result.now false kind second
-    (sym (c.is_event.ensures c.deref-2.result.now) ∙ c.if-is_event.false))) holds.past
+    (sym (c.is_event.ensures c.deref-2.result.now) ∙ c.if-is_event.false)) in (
+      knows-undeclared reader.names reader.events reader.past past tokens holds.suits none silent
+          holds.past,
+      needed-undeclared past tokens reader.needed.items none silent holds.needed,
+    )

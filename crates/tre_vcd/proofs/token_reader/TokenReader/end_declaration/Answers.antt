@@ -15,5 +15,6 @@ returns-in-Ok-clause-tells c = λ past word tokens holds.
       state = record { past = var tokens ∷ past; inside = nothing };
       says = declaration-long past tokens (omega (arith, count, c.if-as_slice-lt4.false));
       is_held = c.close.ensures.holds (var tokens ∷ past)
-          (c.in-Ok.ensures.knows past word tokens holds);
+          (c.in-Ok.ensures.knows past word tokens holds).0
+          (c.in-Ok.ensures.knows past word tokens holds).1;
     }

@@ -1,7 +1,8 @@
-use Rattle.std.proofs.Common.{◌≡◌, ◌∷◌, length, map, take, sym, ap, ◌∙◌, arith}
+use Rattle.std.proofs.Common.{◌≡◌, ◌∷◌, length, map, take, refl, sym, ap, ◌∙◌, arith}
 use Rattle.std.proofs.lemmas.List.{length-map}
 use Rattle.tre_vcd.specs.VcdReading.{scope, nothing}
 use Rattle.tre_vcd.proofs.Tokens.{scope-long, kept-at}
+use Rattle.tre_vcd.proofs.Needing.{needed-same}
 use Rattle.tre_vcd.proofs.token_reader.TokenReader.end_scope.Goals as goal
 
 pub returns-in-Ok-clause-tells : goal.returns-in-Ok-clause-tells
@@ -26,5 +27,7 @@ returns-in-Ok-clause-tells c = λ past word tokens holds.
           (omega (arith, count, count_again, c.if-as_slice-lt2.false)) c.index-as_slice-1.is
           c.deref.ensures.value);
       is_held = c.close.ensures.holds (scope name ∷ past)
-          (c.in-Ok.ensures reader.names reader.events past holds.past);
+          (c.in-Ok.ensures reader.names reader.events past holds.past)
+          (needed-same past (scope name ∷ past) reader.needed.items (λ test name. refl)
+          holds.needed);
     }

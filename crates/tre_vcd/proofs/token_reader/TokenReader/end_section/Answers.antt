@@ -1,8 +1,9 @@
-use Rattle.std.proofs.Common.{◌∷◌, sym, ◌∙◌, subst}
+use Rattle.std.proofs.Common.{◌∷◌, refl, sym, ◌∙◌, subst}
 use Rattle.tre_parts.specs.Walk.{Tells}
 use Rattle.tre_vcd.specs.Sections.{Holds}
 use Rattle.tre_vcd.specs.VcdReading.{upscope, definitions, nothing}
 use Rattle.tre_vcd.specs.declared.command.Command.TheVariants.{Scope, Upscope, Var, EndDefinitions}
+use Rattle.tre_vcd.proofs.Needing.{needed-same}
 use Rattle.tre_vcd.proofs.Tokens.{section-ended}
 use Rattle.tre_vcd.proofs.token_reader.TokenReader.end_section.Goals as goal
 
@@ -23,7 +24,9 @@ returns-in-Upscope-clause-tells c = λ past word tokens holds is. record {
   state = record { past = upscope ∷ past; inside = nothing };
   says = section-ended past word tokens Upscope (sym c.in-Upscope.is ∙ is);
   is_held = c.close.ensures.holds (upscope ∷ past)
-      (c.leave.ensures c.args.self.now.names c.args.self.now.events past holds.past);
+      (c.leave.ensures c.args.self.now.names c.args.self.now.events past holds.past)
+      (needed-same past (upscope ∷ past) c.args.self.now.needed.items (λ test name. refl)
+      holds.needed);
 }
 
 pub returns-in-EndDefinitions-clause-tells : goal.returns-in-EndDefinitions-clause-tells
@@ -31,5 +34,7 @@ returns-in-EndDefinitions-clause-tells c = λ past word tokens holds is. record 
   state = record { past = definitions ∷ past; inside = nothing };
   says = section-ended past word tokens EndDefinitions (sym c.in-EndDefinitions.is ∙ is);
   is_held = c.close-in-EndDefinitions.ensures.holds (definitions ∷ past)
-      (c.define.ensures c.args.self.now.names c.args.self.now.events past holds.past);
+      (c.define.ensures c.args.self.now.names c.args.self.now.events past holds.past)
+      (needed-same past (definitions ∷ past) c.args.self.now.needed.items (λ test name. refl)
+      holds.needed);
 }

@@ -1,6 +1,7 @@
-use Rattle.std.proofs.Common.{◌≡◌, ◌∷◌, Bool, false, Err, sym, ap, ◌∙◌, if◌then◌else◌}
+use Rattle.std.proofs.Common.{◌≡◌, ◌∷◌, Bool, false, Err, refl, sym, ap, ◌∙◌, if◌then◌else◌}
 use Rattle.tre_trace.specs.declared.fault.TraceKind.TheVariants.{BadToken}
 use Rattle.tre_vcd.specs.VcdReading.{dump, nothing, in_dump, goes_to}
+use Rattle.tre_vcd.proofs.Needing.{needed-same}
 use Rattle.tre_vcd.proofs.token_reader.TokenReader.open_dump.Goals as goal
 
 pub returns-clause-tells : goal.returns-clause-tells
@@ -11,6 +12,9 @@ returns-clause-tells c = λ past holds defined.
       says = ap (λ (b : Bool). if b then Err BadToken else goes_to (dump ∷ past) nothing) outside;
       is_held = record {
         past = c.open_dump.ensures c.args.self.now.names c.args.self.now.events past holds.past;
+        needed =
+            needed-same past (dump ∷ past) c.args.self.now.needed.items (λ test name. refl)
+            holds.needed;
         inside = holds.inside;
         tokens = holds.tokens;
         suits = tt;

@@ -1,8 +1,9 @@
-use Rattle.std.proofs.Common.{◌≡◌, ◌∷◌, [], ◌-◌, ◌≤◌, true, false, Ok, sym, ap, ◌∙◌, arith}
+use Rattle.std.proofs.Common.{◌≡◌, ◌∷◌, [], ◌-◌, ◌≤◌, refl, true, false, Ok, sym, ap, ◌∙◌, arith}
 use Rattle.tre_trace.specs.declared.segment.Segment.{Segment}
 use Rattle.tre_trace.specs.Segments.{segment_with}
 use Rattle.tre_vcd.specs.VcdReading.{time, nothing, time_at, valuation_at, events_at}
-use Rattle.tre_vcd.specs.Sections.{asked_of}
+use Rattle.tre_vcd.specs.Sections.{terms_kept}
+use Rattle.tre_vcd.proofs.Needing.{needed-same}
 use Rattle.tre_vcd.proofs.Pasts.{same_time, other_time}
 use Rattle.tre_vcd.proofs.Reading.{time-says}
 use Rattle.tre_vcd.proofs.token_reader.TokenReader.read_time.Goals as goal
@@ -15,11 +16,13 @@ returns-then-ticks-self-2-clause-tells c = λ past holds defined.
     record {
       state = record { past = time ticks ∷ past; inside = nothing };
       says =
-          time-says (asked_of reader) past c.args.digits.now ticks true c.in-Some.ensures.digits
+          time-says (terms_kept reader) past c.args.digits.now ticks true c.in-Some.ensures.digits
           c.in-Some.ensures.value late c.if-ticks-gt-TIME_MAX.false
           (same_time ticks (time_at past) (c.if-ticks-self-2.true ∙ holds.past.time));
       is_held = record {
         past = c.reach.ensures reader.names reader.events past holds.past;
+        needed = needed-same past (time ticks ∷ past) reader.needed.items (λ test name. refl)
+            holds.needed;
         inside = holds.inside;
         tokens = holds.tokens;
         suits = tt;
@@ -43,7 +46,7 @@ returns-clause-tells c = λ past holds defined.
     record {
       state = record { past = time ticks ∷ past; inside = nothing };
       says =
-          time-says (asked_of reader) past c.args.digits.now ticks false c.in-Some.ensures.digits
+          time-says (terms_kept reader) past c.args.digits.now ticks false c.in-Some.ensures.digits
           c.in-Some.ensures.value late c.if-ticks-gt-TIME_MAX.false
           (other_time ticks (time_at past) (λ e. c.if-ticks-self-2.false (e ∙ sym holds.past.time)))
           ∙ ap (λ (segment : Segment). Ok (record {
@@ -52,6 +55,8 @@ returns-clause-tells c = λ past holds defined.
           })) is;
       is_held = record {
         past = c.reach-2.ensures reader.names reader.events past holds.past;
+        needed = needed-same past (time ticks ∷ past) reader.needed.items (λ test name. refl)
+            holds.needed;
         inside = holds.inside;
         tokens = holds.tokens;
         suits = tt;

@@ -1,6 +1,6 @@
 use Rattle.std.proofs.Common.{refl, sym, ◌∙◌}
 use Rattle.tre_vcd.specs.VcdReading.{number}
-use Rattle.tre_vcd.specs.Sections.{asked_of}
+use Rattle.tre_vcd.specs.Sections.{terms_kept}
 use Rattle.tre_vcd.proofs.Letters.{number-says}
 use Rattle.tre_vcd.proofs.token_reader.TokenReader.read_value.Goals as goal
 
@@ -9,7 +9,13 @@ returns-in-Number-clause-tells c past holds defined =
     record {
       state = record { past = past; inside = number };
       says =
-          number-says (asked_of c.args.self.now) past c.args.token.now c.in-Some.first.now
+          number-says (terms_kept c.args.self.now) past c.args.token.now c.in-Some.first.now
           c.in-Some.rest.now c.in-Some.ensures.cases.0 (sym c.letter_of.ensures ∙ c.in-Number.is);
-      is_held = record { past = holds.past; inside = refl; tokens = holds.tokens; suits = defined };
+      is_held = record {
+        past = holds.past;
+        needed = holds.needed;
+        inside = refl;
+        tokens = holds.tokens;
+        suits = defined;
+      };
     }

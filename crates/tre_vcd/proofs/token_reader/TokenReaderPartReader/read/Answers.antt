@@ -1,8 +1,9 @@
-use Rattle.std.proofs.Common.{◌==◌, ◌∷◌, sym, ap, ◌∙◌, subst}
+use Rattle.std.proofs.Common.{◌==◌, ◌∷◌, refl, sym, ap, ◌∙◌, subst}
 use Rattle.tre_parts.specs.Walk.{Tells}
 use Rattle.tre_vcd.specs.VcdReading.{Open, scalar, change, nothing, token_at}
 use Rattle.tre_vcd.specs.Sections.{Holds, terms_kept}
 use Rattle.tre_vcd.proofs.Bits.{bit-says, values-say, values-read, commands-read, commands-say}
+use Rattle.tre_vcd.proofs.Needing.{needed-same}
 use Rattle.tre_vcd.proofs.Reading.{says-empty, says-letter, is-nothing, is-section, is-comment, is-vector, is-number}
 use Rattle.tre_vcd.proofs.token_reader.TokenReaderPartReader.read.Goals as goal
 
@@ -32,6 +33,9 @@ returns-then-not-is_empty-clause-tells c = λ state holds.
         past =
             c.change_scalar.ensures reader.names reader.events state.past holds.past
             reads.defined;
+        needed =
+            needed-same state.past (change scalar rest (letter == 49) ∷ state.past)
+            reader.needed.items (λ test name. refl) holds.needed;
         inside = reads.stays;
         tokens = reads.tokens;
         suits = tt;

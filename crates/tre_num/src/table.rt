@@ -1,0 +1,160 @@
+// Reading a table: a header, and rows behind it.
+ghost use Rattle.std.specs.Prelude.{◌≡◌, ◌≢◌, ◌≤◌, ℕ, List, length, Some, None, true, IfErr, IfOk, OnOk, OnErr};
+ghost use Rattle.csv.specs.Reading.{default_config, records, strip_bom};
+ghost use Rattle.csv.specs.Records.{fields_of};
+ghost use Rattle.tre_decimal.specs.declared.TheConstants.{SCALE_MAX};
+ghost use Rattle.tre_num.specs.Left.{IsLeft};
+ghost use Rattle.tre_num.specs.Rows.{compared, rows_from, rows_reading, terms_of};
+ghost use Rattle.tre_parts.specs.Format.{nothing};
+ghost use Rattle.tre_state.specs.declared.names.TheConstants.{NAMES_MAX};
+ghost use Rattle.tre_trace.specs.Reading.{Adds, IsPlaced, IsRefused};
+ghost use Rattle.tre_trace.specs.declared.fault.TraceKind.TheVariants.{Memory, Spent, UnknownName};
+
+use crate::column::Column;
+use crate::columns::{NO_MEMORY, UNKNOWN, columns_of};
+use crate::definition::Definition;
+use crate::row::read_row;
+use csv::{ByteRecord, ByteRecordsIntoIter, ReaderBuilder};
+use std::alloc::Global;
+use std::io::Read;
+use std::marker::Model;
+use tre_state::Names;
+use tre_trace::{Segment, TraceFault};
+
+/// What a table is read by.
+#[derive(Drop)]
+pub(crate) struct Table {
+    definitions: Vec<Definition>,
+    names: Names,
+    events: Names,
+    scale: u8,
+}
+
+impl Model for Table {
+    ghost use Rattle.std.specs.Prelude.{◌≤◌};
+    ghost use Rattle.tre_decimal.specs.declared.TheConstants.{SCALE_MAX};
+    ghost use Rattle.tre_num.specs.Rows.{Terms, terms_of};
+
+    ghost Value = { Terms };
+
+    ghost view = { λ t. terms_of t.definitions.items t.names t.events t.scale };
+
+    ghost invariant = { λ t. t.scale ≤ SCALE_MAX };
+}
+
+impl Table {
+    pub(crate) fn new(definitions: Vec<Definition>, names: Names, events: Names, scale: u8) -> Table
+        requires { scale ≤ SCALE_MAX }
+        ensures { result ≡ terms_of definitions.items names events scale }
+    {
+        Table {
+            definitions,
+            names,
+            events,
+            scale,
+        }
+    }
+
+    /// Reads the rows of a source, and puts their segments behind the others.
+    pub(crate) fn read<R: Read + Drop>(
+        &self,
+        alloc: Global,
+        source: R,
+        segments: &mut Vec<Segment>,
+    ) -> Result<(), TraceFault>
+        ensures whole { (bytes : List ℕ) → R.remaining source ≡ Some bytes →
+            OnOk result ((rows_reading self.now true bytes).fault ≡ None) }
+        ensures adds { (bytes : List ℕ) → R.remaining source ≡ Some bytes →
+            OnOk result (Adds segments.old.items segments.new.items nothing
+            (rows_reading self.now true bytes)) }
+        ensures refused { (bytes : List ℕ) → R.remaining source ≡ Some bytes →
+            IfErr result (IsRefused segments.old.items segments.new.items nothing
+            (rows_reading self.now true bytes)) }
+        ensures placed { IfErr result IsPlaced }
+        ensures never_spent { IfErr result (λ fault. fault.kind ≢ Spent) }
+    {
+        let mut rows = records_of(alloc, source);
+        match rows.next() {
+            Some(Ok(header)) => {
+                let columns = self.columns_under(alloc, &header)?;
+                read_behind(rows, &columns, header.len(), self.scale, segments)
+            }
+            Some(Err(_)) => Err(NO_MEMORY),
+            None => {
+                self.columns_under(alloc, &ByteRecord::new(alloc))?;
+                Ok(())
+            }
+        }
+    }
+
+    // The columns of all names under this header.
+    fn columns_under(&self, alloc: Global, header: &ByteRecord) -> Result<Vec<Column>, TraceFault>
+        ensures found { IfOk result (λ columns.
+            compared self.now (fields_of header.now) ≡ Some columns.items) }
+        ensures few { IfOk result (λ columns. length columns.items ≤ NAMES_MAX) }
+        ensures unknown { IfErr result (λ fault. fault.kind ≢ Memory →
+            (compared self.now (fields_of header.now) ≡ None)
+            × (fault ≡ record { place = 1; kind = UnknownName })) }
+        ensures placed { IfErr result IsPlaced }
+        ensures never_spent { IfErr result (λ fault. fault.kind ≢ Spent) }
+    {
+        if !self.events.is_empty() {
+            return Err(UNKNOWN);
+        }
+        columns_of(alloc, &self.definitions, header, &self.names)
+    }
+}
+
+// The records of a source: no header among them, and of any lengths.
+fn records_of<R: Read + Drop>(alloc: Global, source: R) -> ByteRecordsIntoIter<R>
+    ensures { (bytes : List ℕ) → R.remaining source ≡ Some bytes →
+        IsLeft R.remaining result (records default_config (strip_bom bytes)) }
+{
+    ReaderBuilder::new()
+        .has_headers(false)
+        .flexible(true)
+        .from_reader(alloc, source)
+        .into_byte_records()
+}
+
+// Reads the rows behind a header of `width` fields, and puts their segments behind the others.
+fn read_behind<R: Read + Drop>(
+    rows: ByteRecordsIntoIter<R>,
+    columns: &[Column],
+    width: usize,
+    scale: u8,
+    segments: &mut Vec<Segment>,
+) -> Result<(), TraceFault>
+    requires few { length columns.now ≤ NAMES_MAX }
+    requires scale { scale ≤ SCALE_MAX }
+    ensures whole { (left : List (List (List ℕ))) → IsLeft R.remaining rows left →
+        OnOk result ((rows_from columns.now width scale 2 left 0).fault ≡ None) }
+    ensures adds { (left : List (List (List ℕ))) → IsLeft R.remaining rows left →
+        OnOk result (Adds segments.old.items segments.new.items nothing
+        (rows_from columns.now width scale 2 left 0)) }
+    ensures refused { (left : List (List (List ℕ))) → IsLeft R.remaining rows left →
+        IfErr result (IsRefused segments.old.items segments.new.items nothing
+        (rows_from columns.now width scale 2 left 0)) }
+    ensures placed { IfErr result IsPlaced }
+    ensures never_spent { IfErr result (λ fault. fault.kind ≢ Spent) }
+{
+    let before = segments.len();
+    let mut end = 0;
+    for row in rows {
+        let Ok(row) = row else {
+            return Err(NO_MEMORY);
+        };
+        let segment = match read_row(columns, width, scale, end, &row) {
+            Ok(segment) => segment,
+            Err(kind) => {
+                let place = (segments.len() - before) as u64 + 2;
+                return Err(TraceFault { place, kind });
+            }
+        };
+        if segments.push(segment).is_err() {
+            return Err(NO_MEMORY);
+        }
+        end += segment.len;
+    }
+    Ok(())
+}

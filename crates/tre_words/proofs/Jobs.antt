@@ -1,0 +1,225 @@
+-- Words give one job at most, and what is true of it.
+use Rattle.std.proofs.Common.{◌≡◌, ◌≢◌, ◌∙◌, ℕ, ◌≤◌, Bool, true, false, ◌&&◌, List, [], ◌∷◌, Option, Some, None, IfSome, if◌then◌else◌, codes, ap, refl, sym, subst, arith}
+use Rattle.std.specs.Prelude.{option_and_then, option_map, is_some, nat_le}
+use Rattle.std.specs.Str.Parse.{digits_value}
+use Rattle.std.proofs.lemmas.Bool.Decides.{nat_tests}
+use Rattle.clap.specs.Words.{Row, Text, first_of, matches_of}
+use Rattle.tre_decimal.specs.Decimal.{is_numeral}
+use Rattle.tre_decimal.specs.declared.TheConstants.{SCALE_MAX}
+use Rattle.tre_words.specs.CommandLine.{command_line}
+use Rattle.tre_words.specs.Job.{GivesFrom, GivesJob, GivesWhere, IsCount, IsJob, SaysJob, is_given, is_made_run, made_count, made_job, mode_for, mode_in, number_written}
+use Rattle.tre_words.specs.declared.job.TheConstants.{COUNT_MAX, LIMIT_MAX}
+use Rattle.tre_words.specs.declared.job.Format.{Format}
+use Rattle.tre_words.specs.declared.job.Format.TheVariants.{Csv}
+use Rattle.tre_words.specs.declared.job.Job.{Job}
+use Rattle.tre_words.specs.declared.job.Mode.{Mode}
+use Rattle.tre_words.specs.declared.job.Mode.TheVariants.{Offline, Online, Generate}
+
+one_value : {X : Type 0} {x y : X} → Some x ≡ Some y → x ≡ y
+one_value e = cc
+
+-- ---- one job
+
+-- an option that is told is one option
+some_once : (one other : Option ℕ) → option_map Some one ≡ option_map Some other → one ≡ other
+some_once None None e = refl
+some_once (Some m) (Some n) e = cc
+some_once None (Some n) e = cc
+some_once (Some m) None e = cc
+
+unfoldable job_of : Mode → Format → List ℕ → ℕ → ℕ → Bool → Option ℕ → Option (List ℕ)
+    → Option (List ℕ) → List ℕ → Job
+job_of mode format input max_bytes scale normal max_zones minus lets expr = record {
+  mode = mode;
+  format = format;
+  input = input;
+  max_bytes = max_bytes;
+  scale = scale;
+  normal = normal;
+  max_zones = max_zones;
+  minus = minus;
+  lets = lets;
+  expr = expr;
+}
+
+job_parts : (job : Job) → job ≡ job_of job.mode job.format job.input job.max_bytes job.scale
+    job.normal job.max_zones job.minus job.lets job.expr
+unfolding job_of
+job_parts job = refl
+
+said_once : (rows : List Row) (job other : Job) → SaysJob rows job → SaysJob rows other
+    → job ≡ other
+said_once rows job other says says' =
+    let mode : job.mode ≡ other.mode = sym says.mode ∙ says'.mode in
+    let format : job.format ≡ other.format = one_value (sym says.format ∙ says'.format) in
+    let input : job.input ≡ other.input = one_value (sym says.input ∙ says'.input) in
+    let max_bytes : job.max_bytes ≡ other.max_bytes =
+    one_value (sym says.max_bytes ∙ says'.max_bytes) in
+    let scale : job.scale ≡ other.scale = one_value (sym says.scale ∙ says'.scale) in
+    let normal : job.normal ≡ other.normal = sym says.normal ∙ says'.normal in
+    let max_zones : job.max_zones ≡ other.max_zones =
+    some_once job.max_zones other.max_zones (sym says.max_zones ∙ says'.max_zones) in
+    let minus : job.minus ≡ other.minus = sym says.minus ∙ says'.minus in
+    let lets : job.lets ≡ other.lets = sym says.lets ∙ says'.lets in
+    let expr : job.expr ≡ other.expr = one_value (sym says.expr ∙ says'.expr) in
+    let parts = job_parts job in
+    let parts' = job_parts other in
+    cc
+
+given_once : (made : Bool) (words : List Text) (job other : Job) → GivesWhere made words job
+    → GivesWhere made words other → job ≡ other
+given_once true words job other gives gives' = one_value (sym gives ∙ gives')
+given_once false words job other gives gives' =
+    said_once (matches_of command_line words) job other gives.says gives'.says
+
+pub job_unique : (words : List Text) (job other : Job) → GivesJob words job
+    → GivesJob words other → job ≡ other
+job_unique words job other gives gives' =
+    given_once (is_made_run words) words job other gives.gives gives'.gives
+
+-- ---- numbers within their limits
+
+chosen : (test : Bool) (value number : ℕ) → (if test then Some value else None) ≡ Some number
+    → (test ≡ true) × (value ≡ number)
+chosen true value number e = (refl, one_value e)
+chosen false value number e = cc
+
+within : (digits : Bool) (value least most : ℕ)
+    → (digits && (nat_le least value && nat_le value most)) ≡ true
+    → (least ≤ value) × (value ≤ most)
+within true value least most e = grind (arith, nat_tests)
+within false value least most e = cc
+
+-- a number that is written is one of those that may be
+pub number_within : (least most : ℕ) (text : Text) (number : ℕ)
+    → number_written least most text ≡ Some number → (least ≤ number) × (number ≤ most)
+number_within least most text number e =
+    let both = chosen (is_numeral text
+    && (nat_le least (digits_value 10 text) && nat_le (digits_value 10 text) most))
+    (digits_value 10 text) number e in
+    let inside = within (is_numeral text) (digits_value 10 text) least most both.0 in
+    subst (λ (n : ℕ). (least ≤ n) × (n ≤ most)) both.1 inside
+
+said_within : (least most : ℕ) (told : Option Text) (number : ℕ)
+    → option_and_then (number_written least most) told ≡ Some number → number ≤ most
+said_within least most (Some text) number e = (number_within least most text number e).1
+said_within least most None number e = cc
+
+limit_within : (least most : ℕ) (told : Option Text) (limit : Option ℕ)
+    → option_map (number_written least most) told ≡ option_map Some limit
+    → IfSome limit (λ number. number ≤ most)
+limit_within least most (Some text) (Some number) e =
+    (number_within least most text number (one_value e)).1
+limit_within least most told None e = tt
+limit_within least most None (Some number) e = cc
+
+-- ---- jobs of options
+
+flags_never_generate : (show online : Bool) (count : ℕ) → mode_for show online ≡ Generate count → ⊥
+flags_never_generate true online count e = cc
+flags_never_generate false true count e = cc
+flags_never_generate false false count e = cc
+
+flags_offline : (show online : Bool) → online ≡ false → mode_for show online ≡ Online → ⊥
+flags_offline true online without e = cc
+flags_offline false true without e = cc
+flags_offline false false without e = cc
+
+pub from_options : (rows : List Row) (job : Job) → GivesFrom rows job → IsJob job
+from_options rows job gives =
+    let says = gives.says in
+    let show = is_given (codes "show") rows in
+    let online = is_given (codes "online") rows in
+    record {
+      small = said_within 1 LIMIT_MAX (first_of (codes "max-bytes") rows) job.max_bytes
+          says.max_bytes;
+      scale = said_within 0 SCALE_MAX (first_of (codes "scale") rows) job.scale says.scale;
+      zones = limit_within 0 LIMIT_MAX (first_of (codes "max-zones") rows) job.max_zones
+          says.max_zones;
+      counted = λ count mode.
+          absurd (flags_never_generate show online count (says.mode ∙ mode));
+      together = gives.together;
+      offline = λ mode csv. flags_offline show online (gives.offline csv) (says.mode ∙ mode);
+    }
+
+-- ---- jobs of made runs
+
+made_within : (words : List Text) (count : ℕ) → made_count words ≡ Some count → IsCount count
+made_within (first ∷ number ∷ []) count e =
+    let both = number_within 1 COUNT_MAX number count e in
+    record { some = both.0; few = both.1 }
+made_within (first ∷ second ∷ third ∷ words) count e = cc
+made_within (first ∷ []) count e = cc
+made_within [] count e = cc
+
+one_count : {m n : ℕ} → Generate m ≡ Generate n → m ≡ n
+one_count e = cc
+
+made_is_job : (count : ℕ) → IsCount count → IsJob (made_job count)
+made_is_job count is = record {
+  small = omega arith;
+  scale = omega arith;
+  zones = tt;
+  counted = λ other same. subst IsCount (one_count same) is;
+  together = record {
+    normal = λ e. cc;
+    max_zones = λ e. cc;
+    minus = λ e. cc;
+    columns = λ e. cc;
+    lets = λ e. cc;
+  };
+  offline = λ mode csv. cc;
+}
+
+from_made : (words : List Text) (told : Option ℕ) (job : Job) → made_count words ≡ told
+    → option_map made_job told ≡ Some job → IsJob job
+from_made words (Some count) job is e =
+    subst IsJob (one_value e) (made_is_job count (made_within words count is))
+from_made words None job is e = cc
+
+from_words : (made : Bool) (words : List Text) (job : Job) → GivesWhere made words job → IsJob job
+from_words true words job gives = from_made words (made_count words) job refl gives
+from_words false words job gives = from_options (matches_of command_line words) job gives
+
+-- what is true of each job that words give
+pub IsJob-given : (words : List Text) (job : Job) → GivesJob words job → IsJob job
+IsJob-given words job gives = from_words (is_made_run words) words job gives.gives
+
+-- ---- options that stand apart
+
+pub apart-normal : (rows : List Row) (job : Job) → GivesFrom rows job
+    → is_given (codes "normal") rows ≡ true → mode_in rows ≢ Offline → ⊥
+apart-normal rows job gives given other =
+    other (gives.says.mode ∙ gives.together.normal (sym gives.says.normal ∙ given))
+
+pub apart-minus : (rows : List Row) (job : Job) → GivesFrom rows job
+    → is_some (first_of (codes "minus") rows) ≡ true → mode_in rows ≢ Offline → ⊥
+apart-minus rows job gives given other =
+    other (gives.says.mode ∙ gives.together.minus (ap is_some (sym gives.says.minus) ∙ given))
+
+some_told : (told : Option (Option ℕ)) (limit : Option ℕ) → told ≡ option_map Some limit
+    → is_some told ≡ is_some limit
+some_told told None e = ap is_some e
+some_told told (Some number) e = ap is_some e
+
+pub apart-max_zones : (rows : List Row) (job : Job) → GivesFrom rows job
+    → is_some (option_map (number_written 0 LIMIT_MAX) (first_of (codes "max-zones") rows)) ≡ true
+    → is_given (codes "normal") rows ≡ false → ⊥
+apart-max_zones rows job gives given without =
+    let some = some_told (option_map (number_written 0 LIMIT_MAX)
+    (first_of (codes "max-zones") rows)) job.max_zones gives.says.max_zones in
+    let normal = gives.together.max_zones (sym some ∙ given) in
+    let false_true : false ≡ true = sym without ∙ (gives.says.normal ∙ normal) in
+    cc
+
+pub apart-lets : (rows : List Row) (job : Job) (format : Format) → GivesFrom rows job
+    → is_some (first_of (codes "let") rows) ≡ true → Some format ≡ Some job.format
+    → format ≢ Csv → ⊥
+apart-lets rows job format gives given told other =
+    other (one_value told ∙ gives.together.lets (ap is_some (sym gives.says.lets) ∙ given))
+
+pub apart-columns : (rows : List Row) (job : Job) → GivesFrom rows job
+    → is_given (codes "online") rows ≡ true → Some Csv ≡ Some job.format → ⊥
+apart-columns rows job gives given told =
+    let false_true : true ≡ false = sym given ∙ gives.offline (sym (one_value told)) in
+    cc

@@ -1,0 +1,149 @@
+-- What the words of the command line ask for.
+use Rattle.std.specs.Prelude.{◌≡◌, ◌≢◌, ℕ, ◌≤◌, nat_le, Bool, true, false, ◌&&◌, List, [], ◌∷◌, Option, None, Some, IfSome, is_some, codes, option_and_then, option_map, if◌then◌else◌}
+use Rattle.std.specs.Option.{option_map_or}
+use Rattle.std.specs.Str.{bytes_eq}
+use Rattle.std.specs.Str.Parse.{digits_value}
+use Rattle.clap.specs.Words.{Row, Text, fault_of, first_of, matches_of}
+use Rattle.tre_decimal.specs.Decimal.{is_numeral}
+use Rattle.tre_decimal.specs.declared.TheConstants.{SCALE_MAX}
+use Rattle.tre_words.specs.CommandLine.{command_line}
+use Rattle.tre_words.specs.declared.job.TheConstants.{COUNT_MAX, LIMIT_MAX, LIMIT_DEFAULT}
+use Rattle.tre_words.specs.declared.job.Format.{Format}
+use Rattle.tre_words.specs.declared.job.Format.TheVariants.{Text as TextFormat, Vcd, Csv}
+use Rattle.tre_words.specs.declared.job.Job.{Job}
+use Rattle.tre_words.specs.declared.job.Mode.{Mode}
+use Rattle.tre_words.specs.declared.job.Mode.TheVariants.{Offline, Online, Show, Generate}
+
+-- ---- what a job is
+
+-- A made trace may have so many segments.
+pub record IsCount (count : ℕ) : Type 0 where
+  pub some : 1 ≤ count
+  pub few : count ≤ COUNT_MAX
+
+-- What the job has may stand together.
+pub record StandsTogether (job : Job) : Type 0 where
+  pub normal : job.normal ≡ true → job.mode ≡ Offline
+  pub max_zones : is_some job.max_zones ≡ true → job.normal ≡ true
+  pub minus : is_some job.minus ≡ true → job.mode ≡ Offline
+  pub columns : job.format ≡ Csv → job.minus ≡ None
+  pub lets : is_some job.lets ≡ true → job.format ≡ Csv
+
+-- What is true of each job that words give: its numbers are within their limits, and what it has
+-- may stand together. Columns aren't read online.
+pub record IsJob (job : Job) : Type 0 where
+  pub small : job.max_bytes ≤ LIMIT_MAX
+  pub scale : job.scale ≤ SCALE_MAX
+  pub zones : IfSome job.max_zones (λ most. most ≤ LIMIT_MAX)
+  pub counted : (count : ℕ) → job.mode ≡ Generate count → IsCount count
+  pub together : StandsTogether job
+  pub offline : job.mode ≡ Online → job.format ≢ Csv
+
+-- a job of which no option says anything but the mode and the input
+abbrev pub plain_job : Mode → Text → Text → Job
+plain_job mode input expr = record {
+  mode = mode;
+  format = TextFormat;
+  input = input;
+  max_bytes = LIMIT_DEFAULT;
+  scale = 0;
+  normal = false;
+  max_zones = None;
+  minus = None;
+  lets = None;
+  expr = expr;
+}
+
+-- ---- what the values of the options say
+
+-- the flag stands among the words
+abbrev pub is_given : Text → List Row → Bool
+is_given name rows = option_map_or (λ text. bytes_eq text (codes "true")) (first_of name rows) false
+
+-- `--show` counts where both flags are given
+abbrev pub mode_for : Bool → Bool → Mode
+mode_for true online = Show
+mode_for false true = Online
+mode_for false false = Offline
+
+abbrev pub mode_in : List Row → Mode
+mode_in rows = mode_for (is_given (codes "show") rows) (is_given (codes "online") rows)
+
+abbrev pub format_named : Text → Option Format
+format_named text =
+    if bytes_eq text (codes "text") then Some TextFormat
+    else (if bytes_eq text (codes "vcd") then Some Vcd
+    else (if bytes_eq text (codes "csv") then Some Csv else None))
+
+-- the number from `least` to `most` that a text writes in decimal digits
+abbrev pub number_written : ℕ → ℕ → Text → Option ℕ
+number_written least most text =
+    if is_numeral text
+    && (nat_le least (digits_value 10 text) && nat_le (digits_value 10 text) most)
+    then Some (digits_value 10 text) else None
+
+-- What the values of the options say is this job.
+pub record SaysJob (rows : List Row) (job : Job) : Type 0 where
+  pub mode : mode_in rows ≡ job.mode
+  pub format : option_and_then format_named (first_of (codes "format") rows) ≡ Some job.format
+  pub input : first_of (codes "input") rows ≡ Some job.input
+  pub max_bytes :
+      option_and_then (number_written 1 LIMIT_MAX) (first_of (codes "max-bytes") rows)
+      ≡ Some job.max_bytes
+  pub scale :
+      option_and_then (number_written 0 SCALE_MAX) (first_of (codes "scale") rows)
+      ≡ Some job.scale
+  pub normal : is_given (codes "normal") rows ≡ job.normal
+  pub max_zones :
+      option_map (number_written 0 LIMIT_MAX) (first_of (codes "max-zones") rows)
+      ≡ option_map Some job.max_zones
+  pub minus : first_of (codes "minus") rows ≡ job.minus
+  pub lets : first_of (codes "let") rows ≡ job.lets
+  pub expr : first_of (codes "EXPR") rows ≡ Some job.expr
+
+-- They say this job, and it may stand so. Columns stand beside no `--online`, also where `--show`
+-- counts.
+pub record GivesFrom (rows : List Row) (job : Job) : Type 0 where
+  pub says : SaysJob rows job
+  pub together : StandsTogether job
+  pub offline : job.format ≡ Csv → is_given (codes "online") rows ≡ false
+
+-- ---- words
+
+-- the first word is `--generate`
+abbrev pub is_made_run : List Text → Bool
+is_made_run [] = false
+is_made_run (first ∷ words) = bytes_eq first (codes "--generate")
+
+-- how many segments the words of a made run write, which are just two
+abbrev pub made_count : List Text → Option ℕ
+made_count (first ∷ number ∷ []) = number_written 1 COUNT_MAX number
+made_count words = None
+
+-- the job of a made run of so many segments; what it doesn't need is as where no word gives it
+abbrev pub made_job : ℕ → Job
+made_job count = plain_job (Generate count) (codes "-") []
+
+-- What words of a made run give is this job, or what others do. Of others its parts are the matches
+-- that `clap` promises of these words.
+abbrev pub GivesWhere : Bool → List Text → Job → Type 0
+GivesWhere true words job = option_map made_job (made_count words) ≡ Some job
+GivesWhere false words job = GivesFrom (matches_of command_line words) job
+
+-- `clap` has no fault of its own for words that it reads. Words of a made run it doesn't read.
+abbrev pub HaveNoFaultWhere : Bool → List Text → Type 0
+HaveNoFaultWhere true words = Unit {0}
+HaveNoFaultWhere false words = fault_of command_line words ≡ []
+
+-- The words have no fault.
+abbrev pub HaveNoFault : List Text → Type 0
+HaveNoFault words = HaveNoFaultWhere (is_made_run words) words
+
+-- The words have no fault, and give this job.
+pub record GivesJob (words : List Text) (job : Job) : Type 0 where
+  pub faultless : HaveNoFault words
+  pub gives : GivesWhere (is_made_run words) words job
+
+-- The words have a fault, or give no job.
+abbrev pub GivesNoJob : List Text → Type 0
+GivesNoJob words = (job : Job) → GivesJob words job → ⊥

@@ -1,0 +1,57 @@
+//! Laws of the words of a command line, each as a function whose contract it is.
+
+ghost use Rattle.std.specs.Prelude.{◌≡◌, ◌∷◌, ℕ, true, List, [], None, Some, codes};
+ghost use Rattle.tre_words.specs.Job.{IsJob, GivesJob, GivesNoJob, HaveNoFault, plain_job};
+ghost use Rattle.tre_words.specs.declared.job.Format.TheVariants.{Csv};
+ghost use Rattle.tre_words.specs.declared.job.Job.{Job};
+ghost use Rattle.tre_words.specs.declared.job.Mode.TheVariants.{Offline, Online, Show};
+
+/// Words give one job at most.
+pub fn one_job()
+    ensures { (words : List (List ℕ)) (one other : Job) →
+        GivesJob words one → GivesJob words other → one ≡ other }
+{}
+
+/// The numbers of a job that words give are within their limits, and what it has may stand
+/// together.
+pub fn given_is_job()
+    ensures { (words : List (List ℕ)) (job : Job) → GivesJob words job → IsJob job }
+{}
+
+/// Words as they are typed: the job of some, and that others have a fault.
+pub fn typed_words()
+    ensures pattern { GivesJob (codes "p" ∷ []) (plain_job Offline (codes "-") (codes "p")) }
+    ensures online { GivesJob (codes "--online" ∷ codes "p" ∷ [])
+        (plain_job Online (codes "-") (codes "p")) }
+    ensures dashes { GivesJob (codes "--input=a" ∷ codes "--" ∷ codes "-p" ∷ [])
+        (plain_job Offline (codes "a") (codes "-p")) }
+    ensures no_words { ¬ HaveNoFault [] }
+    ensures two_patterns { ¬ HaveNoFault (codes "p" ∷ codes "q" ∷ []) }
+    ensures flag_twice { ¬ HaveNoFault
+        (codes "--online" ∷ codes "--online" ∷ codes "p" ∷ []) }
+{}
+
+/// Options as they are typed.
+pub fn typed_options()
+    ensures strips { GivesJob
+        (codes "--normal" ∷ codes "--max-zones" ∷ codes "0" ∷ codes "--scale=09" ∷ codes "p" ∷ [])
+        (record (plain_job Offline (codes "-") (codes "p"))
+        { normal = true; max_zones = Some 0; scale = 9 }) }
+    ensures difference { GivesJob (codes "--minus" ∷ codes "q" ∷ codes "p" ∷ [])
+        (record (plain_job Offline (codes "-") (codes "p")) { minus = Some (codes "q") }) }
+    ensures columns { GivesJob
+        (codes "--format" ∷ codes "csv" ∷ codes "--let" ∷ codes "" ∷ codes "p" ∷ [])
+        (record (plain_job Offline (codes "-") (codes "p"))
+        { format = Csv; lets = Some [] }) }
+{}
+
+/// Options that give no job beside each other.
+pub fn options_apart()
+    ensures normal { GivesNoJob (codes "--normal" ∷ codes "--online" ∷ codes "p" ∷ []) }
+    ensures max_zones { GivesNoJob (codes "--max-zones" ∷ codes "3" ∷ codes "p" ∷ []) }
+    ensures minus { GivesNoJob
+        (codes "--minus" ∷ codes "q" ∷ codes "--show" ∷ codes "p" ∷ []) }
+    ensures lets { GivesNoJob (codes "--let" ∷ codes "" ∷ codes "p" ∷ []) }
+    ensures columns { GivesNoJob
+        (codes "--format=csv" ∷ codes "--online" ∷ codes "--show" ∷ codes "p" ∷ []) }
+{}

@@ -1,0 +1,24 @@
+//! What the words of a command line ask for.
+//!
+//! [`read_words`] reads the words after the program's name into a [`Job`]: what a run does, how its
+//! input tells a trace, and the limits and texts of its options. Which words give which job is
+//! `GivesJob` of specs/Job.antt, and what is true of each job, `IsJob` there; the crate `clap`
+//! matches the options. Words give one job at most ([`laws::one_job`]), and all others are
+//! `Usage`. The texts of a job are taken as they stand: no pattern and no definition is read
+//! here.
+//!
+//! ```text
+//! let job = read_words(alloc, &words)?;    // --scale 3 --normal "p;q"
+//! job.scale                                // 3
+//! job.mode                                 // Mode::Offline
+//! ```
+#![tactic(auto)]
+
+mod command_line;
+mod job;
+pub mod laws;
+mod values;
+mod words;
+
+pub use job::{COUNT_MAX, Format, Job, LIMIT_MAX, Mode, Word, WordsFault};
+pub use words::read_words;

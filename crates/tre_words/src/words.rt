@@ -1,0 +1,125 @@
+// The words of the command line.
+ghost use Rattle.std.specs.Prelude.{◌≡◌, ◌↔◌, map, string_bytes, IfOk, OnOk, IsErrOf, Some, None, [], true, false, codes, option_map};
+ghost use Rattle.clap.specs.Words.{found_of, rows_of, matches_of, fault_of};
+ghost use Rattle.tre_words.specs.CommandLine.{command_line};
+ghost use Rattle.tre_words.specs.Job.{is_made_run, made_count, made_job, SaysJob, StandsTogether, IsJob, GivesFrom, GivesJob, GivesNoJob};
+ghost use Rattle.tre_words.specs.declared.job.Job.{Job};
+
+use crate::command_line::{is_given, parse_words};
+use crate::job::{COUNT_MAX, Format, Job, LIMIT_DEFAULT, Mode, Word, WordsFault};
+use crate::values::{job_in, number_written};
+use clap::ArgMatches;
+use std::alloc::{AllocError, Global};
+
+// Whether what the job has may stand together.
+fn stands_together(job: &Job) -> bool
+    ensures { result ≡ true ↔ StandsTogether job.now }
+{
+    let offline = job.mode == Mode::Offline;
+    let columns = job.format == Format::Csv;
+    if (job.normal || job.minus.is_some()) && !offline {
+        return false;
+    }
+    if job.max_zones.is_some() && !job.normal {
+        return false;
+    }
+    if columns {
+        return job.minus.is_none();
+    }
+    job.lets.is_none()
+}
+
+// Whether what the values of the options say may stand so.
+fn may_stand(matches: &ArgMatches, job: &Job) -> bool
+    requires { SaysJob (rows_of (found_of matches.now)) job.now }
+    ensures { result ≡ true ↔ GivesFrom (rows_of (found_of matches.now)) job.now }
+{
+    if job.format == Format::Csv && is_given(matches, "online") {
+        return false;
+    }
+    stands_together(job)
+}
+
+// Reads words that `clap` reads.
+fn read_options(alloc: Global, words: &[String]) -> Result<Job, WordsFault>
+    ensures ok { IfOk result (GivesFrom (matches_of command_line (map string_bytes words.now))) }
+    ensures is_job { IfOk result IsJob }
+    ensures usage { IsErrOf result WordsFault.Usage →
+        fault_of command_line (map string_bytes words.now) ≡ [] → (job : Job) →
+        GivesFrom (matches_of command_line (map string_bytes words.now)) job → ⊥ }
+    ensures faultless { OnOk result (fault_of command_line (map string_bytes words.now) ≡ []) }
+{
+    let matches = parse_words(alloc, words)?;
+    let job = job_in(alloc, &matches)?;
+    if !may_stand(&matches, &job) {
+        return Err(WordsFault::Usage);
+    }
+    Ok(job)
+}
+
+// Whether the first word is `--generate`.
+fn is_made_run(words: &[String]) -> bool
+    ensures { result ≡ is_made_run (map string_bytes words.now) }
+{
+    match words.first() {
+        Some(word) => word.as_str() == "--generate",
+        None => false,
+    }
+}
+
+// How many segments the words of a made run write, where they are two.
+fn made_count(words: &[String]) -> Option<u64>
+    ensures { result ≡ made_count (map string_bytes words.now) }
+{
+    if words.len() != 2 {
+        return None;
+    }
+    number_written(1, COUNT_MAX, words[1].as_str())
+}
+
+fn made_job(alloc: Global, count: u64) -> Result<Job, AllocError>
+    ensures { IfOk result (λ job. job ≡ made_job count) }
+{
+    Ok(Job {
+        mode: Mode::Generate { count },
+        format: Format::Text,
+        input: Word::new(alloc, "-")?,
+        max_bytes: LIMIT_DEFAULT,
+        scale: 0,
+        normal: false,
+        max_zones: None,
+        minus: None,
+        lets: None,
+        expr: Word::new(alloc, "")?,
+    })
+}
+
+// Reads the words of a made run.
+fn read_made_run(alloc: Global, words: &[String]) -> Result<Job, WordsFault>
+    ensures ok { IfOk result (λ job.
+        option_map made_job (made_count (map string_bytes words.now)) ≡ Some job) }
+    ensures usage { IsErrOf result WordsFault.Usage →
+        made_count (map string_bytes words.now) ≡ None }
+{
+    let Some(count) = made_count(words) else {
+        return Err(WordsFault::Usage);
+    };
+    let job = made_job(alloc, count)?;
+    Ok(job)
+}
+
+/// Reads the words after the program's name, which are
+/// `[--online] [--show] [--format text|vcd|csv] [--input NAME] [--max-bytes N] [--scale K]
+/// [--normal] [--max-zones L] [--minus EXPR2] [--let TEXT] EXPR` or `--generate K`.
+pub fn read_words(alloc: Global, words: &[String]) -> Result<Job, WordsFault>
+    ensures ok { IfOk result (GivesJob (map string_bytes words.now)) }
+    ensures is_job { IfOk result IsJob }
+    ensures usage { IsErrOf result WordsFault.Usage → GivesNoJob (map string_bytes words.now) }
+{
+    if is_made_run(words) {
+        let job = read_made_run(alloc, words)?;
+        return Ok(job);
+    }
+    let job = read_options(alloc, words)?;
+    Ok(job)
+}
