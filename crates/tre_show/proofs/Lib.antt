@@ -3,6 +3,7 @@ pub mod Orders
 pub mod Ranges
 pub mod Printing
 pub mod TreeTokens
+pub mod Written
 pub mod ReadBack
 pub mod Outcomes
 pub mod LineOrder

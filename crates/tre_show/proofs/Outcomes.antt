@@ -23,18 +23,19 @@ use Rattle.tre_show.specs.Intervals.{HasIntervals}
 use Rattle.tre_show.specs.PatternText.{expression_text}
 use Rattle.tre_show.specs.ReadBack.{IsReadBack}
 use Rattle.tre_show.proofs.TreeTokens.{BeginsWell, StandFrom, Stand, tree_prints}
+use Rattle.tre_show.proofs.Written.{WritesNumbers}
 use Rattle.tre_show.proofs.ReadBack.{AreRead, all_read}
 
 -- ---- the limits on tokens
 
-module _ (names : Vocabulary) where
+module _ (scale : ℕ) (names : Vocabulary) where
   one_small : (token : Token) (rest : List Token) → is_big token ≡ false
       → position_or_len is_big rest ≡ length rest
       → position_or_len is_big (token ∷ rest) ≡ length (token ∷ rest)
   one_small token rest fails more =
       ap (λ b. cond (not b) (1 + position_or_len is_big rest) 0) fails ∙ omega (arith, more)
 
-  none_big_len : (before : Before) (tokens : List Token) → StandFrom names before tokens
+  none_big_len : (before : Before) (tokens : List Token) → StandFrom scale names before tokens
       → position_or_len is_big tokens ≡ length tokens
   none_big_len before [] stand = refl
   none_big_len before (Number n ∷ rest) stand =
@@ -44,25 +45,25 @@ module _ (names : Vocabulary) where
   none_big_len before (token ∷ rest) stand =
       one_small token rest refl (none_big_len (before_sign before token) rest stand.1)
 
-  none_big : (tokens : List Token) → Stand names tokens → position is_big tokens ≡ None
+  none_big : (tokens : List Token) → Stand scale names tokens → position is_big tokens ≡ None
   none_big tokens stand =
       ap (λ n. cond (nat_lt n (length tokens)) (Some n) None) (none_big_len Other tokens stand)
       ∙ sym (cond_above (length tokens) (length tokens) _ None None (omega arith) refl)
 
   -- behind each `%` there is no empty interval
   well_behind : (before : Before) (front tokens rest : List Token)
-      → StandFrom names before tokens → tokens ≡ front ++ Percent ∷ rest → BeginsWell rest
+      → StandFrom scale names before tokens → tokens ≡ front ++ Percent ∷ rest → BeginsWell rest
   well_behind before [] tokens rest stand e =
-      let all : StandFrom names before (Percent ∷ rest) =
-      subst (StandFrom names before) e stand in all.0
+      let all : StandFrom scale names before (Percent ∷ rest) =
+      subst (StandFrom scale names before) e stand in all.0
   well_behind before (token ∷ front) [] rest stand e = absurd (cc)
   well_behind before (token ∷ front) (other ∷ others) rest stand e =
       well_behind (before_sign before other) front others rest stand.1 (cc)
 
-  none_empty : (tokens : List Token) → Stand names tokens → NoneEmpty tokens
+  none_empty : (tokens : List Token) → Stand scale names tokens → NoneEmpty tokens
   none_empty tokens stand = λ place ends at none.
-      well_behind Other at.front tokens (at.body ++ at.rest) stand at.split at.body at.rest ends refl
-      at.spelt none
+      well_behind Other at.front tokens (at.body ++ at.rest) stand at.split at.body at.rest ends
+      refl at.spelt none
 
 -- ---- the outcome
 
@@ -92,38 +93,39 @@ limited past tree names none small =
     let few : nat_lt 1000 (node_count tree) ≡ false = grind (arith, nat_tests) in
     rw (none, few) refl
 
--- What is so of the text of a pattern.
-pub record IsTextOf (text : List ℕ) (tree : PatternTree) (names : Vocabulary) : Type 0 where
-  pub spelling : IsSpelling text tree names
-  pub outcome : (outcome : Outcome) → IsOutcome text outcome → IsReadBack tree names outcome
+-- What is so of the text of a pattern at a scale.
+pub record IsTextOf (scale : ℕ) (text : List ℕ) (tree : PatternTree) (names : Vocabulary)
+    : Type 0 where
+  pub spelling : IsSpelling scale text tree names
+  pub outcome : (outcome : Outcome) → IsOutcome scale text outcome → IsReadBack tree names outcome
 
-pub text_of_tree : (names : Vocabulary) (tree : PatternTree) → IsNameList names.names
-    → IsNameList names.events → IsPattern tree names → HasIntervals tree
-    → ((text : List ℕ) (o q : Outcome) → IsOutcome text o → IsOutcome text q → o ≡ q)
-    → IsTextOf (expression_text names tree) tree names
-text_of_tree names tree list events pattern fine once =
-    let text = expression_text names tree in
-    let printed = tree_prints names tree fine 0 in
+pub text_of_tree : (scale : ℕ) → WritesNumbers scale → (names : Vocabulary) (tree : PatternTree)
+    → IsNameList names.names → IsNameList names.events → IsPattern tree names → HasIntervals tree
+    → ((text : List ℕ) (o q : Outcome) → IsOutcome scale text o → IsOutcome scale text q → o ≡ q)
+    → IsTextOf scale (expression_text scale names tree) tree names
+text_of_tree scale writes names tree list events pattern fine once =
+    let text = expression_text scale names tree in
+    let printed = tree_prints scale names tree fine 0 in
     let tokens = printed.tokens in
     let says = printed.says in
-    let stand : Stand names tokens =
-    subst (Stand names) (append-nil tokens) (says.stand [] tt tt) in
+    let stand : Stand scale names tokens =
+    subst (Stand scale names) (append-nil tokens) (says.stand [] tt tt) in
     let numbered = ap (seen_after 0) (says.numbers_same Proposition) ∙ pattern.numbered in
     let events_numbered = ap (seen_after 0) (says.numbers_same Event) ∙ pattern.events_numbered in
-    let is : AreRead names nothing_known tokens (raw_tokens_from 0 0 text) =
-    subst (λ t. AreRead names nothing_known tokens (raw_tokens_from 0 0 t)) says.text_same
-    (all_read names list events tokens 0 0 Other 0 stand (omega arith) (omega arith) numbered
-    events_numbered) in
-    let spells : Spells expr (tokens_of text) tree =
+    let is : AreRead scale names nothing_known tokens (raw_tokens_from 0 0 text) =
+    subst (λ t. AreRead scale names nothing_known tokens (raw_tokens_from 0 0 t)) says.text_same
+    (all_read scale writes names list events tokens 0 0 Other 0 stand (omega arith) (omega arith)
+    numbered events_numbered) in
+    let spells : Spells expr (tokens_of scale text) tree =
     subst (λ (ts : List Token). Spells expr ts tree) (sym is.tokens_same) printed.spells in
-    let words = text_tokens_of text in
-    let big : position is_big (tokens_of text) ≡ None =
-    ap (position is_big) is.tokens_same ∙ none_big names tokens stand in
+    let words = text_tokens_of scale text in
+    let big : position is_big (tokens_of scale text) ≡ None =
+    ap (position is_big) is.tokens_same ∙ none_big scale names tokens stand in
     let read : IsOutcomeOfTokens words (spelt tree names) = inr (
       tree,
       spells,
       inr (
-        subst NoneEmpty (sym is.tokens_same) (none_empty names tokens stand),
+        subst NoneEmpty (sym is.tokens_same) (none_empty scale names tokens stand),
         ap (spelt tree) (sym is.names_same)
             ∙ limited words.past tree words.names is.few pattern.small,
       ),

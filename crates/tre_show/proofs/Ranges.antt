@@ -1,11 +1,9 @@
 -- The text of a range tells its two bounds and what follows it.
 use Rattle.std.proofs.Common.{◌≡◌, ◌≢◌, ℕ, ◌<◌, ◌≤◌, ◌^◌, ◌==◌, Bool, true, false, List, [], ◌∷◌, ◌++◌, append_assoc, refl, sym, ap, ◌∙◌, arith, ℤ, pos, negsuc, neg_ℤ, ◌≤ℤ◌, nat_abs}
-use Rattle.std.specs.Prelude.{codes, decimal, if◌then◌else◌}
+use Rattle.std.specs.Prelude.{codes, if◌then◌else◌}
 use Rattle.std.proofs.lemmas.Int.{ints}
 use Rattle.std.proofs.lemmas.Bool.Decides.{nat_tests}
-use Rattle.std.proofs.lemmas.Fmt.{decimal_is_IsNumeral}
-use Rattle.std.specs.Char.{digit_value}
-use Rattle.std.specs.Str.Parse.{AllDigits, digits_value}
+use Rattle.tre_decimal.specs.Decimal.{is_number_byte, number_text}
 use Rattle.tre_zone.specs.Bound.{value_of, weakness_of, IsKeyWithin}
 use Rattle.tre_zone.proofs.Bounds.{split}
 use Rattle.tre_show.specs.Interval.{interval_text}
@@ -21,45 +19,23 @@ first_byte byte other xs ys e = cc
 pub behind_byte : (byte : ℕ) (xs ys : List ℕ) → byte ∷ xs ≡ byte ∷ ys → xs ≡ ys
 behind_byte byte xs ys e = cc
 
--- ---- a number, and then a byte that is no digit
+-- ---- a number, and then a byte that is none of a number
 
--- The first byte that is no digit ends the digits before it.
-digits_end : (ds es : List ℕ) (c d : ℕ) (xs ys : List ℕ) → AllDigits 10 ds → AllDigits 10 es
-    → 10 ≤ digit_value c → 10 ≤ digit_value d
-    → ds ++ (c ∷ xs) ≡ es ++ (d ∷ ys) → (ds ≡ es) × (c ∷ xs ≡ d ∷ ys)
-digits_end [] [] c d xs ys p q u v e = (refl, e)
-digits_end [] (b ∷ es) c d xs ys p q u v e =
-    let same : c ≡ b = cc in
-    let at : digit_value c ≡ digit_value b = ap digit_value same in
-    let small : digit_value b < 10 = q.0 in
-    absurd (omega arith)
-digits_end (a ∷ ds) [] c d xs ys p q u v e =
-    let same : a ≡ d = cc in
-    let at : digit_value a ≡ digit_value d = ap digit_value same in
-    let small : digit_value a < 10 = p.0 in
-    absurd (omega arith)
-digits_end (a ∷ ds) (b ∷ es) c d xs ys p q u v e =
-    let first : a ≡ b = cc in
-    let behind : ds ++ (c ∷ xs) ≡ es ++ (d ∷ ys) = cc in
-    let rest = digits_end ds es c d xs ys p.1 q.1 u v behind in
-    let digits : ds ≡ es = rest.0 in
-    (cc, rest.1)
-
--- The digits of a number tell the number.
-number_end : (m n c d : ℕ) (xs ys : List ℕ) → m < 2 ^ 64 → n < 2 ^ 64 → 10 ≤ digit_value c
-    → 10 ≤ digit_value d
-    → decimal m ++ (c ∷ xs) ≡ decimal n ++ (d ∷ ys) → (m ≡ n) × (c ∷ xs ≡ d ∷ ys)
-number_end m n c d xs ys small_m small_n u v e =
-    let p = decimal_is_IsNumeral m small_m in
-    let q = decimal_is_IsNumeral n small_n in
-    let ends = digits_end (decimal m) (decimal n) c d xs ys p.0.1 q.0.1 u v e in
-    (sym p.1 ∙ ap (digits_value 10) ends.0 ∙ q.1, ends.1)
+-- What the law of decimals says at a scale: a number that is written tells the number, and what
+-- follows it.
+abbrev pub NumbersTell : ℕ → Type 0
+NumbersTell scale = (units other byte next : ℕ) (rest other_rest : List ℕ)
+    → units < 2 ^ 64 → other < 2 ^ 64 → is_number_byte byte ≡ false → is_number_byte next ≡ false
+    → number_text scale units ++ (byte ∷ rest) ≡ number_text scale other ++ (next ∷ other_rest)
+    → (units ≡ other) × (byte ∷ rest ≡ next ∷ other_rest)
 
 -- A number at the end of its line, and what follows the line.
-pub number_line_once : (number other : ℕ) (xs ys : List ℕ) → number < 2 ^ 64 → other < 2 ^ 64
-    → decimal number ++ (10 ∷ xs) ≡ decimal other ++ (10 ∷ ys) → (number ≡ other) × (xs ≡ ys)
-number_line_once number other xs ys small small' e =
-    let ends = number_end number other 10 10 xs ys small small' (omega arith) (omega arith) e in
+pub number_line_once : (scale : ℕ) → NumbersTell scale → (number other : ℕ) (xs ys : List ℕ)
+    → number < 2 ^ 64 → other < 2 ^ 64
+    → number_text scale number ++ (10 ∷ xs) ≡ number_text scale other ++ (10 ∷ ys)
+    → (number ≡ other) × (xs ≡ ys)
+number_line_once scale tells number other xs ys small small' e =
+    let ends = tells number other 10 10 xs ys small small' refl refl e in
     (ends.0, behind_byte 10 xs ys ends.1)
 
 -- ---- a range of two bounds
@@ -88,15 +64,16 @@ bracket_once square round true false differ e = absurd (differ e)
 bracket_once square round false true differ e = absurd (differ (sym e))
 bracket_once square round false false differ e = refl
 
--- the right bracket ends the digits before it
-right_no_digit : (weak : Bool) → 10 ≤ digit_value (right_of weak)
-right_no_digit true = omega arith
-right_no_digit false = omega arith
+-- the right bracket ends the number before it
+right_ends : (weak : Bool) → is_number_byte (right_of weak) ≡ false
+right_ends true = refl
+right_ends false = refl
 
 -- a range and what follows it, byte by byte
-abbrev pub range_bytes : Bool → ℕ → ℕ → Bool → List ℕ → List ℕ
-range_bytes low_weak low high high_weak xs =
-    left_of low_weak ∷ (decimal low ++ (44 ∷ (decimal high ++ (right_of high_weak ∷ xs))))
+abbrev pub range_bytes : ℕ → Bool → ℕ → ℕ → Bool → List ℕ → List ℕ
+range_bytes scale low_weak low high high_weak xs =
+    left_of low_weak
+    ∷ (number_text scale low ++ (44 ∷ (number_text scale high ++ (right_of high_weak ∷ xs))))
 
 -- the pieces of a range, one after the other
 brackets_round : (left right : ℕ) (low high xs : List ℕ)
@@ -117,32 +94,30 @@ range_pieces false true low high xs = brackets_round 40 93 low high xs
 range_pieces false false low high xs = brackets_round 40 41 low high xs
 
 -- The text between two bounds.
-abbrev pub range_text : ℤ → ℤ → List ℕ
-range_text low high = interval_text (range_of low high)
+abbrev pub range_text : ℕ → ℤ → ℤ → List ℕ
+range_text scale low high = interval_text scale (range_of low high)
 
-pub range_text-bytes : (low high : ℤ) (xs : List ℕ)
-    → range_text low high ++ xs ≡ range_bytes (weakness_of low == 1) (nat_abs (value_of low))
+pub range_text-bytes : (scale : ℕ) (low high : ℤ) (xs : List ℕ)
+    → range_text scale low high ++ xs
+    ≡ range_bytes scale (weakness_of low == 1) (nat_abs (value_of low))
     (nat_abs (value_of high)) (weakness_of high == 1) xs
-range_text-bytes low high xs =
-    range_pieces (weakness_of low == 1) (weakness_of high == 1) (decimal (nat_abs (value_of low)))
-    (decimal (nat_abs (value_of high))) xs
+range_text-bytes scale low high xs =
+    range_pieces (weakness_of low == 1) (weakness_of high == 1)
+    (number_text scale (nat_abs (value_of low))) (number_text scale (nat_abs (value_of high))) xs
 
 -- The bytes of a range tell its brackets, its numbers and what follows it.
-parts_once : (a b a' b' : Bool) (m n m' n' : ℕ) (xs ys : List ℕ) → m < 2 ^ 64 → n < 2 ^ 64
-    → m' < 2 ^ 64 → n' < 2 ^ 64
-    → range_bytes a m n b xs ≡ range_bytes a' m' n' b' ys
+parts_once : (scale : ℕ) → NumbersTell scale → (a b a' b' : Bool) (m n m' n' : ℕ) (xs ys : List ℕ)
+    → m < 2 ^ 64 → n < 2 ^ 64 → m' < 2 ^ 64 → n' < 2 ^ 64
+    → range_bytes scale a m n b xs ≡ range_bytes scale a' m' n' b' ys
     → (a ≡ a') × (m ≡ m') × (n ≡ n') × (b ≡ b') × (xs ≡ ys)
-parts_once a b a' b' m n m' n' xs ys p q p' q' e =
+parts_once scale tells a b a' b' m n m' n' xs ys p q p' q' e =
+    let rest = number_text scale n ++ (right_of b ∷ xs) in
+    let rest' = number_text scale n' ++ (right_of b' ∷ ys) in
     let first : left_of a ≡ left_of a' = cc in
-    let behind : decimal m ++ (44 ∷ (decimal n ++ (right_of b ∷ xs))) ≡ decimal m' ++
-    (44 ∷ (decimal n' ++ (right_of b' ∷ ys))) = cc in
-    let low = number_end m m' 44 44 (decimal n ++ (right_of b ∷ xs))
-    (decimal n' ++ (right_of b' ∷ ys)) p p' (omega arith) (omega arith) behind in
-    let comma : 44 ∷ (decimal n ++ (right_of b ∷ xs)) ≡ 44 ∷ (decimal n' ++ (right_of b' ∷ ys)) =
-    low.1 in
-    let behind_comma : decimal n ++ (right_of b ∷ xs) ≡ decimal n' ++ (right_of b' ∷ ys) = cc in
-    let high = number_end n n' (right_of b) (right_of b') xs ys q q' (right_no_digit b)
-    (right_no_digit b') behind_comma in
+    let behind : number_text scale m ++ (44 ∷ rest) ≡ number_text scale m' ++ (44 ∷ rest') = cc in
+    let low = tells m m' 44 44 rest rest' p p' refl refl behind in
+    let high = tells n n' (right_of b) (right_of b') xs ys q q' (right_ends b) (right_ends b')
+    (behind_byte 44 rest rest' low.1) in
     let closed : right_of b ∷ xs ≡ right_of b' ∷ ys = high.1 in
     let last : right_of b ≡ right_of b' = cc in
     let left = bracket_once 91 40 a a' (λ e. absurd (omega (arith, e))) first in
@@ -222,18 +197,18 @@ high_once one other p q weak size =
     (omega (arith, ints)) size)
 
 -- The text of a range tells its two keys and what follows it.
-pub range_once : (low high low' high' : ℤ) (xs ys : List ℕ) → AreRangeKeys low high
-    → AreRangeKeys low' high'
-    → range_text low high ++ xs ≡ range_text low' high' ++ ys
+pub range_once : (scale : ℕ) → NumbersTell scale → (low high low' high' : ℤ) (xs ys : List ℕ)
+    → AreRangeKeys low high → AreRangeKeys low' high'
+    → range_text scale low high ++ xs ≡ range_text scale low' high' ++ ys
     → (low ≡ low') × (high ≡ high') × (xs ≡ ys)
-range_once low high low' high' xs ys keys keys' e =
-    let parts = parts_once (weakness_of low == 1) (weakness_of high == 1) (weakness_of low' == 1)
-    (weakness_of high' == 1)
+range_once scale tells low high low' high' xs ys keys keys' e =
+    let parts = parts_once scale tells (weakness_of low == 1) (weakness_of high == 1)
+    (weakness_of low' == 1) (weakness_of high' == 1)
     (nat_abs (value_of low)) (nat_abs (value_of high)) (nat_abs (value_of low'))
     (nat_abs (value_of high')) xs ys
     (printed_within low keys.low_within) (printed_within high keys.high_within)
     (printed_within low' keys'.low_within) (printed_within high' keys'.high_within)
-    (sym (range_text-bytes low high xs) ∙ e ∙ range_text-bytes low' high' ys) in (
+    (sym (range_text-bytes scale low high xs) ∙ e ∙ range_text-bytes scale low' high' ys) in (
       low_once low low' keys.down keys'.down parts.0 parts.1,
       high_once high high' keys.up keys'.up parts.3 parts.2,
       parts.4,

@@ -1,24 +1,21 @@
 -- A token that is printed is read as that token, before what can stand behind it; and so the text
 -- of tokens is read back, its names as the ones that were printed.
-use Rattle.std.proofs.Common.{◌≡◌, ℕ, suc, ◌+◌, ◌-◌, ◌*◌, ◌<◌, ◌≤◌, ◌^◌, Bool, true, false, cond, ◌&&◌, ◌⊎◌, ⊎_elim}
+use Rattle.std.proofs.Common.{◌≡◌, ℕ, suc, ◌+◌, ◌-◌, ◌<◌, ◌≤◌, ◌^◌, true, false, cond, ◌&&◌, ◌⊎◌, ⊎_elim}
 use Rattle.std.proofs.Common.{Option, Some, None, List, [], ◌∷◌, ◌++◌, length, get_or, take, refl, sym, ap, ◌∙◌, subst, arith}
-use Rattle.std.specs.Prelude.{codes, fold, min, nat_lt, ◌==◌, is_none, is_some, unwrap_or, if◌then◌else◌, decimal as digits_of}
-use Rattle.std.specs.Char.{digit_value, is_ascii_digit}
-use Rattle.std.specs.List.{prefix_len, AllPass, list_all, position_or_len, zip}
+use Rattle.std.specs.Prelude.{codes, nat_lt, ◌==◌, is_none, is_some, unwrap_or, if◌then◌else◌}
+use Rattle.std.specs.Char.{is_ascii_digit}
+use Rattle.std.specs.List.{AllPass, list_all, position_or_len, zip}
 use Rattle.std.specs.Str.{bytes_eq}
-use Rattle.std.specs.Str.Parse.{AllDigits, digits_value_after}
 use Rattle.std.proofs.Math.Seq.{take-append_seam, take-suc}
 use Rattle.std.proofs.lemmas.Bool.{false_from_ne_true}
 use Rattle.std.proofs.lemmas.Bool.Decides.{nat_tests}
-use Rattle.std.proofs.lemmas.Fmt.{decimal_is_IsNumeral}
 use Rattle.std.proofs.lemmas.List.{get_or-take, length-take-le, take_all}
-use Rattle.std.proofs.lemmas.List.Elements.{All-cons, All-nil}
+use Rattle.std.proofs.lemmas.List.Elements.{All-cons}
 use Rattle.std.proofs.lemmas.List.Sums.{AllPass-from_list_all, position_or_len_is}
 use Rattle.std.proofs.lemmas.Map.Made.{is_some-lookup}
 use Rattle.std.proofs.lemmas.Option.{unwrap_or-slice_get}
 use Rattle.std.proofs.lemmas.Slice.Eq.{bytes_eq-Decides}
-use Rattle.std.proofs.lemmas.Str.{digit_value_digit}
-use Rattle.std.proofs.lemmas.Str.Parse.{digit_from_value}
+use Rattle.tre_decimal.specs.Decimal.{units_of, number_text}
 use Rattle.tre_state.specs.declared.name.TheConstants.{RESERVED}
 use Rattle.tre_state.specs.Name.{starts_name, continues_name, IsName}
 use Rattle.tre_state.specs.Names.{place_of, IsNameList}
@@ -28,13 +25,14 @@ use Rattle.tre_syntax.specs.declared.name_kind.NameKind.TheVariants.{Proposition
 use Rattle.tre_syntax.specs.PatternTree.{seen_after}
 use Rattle.tre_parse.specs.declared.token.Token.{Token}
 use Rattle.tre_parse.specs.declared.token.Token.TheVariants.{Name, EventName, Number, Bar, DoubleBar, Ampersand, DoubleAmpersand, Percent, Begins, Ends, Eps, Rise, Fall, Inf, True, Event, EndOfText}
-use Rattle.tre_parse.specs.Lexeme.{is_blank, reserved, named, word_lexeme, number_lexeme, sign_lexeme, lexeme_of, decimal}
+use Rattle.tre_parse.specs.Lexeme.{is_blank, reserved, named, word_lexeme, number_len, number_lexeme, sign_lexeme, lexeme_of}
 use Rattle.tre_parse.specs.declared.before.Before.{Before}
 use Rattle.tre_parse.specs.declared.before.Before.TheVariants.{Other}
 use Rattle.tre_parse.specs.Numbering.{numbers_in}
-use Rattle.tre_parse.specs.Tokens.{RawToken, name, sign, RawTokens, raw_tokens_from, scanned, with_raw_token, kind_behind, before_sign, names_of_kind, names_with, vocabulary_with, Known, number_of, numbered, token_of, known_after, is_past, tokens_from, names_from, past_from}
+use Rattle.tre_parse.specs.Tokens.{RawToken, name, number, sign, RawTokens, raw_tokens_from, scanned, with_raw_token, kind_behind, before_sign, names_with, vocabulary_with, Known, number_of, numbered, token_of, known_after, is_past, tokens_from, names_from, past_from}
 use Rattle.tre_show.specs.StateText.{name_text}
 use Rattle.tre_show.proofs.TreeTokens.{printed, text_of, IsCut, StandsHere, StandFrom}
+use Rattle.tre_show.proofs.Written.{WritesNumbers, prefix_whole, cut_stops, written_len, units_read}
 
 -- The text has this word first, and goes on with the rest.
 abbrev pub Takes : RawToken → ℕ → List ℕ → List ℕ → Type 0
@@ -55,48 +53,48 @@ abbrev word_for : List ℕ → Option Token → RawToken
 word_for bytes None = name bytes
 word_for bytes (Some token) = sign token
 
+-- What stands there is a word of just these bytes.
+takes_front : (byte : ℕ) (bytes rest : List ℕ) (word : RawToken) (at : ℕ)
+    → ((next : ℕ → RawTokens)
+    → scanned (lexeme_of (byte ∷ (bytes ++ rest))) at (byte ∷ (bytes ++ rest)) next
+    ≡ with_raw_token at word (next (length bytes)))
+    → Takes word at (byte ∷ (bytes ++ rest)) rest
+takes_front byte bytes rest word at is =
+    let end = skipped bytes rest (at + 1) in (
+      at,
+      end.0,
+      is (λ skip. raw_tokens_from skip (at + 1) (bytes ++ rest)) ∙ ap (with_raw_token at word) end.1,
+    )
+
+-- A word that is taken is a name or a reserved one.
 scanned_named : (len : ℕ) (o : Option Token) (at : ℕ) (bytes : List ℕ) (next : ℕ → RawTokens)
     → scanned (named len o) at bytes next ≡ with_raw_token at (word_for (take len bytes) o)
     (next (len - 1))
 scanned_named len None at bytes next = refl
 scanned_named len (Some token) at bytes next = refl
 
--- A lexeme of just these bytes is taken.
-takes_front : (byte : ℕ) (bytes rest : List ℕ) (o : Option Token) (at : ℕ)
-    → lexeme_of (byte ∷ (bytes ++ rest)) ≡ named (length (byte ∷ bytes)) o
-    → Takes (word_for (byte ∷ bytes) o) at (byte ∷ (bytes ++ rest)) rest
-takes_front byte bytes rest o at e =
+scanned_word : (byte : ℕ) (bytes rest : List ℕ) (o : Option Token) (at : ℕ) (next : ℕ → RawTokens)
+    → scanned (named (length (byte ∷ bytes)) o) at (byte ∷ (bytes ++ rest)) next
+    ≡ with_raw_token at (word_for (byte ∷ bytes) o) (next (length bytes))
+scanned_word byte bytes rest o at next =
     let whole = byte ∷ bytes in
-    let go = λ (skip : ℕ). raw_tokens_from skip (at + 1) (bytes ++ rest) in
     let less : length whole - 1 ≡ length bytes = omega arith in
-    let end = skipped bytes rest (at + 1) in (
-      at,
-      end.0,
-      ap (λ l. scanned l at (whole ++ rest) go) e
-          ∙ scanned_named (length whole) o at (whole ++ rest) go
-          ∙ ap (λ w. with_raw_token at (word_for w o) (go (length whole - 1)))
-          (take-append_seam whole rest)
-          ∙ ap (λ n. with_raw_token at (word_for whole o) (go n)) less
-          ∙ ap (with_raw_token at (word_for whole o)) end.1,
-    )
+    scanned_named (length whole) o at (whole ++ rest) next
+    ∙ ap (λ w. with_raw_token at (word_for w o) (next (length whole - 1)))
+    (take-append_seam whole rest)
+    ∙ ap (λ n. with_raw_token at (word_for whole o) (next n)) less
 
-prefix_whole : (p : ℕ → Bool) (xs rest : List ℕ) → AllPass p xs → prefix_len p rest ≡ 0
-    → prefix_len p (xs ++ rest) ≡ length xs
-prefix_whole p [] rest all e = e
-prefix_whole p (x ∷ xs) rest all e =
-    let here : p x ≡ true = all 0 x (omega arith) in
-    let more = prefix_whole p xs rest (λ k d below. all (suc k) d (omega (arith, below))) e in
-    ap (λ t. cond t (1 + prefix_len p (xs ++ rest)) 0) here ∙ omega (arith, more)
-
-cut_stops : (p : ℕ → Bool) (rest : List ℕ)
-    → ((byte : ℕ) → continues_name byte ≡ false → p byte ≡ false) → IsCut rest
-    → prefix_len p rest ≡ 0
-cut_stops p [] fails cut = refl
-cut_stops p (byte ∷ rest) fails cut =
-    ap (λ t. cond t (1 + prefix_len p rest) 0) (fails byte cut)
-
-no_digit : (byte : ℕ) → continues_name byte ≡ false → is_ascii_digit byte ≡ false
-no_digit byte cut = grind (arith, nat_tests)
+-- A number that is taken.
+scanned_number : (byte : ℕ) (bytes rest : List ℕ) (at : ℕ) (next : ℕ → RawTokens)
+    → number_len (byte ∷ (bytes ++ rest)) ≡ length (byte ∷ bytes)
+    → scanned (number_lexeme (byte ∷ (bytes ++ rest))) at (byte ∷ (bytes ++ rest)) next
+    ≡ with_raw_token at (number (byte ∷ bytes)) (next (length bytes))
+scanned_number byte bytes rest at next len =
+    let whole = byte ∷ bytes in
+    let less : length whole - 1 ≡ length bytes = omega arith in
+    ap (λ n. with_raw_token at (number (take n (whole ++ rest))) (next (n - 1))) len
+    ∙ ap (λ w. with_raw_token at (number w) (next (length whole - 1))) (take-append_seam whole rest)
+    ∙ ap (λ n. with_raw_token at (number whole) (next n)) less
 
 -- which of the kinds the first byte chooses
 kind_word : {A : Type 0} (byte : ℕ) (a b c : A) → starts_name byte ≡ true
@@ -122,10 +120,12 @@ takes_word byte bytes rest at starts all cut =
     let size = prefix_whole continues_name whole rest
     (All-cons (λ b. continues_name b ≡ true) byte bytes (start_continues byte starts) all)
     (cut_stops continues_name rest (λ b fails. fails) cut) in
-    takes_front byte bytes rest (reserved whole) at
-    (kind_word byte _ (word_lexeme (whole ++ rest)) _ starts
+    let lexeme = kind_word byte _ (word_lexeme (whole ++ rest)) _ starts
     ∙ ap (λ n. named n (reserved (take n (whole ++ rest)))) size
-    ∙ ap (λ w. named (length whole) (reserved w)) (take-append_seam whole rest))
+    ∙ ap (λ w. named (length whole) (reserved w)) (take-append_seam whole rest) in
+    takes_front byte bytes rest (word_for whole (reserved whole)) at
+    (λ next. ap (λ l. scanned l at (whole ++ rest) next) lexeme
+    ∙ scanned_word byte bytes rest (reserved whole) at next)
 
 no_word : (o : Option Token) → (is_some o ≡ true → ⊥) → o ≡ None
 no_word None never = refl
@@ -142,43 +142,22 @@ takes_name (b ∷ bs) rest at is cut =
     (λ some. is.1 (sym (is_some-lookup (λ text. bytes_eq text.now bytes) kept) ∙ some)))
     (takes_word b bs rest at is.0.0 is.0.1 cut)
 
-digits_pass : (digits : List ℕ) → AllDigits 10 digits → AllPass is_ascii_digit digits
-digits_pass [] all = All-nil _
-digits_pass (d ∷ ds) all =
-    let range = digit_from_value d all.0 in
-    All-cons (λ b. is_ascii_digit b ≡ true) d ds (grind (arith, nat_tests)) (digits_pass ds all.1)
-
-fold_digits : (n : ℕ) (digits : List ℕ) → AllDigits 10 digits
-    → fold (λ m digit. 10 * m + (digit - 48)) n digits ≡ digits_value_after 10 n digits
-fold_digits n [] all = refl
-fold_digits n (d ∷ ds) all =
-    let value = digit_value_digit d (digit_from_value d all.0) in
-    let same : 10 * n + (d - 48) ≡ n * 10 + digit_value d = omega (arith, value) in
-    fold_digits (10 * n + (d - 48)) ds all.1 ∙ ap (λ m. digits_value_after 10 m ds) same
-
-takes_digits : (digits rest : List ℕ) (n at : ℕ) → 0 < length digits → AllDigits 10 digits
-    → min (decimal digits) 1099511627777 ≡ n → IsCut rest
-    → Takes (sign (Number n)) at (digits ++ rest) rest
-takes_digits [] rest n at some all value cut = absurd (omega arith)
-takes_digits (d ∷ ds) rest n at some all value cut =
-    let whole = d ∷ ds in
-    let pass = digits_pass whole all in
-    let kept = λ (digits : List ℕ). Some (Number (min (decimal digits) 1099511627777)) in
-    takes_front d ds rest (Some (Number n)) at
-    (kind_number d _ (word_lexeme (whole ++ rest)) (number_lexeme (whole ++ rest))
-    (sign_lexeme (whole ++ rest)) (pass 0 d (omega arith))
-    ∙ ap (λ n. named n (kept (take n (whole ++ rest))))
-    (prefix_whole is_ascii_digit whole rest pass (cut_stops is_ascii_digit rest no_digit cut))
-    ∙ ap (λ ds. named (length whole) (kept ds)) (take-append_seam whole rest)
-    ∙ ap (λ m. named (length whole) (Some (Number m))) value)
-
 -- A number up to the latest time.
-takes_number : (n : ℕ) (rest : List ℕ) (at : ℕ) → n ≤ 2 ^ 40 → IsCut rest
-    → Takes (sign (Number n)) at (digits_of n ++ rest) rest
-takes_number n rest at small cut =
-    let numeral = decimal_is_IsNumeral n (omega (arith, small)) in
-    let value = fold_digits 0 (digits_of n) numeral.0.1 ∙ numeral.1 in
-    takes_digits (digits_of n) rest n at numeral.0.0 numeral.0.1 (omega (arith, value, small)) cut
+takes_number : (scale n : ℕ) (rest : List ℕ) (at : ℕ) → WritesNumbers scale → n ≤ 2 ^ 40
+    → IsCut rest → Takes (number (number_text scale n)) at (number_text scale n ++ rest) rest
+takes_number scale n rest at writes small cut =
+    let less : n < 2 ^ 64 = omega (arith, small) in
+    by (number_text scale n) (writes.read_back n less) (written_len scale n rest writes less cut)
+  where
+    by : (text : List ℕ) → units_of scale text ≡ Some n → number_len (text ++ rest) ≡ length text
+        → Takes (number text) at (text ++ rest) rest
+    by [] is len = absurd (cc)
+    by (d ∷ ds) is len =
+        let whole = d ∷ (ds ++ rest) in
+        let lexeme = kind_number d _ (word_lexeme whole) (number_lexeme whole)
+        (sign_lexeme whole) (writes.begins d n ds is) in
+        takes_front d ds rest (number (d ∷ ds)) at
+        (λ next. ap (λ l. scanned l at whole next) lexeme ∙ scanned_number d ds rest at next len)
 
 -- ---- the table
 
@@ -188,11 +167,12 @@ kept : (byte : ℕ) (bytes rest : List ℕ) (at : ℕ) → starts_name byte ≡ 
 kept byte bytes rest at starts all cut =
     takes_word byte bytes rest at starts (AllPass-from_list_all continues_name bytes all) cut
 
--- A token as a word of the text: a name by its bytes.
-abbrev pub word_of : Vocabulary → Token → RawToken
-word_of names (Name i) = name (name_text names.names i)
-word_of names (EventName i) = name (name_text names.events i)
-word_of names token = sign token
+-- A token as a word of the text: a name or a number by its bytes.
+abbrev pub word_of : ℕ → Vocabulary → Token → RawToken
+word_of scale names (Name i) = name (name_text names.names i)
+word_of scale names (EventName i) = name (name_text names.events i)
+word_of scale names (Number n) = number (number_text scale n)
+word_of scale names token = sign token
 
 -- Where the token is the number of a name, that is one.
 abbrev pub IsNamed : Vocabulary → Token → Type 0
@@ -201,31 +181,37 @@ IsNamed names (EventName i) = IsName (name_text names.events i)
 IsNamed names _ = Unit {0}
 
 -- Each token by its line of the table, and the names and numbers besides.
-pub takes : (names : Vocabulary) (before : Before) (token : Token) (rest : List Token) (at : ℕ)
-    → StandsHere names before rest token → IsNamed names token
-    → Takes (word_of names token) at (printed names token ++ text_of names rest)
-    (text_of names rest)
-takes names before (Name i) rest at stands is =
-    takes_name (name_text names.names i) (text_of names rest) at is stands.0
-takes names before (EventName i) rest at stands is =
-    takes_name (name_text names.events i) (text_of names rest) at is stands.0
-takes names before (Number n) rest at stands is =
-    takes_number n (text_of names rest) at stands.0 stands.1
-takes names before Eps rest at stands is = kept 101 (codes "ps") _ at refl refl stands
-takes names before Rise rest at stands is = kept 114 (codes "ise") _ at refl refl stands
-takes names before Fall rest at stands is = kept 102 (codes "all") _ at refl refl stands
-takes names before Inf rest at stands is = kept 105 (codes "nf") _ at refl refl stands
-takes names before True rest at stands is = kept 116 (codes "rue") _ at refl refl stands
-takes names before Event rest at stands is = kept 101 (codes "vent") _ at refl refl stands
-takes names before Bar rest at stands is = (at + 1, at + 1 + 1 + 1, refl)
-takes names before DoubleBar rest at stands is = (at + 1, at + 1 + 1 + 1 + 1, refl)
-takes names before Ampersand rest at stands is = (at + 1, at + 1 + 1 + 1, refl)
-takes names before DoubleAmpersand rest at stands is = (at + 1, at + 1 + 1 + 1 + 1, refl)
-takes names before Percent rest at stands is = (at + 1, at + 1 + 1 + 1, refl)
-takes names before Begins rest at stands is = (at, at + 1 + 1, refl)
-takes names before Ends rest at stands is = (at, at + 1 + 1, refl)
-takes names before EndOfText rest at stands is = absurd stands
-takes names before mark rest at stands is = (at, at + 1, refl)
+pub takes : (scale : ℕ) → WritesNumbers scale → (names : Vocabulary) (before : Before)
+    (token : Token) (rest : List Token) (at : ℕ)
+    → StandsHere scale names before rest token → IsNamed names token
+    → Takes (word_of scale names token) at (printed scale names token ++ text_of scale names rest)
+    (text_of scale names rest)
+takes scale writes names before (Name i) rest at stands is =
+    takes_name (name_text names.names i) (text_of scale names rest) at is stands.0
+takes scale writes names before (EventName i) rest at stands is =
+    takes_name (name_text names.events i) (text_of scale names rest) at is stands.0
+takes scale writes names before (Number n) rest at stands is =
+    takes_number scale n (text_of scale names rest) at writes stands.0 stands.1
+takes scale writes names before Eps rest at stands is = kept 101 (codes "ps") _ at refl refl stands
+takes scale writes names before Rise rest at stands is =
+    kept 114 (codes "ise") _ at refl refl stands
+takes scale writes names before Fall rest at stands is =
+    kept 102 (codes "all") _ at refl refl stands
+takes scale writes names before Inf rest at stands is = kept 105 (codes "nf") _ at refl refl stands
+takes scale writes names before True rest at stands is =
+    kept 116 (codes "rue") _ at refl refl stands
+takes scale writes names before Event rest at stands is =
+    kept 101 (codes "vent") _ at refl refl stands
+takes scale writes names before Bar rest at stands is = (at + 1, at + 1 + 1 + 1, refl)
+takes scale writes names before DoubleBar rest at stands is = (at + 1, at + 1 + 1 + 1 + 1, refl)
+takes scale writes names before Ampersand rest at stands is = (at + 1, at + 1 + 1 + 1, refl)
+takes scale writes names before DoubleAmpersand rest at stands is =
+    (at + 1, at + 1 + 1 + 1 + 1, refl)
+takes scale writes names before Percent rest at stands is = (at + 1, at + 1 + 1 + 1, refl)
+takes scale writes names before Begins rest at stands is = (at, at + 1 + 1, refl)
+takes scale writes names before Ends rest at stands is = (at, at + 1 + 1, refl)
+takes scale writes names before EndOfText rest at stands is = absurd stands
+takes scale writes names before mark rest at stands is = (at, at + 1, refl)
 
 -- ---- numbers by first use
 
@@ -341,25 +327,26 @@ module _ (names : List (List ℕ)) (list : IsNameList names) where
       (first_number k i rest (length names) e)
 
 -- What is read of the tokens, where so much is known.
-pub record AreRead (names : Vocabulary) (known : Known) (tokens : List Token) (raw : RawTokens)
-    : Type 0 where
-  pub tokens_same : tokens_from known raw.raw_tokens ≡ tokens
+pub record AreRead (scale : ℕ) (names : Vocabulary) (known : Known) (tokens : List Token)
+    (raw : RawTokens) : Type 0 where
+  pub tokens_same : tokens_from scale known raw.raw_tokens ≡ tokens
   pub names_same : names_from known raw.raw_tokens ≡ names
   pub few : past_from known raw.raw_tokens ≡ None
   pub good : raw.bad ≡ None
 
 -- A word whose token is this one, and behind which this much is known.
-record IsWordOf (known next : Known) (token : Token) (word : RawToken) : Type 0 where
-  token_same : token_of known word ≡ token
+record IsWordOf (scale : ℕ) (known next : Known) (token : Token) (word : RawToken) : Type 0 where
+  token_same : token_of scale known word ≡ token
   next_same : known_after known word ≡ next
   few : is_past known word ≡ false
 
 -- A name in its place, of this kind.
-named_word : (kind : NameKind) (known : Known) (bytes : List ℕ) (i : ℕ) (after : Vocabulary)
-    → kind_behind known.before ≡ kind → number_of kind known bytes ≡ Some i
+named_word : (scale : ℕ) (kind : NameKind) (known : Known) (bytes : List ℕ) (i : ℕ)
+    (after : Vocabulary) → kind_behind known.before ≡ kind → number_of kind known bytes ≡ Some i
     → vocabulary_with kind known.vocabulary bytes ≡ after
-    → IsWordOf known (record { vocabulary = after; before = Other }) (numbered kind i) (name bytes)
-named_word kind known bytes i after is place vocabulary = record {
+    → IsWordOf scale known (record { vocabulary = after; before = Other }) (numbered kind i)
+    (name bytes)
+named_word scale kind known bytes i after is place vocabulary = record {
   token_same = ap (λ (c : NameKind). numbered c (unwrap_or (number_of c known bytes) 64)) is
       ∙ ap (λ (o : Option ℕ). numbered kind (unwrap_or o 64)) place;
   next_same = ap (λ (c : NameKind). record {
@@ -369,17 +356,19 @@ named_word kind known bytes i after is place vocabulary = record {
   few = ap (λ (c : NameKind). is_none (number_of c known bytes)) is ∙ ap is_none place;
 }
 
-module _ (names : Vocabulary) (list : IsNameList names.names) (events : IsNameList names.events)
+module _ (scale : ℕ) (writes : WritesNumbers scale) (names : Vocabulary)
+    (list : IsNameList names.names) (events : IsNameList names.events)
   where
     -- A token by its word, and then the rest.
     word_read : (known next : Known) (token : Token) (word : RawToken) (rest : List Token)
-        (there : ℕ) (raw : RawTokens) → IsWordOf known next token word → AreRead names next rest raw
-        → AreRead names known (token ∷ rest) (with_raw_token there word raw)
+        (there : ℕ) (raw : RawTokens) → IsWordOf scale known next token word
+        → AreRead scale names next rest raw
+        → AreRead scale names known (token ∷ rest) (with_raw_token there word raw)
     word_read known next token word rest there raw is more =
-        let after : AreRead names (known_after known word) rest raw =
-        subst (λ (k : Known). AreRead names k rest raw) (sym is.next_same) more in
+        let after : AreRead scale names (known_after known word) rest raw =
+        subst (λ (k : Known). AreRead scale names k rest raw) (sym is.next_same) more in
         record {
-          tokens_same = ap (λ t. t ∷ tokens_from (known_after known word) raw.raw_tokens)
+          tokens_same = ap (λ t. t ∷ tokens_from scale (known_after known word) raw.raw_tokens)
               is.token_same ∙ ap (λ ts. token ∷ ts) after.tokens_same;
           names_same = after.names_same;
           few = ap (λ b. if b then Some there
@@ -395,11 +384,11 @@ module _ (names : Vocabulary) (list : IsNameList names.names) (events : IsNameLi
     }
 
     pub all_read : (tokens : List Token) (k m : ℕ) (before : Before) (at : ℕ)
-        → StandFrom names before tokens → k ≤ length names.names → m ≤ length names.events
+        → StandFrom scale names before tokens → k ≤ length names.names → m ≤ length names.events
         → seen_after k (numbers_in Proposition tokens) ≡ Some (length names.names)
         → seen_after m (numbers_in EventKind tokens) ≡ Some (length names.events)
-        → AreRead names (first_known k m before) tokens
-        (raw_tokens_from 0 at (text_of names tokens))
+        → AreRead scale names (first_known k m before) tokens
+        (raw_tokens_from 0 at (text_of scale names tokens))
     all_read [] k m before at stand within fits e f =
         let same : k ≡ length names.names = cc in
         let same_events : m ≡ length names.events = cc in
@@ -416,38 +405,55 @@ module _ (names : Vocabulary) (list : IsNameList names.names) (events : IsNameLi
         let more = next_of names.names list k i (numbers_in Proposition rest) within e in
         let bytes = name_text names.names i in
         let is = name_at names.names list i (omega (arith, more.before, more.fits)) in
-        let read = takes names before (Name i) rest at stand.0 is in
+        let read = takes scale writes names before (Name i) rest at stand.0 is in
         let known = first_known k m before in
         let place : number_of Proposition known bytes ≡ Some i =
         ap (λ l. place_of l bytes) more.known
         ∙ held names.names list i more.next more.before more.fits in
-        let word = named_word Proposition known bytes i
-        (record { names = take more.next names.names; events = take m names.events }) stand.0.1 place
+        let word = named_word scale Proposition known bytes i
+        (record { names = take more.next names.names; events = take m names.events }) stand.0.1
+        place
         (ap (λ l. record { names = l; events = take m names.events }) more.known) in
-        subst (AreRead names known (Name i ∷ rest)) (sym read.2)
+        subst (AreRead scale names known (Name i ∷ rest)) (sym read.2)
         (word_read known (first_known more.next m Other) (Name i) (name bytes) rest read.0 _ word
         (all_read rest more.next m Other read.1 stand.1 more.fits fits more.left f))
     all_read (EventName i ∷ rest) k m before at stand within fits e f =
         let more = next_of names.events events m i (numbers_in EventKind rest) fits f in
         let bytes = name_text names.events i in
         let is = name_at names.events events i (omega (arith, more.before, more.fits)) in
-        let read = takes names before (EventName i) rest at stand.0 is in
+        let read = takes scale writes names before (EventName i) rest at stand.0 is in
         let known = first_known k m before in
         let place : number_of EventKind known bytes ≡ Some i =
         ap (λ l. place_of l bytes) more.known
         ∙ held names.events events i more.next more.before more.fits in
-        let word = named_word EventKind known bytes i
-        (record { names = take k names.names; events = take more.next names.events }) stand.0.1 place
+        let word = named_word scale EventKind known bytes i
+        (record { names = take k names.names; events = take more.next names.events }) stand.0.1
+        place
         (ap (λ l. record { names = take k names.names; events = l }) more.known) in
-        subst (AreRead names known (EventName i ∷ rest)) (sym read.2)
-        (word_read known (first_known k more.next Other) (EventName i) (name bytes) rest read.0 _ word
+        subst (AreRead scale names known (EventName i ∷ rest)) (sym read.2)
+        (word_read known (first_known k more.next Other) (EventName i) (name bytes) rest read.0 _
+        word
         (all_read rest k more.next Other read.1 stand.1 within more.fits e more.left))
-    all_read (token ∷ rest) k m before at stand within fits e f =
-        let read = takes names before token rest at stand.0 tt in
+    all_read (Number n ∷ rest) k m before at stand within fits e f =
+        let bytes = number_text scale n in
+        let read = takes scale writes names before (Number n) rest at stand.0 tt in
         let known = first_known k m before in
-        let word : IsWordOf known (first_known k m (before_sign before token)) token (sign token) =
+        let word : IsWordOf scale known (first_known k m Other) (Number n) (number bytes) =
+        record {
+          token_same = ap Number (units_read scale n writes stand.0.0);
+          next_same = refl;
+          few = refl;
+        } in
+        subst (AreRead scale names known (Number n ∷ rest)) (sym read.2)
+        (word_read known (first_known k m Other) (Number n) (number bytes) rest read.0 _ word
+        (all_read rest k m Other read.1 stand.1 within fits e f))
+    all_read (token ∷ rest) k m before at stand within fits e f =
+        let read = takes scale writes names before token rest at stand.0 tt in
+        let known = first_known k m before in
+        let word : IsWordOf scale known (first_known k m (before_sign before token)) token
+        (sign token) =
         record { token_same = refl; next_same = refl; few = refl } in
-        subst (AreRead names known (token ∷ rest)) (sym read.2)
+        subst (AreRead scale names known (token ∷ rest)) (sym read.2)
         (word_read known (first_known k m (before_sign before token)) token (sign token) rest read.0
         _ word
         (all_read rest k m (before_sign before token) read.1 stand.1 within fits e f))

@@ -5,7 +5,6 @@ use Rattle.std.specs.Prelude.{nat_lt, codes, MatchOption}
 use Rattle.std.proofs.lemmas.Bool.Decides.{nat_tests}
 use Rattle.std.proofs.lemmas.Grind.{flat_map-append}
 use Rattle.tre_state.specs.Name.{continues_name}
-use Rattle.tre_state.specs.StateTree as state
 use Rattle.tre_state.specs.StateTree.{StateTree, always, proposition, negation, conjunction, disjunction}
 use Rattle.tre_trace.specs.Reading.{Vocabulary}
 use Rattle.tre_zone.specs.Interval.{IntervalEnds, IsInterval, HasNoDuration, kept_weak}
@@ -22,7 +21,8 @@ use Rattle.tre_parse.specs.declared.before.Before.{Before}
 use Rattle.tre_parse.specs.declared.before.Before.TheVariants.{Other}
 use Rattle.tre_parse.specs.Numbering.{numbers_at, numbers_in}
 use Rattle.tre_parse.specs.Tokens.{kind_behind, before_sign}
-use Rattle.tre_show.specs.Interval.{number_text, lower_text, end_text, interval_text}
+use Rattle.tre_decimal.specs.Decimal.{number_text}
+use Rattle.tre_show.specs.Interval.{lower_text, end_text}
 use Rattle.tre_show.specs.Intervals.{HasIntervals}
 use Rattle.tre_show.specs.StateText.{in_parens, name_text, state_operand_text, state_text, literal_text}
 use Rattle.tre_show.specs.PatternText.{atom_text, operand_text}
@@ -30,40 +30,40 @@ use Rattle.tre_show.specs.PatternText.{atom_text, operand_text}
 -- ---- the text of tokens
 
 -- What is printed of a token: a sign or a word, some of them between blanks, the bytes of a name,
--- or digits.
-abbrev pub printed : Vocabulary → Token → List ℕ
-printed names (Name i) = name_text names.names i
-printed names (EventName i) = name_text names.events i
-printed names (Number n) = number_text n
-printed names LeftParen = LEFT_PAREN.now
-printed names RightParen = RIGHT_PAREN.now
-printed names LeftBracket = LEFT_BRACKET.now
-printed names RightBracket = RIGHT_BRACKET.now
-printed names LeftBrace = LEFT_BRACE.now
-printed names RightBrace = RIGHT_BRACE.now
-printed names Comma = COMMA.now
-printed names Semicolon = SEMICOLON.now
-printed names Bar = codes " " ++ BAR.now ++ codes " "
-printed names DoubleBar = codes " " ++ DOUBLE_BAR.now ++ codes " "
-printed names Ampersand = codes " " ++ AMPERSAND.now ++ codes " "
-printed names DoubleAmpersand = codes " " ++ DOUBLE_AMPERSAND.now ++ codes " "
-printed names Bang = BANG.now
-printed names Star = STAR.now
-printed names Plus = PLUS.now
-printed names Question = QUESTION.now
-printed names Percent = codes " " ++ PERCENT.now ++ codes " "
-printed names Begins = BEGINS.now
-printed names Ends = ENDS.now
-printed names Eps = codes "eps"
-printed names Rise = codes "rise"
-printed names Fall = codes "fall"
-printed names Inf = codes "inf"
-printed names True = codes "true"
-printed names Event = codes "event"
-printed names EndOfText = []
+-- or a number at the scale.
+abbrev pub printed : ℕ → Vocabulary → Token → List ℕ
+printed scale names (Name i) = name_text names.names i
+printed scale names (EventName i) = name_text names.events i
+printed scale names (Number n) = number_text scale n
+printed scale names LeftParen = LEFT_PAREN.now
+printed scale names RightParen = RIGHT_PAREN.now
+printed scale names LeftBracket = LEFT_BRACKET.now
+printed scale names RightBracket = RIGHT_BRACKET.now
+printed scale names LeftBrace = LEFT_BRACE.now
+printed scale names RightBrace = RIGHT_BRACE.now
+printed scale names Comma = COMMA.now
+printed scale names Semicolon = SEMICOLON.now
+printed scale names Bar = codes " " ++ BAR.now ++ codes " "
+printed scale names DoubleBar = codes " " ++ DOUBLE_BAR.now ++ codes " "
+printed scale names Ampersand = codes " " ++ AMPERSAND.now ++ codes " "
+printed scale names DoubleAmpersand = codes " " ++ DOUBLE_AMPERSAND.now ++ codes " "
+printed scale names Bang = BANG.now
+printed scale names Star = STAR.now
+printed scale names Plus = PLUS.now
+printed scale names Question = QUESTION.now
+printed scale names Percent = codes " " ++ PERCENT.now ++ codes " "
+printed scale names Begins = BEGINS.now
+printed scale names Ends = ENDS.now
+printed scale names Eps = codes "eps"
+printed scale names Rise = codes "rise"
+printed scale names Fall = codes "fall"
+printed scale names Inf = codes "inf"
+printed scale names True = codes "true"
+printed scale names Event = codes "event"
+printed scale names EndOfText = []
 
-abbrev pub text_of : Vocabulary → List Token → List ℕ
-text_of names tokens = flat_map (printed names) tokens
+abbrev pub text_of : ℕ → Vocabulary → List Token → List ℕ
+text_of scale names tokens = flat_map (printed scale names) tokens
 
 -- The text doesn't go on with a word or a number.
 abbrev pub IsCut : List ℕ → Type 0
@@ -77,29 +77,29 @@ BeginsWell rest = (body left : List Token) (ends : IntervalEnds) → rest ≡ bo
 
 -- The token can stand here: a word or a number isn't gone on with, a number isn't above the latest
 -- time, behind `%` stands no empty interval, and a name is an event's just behind `event(`.
-abbrev pub StandsHere : Vocabulary → Before → List Token → Token → Type 0
-StandsHere names before rest (Name i) =
-    IsCut (text_of names rest) × (kind_behind before ≡ Proposition)
-StandsHere names before rest (EventName i) =
-    IsCut (text_of names rest) × (kind_behind before ≡ EventKind)
-StandsHere names before rest (Number n) = (n ≤ 2 ^ 40) × IsCut (text_of names rest)
-StandsHere names before rest Eps = IsCut (text_of names rest)
-StandsHere names before rest Rise = IsCut (text_of names rest)
-StandsHere names before rest Fall = IsCut (text_of names rest)
-StandsHere names before rest Inf = IsCut (text_of names rest)
-StandsHere names before rest True = IsCut (text_of names rest)
-StandsHere names before rest Event = IsCut (text_of names rest)
-StandsHere names before rest Percent = BeginsWell rest
-StandsHere names before rest EndOfText = ⊥
-StandsHere names before rest _ = Unit {0}
+abbrev pub StandsHere : ℕ → Vocabulary → Before → List Token → Token → Type 0
+StandsHere scale names before rest (Name i) =
+    IsCut (text_of scale names rest) × (kind_behind before ≡ Proposition)
+StandsHere scale names before rest (EventName i) =
+    IsCut (text_of scale names rest) × (kind_behind before ≡ EventKind)
+StandsHere scale names before rest (Number n) = (n ≤ 2 ^ 40) × IsCut (text_of scale names rest)
+StandsHere scale names before rest Eps = IsCut (text_of scale names rest)
+StandsHere scale names before rest Rise = IsCut (text_of scale names rest)
+StandsHere scale names before rest Fall = IsCut (text_of scale names rest)
+StandsHere scale names before rest Inf = IsCut (text_of scale names rest)
+StandsHere scale names before rest True = IsCut (text_of scale names rest)
+StandsHere scale names before rest Event = IsCut (text_of scale names rest)
+StandsHere scale names before rest Percent = BeginsWell rest
+StandsHere scale names before rest EndOfText = ⊥
+StandsHere scale names before rest _ = Unit {0}
 
-abbrev pub StandFrom : Vocabulary → Before → List Token → Type 0
-StandFrom names before [] = Unit {0}
-StandFrom names before (token ∷ rest) =
-    StandsHere names before rest token × StandFrom names (before_sign before token) rest
+abbrev pub StandFrom : ℕ → Vocabulary → Before → List Token → Type 0
+StandFrom scale names before [] = Unit {0}
+StandFrom scale names before (token ∷ rest) =
+    StandsHere scale names before rest token × StandFrom scale names (before_sign before token) rest
 
-abbrev pub Stand : Vocabulary → List Token → Type 0
-Stand names tokens = StandFrom names Other tokens
+abbrev pub Stand : ℕ → Vocabulary → List Token → Type 0
+Stand scale names tokens = StandFrom scale names Other tokens
 
 -- ---- intervals
 
@@ -209,19 +209,19 @@ one_at_event i EventKind = refl
 
 -- The tokens have this text and these numbers of names, and stand as they can before any that go on
 -- with no word.
-pub record Say (names : Vocabulary) (tokens : List Token) (text : List ℕ) (numbers : Numbers)
-    : Type 0 where
-  pub text_same : text_of names tokens ≡ text
+pub record Say (scale : ℕ) (names : Vocabulary) (tokens : List Token) (text : List ℕ)
+    (numbers : Numbers) : Type 0 where
+  pub text_same : text_of scale names tokens ≡ text
   pub numbers_same : (kind : NameKind) → numbers_in kind tokens ≡ numbers kind
-  pub stand : (more : List Token) → IsCut (text_of names more) → Stand names more
-      → Stand names (tokens ++ more)
+  pub stand : (more : List Token) → IsCut (text_of scale names more) → Stand scale names more
+      → Stand scale names (tokens ++ more)
 
 -- Some tokens that are of this kind say the text.
-pub record Prints (names : Vocabulary) (Spelt : List Token → Type 0) (text : List ℕ)
+pub record Prints (scale : ℕ) (names : Vocabulary) (Spelt : List Token → Type 0) (text : List ℕ)
     (numbers : Numbers) : Type 0 where
   pub tokens : List Token
   pub spells : Spelt tokens
-  pub says : Say names tokens text numbers
+  pub says : Say scale names tokens text numbers
 
 -- The sum in unary, which computes over a variable.
 abbrev raised : ℕ → ℕ → ℕ
@@ -275,16 +275,16 @@ looser e (suc (suc (suc k))) xs h = h
 tight : (e : PatternTree) (k : ℕ) (xs : List Token) → Spells post xs e → TreeSpelt e k xs
 tight e k xs h = down (TreeSpelt e) (looser e) 3 k xs h
 
-module _ (names : Vocabulary) where
+module _ (scale : ℕ) (names : Vocabulary) where
   prints : {Spelt : List Token → Type 0} {text : List ℕ} {numbers : Numbers}
-      (tokens : List Token) → Spelt tokens → Say names tokens text numbers
-      → Prints names Spelt text numbers
+      (tokens : List Token) → Spelt tokens → Say scale names tokens text numbers
+      → Prints scale names Spelt text numbers
   prints tokens spells says = record { tokens = tokens; spells = spells; says = says }
 
   -- The same numbers in another form.
   renumbered : {tokens : List Token} {text : List ℕ} {numbers others : Numbers}
-      → ((kind : NameKind) → numbers kind ≡ others kind) → Say names tokens text numbers
-      → Say names tokens text others
+      → ((kind : NameKind) → numbers kind ≡ others kind) → Say scale names tokens text numbers
+      → Say scale names tokens text others
   renumbered same is = record {
     text_same = is.text_same;
     numbers_same = λ kind. is.numbers_same kind ∙ same kind;
@@ -292,66 +292,72 @@ module _ (names : Vocabulary) where
   }
 
   reprinted : {Spelt : List Token → Type 0} {text : List ℕ} {numbers others : Numbers}
-      → ((kind : NameKind) → numbers kind ≡ others kind) → Prints names Spelt text numbers
-      → Prints names Spelt text others
+      → ((kind : NameKind) → numbers kind ≡ others kind) → Prints scale names Spelt text numbers
+      → Prints scale names Spelt text others
   reprinted same is = prints _ is.spells (renumbered same is.says)
 
   -- A token by itself.
-  one : (token : Token) → ((more : List Token) → IsCut (text_of names more) → Stand names more
-      → Stand names (token ∷ more))
-      → Say names (token ∷ []) (printed names token) (λ kind. numbers_in kind (token ∷ []))
+  one : (token : Token) → ((more : List Token) → IsCut (text_of scale names more)
+      → Stand scale names more → Stand scale names (token ∷ more))
+      → Say scale names (token ∷ []) (printed scale names token)
+      (λ kind. numbers_in kind (token ∷ []))
   one token stands = record {
-    text_same = append-nil (printed names token);
+    text_same = append-nil (printed scale names token);
     numbers_same = λ kind. refl;
     stand = stands;
   }
 
-  nothing : Say names [] [] no_numbers
+  nothing : Say scale names [] [] no_numbers
   nothing =
       record { text_same = refl; numbers_same = λ kind. refl; stand = λ more cut rest. rest }
 
   -- Two lists of tokens with a sign between them.
   between : (mark : Token) (xs ys : List Token) {text other : List ℕ} {numbers others : Numbers}
       → ((kind : NameKind) → numbers_at mark kind ≡ [])
-      → ((rest : List ℕ) → IsCut (printed names mark ++ rest))
-      → ((more : List Token) → Stand names (ys ++ more) → Stand names (mark ∷ (ys ++ more)))
-      → Say names xs text numbers → Say names ys other others
-      → Say names (xs ++ mark ∷ ys) (text ++ printed names mark ++ other)
+      → ((rest : List ℕ) → IsCut (printed scale names mark ++ rest))
+      → ((more : List Token) → Stand scale names (ys ++ more)
+      → Stand scale names (mark ∷ (ys ++ more)))
+      → Say scale names xs text numbers → Say scale names ys other others
+      → Say scale names (xs ++ mark ∷ ys) (text ++ printed scale names mark ++ other)
       (joined_numbers numbers others)
   between mark xs ys {text} {other} {numbers} {others} none cut stands is its = record {
-    text_same = flat_map-append (printed names) xs (mark ∷ ys)
-        ∙ ap (λ t. t ++ (printed names mark ++ text_of names ys)) is.text_same
-        ∙ ap (λ t. text ++ (printed names mark ++ t)) its.text_same
-        ∙ sym (append_assoc text (printed names mark) other);
+    text_same = flat_map-append (printed scale names) xs (mark ∷ ys)
+        ∙ ap (λ t. t ++ (printed scale names mark ++ text_of scale names ys)) is.text_same
+        ∙ ap (λ t. text ++ (printed scale names mark ++ t)) its.text_same
+        ∙ sym (append_assoc text (printed scale names mark) other);
     numbers_same = λ kind. numbers_join kind xs (mark ∷ ys)
         ∙ ap (λ l. l ++ numbers_in kind (mark ∷ ys)) (is.numbers_same kind)
         ∙ ap (λ l. numbers kind ++ (l ++ numbers_in kind ys)) (none kind)
         ∙ ap (λ l. numbers kind ++ l) (its.numbers_same kind);
     stand = λ more ends rest.
-        subst (Stand names) (sym (append_assoc xs (mark ∷ ys) more))
-        (is.stand (mark ∷ (ys ++ more)) (cut (text_of names (ys ++ more)))
+        subst (Stand scale names) (sym (append_assoc xs (mark ∷ ys) more))
+        (is.stand (mark ∷ (ys ++ more)) (cut (text_of scale names (ys ++ more)))
         (stands more (its.stand more ends rest)));
   }
 
   -- Tokens with a sign behind them.
   behind : (mark : Token) (xs : List Token) {text : List ℕ} {numbers : Numbers}
       → ((kind : NameKind) → numbers_at mark kind ≡ [])
-      → ((rest : List ℕ) → IsCut (printed names mark ++ rest))
-      → ((more : List Token) → Stand names more → Stand names (mark ∷ more))
-      → Say names xs text numbers → Say names (xs ++ mark ∷ []) (text ++ printed names mark) numbers
+      → ((rest : List ℕ) → IsCut (printed scale names mark ++ rest))
+      → ((more : List Token) → Stand scale names more → Stand scale names (mark ∷ more))
+      → Say scale names xs text numbers
+      → Say scale names (xs ++ mark ∷ []) (text ++ printed scale names mark) numbers
   behind mark xs {text} {numbers} none cut stands is =
-      subst (λ t. Say names (xs ++ mark ∷ []) t numbers) (append-nil (text ++ printed names mark))
-      (renumbered (λ kind. append-nil (numbers kind)) (between mark xs [] none cut stands is nothing))
+      subst (λ t. Say scale names (xs ++ mark ∷ []) t numbers)
+      (append-nil (text ++ printed scale names mark))
+      (renumbered (λ kind. append-nil (numbers kind))
+      (between mark xs [] none cut stands is nothing))
 
   -- Two that are printed with a sign between them, which together are of this kind.
   both : (mark : Token) {One Other Spelt : List Token → Type 0} {text other : List ℕ}
       {numbers others : Numbers}
       → ((kind : NameKind) → numbers_at mark kind ≡ [])
-      → ((rest : List ℕ) → IsCut (printed names mark ++ rest))
-      → ((rest : List Token) → Stand names rest → Stand names (mark ∷ rest))
+      → ((rest : List ℕ) → IsCut (printed scale names mark ++ rest))
+      → ((rest : List Token) → Stand scale names rest → Stand scale names (mark ∷ rest))
       → ((xs ys : List Token) → One xs → Other ys → Spelt (xs ++ mark ∷ ys))
-      → Prints names One text numbers → Prints names Other other others
-      → Prints names Spelt (text ++ printed names mark ++ other) (joined_numbers numbers others)
+      → Prints scale names One text numbers → Prints scale names Other other others
+      → Prints scale names Spelt (text ++ printed scale names mark ++ other)
+      (joined_numbers numbers others)
   both mark none cut stands joined is its =
       prints _ (joined is.tokens its.tokens is.spells its.spells)
       (between mark is.tokens its.tokens none cut (λ more. stands (its.tokens ++ more)) is.says
@@ -359,8 +365,8 @@ module _ (names : Vocabulary) where
 
   -- A word, and tokens in parentheses.
   edge_says : {words xs : List Token} {word text : List ℕ} {numbers : Numbers}
-      → Say names words word no_numbers → Say names xs text numbers
-      → Say names (words ++ (LeftParen ∷ (xs ++ RightParen ∷ [])))
+      → Say scale names words word no_numbers → Say scale names xs text numbers
+      → Say scale names (words ++ (LeftParen ∷ (xs ++ RightParen ∷ [])))
       (word ++ codes "(" ++ (text ++ codes ")")) numbers
   edge_says is its = between LeftParen _ _ (λ _. refl) (λ _. refl) (λ _ rest. (tt, rest)) is
       (behind RightParen _ (λ _. refl) (λ _. refl) (λ _ rest. (tt, rest)) its)
@@ -369,8 +375,9 @@ module _ (names : Vocabulary) where
   bound : (Spelt : ℕ → List Token → Type 0)
       → ((k : ℕ) (xs : List Token) → Spelt (suc k) xs → Spelt k xs)
       → ((k : ℕ) (xs : List Token) → Spelt 0 xs → Spelt k (LeftParen ∷ xs ++ RightParen ∷ []))
-      → (k least : ℕ) {text : List ℕ} {numbers : Numbers} → Prints names (Spelt k) text numbers
-      → Prints names (Spelt least) (in_parens (nat_lt k least) text) numbers
+      → (k least : ℕ) {text : List ℕ} {numbers : Numbers}
+      → Prints scale names (Spelt k) text numbers
+      → Prints scale names (Spelt least) (in_parens (nat_lt k least) text) numbers
   bound Spelt looser parens k least {text} {numbers} is = by (nat_lt k least) refl
     where
       loosen : (low : ℕ) → low ≤ k → Spelt low is.tokens
@@ -380,7 +387,7 @@ module _ (names : Vocabulary) where
           down Spelt looser (k - low) low is.tokens (subst (λ n. Spelt n is.tokens) same is.spells)
 
       by : (asked : Bool) → nat_lt k least ≡ asked
-          → Prints names (Spelt least) (in_parens asked text) numbers
+          → Prints scale names (Spelt least) (in_parens asked text) numbers
       by true e =
           prints _ (parens least is.tokens (loosen 0 (omega arith))) (edge_says nothing is.says)
       by false e =
@@ -388,27 +395,27 @@ module _ (names : Vocabulary) where
           prints _ (loosen least within) is.says
 
   state_bound : (s : StateTree) (k least : ℕ) {text : List ℕ} {numbers : Numbers}
-      → Prints names (StateSpelt s k) text numbers
-      → Prints names (StateSpelt s least) (in_parens (nat_lt k least) text) numbers
+      → Prints scale names (StateSpelt s k) text numbers
+      → Prints scale names (StateSpelt s least) (in_parens (nat_lt k least) text) numbers
   state_bound s k least is = bound (StateSpelt s) (state_looser s)
       (λ k xs h. state_tight s k _ (neg_parens xs s h)) k least is
 
   tree_bound : (e : PatternTree) (k least : ℕ) {text : List ℕ} {numbers : Numbers}
-      → Prints names (TreeSpelt e k) text numbers
-      → Prints names (TreeSpelt e least) (in_parens (nat_lt k least) text) numbers
+      → Prints scale names (TreeSpelt e k) text numbers
+      → Prints scale names (TreeSpelt e least) (in_parens (nat_lt k least) text) numbers
   tree_bound e k least is = bound (TreeSpelt e) (looser e)
       (λ k xs h. tight e k _ (post_primary _ e (primary_parens xs e h))) k least is
 
   name_says : (i : ℕ)
-      → Say names (Name i ∷ []) (name_text names.names i) (numbers_at_state (proposition i))
+      → Say scale names (Name i ∷ []) (name_text names.names i) (numbers_at_state (proposition i))
   name_says i =
       renumbered (one_at_proposition i) (one (Name i) (λ more cut rest. ((cut, refl), rest)))
 
-  true_says : Say names (True ∷ []) (codes "true") (numbers_at_state always)
+  true_says : Say scale names (True ∷ []) (codes "true") (numbers_at_state always)
   true_says = renumbered none_at_always (one True (λ more cut rest. (cut, rest)))
 
   state_prints : (s : StateTree) (least : ℕ)
-      → Prints names (StateSpelt s least) (state_operand_text least names.names s)
+      → Prints scale names (StateSpelt s least) (state_operand_text least names.names s)
       (numbers_at_state s)
   state_prints always least = prints _ (state_tight always least _ neg_true) true_says
   state_prints (proposition i) least =
@@ -428,7 +435,7 @@ module _ (names : Vocabulary) where
       (state_prints s 0) (state_prints t 1)))
 
   braces_print : (s : StateTree)
-      → Prints names (λ xs. SpellsState lit xs s)
+      → Prints scale names (λ xs. SpellsState lit xs s)
       (codes "{" ++ state_text names.names s ++ codes "}") (numbers_at_state s)
   braces_print s =
       let is = state_prints s 0 in
@@ -437,7 +444,7 @@ module _ (names : Vocabulary) where
       (behind RightBrace _ (λ _. refl) (λ _. refl) (λ _ rest. (tt, rest)) is.says))
 
   literal_prints : (s : StateTree)
-      → Prints names (λ xs. SpellsState lit xs s) (literal_text names.names s)
+      → Prints scale names (λ xs. SpellsState lit xs s) (literal_text names.names s)
       (numbers_at_state s)
   literal_prints always = prints _ lit_true true_says
   literal_prints (proposition i) = prints _ (lit_name i) (name_says i)
@@ -451,7 +458,8 @@ module _ (names : Vocabulary) where
 
   -- The name of an event in its place.
   event_says : (i : ℕ)
-      → Say names (Event ∷ LeftParen ∷ EventName i ∷ RightParen ∷ []) (atom_text names (event i))
+      → Say scale names (Event ∷ LeftParen ∷ EventName i ∷ RightParen ∷ [])
+      (atom_text names (event i))
       (λ kind. numbers_of_atom kind (event i))
   event_says i = record {
     text_same = refl;
@@ -460,7 +468,7 @@ module _ (names : Vocabulary) where
   }
 
   atom_prints : (x : Atom)
-      → Prints names (λ xs. Spells primary xs (atom x)) (atom_text names x)
+      → Prints scale names (λ xs. Spells primary xs (atom x)) (atom_text names x)
       (λ kind. numbers_of_atom kind x)
   atom_prints empty = prints _ primary_eps (one Eps (λ more cut rest. (cut, rest)))
   atom_prints (literal s) =
@@ -475,21 +483,24 @@ module _ (names : Vocabulary) where
       (edge_says (one Fall (λ more cut rest. (cut, rest))) is.says)
   atom_prints (event i) = prints _ (primary_event i) (event_says i)
 
-  number_says : (n : ℕ) → n ≤ 2 ^ 40 → Say names (Number n ∷ []) (number_text n) no_numbers
+  number_says : (n : ℕ) → n ≤ 2 ^ 40
+      → Say scale names (Number n ∷ []) (number_text scale n) no_numbers
   number_says n small = one (Number n) (λ more cut rest. ((small, cut), rest))
 
   end_says : (high : Option ℕ) (weak : Bool) → MatchOption high (Unit {0}) (λ h. h ≤ 2 ^ 40)
-      → Say names (end_tokens high weak) (end_text high weak) no_numbers
+      → Say scale names (end_tokens high weak) (end_text scale high weak) no_numbers
   end_says None weak small =
-      behind RightParen _ (λ _. refl) (λ _. refl) (λ _ rest. (tt, rest)) (one Inf (λ more cut rest. (cut, rest)))
+      behind RightParen _ (λ _. refl) (λ _. refl) (λ _ rest. (tt, rest))
+      (one Inf (λ more cut rest. (cut, rest)))
   end_says (Some high) true small =
       behind RightBracket _ (λ _. refl) (λ _. refl) (λ _ rest. (tt, rest)) (number_says high small)
   end_says (Some high) false small =
       behind RightParen _ (λ _. refl) (λ _. refl) (λ _ rest. (tt, rest)) (number_says high small)
 
   interval_by : (low : ℕ) (weak : Bool) (xs : List Token) (text : List ℕ) → low ≤ 2 ^ 40
-      → Say names xs text no_numbers
-      → Say names (opening weak ∷ Number low ∷ Comma ∷ xs) (lower_text low weak ++ text) no_numbers
+      → Say scale names xs text no_numbers
+      → Say scale names (opening weak ∷ Number low ∷ Comma ∷ xs)
+      (lower_text scale low weak ++ text) no_numbers
   interval_by low true xs text small end =
       between LeftBracket [] _ (λ _. refl) (λ _. refl) (λ _ rest. (tt, rest)) nothing
       (between Comma _ _ (λ _. refl) (λ _. refl) (λ _ rest. (tt, rest)) (number_says low small) end)
@@ -498,14 +509,17 @@ module _ (names : Vocabulary) where
       (between Comma _ _ (λ _. refl) (λ _. refl) (λ _ rest. (tt, rest)) (number_says low small) end)
 
   pub tree_prints : (e : PatternTree) → HasIntervals e → (least : ℕ)
-      → Prints names (TreeSpelt e least) (operand_text least names e) (λ kind. numbers_of kind e)
+      → Prints scale names (TreeSpelt e least) (operand_text scale least names e)
+      (λ kind. numbers_of kind e)
   tree_prints (atom x) fine least =
       let is = atom_prints x in prints _ (tight _ least _ (post_primary _ _ is.spells)) is.says
   tree_prints (sequence e f) fine least =
-      tree_bound (sequence e f) 2 least (both Semicolon (λ _. refl) (λ _. refl) (λ _ rest. (tt, rest))
+      tree_bound (sequence e f) 2 least
+      (both Semicolon (λ _. refl) (λ _. refl) (λ _ rest. (tt, rest))
       (λ xs ys. seq_semicolon xs ys e f) (tree_prints e fine.0 2) (tree_prints f fine.1 3))
   tree_prints (intersection e f) fine least =
-      tree_bound (intersection e f) 1 least (both Ampersand (λ _. refl) (λ _. refl) (λ _ rest. (tt, rest))
+      tree_bound (intersection e f) 1 least
+      (both Ampersand (λ _. refl) (λ _. refl) (λ _ rest. (tt, rest))
       (λ xs ys. meet_ampersand xs ys e f) (tree_prints e fine.0 1) (tree_prints f fine.1 2))
   tree_prints (alternation e f) fine least =
       tree_bound (alternation e f) 0 least (both Bar (λ _. refl) (λ _. refl) (λ _ rest. (tt, rest))

@@ -25,8 +25,8 @@ pub record LieWithin (begin end duration : IntervalEnds) (a b n : ℕ) : Type 0 
   pub ends : LastsWithin end b n
   pub lasts : LastsWithin duration (b - a) n
 
--- The line is the text of three intervals at the scale, and the zone holds a pair, in any order and at any
--- denominator, exactly where its begin, its end and its duration lie within the three.
+-- The line is the text of three intervals at the scale, and the zone holds a pair, in any order
+-- and at any denominator, exactly where its begin, its end and its duration lie within the three.
 pub record TellsZone (scale : ℕ) (line : List ℕ) (zone : ZoneBounds) : Type 0 where
   pub begin : IntervalEnds
   pub end : IntervalEnds

@@ -24,7 +24,9 @@ pub fn zone_lines(zones: &[Zone], scale: u8, out: &mut String) -> Result<(), All
 }
 
 // How many bytes so many lines have at the most, and one more, where no number is past the end.
-fn room_for(lines: usize, end: u64, scale: u8) -> usize {
+fn room_for(lines: usize, end: u64, scale: u8) -> usize
+    requires { scale ≤ SCALE_MAX }
+{
     let number = number_len(end, scale);
     lines
         .saturating_add(1)
@@ -32,7 +34,10 @@ fn room_for(lines: usize, end: u64, scale: u8) -> usize {
 }
 
 // How many bytes a number of units has: its digits, and more than the decimals one, and the point.
-fn number_len(units: u64, scale: u8) -> usize {
+fn number_len(units: u64, scale: u8) -> usize
+    requires { scale ≤ SCALE_MAX }
+    ensures { result ≤ 41 }
+{
     let mut buffer = Buffer::new();
     let digits = buffer.format(units).len();
     if scale == 0 {

@@ -17,7 +17,7 @@ use crate::state::{
     push_close, push_literal, push_name, push_open, push_spaced, push_state, push_text,
 };
 use std::alloc::{AllocError, Global};
-use tre_decimal::written_is_read;
+use tre_decimal::{begins_with_a_digit, last_digits_are_digits, written_is_read};
 use tre_parse::laws::one_outcome;
 use tre_parse::sign;
 use tre_state::{Names, State};
@@ -50,9 +50,12 @@ pub fn pattern_text(alloc: Global, pattern: &Pattern, scale: u8) -> Result<Strin
     // same.
     let _names = pattern.names().len();
     let _events = pattern.events().len();
-    // A text has one outcome, and a number that is written is read back as it was.
+    // A text has one outcome.
     one_outcome();
+    // A number that is written is taken whole, and read back as it was.
     written_is_read();
+    last_digits_are_digits();
+    begins_with_a_digit();
     let mut text = String::new(alloc);
     push_operand(&mut text, pattern, pattern.expr(), ALTERNATION, scale)?;
     Ok(text)

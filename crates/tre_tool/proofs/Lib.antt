@@ -3,6 +3,7 @@ pub mod Canonical
 pub mod Cuts
 pub mod Differences
 pub mod Feeding
+pub mod Found
 pub mod Inputs
 pub mod Lists
 pub mod MadeRuns
@@ -18,3 +19,4 @@ pub mod Tellings
 pub mod Told
 pub mod Transcripts
 pub mod Turns
+pub mod Wanted

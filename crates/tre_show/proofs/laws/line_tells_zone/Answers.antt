@@ -1,4 +1,4 @@
-use Rattle.std.proofs.Common.{refl}
+use Rattle.std.proofs.Common.{ℕ, refl}
 use Rattle.tre_zone.specs.Ranges.{begin_range, end_range, duration_range}
 use Rattle.tre_zone.specs.Zone.{IsCanonical}
 use Rattle.tre_zone.specs.declared.zone_bounds.ZoneBounds.{ZoneBounds}
@@ -6,8 +6,9 @@ use Rattle.tre_zone.proofs.Ranges.{canonical-ranges}
 use Rattle.tre_show.specs.Line.{line_of, TellsZone}
 use Rattle.tre_show.proofs.laws.line_tells_zone.Goals as goal
 
-line_tells : (zone : ZoneBounds) → IsCanonical zone → TellsZone (line_of zone) zone
-line_tells zone canonical = record {
+line_tells : (scale : ℕ) (zone : ZoneBounds) → IsCanonical zone
+    → TellsZone scale (line_of scale zone) zone
+line_tells scale zone canonical = record {
   begin = begin_range zone;
   end = end_range zone;
   duration = duration_range zone;

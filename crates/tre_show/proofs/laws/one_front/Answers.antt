@@ -3,4 +3,7 @@ use Rattle.tre_show.proofs.Ranges.{number_line_once}
 use Rattle.tre_show.proofs.laws.one_front.Goals as goal
 
 pub returns : goal.returns
-returns c = record { lines = lines_once; number = number_line_once }
+returns c = record {
+  lines = λ scale. lines_once scale (c.one_number.ensures scale);
+  number = λ scale. number_line_once scale (c.one_number.ensures scale);
+}

@@ -9,6 +9,7 @@ use Rattle.tre_show.proofs.line.write_line.Goals as goal
 pub returns : goal.returns
 returns c =
     let zone = c.args.zone.now in
+    let scale = c.args.scale in
     let begins = rw c.bounds-bounds.ensures.same at c.write_between.ensures.ascii in
     let ends = rw c.bounds-bounds.ensures.same at c.write_between-end-2.ensures.ascii in
     let lasts = rw c.bounds-bounds.ensures.same at c.write_between-end.ensures.ascii in
@@ -26,6 +27,7 @@ returns c =
           ) (simp append_assoc);
       begin = omega (arith, c.write_between.ensures.begin);
       text =
-          IsUtf8-from_ascii (line_of zone)
-          (line_ascii (begin_range zone) (end_range zone) (duration_range zone) begins ends lasts);
+          IsUtf8-from_ascii (line_of scale zone)
+          (line_ascii scale (begin_range zone) (end_range zone) (duration_range zone) begins
+          ends lasts);
     }

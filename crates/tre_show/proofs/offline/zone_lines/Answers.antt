@@ -7,5 +7,5 @@ pub returns : goal.returns
 unfolding lines_of
 returns c =
     c.loop-zone.invariant
-    ∙ ap (λ zones. string_bytes c.args.out.now ++ flat_map line_of zones)
+    ∙ ap (λ zones. string_bytes c.args.out.now ++ flat_map (line_of c.args.scale) zones)
     (take_all c.loop-zone.zone-index c.args.zones.now c.loop-zone-test.false)
