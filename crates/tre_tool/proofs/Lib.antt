@@ -1,4 +1,5 @@
 pub mod Alone
+pub mod Answering
 pub mod Cuts
 pub mod Feeding
 pub mod Found
