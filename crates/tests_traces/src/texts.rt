@@ -3,6 +3,7 @@ use crate::reading::{feed, read, read_cut};
 use std::alloc::Global;
 use std::test::Fail;
 use tests_support::names_of;
+use tre_decimal::SCALE_MAX;
 use tre_text::{LineReader, TextReader};
 use tre_trace::TraceKind::{LineTooLong, Spent};
 use tre_trace::{Segment, TraceFault, TraceKind, TraceReader};
@@ -10,6 +11,13 @@ use tre_trace::{Segment, TraceFault, TraceKind, TraceReader};
 fn reader(alloc: Global, names: &str, events: &str) -> Result<TextReader, Fail> {
     let lines = LineReader::new(names_of(alloc, names)?, names_of(alloc, events)?, 0);
     Ok(TextReader::new(alloc, lines))
+}
+
+// A reader for the proposition p and no event, whose durations have this scale.
+fn reader_at(alloc: Global, scale: u8) -> Result<TextReader, Fail> {
+    let names = names_of(alloc, "p")?;
+    let events = names_of(alloc, "")?;
+    Ok(TextReader::new(alloc, LineReader::new(names, events, scale.min(SCALE_MAX))))
 }
 
 // The names of propositions, a text, and what it says: segments, each as its length and its
@@ -71,6 +79,64 @@ const EVENTS: [(&str, &str, &str); 20] = [
     ("a", "@ a\n1 p\n@ a\n1 9", "1:1@1 BadName 4"),
 ];
 
+// A scale, a text, and what it says for the proposition p.
+const DECIMALS: [(u8, &str, &str); 46] = [
+    (
+        0,
+        "3.0 p\n003 p\n3.00000000000000000000000 p",
+        "3:1 3:1 3:1 ",
+    ),
+    (0, "3. p", "BadNumber 1"),
+    (0, ".5 p", "BadNumber 1"),
+    (0, ". p", "BadNumber 1"),
+    (0, "3.5 p", "BadNumber 1"),
+    (0, "1\n3.0001", "1:0 BadNumber 2"),
+    (0, "0.0 p", "Zero 1"),
+    (0, "1099511627776.0 p\n1", "1099511627776:1 TooLate 2"),
+    (0, "1099511627777.0 p", "TooLate 1"),
+    (0, "99999999999999999999999999.0 p", "TooLate 1"),
+    (1, "0.5 p\n3\n1.25", "5:1 30:0 BadNumber 3"),
+    (1, "0.5 p\n0.25 q", "5:1 BadNumber 2"),
+    (1, "0.50000 p\n#x\n00.0 q", "5:1 Zero 3"),
+    (1, "000.5 p\n.5 p", "5:1 BadNumber 2"),
+    (1, "5. p", "BadNumber 1"),
+    (1, "1.5.0 p", "BadNumber 1"),
+    (1, "1..5 p", "BadNumber 1"),
+    (1, "1,5 p", "BadNumber 1"),
+    (1, "-1.5 p", "BadNumber 1"),
+    (1, "3.p", "BadNumber 1"),
+    (1, "0.5p", "BadNumber 1"),
+    (1, "0.5 9", "BadName 1"),
+    (1, "0.5 0.5", "BadName 1"),
+    (1, "0.05 p", "BadNumber 1"),
+    (1, "@0.5", "BadNumber 1"),
+    (1, "#0.55\n@ a\n0.5 p", "5:1 "),
+    (1, "109951162777.6 p\n0.1", "1099511627776:1 TooLate 2"),
+    (1, "109951162777.7 p", "TooLate 1"),
+    (1, "109951162777.65 p", "BadNumber 1"),
+    (1, "99999999999999999999999999 p", "TooLate 1"),
+    (1, "99999999999999999999999.5 p", "TooLate 1"),
+    (1, "99999999999999999999999.05 p", "BadNumber 1"),
+    (3, "1.25 p\n0.001\n2", "1250:1 1:0 2000:0 "),
+    (3, "0.0010 p\n0.0005", "1:1 BadNumber 2"),
+    (3, "0.000", "Zero 1"),
+    (3, "0.0004", "BadNumber 1"),
+    (3, "1099511627.776 p\n0.001", "1099511627776:1 TooLate 2"),
+    (3, "1099511627.777 p", "TooLate 1"),
+    (3, "1099511628 p", "TooLate 1"),
+    (9, "0.000000001 p\n1.5", "1:1 1500000000:0 "),
+    (9, "0.0000000010 p\n0.0000000001", "1:1 BadNumber 2"),
+    (
+        9,
+        "1099.511627776 p\n0.000000001",
+        "1099511627776:1 TooLate 2",
+    ),
+    (9, "1099.511627777 p", "TooLate 1"),
+    (9, "18446744073.709551615 p", "TooLate 1"),
+    (9, "18446744073.709551617 p", "TooLate 1"),
+    (9, "18446744074 p", "TooLate 1"),
+];
+
 // Whether the text says this, cut in two at each place.
 fn says_however_cut(
     alloc: Global,
@@ -107,6 +173,30 @@ fn events_cut_at_each_place(rt: HostRuntime) -> Result<(), Fail> {
         assert!(rt;
             says_however_cut(rt.alloc(), "p", *events, *text, *want)?,
             "{text}"
+        );
+    }
+    Ok(())
+}
+
+// Whether the text says this at the scale, cut in two at each place.
+fn says_at(alloc: Global, scale: u8, text: &str, want: &str) -> Result<bool, Fail> {
+    let bytes = text.as_bytes();
+    for cut in 0..=bytes.len() {
+        let mut reader = reader_at(alloc, scale)?;
+        let said = read_cut(alloc, &mut reader, &bytes[..cut], &bytes[cut..])?;
+        if said.as_str() != want {
+            return Ok(false);
+        }
+    }
+    Ok(true)
+}
+
+#[test]
+fn decimals_cut_at_each_place(rt: HostRuntime) -> Result<(), Fail> {
+    for (scale, text, want) in &DECIMALS {
+        assert!(rt;
+            says_at(rt.alloc(), *scale, *text, *want)?,
+            "{scale} {text}"
         );
     }
     Ok(())

@@ -1,5 +1,7 @@
 mod Records
 mod Reading
+mod Keeping
+mod Tables
 mod NameColumns
 mod Pieces
 mod Defining

@@ -1,5 +1,5 @@
 -- The records that are left, one after the other.
-use Rattle.std.proofs.Common.{Bor, subst, ◌≡◌, ℕ, zero, suc, ◌+◌, ◌<◌, ◌≤◌, Bool, true, false, Option, Some, None, List, [], ◌∷◌, ◌++◌, length, Ok, refl, sym, ap, ◌∙◌, inl, inr, arith}
+use Rattle.std.proofs.Common.{subst, ◌≡◌, ℕ, zero, suc, ◌+◌, ◌<◌, ◌≤◌, Bool, true, false, Option, Some, None, List, [], ◌∷◌, ◌++◌, length, Ok, refl, sym, ap, ◌∙◌, inl, inr, arith}
 use Rattle.std.specs.Prelude.{◌==◌, ◌&&◌, if◌then◌else◌}
 use Rattle.std.proofs.lemmas.Bool.{false≢true}
 use Rattle.csv.specs.Machine.{Read, carriage_return, after_end, ends_with, in_field, start_field, start_record, step, ends_at_end, is_end, is_byte, fields_after, field_after, next_record}
@@ -138,32 +138,28 @@ next-less cfg s (c ∷ rest) read between is = by (is_end (step cfg s c).1) is
 -- ---- the records that are left
 
 -- One of them was read, and the others are left.
-pub record Takes (fields : List (List ℕ)) (rows : ByteRecordsIntoIter (Bor (List ℕ)))
-    (left : List (List (List ℕ))) : Type 0 where
+pub record Takes {R : Type 0} (known : R → Option (List ℕ)) (fields : List (List ℕ))
+    (rows : ByteRecordsIntoIter R) (left : List (List (List ℕ))) : Type 0 where
   pub others : List (List (List ℕ))
   pub first : left ≡ fields ∷ others
-  pub rest : IsLeft rows others
-
--- what a reader of bytes in memory has underneath
-abbrev under : Bor (List ℕ) → Option (List ℕ)
-under s = Some s.now
+  pub rest : IsLeft known rows others
 
 -- A record that was read is the first of those that were left.
-pub IsLeft-next : (old new : ByteRecordsIntoIter (Bor (List ℕ))) (row : Row)
-    (left : List (List (List ℕ))) → IsLeft old left
-    → RowStep under (owned_rows_reader old) (owned_rows_reader new) (owned_rows_left new)
-    (Some (Ok row)) → Takes (fields_of row) new left
+pub IsLeft-next : {R : Type 0} (known : R → Option (List ℕ)) (old new : ByteRecordsIntoIter R)
+    (row : Row) (left : List (List (List ℕ))) → IsLeft known old left
+    → RowStep known (owned_rows_reader old) (owned_rows_reader new) (owned_rows_left new)
+    (Some (Ok row)) → Takes known (fields_of row) new left
 unfolding Reached records_from
-IsLeft-next old new row left is did = by is.most is.room is.is
+IsLeft-next known old new row left is did = by is.most is.room is.is
   where
     by : (most : ℕ) → length is.bytes < most
         → left ≡ records_from default_config most (reader_state (owned_rows_reader old)) is.bytes
-        → Takes (fields_of row) new left
+        → Takes known (fields_of row) new left
     by zero room e = absurd (omega arith)
     by (suc n) room e =
         let before = owned_rows_reader old in
         let now = owned_rows_reader new in
-        let more = rows-more under before now (fields_of row) default_config (reader_state before)
+        let more = rows-more known before now (fields_of row) default_config (reader_state before)
         is.bytes is.bytes [] is.config is.source (refl, refl) did.0 in
         let read = more.2.0 in
         let next = more.2.1 in
@@ -193,36 +189,37 @@ IsLeft-next old new row left is did = by is.most is.room is.is
         }
 
 -- Where no record was read, none was left.
-pub IsLeft-end : (old new : ByteRecordsIntoIter (Bor (List ℕ))) (left : List (List (List ℕ)))
-    → IsLeft old left
-    → RowStep under (owned_rows_reader old) (owned_rows_reader new) (owned_rows_left new) None
+pub IsLeft-end : {R : Type 0} (known : R → Option (List ℕ)) (old new : ByteRecordsIntoIter R)
+    (left : List (List (List ℕ))) → IsLeft known old left
+    → RowStep known (owned_rows_reader old) (owned_rows_reader new) (owned_rows_left new) None
     → left ≡ []
 unfolding records_from
-IsLeft-end old new left is did = by is.most is.is
+IsLeft-end known old new left is did = by is.most is.is
   where
     by : (most : ℕ)
         → left ≡ records_from default_config most (reader_state (owned_rows_reader old)) is.bytes
         → left ≡ []
     by zero e = e
     by (suc n) e =
-        let none = rows-end under (owned_rows_reader old) (owned_rows_reader new) []
+        let none = rows-end known (owned_rows_reader old) (owned_rows_reader new) []
         default_config is.bytes is.config is.source did in
         e ∙ ap (records_next (records_from default_config n)) none
 
 -- All records are left of a reader that has read nothing.
-pub IsLeft-begins : (rows : ByteRecordsIntoIter (Bor (List ℕ))) (reader : Reader (Bor (List ℕ)))
-    (bytes : List ℕ) → owned_rows_reader rows ≡ reader → 0 < owned_rows_left rows
+pub IsLeft-begins : {R : Type 0} (known : R → Option (List ℕ)) (rows : ByteRecordsIntoIter R)
+    (reader : Reader R) (bytes : List ℕ) → owned_rows_reader rows ≡ reader
+    → 0 < owned_rows_left rows
     → reader_trim reader ≡ trim.None → names_headers reader ≡ false → reader_headers reader ≡ None
     → reader_config reader ≡ default_config → reader_state reader ≡ st.StartRecord
-    → source_of under reader ≡ Some bytes → IsLeft rows (records default_config bytes)
-IsLeft-begins rows reader bytes is turns trims plain headers config state source =
+    → source_of known reader ≡ Some bytes → IsLeft known rows (records default_config bytes)
+IsLeft-begins known rows reader bytes is turns trims plain headers config state source =
     record {
       turns = turns;
       trim = ap reader_trim is ∙ trims;
       ready = inr (inr (ap names_headers is ∙ plain, ap reader_headers is ∙ headers));
       config = ap reader_config is ∙ config;
       bytes = bytes;
-      source = ap (source_of under) is ∙ source;
+      source = ap (source_of known) is ∙ source;
       between = ap (λ r. ends_at_end (reader_state r)) is ∙ ap ends_at_end state;
       most = length bytes + 1;
       room = omega arith;

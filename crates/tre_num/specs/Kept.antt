@@ -1,5 +1,5 @@
 -- What a reader of rows keeps: the bytes that it was fed, in pieces.
-use Rattle.std.specs.Prelude.{◌≡◌, ◌≤◌, ◌<◌, ℕ, Bool, false, List, [], ◌∷◌, ◌++◌, length, drop}
+use Rattle.std.specs.Prelude.{◌≡◌, ◌≤◌, ◌==◌, ℕ, Bool, false, List, [], ◌∷◌, ◌++◌, length, drop}
 
 -- the bytes of pieces, one after the other
 abbrev pub joined : List (List ℕ) → List ℕ
@@ -16,13 +16,13 @@ abbrev pub IsInFirst : ℕ → List (List ℕ) → Type 0
 IsInFirst place [] = place ≡ 0
 IsInFirst place (piece ∷ pieces) = place ≤ length piece
 
--- Some of the first piece was not read.
-abbrev pub HasUnread : ℕ → List (List ℕ) → Type 0
-HasUnread place [] = Unit {0}
-HasUnread place (piece ∷ pieces) = place < length piece
+-- whether the first piece was read to its end
+abbrev pub is_read : ℕ → List (List ℕ) → Bool
+is_read place [] = false
+is_read place (piece ∷ pieces) = length piece == place
 
 -- The reader has kept just these bytes, and more may come.
 pub record HasKept (kept : List ℕ) (fed : ℕ) (is_spent : Bool) (bytes : List ℕ) : Type 0 where
-  pub kept : kept ≡ bytes
+  pub same : kept ≡ bytes
   pub counts : fed ≡ length bytes
   pub goes_on : is_spent ≡ false

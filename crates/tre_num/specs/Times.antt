@@ -1,8 +1,11 @@
 -- What rows say is a trace, and stays when more bytes come.
 use Rattle.std.proofs.Common.{◌≡◌, ℕ, ◌+◌, ◌≤◌, nat_le, nat_lt, ◌==◌, Bool, true, false, List, [], ◌∷◌, ◌++◌, length, Option, None, Some, Result, Ok, Err, IfOk, refl, arith, if◌then◌else◌}
+use Rattle.std.specs.Prelude.{option_and_then}
 use Rattle.std.proofs.lemmas.Bool.Decides.{nat_tests}
+use Rattle.csv.specs.Records.{field_at}
 use Rattle.csv.specs.Reading.{default_config, records, strip_bom}
 use Rattle.tre_pairs.specs.declared.TheConstants.{TIME_MAX}
+use Rattle.tre_decimal.specs.Decimal.{units_of}
 use Rattle.tre_num.specs.declared.column.Column.{Column}
 use Rattle.tre_num.specs.Rows.{Terms, compared, duration_says, row_says, rows_from, rows_reading, says_on, segment_says, table_says, under_header, units_say, valuation_of}
 use Rattle.tre_trace.specs.Reading.{Grows, Reading}
@@ -54,7 +57,7 @@ module _ (columns : List Column) (width scale : ℕ) where
         (λ segment. FitsAt end segment.len)
     by true = tt
     by false = segment-fits end (duration_says scale end fields) (valuation_of columns fields)
-        (units-fit end _)
+        (units-fit end (option_and_then (units_of scale) (field_at fields 0)))
 
   rows-follow : (number : ℕ) (rows : List (List (List ℕ))) (end : ℕ)
       → Follows end (rows_from columns width scale number rows end).segments

@@ -1,6 +1,6 @@
 // The bytes of a table, as they came.
-ghost use Rattle.std.specs.Prelude.{◌≡◌, [], ◌++◌, ◌∷◌, map, OnErr, OnOk, Some};
-ghost use Rattle.tre_num.specs.Kept.{HasUnread, IsInFirst, left_of};
+ghost use Rattle.std.specs.Prelude.{◌≡◌, [], ◌++◌, ◌∷◌, false, map, OnErr, OnOk, Some};
+ghost use Rattle.tre_num.specs.Kept.{IsInFirst, is_read, left_of};
 
 use std::alloc::{AllocError, Global};
 use std::collections::VecDeque;
@@ -64,11 +64,7 @@ impl Read for KeptBytes {
 }
 
 // Puts a copy of the piece behind the others.
-fn push_copy(
-    pieces: &mut VecDeque<Vec<u8>>,
-    alloc: Global,
-    piece: &[u8],
-) -> Result<(), AllocError>
+fn push_copy(pieces: &mut VecDeque<Vec<u8>>, alloc: Global, piece: &[u8]) -> Result<(), AllocError>
     ensures pushed { OnOk result (map (λ piece. piece.items) pieces.new.items
         ≡ map (λ piece. piece.items) pieces.old.items ++ piece.now ∷ []) }
     ensures same { OnErr result (pieces.new.items ≡ pieces.old.items) }
@@ -83,7 +79,7 @@ fn free_front(pieces: &mut VecDeque<Vec<u8>>, place: &mut usize)
     ensures within { IsInFirst place.new (map (λ piece. piece.items) pieces.new.items) }
     ensures left { left_of place.new (map (λ piece. piece.items) pieces.new.items)
         ≡ left_of place.old (map (λ piece. piece.items) pieces.old.items) }
-    ensures unread { HasUnread place.new (map (λ piece. piece.items) pieces.new.items) }
+    ensures unread { is_read place.new (map (λ piece. piece.items) pieces.new.items) ≡ false }
 {
     while is_read(pieces, *place) {
         pieces.pop_front();
@@ -92,7 +88,9 @@ fn free_front(pieces: &mut VecDeque<Vec<u8>>, place: &mut usize)
 }
 
 // Whether the first piece was read to its end.
-fn is_read(pieces: &VecDeque<Vec<u8>>, place: usize) -> bool {
+fn is_read(pieces: &VecDeque<Vec<u8>>, place: usize) -> bool
+    ensures { result ≡ is_read place (map (λ piece. piece.items) pieces.now.items) }
+{
     match pieces.front() {
         Some(piece) => piece.len() == place,
         None => false,

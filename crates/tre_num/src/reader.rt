@@ -46,7 +46,8 @@ impl ColumnsReader {
         requires { scale ≤ SCALE_MAX }
         ensures fed { ⟦<ColumnsReader as TraceReader>⟧.represents result [] }
         ensures begins { ⟦<ColumnsReader as TraceReader>⟧.fed_of result ≡ 0 }
-        ensures terms { ⟦<ColumnsReader as TraceReader>⟧.terms result ≡ terms_of definitions.items names events scale }
+        ensures terms { ⟦<ColumnsReader as TraceReader>⟧.terms result
+            ≡ terms_of definitions.items names events scale }
     {
         let table = Table::new(definitions, names, events, scale);
         ColumnsReader {

@@ -33,7 +33,7 @@ pub(crate) struct Table {
 impl Model for Table {
     ghost use Rattle.std.specs.Prelude.{◌≤◌};
     ghost use Rattle.tre_decimal.specs.declared.TheConstants.{SCALE_MAX};
-    ghost use Rattle.tre_num.specs.Rows.{Terms};
+    ghost use Rattle.tre_num.specs.Rows.{Terms, terms_of};
 
     ghost Value = { Terms };
 
@@ -43,12 +43,7 @@ impl Model for Table {
 }
 
 impl Table {
-    pub(crate) fn new(
-        definitions: Vec<Definition>,
-        names: Names,
-        events: Names,
-        scale: u8,
-    ) -> Table
+    pub(crate) fn new(definitions: Vec<Definition>, names: Names, events: Names, scale: u8) -> Table
         requires { scale ≤ SCALE_MAX }
         ensures { result ≡ terms_of definitions.items names events scale }
     {
@@ -132,12 +127,12 @@ fn read_behind<R: Read + Drop>(
 ) -> Result<(), TraceFault>
     requires few { length columns.now ≤ NAMES_MAX }
     requires scale { scale ≤ SCALE_MAX }
-    ensures whole { (left : List (List (List ℕ))) → IsLeft R.remaining rows.entry left →
+    ensures whole { (left : List (List (List ℕ))) → IsLeft R.remaining rows left →
         OnOk result ((rows_from columns.now width scale 2 left 0).fault ≡ None) }
-    ensures adds { (left : List (List (List ℕ))) → IsLeft R.remaining rows.entry left →
+    ensures adds { (left : List (List (List ℕ))) → IsLeft R.remaining rows left →
         OnOk result (Adds segments.old.items segments.new.items nothing
         (rows_from columns.now width scale 2 left 0)) }
-    ensures refused { (left : List (List (List ℕ))) → IsLeft R.remaining rows.entry left →
+    ensures refused { (left : List (List (List ℕ))) → IsLeft R.remaining rows left →
         IfErr result (IsRefused segments.old.items segments.new.items nothing
         (rows_from columns.now width scale 2 left 0)) }
     ensures placed { IfErr result IsPlaced }

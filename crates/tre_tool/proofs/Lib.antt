@@ -1,6 +1,9 @@
 pub mod Alone
+pub mod Canonical
 pub mod Cuts
+pub mod Differences
 pub mod Feeding
+pub mod Found
 pub mod Inputs
 pub mod Lists
 pub mod MadeRuns
@@ -11,7 +14,9 @@ pub mod Pieces
 pub mod Promise
 pub mod Readings
 pub mod Stops
+pub mod Strips
 pub mod Tellings
 pub mod Told
 pub mod Transcripts
 pub mod Turns
+pub mod Wanted

@@ -1,82 +1,21 @@
 -- What words of a made run give, and how such a run ends.
-use Rattle.std.proofs.Common.{◌≡◌, ◌∙◌, ℕ, ◌≤◌, Bool, true, false, ◌&&◌, List, [], ◌∷◌, All, Option, Some, None, if◌then◌else◌, codes, ap, refl, sym, subst, ⊎_elim, arith}
-use Rattle.std.specs.Prelude.{option_map, nat_lt, nat_le}
-use Rattle.std.specs.Str.Parse.{digits_value}
-use Rattle.std.proofs.lemmas.Bool.Decides.{nat_tests}
-use Rattle.clap.specs.Words.{matches_of}
+use Rattle.std.proofs.Common.{◌≡◌, ◌∙◌, ℕ, Bool, true, List, [], All, Some, ap, sym, subst, ⊎_elim, arith}
+use Rattle.std.specs.Prelude.{option_map}
 use Rattle.tre_generate.specs.FixedPattern.{fixed_tree, fixed_vocabulary}
 use Rattle.tre_generate.specs.Summary.{IsSummary}
-use Rattle.tre_generate.specs.declared.made_run.TheConstants.{SEGMENTS_MAX}
 use Rattle.tre_tool.specs.Devices.{InputTold, OutputTold}
-use Rattle.tre_decimal.specs.Decimal.{is_numeral}
-use Rattle.tre_words.specs.Job.{GivesWhere, GivesJob, HaveNoFaultWhere, HaveNoFault, command_line, is_made_run, made_count, made_job, mode_for, number_written, is_given, IsCount}
+use Rattle.tre_words.specs.Job.{GivesWhere, GivesJob, HaveNoFaultWhere, HaveNoFault, made_job}
 use Rattle.tre_tool.specs.Request.{Request, alone, ArePatterns, IsRefusalIn, AsksFor, IsRefused}
 use Rattle.tre_tool.specs.Run.{ReadsInput, at_once, way_of, IsAnswerIn, StandsSoFar, IsCut, AsksForMadeRun, EndsAs, EndsMadeRun}
 use Rattle.tre_tool.specs.Standing.{FirstBlocksStand}
 use Rattle.tre_words.specs.declared.job.Job.{Job}
 use Rattle.tre_words.specs.declared.job.Mode.{Mode}
-use Rattle.tre_words.specs.declared.job.Mode.TheVariants.{Generate}
+use Rattle.tre_words.specs.declared.job.Mode.TheVariants.{Offline, Generate}
 use Rattle.tre_tool.specs.declared.status.Status.{Status}
-use Rattle.tre_tool.specs.declared.status.Status.TheVariants.{Done, Usage, Expression, Trace, InputTooLong, ReadFault, WriteFault, Memory}
+use Rattle.tre_tool.specs.declared.status.Status.TheVariants.{Done, Usage, Expression, Minus, Definitions, Trace, InputTooLong, TooManyZones, ReadFault, WriteFault, Memory}
 
 one_value : {X : Type 0} {x y : X} → Some x ≡ Some y → x ≡ y
 one_value e = cc
-
-chosen : (test : Bool) (value number : ℕ) → (if test then Some value else None) ≡ Some number
-    → (test ≡ true) × (value ≡ number)
-chosen true value number e = (refl, one_value e)
-chosen false value number e = cc
-
-within : (digits : Bool) (value most : ℕ)
-    → (digits && (nat_lt 0 value && nat_le value most)) ≡ true → (1 ≤ value) × (value ≤ most)
-within true value most e = grind (arith, nat_tests)
-within false value most e = cc
-
--- a number that is written is one of those that may be
-pub number_within : (most : ℕ) (text : List ℕ) (number : ℕ) → number_written most text ≡ Some number
-    → (1 ≤ number) × (number ≤ most)
-number_within most text number e =
-    let both = chosen (is_numeral text
-    && (nat_lt 0 (digits_value 10 text) && nat_le (digits_value 10 text) most))
-    (digits_value 10 text) number e in
-    let inside = within (is_numeral text) (digits_value 10 text) most both.0 in
-    subst (λ (n : ℕ). (1 ≤ n) × (n ≤ most)) both.1 inside
-
-never_by_flags : (show online : Bool) (count : ℕ) → mode_for show online ≡ Generate count → ⊥
-never_by_flags true online count e = cc
-never_by_flags false true count e = cc
-never_by_flags false false count e = cc
-
-written_count : (written : Option ℕ) (job : Job) (count : ℕ) → option_map made_job written
-    ≡ Some job
-    → job.mode ≡ Generate count → written ≡ Some count
-written_count (Some number) job count e mode =
-    let same : made_job number ≡ job = one_value e in
-    let modes : Generate number ≡ Generate count = ap (λ (j : Job). j.mode) same ∙ mode in
-    cc
-written_count None job count e mode = cc
-
-of_two : (words : List (List ℕ)) (count : ℕ) → made_count words ≡ Some count → IsCount count
-of_two (first ∷ number ∷ []) count e =
-    let both = number_within SEGMENTS_MAX number count e in
-    record { some = both.0; few = both.1 }
-of_two (first ∷ second ∷ third ∷ words) count e = cc
-of_two (first ∷ []) count e = cc
-of_two [] count e = cc
-
-count_where : (made : Bool) (words : List (List ℕ)) (job : Job) (count : ℕ)
-    → GivesWhere made words job → job.mode ≡ Generate count → IsCount count
-count_where true words job count gives mode =
-    of_two words count (written_count (made_count words) job count gives mode)
-count_where false words job count gives mode =
-    absurd (never_by_flags (is_given (codes "show") (matches_of command_line words))
-    (is_given (codes "online") (matches_of command_line words)) count (gives.mode ∙ mode))
-
--- a made run has as many segments as it may have
-pub IsCount-given : (words : List (List ℕ)) (job : Job) (count : ℕ) → GivesJob words job
-    → job.mode ≡ Generate count → IsCount count
-IsCount-given words job count gives mode =
-    count_where (is_made_run words) words job count gives.gives mode
 
 module _ (words : List (List ℕ)) (count : ℕ) (asks : AsksForMadeRun words count) where
   job_given : (job : Job) → GivesJob words job → job ≡ made_job count
@@ -137,6 +76,13 @@ module _ (words : List (List ℕ)) (count : ℕ) (asks : AsksForMadeRun words co
   EndsMadeRun-ends input output Usage ends = ends.no_job (made_job count) gives_one
   EndsMadeRun-ends input output (Expression fault) ends =
       never_refused (Expression fault) ends.refused
+  EndsMadeRun-ends input output (Minus fault) ends = never_refused (Minus fault) ends.refused
+  EndsMadeRun-ends input output (Definitions fault) ends =
+      never_refused (Definitions fault) ends.refused
+  EndsMadeRun-ends input output (TooManyZones zones) ends =
+      let modes : Generate count ≡ Offline =
+      sym (mode_given ends.request.job ends.asks.gives) ∙ ends.is_so.offline in
+      cc
   EndsMadeRun-ends input output (Trace fault) ends =
       reads_nothing ends.1.request ends.1.asks ends.1.is_so.reads_input
   EndsMadeRun-ends input output InputTooLong ends =

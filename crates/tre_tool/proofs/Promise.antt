@@ -4,77 +4,47 @@ use Rattle.std.specs.Io.KnownBytes.{Appends}
 use Rattle.tre_io.specs.Faults.{counted, Rises, HasCause}
 use Rattle.tre_io.specs.Written.{AppendsPart}
 use Rattle.tre_io.specs.declared.faults.Failed.{Failed}
+use Rattle.tre_num.specs.Defined.{Defined}
+use Rattle.tre_num.specs.Definitions.{Define, parts_of, IsRefused as IsRefusedAt}
+use Rattle.tre_num.specs.declared.let_fault.LetFault.{LetFault}
+use Rattle.tre_num.proofs.OneReading.{same-definitions, refused-or, one-fault}
 use Rattle.tre_parse.specs.Outcome.{IsOutcome, spelt, refused}
 use Rattle.tre_parse.specs.declared.fault.ParseFault.{ParseFault}
-use Rattle.tre_parse.specs.declared.fault.ParseFault.TheVariants.{TooLong, BadByte, Number, TooDeep, Syntax, EmptyInterval, TooManyNames, TooLarge, Memory as ParseMemory}
+use Rattle.tre_parse.specs.declared.fault.ParseFault.TheVariants.{Memory as ParseMemory}
 use Rattle.tre_parse.proofs.Outcomes.{outcome_once}
 use Rattle.tre_syntax.specs.PatternTree.{PatternTree}
+use Rattle.tre_syntax.specs.declared.pattern.Pattern.{Pattern}
 use Rattle.tre_trace.specs.Reading.{Vocabulary}
 use Rattle.tre_trace.specs.Trace.{Timeline, quiet}
-use Rattle.tre_tool.specs.Answer.{EndsOver, StopsAs, IsFoundFor, request_for}
+use Rattle.tre_tool.specs.Answer.{EndsOver, StopsAs, IsFoundFor, patterns_with, request_for}
 use Rattle.tre_tool.specs.Devices.{InputTold, OutputTold, NothingWritten, NothingDone, AllWritesGood}
-use Rattle.tre_words.specs.Job.{GivesWhere, GivesJob, is_made_run}
+use Rattle.tre_words.specs.Job.{GivesJob}
+use Rattle.tre_words.proofs.Jobs.{job_unique}
 use Rattle.tre_tool.specs.Outcome.{Outcome, completes, refuses, exceeds}
 use Rattle.tre_tool.specs.Readings.{AreTraces, common, reading_for, outcome_for}
-use Rattle.tre_tool.specs.Request.{Sought, Request, Spell, ArePatterns, IsRefusedText, IsRefusalOf, IsRefusalIn, AsksFor, Asks, IsRefused, GiveNone, AsksForNothing}
-use Rattle.tre_tool.specs.Run.{ReadsInput, IsAnswerIn, EndsAs, EndsDone, EndsAtInput, EndsReadFault, EndsWriteFault, IsStatusFor, IsUnlessMemory, IsComplete, IsLineTold}
-use Rattle.tre_tool.specs.Status.{words_status, parse_status}
-use Rattle.tre_words.specs.declared.job.Format.{Format}
+use Rattle.tre_tool.specs.Request.{Sought, Request, Spell, texts_with, ArePatterns, AreDefinedBy, AreDefinitions, IsRefusedText, IsRefusedMinus, AreRefusedDefinitions, IsRefusalOf, IsRefusalIn, AsksFor, Asks, IsRefused, GiveNone, AsksForNothing}
+use Rattle.tre_tool.specs.Run.{ReadsInput, IsAnswerIn, EndsAs, EndsDone, EndsAtInput, EndsTooMany, EndsReadFault, EndsWriteFault, IsStatusFor, IsUnlessMemory, IsComplete, IsLineTold}
+use Rattle.tre_tool.specs.Status.{words_status}
 use Rattle.tre_words.specs.declared.job.Job.{Job}
 use Rattle.tre_words.specs.declared.job.Mode.{Mode}
 use Rattle.tre_words.specs.declared.job.Mode.TheVariants.{Offline, Online, Show, Generate}
 use Rattle.tre_words.specs.declared.job.WordsFault.{WordsFault}
 use Rattle.tre_words.specs.declared.job.WordsFault.TheVariants.{Usage as WordsUsage, Memory as WordsMemory}
 use Rattle.tre_tool.specs.declared.status.Status.{Status}
-use Rattle.tre_tool.specs.declared.status.Status.TheVariants.{Done, Usage, Expression, Trace, InputTooLong, ReadFault, WriteFault, Memory}
+use Rattle.tre_tool.specs.declared.status.Status.TheVariants.{Done, Usage, Expression, Minus, Definitions, Trace, InputTooLong, TooManyZones, ReadFault, WriteFault, Memory}
 use Rattle.tre_tool.proofs.Outcomes.{outcome_of-completes}
 use Rattle.tre_tool.proofs.Stops.{cut_in}
-
-one_value : {X : Type 0} {x y : X} → Some x ≡ Some y → x ≡ y
-one_value e = cc
-
-job_of : Mode → Format → List ℕ → ℕ → List ℕ → Job
-job_of mode format input max_bytes expr = record {
-  mode = mode;
-  format = format;
-  input = input;
-  max_bytes = max_bytes;
-  expr = expr;
-}
-
--- words give one job
-given_once : (made : Bool) (words : List (List ℕ)) (job other : Job) → GivesWhere made words job
-    → GivesWhere made words other → job ≡ other
-unfolding job_of
-given_once true words job other gives gives' = one_value (sym gives ∙ gives')
-given_once false words job other gives gives' =
-    let mode : job.mode ≡ other.mode = sym gives.mode ∙ gives'.mode in
-    let format : job.format ≡ other.format = one_value (sym gives.format ∙ gives'.format) in
-    let input : job.input ≡ other.input = one_value (sym gives.input ∙ gives'.input) in
-    let max_bytes : job.max_bytes ≡ other.max_bytes = one_value (sym gives.max_bytes
-    ∙ gives'.max_bytes) in
-    let expr : job.expr ≡ other.expr = one_value (sym gives.expr ∙ gives'.expr) in
-    ap (λ m. job_of m job.format job.input job.max_bytes job.expr) mode
-    ∙ (ap (λ f. job_of other.mode f job.input job.max_bytes job.expr) format
-    ∙ (ap (λ i. job_of other.mode other.format i job.max_bytes job.expr) input
-    ∙ (ap (λ n. job_of other.mode other.format other.input n job.expr) max_bytes
-    ∙ ap (λ e. job_of other.mode other.format other.input other.max_bytes e) expr)))
-
-pub job_unique : (words : List (List ℕ)) (job other : Job) → GivesJob words job
-    → GivesJob words other → job ≡ other
-job_unique words job other gives gives' =
-    given_once (is_made_run words) words job other gives.gives gives'.gives
 
 -- a text spells one pattern
 sought_of : List ℕ → PatternTree → Vocabulary → Sought
 sought_of label tree names = record { label = label; tree = tree; names = names }
 
-spelt_once : (text : List ℕ) (one other : Sought) → one.label ≡ [] → other.label ≡ []
-    → IsOutcome text (spelt one.tree one.names) → IsOutcome text (spelt other.tree other.names)
-    → one ≡ other
+spelt_once : (scale : ℕ) (text : List ℕ) (one other : Sought) → one.label ≡ [] → other.label ≡ []
+    → IsOutcome scale text (spelt one.tree one.names)
+    → IsOutcome scale text (spelt other.tree other.names) → one ≡ other
 unfolding sought_of
-spelt_once text one other none none' is is' =
-    let same = outcome_once text (spelt one.tree one.names) (spelt other.tree other.names) is is' in
+spelt_once scale text one other none none' is is' =
+    let same = outcome_once scale text (spelt one.tree one.names) (spelt other.tree other.names) is is' in
     let same_tree : one.tree ≡ other.tree = cc in
     let same_names : one.names ≡ other.names = cc in
     ap (λ l. sought_of l one.tree one.names) (none ∙ sym none')
@@ -82,116 +52,227 @@ spelt_once text one other none none' is is' =
     ∙ ap (λ n. sought_of other.label other.tree n) same_names)
 
 -- texts spell one list of patterns
-spell_once : (texts : List (List ℕ)) (some others : List Sought) → Spell texts some
-    → Spell texts others → some ≡ others
-spell_once [] [] [] so so' = refl
-spell_once (text ∷ texts) (one ∷ some) (other ∷ others) so so' =
-    let first : one ≡ other = spelt_once text one other so.0 so'.0 so.1 so'.1 in
-    let rest : some ≡ others = spell_once texts some others so.2 so'.2 in
+spell_once : (scale : ℕ) (texts : List (List ℕ)) (some others : List Sought)
+    → Spell scale texts some → Spell scale texts others → some ≡ others
+spell_once scale [] [] [] so so' = refl
+spell_once scale (text ∷ texts) (one ∷ some) (other ∷ others) so so' =
+    let first : one ≡ other = spelt_once scale text one other so.0 so'.0 so.1 so'.1 in
+    let rest : some ≡ others = spell_once scale texts some others so.2 so'.2 in
     cc
-spell_once [] (one ∷ some) others so so' = absurd so
-spell_once [] [] (other ∷ others) so so' = absurd so'
-spell_once (text ∷ texts) [] others so so' = absurd so
-spell_once (text ∷ texts) (one ∷ some) [] so so' = absurd so'
+spell_once scale [] (one ∷ some) others so so' = absurd so
+spell_once scale [] [] (other ∷ others) so so' = absurd so'
+spell_once scale (text ∷ texts) [] others so so' = absurd so
+spell_once scale (text ∷ texts) (one ∷ some) [] so so' = absurd so'
 
 patterns_once : (mode : Mode) (job : Job) (some others : List Sought) → ArePatterns mode job some
     → ArePatterns mode job others → some ≡ others
-patterns_once Offline job some others so so' = spell_once (job.expr ∷ []) some others so so'
-patterns_once Online job some others so so' = spell_once (job.expr ∷ []) some others so so'
-patterns_once Show job some others so so' = spell_once (job.expr ∷ []) some others so so'
+patterns_once Offline job some others so so' =
+    spell_once job.scale (texts_with job.expr job.minus) some others so so'
+patterns_once Online job some others so so' =
+    spell_once job.scale (texts_with job.expr job.minus) some others so so'
+patterns_once Show job some others so so' =
+    spell_once job.scale (texts_with job.expr job.minus) some others so so'
 patterns_once (Generate count) job some others so so' = so ∙ sym so'
 
--- of a run that isn't a made one, the text decides
-pub ArePatterns-text : (mode : Mode) (job : Job) (tree : PatternTree) (names : Vocabulary)
-    → ((count : ℕ) → mode ≡ Generate count → ⊥) → IsOutcome job.expr (spelt tree names)
-    → ArePatterns mode job (request_for job tree names).patterns
-ArePatterns-text Offline job tree names other is = (refl, is, tt)
-ArePatterns-text Online job tree names other is = (refl, is, tt)
-ArePatterns-text Show job tree names other is = (refl, is, tt)
-ArePatterns-text (Generate count) job tree names other is = absurd (other count refl)
+-- a text is one list of definitions
+defined_once : (text : Option (List ℕ)) (some others : List Defined) → AreDefinedBy text some
+    → AreDefinedBy text others → some ≡ others
+defined_once None some others so so' = so ∙ sym so'
+defined_once (Some text) some others so so' =
+    same-definitions (parts_of text) some others so.spelt so'.spelt
 
-pub IsRefusalIn-text : (mode : Mode) (job : Job) (read : List ℕ) (fault : ParseFault)
-    → ((count : ℕ) → mode ≡ Generate count → ⊥) → read ≡ job.expr
-    → (fault ≡ ParseMemory) ⊎ IsOutcome read (refused fault) → fault ≢ ParseMemory
-    → IsRefusalIn mode job (Expression fault)
-IsRefusalIn-text mode job read fault other same either never =
-    refusal_in mode job (Expression fault) other (record {
-      refuses = subst (λ t. IsOutcome t (refused fault)) same
-          (⊎_elim (λ memory. absurd (never memory)) (λ told. told) either);
-      never_memory = never;
-    })
-  where
-    refusal_in : (mode : Mode) (job : Job) (refusal : Status)
-        → ((count : ℕ) → mode ≡ Generate count → ⊥) → IsRefusalOf job refusal
-        → IsRefusalIn mode job refusal
-    refusal_in Offline job refusal other is = is
-    refusal_in Online job refusal other is = is
-    refusal_in Show job refusal other is = is
-    refusal_in (Generate count) job refusal other is = absurd (other count refl)
+definitions_once : (mode : Mode) (job : Job) (some others : List Defined)
+    → AreDefinitions mode job some → AreDefinitions mode job others → some ≡ others
+definitions_once Offline job some others so so' = defined_once job.lets some others so so'
+definitions_once Online job some others so so' = so ∙ sym so'
+definitions_once Show job some others so so' = so ∙ sym so'
+definitions_once (Generate count) job some others so so' = so ∙ sym so'
 
--- A refusal, and that it is one of the text.
-record IsOfText (mode : Mode) (job : Job) (refusal : Status) : Type 0 where
-  pub fault : ParseFault
-  pub is : refusal ≡ Expression fault
-  pub text : IsRefusedText job.expr fault
-  pub never_made : (count : ℕ) → mode ≡ Generate count → ⊥
+-- ---- refusals
 
-of_text : (mode : Mode) (job : Job) (refusal : Status)
+-- a job that isn't that of a made run has the patterns of its texts, and is refused as they are
+pub ArePatterns-texts : (mode : Mode) (job : Job) (patterns : List Sought)
+    → ((count : ℕ) → mode ≡ Generate count → ⊥)
+    → Spell job.scale (texts_with job.expr job.minus) patterns → ArePatterns mode job patterns
+ArePatterns-texts Offline job patterns other is = is
+ArePatterns-texts Online job patterns other is = is
+ArePatterns-texts Show job patterns other is = is
+ArePatterns-texts (Generate count) job patterns other is = absurd (other count refl)
+
+pub IsRefusalIn-texts : (mode : Mode) (job : Job) (refusal : Status)
     → ((count : ℕ) → mode ≡ Generate count → ⊥) → IsRefusalOf job refusal
-    → IsOfText mode job refusal
-of_text mode job (Expression fault) other is = record {
-  fault = fault;
-  is = refl;
-  text = is;
-  never_made = other;
-}
-of_text mode job Done other is = absurd is
-of_text mode job Usage other is = absurd is
-of_text mode job (Trace fault) other is = absurd is
-of_text mode job InputTooLong other is = absurd is
-of_text mode job ReadFault other is = absurd is
-of_text mode job WriteFault other is = absurd is
-of_text mode job Memory other is = absurd is
+    → IsRefusalIn mode job refusal
+IsRefusalIn-texts Offline job refusal other is = is
+IsRefusalIn-texts Online job refusal other is = is
+IsRefusalIn-texts Show job refusal other is = is
+IsRefusalIn-texts (Generate count) job refusal other is = absurd (other count refl)
 
-refused_in : (mode : Mode) (job : Job) (refusal : Status) → IsRefusalIn mode job refusal
-    → IsOfText mode job refusal
-refused_in Offline job refusal is = of_text Offline job refusal (λ count e. cc) is
-refused_in Online job refusal is = of_text Online job refusal (λ count e. cc) is
-refused_in Show job refusal is = of_text Show job refusal (λ count e. cc) is
-refused_in (Generate count) job refusal is = absurd is
+-- the text of a refusal, from what `parse` answers
+pub IsRefusedText-of : (scale : ℕ) (text read : List ℕ) (fault : ParseFault) → read ≡ text
+    → (fault ≡ ParseMemory) ⊎ IsOutcome scale read (refused fault) → fault ≢ ParseMemory
+    → IsRefusedText scale text fault
+IsRefusedText-of scale text read fault same either never = record {
+  refuses = subst (λ t. IsOutcome scale t (refused fault)) same
+      (⊎_elim (λ memory. absurd (never memory)) (λ told. told) either);
+  never_memory = never;
+}
 
 -- a text that spells a pattern isn't refused
-text_or_refused : (text : List ℕ) (fault : ParseFault) (patterns : List Sought)
-    → IsRefusedText text fault → Spell (text ∷ []) patterns → ⊥
-text_or_refused text fault (pattern ∷ patterns) told so =
-    let wrong = outcome_once text (refused fault) (spelt pattern.tree pattern.names) told.refuses
-    so.1 in
+text_or_refused : (scale : ℕ) (text : List ℕ) (fault : ParseFault) (pattern : Sought)
+    → IsRefusedText scale text fault → IsOutcome scale text (spelt pattern.tree pattern.names) → ⊥
+text_or_refused scale text fault pattern told so =
+    let wrong = outcome_once scale text (refused fault) (spelt pattern.tree pattern.names)
+    told.refuses so in
     cc
-text_or_refused text fault [] told so = absurd so
+
+-- the first of the texts spells a pattern, where all do
+first_or_refused : (scale : ℕ) (text : List ℕ) (fault : ParseFault) (texts : List (List ℕ))
+    (patterns : List Sought) → IsRefusedText scale text fault
+    → Spell scale (text ∷ texts) patterns → ⊥
+first_or_refused scale text fault texts (pattern ∷ patterns) told so =
+    text_or_refused scale text fault pattern told so.1
+first_or_refused scale text fault texts [] told so = absurd so
+
+-- and so does the second
+second_or_refused : (scale : ℕ) (first text : List ℕ) (fault : ParseFault)
+    (patterns : List Sought) → IsRefusedText scale text fault
+    → Spell scale (first ∷ text ∷ []) patterns → ⊥
+second_or_refused scale first text fault (pattern ∷ other ∷ patterns) told so =
+    text_or_refused scale text fault other told so.2.1
+second_or_refused scale first text fault (pattern ∷ []) told so = absurd so.2
+second_or_refused scale first text fault [] told so = absurd so
+
+all_or_first : (scale : ℕ) (text : List ℕ) (taken : Option (List ℕ)) (fault : ParseFault)
+    (patterns : List Sought) → IsRefusedText scale text fault
+    → Spell scale (texts_with text taken) patterns → ⊥
+all_or_first scale text None fault patterns told so =
+    first_or_refused scale text fault [] patterns told so
+all_or_first scale text (Some taken) fault patterns told so =
+    first_or_refused scale text fault (taken ∷ []) patterns told so
+
+all_or_second : (job : Job) (fault : ParseFault) (patterns : List Sought)
+    → IsRefusedMinus job fault
+    → Spell job.scale (texts_with job.expr job.minus) patterns → ⊥
+all_or_second job fault patterns told so =
+    second_or_refused job.scale job.expr told.text fault patterns told.refuses
+    (subst (λ taken. Spell job.scale (texts_with job.expr taken) patterns) told.given so)
+
+-- definitions that are refused are none
+defined_or_refused : (job : Job) (fault : LetFault) (lets : List Defined)
+    → AreRefusedDefinitions job fault → AreDefinedBy job.lets lets → ⊥
+defined_or_refused job fault lets told so =
+    let defined : Define (parts_of told.text) lets =
+    subst (λ text. AreDefinedBy text lets) told.given so in
+    refused-or (parts_of told.text) lets fault defined told.refuses
+
+-- what a job gives isn't both refused and there
+of_texts_or_refused : (job : Job) (refusal : Status) (patterns : List Sought)
+    (lets : List Defined) → IsRefusalOf job refusal
+    → Spell job.scale (texts_with job.expr job.minus) patterns
+    → AreDefinitions job.mode job lets → ⊥
+of_texts_or_refused job (Expression fault) patterns lets is so defined =
+    all_or_first job.scale job.expr job.minus fault patterns is so
+of_texts_or_refused job (Minus fault) patterns lets is so defined =
+    all_or_second job fault patterns is so
+of_texts_or_refused job (Definitions fault) patterns lets is so defined =
+    defined_or_refused job fault lets is
+    (subst (λ mode. AreDefinitions mode job lets) is.offline defined)
+of_texts_or_refused job Done patterns lets is so defined = absurd is
+of_texts_or_refused job Usage patterns lets is so defined = absurd is
+of_texts_or_refused job (Trace fault) patterns lets is so defined = absurd is
+of_texts_or_refused job InputTooLong patterns lets is so defined = absurd is
+of_texts_or_refused job (TooManyZones zones) patterns lets is so defined = absurd is
+of_texts_or_refused job ReadFault patterns lets is so defined = absurd is
+of_texts_or_refused job WriteFault patterns lets is so defined = absurd is
+of_texts_or_refused job Memory patterns lets is so defined = absurd is
 
 patterns_or_refused : (mode : Mode) (job : Job) (refusal : Status) (patterns : List Sought)
-    → IsRefusalIn mode job refusal → ArePatterns mode job patterns → ⊥
-patterns_or_refused Offline job refusal patterns is so =
-    let told = refused_in Offline job refusal is in
-    text_or_refused job.expr told.fault patterns told.text so
-patterns_or_refused Online job refusal patterns is so =
-    let told = refused_in Online job refusal is in
-    text_or_refused job.expr told.fault patterns told.text so
-patterns_or_refused Show job refusal patterns is so =
-    let told = refused_in Show job refusal is in
-    text_or_refused job.expr told.fault patterns told.text so
-patterns_or_refused (Generate count) job refusal patterns is so = absurd is
+    (lets : List Defined) → IsRefusalIn mode job refusal → ArePatterns mode job patterns
+    → AreDefinitions job.mode job lets → ⊥
+patterns_or_refused Offline job refusal patterns lets is so defined =
+    of_texts_or_refused job refusal patterns lets is so defined
+patterns_or_refused Online job refusal patterns lets is so defined =
+    of_texts_or_refused job refusal patterns lets is so defined
+patterns_or_refused Show job refusal patterns lets is so defined =
+    of_texts_or_refused job refusal patterns lets is so defined
+patterns_or_refused (Generate count) job refusal patterns lets is so defined = absurd is
+
+-- a text is refused in one way
+fault_once : (scale : ℕ) (text : List ℕ) (one other : ParseFault) → IsRefusedText scale text one
+    → IsRefusedText scale text other → one ≡ other
+fault_once scale text one other told told' =
+    let same = outcome_once scale text (refused one) (refused other) told.refuses told'.refuses in
+    cc
+
+given_once : {X : Type 0} {x y : X} (o : Option X) → o ≡ Some x → o ≡ Some y → x ≡ y
+given_once o e f = cc
+
+minus_once : (job : Job) (one other : ParseFault) → IsRefusedMinus job one
+    → IsRefusedMinus job other → one ≡ other
+minus_once job one other told told' =
+    fault_once job.scale told'.text one other
+    (subst (λ text. IsRefusedText job.scale text one)
+    (given_once job.minus told.given told'.given) told.refuses) told'.refuses
+
+lets_once : (job : Job) (one other : LetFault) → AreRefusedDefinitions job one
+    → AreRefusedDefinitions job other → one ≡ other
+lets_once job one other told told' =
+    one-fault (parts_of told'.text) one other
+    (subst (λ text. IsRefusedAt (parts_of text) one)
+    (given_once job.lets told.given told'.given) told.refuses) told'.refuses
+
+-- What a refusal is of.
+data Refuses (job : Job) (refusal : Status) : Type 0 where
+  of_expression : (fault : ParseFault) → refusal ≡ Expression fault
+      → IsRefusedText job.scale job.expr fault → Refuses job refusal
+  of_minus : (fault : ParseFault) → refusal ≡ Minus fault → IsRefusedMinus job fault
+      → Refuses job refusal
+  of_definitions : (fault : LetFault) → refusal ≡ Definitions fault
+      → AreRefusedDefinitions job fault → Refuses job refusal
+
+refuses_of : (job : Job) (refusal : Status) → IsRefusalOf job refusal → Refuses job refusal
+refuses_of job (Expression fault) is = of_expression fault refl is
+refuses_of job (Minus fault) is = of_minus fault refl is
+refuses_of job (Definitions fault) is = of_definitions fault refl is
+refuses_of job Done is = absurd is
+refuses_of job Usage is = absurd is
+refuses_of job (Trace fault) is = absurd is
+refuses_of job InputTooLong is = absurd is
+refuses_of job (TooManyZones zones) is = absurd is
+refuses_of job ReadFault is = absurd is
+refuses_of job WriteFault is = absurd is
+refuses_of job Memory is = absurd is
+
+both_refuse : (job : Job) (one other : Status) → Refuses job one → Refuses job other → one ≡ other
+both_refuse job one other (of_expression fault is told) (of_expression fault' is' told') =
+    is ∙ (ap Expression (fault_once job.scale job.expr fault fault' told told') ∙ sym is')
+both_refuse job one other (of_minus fault is told) (of_minus fault' is' told') =
+    is ∙ (ap Minus (minus_once job fault fault' told told') ∙ sym is')
+both_refuse job one other (of_definitions fault is told) (of_definitions fault' is' told') =
+    is ∙ (ap Definitions (lets_once job fault fault' told told') ∙ sym is')
+both_refuse job one other (of_expression fault is told) (of_minus fault' is' told') = absurd
+    (first_or_refused job.scale job.expr fault [] told'.patterns told told'.spelt)
+both_refuse job one other (of_minus fault is told) (of_expression fault' is' told') = absurd
+    (first_or_refused job.scale job.expr fault' [] told.patterns told' told.spelt)
+both_refuse job one other (of_expression fault is told) (of_definitions fault' is' told') = absurd
+    (all_or_first job.scale job.expr job.minus fault told'.patterns told told'.spelt)
+both_refuse job one other (of_definitions fault is told) (of_expression fault' is' told') = absurd
+    (all_or_first job.scale job.expr job.minus fault' told.patterns told' told.spelt)
+both_refuse job one other (of_minus fault is told) (of_definitions fault' is' told') = absurd
+    (all_or_second job fault told'.patterns told told'.spelt)
+both_refuse job one other (of_definitions fault is told) (of_minus fault' is' told') = absurd
+    (all_or_second job fault' told.patterns told' told.spelt)
 
 -- one job is refused in one way
 refusal_once : (mode : Mode) (job : Job) (one other : Status) → IsRefusalIn mode job one
     → IsRefusalIn mode job other → one ≡ other
-refusal_once mode job one other is is' =
-    let told = refused_in mode job one is in
-    let told' = refused_in mode job other is' in
-    let same = outcome_once job.expr (refused told.fault) (refused told'.fault) told.text.refuses
-    told'.text.refuses in
-    let faults : told.fault ≡ told'.fault = cc in
-    told.is ∙ (ap Expression faults ∙ sym told'.is)
+refusal_once Offline job one other is is' =
+    both_refuse job one other (refuses_of job one is) (refuses_of job other is')
+refusal_once Online job one other is is' =
+    both_refuse job one other (refuses_of job one is) (refuses_of job other is')
+refusal_once Show job one other is is' =
+    both_refuse job one other (refuses_of job one is) (refuses_of job other is')
+refusal_once (Generate count) job one other is is' = absurd is
 
 weaker : {X : Type 0} (o : Option X) (P Q : X → Type 0) → ((x : X) → P x → Q x) → IfSome o P
     → IfSome o Q
@@ -216,10 +297,21 @@ done_completes : (request : Request) (bytes : List ℕ) (traces : List Timeline)
     → AreTraces request bytes traces → IsStatusFor (outcome_for request bytes) Done
 done_completes request bytes [] are =
     rw (outcome_of-completes (reading_for request) request.job.max_bytes bytes (quiet [])
-    are.within (ap common are.read)) (inl refl)
+    are.within (ap common are.read)) (inl tt)
 done_completes request bytes (trace ∷ traces) are =
     rw (outcome_of-completes (reading_for request) request.job.max_bytes bytes trace
-    are.within (ap common are.read)) (inl refl)
+    are.within (ap common are.read)) (inl tt)
+
+-- and so they do where there are too many zones
+many_completes : (request : Request) (bytes : List ℕ) (zones : ℕ) (traces : List Timeline)
+    → AreTraces request bytes traces
+    → IsStatusFor (outcome_for request bytes) (TooManyZones zones)
+many_completes request bytes zones [] are =
+    rw (outcome_of-completes (reading_for request) request.job.max_bytes bytes (quiet [])
+    are.within (ap common are.read)) (inl tt)
+many_completes request bytes zones (trace ∷ traces) are =
+    rw (outcome_of-completes (reading_for request) request.job.max_bytes bytes trace
+    are.within (ap common are.read)) (inl tt)
 
 -- a run that is done, in each mode that reads its input
 done_in : (mode : Mode) (request : Request) (input : InputTold) (text : List ℕ)
@@ -227,7 +319,7 @@ done_in : (mode : Mode) (request : Request) (input : InputTold) (text : List ℕ
     → IfSome input.file (λ bytes. IsStatusFor (outcome_for request bytes) Done)
 done_in Offline request input text right reads =
     weaker input.file _ _ (λ told is. rw is (done_completes request right.bytes
-    right.is_so.traces right.is_so.are)) right.all.whole
+    right.is_so.right.traces right.is_so.right.are)) right.all.whole
 done_in Online request input text right reads =
     weaker input.file _ _ (λ told is. rw is (done_completes request right.bytes
     right.is_so.traces right.is_so.are)) right.all.whole
@@ -235,8 +327,8 @@ done_in Show request input text right reads = absurd reads
 done_in (Generate count) request input text right reads = absurd reads
 
 -- a request by its parts
-request_of : Job → List Sought → Request
-request_of job patterns = record { job = job; patterns = patterns }
+request_of : Job → List Sought → List Defined → Request
+request_of job patterns lets = record { job = job; patterns = patterns; lets = lets }
 
 module _ (Gives : Job → Type 0)
     (once : (job other : Job) → Gives job → Gives other → job ≡ other) where
@@ -250,7 +342,13 @@ module _ (Gives : Job → Type 0)
       asks.patterns in
       let same = patterns_once other.job.mode other.job one.patterns other.patterns patterns
       asks'.patterns in
-      ap (λ j. request_of j one.patterns) same_job ∙ ap (λ p. request_of other.job p) same
+      let definitions = subst (λ (j : Job). AreDefinitions j.mode j one.lets) same_job
+      asks.definitions in
+      let same_lets = definitions_once other.job.mode other.job one.lets other.lets definitions
+      asks'.definitions in
+      ap (λ j. request_of j one.patterns one.lets) same_job
+      ∙ (ap (λ p. request_of other.job p one.lets) same
+      ∙ ap (λ l. request_of other.job other.patterns l) same_lets)
 
   -- what is so of it
   the_request : (request : Request) (IsSo : Request → Type 0) → AsksFor Gives request
@@ -263,8 +361,9 @@ module _ (Gives : Job → Type 0)
       → IsRefused Gives refusal → ⊥
   asked_or_refused request refusal asks told =
       let same = once told.job request.job told.gives asks.gives in
-      patterns_or_refused request.job.mode request.job refusal request.patterns
+      patterns_or_refused request.job.mode request.job refusal request.patterns request.lets
       (subst (λ (j : Job). IsRefusalIn j.mode j refusal) same told.refuses) asks.patterns
+      asks.definitions
 
   refused_once : (refusal other : Status) → IsRefused Gives refusal → IsRefused Gives other
       → other ≡ refusal
@@ -293,6 +392,14 @@ module _ (Gives : Job → Type 0)
         (ends.no_job request.job asks.gives)
     read_as request (Expression fault) asks ends reads read written = absurd
         (asked_or_refused request (Expression fault) asks ends.refused)
+    read_as request (Minus fault) asks ends reads read written = absurd
+        (asked_or_refused request (Minus fault) asks ends.refused)
+    read_as request (Definitions fault) asks ends reads read written = absurd
+        (asked_or_refused request (Definitions fault) asks ends.refused)
+    read_as request (TooManyZones zones) asks ends reads read written =
+        let many = the_request request (λ r. EndsTooMany zones r input output) asks ends in
+        weaker input.file _ _ (λ told is. rw is (many_completes request many.cause.bytes zones
+        many.cause.is_so.right.traces many.cause.is_so.right.are)) many.cause.all.whole
     read_as request (Trace fault) asks ends reads read written =
         let found = the_request request (λ r. EndsAtInput (refuses fault) r input output) asks
         ends.1 in
@@ -318,6 +425,13 @@ module _ (Gives : Job → Type 0)
         (ends.no_job request.job asks.gives)
     unread_as request (Expression fault) asks ends unread written = absurd
         (asked_or_refused request (Expression fault) asks ends.refused)
+    unread_as request (Minus fault) asks ends unread written = absurd
+        (asked_or_refused request (Minus fault) asks ends.refused)
+    unread_as request (Definitions fault) asks ends unread written = absurd
+        (asked_or_refused request (Definitions fault) asks ends.refused)
+    unread_as request (TooManyZones zones) asks ends unread written =
+        let many = the_request request (λ r. EndsTooMany zones r input output) asks ends in
+        absurd (unread (rw many.offline tt))
     unread_as request (Trace fault) asks ends unread written = absurd
         (unread (the_request request (λ r. EndsAtInput (refuses fault) r input output) asks
         ends.1).reads_input)
@@ -336,6 +450,12 @@ module _ (Gives : Job → Type 0)
     refused_as Usage refusal ends told = absurd (ends.no_job told.job told.gives)
     refused_as (Expression fault) refusal ends told =
         inl (refused_once refusal (Expression fault) told ends.refused)
+    refused_as (Minus fault) refusal ends told =
+        inl (refused_once refusal (Minus fault) told ends.refused)
+    refused_as (Definitions fault) refusal ends told =
+        inl (refused_once refusal (Definitions fault) told ends.refused)
+    refused_as (TooManyZones zones) refusal ends told = absurd
+        (asked_or_refused ends.request refusal ends.asks told)
     refused_as Memory refusal ends told = inr refl
     refused_as Done refusal ends told = absurd
         (asked_or_refused ends.request refusal ends.asks told)
@@ -354,6 +474,9 @@ module _ (Gives : Job → Type 0)
     no_job_as Usage ends none = inl refl
     no_job_as Memory ends none = inr refl
     no_job_as (Expression fault) ends none = absurd (none ends.refused.job ends.refused.gives)
+    no_job_as (Minus fault) ends none = absurd (none ends.refused.job ends.refused.gives)
+    no_job_as (Definitions fault) ends none = absurd (none ends.refused.job ends.refused.gives)
+    no_job_as (TooManyZones zones) ends none = absurd (none ends.request.job ends.asks.gives)
     no_job_as Done ends none = absurd (none ends.request.job ends.asks.gives)
     no_job_as (Trace fault) ends none = absurd (none ends.1.request.job ends.1.asks.gives)
     no_job_as InputTooLong ends none = absurd (none ends.request.job ends.asks.gives)
@@ -382,6 +505,13 @@ EndsAs-over Gives request input output Done asks over = record {
 }
 EndsAs-over Gives request input output Usage asks over = absurd over
 EndsAs-over Gives request input output (Expression fault) asks over = absurd over
+EndsAs-over Gives request input output (Minus fault) asks over = absurd over
+EndsAs-over Gives request input output (Definitions fault) asks over = absurd over
+EndsAs-over Gives request input output (TooManyZones zones) asks over = record {
+  request = request;
+  asks = asks;
+  is_so = over;
+}
 EndsAs-over Gives request input output (Trace fault) asks over = (
   over.0,
   record { request = request; asks = asks; is_so = over.1 },
@@ -406,38 +536,62 @@ EndsAs-over Gives request input output Memory asks over = record {
   stands = inr (record { request = request; asks = asks; is_so = over.1 });
 }
 
--- memory was wanting, or the fault is told
-faults : (fault : ParseFault) → (fault ≡ ParseMemory) ⊎ ((fault ≢ ParseMemory) ×
-    (parse_status fault ≡ Expression fault))
-faults ParseMemory = inl refl
-faults TooLong = inr (λ e. cc, refl)
-faults (BadByte at) = inr (λ e. cc, refl)
-faults (Number at) = inr (λ e. cc, refl)
-faults (TooDeep at) = inr (λ e. cc, refl)
-faults (Syntax at) = inr (λ e. cc, refl)
-faults (EmptyInterval at) = inr (λ e. cc, refl)
-faults (TooManyNames at) = inr (λ e. cc, refl)
-faults (TooLarge nodes) = inr (λ e. cc, refl)
+-- memory was wanting, or a text is refused, before the input is looked at
+data Stopped (job : Job) (status : Status) : Type 0 where
+  by_memory : status ≡ Memory → Stopped job status
+  by_expression : (fault : ParseFault) → status ≡ Expression fault
+      → IsRefusalIn job.mode job (Expression fault) → Stopped job status
+  by_minus : (fault : ParseFault) → status ≡ Minus fault
+      → IsRefusalIn job.mode job (Minus fault) → Stopped job status
+  by_definitions : (fault : LetFault) → status ≡ Definitions fault
+      → IsRefusalIn job.mode job (Definitions fault) → Stopped job status
 
--- the end of a run whose text was refused
-pub EndsAs-refused : (Gives : Job → Type 0) (input : InputTold) (output : OutputTold)
-    (fault : ParseFault)
-    → (fault ≢ ParseMemory → IsRefused Gives (Expression fault)) → NothingDone input output
-    → EndsAs Gives input output (parse_status fault)
-EndsAs-refused Gives input output fault told nothing = elim (faults fault) [
-  | inl memory ↦ rw memory (record { reads = nothing.reads; stands = inl nothing })
-  | inr other ↦ rw other.1 (record { refused = told other.0; nothing = nothing })
-]
+never_refused : (mode : Mode) (job : Job) (status : Status) → (IsRefusalOf job status → ⊥)
+    → IsRefusalIn mode job status → ⊥
+never_refused Offline job status never is = never is
+never_refused Online job status never is = never is
+never_refused Show job status never is = never is
+never_refused (Generate count) job status never is = is
 
--- a refused text, from what the pattern of a job says
-pub IsRefused-of : (Gives : Job → Type 0) (job : Job) (fault : ParseFault) → Gives job
-    → (fault ≢ ParseMemory → IsRefusalIn job.mode job (Expression fault))
-    → fault ≢ ParseMemory → IsRefused Gives (Expression fault)
-IsRefused-of Gives job fault gives told never = record {
-  job = job;
-  gives = gives;
-  refuses = told never;
-}
+stopped_by : (job : Job) (status : Status)
+    → (status ≢ Memory → IsRefusalIn job.mode job status) → Stopped job status
+stopped_by job Memory told = by_memory refl
+stopped_by job (Expression fault) told = by_expression fault refl (told (λ e. cc))
+stopped_by job (Minus fault) told = by_minus fault refl (told (λ e. cc))
+stopped_by job (Definitions fault) told = by_definitions fault refl (told (λ e. cc))
+stopped_by job Done told = absurd (never_refused job.mode job Done (λ is. is) (told (λ e. cc)))
+stopped_by job Usage told = absurd
+    (never_refused job.mode job Usage (λ is. is) (told (λ e. cc)))
+stopped_by job (Trace fault) told = absurd
+    (never_refused job.mode job (Trace fault) (λ is. is) (told (λ e. cc)))
+stopped_by job InputTooLong told = absurd
+    (never_refused job.mode job InputTooLong (λ is. is) (told (λ e. cc)))
+stopped_by job (TooManyZones zones) told = absurd
+    (never_refused job.mode job (TooManyZones zones) (λ is. is) (told (λ e. cc)))
+stopped_by job ReadFault told = absurd
+    (never_refused job.mode job ReadFault (λ is. is) (told (λ e. cc)))
+stopped_by job WriteFault told = absurd
+    (never_refused job.mode job WriteFault (λ is. is) (told (λ e. cc)))
+
+-- the end of a run whose texts were refused
+pub EndsAs-refused : (Gives : Job → Type 0) (job : Job) (input : InputTold) (output : OutputTold)
+    (status : Status) → Gives job
+    → (status ≢ Memory → IsRefusalIn job.mode job status) → NothingDone input output
+    → EndsAs Gives input output status
+EndsAs-refused Gives job input output status gives told nothing =
+    ends_by (stopped_by job status told)
+  where
+    refused_by : (refusal : Status) → IsRefusalIn job.mode job refusal
+        → IsRefused Gives refusal
+    refused_by refusal is = record { job = job; gives = gives; refuses = is }
+    ends_by : Stopped job status → EndsAs Gives input output status
+    ends_by (by_memory is) = rw is (record { reads = nothing.reads; stands = inl nothing })
+    ends_by (by_expression fault is refuses) =
+        rw is (record { refused = refused_by (Expression fault) refuses; nothing = nothing })
+    ends_by (by_minus fault is refuses) =
+        rw is (record { refused = refused_by (Minus fault) refuses; nothing = nothing })
+    ends_by (by_definitions fault is refuses) =
+        rw is (record { refused = refused_by (Definitions fault) refuses; nothing = nothing })
 
 -- a call that tells a line, or fails
 pub IsLineTold-of : {T : Type 0} (output : OutputTold) (line : List ℕ) (result : Result T Failed)
@@ -448,11 +602,16 @@ pub IsLineTold-of : {T : Type 0} (output : OutputTold) (line : List ℕ) (result
 IsLineTold-of output line (Ok value) cause all part = inl (cause.ok, all)
 IsLineTold-of output line (Err fault) cause all part = inr (cause.failed, part)
 
--- what words ask for, from what the pattern of a job says
-pub AsksFor-of : (Gives : Job → Type 0) (job : Job) (tree : PatternTree) (names : Vocabulary)
-    → Gives job → ArePatterns job.mode job (request_for job tree names).patterns
-    → AsksFor Gives (request_for job tree names)
-AsksFor-of Gives job tree names gives patterns = record { gives = gives; patterns = patterns }
+-- what words ask for, from what the texts of a job say
+pub AsksFor-of : (Gives : Job → Type 0) (job : Job) (lets : List Defined) (pattern : Pattern)
+    (taken : Option Pattern) → Gives job
+    → ArePatterns job.mode job (patterns_with pattern taken) → AreDefinitions job.mode job lets
+    → AsksFor Gives (request_for job lets pattern taken)
+AsksFor-of Gives job lets pattern taken gives patterns definitions = record {
+  gives = gives;
+  patterns = patterns;
+  definitions = definitions;
+}
 
 -- a run whose answer is written at once, and that stopped before it
 pub EndsOver-stopped : (request : Request) (input : InputTold) (output : OutputTold)

@@ -3,26 +3,30 @@ use Rattle.std.proofs.Common.{◌≡◌, ◌≢◌, ◌∙◌, ◌+◌, ◌≤�
 use Rattle.std.specs.Io.KnownBytes.{Consumes, Keeps, IsAtEnd}
 use Rattle.std.proofs.KnownBytes.{Consumes-nil, Consumes-whole}
 use Rattle.tre_parts.specs.Format.{reading_from}
-use Rattle.tre_text.specs.TextReading.{text_reading}
+use Rattle.tre_num.specs.Defined.{Defined}
+use Rattle.tre_num.specs.Rows.{Terms as RowTerms, rows_reading}
+use Rattle.tre_text.specs.TextReading.{Terms as TextTerms, text_reading}
 use Rattle.tre_trace.specs.Reading.{Reading, Vocabulary}
 use Rattle.tre_trace.specs.Trace.{IsTrace, timeline_of}
 use Rattle.tre_trace.specs.declared.segment.Segment.{Segment}
 use Rattle.tre_vcd.specs.VcdReading.{Terms, vcd_reading}
-use Rattle.tre_tool.specs.Feeding.{IsFed, HasRead, HasFailed, GoesOn, IsEnded, IsWhole, StopsTurn, StopsReading, EndsTurn}
+use Rattle.tre_tool.specs.Feeding.{IsFed, IsKept, HasRead, HasFailed, GoesOn, IsEnded, IsWhole, StopsTurn, StopsReading, EndsTurn}
 use Rattle.tre_tool.specs.Devices.{InputTold, WereRead, AllReadsGood, AreAllBytes}
 use Rattle.tre_tool.specs.Input.{TakesAtMost, MayGoOn, HasReadCause}
 use Rattle.tre_tool.specs.Outcome.{reading_in}
 use Rattle.tre_words.specs.declared.job.Format.{Format}
-use Rattle.tre_words.specs.declared.job.Format.TheVariants.{Text, Vcd}
+use Rattle.tre_words.specs.declared.job.Format.TheVariants.{Text, Vcd, Csv}
+use Rattle.tre_words.specs.declared.job.Job.{Job}
+use Rattle.tre_tool.specs.declared.kept.Kept.{Kept}
 use Rattle.tre_tool.specs.declared.status.Status.{Status}
-use Rattle.tre_tool.specs.declared.status.Status.TheVariants.{Done, Usage, Expression, Trace, InputTooLong, ReadFault, WriteFault, Memory}
+use Rattle.tre_tool.specs.declared.status.Status.TheVariants.{Done, Usage, Expression, Minus, Definitions, Trace, InputTooLong, TooManyZones, ReadFault, WriteFault, Memory}
 use Rattle.tre_tool.proofs.Lists.{take-over}
 use Rattle.tre_tool.proofs.Feeding.{Adds-now, same_reading}
 use Rattle.tre_tool.proofs.Turns.{Consumes-keeps, found_behind}
 
-pub text_reading-nothing : (names : Vocabulary) → (text_reading names false []).segments ≡ []
+pub text_reading-nothing : (terms : TextTerms) → (text_reading terms false []).segments ≡ []
 unfolding reading_from
-text_reading-nothing names = refl
+text_reading-nothing terms = refl
 
 pub vcd_reading-nothing : (terms : Terms) → (vcd_reading terms false []).segments ≡ []
 unfolding reading_from
@@ -137,6 +141,12 @@ StopsReading-turn reading limit name input bytes old new Done opened cause sound
     absurd stops
 StopsReading-turn reading limit name input bytes old new Usage opened cause sound none stops =
     absurd stops
+StopsReading-turn reading limit name input bytes old new (Minus refusal) opened cause sound none
+    stops = absurd stops
+StopsReading-turn reading limit name input bytes old new (Definitions refusal) opened cause sound
+    none stops = absurd stops
+StopsReading-turn reading limit name input bytes old new (TooManyZones many) opened cause sound none
+    stops = absurd stops
 StopsReading-turn reading limit name input bytes old new (Expression fault) opened cause sound none
     stops = absurd stops
 StopsReading-turn reading limit name input bytes old new WriteFault opened cause sound none stops =
@@ -171,6 +181,12 @@ StopsReading-unread reading limit name input Done none kept cause only sound = a
     (only (λ e. cc) (λ e. cc))
 StopsReading-unread reading limit name input Usage none kept cause only sound = absurd
     (only (λ e. cc) (λ e. cc))
+StopsReading-unread reading limit name input (Minus refusal) none kept cause only sound = absurd
+    (only (λ e. cc) (λ e. cc))
+StopsReading-unread reading limit name input (Definitions refusal) none kept cause only sound =
+    absurd (only (λ e. cc) (λ e. cc))
+StopsReading-unread reading limit name input (TooManyZones many) none kept cause only sound = absurd
+    (only (λ e. cc) (λ e. cc))
 StopsReading-unread reading limit name input (Expression fault) none kept cause only sound = absurd
     (only (λ e. cc) (λ e. cc))
 StopsReading-unread reading limit name input (Trace fault) none kept cause only sound = absurd
@@ -182,16 +198,19 @@ StopsReading-unread reading limit name input WriteFault none kept cause only sou
 
 -- the whole input was read, and its segments are all those of its bytes
 pub IsWhole-ended : (reading : Bool → List ℕ → Reading) (limit : ℕ) (input : InputTold)
-    (bytes : List ℕ) (old new : List Segment) (last : ℕ) → input.opened ≡ true
-    → AllReadsGood input → IsEnded reading limit input.file input.left bytes old new last
+    (kept : Kept) (bytes : List ℕ) (old new : List Segment) (last : ℕ) → input.opened ≡ true
+    → AllReadsGood input → IsKept kept (take limit bytes)
+    → IsEnded reading limit input.file input.left bytes old new last
     → old ≡ (reading false (take limit bytes)).segments
-    → IsTrace (reading true bytes).segments → IsWhole reading limit input (timeline_of new last)
-IsWhole-ended reading limit input bytes old new last opened reads ended told trace =
+    → IsTrace (reading true bytes).segments
+    → IsWhole reading limit input kept (timeline_of new last)
+IsWhole-ended reading limit input kept bytes old new last opened reads keeps ended told trace =
     let same : new ≡ (reading true bytes).segments =
     Adds-now old new (reading false (take limit bytes)) (reading true bytes) told ended.all in
     record {
       reads = reads;
       bytes = bytes;
+      is_kept = rw (take-over limit bytes ended.within) at keeps;
       all = AreAllBytes-read input bytes opened ended.front ended.all_read;
       within = ended.within;
       reads_as = same_reading (reading true bytes) new last same ended.last_is ended.whole;
@@ -224,25 +243,37 @@ turn_stops represents reading most limit file left found count bytes old new las
     ends = ends
 
 -- no bytes have no fault
-pub text_reading-faultless : (names : Vocabulary) → (text_reading names false []).fault ≡ None
+pub text_reading-faultless : (terms : TextTerms) → (text_reading terms false []).fault ≡ None
 unfolding reading_from
-text_reading-faultless names = refl
+text_reading-faultless terms = refl
 
 pub vcd_reading-faultless : (terms : Terms) → (vcd_reading terms false []).fault ≡ None
 unfolding reading_from
 vcd_reading-faultless terms = refl
 
-pub reading_in-faultless : (format : Format) (declared names : Vocabulary)
-    → (reading_in format declared names false []).fault ≡ None
-reading_in-faultless Text declared names = text_reading-faultless names
-reading_in-faultless Vcd declared names =
-    vcd_reading-faultless (record { names = names; declared = declared })
+rows_reading-faultless : (terms : RowTerms) → (rows_reading terms false []).fault ≡ None
+rows_reading-faultless terms = refl
 
-pub reading_in-nothing : (format : Format) (declared names : Vocabulary)
-    → (reading_in format declared names false []).segments ≡ []
-reading_in-nothing Text declared names = text_reading-nothing names
-reading_in-nothing Vcd declared names =
-    vcd_reading-nothing (record { names = names; declared = declared })
+rows_reading-nothing : (terms : RowTerms) → (rows_reading terms false []).segments ≡ []
+rows_reading-nothing terms = refl
+
+module _ (job : Job) (lets : List Defined) (declared : List Vocabulary) (names : Vocabulary) where
+  pub reading_in-faultless : (format : Format)
+      → (reading_in format job lets declared names false []).fault ≡ None
+  reading_in-faultless Text =
+      text_reading-faultless (record { names = names; scale = job.scale })
+  reading_in-faultless Vcd = vcd_reading-faultless
+      (record { names = names; declared = declared; scale = job.scale })
+  reading_in-faultless Csv = rows_reading-faultless
+      (record { definitions = lets; names = names; scale = job.scale })
+
+  pub reading_in-nothing : (format : Format)
+      → (reading_in format job lets declared names false []).segments ≡ []
+  reading_in-nothing Text = text_reading-nothing (record { names = names; scale = job.scale })
+  reading_in-nothing Vcd =
+      vcd_reading-nothing (record { names = names; declared = declared; scale = job.scale })
+  reading_in-nothing Csv =
+      rows_reading-nothing (record { definitions = lets; names = names; scale = job.scale })
 
 -- two lists of names are a vocabulary
 pub vocabulary_same : (names events : List (List ℕ)) (other : Vocabulary) → names ≡ other.names

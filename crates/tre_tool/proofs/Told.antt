@@ -59,81 +59,6 @@ CanTell-refused session segment (TooLate end) can refused =
     absurd (omega (arith, fits.in_time, refused.1, refused.2))
 CanTell-refused session segment Memory can refused = refl
 
--- a new session has told nothing
-pub HasTold-start : (session : Session) (before : Option (List ℕ)) → StandsFor session []
-    → HasTold session (pattern_tree (pattern_of session)) [] before before
-unfolding online_text
-HasTold-start session before stands = record {
-  stands = stands;
-  same_tree = refl;
-  blocks = [];
-  transcript = IsTranscript-none (pattern_tree (pattern_of session));
-  written = Appends-none before;
-  ended = rw (stands.unstarted refl) (IsPermutation-refl []);
-}
-
-pub HasTold-written : {session : Session} {tree : PatternTree} {segments : List Segment}
-    {before now : Option (List ℕ)} → HasTold session tree segments before now
-    → BlocksWritten tree segments before now
-HasTold-written so_far = record {
-  blocks = so_far.blocks;
-  transcript = so_far.transcript;
-  written = so_far.written;
-}
-
--- the transcript with the block of one segment more
-transcript_with : (session : Session) (tree : PatternTree) (segments : List Segment)
-    (segment : Segment) (told zones : List ZoneBounds) (before now : Option (List ℕ))
-    → (so_far : HasTold session tree segments before now)
-    → TellsNew (pattern_tree (pattern_of session)) segments segment (ended_of session) told
-    → IsPrinted told zones
-    → IsTranscript (so_far.blocks ++ zones ∷ []) tree (segments ++ segment ∷ [])
-transcript_with session tree segments segment told zones before now so_far tells printed =
-    IsTranscript-more so_far.blocks tree segments segment (ended_of session) told zones
-    so_far.transcript (rw so_far.same_tree at tells) printed so_far.ended
-
--- its text, where the session ends behind the segment
-text_with : (session session' : Session) (tree : PatternTree) (segments : List Segment)
-    (segment : Segment) (zones : List ZoneBounds) (before now : Option (List ℕ))
-    → (so_far : HasTold session tree segments before now)
-    → StandsFor session' (segments ++ segment ∷ [])
-    → online_text (so_far.blocks ++ zones ∷ []) None (segments ++ segment ∷ [])
-    ≡ online_text so_far.blocks None segments ++ block_text zones (at_of session')
-text_with session session' tree segments segment zones before now so_far stands =
-    online_text-more so_far.blocks zones segments segment so_far.transcript.count
-    ∙ ap (λ end. online_text so_far.blocks None segments ++ block_text zones end)
-    (sym stands.at)
-
--- one segment more was told
-pub HasTold-more : (session session' : Session) (tree : PatternTree) (segments : List Segment)
-    (segment : Segment) (told zones : List ZoneBounds) (before now now' : Option (List ℕ))
-    → HasTold session tree segments before now
-    → StandsFor session' (segments ++ segment ∷ [])
-    → pattern_tree (pattern_of session') ≡ pattern_tree (pattern_of session)
-    → TellsNew (pattern_tree (pattern_of session)) segments segment (ended_of session) told
-    → ended_of session' ≡ told → IsPrinted told zones
-    → Appends now now' (block_text zones (at_of session'))
-    → HasTold session' tree (segments ++ segment ∷ []) before now'
-HasTold-more session session' tree segments segment told zones before now now' so_far stands same
-    tells ended printed written = record {
-      stands = stands;
-      same_tree = same ∙ so_far.same_tree;
-      blocks = so_far.blocks ++ zones ∷ [];
-      transcript = transcript_with session tree segments segment told zones before now so_far tells
-          printed;
-      written = rw (text_with session session' tree segments segment zones before now so_far stands)
-          (Appends-trans before now now' _ _ so_far.written written);
-      ended = last_of so_far.blocks zones (ended_of session') (rw ended printed.same);
-    }
-  where
-    last_of : (blocks : List (List ZoneBounds)) (zones : List ZoneBounds)
-        (ended : List ZoneBounds) → IsPermutation ended zones
-        → IsPermutation ended (block_before (length (blocks ++ zones ∷ [])) (blocks ++ zones ∷ []))
-    last_of blocks zones ended order =
-        let count : length (blocks ++ zones ∷ []) ≡ suc (length blocks) = omega
-        (arith, length-append blocks (zones ∷ [])) in
-        rw (count, get_or-append_seam blocks zones [] []) order
-
 -- all of a text, and a part of what stands behind it
 pub IsCutBehind-after : (a b c : Option (List ℕ)) (xs ys : List ℕ) → Appends a b xs
     → AppendsPart b c ys → IsCutBehind xs (xs ++ ys) a c
@@ -146,81 +71,158 @@ IsCutBehind-after a b c xs ys first part = record {
   behind = omega arith;
 }
 
--- a write failed within the block of one segment more
-pub HasTold-cut : (session session' : Session) (tree : PatternTree) (segments : List Segment)
-    (segment : Segment) (told zones : List ZoneBounds) (before now now' : Option (List ℕ))
-    → HasTold session tree segments before now
-    → StandsFor session' (segments ++ segment ∷ [])
-    → TellsNew (pattern_tree (pattern_of session)) segments segment (ended_of session) told
-    → IsPrinted told zones
-    → AppendsPart now now' (block_text zones (at_of session'))
-    → LastBlockIsCut tree segments segment before now'
-HasTold-cut session session' tree segments segment told zones before now now' so_far stands tells
-    printed part = record {
-      blocks = so_far.blocks;
-      zones = zones;
-      transcript = transcript_with session tree segments segment told zones before now so_far tells
-          printed;
-      cut = rw (text_with session session' tree segments segment zones before now so_far stands)
-          (IsCutBehind-after before now now' _ _ so_far.written part);
-    }
+module _ (scale : ℕ) where
+  -- a new session has told nothing
+  pub HasTold-start : (session : Session) (before : Option (List ℕ)) → StandsFor session []
+      → HasTold session scale (pattern_tree (pattern_of session)) [] before before
+  unfolding online_text
+  HasTold-start session before stands = record {
+    stands = stands;
+    same_tree = refl;
+    blocks = [];
+    transcript = IsTranscript-none (pattern_tree (pattern_of session));
+    written = Appends-none before;
+    ended = rw (stands.unstarted refl) (IsPermutation-refl []);
+  }
 
--- what the end completes, behind the blocks that were told
-closes_with : (session : Session) (tree : PatternTree) (segments : List Segment) (events : ℕ)
-    (told zones : List ZoneBounds) (before now : Option (List ℕ))
-    → (so_far : HasTold session tree segments before now)
-    → TellsLast (pattern_tree (pattern_of session)) segments events (ended_of session) told
-    → IsPrinted told zones
-    → IsClosing so_far.blocks zones tree (timeline_of segments events)
-closes_with session tree segments events told zones before now so_far tells printed =
-    IsClosing-told so_far.blocks tree segments events (ended_of session) told zones
-    so_far.transcript (rw so_far.same_tree at tells) printed so_far.ended
+  pub HasTold-written : {session : Session} {tree : PatternTree} {segments : List Segment}
+      {before now : Option (List ℕ)} → HasTold session scale tree segments before now
+      → BlocksWritten scale tree segments before now
+  HasTold-written so_far = record {
+    blocks = so_far.blocks;
+    transcript = so_far.transcript;
+    written = so_far.written;
+  }
 
--- its text
-closed_text : (session : Session) (tree : PatternTree) (segments : List Segment)
-    (zones : List ZoneBounds) (before now : Option (List ℕ))
-    → (so_far : HasTold session tree segments before now)
-    → online_text so_far.blocks (Some zones) segments
-    ≡ online_text so_far.blocks None segments ++ offline_text zones (at_of session)
-unfolding online_text
-closed_text session tree segments zones before now so_far =
-    ap (λ end. block_texts 0 so_far.blocks segments ++ offline_text zones end)
-    (sym so_far.stands.at)
-    ∙ ap (λ text. text ++ offline_text zones (at_of session))
-    (sym (append-nil (block_texts 0 so_far.blocks segments)))
+  -- the transcript with the block of one segment more
+  transcript_with : (session : Session) (tree : PatternTree) (segments : List Segment)
+      (segment : Segment) (told zones : List ZoneBounds) (before now : Option (List ℕ))
+      → (so_far : HasTold session scale tree segments before now)
+      → TellsNew (pattern_tree (pattern_of session)) segments segment (ended_of session) told
+      → IsPrinted told zones
+      → IsTranscript (so_far.blocks ++ zones ∷ []) tree (segments ++ segment ∷ [])
+  transcript_with session tree segments segment told zones before now so_far tells printed =
+      IsTranscript-more so_far.blocks tree segments segment (ended_of session) told zones
+      so_far.transcript (rw so_far.same_tree at tells) printed so_far.ended
 
--- the end was told
-pub HasClosed-told : (session : Session) (tree : PatternTree) (segments : List Segment)
-    (events : ℕ) (told zones : List ZoneBounds) (before now now' : Option (List ℕ))
-    → HasTold session tree segments before now
-    → TellsLast (pattern_tree (pattern_of session)) segments events (ended_of session) told
-    → IsPrinted told zones → Appends now now' (offline_text zones (at_of session))
-    → HasClosed tree (timeline_of segments events) before now'
-HasClosed-told session tree segments events told zones before now now' so_far tells printed
-    written = record {
-      blocks = so_far.blocks;
-      zones = zones;
-      transcript = so_far.transcript;
-      closes = closes_with session tree segments events told zones before now so_far tells
-          printed;
-      written = rw (closed_text session tree segments zones before now so_far)
-          (Appends-trans before now now' _ _ so_far.written written);
-    }
+  -- its text, where the session ends behind the segment
+  text_with : (session session' : Session) (tree : PatternTree) (segments : List Segment)
+      (segment : Segment) (zones : List ZoneBounds) (before now : Option (List ℕ))
+      → (so_far : HasTold session scale tree segments before now)
+      → StandsFor session' (segments ++ segment ∷ [])
+      → online_text scale (so_far.blocks ++ zones ∷ []) None (segments ++ segment ∷ [])
+      ≡ online_text scale so_far.blocks None segments ++ block_text scale zones (at_of session')
+  text_with session session' tree segments segment zones before now so_far stands =
+      online_text-more scale so_far.blocks zones segments segment so_far.transcript.count
+      ∙ ap (λ end. online_text scale so_far.blocks None segments ++ block_text scale zones end)
+      (sym stands.at)
 
--- a write failed within it
-pub ClosingIsCut-told : (session : Session) (tree : PatternTree) (segments : List Segment)
-    (events : ℕ) (told zones : List ZoneBounds) (before now now' : Option (List ℕ))
-    → HasTold session tree segments before now
-    → TellsLast (pattern_tree (pattern_of session)) segments events (ended_of session) told
-    → IsPrinted told zones → AppendsPart now now' (offline_text zones (at_of session))
-    → ClosingIsCut tree (timeline_of segments events) before now'
-ClosingIsCut-told session tree segments events told zones before now now' so_far tells printed
-    part = record {
-      blocks = so_far.blocks;
-      zones = zones;
-      transcript = so_far.transcript;
-      closes = closes_with session tree segments events told zones before now so_far tells
-          printed;
-      cut = rw (closed_text session tree segments zones before now so_far)
-          (IsCutBehind-after before now now' _ _ so_far.written part);
-    }
+  -- one segment more was told
+  pub HasTold-more : (session session' : Session) (tree : PatternTree) (segments : List Segment)
+      (segment : Segment) (told zones : List ZoneBounds) (before now now' : Option (List ℕ))
+      → HasTold session scale tree segments before now
+      → StandsFor session' (segments ++ segment ∷ [])
+      → pattern_tree (pattern_of session') ≡ pattern_tree (pattern_of session)
+      → TellsNew (pattern_tree (pattern_of session)) segments segment (ended_of session) told
+      → ended_of session' ≡ told → IsPrinted told zones
+      → Appends now now' (block_text scale zones (at_of session'))
+      → HasTold session' scale tree (segments ++ segment ∷ []) before now'
+  HasTold-more session session' tree segments segment told zones before now now' so_far stands same
+      tells ended printed written = record {
+        stands = stands;
+        same_tree = same ∙ so_far.same_tree;
+        blocks = so_far.blocks ++ zones ∷ [];
+        transcript = transcript_with session tree segments segment told zones before now so_far
+            tells printed;
+        written = rw (text_with session session' tree segments segment zones before now so_far
+            stands) (Appends-trans before now now' _ _ so_far.written written);
+        ended = last_of so_far.blocks zones (ended_of session') (rw ended printed.same);
+      }
+    where
+      last_of : (blocks : List (List ZoneBounds)) (zones : List ZoneBounds)
+          (ended : List ZoneBounds) → IsPermutation ended zones
+          → IsPermutation ended (block_before (length (blocks ++ zones ∷ [])) (blocks ++ zones ∷
+              []))
+      last_of blocks zones ended order =
+          let count : length (blocks ++ zones ∷ []) ≡ suc (length blocks) = omega
+          (arith, length-append blocks (zones ∷ [])) in
+          rw (count, get_or-append_seam blocks zones [] []) order
+
+  -- a write failed within the block of one segment more
+  pub HasTold-cut : (session session' : Session) (tree : PatternTree) (segments : List Segment)
+      (segment : Segment) (told zones : List ZoneBounds) (before now now' : Option (List ℕ))
+      → HasTold session scale tree segments before now
+      → StandsFor session' (segments ++ segment ∷ [])
+      → TellsNew (pattern_tree (pattern_of session)) segments segment (ended_of session) told
+      → IsPrinted told zones
+      → AppendsPart now now' (block_text scale zones (at_of session'))
+      → LastBlockIsCut scale tree segments segment before now'
+  HasTold-cut session session' tree segments segment told zones before now now' so_far stands tells
+      printed part = record {
+        blocks = so_far.blocks;
+        zones = zones;
+        transcript = transcript_with session tree segments segment told zones before now so_far
+            tells printed;
+        cut = rw (text_with session session' tree segments segment zones before now so_far stands)
+            (IsCutBehind-after before now now' _ _ so_far.written part);
+      }
+
+  -- what the end completes, behind the blocks that were told
+  closes_with : (session : Session) (tree : PatternTree) (segments : List Segment) (events : ℕ)
+      (told zones : List ZoneBounds) (before now : Option (List ℕ))
+      → (so_far : HasTold session scale tree segments before now)
+      → TellsLast (pattern_tree (pattern_of session)) segments events (ended_of session) told
+      → IsPrinted told zones
+      → IsClosing so_far.blocks zones tree (timeline_of segments events)
+  closes_with session tree segments events told zones before now so_far tells printed =
+      IsClosing-told so_far.blocks tree segments events (ended_of session) told zones
+      so_far.transcript (rw so_far.same_tree at tells) printed so_far.ended
+
+  -- its text
+  closed_text : (session : Session) (tree : PatternTree) (segments : List Segment)
+      (zones : List ZoneBounds) (before now : Option (List ℕ))
+      → (so_far : HasTold session scale tree segments before now)
+      → online_text scale so_far.blocks (Some zones) segments
+      ≡ online_text scale so_far.blocks None segments ++ offline_text scale zones (at_of session)
+  unfolding online_text
+  closed_text session tree segments zones before now so_far =
+      ap (λ end. block_texts scale 0 so_far.blocks segments ++ offline_text scale zones end)
+      (sym so_far.stands.at)
+      ∙ ap (λ text. text ++ offline_text scale zones (at_of session))
+      (sym (append-nil (block_texts scale 0 so_far.blocks segments)))
+
+  -- the end was told
+  pub HasClosed-told : (session : Session) (tree : PatternTree) (segments : List Segment)
+      (events : ℕ) (told zones : List ZoneBounds) (before now now' : Option (List ℕ))
+      → HasTold session scale tree segments before now
+      → TellsLast (pattern_tree (pattern_of session)) segments events (ended_of session) told
+      → IsPrinted told zones → Appends now now' (offline_text scale zones (at_of session))
+      → HasClosed scale tree (timeline_of segments events) before now'
+  HasClosed-told session tree segments events told zones before now now' so_far tells printed
+      written = record {
+        blocks = so_far.blocks;
+        zones = zones;
+        transcript = so_far.transcript;
+        closes = closes_with session tree segments events told zones before now so_far tells
+            printed;
+        written = rw (closed_text session tree segments zones before now so_far)
+            (Appends-trans before now now' _ _ so_far.written written);
+      }
+
+  -- a write failed within it
+  pub ClosingIsCut-told : (session : Session) (tree : PatternTree) (segments : List Segment)
+      (events : ℕ) (told zones : List ZoneBounds) (before now now' : Option (List ℕ))
+      → HasTold session scale tree segments before now
+      → TellsLast (pattern_tree (pattern_of session)) segments events (ended_of session) told
+      → IsPrinted told zones → AppendsPart now now' (offline_text scale zones (at_of session))
+      → ClosingIsCut scale tree (timeline_of segments events) before now'
+  ClosingIsCut-told session tree segments events told zones before now now' so_far tells printed
+      part = record {
+        blocks = so_far.blocks;
+        zones = zones;
+        transcript = so_far.transcript;
+        closes = closes_with session tree segments events told zones before now so_far tells
+            printed;
+        cut = rw (closed_text session tree segments zones before now so_far)
+            (IsCutBehind-after before now now' _ _ so_far.written part);
+      }

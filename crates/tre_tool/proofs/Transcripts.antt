@@ -27,30 +27,32 @@ pub end_of-more : (start : ℕ) (segments : List Segment) (segment : Segment)
 end_of-more start [] segment = refl
 end_of-more start (first ∷ rest) segment = end_of-more (start + first.len) rest segment
 
-block_texts-more : (start : ℕ) (blocks : List (List ZoneBounds)) (zones : List ZoneBounds)
+block_texts-more : (scale start : ℕ) (blocks : List (List ZoneBounds)) (zones : List ZoneBounds)
     (segments : List Segment) (segment : Segment) → length blocks ≡ length segments
-    → block_texts start (blocks ++ zones ∷ []) (segments ++ segment ∷ [])
-    ≡ block_texts start blocks segments ++ block_text zones (end_of start segments + segment.len)
-block_texts-more start [] zones [] segment same = append-nil _
-block_texts-more start [] zones (first ∷ rest) segment same = absurd (omega (arith, same))
-block_texts-more start (block ∷ blocks) zones [] segment same = absurd (omega (arith, same))
-block_texts-more start (block ∷ blocks) zones (first ∷ rest) segment same =
+    → block_texts scale start (blocks ++ zones ∷ []) (segments ++ segment ∷ [])
+    ≡ block_texts scale start blocks segments ++ block_text scale zones (end_of start segments +
+        segment.len)
+block_texts-more scale start [] zones [] segment same = append-nil _
+block_texts-more scale start [] zones (first ∷ rest) segment same = absurd (omega (arith, same))
+block_texts-more scale start (block ∷ blocks) zones [] segment same = absurd (omega (arith, same))
+block_texts-more scale start (block ∷ blocks) zones (first ∷ rest) segment same =
     let count : length blocks ≡ length rest = omega (arith, same) in
-    rw (block_texts-more (start + first.len) blocks zones rest segment count)
-    (sym (append_assoc (block_text block (start + first.len)) _ _))
+    rw (block_texts-more scale (start + first.len) blocks zones rest segment count)
+    (sym (append_assoc (block_text scale block (start + first.len)) _ _))
 
 -- the text with one block more
-pub online_text-more : (blocks : List (List ZoneBounds)) (zones : List ZoneBounds)
+pub online_text-more : (scale : ℕ) (blocks : List (List ZoneBounds)) (zones : List ZoneBounds)
     (segments : List Segment) (segment : Segment) → length blocks ≡ length segments
-    → online_text (blocks ++ zones ∷ []) None (segments ++ segment ∷ [])
-    ≡ online_text blocks None segments ++ block_text zones (end_of 0 (segments ++ segment ∷ []))
+    → online_text scale (blocks ++ zones ∷ []) None (segments ++ segment ∷ [])
+    ≡ online_text scale blocks None segments ++ block_text scale zones (end_of 0 (segments ++
+        segment ∷ []))
 unfolding online_text
-online_text-more blocks zones segments segment same =
+online_text-more scale blocks zones segments segment same =
     rw (
-      append-nil (block_texts 0 (blocks ++ zones ∷ []) (segments ++ segment ∷ [])),
-      append-nil (block_texts 0 blocks segments),
+      append-nil (block_texts scale 0 (blocks ++ zones ∷ []) (segments ++ segment ∷ [])),
+      append-nil (block_texts scale 0 blocks segments),
       end_of-more 0 segments segment,
-    ) (block_texts-more 0 blocks zones segments segment same)
+    ) (block_texts-more scale 0 blocks zones segments segment same)
 
 zones_of-more : (blocks : List (List ZoneBounds)) (zones : List ZoneBounds)
     → zones_of (blocks ++ zones ∷ []) ≡ zones_of blocks ++ zones

@@ -8,7 +8,7 @@ use Rattle.tre_trace.specs.declared.fault.TraceFault.{TraceFault}
 use Rattle.tre_tool.specs.Feeding.{StopsPiece, HasFed, IsFed, HasRead, GoesOn, IsEnded, StopsTurn}
 use Rattle.tre_tool.specs.Status.{trace_status}
 use Rattle.tre_tool.specs.declared.status.Status.{Status}
-use Rattle.tre_tool.specs.declared.status.Status.TheVariants.{Done, Usage, Expression, Trace, InputTooLong, ReadFault, WriteFault, Memory}
+use Rattle.tre_tool.specs.declared.status.Status.TheVariants.{Done, Usage, Expression, Minus, Definitions, Trace, InputTooLong, TooManyZones, ReadFault, WriteFault, Memory}
 use Rattle.tre_tool.proofs.Lists.{take-over}
 use Rattle.tre_tool.proofs.Feeding.{AllGrow, TellsAll-fault, TellsAll-end, fed_more}
 use Rattle.tre_tool.proofs.Stops.{kinds}
@@ -203,6 +203,12 @@ HasRead-piece reading room most limit file left found left' found' count bytes o
 HasRead-piece reading room most limit file left found left' found' count bytes old new Usage
     so_far inside finds stops few short = absurd stops
 HasRead-piece reading room most limit file left found left' found' count bytes old new
+    (Minus refusal) so_far inside finds stops few short = absurd stops
+HasRead-piece reading room most limit file left found left' found' count bytes old new
+    (Definitions refusal) so_far inside finds stops few short = absurd stops
+HasRead-piece reading room most limit file left found left' found' count bytes old new
+    (TooManyZones many) so_far inside finds stops few short = absurd stops
+HasRead-piece reading room most limit file left found left' found' count bytes old new
     (Expression fault) so_far inside finds stops few short = absurd stops
 HasRead-piece reading room most limit file left found left' found' count bytes old new InputTooLong
     so_far inside finds stops few short = absurd stops
@@ -237,6 +243,12 @@ StopsTurn-piece reading room most limit file left found left' count bytes old ne
     grows so_far inside stops = absurd stops
 StopsTurn-piece reading room most limit file left found left' count bytes old new Usage
     grows so_far inside stops = absurd stops
+StopsTurn-piece reading room most limit file left found left' count bytes old new (Minus refusal)
+    grows so_far inside stops = absurd stops
+StopsTurn-piece reading room most limit file left found left' count bytes old new
+    (Definitions refusal) grows so_far inside stops = absurd stops
+StopsTurn-piece reading room most limit file left found left' count bytes old new
+    (TooManyZones many) grows so_far inside stops = absurd stops
 StopsTurn-piece reading room most limit file left found left' count bytes old new (Expression fault)
     grows so_far inside stops = absurd stops
 StopsTurn-piece reading room most limit file left found left' count bytes old new InputTooLong

@@ -1,11 +1,10 @@
 -- What the bytes of an input say for each of the patterns of a request.
 use Rattle.std.specs.Prelude.{◌≡◌, ℕ, ◌≤◌, nat_le, Bool, true, List, [], ◌∷◌, length, take, map, All, None, IfSome}
-use Rattle.std.specs.Io.KnownBytes.{Consumes}
 use Rattle.tre_trace.specs.Reading.{Reading, Vocabulary}
 use Rattle.tre_trace.specs.Trace.{Timeline, IsTrace, quiet}
 use Rattle.tre_trace.specs.declared.segment.Segment.{Segment}
 use Rattle.tre_tool.specs.Devices.{InputTold}
-use Rattle.tre_tool.specs.Outcome.{Outcome, reading_in, outcome_of, whole_reading}
+use Rattle.tre_tool.specs.Outcome.{Outcome, ComesTo, reading_in, outcome_of, whole_reading}
 use Rattle.tre_tool.specs.Request.{Request, all_names}
 
 -- What the bytes say for these names. A dump must declare those of all patterns.
@@ -38,10 +37,6 @@ reading_for request closed bytes = common (readings_of request closed bytes)
 abbrev pub outcome_for : Request → List ℕ → Outcome
 outcome_for request bytes = outcome_of (reading_for request) request.job.max_bytes bytes
 
--- the segments of each reading
-abbrev pub segments_of : List Reading → List (List Segment)
-segments_of readings = map (λ reading. reading.segments) readings
-
 -- the traces of the first segments of each reading, as many as `count`
 abbrev pub fronts : ℕ → List Reading → List Timeline
 fronts count readings = map (λ reading. quiet (take count reading.segments)) readings
@@ -52,12 +47,7 @@ pub record AreTraces (request : Request) (bytes : List ℕ) (traces : List Timel
   pub read : readings_of request true bytes ≡ map whole_reading traces
   pub are_traces : All (λ trace. IsTrace trace.segments) traces
 
--- The bytes that were read of an input come to this. So do all its bytes, where the source tells
--- them, and within the limit they say the same segments.
-pub record InputComesTo (request : Request) (input : InputTold) (outcome : Outcome) : Type 0 where
-  pub bytes : List ℕ
-  pub front : Consumes input.file input.left bytes
-  pub comes : outcome_for request bytes ≡ outcome
-  pub whole : IfSome input.file (λ all. outcome_for request all ≡ outcome)
-  pub same : IfSome input.file (λ all. segments_of (readings_within request all)
-      ≡ segments_of (readings_within request bytes))
+-- The bytes that were read of an input come to this for a request, and so do all its bytes.
+abbrev pub InputComesTo : Request → InputTold → Outcome → Type 0
+InputComesTo request input outcome =
+    ComesTo (reading_for request) request.job.max_bytes input.file input.left outcome

@@ -63,6 +63,9 @@ fn feed_piece<S: Source, R: TraceReader>(
     ensures goes_on { (bytes : List ℕ) → IsFedTo (R.represents reader.old) kept.old bytes →
         IfOk result (λ count. IsFedTo (R.represents reader.new) kept.new
         (bytes ++ take allowed (take count buffer.new))) }
+    ensures keeps { (bytes : List ℕ) → IsKept kept.old bytes →
+        IfOk result (λ count.
+        IsKept kept.new (bytes ++ take allowed (take count buffer.new))) }
     ensures adds { (bytes : List ℕ) → IsFedTo (R.represents reader.old) kept.old bytes →
         IfOk result (λ count. Adds segments.old.items segments.new.items
         (R.reading (R.terms reader.old) false bytes)
@@ -70,6 +73,7 @@ fn feed_piece<S: Source, R: TraceReader>(
     ensures stops { (bytes : List ℕ) → IsFedTo (R.represents reader.old) kept.old bytes →
         IfErr result (StopsPiece (R.reading (R.terms reader.old)) allowed (length buffer.old) bytes
         (S.left input.old) (S.left input.new) segments.old.items segments.new.items) }
+    ensures asked { kept.new.asked ≡ kept.old.asked }
     ensures terms { R.terms reader.new ≡ R.terms reader.old }
     ensures length { length buffer.new ≡ length buffer.old }
     ensures finds { Keeps (S.found input.new) (S.left input.old) }
@@ -115,6 +119,7 @@ fn feed_next<S: Source, R: TraceReader>(
         segments.old.items segments.new.items last.new result }
     ensures keeps { (bytes : List ℕ) → IsKept kept.old bytes →
         IfOk result (λ more. more ≡ false → IsKept kept.new bytes) }
+    ensures asked { kept.new.asked ≡ kept.old.asked }
     ensures rises { IfOk result (λ more. IsTrue more → taken.old < taken.new) }
     ensures few { IfOk result (λ more. IsTrue more → taken.new ≤ limit + 1) }
     ensures terms { R.terms reader.new ≡ R.terms reader.old }
@@ -222,6 +227,7 @@ impl Feed {
             self.new.last result }
         ensures keeps { (bytes : List ℕ) → IsKept self.old.kept bytes →
             IfOk result (λ more. more ≡ false → IsKept self.new.kept bytes) }
+        ensures asked { self.new.kept.asked ≡ self.old.kept.asked }
         ensures limit { self.new.limit ≡ self.old.limit }
         ensures length { length self.new.buffer.items ≡ length self.old.buffer.items }
         ensures rises { IfOk result (λ more. IsTrue more → self.old.taken < self.new.taken) }

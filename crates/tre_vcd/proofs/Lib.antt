@@ -1,3 +1,4 @@
+mod Alike
 mod Bits
 mod Deciding
 mod Dumps

@@ -1,6 +1,5 @@
 -- What the reader keeps of what is open.
-use Rattle.std.specs.Prelude.{◌≡◌, ◌≤◌, ℕ, Bool, true, false, List, [], codes, map, take, if◌then◌else◌}
-use Rattle.tre_decimal.specs.declared.TheConstants.{SCALE_MAX}
+use Rattle.std.specs.Prelude.{◌≡◌, ℕ, Bool, true, false, List, [], codes, map, take, if◌then◌else◌}
 use Rattle.tre_trace.specs.Reading.{Vocabulary}
 use Rattle.tre_vcd.specs.VcdReading.{Terms, Open, nothing, section, comment, vector, number, Place, is, is_defined}
 use Rattle.tre_vcd.specs.Kept.{Knows, KnowsAll, vocabulary_of}
@@ -53,7 +52,7 @@ abbrev pub terms_kept : TokenReader → Terms
 terms_kept reader = record {
   names = asked_of reader;
   declared = map vocabulary_of reader.needed.items;
-  scale = reader.scale;
+  scale = reader.scale.exponent;
 }
 
 -- The reader is at this place: it knows the past, and of what is open it keeps what counts. Of a
@@ -61,7 +60,6 @@ terms_kept reader = record {
 pub record Holds (reader : TokenReader) (place : Place) : Type 0 where
   pub past : Knows reader.names reader.events reader.past place.past
   pub needed : KnowsAll place.past reader.needed.items
-  pub scale : reader.scale ≤ SCALE_MAX
   pub inside : reader.inside ≡ inside_of place.inside
   pub tokens : map (λ token. token.items) reader.tokens.items
       ≡ take KEPT_MAX (tokens_of place.inside)

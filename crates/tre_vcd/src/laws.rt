@@ -1,6 +1,7 @@
 //! Laws of the format, each as a function whose contract it is.
 
 ghost use Rattle.std.specs.Prelude.{◌≡◌, ◌↔◌, ℕ, ◌+◌, Bool, true, false, None, Some, List, [], ◌∷◌, ◌++◌, length, IsBitSet};
+ghost use Rattle.tre_parts.specs.Alike.{AreAlike};
 ghost use Rattle.tre_trace.specs.Reading.{Grows};
 ghost use Rattle.tre_trace.specs.Trace.{IsTrace};
 ghost use Rattle.tre_trace.specs.declared.fault.TraceKind.{TraceKind};
@@ -100,4 +101,13 @@ pub fn white()
     ensures last { (terms : Terms) (bytes : List ℕ) (one : ℕ) → is_white one ≡ true →
         vcd_reading terms true (bytes ++ one ∷ [])
         ≡ moved_reading (length bytes) (vcd_reading terms true bytes) }
+{}
+
+/// What a dump says is the same whatever names are read of it, but for what is true: where the same
+/// names must be declared, readings of the same bytes at one scale have the same fault, and segments
+/// of the same lengths.
+pub fn alike()
+    ensures { (one other : Terms) (closed : Bool) (bytes : List ℕ) →
+        one.declared ≡ other.declared → one.scale ≡ other.scale →
+        AreAlike (vcd_reading one closed bytes) (vcd_reading other closed bytes) }
 {}

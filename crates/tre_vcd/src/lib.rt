@@ -20,6 +20,7 @@ mod inside;
 pub mod laws;
 mod needed;
 mod past;
+mod scale;
 mod scopes;
 mod token;
 mod token_reader;

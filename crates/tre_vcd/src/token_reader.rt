@@ -13,12 +13,12 @@ use crate::command::{Command, command_of};
 use crate::inside::Inside;
 use crate::needed::{Needed, are_declared, declare, declare_event};
 use crate::past::Past;
+use crate::scale::Scale;
 use crate::token::{
     Letter, ends_true, is, is_bit, is_dump, is_end, is_event, is_misplaced, is_signal, letter_of,
 };
 use crate::white::White;
 use std::alloc::{AllocError, Global};
-use tre_decimal::{SCALE_MAX, read_digits};
 use tre_pairs::TIME_MAX;
 use tre_parts::{PartReader, Said, Spot, first_of};
 use tre_state::Names;
@@ -37,7 +37,7 @@ pub struct TokenReader {
     names: Names,
     events: Names,
     needed: Vec<Needed>,
-    scale: u8,
+    scale: Scale,
     past: Past,
     inside: Inside,
     tokens: Vec<Vec<u8>>,
@@ -59,7 +59,7 @@ impl TokenReader {
             names,
             events,
             needed: Vec::new(alloc),
-            scale,
+            scale: Scale::new(scale),
             past: Past::new(alloc),
             inside: Inside::Nothing,
             tokens: Vec::new(alloc),
@@ -145,7 +145,7 @@ impl TokenReader {
         ensures kinds { result ≢ Said.Wrong Spent }
         ensures same_terms { terms_kept self.new ≡ terms_kept self.old }
     {
-        let Some(ticks) = read_digits(digits, self.scale.min(SCALE_MAX)) else {
+        let Some(ticks) = self.scale.time(digits) else {
             return Said::Wrong(TraceKind::BadToken);
         };
         if ticks < self.past.time {
@@ -299,7 +299,7 @@ impl TokenReader {
     fn close(&mut self)
         ensures holds { (past : List Statement) →
             Knows self.old.names self.old.events self.old.past past →
-            KnowsAll past self.old.needed.items → self.old.scale ≤ SCALE_MAX →
+            KnowsAll past self.old.needed.items →
             Holds self.new (record { past = past; inside = nothing }) }
         ensures same_terms { terms_kept self.new ≡ terms_kept self.old }
     {

@@ -1,4 +1,4 @@
-use Rattle.std.proofs.Common.{◌≡◌, length}
+use Rattle.std.proofs.Common.{length}
 use Rattle.std.specs.List.{slice_split}
 use Rattle.tre_num.specs.Definitions.{is_semicolon}
 use Rattle.tre_num.proofs.Defining.{HasDefined}

@@ -1,5 +1,6 @@
 use Rattle.std.proofs.Common.{◌≡◌, ℕ, ◌+◌, ◌-◌, ◌≤◌, length, take, arith, length-take}
 use Rattle.std.proofs.lemmas.Result.{err_from_is_err_and}
+use Rattle.tre_tool.specs.Feeding.{IsFedTo}
 use Rattle.tre_tool.proofs.Feeding.{TellsAll-exceeds}
 use Rattle.tre_tool.proofs.Turns.{Adds-some, IsFed-all, HasRead-nothing, HasRead-piece, HasRead-fed, HasRead-end, StopsTurn-piece, StopsTurn-end, IsAtEndOf-read, IsEnded-end, GoesOn-fed, Adds-none}
 use Rattle.tre_tool.proofs.input.feed_next.Goals as goal
@@ -12,7 +13,7 @@ pub returns-then-taken-limit-clause-ends : goal.returns-then-taken-limit-clause-
 returns-then-taken-limit-clause-ends g c = λ file bytes so_far.
     TellsAll-exceeds (g.R.TraceReader.reading (g.R.TraceReader.terms c.args.reader.now))
     c.args.limit file _ bytes _ so_far.front (omega (arith, so_far.size, c.if-taken-limit.true))
-    (g.met.R.TraceReader.faultless c.args.reader.now (take c.args.limit bytes) so_far.fed)
+    (g.met.R.TraceReader.faultless c.args.reader.now (take c.args.limit bytes) so_far.fed.fed)
 
 pub returns-in_err-count-clause-read : goal.returns-in_err-count-clause-read
 returns-in_err-count-clause-read g c =
@@ -53,8 +54,9 @@ returns-in_err-last-clause-read g c =
     (c.args.limit - c.args.taken.now) count bytes buffer c.args.segments.now.items
     c.feed_piece.new.segments.items none
     (c.in_ok-count.ensures.adds bytes (IsFed-all so_far inside)) in
-    let at_end = IsAtEndOf-read {represents' = g.R.TraceReader.represents c.feed_piece.new.reader}
-    (length c.args.buffer.now) c.args.limit file (g.S.Source.left c.args.input.now)
+    let at_end = IsAtEndOf-read {represents' = IsFedTo
+    (g.R.TraceReader.represents c.feed_piece.new.reader) c.feed_piece.new.kept} (length
+        c.args.buffer.now) c.args.limit file (g.S.Source.left c.args.input.now)
     (g.S.Source.found c.args.input.now) (g.S.Source.left c.feed_piece.new.input)
     (g.S.Source.found c.feed_piece.new.input) c.args.taken.now count bytes buffer so_far inside
     c.in_ok-count.ensures.taken c.feed_piece.ensures.finds (c.in_ok-count.ensures.end none) none
@@ -62,7 +64,7 @@ returns-in_err-last-clause-read g c =
     HasRead-end (g.R.TraceReader.reading (g.R.TraceReader.terms c.args.reader.now))
     (length c.args.buffer.now) c.args.limit
     file _ _ bytes _ c.feed_piece.new.segments.items _ at_end adds
-    (rw c.in_ok-count.ensures.terms at c.in_err-last.ensures.refused bytes at_end.fed).adds_some
+    (rw c.in_ok-count.ensures.terms at c.in_err-last.ensures.refused bytes at_end.fed.fed).adds_some
 
 pub returns-in_err-last-clause-ends : goal.returns-in_err-last-clause-ends
 returns-in_err-last-clause-ends g c =
@@ -77,8 +79,9 @@ returns-in_err-last-clause-ends g c =
     (c.args.limit - c.args.taken.now) count bytes buffer c.args.segments.now.items
     c.feed_piece.new.segments.items none
     (c.in_ok-count.ensures.adds bytes (IsFed-all so_far inside)) in
-    let at_end = IsAtEndOf-read {represents' = g.R.TraceReader.represents c.feed_piece.new.reader}
-    (length c.args.buffer.now) c.args.limit file (g.S.Source.left c.args.input.now)
+    let at_end = IsAtEndOf-read {represents' = IsFedTo
+    (g.R.TraceReader.represents c.feed_piece.new.reader) c.feed_piece.new.kept} (length
+        c.args.buffer.now) c.args.limit file (g.S.Source.left c.args.input.now)
     (g.S.Source.found c.args.input.now) (g.S.Source.left c.feed_piece.new.input)
     (g.S.Source.found c.feed_piece.new.input) c.args.taken.now count bytes buffer so_far inside
     c.in_ok-count.ensures.taken c.feed_piece.ensures.finds (c.in_ok-count.ensures.end none) none
@@ -86,7 +89,7 @@ returns-in_err-last-clause-ends g c =
     rw (p.1, p.2) (StopsTurn-end (g.R.TraceReader.reading (g.R.TraceReader.terms c.args.reader.now))
     c.args.limit file _ _ bytes _
     c.feed_piece.new.segments.items _ c.in_err-last.field-0.0 at_end adds
-    (rw c.in_ok-count.ensures.terms at c.in_err-last.ensures.refused bytes at_end.fed))
+    (rw c.in_ok-count.ensures.terms at c.in_err-last.ensures.refused bytes at_end.fed.fed))
 
 pub returns-then-count-eq0-clause-read : goal.returns-then-count-eq0-clause-read
 returns-then-count-eq0-clause-read g c =
@@ -99,8 +102,9 @@ returns-then-count-eq0-clause-read g c =
     (c.args.limit - c.args.taken.now) count bytes buffer c.args.segments.now.items
     c.feed_piece.new.segments.items none
     (c.in_ok-count.ensures.adds bytes (IsFed-all so_far inside)) in
-    let at_end = IsAtEndOf-read {represents' = g.R.TraceReader.represents c.feed_piece.new.reader}
-    (length c.args.buffer.now) c.args.limit file (g.S.Source.left c.args.input.now)
+    let at_end = IsAtEndOf-read {represents' = IsFedTo
+    (g.R.TraceReader.represents c.feed_piece.new.reader) c.feed_piece.new.kept} (length
+        c.args.buffer.now) c.args.limit file (g.S.Source.left c.args.input.now)
     (g.S.Source.found c.args.input.now) (g.S.Source.left c.feed_piece.new.input)
     (g.S.Source.found c.feed_piece.new.input) c.args.taken.now count bytes buffer so_far inside
     c.in_ok-count.ensures.taken c.feed_piece.ensures.finds (c.in_ok-count.ensures.end none) none
@@ -108,7 +112,7 @@ returns-then-count-eq0-clause-read g c =
     HasRead-end (g.R.TraceReader.reading (g.R.TraceReader.terms c.args.reader.now))
     (length c.args.buffer.now) c.args.limit
     file _ _ bytes _ c.feed_piece.new.segments.items _ at_end adds
-    (Adds-some (rw c.in_ok-count.ensures.terms at c.in_ok-last.ensures.adds bytes at_end.fed))
+    (Adds-some (rw c.in_ok-count.ensures.terms at c.in_ok-last.ensures.adds bytes at_end.fed.fed))
 
 pub returns-then-count-eq0-clause-ends : goal.returns-then-count-eq0-clause-ends
 returns-then-count-eq0-clause-ends g c =
@@ -121,8 +125,9 @@ returns-then-count-eq0-clause-ends g c =
     (c.args.limit - c.args.taken.now) count bytes buffer c.args.segments.now.items
     c.feed_piece.new.segments.items none
     (c.in_ok-count.ensures.adds bytes (IsFed-all so_far inside)) in
-    let at_end = IsAtEndOf-read {represents' = g.R.TraceReader.represents c.feed_piece.new.reader}
-    (length c.args.buffer.now) c.args.limit file (g.S.Source.left c.args.input.now)
+    let at_end = IsAtEndOf-read {represents' = IsFedTo
+    (g.R.TraceReader.represents c.feed_piece.new.reader) c.feed_piece.new.kept} (length
+        c.args.buffer.now) c.args.limit file (g.S.Source.left c.args.input.now)
     (g.S.Source.found c.args.input.now) (g.S.Source.left c.feed_piece.new.input)
     (g.S.Source.found c.feed_piece.new.input) c.args.taken.now count bytes buffer so_far inside
     c.in_ok-count.ensures.taken c.feed_piece.ensures.finds (c.in_ok-count.ensures.end none) none
@@ -130,9 +135,9 @@ returns-then-count-eq0-clause-ends g c =
     IsEnded-end (g.R.TraceReader.reading (g.R.TraceReader.terms c.args.reader.now))
     c.args.limit file _ _ bytes _ c.feed_piece.new.segments.items _ _
     at_end adds
-    (rw c.in_ok-count.ensures.terms at c.in_ok-last.ensures.adds bytes at_end.fed)
-    (rw c.in_ok-count.ensures.terms at c.in_ok-last.ensures.whole bytes at_end.fed)
-    (rw c.in_ok-count.ensures.terms at c.in_ok-last.ensures.last bytes at_end.fed)
+    (rw c.in_ok-count.ensures.terms at c.in_ok-last.ensures.adds bytes at_end.fed.fed)
+    (rw c.in_ok-count.ensures.terms at c.in_ok-last.ensures.whole bytes at_end.fed.fed)
+    (rw c.in_ok-count.ensures.terms at c.in_ok-last.ensures.last bytes at_end.fed.fed)
 
 pub returns-clause-read : goal.returns-clause-read
 returns-clause-read g c =

@@ -3,6 +3,7 @@ use Rattle.std.proofs.lemmas.Result.{err_from_is_err_and}
 use Rattle.tre_tool.proofs.Lists.{take-over}
 use Rattle.tre_tool.specs.Devices.{input_told}
 use Rattle.tre_tool.specs.Input.{HasReadCause}
+use Rattle.tre_tool.specs.declared.kept.Kept.{Kept}
 use Rattle.tre_tool.proofs.Readings.{HasRead-bounded, IsCollected-more, IsFed-start, fed_within, IsWhole-ended, StopsReading-turn, StopsReading-unread}
 use Rattle.tre_tool.proofs.offline.read_trace.Goals as goal
 
@@ -58,7 +59,7 @@ returns-in_err-next-clause-stops g c =
     (λ good is. c.in_err-next.ensures.sound (rw inv.sound good) (ap Err is))
     (subst (λ terms. (g.R.TraceReader.reading terms false (take c.args.limit so_far.bytes)).fault
     ≡ None) inv.terms (g.met.R.TraceReader.faultless c.loop-segments.reader
-    (take c.args.limit so_far.bytes) so_far.fed.fed))
+    (take c.args.limit so_far.bytes) so_far.fed.fed.fed))
     (rw (inv.terms, inv.limit) at
     c.in_err-next.ensures.ends (g.S.Source.file c.args.input.now) so_far.bytes so_far.fed))
 
@@ -68,8 +69,10 @@ loop-segments-init g c = record {
     bytes = [];
     fed = IsFed-start (length c.in_ok-feed.feed.buffer.items) c.args.limit
         (g.S.Source.file c.args.input.now) (g.S.Source.left c.open.new.input)
-        (g.S.Source.found c.open.new.input) c.in_ok-feed.feed.taken c.requires.fresh
-        c.in_ok-feed.ensures.bytes (c.in_ok-feed.ensures.finds c.in_ok-feed.ensures.opened)
+        (g.S.Source.found c.open.new.input) c.in_ok-feed.feed.taken (record {
+          fed = c.requires.fresh;
+          is_kept = rw c.in_ok-feed.ensures.kept c.new-kept.ensures.none;
+        }) c.in_ok-feed.ensures.bytes (c.in_ok-feed.ensures.finds c.in_ok-feed.ensures.opened)
         c.in_ok-feed.ensures.start;
     told = rw (take-over {X = ℕ} c.args.limit [] (omega arith), c.requires.nothing)
         c.new-segments.ensures.items;
@@ -80,13 +83,14 @@ loop-segments-init g c = record {
   no_fault = c.in_ok-feed.ensures.cause;
   limit = c.in_ok-feed.ensures.limit;
   room = c.in_ok-feed.ensures.room;
+  asked = ap (λ (kept : Kept). kept.asked) c.in_ok-feed.ensures.kept ∙ c.new-kept.ensures.asked;
 }
 
 pub next-requires-clause-fed : goal.next-requires-clause-fed
 next-requires-clause-fed g c =
     let so_far = c.loop-segments.invariant.collected in
     fed_within _ _ _ _ _ _ _ _ so_far.bytes so_far.fed (g.met.R.TraceReader.counts
-    c.loop-segments.reader (take c.args.limit so_far.bytes) so_far.fed.fed).0
+    c.loop-segments.reader (take c.args.limit so_far.bytes) so_far.fed.fed.fed).0
 
 pub next-requires-clause-room : goal.next-requires-clause-room
 next-requires-clause-room g c = rw c.loop-segments.invariant.room (omega arith)
@@ -114,6 +118,7 @@ loop-segments-preserved g c =
       no_fault = c.in_ok-next.ensures.cause ∙ inv.no_fault;
       limit = c.next.ensures.limit ∙ inv.limit;
       room = c.next.ensures.length ∙ inv.room;
+      asked = c.next.ensures.asked ∙ inv.asked;
     }
 
 pub returns-clause-read : goal.returns-clause-read
@@ -125,9 +130,11 @@ returns-clause-read g c =
     g.S.Source.left g.S.Source.found g.S.Source.faults c.args.input.now
     c.next.new.input in
     rw (c.set_last.ensures.set, c.in_ok-trace.ensures.same, c.last.ensures)
-    (IsWhole-ended reading c.args.limit input so_far.bytes
+    (IsWhole-ended reading c.args.limit input c.next.new.self.kept so_far.bytes
     c.loop-segments.segments.items c.next.new.segments.items c.next.new.self.last
     (c.next.ensures.same_opened ∙ inv.opened) (c.in_ok-next.ensures.cause ∙ inv.no_fault)
+    (c.in_ok-next.ensures.keeps (take c.args.limit so_far.bytes) so_far.fed.fed.is_kept
+    c.if-not-branch.true)
     (rw (inv.terms, inv.limit, c.if-not-branch.true) at
     c.in_ok-next.ensures.ends (g.S.Source.file c.args.input.now) so_far.bytes so_far.fed)
     so_far.told

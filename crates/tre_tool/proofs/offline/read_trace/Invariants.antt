@@ -1,4 +1,5 @@
 use Rattle.std.proofs.Common.{◌≡◌, ◌+◌, ◌-◌, true, length}
+use Rattle.tre_tool.specs.Feeding.{IsFedTo}
 use Rattle.tre_tool.specs.declared.input.TheConstants.{PIECE}
 use Rattle.tre_tool.proofs.Readings.{IsCollected}
 use Rattle.tre_tool.proofs.offline.read_trace.Given as goal
@@ -10,8 +11,8 @@ invariant-loop-segments g l =
     let source = g.S.Source in
     let reader = g.R.TraceReader in
     record {
-      collected : IsCollected (reader.represents l.reader) (reader.reading
-          (reader.terms l.fn.reader)) (length l.feed.buffer.items) l.limit
+      collected : IsCollected (IsFedTo (reader.represents l.reader) l.feed.kept)
+          (reader.reading (reader.terms l.fn.reader)) (length l.feed.buffer.items) l.limit
           (source.file l.fn.input) (source.left l.input) (source.found l.input) l.feed.taken
           l.segments.items;
       terms : reader.terms l.reader ≡ reader.terms l.fn.reader;
@@ -20,6 +21,7 @@ invariant-loop-segments g l =
       no_fault : source.faults l.input ≡ source.faults l.fn.input;
       limit : l.feed.limit ≡ l.limit;
       room : length l.feed.buffer.items ≡ PIECE;
+      asked : l.feed.kept.asked ≡ l.keeps;
     }
 
 abbrev pub decreases-loop-segments : goal.decreases-loop-segments

@@ -7,7 +7,7 @@ unfolding block_text
 returns c =
     rw (
       c.in_ok-push_str-2.ensures.bytes,
-      c.in_ok-number.ensures.text,
+      c.in_ok-push_units.ensures,
       c.in_ok-push_str.ensures.bytes,
       c.in_ok-zone_lines.ensures,
       c.new-text.ensures.bytes,

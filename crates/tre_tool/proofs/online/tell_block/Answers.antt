@@ -7,7 +7,7 @@ returns-in_err-write_text-clause-stops g c =
     let p = err_from_is_err_and c.from_residual-in_err-write_text.result
     c.from_residual-in_err-write_text.ensures.1 in
     λ tree segments before so_far.
-    rw (p.1, p.2, c.in_err-write_text.ensures.status) (HasTold-cut
+    rw (p.1, p.2, c.in_err-write_text.ensures.status) (HasTold-cut c.args.scale
     c.args.session.now c.told_of.new.session tree segments c.args.segment c.in_ok-told.told
     c.in_printed_order-zones.result.items before _ _ so_far
     (c.in_ok-told.ensures.stands segments so_far.stands)
@@ -23,7 +23,7 @@ returns-in_err-write_text-clause-stops g c =
     c.in_err-write_text.ensures.part))
 
 pub returns-clause-told : goal.returns-clause-told
-returns-clause-told g c = λ tree segments before so_far. HasTold-more
+returns-clause-told g c = λ tree segments before so_far. HasTold-more c.args.scale
     c.args.session.now c.told_of.new.session tree segments c.args.segment c.in_ok-told.told
     c.in_printed_order-zones.result.items before _ _ so_far
     (c.in_ok-told.ensures.stands segments so_far.stands)

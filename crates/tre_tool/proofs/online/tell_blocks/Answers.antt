@@ -7,8 +7,8 @@ use Rattle.tre_tool.specs.Telling.{CanTell}
 use Rattle.tre_tool.proofs.Told.{CanTell-first, CanTell-next}
 use Rattle.tre_tool.proofs.online.tell_blocks.Goals as goal
 
-pub tell_block-requires : goal.tell_block-requires
-tell_block-requires g c =
+pub tell_block-requires-clause-comes : goal.tell_block-requires-clause-comes
+tell_block-requires-clause-comes g c =
     let segments = c.args.segments.now in
     let i = c.loop-segment.segment-index in
     let segment = get_or segments i (plain_segment 0 0) in

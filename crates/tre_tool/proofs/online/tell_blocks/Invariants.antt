@@ -11,8 +11,8 @@ invariant-loop-segment g l =
     let faults = g.O.Sink.faults in
     record {
       told : (tree : PatternTree) (front : List Segment) (before : Option (List ℕ))
-          → HasTold l.fn.session tree front before (written l.fn.out)
-          → HasTold l.session tree (front ++ take l.segment-index l.segments) before
+          → HasTold l.fn.session l.scale tree front before (written l.fn.out)
+          → HasTold l.session l.scale tree (front ++ take l.segment-index l.segments) before
           (written l.out);
       rest : CanTell l.session (drop l.segment-index l.segments);
       no_fault : faults l.out ≡ faults l.fn.out;

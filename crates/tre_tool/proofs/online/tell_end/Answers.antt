@@ -5,20 +5,20 @@ use Rattle.tre_tool.proofs.online.tell_end.Goals as goal
 pub returns-in_err-told-clause-stops : goal.returns-in_err-told-clause-stops
 returns-in_err-told-clause-stops g c =
     let p = err_from_is_err_and c.from_residual.result c.from_residual.ensures.1 in
-    λ tree segments before so_far. rw (p.1, p.2) (HasTold-written so_far)
+    λ tree segments before so_far. rw (p.1, p.2) (HasTold-written c.args.scale so_far)
 
 pub returns-in_err-text-clause-stops : goal.returns-in_err-text-clause-stops
 returns-in_err-text-clause-stops g c =
     let p = err_from_is_err_and c.from_residual-in_err-text.result
     c.from_residual-in_err-text.ensures.1 in
-    λ tree segments before so_far. rw (p.1, p.2) (HasTold-written so_far)
+    λ tree segments before so_far. rw (p.1, p.2) (HasTold-written c.args.scale so_far)
 
 pub returns-in_err-write_text-clause-stops : goal.returns-in_err-write_text-clause-stops
 returns-in_err-write_text-clause-stops g c =
     let p = err_from_is_err_and c.from_residual-in_err-write_text.result
     c.from_residual-in_err-write_text.ensures.1 in
     λ tree segments before so_far.
-    rw (p.1, p.2, c.in_err-write_text.ensures.status) (ClosingIsCut-told
+    rw (p.1, p.2, c.in_err-write_text.ensures.status) (ClosingIsCut-told c.args.scale
     c.args.session tree segments c.args.last c.in_ok-told.told
     c.in_printed_order-zones.result.items before _ _ so_far
     (c.in_ok-told.ensures segments so_far.stands)
@@ -33,7 +33,7 @@ returns-in_err-write_text-clause-stops g c =
     c.in_err-write_text.ensures.part))
 
 pub returns-clause-told : goal.returns-clause-told
-returns-clause-told g c = λ tree segments before so_far. HasClosed-told
+returns-clause-told g c = λ tree segments before so_far. HasClosed-told c.args.scale
     c.args.session tree segments c.args.last c.in_ok-told.told
     c.in_printed_order-zones.result.items before _ _ so_far
     (c.in_ok-told.ensures segments so_far.stands)

@@ -3,6 +3,7 @@ use Rattle.std.proofs.lemmas.Result.{err_from_is_err_and}
 use Rattle.tre_online.specs.Session.{pattern_of}
 use Rattle.tre_syntax.specs.Pattern.{pattern_tree}
 use Rattle.tre_tool.specs.Devices.{input_told, output_told}
+use Rattle.tre_tool.specs.Feeding.{IsFedTo}
 use Rattle.tre_tool.proofs.Readings.{fed_within, turn_stops, HasRead-bounded, TakesAtMost-none}
 use Rattle.tre_tool.proofs.Tellings.{CanTell-read, IsTelling-start, IsTelling-more, EndsTelling-unread, EndsTelling-within, EndsTelling-stopped, EndsTelling-done, EndsTelling-cut, HasReadCause-from, HasWriteCause-from}
 use Rattle.tre_tool.proofs.Told.{HasTold-written}
@@ -15,7 +16,7 @@ returns-in_err-feed-clause-ends g c =
     g.S.Source.opened g.S.Source.left g.S.Source.found g.S.Source.faults c.args.input.now
     c.open.new.input in
     let output = output_told g.O.Sink.written g.O.Sink.faults c.args.out.now c.args.out.now in
-    rw (p.1, p.2) (EndsTelling-unread
+    rw (p.1, p.2) (EndsTelling-unread c.args.job.now.scale
     (g.R.TraceReader.reading (g.R.TraceReader.terms c.args.reader.now)) c.args.job.now.max_bytes
     (pattern_tree (pattern_of c.args.session)) c.args.job.now.input input output
     c.in_err-feed.field-0.0 c.requires.nothing
@@ -32,11 +33,14 @@ returns-in_err-feed-clause-bounded g c = λ opened. TakesAtMost-none
 
 pub loop-segments-init : goal.loop-segments-init
 loop-segments-init g c = record {
-  telling = IsTelling-start (g.R.TraceReader.reading (g.R.TraceReader.terms c.args.reader.now))
-      (length c.in_ok-feed.feed.buffer.items) c.args.job.now.max_bytes
+  telling = IsTelling-start c.args.job.now.scale (g.R.TraceReader.reading (g.R.TraceReader.terms
+      c.args.reader.now)) (length c.in_ok-feed.feed.buffer.items) c.args.job.now.max_bytes
       (g.S.Source.file c.args.input.now) (g.S.Source.left c.open.new.input)
       (g.S.Source.found c.open.new.input) c.in_ok-feed.feed.taken c.args.session
-      (g.O.Sink.written c.args.out.now) c.requires.fresh c.requires.nothing
+      (g.O.Sink.written c.args.out.now) (record {
+        fed = c.requires.fresh;
+        is_kept = rw c.in_ok-feed.ensures.kept c.new-kept.ensures.none;
+      }) c.requires.nothing
       c.in_ok-feed.ensures.bytes (c.in_ok-feed.ensures.finds c.in_ok-feed.ensures.opened)
       c.in_ok-feed.ensures.start c.requires.stands;
   empty = c.new-segments.ensures.items;
@@ -53,19 +57,19 @@ pub next-fed-requires-clause-opened : goal.next-fed-requires-clause-opened
 next-fed-requires-clause-opened g c = c.loop-segments.invariant.opened
 
 pub next-fed-requires-clause-fits : goal.next-fed-requires-clause-fits
-next-fed-requires-clause-fits g c = rw c.loop-segments.invariant.limit c.requires.fits
+next-fed-requires-clause-fits g c = rw c.loop-segments.invariant.limit c.requires.job.small
 
 pub next-fed-requires-clause-fed : goal.next-fed-requires-clause-fed
 next-fed-requires-clause-fed g c =
     let tel = c.loop-segments.invariant.telling in
     fed_within _ _ _ _ _ _ _ _ tel.bytes tel.fed (g.met.R.TraceReader.counts c.loop-segments.reader
-    (take c.args.job.now.max_bytes tel.bytes) tel.fed.fed).0
+    (take c.args.job.now.max_bytes tel.bytes) tel.fed.fed.fed).0
 
 pub next-fed-requires-clause-room : goal.next-fed-requires-clause-room
 next-fed-requires-clause-room g c = rw c.loop-segments.invariant.room (omega arith)
 
-pub tell_blocks-requires : goal.tell_blocks-requires
-tell_blocks-requires g c =
+pub tell_blocks-requires-clause-comes : goal.tell_blocks-requires-clause-comes
+tell_blocks-requires-clause-comes g c =
     let inv = c.loop-segments.invariant in
     let tel = inv.telling in
     let terms = g.R.TraceReader.terms c.args.reader.now in
@@ -97,14 +101,15 @@ returns-in_err-tell_blocks-clause-ends g c =
     c.next-fed.new.input in
     let output = output_told g.O.Sink.written g.O.Sink.faults c.args.out.now
     c.tell_blocks.new.out in
-    let stops = turn_stops (g.R.TraceReader.represents c.next-fed.new.reader) reading
+    let stops = turn_stops (IsFedTo (g.R.TraceReader.represents c.next-fed.new.reader)
+    c.next-fed.new.self.kept) reading
     (length c.loop-segments.feed.buffer.items) limit file (g.S.Source.left c.next-fed.new.input)
     (g.S.Source.found c.next-fed.new.input) c.next-fed.new.self.taken tel.bytes [] new
     c.next-fed.new.self.last c.next-fed.result (rw (inv.terms, inv.limit, inv.empty) at
     c.next-fed.ensures.ends file tel.bytes tel.fed) in
     let within = rw c.deref.ensures.value at c.in_err-tell_blocks.ensures.stops tree
     (reading false (take limit tel.bytes)).segments (g.O.Sink.written c.args.out.now) tel.told in
-    rw (p.1, p.2) (EndsTelling-within reading
+    rw (p.1, p.2) (EndsTelling-within c.args.job.now.scale reading
     (λ closed first more. g.met.R.TraceReader.grows (g.R.TraceReader.terms c.args.reader.now)
     closed first more) (length c.loop-segments.feed.buffer.items) limit tree
     c.args.job.now.input input output tel.bytes new c.in_err-tell_blocks.field-0.0
@@ -143,7 +148,7 @@ returns-in_err-fed-clause-ends g c =
     (reading false (take limit tel.bytes)).segments (g.O.Sink.written c.args.out.now) tel.told in
     let stops = rw (inv.terms, inv.limit, inv.empty) at
     c.in_err-fed.ensures.ends file tel.bytes tel.fed in
-    rw (p.1, p.2) (EndsTelling-stopped reading
+    rw (p.1, p.2) (EndsTelling-stopped c.args.job.now.scale reading
     (λ closed first more. g.met.R.TraceReader.grows (g.R.TraceReader.terms c.args.reader.now)
     closed first more) (length c.loop-segments.feed.buffer.items) limit
     tree c.args.job.now.input input output tel.bytes new c.in_err-fed.field-0.0 has inv.room
@@ -154,8 +159,8 @@ returns-in_err-fed-clause-ends g c =
     stops
     (subst (λ terms. (g.R.TraceReader.reading terms false (take limit tel.bytes)).fault ≡ None)
     inv.terms (g.met.R.TraceReader.faultless c.loop-segments.reader (take limit tel.bytes)
-    tel.fed.fed))
-    (c.in_ok-tell_blocks.ensures.cause ∙ inv.good) (HasTold-written told))
+    tel.fed.fed.fed))
+    (c.in_ok-tell_blocks.ensures.cause ∙ inv.good) (HasTold-written c.args.job.now.scale told))
 
 pub returns-in_err-fed-clause-bounded : goal.returns-in_err-fed-clause-bounded
 returns-in_err-fed-clause-bounded g c =
@@ -181,7 +186,8 @@ loop-segments-preserved g c =
     c.in_ok-fed.ensures.ends file tel.bytes tel.fed in
     record {
       telling = rw c.next-fed.ensures.length
-          (IsTelling-more reading (length c.loop-segments.feed.buffer.items) limit file
+          (IsTelling-more c.args.job.now.scale reading (length c.loop-segments.feed.buffer.items)
+              limit file
           (g.S.Source.left c.next-fed.new.input) (g.S.Source.found c.next-fed.new.input)
           c.next-fed.new.self.taken c.tell_blocks.new.session tree tel.bytes new
           (g.O.Sink.written c.args.out.now) (g.O.Sink.written c.tell_blocks.new.out) more told);
@@ -218,7 +224,7 @@ returns-in_err-tell_end-clause-ends g c =
     c.in_ok-fed.ensures.ends file tel.bytes tel.fed in
     let trace = g.met.R.TraceReader.is_trace (g.R.TraceReader.terms c.args.reader.now) true
     tel.bytes in
-    rw (p.1, p.2) (EndsTelling-cut reading
+    rw (p.1, p.2) (EndsTelling-cut c.args.job.now.scale reading
     (λ closed first more. g.met.R.TraceReader.grows (g.R.TraceReader.terms c.args.reader.now)
     closed first more) (length c.loop-segments.feed.buffer.items) limit tree
     c.args.job.now.input input output tel.bytes new c.next-fed.new.self.last
@@ -260,7 +266,7 @@ returns-clause-ends g c =
     c.in_ok-fed.ensures.ends file tel.bytes tel.fed in
     let trace = g.met.R.TraceReader.is_trace (g.R.TraceReader.terms c.args.reader.now) true
     tel.bytes in
-    EndsTelling-done reading limit tree
+    EndsTelling-done c.args.job.now.scale reading limit tree
     c.args.job.now.input input output tel.bytes new c.next-fed.new.self.last
     (c.next-fed.ensures.same_opened ∙ inv.opened) ended trace
     (c.in_ok-fed.ensures.cause ∙ inv.no_fault)

@@ -1,6 +1,7 @@
 use Rattle.std.proofs.Common.{◌≡◌, ◌+◌, ◌-◌, [], true, length}
 use Rattle.tre_online.specs.Session.{pattern_of}
 use Rattle.tre_syntax.specs.Pattern.{pattern_tree}
+use Rattle.tre_tool.specs.Feeding.{IsFedTo}
 use Rattle.tre_tool.specs.declared.input.TheConstants.{PIECE}
 use Rattle.tre_tool.proofs.Tellings.{IsTelling}
 use Rattle.tre_tool.proofs.online.tell_input.Given as goal
@@ -13,8 +14,8 @@ invariant-loop-segments g l =
     let reader = g.R.TraceReader in
     let sink = g.O.Sink in
     record {
-      telling : IsTelling (reader.represents l.reader) (reader.reading
-          (reader.terms l.fn.reader)) (length l.feed.buffer.items) l.job.max_bytes
+      telling : IsTelling l.job.scale (IsFedTo (reader.represents l.reader) l.feed.kept)
+          (reader.reading (reader.terms l.fn.reader)) (length l.feed.buffer.items) l.job.max_bytes
           (source.file l.fn.input) (source.left l.input) (source.found l.input) l.feed.taken
           l.session
           (pattern_tree (pattern_of l.fn.session)) (sink.written l.fn.out) (sink.written l.out);

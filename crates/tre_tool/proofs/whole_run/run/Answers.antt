@@ -1,7 +1,8 @@
 use Rattle.std.proofs.Common.{map, string_bytes}
 use Rattle.tre_words.specs.Job.{made_job}
 use Rattle.tre_tool.proofs.MadeRuns.{EndsMadeRun-ends, gives_one}
-use Rattle.tre_tool.proofs.Promise.{job_unique, IsComplete-ends, IsLineTold-of}
+use Rattle.tre_words.proofs.Jobs.{job_unique}
+use Rattle.tre_tool.proofs.Promise.{IsComplete-ends, IsLineTold-of}
 use Rattle.tre_tool.proofs.whole_run.run.Goals as goal
 
 pub returns-clause-complete : goal.returns-clause-complete

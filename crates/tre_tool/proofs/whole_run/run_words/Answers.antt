@@ -3,16 +3,16 @@ use Rattle.std.proofs.lemmas.Result.{err_from_is_err_and}
 use Rattle.tre_tool.specs.declared.status.Status.TheVariants.{Done}
 use Rattle.tre_tool.specs.Input.{TakesAtMost}
 use Rattle.tre_words.specs.declared.job.Job.{Job}
-use Rattle.tre_tool.proofs.MadeRuns.{IsCount-given}
-use Rattle.tre_tool.proofs.Promise.{named_as, told_as_such, EndsAs-refused, EndsAs-over, IsRefused-of, AsksFor-of, job_unique, kept_as, nothing_asked}
+use Rattle.tre_words.proofs.Jobs.{job_unique}
+use Rattle.tre_tool.proofs.Promise.{named_as, told_as_such, EndsAs-refused, EndsAs-over, AsksFor-of, kept_as, nothing_asked}
 use Rattle.tre_tool.proofs.whole_run.run_words.Goals as goal
 
-pub returns-in_err-pattern-clause-ends : goal.returns-in_err-pattern-clause-ends
-returns-in_err-pattern-clause-ends g c =
-    let p = err_from_is_err_and c.from_residual-in_err-pattern.result
-    c.from_residual-in_err-pattern.ensures.1 in
-    rw (p.1, p.2) (EndsAs-refused _ _ _ c.in_err-pattern.field-0.0
-    (IsRefused-of _ _ _ c.in_ok-job.ensures.ok c.in_err-pattern.ensures.refuses)
+pub returns-in_err-asked-clause-ends : goal.returns-in_err-asked-clause-ends
+returns-in_err-asked-clause-ends g c =
+    let p = err_from_is_err_and c.from_residual-in_err-asked.result
+    c.from_residual-in_err-asked.ensures.1 in
+    rw (p.1, p.2) (EndsAs-refused _ c.in_ok-job.job _ _ c.in_err-asked.field-0.0
+    c.in_ok-job.ensures.ok c.in_err-asked.ensures.refuses
     (record {
       unopened = c.requires;
       reads = refl;
@@ -23,26 +23,30 @@ pub returns-in_err-answer-clause-ends : goal.returns-in_err-answer-clause-ends
 returns-in_err-answer-clause-ends g c =
     let p = err_from_is_err_and c.from_residual-in_err-answer.result
     c.from_residual-in_err-answer.ensures.1 in
-    let asks = AsksFor-of _ c.in_ok-job.job _ _ c.in_ok-job.ensures.ok
-    c.in_ok-pattern.ensures.spells in
+    let asked = c.in_ok-asked.asked in
+    let asks = AsksFor-of _ c.in_ok-job.job asked.definitions.items asked.pattern asked.taken
+    c.in_ok-job.ensures.ok c.in_ok-asked.ensures.patterns c.in_ok-asked.ensures.defines in
     rw (p.1, p.2) (EndsAs-over _ _ _ _ c.in_err-answer.field-0.0 asks c.in_err-answer.ensures.ends)
 
 pub returns-in_err-answer-clause-untouched : goal.returns-in_err-answer-clause-untouched
 returns-in_err-answer-clause-untouched g c =
-    let asks = AsksFor-of _ c.in_ok-job.job _ _ c.in_ok-job.ensures.ok
-    c.in_ok-pattern.ensures.spells in
+    let asked = c.in_ok-asked.asked in
+    let asks = AsksFor-of _ c.in_ok-job.job asked.definitions.items asked.pattern asked.taken
+    c.in_ok-job.ensures.ok c.in_ok-asked.ensures.patterns c.in_ok-asked.ensures.defines in
     λ nothing. absurd (nothing_asked _ (job_unique (map string_bytes c.args.words.now)) _ asks nothing)
 
 pub returns-clause-ends : goal.returns-clause-ends
 returns-clause-ends g c =
-    let asks = AsksFor-of _ c.in_ok-job.job _ _ c.in_ok-job.ensures.ok
-    c.in_ok-pattern.ensures.spells in
+    let asked = c.in_ok-asked.asked in
+    let asks = AsksFor-of _ c.in_ok-job.job asked.definitions.items asked.pattern asked.taken
+    c.in_ok-job.ensures.ok c.in_ok-asked.ensures.patterns c.in_ok-asked.ensures.defines in
     EndsAs-over _ _ _ _ Done asks c.in_ok-answer.ensures.ends
 
 pub returns-clause-untouched : goal.returns-clause-untouched
 returns-clause-untouched g c =
-    let asks = AsksFor-of _ c.in_ok-job.job _ _ c.in_ok-job.ensures.ok
-    c.in_ok-pattern.ensures.spells in
+    let asked = c.in_ok-asked.asked in
+    let asks = AsksFor-of _ c.in_ok-job.job asked.definitions.items asked.pattern asked.taken
+    c.in_ok-job.ensures.ok c.in_ok-asked.ensures.patterns c.in_ok-asked.ensures.defines in
     λ nothing. absurd (nothing_asked _ (job_unique (map string_bytes c.args.words.now)) _ asks nothing)
 
 pub returns-in_err-answer-clause-by_name : goal.returns-in_err-answer-clause-by_name
@@ -54,11 +58,6 @@ pub returns-clause-by_name : goal.returns-clause-by_name
 returns-clause-by_name g c = λ job gives opened.
     named_as (map string_bytes c.args.words.now) c.in_ok-job.job job _ c.in_ok-job.ensures.ok gives
     (c.in_ok-answer.ensures.by_name opened)
-
-pub answer-requires-clause-counted : goal.answer-requires-clause-counted
-answer-requires-clause-counted g c = λ count mode.
-    IsCount-given (map string_bytes c.args.words.now) c.in_ok-job.job count c.in_ok-job.ensures.ok
-    mode
 
 pub returns-in_err-answer-clause-source_untouched :
     goal.returns-in_err-answer-clause-source_untouched

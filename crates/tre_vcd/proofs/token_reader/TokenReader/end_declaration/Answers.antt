@@ -1,7 +1,6 @@
-use Rattle.std.proofs.Common.{◌≡◌, ◌≤◌, ◌∷◌, length, map, take, sym, ap, subst, ◌∙◌, arith}
+use Rattle.std.proofs.Common.{◌≡◌, ◌∷◌, length, map, take, sym, ap, ◌∙◌, arith}
 use Rattle.std.proofs.lemmas.List.{length-map}
-use Rattle.tre_decimal.specs.declared.TheConstants.{SCALE_MAX}
-use Rattle.tre_vcd.specs.VcdReading.{Terms, var, nothing}
+use Rattle.tre_vcd.specs.VcdReading.{var, nothing}
 use Rattle.tre_vcd.proofs.Tokens.{declaration-long}
 use Rattle.tre_vcd.proofs.token_reader.TokenReader.end_declaration.Goals as goal
 
@@ -17,7 +16,5 @@ returns-in-Ok-clause-tells c = λ past word tokens holds.
       says = declaration-long past tokens (omega (arith, count, c.if-as_slice-lt4.false));
       is_held = c.close.ensures.holds (var tokens ∷ past)
           (c.in-Ok.ensures.knows past word tokens holds).0
-          (c.in-Ok.ensures.knows past word tokens holds).1
-          (subst (λ scale. scale ≤ SCALE_MAX)
-          (sym (ap (λ (terms : Terms). terms.scale) c.declare.ensures.same_terms)) holds.scale);
+          (c.in-Ok.ensures.knows past word tokens holds).1;
     }

@@ -10,7 +10,6 @@ returns-clause-begins c = λ holds. record {
       subst (KnowsAll []) (sym c.in_ok-push.ensures.items)
       (needed-more [] c.args.self.now.needed.items c.in_ok-needed.needed holds.needed
       c.in_ok-needed.ensures.knows);
-  scale = holds.scale;
   inside = holds.inside;
   tokens = holds.tokens;
   suits = holds.suits;

@@ -4,10 +4,9 @@ use Rattle.tre_vcd.proofs.token_reader.TokenReader.new.Goals as goal
 
 pub returns-clause-begins : goal.returns-clause-begins
 returns-clause-begins c = record {
-  past = c.new-2.ensures c.args.names c.args.events;
+  past = c.new-3.ensures c.args.names c.args.events;
   needed = needed-none [] _ c.new.ensures.items;
-  scale = c.requires;
   inside = refl;
-  tokens = ap (map _) c.new-3.ensures.items;
+  tokens = ap (map _) c.new-4.ensures.items;
   suits = tt;
 }

@@ -1,5 +1,4 @@
-use Rattle.std.proofs.Common.{◌≡◌, ◌∷◌, [], ◌-◌, ◌*◌, ◌^◌, ◌≤◌, min, refl, true, false, Ok, sym, ap, subst, ◌∙◌, arith}
-use Rattle.std.specs.Str.Parse.{digits_value}
+use Rattle.std.proofs.Common.{◌≡◌, ◌∷◌, [], ◌-◌, ◌≤◌, refl, true, false, Ok, sym, ap, ◌∙◌, arith}
 use Rattle.tre_trace.specs.declared.segment.Segment.{Segment}
 use Rattle.tre_trace.specs.Segments.{segment_with}
 use Rattle.tre_vcd.specs.VcdReading.{time, nothing, time_at, valuation_at, events_at}
@@ -13,22 +12,17 @@ pub returns-then-ticks-self-2-clause-tells : goal.returns-then-ticks-self-2-clau
 returns-then-ticks-self-2-clause-tells c = λ past holds defined.
     let reader = c.args.self.now in
     let ticks = c.in-Some.ticks in
-    let scale : c.min.result ≡ reader.scale = omega (arith, c.min.ensures, holds.scale) in
-    let value : ticks ≡ min (digits_value 10 c.args.digits.now * 10 ^ reader.scale) (2 ^ 64 - 1) =
-    subst (λ n. ticks ≡ min (digits_value 10 c.args.digits.now * 10 ^ n) (2 ^ 64 - 1)) scale
-    c.in-Some.ensures.value in
     let late : time_at past ≤ ticks = omega (arith, holds.past.time, c.if-ticks-self.false) in
     record {
       state = record { past = time ticks ∷ past; inside = nothing };
       says =
           time-says (terms_kept reader) past c.args.digits.now ticks true c.in-Some.ensures.digits
-          value late c.if-ticks-gt-TIME_MAX.false
+          c.in-Some.ensures.value late c.if-ticks-gt-TIME_MAX.false
           (same_time ticks (time_at past) (c.if-ticks-self-2.true ∙ holds.past.time));
       is_held = record {
         past = c.reach.ensures reader.names reader.events past holds.past;
         needed = needed-same past (time ticks ∷ past) reader.needed.items (λ test name. refl)
             holds.needed;
-        scale = holds.scale;
         inside = holds.inside;
         tokens = holds.tokens;
         suits = tt;
@@ -39,10 +33,6 @@ pub returns-clause-tells : goal.returns-clause-tells
 returns-clause-tells c = λ past holds defined.
     let reader = c.args.self.now in
     let ticks = c.in-Some.ticks in
-    let scale : c.min.result ≡ reader.scale = omega (arith, c.min.ensures, holds.scale) in
-    let value : ticks ≡ min (digits_value 10 c.args.digits.now * 10 ^ reader.scale) (2 ^ 64 - 1) =
-    subst (λ n. ticks ≡ min (digits_value 10 c.args.digits.now * 10 ^ n) (2 ^ 64 - 1)) scale
-    c.in-Some.ensures.value in
     let late : time_at past ≤ ticks = omega (arith, holds.past.time, c.if-ticks-self.false) in
     let is : segment_with (ticks - time_at past) (valuation_at past reader.names)
     (events_at past reader.events)
@@ -57,7 +47,7 @@ returns-clause-tells c = λ past holds defined.
       state = record { past = time ticks ∷ past; inside = nothing };
       says =
           time-says (terms_kept reader) past c.args.digits.now ticks false c.in-Some.ensures.digits
-          value late c.if-ticks-gt-TIME_MAX.false
+          c.in-Some.ensures.value late c.if-ticks-gt-TIME_MAX.false
           (other_time ticks (time_at past) (λ e. c.if-ticks-self-2.false (e ∙ sym holds.past.time)))
           ∙ ap (λ (segment : Segment). Ok (record {
             segments = segment ∷ [];
@@ -67,7 +57,6 @@ returns-clause-tells c = λ past holds defined.
         past = c.reach-2.ensures reader.names reader.events past holds.past;
         needed = needed-same past (time ticks ∷ past) reader.needed.items (λ test name. refl)
             holds.needed;
-        scale = holds.scale;
         inside = holds.inside;
         tokens = holds.tokens;
         suits = tt;

@@ -14,7 +14,6 @@ returns-in-Number-clause-tells c past holds defined =
       is_held = record {
         past = holds.past;
         needed = holds.needed;
-        scale = holds.scale;
         inside = refl;
         tokens = holds.tokens;
         suits = defined;

@@ -36,7 +36,6 @@ returns-then-not-is_empty-clause-tells c = λ state holds.
         needed =
             needed-same state.past (change scalar rest (letter == 49) ∷ state.past)
             reader.needed.items (λ test name. refl) holds.needed;
-        scale = holds.scale;
         inside = reads.stays;
         tokens = reads.tokens;
         suits = tt;

@@ -1,0 +1,126 @@
+-- What a table says, by its header.
+use Rattle.std.proofs.Common.{◌≡◌, ◌≢◌, ℕ, ◌+◌, Option, None, Some, List, [], ◌∷◌, ◌++◌, length, true, Result, Ok, Err, refl, sym, ap, ◌∙◌, inl, inr, ◌⊎◌}
+use Rattle.csv.specs.Reading.{default_config, records, strip_bom}
+use Rattle.tre_num.specs.declared.column.Column.{Column}
+use Rattle.tre_num.specs.Rows.{Terms, compared, row_says, rows_from, rows_reading, says_on, table_says, under_header}
+use Rattle.tre_parts.specs.Format.{faulty, nothing}
+use Rattle.tre_trace.specs.Reading.{Adds, IsRefused, Reading}
+use Rattle.tre_trace.specs.declared.fault.TraceFault.{TraceFault}
+use Rattle.tre_trace.specs.declared.fault.TraceKind.{TraceKind}
+use Rattle.tre_trace.specs.declared.fault.TraceKind.TheVariants.{Memory, Spent, UnknownName}
+use Rattle.tre_trace.specs.declared.segment.Segment.{Segment}
+use Rattle.tre_trace.proofs.Readings.{Adds-none, IsRefused-memory, IsRefused-told, is_memory}
+
+module _ (terms : Terms) (all : List (List (List ℕ))) where
+  -- the rows behind a header under which each name has its column
+  pub header-says : (header : List (List ℕ)) (others : List (List (List ℕ)))
+      (columns seen : List Column) (width scale : ℕ) → all ≡ header ∷ others
+      → compared terms header ≡ Some columns → seen ≡ columns → width ≡ length header
+      → scale ≡ terms.scale → rows_from seen width scale 2 others 0 ≡ table_says terms all
+  header-says header others columns seen width scale first found same wide scaled =
+      ap (λ columns. rows_from columns width scale 2 others 0) same
+      ∙ ap (λ width. rows_from columns width scale 2 others 0) wide
+      ∙ ap (λ scale. rows_from columns (length header) scale 2 others 0) scaled
+      ∙ ap (λ columns. under_header columns (length header) terms.scale others) (sym found)
+      ∙ ap (table_says terms) (sym first)
+
+  -- no record, where each name has its column
+  pub none-says : (columns : List Column) → all ≡ [] → compared terms [] ≡ Some columns
+      → table_says terms all ≡ nothing
+  none-says columns none found =
+      ap (table_says terms) none
+      ∙ ap (λ columns. under_header columns 0 terms.scale []) found
+
+  -- a name has no column
+  unknown-says : (header : List (List ℕ)) (others : List (List (List ℕ)))
+      → all ≡ header ∷ others → compared terms header ≡ None
+      → table_says terms all ≡ faulty 1 UnknownName
+  unknown-says header others first unknown =
+      ap (table_says terms) first
+      ∙ ap (λ columns. under_header columns (length header) terms.scale others) unknown
+
+  unknown-none : all ≡ [] → compared terms [] ≡ None
+      → table_says terms all ≡ faulty 1 UnknownName
+  unknown-none none unknown =
+      ap (table_says terms) none
+      ∙ ap (λ columns. under_header columns 0 terms.scale []) unknown
+
+  module _ (before : List Segment) (fault : TraceFault) where
+    refused : (unknown : Type 0) → (unknown → table_says terms all ≡ faulty 1 UnknownName)
+        → (fault.kind ≢ Memory → unknown × (fault ≡ record { place = 1; kind = UnknownName }))
+        → fault.kind ≢ Spent → IsRefused before before nothing (table_says terms all) fault
+    refused unknown says told never_spent = by (is_memory fault.kind) where
+      now : Reading
+      now = table_says terms all
+
+      by : (fault.kind ≡ Memory) ⊎ (fault.kind ≢ Memory)
+          → IsRefused before before nothing now fault
+      by (inl memory) =
+          IsRefused-memory before nothing now fault
+          (record { added = now.segments; segments = refl; fault = λ f is. cc }) memory
+      by (inr other) =
+          let did = told other in
+          let is = says did.0 in
+          IsRefused-told before before nothing now fault
+          (Adds-none before nothing now (ap (λ (r : Reading). r.segments) is))
+          (ap (λ (r : Reading). r.fault) is ∙ ap Some (sym did.1)) never_spent
+
+    -- the header was refused
+    pub header-refused : (header : List (List ℕ)) (others : List (List (List ℕ)))
+        → all ≡ header ∷ others
+        → (fault.kind ≢ Memory → (compared terms header ≡ None)
+        × (fault ≡ record { place = 1; kind = UnknownName }))
+        → fault.kind ≢ Spent → IsRefused before before nothing (table_says terms all) fault
+    header-refused header others first told never_spent =
+        refused (compared terms header ≡ None) (unknown-says header others first) told never_spent
+
+    -- there was none, and a name needs one
+    pub none-refused : all ≡ []
+        → (fault.kind ≢ Memory → (compared terms [] ≡ None)
+        × (fault ≡ record { place = 1; kind = UnknownName }))
+        → fault.kind ≢ Spent → IsRefused before before nothing (table_says terms all) fault
+    none-refused none told never_spent =
+        refused (compared terms [] ≡ None) (unknown-none none) told never_spent
+
+-- ---- no event happens at the end
+
+says-quiet : (number end : ℕ) (said : Result Segment TraceKind) (more : ℕ → Reading)
+    → ((now : ℕ) → (more now).last ≡ 0) → (says_on number end said more).last ≡ 0
+says-quiet number end (Err kind) more later = refl
+says-quiet number end (Ok segment) more later = later (end + segment.len)
+
+rows-quiet : (columns : List Column) (width scale number : ℕ) (rows : List (List (List ℕ)))
+    (end : ℕ) → (rows_from columns width scale number rows end).last ≡ 0
+rows-quiet columns width scale number [] end = refl
+rows-quiet columns width scale number (row ∷ rows) end =
+    says-quiet number end (row_says columns width scale end row)
+    (rows_from columns width scale (number + 1) rows)
+    (rows-quiet columns width scale (number + 1) rows)
+
+under-quiet : (columns : Option (List Column)) (width scale : ℕ) (rows : List (List (List ℕ)))
+    → (under_header columns width scale rows).last ≡ 0
+under-quiet None width scale rows = refl
+under-quiet (Some columns) width scale rows = rows-quiet columns width scale 2 rows 0
+
+table-quiet : (terms : Terms) (rows : List (List (List ℕ))) → (table_says terms rows).last ≡ 0
+table-quiet terms [] = under-quiet (compared terms []) 0 terms.scale []
+table-quiet terms (header ∷ rows) =
+    under-quiet (compared terms header) (length header) terms.scale rows
+
+pub reading-quiet : (terms : Terms) (bytes : List ℕ) → (rows_reading terms true bytes).last ≡ 0
+reading-quiet terms bytes = table-quiet terms (records default_config (strip_bom bytes))
+
+-- ---- a list that had no segments
+
+pub all-added : (old new : List Segment) (now : Reading) → old ≡ [] → Adds old new nothing now
+    → new ≡ now.segments
+all-added old new now none adds =
+    adds.new_is ∙ ap (λ front. front ++ adds.added) none ∙ sym adds.beyond
+
+pub whole-is : (segments : List Segment) (now : Reading) → segments ≡ now.segments
+    → now.last ≡ 0 → now.fault ≡ None
+    → now ≡ record { segments = segments; last = 0; fault = None }
+whole-is segments now all quiet whole =
+    ap (λ last. record { segments = now.segments; last = last; fault = now.fault }) quiet
+    ∙ ap (λ fault. record { segments = now.segments; last = 0; fault = fault }) whole
+    ∙ ap (λ (s : List Segment). record { segments = s; last = 0; fault = None }) (sym all)
