@@ -1,4 +1,4 @@
-//! Tests of traces: the crates from tre_io to the readers of both formats, by their public calls.
+//! Tests of traces: the crates from tre_io to the readers of all formats, by their public calls.
 //!
 //! What the contracts of these crates say holds of every input. The tests say whether that is what
 //! was meant: what a text or a dump says is compared with what was worked out by hand, however its

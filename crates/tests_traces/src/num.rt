@@ -1,11 +1,13 @@
 // Tests of tre_num.
+use crate::reading::{feed, read};
 use std::alloc::{AllocError, Global};
 use std::test::Fail;
 use tests_support::names_of;
 use tre_decimal::SCALE_MAX;
 use tre_num::Comparison::{AtLeast, AtMost, Equal, Greater, Less, Unequal};
-use tre_num::{Comparison, Definition, LetFault, read_definitions, read_rows};
-use tre_trace::{Trace, TraceFault};
+use tre_num::{ColumnsReader, Comparison, Definition, LetFault, read_definitions, read_rows};
+use tre_trace::TraceKind::Spent;
+use tre_trace::{Trace, TraceFault, TraceReader};
 
 // A number, a comparison, and whether it holds of the number and 3.
 const COMPARISONS: [(i64, Comparison, bool); 18] = [
@@ -57,8 +59,8 @@ fn definitions(alloc: Global) -> Result<Vec<Definition>, AllocError> {
 }
 
 // The names of propositions, a scale, rows, and what they say: segments, each as its length and its
-// valuation, or the fault with its record.
-const ROWS: [(&str, u8, &str, &str); 41] = [
+// valuation, and the fault with its record.
+const ROWS: [(&str, u8, &str, &str); 52] = [
     ("hot", 0, "dt,temp\n2,79\n3,\"80\"\n1,-5\n", "2:0 3:1 1:0 "),
     ("hot", 0, "dt,temp\n2,x", "BadNumber 2"),
     ("hot", 0, "dt,temp\n2", "CutShort 2"),
@@ -71,11 +73,16 @@ const ROWS: [(&str, u8, &str, &str); 41] = [
     ("hot", 0, "temp,dt\n80,1", "UnknownName 1"),
     ("hot", 0, "dt, temp\n1,80", "UnknownName 1"),
     ("hot", 0, "dt,temp\n0,81\n1,x", "Zero 2"),
-    ("hot", 0, "dt,temp\n1,80\n0,x", "Zero 3"),
+    ("hot", 0, "dt,temp\n1,80\n0,x", "1:1 Zero 3"),
     ("hot", 0, "dt,temp\nx", "CutShort 2"),
     ("hot", 0, "dt,temp\n,80", "BadNumber 2"),
     ("hot", 0, "dt,temp\n1099511627776,80\n", "1099511627776:1 "),
-    ("hot", 0, "dt,temp\n1099511627776,80\n1,x", "TooLate 3"),
+    (
+        "hot",
+        0,
+        "dt,temp\n1099511627776,80\n1,x",
+        "1099511627776:1 TooLate 3",
+    ),
     ("hot", 0, "dt,temp\n99999999999999999999,80", "TooLate 2"),
     ("hot", 0, "dt,temp,temp\n1,80,1\n1,1,80", "1:1 1:0 "),
     ("hot", 0, "\u{feff}dt,temp\n1,80", "1:1 "),
@@ -85,7 +92,7 @@ const ROWS: [(&str, u8, &str, &str); 41] = [
         "dt,temp\r\n1,80\r\n\r\n\n1,7\r1,80",
         "1:1 1:0 1:1 ",
     ),
-    ("hot", 0, "dt,temp\n1,80\n\n\n1", "CutShort 3"),
+    ("hot", 0, "dt,temp\n1,80\n\n\n1", "1:1 CutShort 3"),
     ("hot", 0, "dt,temp\n1,80,x,y\n", "1:1 "),
     ("hot", 0, "dt,temp\n1, 80", "BadNumber 2"),
     ("hot", 0, "dt,temp\n 1,80", "BadNumber 2"),
@@ -114,10 +121,115 @@ const ROWS: [(&str, u8, &str, &str); 41] = [
     ),
     ("low", 0, "dt,temp,level\n1,x,4\n1,,9", "1:1 1:0 "),
     ("hot", 1, "dt,temp\n0.5,80\n1.20,1", "5:1 12:0 "),
-    ("hot", 1, "dt,temp\n0.5,80\n1.25,1", "BadNumber 3"),
+    ("hot", 1, "dt,temp\n0.5,80\n1.25,1", "5:1 BadNumber 3"),
+    ("hot", 0, "\n\r\n\n dt,temp\n1,80", "1:1 "),
+    ("hot", 0, ",temp\n1,80", "1:1 "),
+    ("hot", 0, "\u{feff}", "UnknownName 1"),
+    ("", 0, "\u{feff}", ""),
+    (
+        "hot",
+        0,
+        "\u{feff}\"dt\",\"temp\"\r\n\"1\",\"80\"\r\n",
+        "1:1 ",
+    ),
+    ("hot", 0, "dt,temp\n1,80 ", "BadNumber 2"),
+    ("hot", 0, "dt,temp\n \n1,80", "CutShort 2"),
+    ("hot", 0, "dt,temp\n\"1,80", "CutShort 2"),
+    ("hot", 0, "dt,temp\n1,\"80", "1:1 "),
+    ("hot", 0, "dt;temp\n1;80", "UnknownName 1"),
+    ("", 0, "dt\n1\n2,x\n3", "1:0 2:0 3:0 "),
 ];
 
-// Each segment as its length and its valuation, or the fault.
+fn reader(alloc: Global, names: &str, events: &str, scale: u8) -> Result<ColumnsReader, Fail> {
+    let definitions = definitions(alloc)?;
+    let (names, events) = (names_of(alloc, names)?, names_of(alloc, events)?);
+    let scale = scale.min(SCALE_MAX);
+    Ok(ColumnsReader::new(alloc, definitions, names, events, scale))
+}
+
+// Whether the rows say this, in pieces of this many bytes.
+fn says(
+    alloc: Global,
+    (names, events): (&str, &str),
+    scale: u8,
+    rows: &[u8],
+    most: usize,
+    want: &str,
+) -> Result<bool, Fail> {
+    let mut reader = reader(alloc, names, events, scale)?;
+    Ok(read(alloc, &mut reader, rows, most)?.as_str() == want)
+}
+
+#[test]
+fn rows_are_read(rt: HostRuntime) -> Result<(), Fail> {
+    for (names, scale, rows, want) in &ROWS {
+        for most in [1, 2, 7, 1000] {
+            let named = (*names, "");
+            let rows = rows.as_bytes();
+            assert!(rt;
+                says(rt.alloc(), named, *scale, rows, most, *want)?,
+                "{want} {most}"
+            );
+        }
+    }
+    Ok(())
+}
+
+// Rows tell of no events, so a pattern with one is refused, whatever they are.
+#[test]
+fn events_are_unknown(rt: HostRuntime) -> Result<(), Fail> {
+    for rows in ["", "dt", "dt,temp\n0,x", "dt,temp\n1,80"] {
+        let rows = rows.as_bytes();
+        assert!(rt; says(rt.alloc(), ("", "e"), 0, rows, 9, "UnknownName 1")?);
+        assert!(rt; says(rt.alloc(), ("hot", "e hot"), 0, rows, 9, "UnknownName 1")?);
+    }
+    Ok(())
+}
+
+// Rows with a field of a million bytes and more between two texts.
+fn with_long_field(
+    alloc: Global,
+    front: &str,
+    pattern: &str,
+    back: &str,
+) -> Result<Vec<u8>, AllocError> {
+    let mut rows = Vec::new(alloc);
+    rows.extend_from_slice(front.as_bytes())?;
+    for _ in 0..300_000 {
+        rows.extend_from_slice(pattern.as_bytes())?;
+    }
+    rows.extend_from_slice(back.as_bytes())?;
+    Ok(rows)
+}
+
+// Where the long field stands, what it repeats, what stands behind it, and what the rows say.
+const LONG: [(&str, &str, &str, &str); 4] = [
+    (
+        "dt,note,temp\n1,\"",
+        "a,\"\"\n",
+        "\",80\n2,b,1\n",
+        "1:1 2:0 ",
+    ),
+    ("dt,temp\n1,", "0000", "80\n2,79", "1:1 2:0 "),
+    ("dt,temp\n", "0000", "3,80\n2,x", "3:1 BadNumber 3"),
+    ("dt,temp\n1,80\n1,\"", "80\n1,", "", "1:1 BadNumber 3"),
+];
+
+#[test]
+fn long_fields_are_read(rt: HostRuntime) -> Result<(), Fail> {
+    for (front, pattern, back, want) in &LONG {
+        let rows = with_long_field(rt.alloc(), *front, *pattern, *back)?;
+        for most in [1000, 65_536] {
+            assert!(rt;
+                says(rt.alloc(), ("hot", ""), 0, &rows, most, *want)?,
+                "{want} {most}"
+            );
+        }
+    }
+    Ok(())
+}
+
+// What rows say in one go: each segment as its length and its valuation, or the fault.
 fn told(alloc: Global, answer: &Result<Trace, TraceFault>) -> Result<String, AllocError> {
     let mut text = String::new(alloc);
     match answer {
@@ -131,20 +243,41 @@ fn told(alloc: Global, answer: &Result<Trace, TraceFault>) -> Result<String, All
     Ok(text)
 }
 
-// Whether the rows say this.
-fn says(alloc: Global, names: &str, scale: u8, rows: &str, want: &str) -> Result<bool, Fail> {
+// Whether a reader tells the same of the rows: all of it, or behind the segments before a fault.
+fn is_alike(alloc: Global, names: &str, scale: u8, rows: &str, want: &str) -> Result<bool, Fail> {
     let definitions = definitions(alloc)?;
-    let names = names_of(alloc, names)?;
+    let (names, events) = (names_of(alloc, names)?, names_of(alloc, "")?);
     let scale = scale.min(SCALE_MAX);
-    let answer = read_rows(alloc, rows.as_bytes(), &definitions, &names, scale);
-    Ok(told(alloc, &answer)?.as_str() == want)
+    let answer = read_rows(alloc, rows.as_bytes(), definitions, names, events, scale);
+    Ok(want.ends_with(told(alloc, &answer)?.as_str()))
 }
 
 #[test]
-fn rows_are_read(rt: HostRuntime) -> Result<(), Fail> {
+fn rows_in_memory_are_read_alike(rt: HostRuntime) -> Result<(), Fail> {
     for (names, scale, rows, want) in &ROWS {
-        assert!(rt; says(rt.alloc(), *names, *scale, *rows, *want)?, "{rows}");
+        assert!(rt;
+            is_alike(rt.alloc(), *names, *scale, *rows, *want)?,
+            "{rows}"
+        );
     }
+    Ok(())
+}
+
+#[test]
+fn reader_is_spent_once_it_is_finished(rt: HostRuntime) -> Result<(), Fail> {
+    let mut reader = reader(rt.alloc(), "hot", "", 0)?;
+    let mut segments = Vec::new(rt.alloc());
+    let spent = TraceFault {
+        place: 0,
+        kind: Spent,
+    };
+    assert!(rt; feed(&mut reader, b"dt,temp\n1,80", &mut segments).is_ok());
+    assert!(rt; segments.is_empty());
+    assert!(rt; reader.finish(&mut segments) == Ok(0));
+    assert!(rt; feed(&mut reader, b"", &mut segments) == Err(spent));
+    assert!(rt; reader.finish(&mut segments) == Err(spent));
+    assert!(rt; segments.len() == 1);
+    assert!(rt; reader.fed() == 12);
     Ok(())
 }
 

@@ -202,7 +202,7 @@ module _ (piece : Piece) (here begun enter here' : List ZoneBounds) (x : Atom)
               ((cut_of piece next (atom x)).late.at m (k * b) (k * n) finer from y.right);
         }))) h.related
 
-  brief_leaves : (next : Timeline) → Agree (Marked (behind piece next)
+  pub brief_leaves : (next : Timeline) → Agree (Marked (behind piece next)
       (atom_mark here' []) (atom x))
       (Crossing T' (Going (over piece next) (atom_mark here begun) (atom x) (Held enter)))
   brief_leaves next = record {
@@ -375,7 +375,7 @@ module _ (piece : Piece) (here begun enter told here' begun' : List ZoneBounds) 
               absurd (omega (arith, end, begin, lasts))) parts.right;
         })) parts.left)) h.related
 
-  literal_leaves : (next : Timeline) → AreLong next.segments
+  pub literal_leaves : (next : Timeline) → AreLong next.segments
       → Agree (Marked (behind piece next) (atom_mark here' begun') (atom (literal state)))
       (Crossing T'' (Going (over piece next) (atom_mark here begun) (atom (literal state))
       (Held enter)))

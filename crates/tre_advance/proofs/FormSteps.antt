@@ -160,7 +160,7 @@ alternation_inner piece one other one' other' left right first second told f g u
 }
 
 -- Either of two matches follows.
-followed_either : (E : Pairs) (left right : PatternTree) (rest : Rest)
+pub followed_either : (E : Pairs) (left right : PatternTree) (rest : Rest)
     → Agree (Followed E (alternation left right) rest)
     (Either (Followed E left rest) (Followed E right rest))
 followed_either E left right rest = record {

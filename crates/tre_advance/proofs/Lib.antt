@@ -1,5 +1,6 @@
 -- sets of ordered pairs
 pub mod SetsOf
+pub mod Among
 -- what crosses the end of a piece
 pub mod Crossings
 -- what a mark goes on with, over a piece and alone
@@ -11,6 +12,7 @@ pub mod Steps
 pub mod FormSteps
 pub mod StarSteps
 pub mod AtomSteps
+pub mod Onward
 pub mod Takings
 -- marks without what lasts too long
 pub mod Shortenings

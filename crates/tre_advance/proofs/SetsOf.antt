@@ -118,6 +118,17 @@ either_right zones one other empty same = record {
   );
 }
 
+-- The same in the other order.
+pub either_turned : (zones one other : List ZoneBounds)
+    → IsSetOf zones (Either (Held one) (Held other)) → IsSetOf zones (Either (Held other) (Held one))
+either_turned zones one other set = record {
+  pairs = λ a b n some.
+      let p = set.pairs a b n some in (
+        (λ h. ⊎_elim (λ x. inr x) (λ x. inl x) (p.0 h)),
+        (λ h. p.1 (⊎_elim (λ x. inr x) (λ x. inl x) h)),
+      );
+}
+
 pub both_set : (zones one other : List ZoneBounds)
     → HoldExactly zones (Both (SetHolds one) (SetHolds other))
     → IsSetOf zones (Both (Held one) (Held other))

@@ -371,7 +371,7 @@ module _ (piece : Piece) (here : List ZoneBounds) (body : MarkTree) (tree : Patt
   abbrev pub Started : Rest → Pairs
   Started rest = Starts piece here [] body tree ends none_enters rest
 
-  marked_repetition : (next : Timeline)
+  pub marked_repetition : (next : Timeline)
       → Agree (Marked (over piece next) (repetition_mark here body) (repetition tree))
       (Composed (Started (over piece next)) (MatchesRest (repetition tree)
       (over piece next)))

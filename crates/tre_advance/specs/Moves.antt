@@ -48,6 +48,17 @@ pub record EntersTo (old : MarkTree) (tree : PatternTree) (enter : List ZoneBoun
   pub between : EndBetween piece.begin (end_of_piece piece) told
   pub well : IsWellAt (end_of_piece piece) rest tree
 
+-- Over the piece an atom tells the pairs that are here, have begun or enter, each followed by a
+-- match, and those that have begun.
+pub record TellsAtom (here begun enter : List ZoneBounds) (tree : PatternTree) (piece : Piece)
+    (told : List ZoneBounds) : Type 0 where
+  pub set : IsSetOf told (Either (Composed (Either (Either (Held here) (Held begun)) (Held enter))
+      (MatchesRest tree (uncut (cut_behind piece (quiet []))))) (Held begun))
+
+-- Each pair of the zones is one of the others.
+pub record AreAmong (zones others : List ZoneBounds) : Type 0 where
+  pub each : (a b n : ℕ) → 0 < n → Held zones a b n → Held others a b n
+
 -- The mark of a repetition has the pairs that it had and those of the set that end at the time.
 pub record KeepsHere (time : ℕ) (old told : List ZoneBounds) (body rest : MarkTree) : Type 0 where
   pub last : List ZoneBounds

@@ -1,5 +1,5 @@
 // The step of the mark of an atom, and what enters it.
-ghost use Rattle.std.specs.Prelude.{List, IfOk};
+ghost use Rattle.std.specs.Prelude.{◌≡◌, List, [], IfOk, IsTrue};
 ghost use Rattle.tre_state.specs.declared.names.TheConstants.{NAMES_MAX};
 ghost use Rattle.tre_syntax.specs.Expr.{tree_of};
 ghost use Rattle.tre_syntax.specs.PatternTree.{NumbersBelow};
@@ -7,9 +7,14 @@ ghost use Rattle.tre_zone.specs.declared.zone_bounds.ZoneBounds.{ZoneBounds};
 ghost use Rattle.tre_mark.specs.MarkTree.{mark_of, atom_mark};
 ghost use Rattle.tre_mark.specs.Marked.{EndBetween, IsWellAt};
 ghost use Rattle.tre_edges.specs.Piece.{end_of_piece};
-ghost use Rattle.tre_advance.specs.Moves.{StepsTo, EntersTo, IsBriefTree, IsLiteralTree};
+ghost use Rattle.tre_pairs.specs.Pairs.{Composed, Either};
+ghost use Rattle.tre_zone.specs.Held.{Held, IsSetOf};
+ghost use Rattle.tre_advance.specs.Advance.{Advances};
+ghost use Rattle.tre_advance.specs.Moves.{StepsTo, EntersTo, TellsAtom, AreAmong, IsBriefTree, IsLiteralTree};
 
-use crate::sets::{ending_at, followed, joined, joined_ends};
+use crate::sets::{
+    all_among, ending_at, followed, joined, joined_behind, joined_both, joined_ends,
+};
 use crate::stepping::Advanced;
 use std::alloc::{AllocError, Global};
 use tre_edges::Piece;
@@ -22,21 +27,21 @@ use tre_zoneset::ZoneSet;
 pub fn step_brief(
     alloc: Global,
     here: &ZoneSet,
+    begun: &ZoneSet,
     expr: &Expr,
     piece: &Piece,
 ) -> Result<Advanced, AllocError>
     requires numbers { NumbersBelow NAMES_MAX (tree_of expr.now) }
     requires brief { IsBriefTree (tree_of expr.now) }
-    ensures { IfOk result (λ r. (begun : List ZoneBounds)
-        → IsWellAt piece.now.begin (atom_mark here.now begun) (tree_of expr.now)
-        → StepsTo (atom_mark here.now begun) (tree_of expr.now) piece.now r.told
-        (mark_of r.rest)) }
+    requires well { IsWellAt piece.now.begin (atom_mark here.now begun.now) (tree_of expr.now) }
+    ensures { IfOk result (λ r. StepsTo (atom_mark here.now begun.now) (tree_of expr.now)
+        piece.now r.told (mark_of r.rest)) }
 {
-    let inside = local(alloc, expr, piece)?;
-    let told = followed(alloc, here, &inside)?;
+    let none = ZoneSet::new(alloc);
+    let told = tell_atom(alloc, here, begun, expr, &none, piece)?;
     Ok(Advanced {
         told,
-        rest: atom(ZoneSet::new(alloc), ZoneSet::new(alloc)),
+        rest: atom(none, ZoneSet::new(alloc)),
     })
 }
 
@@ -54,14 +59,12 @@ pub fn step_literal(
     ensures { IfOk result (λ r. StepsTo (atom_mark here.now begun.now) (tree_of expr.now)
         piece.now r.told (mark_of r.rest)) }
 {
-    let inside = local(alloc, expr, piece)?;
-    let starts = joined_ends(alloc, here.try_clone()?, begun.try_clone()?)?;
-    let going = followed(alloc, &starts, &inside)?;
-    let told = joined(going, begun)?;
-    let begun = ending_at(alloc, &told, piece.begin + piece.segment.len)?;
+    let none = ZoneSet::new(alloc);
+    let told = tell_atom(alloc, here, begun, expr, &none, piece)?;
+    let held = ending_at(alloc, &told, piece.begin + piece.segment.len)?;
     Ok(Advanced {
         told,
-        rest: atom(ZoneSet::new(alloc), begun),
+        rest: atom(none, held),
     })
 }
 
@@ -119,4 +122,112 @@ pub fn enter_literal(
         told,
         rest: atom(here, begun),
     })
+}
+
+/// A piece of an atom that lasts no time, into which the pairs of the set enter on the way.
+pub fn advance_brief(
+    alloc: Global,
+    here: &ZoneSet,
+    begun: &ZoneSet,
+    expr: &Expr,
+    entering: &ZoneSet,
+    piece: &Piece,
+) -> Result<Advanced, AllocError>
+    requires numbers { NumbersBelow NAMES_MAX (tree_of expr.now) }
+    requires brief { IsBriefTree (tree_of expr.now) }
+    requires well { IsWellAt piece.now.begin (atom_mark here.now begun.now) (tree_of expr.now) }
+    requires enter { EndBetween piece.now.begin (end_of_piece piece.now) entering.now }
+    ensures { IfOk result (λ r. Advances (atom_mark here.now begun.now) (tree_of expr.now)
+        entering.now piece.now r.told (mark_of r.rest)) }
+{
+    let told = tell_atom(alloc, here, begun, expr, entering, piece)?;
+    let last = ending_at(alloc, entering, piece.begin + piece.segment.len)?;
+    Ok(Advanced {
+        told,
+        rest: atom(last, ZoneSet::new(alloc)),
+    })
+}
+
+/// The same of a literal: what it tells at the end of the piece may hold on.
+pub fn advance_literal(
+    alloc: Global,
+    here: &ZoneSet,
+    begun: &ZoneSet,
+    expr: &Expr,
+    entering: &ZoneSet,
+    piece: &Piece,
+) -> Result<Advanced, AllocError>
+    requires numbers { NumbersBelow NAMES_MAX (tree_of expr.now) }
+    requires literal { IsLiteralTree (tree_of expr.now) }
+    requires well { IsWellAt piece.now.begin (atom_mark here.now begun.now) (tree_of expr.now) }
+    requires enter { EndBetween piece.now.begin (end_of_piece piece.now) entering.now }
+    ensures { IfOk result (λ r. Advances (atom_mark here.now begun.now) (tree_of expr.now)
+        entering.now piece.now r.told (mark_of r.rest)) }
+{
+    let end = piece.begin + piece.segment.len;
+    let told = tell_atom(alloc, here, begun, expr, entering, piece)?;
+    let last = ending_at(alloc, entering, end)?;
+    let held = ending_at(alloc, &told, end)?;
+    Ok(Advanced {
+        told,
+        rest: atom(last, held),
+    })
+}
+
+// What an atom tells over the piece.
+fn tell_atom(
+    alloc: Global,
+    here: &ZoneSet,
+    begun: &ZoneSet,
+    expr: &Expr,
+    entering: &ZoneSet,
+    piece: &Piece,
+) -> Result<ZoneSet, AllocError>
+    requires { NumbersBelow NAMES_MAX (tree_of expr.now) }
+    ensures { IfOk result (λ told.
+        TellsAtom here.now begun.now entering.now (tree_of expr.now) piece.now told) }
+{
+    if are_empty(here, begun, entering) {
+        return Ok(ZoneSet::new(alloc));
+    }
+    let inside = local(alloc, expr, piece)?;
+    let going = going_on(alloc, here, begun, entering, &inside)?;
+    joined_behind(begun, going)
+}
+
+// Whether nothing is here, has begun or enters.
+fn are_empty(here: &ZoneSet, begun: &ZoneSet, entering: &ZoneSet) -> bool
+    ensures { IsTrue result → (here.now ≡ []) × (begun.now ≡ []) × (entering.now ≡ []) }
+{
+    here.is_empty() && begun.is_empty() && entering.is_empty()
+}
+
+// The pairs that are here, have begun or enter, each followed by one of those inside the piece.
+fn going_on(
+    alloc: Global,
+    here: &ZoneSet,
+    begun: &ZoneSet,
+    entering: &ZoneSet,
+    inside: &ZoneSet,
+) -> Result<ZoneSet, AllocError>
+    ensures { IfOk result (λ going. IsSetOf going (Composed
+        (Either (Either (Held here.now) (Held begun.now)) (Held entering.now))
+        (Held inside.now))) }
+{
+    if inside.is_empty() {
+        return Ok(ZoneSet::new(alloc));
+    }
+    if enter_alone(here, begun, entering) {
+        return followed(alloc, entering, inside);
+    }
+    let before = joined_both(alloc, here, begun)?;
+    let starts = joined(before, entering)?;
+    followed(alloc, &starts, inside)
+}
+
+// Whether nothing has begun, and all that is here enters too.
+fn enter_alone(here: &ZoneSet, begun: &ZoneSet, entering: &ZoneSet) -> bool
+    ensures { IsTrue result → (begun.now ≡ []) × AreAmong here.now entering.now }
+{
+    begun.is_empty() && all_among(here, entering)
 }

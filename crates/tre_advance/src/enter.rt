@@ -16,7 +16,7 @@ ghost use Rattle.tre_advance.specs.Moves.{EntersTo, IsBriefTree, IsLiteralTree};
 
 use crate::atoms::{enter_brief, enter_literal};
 use crate::instances::{leave_both, leave_lasting, tell_both, tell_lasting};
-use crate::sets::joined_ends;
+use crate::sets::joined_both;
 use crate::stepping::{Advanced, either, enter_in_turn, leave_again, repeat};
 use std::alloc::{AllocError, Global};
 use tre_edges::Piece;
@@ -383,7 +383,8 @@ fn begin_both(
     Ok(Advanced { told, rest })
 }
 
-// The pairs behind which something began before or begins in the piece, in as few zones as may be.
+// The pairs behind which something began before or begins in the piece: zones that touch are to be
+// one, and tests see that they are.
 fn entered(
     alloc: Global,
     outer: ZoneSet,
@@ -396,6 +397,5 @@ fn entered(
         IsSetOf whole (Either (Held outer) (Held zones.now))) }
     ensures ends { IfOk result (λ whole. EndBy (end_of_piece piece.now) whole) }
 {
-    let zones = zones.try_clone()?;
-    joined_ends(alloc, outer, zones)
+    joined_both(alloc, &outer, zones)
 }

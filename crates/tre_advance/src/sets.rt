@@ -1,16 +1,17 @@
 // Small operations on sets, which cost nothing where a set is empty.
-ghost use Rattle.std.specs.Prelude.{◌≤◌, IfOk};
+ghost use Rattle.std.specs.Prelude.{◌≤◌, ◌↔◌, Any, IfOk, IsTrue};
 ghost use Rattle.tre_pairs.specs.Pairs.{Composed, Either, Both, Lasting, Chain};
 ghost use Rattle.tre_pairs.specs.declared.TheConstants.{TIME_MAX};
 ghost use Rattle.tre_mark.specs.Marked.{EndBetween};
 ghost use Rattle.tre_zone.specs.Held.{Held, IsSetOf};
 ghost use Rattle.tre_zone.specs.Interval.{LastsWithin};
-ghost use Rattle.tre_zone.specs.Zone.{IsInstantBetween, EndsAt};
+ghost use Rattle.tre_zone.specs.Zone.{IsInstantBetween, EndsAt, Includes};
+ghost use Rattle.tre_advance.specs.Moves.{AreAmong};
 
 use std::alloc::{AllocError, Global};
 use tre_star::{closure, compose_sets};
-use tre_zone::Interval;
-use tre_zoneset::ZoneSet;
+use tre_zone::{Interval, Zone};
+use tre_zoneset::{ZoneSet, are_few};
 
 /// The pairs of the first set, each followed by one of the second.
 pub fn followed(alloc: Global, first: &ZoneSet, second: &ZoneSet) -> Result<ZoneSet, AllocError>
@@ -41,7 +42,20 @@ pub fn joined(one: ZoneSet, other: &ZoneSet) -> Result<ZoneSet, AllocError>
     Ok(whole)
 }
 
-/// The same of sets whose pairs all end at one time: in as few zones as may be.
+/// The same, of a set that may have to be kept and of one that is not needed any more.
+pub fn joined_behind(one: &ZoneSet, other: ZoneSet) -> Result<ZoneSet, AllocError>
+    ensures { IfOk result (λ zones. IsSetOf zones (Either (Held other) (Held one.now))) }
+{
+    if one.is_empty() {
+        return Ok(other);
+    }
+    let first = one.try_clone()?;
+    let whole = joined(first, &other)?;
+    Ok(whole)
+}
+
+/// The same of sets whose pairs all end at one time: zones that touch are to be one, and tests see
+/// that they are.
 pub fn joined_ends(alloc: Global, one: ZoneSet, other: ZoneSet) -> Result<ZoneSet, AllocError>
     ensures { IfOk result (λ zones. IsSetOf zones (Either (Held one) (Held other))) }
 {
@@ -52,6 +66,19 @@ pub fn joined_ends(alloc: Global, one: ZoneSet, other: ZoneSet) -> Result<ZoneSe
         return Ok(other);
     }
     ZoneSet::of_both(alloc, &one, &other)
+}
+
+/// The same of sets that have to be kept.
+pub fn joined_both(alloc: Global, one: &ZoneSet, other: &ZoneSet) -> Result<ZoneSet, AllocError>
+    ensures { IfOk result (λ zones. IsSetOf zones (Either (Held one.now) (Held other.now))) }
+{
+    if other.is_empty() {
+        return one.try_clone();
+    }
+    if one.is_empty() {
+        return other.try_clone();
+    }
+    ZoneSet::of_both(alloc, one, other)
 }
 
 /// The pairs of both sets.
@@ -108,4 +135,31 @@ pub fn repeated(
     let _steps = steps.zones();
     let any = closure(alloc, steps, begin, end)?;
     followed(alloc, &starts, &any)
+}
+
+/// Whether each zone of the first set is seen to be in one of the second: where both are few.
+pub fn all_among(zones: &ZoneSet, others: &ZoneSet) -> bool
+    ensures { IsTrue result → AreAmong zones.now others.now }
+{
+    if !are_few(zones.zones()) || !are_few(others.zones()) {
+        return false;
+    }
+    all_included(zones.zones(), others.zones())
+}
+
+fn all_included(zones: &[Zone], others: &[Zone]) -> bool
+    ensures { IsTrue result → AreAmong zones.now others.now }
+{
+    for zone in zones {
+        if !is_included(zone, others) {
+            return false;
+        }
+    }
+    true
+}
+
+fn is_included(zone: &Zone, others: &[Zone]) -> bool
+    ensures { IsTrue result ↔ Any (λ other. Includes other zone.now) others.now }
+{
+    others.iter().any(|other| other.includes(zone))
 }

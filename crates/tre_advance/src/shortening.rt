@@ -11,10 +11,43 @@ use tre_zone::{Interval, Zone};
 use tre_zoneset::ZoneSet;
 
 /// The mark without the pairs that last longer than `longest` by now. What began inside an
-/// intersection or a restriction in it stays.
-///
-/// It goes as deep as the expression does.
+/// intersection or a restriction in it stays. Where no pair does, it is the mark itself.
 pub fn shorten(alloc: Global, mark: Mark, longest: Option<u64>) -> Result<Mark, AllocError>
+    requires { IsLongest longest }
+    ensures { IfOk result (λ short. Shortens longest (mark_of mark) (mark_of short)) }
+{
+    if is_short(&mark, longest) {
+        return Ok(mark);
+    }
+    cut(alloc, mark, longest)
+}
+
+// Whether no pair of the mark lasts longer than `longest`. It goes as deep as the expression does.
+fn is_short(mark: &Mark, longest: Option<u64>) -> bool
+    requires { IsLongest longest }
+{
+    match mark {
+        Mark::Atom { here, begun } => are_short(here, longest) && are_short(begun, longest),
+        Mark::Seq(left, right) => is_short(left, longest) && is_short(right, longest),
+        Mark::Alt(left, right) => is_short(left, longest) && is_short(right, longest),
+        Mark::Star { here, body } => are_short(here, longest) && is_short(body, longest),
+        _ => true,
+    }
+}
+
+fn are_short(zones: &ZoneSet, longest: Option<u64>) -> bool
+    requires { IsLongest longest }
+{
+    for zone in zones.zones() {
+        if !zone.is_up_to(longest) {
+            return false;
+        }
+    }
+    true
+}
+
+// The mark without those pairs, made anew. It goes as deep as the expression does.
+fn cut(alloc: Global, mark: Mark, longest: Option<u64>) -> Result<Mark, AllocError>
     requires { IsLongest longest }
     ensures { IfOk result (λ short. Shortens longest (mark_of mark) (mark_of short)) }
 {
@@ -25,18 +58,18 @@ pub fn shorten(alloc: Global, mark: Mark, longest: Option<u64>) -> Result<Mark, 
             Ok(atom(here, begun))
         }
         Mark::Seq(left, right) => {
-            let left = shorten(alloc, Box::into_inner(left), longest)?;
-            let right = shorten(alloc, Box::into_inner(right), longest)?;
+            let left = cut(alloc, Box::into_inner(left), longest)?;
+            let right = cut(alloc, Box::into_inner(right), longest)?;
             sequence(alloc, left, right)
         }
         Mark::Alt(left, right) => {
-            let left = shorten(alloc, Box::into_inner(left), longest)?;
-            let right = shorten(alloc, Box::into_inner(right), longest)?;
+            let left = cut(alloc, Box::into_inner(left), longest)?;
+            let right = cut(alloc, Box::into_inner(right), longest)?;
             alternation(alloc, left, right)
         }
         Mark::Star { here, body } => {
             let here = short(here, longest)?;
-            let body = shorten(alloc, Box::into_inner(body), longest)?;
+            let body = cut(alloc, Box::into_inner(body), longest)?;
             repetition(alloc, here, body)
         }
         _ => Ok(mark),

@@ -186,7 +186,7 @@ fn step_atom(alloc: Global, mark: &Mark, expr: &Expr, piece: &Piece) -> Result<A
     match mark {
         Mark::Atom { here, begun } => match expr {
             Expr::Lit(_) => step_literal(alloc, here, begun, expr, piece),
-            _ => step_brief(alloc, here, expr, piece),
+            _ => step_brief(alloc, here, begun, expr, piece),
         },
         _ => unreachable!(),
     }

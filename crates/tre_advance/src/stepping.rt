@@ -15,7 +15,7 @@ ghost use Rattle.tre_mark.specs.Marked.{EndBetween};
 ghost use Rattle.tre_edges.specs.Piece.{end_of_piece, cut_behind};
 ghost use Rattle.tre_advance.specs.Moves.{StepsTo, EntersTo, KeepsHere};
 
-use crate::sets::{ending_at, joined, joined_ends, repeated};
+use crate::sets::{all_among, ending_at, joined, joined_ends, repeated};
 use std::alloc::{AllocError, Global};
 use tre_edges::Piece;
 use tre_mark::{Mark, alternation, repetition, sequence};
@@ -131,6 +131,23 @@ pub fn tell_again(
 {
     let starts = joined(ended, here)?;
     repeat(alloc, starts, body, piece)
+}
+
+/// The pairs behind which a repetition may go on: those behind which its body ended, those that are
+/// here, and those that enter.
+pub fn starts_again(
+    ended: ZoneSet,
+    here: &ZoneSet,
+    entering: &ZoneSet,
+) -> Result<ZoneSet, AllocError>
+    ensures { IfOk result (λ starts. IsSetOf starts
+        (Either (Either (Held ended) (Held here.now)) (Held entering.now))) }
+{
+    if all_among(here, entering) {
+        return joined(ended, entering);
+    }
+    let first = joined(ended, here)?;
+    joined(first, entering)
 }
 
 /// The mark of a repetition that has told a set, of which it keeps what ends with the piece beside

@@ -6,13 +6,14 @@ use Rattle.tre_advance.proofs.AtomForms.{brief_steps_to}
 use Rattle.tre_advance.proofs.atoms.step_brief.Goals as goal
 
 pub returns : goal.returns
-returns c begun well =
+returns c =
     let here = c.args.here.now in
+    let begun = c.args.begun.now in
     let piece = c.args.piece.now in
     let tree = tree_of c.args.expr.now in
     let told = c.in_ok-told.told in
     subst (λ (mark : MarkTree). StepsTo (atom_mark here begun) tree piece told mark)
-    (sym (c.atom.ensures ∙ ap (λ x. atom_mark x c.new-2.result) c.new.ensures
-    ∙ ap (λ x. atom_mark [] x) c.new-2.ensures))
-    (brief_steps_to piece here begun c.in_ok-inside.inside told tree c.requires.brief well
-    c.in_ok-inside.ensures c.in_ok-told.ensures)
+    (sym (c.atom.ensures ∙ ap (λ x. atom_mark x c.new.result) c.new-none.ensures
+    ∙ ap (λ x. atom_mark [] x) c.new.ensures))
+    (brief_steps_to piece here begun c.new-none.result told c.new-none.ensures tree
+    c.requires.brief c.requires.well c.in_ok-told.ensures)

@@ -12,10 +12,7 @@ returns c =
     let piece = c.args.piece.now in
     let tree = tree_of c.args.expr.now in
     let told = c.in_ok-told.told in
-    let starts = c.in_ok-starts.starts in
     subst (λ (mark : MarkTree). StepsTo (atom_mark here begun) tree piece told mark)
-    (sym (c.atom.ensures ∙ ap (λ x. atom_mark x c.in_ok-begun.begun) c.new.ensures))
-    (literal_steps_to piece here begun c.in_ok-inside.inside starts c.in_ok-going.going told
-    c.in_ok-begun.begun tree c.requires.literal c.requires.well c.in_ok-inside.ensures
-    (rw (c.in_ok-try_clone.ensures, c.in_ok-try_clone-2.ensures) at c.in_ok-starts.ensures)
-    c.in_ok-going.ensures c.in_ok-told.ensures c.in_ok-begun.ensures)
+    (sym (c.atom.ensures ∙ ap (λ x. atom_mark x c.in_ok-held.held) c.new-none.ensures))
+    (literal_steps_to piece here begun c.new-none.result told c.new-none.ensures c.in_ok-held.held
+    tree c.requires.literal c.requires.well c.in_ok-told.ensures c.in_ok-held.ensures)

@@ -1,9 +1,4 @@
-use Rattle.std.proofs.Common.{◌≡◌, refl, ap, subst}
-use Rattle.std.proofs.lemmas.Result.{IfOk-weaker}
 use Rattle.tre_syntax.specs.Expr.{tree_of}
-use Rattle.tre_mark.specs.MarkTree.{MarkTree, mark_of, atom_mark}
-use Rattle.tre_mark.specs.Marked.{IsWellAt}
-use Rattle.tre_advance.proofs.CallForms.{steps_moved}
 use Rattle.tre_advance.proofs.ShapeForms.{shape_atomic}
 use Rattle.tre_advance.proofs.step.step_atom.Goals as goal
 
@@ -11,17 +6,3 @@ pub unreachable-requires : goal.unreachable-requires
 unreachable-requires c =
     shape_atomic c.args.piece.now.begin c.args.mark.now (tree_of c.args.expr.now)
     c.requires.atom c.requires.well.well c.in_default.not-Atom
-
-pub returns-in_default-expr : goal.returns-in_default-expr
-returns-in_default-expr c =
-    let piece = c.args.piece.now in
-    let here = c.in-Atom.here in
-    let begun = c.in-Atom.begun in
-    let tree = tree_of c.args.expr.now in
-    let shape : mark_of c.args.mark.now ≡ atom_mark here begun = ap mark_of c.in-Atom.is in
-    let well : IsWellAt piece.begin (atom_mark here begun) tree =
-    subst (λ (m : MarkTree). IsWellAt piece.begin m tree) shape c.requires.well in
-    IfOk-weaker c.step_brief.result _ _
-    (λ r f. steps_moved piece (atom_mark here begun) (mark_of c.args.mark.now) tree tree r.told
-    (mark_of r.rest) shape refl (f begun well))
-    c.step_brief.ensures

@@ -1,7 +1,7 @@
 use Rattle.tre_syntax.specs.Expr.{tree_of}
 use Rattle.tre_mark.specs.MarkTree.{mark_of}
 use Rattle.tre_advance.proofs.Steps.{advances_of}
-use Rattle.tre_advance.proofs.advancing.advance.Goals as goal
+use Rattle.tre_advance.proofs.advancing.step_and_enter.Goals as goal
 
 pub returns : goal.returns
 returns c =

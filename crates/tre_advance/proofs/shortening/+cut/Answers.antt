@@ -3,7 +3,7 @@ use Rattle.std.proofs.Common.{◌≡◌, ◌∙◌, ap, sym}
 use Rattle.std.proofs.lemmas.Result.{IfOk-weaker}
 use Rattle.tre_mark.specs.MarkTree.{mark_of, atom_mark, sequence_mark, alternation_mark, repetition_mark}
 use Rattle.tre_advance.proofs.Shortenings.{shortens_same, shortens_atom, shortens_sequence, shortens_alternation, shortens_repetition, shortens_moved}
-use Rattle.tre_advance.proofs.shortening.+shorten.Goals as goal
+use Rattle.tre_advance.proofs.shortening.+cut.Goals as goal
 
 pub returns-in_ok-begun-in-Atom : goal.returns-in_ok-begun-in-Atom
 returns-in_ok-begun-in-Atom t c =

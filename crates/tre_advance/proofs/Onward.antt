@@ -1,0 +1,468 @@
+-- A step over a piece in which pairs enter, in one walk: of atoms, sequences and alternations.
+use Rattle.std.proofs.Common.{◌≡◌, ℕ, ◌*◌, ◌<◌, ◌≤◌, List, [], inl, inr, ⊎_elim, subst, sym, arith}
+use Rattle.tre_pairs.specs.Cuts.{Crossing}
+use Rattle.tre_pairs.specs.Pairs.{Pairs, Composed, Either, Both}
+use Rattle.tre_pairs.proofs.Laws.{Agree}
+use Rattle.tre_pairs.proofs.Order.{IsOrdered-Composed, IsOrdered-Either}
+use Rattle.tre_pairs.proofs.Ticks.{le_down}
+use Rattle.tre_zone.specs.Held.{Held, EndAt, IsSetOf}
+use Rattle.tre_zone.specs.Zone.{EndsAt}
+use Rattle.tre_zone.specs.declared.zone_bounds.ZoneBounds.{ZoneBounds}
+use Rattle.tre_zone.proofs.HeldSets.{Scales-Held, IsOrdered-Held, Held-empty}
+use Rattle.tre_syntax.specs.Meaning.{MatchesRest}
+use Rattle.tre_syntax.specs.PatternTree.{Atom, PatternTree, empty, literal, rise, fall, event, atom, sequence, alternation, intersection, repetition, restriction}
+use Rattle.tre_syntax.specs.Rest.{Rest}
+use Rattle.tre_syntax.proofs.CutMeaning.{Scales-rest, IsOrdered-rest, IsBounded-rest}
+use Rattle.tre_trace.specs.Trace.{Timeline, quiet, AreLong}
+use Rattle.tre_edges.specs.Piece.{end_of_piece}
+use Rattle.tre_edges.specs.declared.piece.Piece.{Piece}
+use Rattle.tre_mark.specs.MarkTree.{MarkTree, atom_mark, sequence_mark, alternation_mark, repetition_mark}
+use Rattle.tre_mark.specs.Marked.{CanTakeIn, Marked, EndBetween, IsWellAt}
+use Rattle.tre_mark.proofs.Agreeing.{agree_refl, agree_sym, agree_then, agree_composed, agree_either, agree_assoc}
+use Rattle.tre_mark.proofs.Growth.{mark_ends, ends_composed, tree_ends}
+use Rattle.tre_mark.proofs.Meanings.{around_present, IsOrdered-Marked}
+use Rattle.tre_advance.specs.Advance.{GoesOver, MarkedBehind, before_piece, after_piece, Advances}
+use Rattle.tre_advance.specs.Moves.{StepsTo, EntersTo, KeepsHere, IsBriefTree, IsLiteralTree}
+use Rattle.tre_advance.proofs.AtomSteps.{IsBrief, brief_empty, brief_rise, brief_fall, brief_event, literal_tells, brief_tells, brief_leaves, literal_leaves}
+use Rattle.tre_advance.proofs.Crossings.{IsFront, agree_crossing, cross_either, distributes}
+use Rattle.tre_advance.proofs.FormSteps.{cross_second, followed_either}
+use Rattle.tre_advance.proofs.Going.{over, alone, behind, begin_le, mark_front, followed_front}
+use Rattle.tre_advance.proofs.Opening.{all_later}
+use Rattle.tre_advance.proofs.SetsOf.{exact_set, set_exact, no_pair}
+use Rattle.tre_advance.proofs.StarSteps.{Starts, Started, starts_between, marked_repetition, leaves_repetition}
+use Rattle.tre_advance.proofs.Steps.{Followed, of_steps, of_enters}
+
+-- The pairs of a mark, and those that enter and that a match follows.
+abbrev pub Onward : Rest → MarkTree → PatternTree → List ZoneBounds → Pairs
+Onward rest mark tree enter = Either (Marked rest mark tree) (Followed (Held enter) tree rest)
+
+-- Told are these over the piece, and what is left are those over more that cross its end.
+pub record Proceeds (piece : Piece) (mark : MarkTree) (tree : PatternTree)
+    (enter told : List ZoneBounds) (rest : MarkTree) : Type 0 where
+  pub tells : Agree (Held told) (Onward (alone piece) mark tree enter)
+  pub leaves : CanTakeIn (before_piece piece) mark tree → (next : Timeline)
+      → AreLong next.segments
+      → Agree (Marked (behind piece next) rest tree)
+      (Crossing (end_of_piece piece) (Onward (over piece next) mark tree enter))
+  pub takes : CanTakeIn (before_piece piece) mark tree → CanTakeIn (after_piece piece) rest tree
+  pub well : IsWellAt (end_of_piece piece) rest tree
+
+module _ (piece : Piece) (mark : MarkTree) (tree : PatternTree) (enter told : List ZoneBounds)
+    (rest : MarkTree) where
+  followed_begins : (a b n : ℕ) → 0 < n → Followed (Held enter) tree (alone piece) a b n
+      → piece.begin * n ≤ b
+  followed_begins a b n some x =
+      let P = alone piece in
+      let k = x.factor in
+      let begin = (IsBounded-rest tree P).begin x.midpoint (k * b) (k * n) x.right in
+      let rising = (IsOrdered-rest tree P).le x.midpoint (k * b) (k * n) x.right in
+      le_down k piece.begin b n x.positive (omega (arith, begin, rising))
+
+  pub advances_by : Proceeds piece mark tree enter told rest → Advances mark tree enter piece told rest
+  unfolding GoesOver MarkedBehind
+  advances_by goes = record {
+    tells = exact_set told (GoesOver mark tree enter piece (quiet []))
+        (record { pairs = goes.tells.at });
+    leaves = λ can next a b n long some.
+        let same = (goes.leaves can next long).at a b n some in (
+          (λ h.
+              let x = same.0 h in
+              record { related = x.related; begin = x.begin; end = x.end }),
+          (λ h. same.1 (record { related = h.related; begin = h.begin; end = h.end })),
+        );
+    takes = goes.takes;
+    between = record {
+      begin = λ a b n some h. ⊎_elim
+          (λ x. (around_present (alone piece) mark tree a b n x).1)
+          (λ x. followed_begins a b n some x) ((goes.tells.at a b n some).0 h);
+      end = λ a b n some h. ⊎_elim
+          (λ x. mark_ends (alone piece) (begin_le piece) mark tree a b n x)
+          (λ x. ends_composed (alone piece) (Held enter) (MatchesRest tree (alone piece))
+          (tree_ends (alone piece) tree) a b n x) ((goes.tells.at a b n some).0 h);
+    };
+    well = goes.well;
+  }
+
+  pub proceeds_by : Advances mark tree enter piece told rest → Proceeds piece mark tree enter told rest
+  unfolding GoesOver MarkedBehind
+  proceeds_by advances =
+      let P = alone piece in
+      let set = set_exact told (Onward P mark tree enter)
+      (IsOrdered-Either (Marked P mark tree) (Followed (Held enter) tree P)
+      (IsOrdered-Marked P mark tree)
+      (IsOrdered-Composed (Held enter) (MatchesRest tree P) (IsOrdered-Held enter)
+      (IsOrdered-rest tree P)))
+      (record { exact = advances.tells.exact }) in
+      record {
+        tells = record { at = set.pairs };
+        leaves = λ can next long. record {
+          at = λ a b n some.
+              let same = advances.leaves can next a b n long some in (
+                (λ h.
+                    let x = same.0 h in
+                    record { related = x.related; begin = x.begin; end = x.end }),
+                (λ h. same.1 (record { related = h.related; begin = h.begin; end = h.end })),
+              );
+        };
+        takes = advances.takes;
+        well = advances.well;
+      }
+
+-- The same of a mark that is the one.
+pub advances_moved : {mark mark' : MarkTree} {tree : PatternTree} {enter told : List ZoneBounds}
+    {piece : Piece} {rest : MarkTree} → mark' ≡ mark → Advances mark tree enter piece told rest
+    → Advances mark' tree enter piece told rest
+advances_moved {mark} {mark'} {tree} {enter} {told} {piece} {rest} is h =
+    subst (λ (m : MarkTree). Advances m tree enter piece told rest) (sym is) h
+
+-- ---- atoms
+
+-- What an atom tells: what is here or has begun, or enters, and then a match, and what has begun.
+abbrev pub AtomTold : List ZoneBounds → List ZoneBounds → List ZoneBounds → Pairs → Pairs
+AtomTold here begun enter X =
+    Either (Composed (Either (Either (Held here) (Held begun)) (Held enter)) X) (Held begun)
+
+atom_told : (here begun enter : List ZoneBounds) (X : Pairs)
+    → Agree (AtomTold here begun enter X)
+    (Either (Either (Composed (Either (Held here) (Held begun)) X) (Held begun))
+    (Composed (Held enter) X))
+atom_told here begun enter X = record {
+  at = λ a b n some.
+      let d = (distributes (Either (Held here) (Held begun)) (Held enter) X).at a b n some in (
+        (λ h. ⊎_elim
+            (λ x. ⊎_elim (λ y. inl (inl y)) (λ y. inr y) (d.0 x)) (λ x. inl (inr x)) h),
+        (λ h. ⊎_elim
+            (λ x. ⊎_elim (λ y. inl (d.1 (inl y))) (λ y. inr y) x) (λ x. inl (d.1 (inr x))) h),
+      );
+}
+
+module _ (piece : Piece) (here begun enter told here' : List ZoneBounds)
+    (between : EndBetween piece.begin (end_of_piece piece) enter)
+    (kept : IsSetOf here' (Both (Held enter) (EndsAt (end_of_piece piece)))) where
+  abbrev Whole : PatternTree → Type 0
+  Whole tree = IsSetOf told (AtomTold here begun enter (MatchesRest tree (alone piece)))
+
+  brief_advances_by : (x : Atom) → IsBrief x
+      → IsWellAt piece.begin (atom_mark here begun) (atom x) → Whole (atom x)
+      → Advances (atom_mark here begun) (atom x) enter piece told (atom_mark here' [])
+  brief_advances_by x brief well whole =
+      let X = MatchesRest (atom x) (alone piece) in
+      advances_by piece (atom_mark here begun) (atom x) enter told (atom_mark here' [])
+      (record {
+        tells = agree_then (record { at = whole.pairs })
+            (agree_then (atom_told here begun enter X)
+            (agree_either
+            (brief_tells piece here begun x well.well.0 brief (brief.begun piece.begin begun well.well.1))
+            (agree_refl (Followed (Held enter) (atom x) (alone piece)))));
+        leaves = λ can next long.
+            brief_leaves piece here begun enter here' x brief between (record { at = kept.pairs })
+            next;
+        takes = λ can. tt;
+        well = record {
+          well = (
+            record { ends = λ a b n some h. ((kept.pairs a b n some).0 h).right.ends },
+            brief.none (end_of_piece piece),
+          );
+        };
+      })
+
+  pub brief_advances : (tree : PatternTree) → IsBriefTree tree
+      → IsWellAt piece.begin (atom_mark here begun) tree → Whole tree
+      → Advances (atom_mark here begun) tree enter piece told (atom_mark here' [])
+  brief_advances (atom empty) is well whole = brief_advances_by empty brief_empty well whole
+  brief_advances (atom (literal state)) is well whole = absurd is
+  brief_advances (atom (rise state)) is well whole =
+      brief_advances_by (rise state) (brief_rise state) well whole
+  brief_advances (atom (fall state)) is well whole =
+      brief_advances_by (fall state) (brief_fall state) well whole
+  brief_advances (atom (event number)) is well whole =
+      brief_advances_by (event number) (brief_event number) well whole
+  brief_advances (sequence left right) is well whole = absurd is
+  brief_advances (alternation left right) is well whole = absurd is
+  brief_advances (intersection left right) is well whole = absurd is
+  brief_advances (repetition tree) is well whole = absurd is
+  brief_advances (restriction tree ends) is well whole = absurd is
+
+  pub literal_advances : (begun' : List ZoneBounds) (tree : PatternTree) → IsLiteralTree tree
+      → IsWellAt piece.begin (atom_mark here begun) tree → Whole tree
+      → IsSetOf begun' (Both (Held told) (EndsAt (end_of_piece piece)))
+      → Advances (atom_mark here begun) tree enter piece told (atom_mark here' begun')
+  literal_advances begun' (atom (literal state)) is well whole kept' =
+      let tree = atom (literal state) in
+      let X = MatchesRest tree (alone piece) in
+      let tells : Agree (Held told) (Onward (alone piece) (atom_mark here begun) tree enter) =
+      agree_then (record { at = whole.pairs })
+      (agree_then (atom_told here begun enter X)
+      (agree_either (literal_tells piece here begun state well.well.0 well.well.1)
+      (agree_refl (Followed (Held enter) tree (alone piece))))) in
+      advances_by piece (atom_mark here begun) tree enter told (atom_mark here' begun')
+      (record {
+        tells = tells;
+        leaves = λ can next long.
+            literal_leaves piece here begun enter told here' begun' state between tells
+            (record { at = kept.pairs }) (record { at = kept'.pairs }) next long;
+        takes = λ can. tt;
+        well = record {
+          well = (
+            record { ends = λ a b n some h. ((kept.pairs a b n some).0 h).right.ends },
+            record { ends = λ a b n some h. ((kept'.pairs a b n some).0 h).right.ends },
+          );
+        };
+      })
+  literal_advances begun' (atom empty) is well whole kept' = absurd is
+  literal_advances begun' (atom (rise state)) is well whole kept' = absurd is
+  literal_advances begun' (atom (fall state)) is well whole kept' = absurd is
+  literal_advances begun' (atom (event number)) is well whole kept' = absurd is
+  literal_advances begun' (sequence left right) is well whole kept' = absurd is
+  literal_advances begun' (alternation left right) is well whole kept' = absurd is
+  literal_advances begun' (intersection left right) is well whole kept' = absurd is
+  literal_advances begun' (repetition tree) is well whole kept' = absurd is
+  literal_advances begun' (restriction tree ends) is well whole kept' = absurd is
+
+-- ---- sequences and alternations
+
+-- Of two fronts at one cut either is one.
+front_either : (cut : ℕ) (G F G' F' : Pairs) → IsFront cut G F → IsFront cut G' F'
+    → IsFront cut (Either G G') (Either F F')
+front_either cut G F G' F' one other = record {
+  grows = record {
+    at = λ a b n h. ⊎_elim (λ x. inl (one.grows.at a b n x)) (λ x. inr (other.grows.at a b n x)) h;
+  };
+  early = record {
+    at = λ a b n before h. ⊎_elim (λ x. inl (one.early.at a b n before x))
+        (λ x. inr (other.early.at a b n before x)) h;
+  };
+  begins = λ a b n some h. ⊎_elim (λ x. one.begins a b n some x)
+      (λ x. other.begins a b n some x) h;
+  ends = λ a b n some h. ⊎_elim (λ x. one.ends a b n some x) (λ x. other.ends a b n some x) h;
+}
+
+-- What a sequence goes on with: what its first part does, and then a match, and its second part.
+in_turn : (rest : Rest) (one other : MarkTree) (left right : PatternTree)
+    (enter : List ZoneBounds)
+    → Agree (Onward rest (sequence_mark one other) (sequence left right) enter)
+    (Either (Composed (Onward rest one left enter) (MatchesRest right rest))
+    (Marked rest other right))
+in_turn rest one other left right enter = record {
+  at = λ a b n some.
+      let E = Held enter in
+      let X = MatchesRest right rest in
+      let d = (distributes (Marked rest one left) (Followed E left rest) X).at a b n some in
+      let g = (agree_assoc E (MatchesRest left rest) X (Scales-Held enter)
+      (Scales-rest right rest)).at a b n some in (
+        (λ h. ⊎_elim (λ x. ⊎_elim (λ y. inl (d.1 (inl y))) (λ y. inr y) x)
+            (λ x. inl (d.1 (inr (g.1 x)))) h),
+        (λ h. ⊎_elim (λ x. ⊎_elim (λ y. inl (inl y)) (λ y. inr (g.0 y)) (d.0 x))
+            (λ x. inl (inr x)) h),
+      );
+}
+
+module _ (piece : Piece) (one other one' other' : MarkTree) (left right : PatternTree)
+    (enter first second : List ZoneBounds)
+    (between : EndBetween piece.begin (end_of_piece piece) enter) where
+  sequence_goes : Proceeds piece one left enter first one'
+      → Proceeds piece other right first second other'
+      → Proceeds piece (sequence_mark one other) (sequence left right) enter second
+      (sequence_mark one' other')
+  sequence_goes f g =
+      let T' = end_of_piece piece in
+      let P = alone piece in
+      record {
+        tells = agree_then g.tells
+            (agree_then
+            (record {
+              at = λ a b n some.
+                  let c = (agree_composed f.tells (agree_refl (MatchesRest right P))).at a b n some in (
+                    (λ h. ⊎_elim (λ x. inr x) (λ x. inl (c.0 x)) h),
+                    (λ h. ⊎_elim (λ x. inr (c.1 x)) (λ x. inl x) h),
+                  );
+            })
+            (agree_sym (in_turn P one other left right enter)));
+        leaves = λ can next long.
+            let W = over piece next in
+            let V = behind piece next in
+            let X = MatchesRest right W in
+            let Y = MatchesRest right V in
+            let G = Onward W one left enter in
+            let F = Onward P one left enter in
+            let split = cross_second piece right next G F
+            (front_either T' (Marked W one left) (Marked P one left)
+            (Followed (Held enter) left W) (Followed (Held enter) left P)
+            (mark_front piece next one left)
+            (followed_front piece next left (Held enter) (IsOrdered-Held enter) between.end)) in
+            let whole = agree_then
+            (agree_crossing T' (in_turn W one other left right enter))
+            (agree_then (cross_either T' (Composed G X) (Marked W other right))
+            (agree_either split (agree_refl (Crossing T' (Marked W other right))))) in
+            let start = agree_composed (f.leaves can.0 next long) (agree_refl Y) in
+            let last = agree_then (g.leaves can.1 next long)
+            (agree_then (cross_either T' (Marked W other right) (Composed (Held first) X))
+            (agree_either (agree_refl (Crossing T' (Marked W other right)))
+            (agree_crossing T' (agree_composed f.tells (agree_refl X))))) in
+            record {
+              at = λ a b n some.
+                  let w = whole.at a b n some in
+                  let s = start.at a b n some in
+                  let l = last.at a b n some in (
+                    (λ h. w.1 (⊎_elim (λ x. inl (inl (s.0 x)))
+                        (λ x. ⊎_elim (λ y. inr y) (λ y. inl (inr y)) (l.0 x)) h)),
+                    (λ h. ⊎_elim
+                        (λ x. ⊎_elim (λ y. inl (s.1 y)) (λ y. inr (l.1 (inr y))) x)
+                        (λ x. inr (l.1 (inl x))) (w.0 h)),
+                  );
+            };
+        takes = λ can. (f.takes can.0, g.takes can.1);
+        well = record { well = (f.well.well, g.well.well) };
+      }
+
+  pub sequence_advances : Advances one left enter piece first one'
+      → Advances other right first piece second other'
+      → Advances (sequence_mark one other) (sequence left right) enter piece second
+      (sequence_mark one' other')
+  sequence_advances f g =
+      advances_by piece (sequence_mark one other) (sequence left right) enter second
+      (sequence_mark one' other')
+      (sequence_goes (proceeds_by piece one left enter first one' f)
+      (proceeds_by piece other right first second other' g))
+
+module _ (piece : Piece) (one other one' other' : MarkTree) (left right : PatternTree)
+    (enter first second told : List ZoneBounds)
+    (union : IsSetOf told (Either (Held first) (Held second))) where
+  -- What an alternation goes on with: what either side does.
+  in_either : (rest : Rest) → Agree
+      (Onward rest (alternation_mark one other) (alternation left right) enter)
+      (Either (Onward rest one left enter) (Onward rest other right enter))
+  in_either rest = record {
+    at = λ a b n some.
+        let f = (followed_either (Held enter) left right rest).at a b n some in (
+          (λ h. ⊎_elim (λ x. ⊎_elim (λ y. inl (inl y)) (λ y. inr (inl y)) x)
+              (λ x. ⊎_elim (λ y. inl (inr y)) (λ y. inr (inr y)) (f.0 x)) h),
+          (λ h. ⊎_elim (λ x. ⊎_elim (λ y. inl (inl y)) (λ y. inr (f.1 (inl y))) x)
+              (λ x. ⊎_elim (λ y. inl (inr y)) (λ y. inr (f.1 (inr y))) x) h),
+        );
+  }
+
+  alternation_goes : Proceeds piece one left enter first one'
+      → Proceeds piece other right enter second other'
+      → Proceeds piece (alternation_mark one other) (alternation left right) enter told
+      (alternation_mark one' other')
+  alternation_goes f g =
+      let T' = end_of_piece piece in
+      record {
+        tells = agree_then (record { at = union.pairs })
+            (agree_then (agree_either f.tells g.tells) (agree_sym (in_either (alone piece))));
+        leaves = λ can next long.
+            let W = over piece next in
+            agree_then (agree_either (f.leaves can.0 next long) (g.leaves can.1 next long))
+            (agree_then
+            (agree_sym
+            (cross_either T' (Onward W one left enter) (Onward W other right enter)))
+            (agree_crossing T' (agree_sym (in_either W))));
+        takes = λ can. (f.takes can.0, g.takes can.1);
+        well = record { well = (f.well.well, g.well.well) };
+      }
+
+  pub alternation_advances : Advances one left enter piece first one'
+      → Advances other right enter piece second other'
+      → Advances (alternation_mark one other) (alternation left right) enter piece told
+      (alternation_mark one' other')
+  alternation_advances f g =
+      advances_by piece (alternation_mark one other) (alternation left right) enter told
+      (alternation_mark one' other')
+      (alternation_goes (proceeds_by piece one left enter first one' f)
+      (proceeds_by piece other right enter second other' g))
+
+-- ---- repetitions
+
+module _ (piece : Piece) (here enter : List ZoneBounds) (body : MarkTree) (tree : PatternTree)
+    (ends : EndAt piece.begin here)
+    (between : EndBetween piece.begin (end_of_piece piece) enter) where
+  abbrev From : Rest → Pairs
+  From rest = Starts piece here enter body tree ends between rest
+
+  -- What a repetition goes on with: any number of matches behind all that may start one.
+  from_starts : (next : Timeline) → Agree
+      (Onward (over piece next) (repetition_mark here body) (repetition tree) enter)
+      (Composed (From (over piece next)) (MatchesRest (repetition tree) (over piece next)))
+  from_starts next =
+      let W = over piece next in
+      let X = MatchesRest (repetition tree) W in
+      agree_then
+      (agree_either (marked_repetition piece here body tree ends next)
+      (agree_refl (Followed (Held enter) (repetition tree) W)))
+      (agree_then
+      (agree_sym (distributes (Started piece here body tree ends W) (Held enter) X))
+      (agree_composed (record {
+        at = λ a b n some. (
+          (λ h. ⊎_elim
+              (λ x. ⊎_elim (λ y. inl y)
+              (λ y. ⊎_elim (λ z. inr (inl z)) (λ z. absurd (Held-empty a b n z)) y) x)
+              (λ x. inr (inr x)) h),
+          (λ h. ⊎_elim (λ x. inl (inl x))
+              (λ x. ⊎_elim (λ y. inl (inr (inl y))) (λ y. inr y) x) h),
+        );
+      }) (agree_refl X)))
+
+  module _ (ended starts : List ZoneBounds) (body' : MarkTree)
+      (f : StepsTo body tree piece ended body')
+      (union : IsSetOf starts (Either (Either (Held ended) (Held here)) (Held enter))) where
+    starts_are : Agree (Held starts) (From (alone piece))
+    starts_are =
+        let inner = of_steps piece tree ended body' body f in
+        agree_then (record { at = union.pairs }) (record {
+          at = λ a b n some.
+              let same = inner.tells.at a b n some in (
+                (λ h. ⊎_elim
+                    (λ x. ⊎_elim (λ y. inl (same.0 y)) (λ y. inr (inl y)) x)
+                    (λ x. inr (inr x)) h),
+                (λ h. ⊎_elim (λ x. inl (inl (same.1 x)))
+                    (λ x. ⊎_elim (λ y. inl (inr y)) (λ y. inr y) x) h),
+              );
+        })
+
+    pub again_between : EndBetween piece.begin (end_of_piece piece) starts
+    again_between = starts_between piece here enter body tree ends between starts starts_are
+
+    pub repetition_advances : (told told' none : List ZoneBounds) (body'' rest : MarkTree)
+        → IsSetOf told (Followed (Held starts) (repetition tree) (alone piece))
+        → EntersTo body' tree told piece told' body''
+        → none ≡ [] → KeepsHere (end_of_piece piece) none told body'' rest
+        → Advances (repetition_mark here body) (repetition tree) enter piece told rest
+    repetition_advances told told' none body'' rest set e nothing kept =
+        let T' = end_of_piece piece in
+        let inner = of_steps piece tree ended body' body f in
+        let beside = of_enters piece tree told' body'' body' told e in
+        let whole : Agree (Held told)
+        (Composed (From (alone piece)) (MatchesRest (repetition tree) (alone piece))) =
+        agree_then (record { at = set.pairs })
+        (agree_composed starts_are (agree_refl (MatchesRest (repetition tree) (alone piece)))) in
+        let last : Agree (Held kept.here) (Both (Held told) (EndsAt T')) =
+        agree_then (record { at = kept.union.pairs })
+        (agree_then (record {
+          at = λ a b n some. (
+            (λ h. ⊎_elim (λ x. x) (λ x. absurd (no_pair none nothing a b n x)) h),
+            (λ h. inl h),
+          );
+        }) (record { at = kept.ends.pairs })) in
+        subst (λ (mark : MarkTree). Advances (repetition_mark here body) (repetition tree) enter
+        piece told mark) (sym kept.shape)
+        (advances_by piece (repetition_mark here body) (repetition tree) enter told
+        (repetition_mark kept.here body'')
+        (record {
+          tells = agree_then whole (agree_sym (from_starts (quiet [])));
+          leaves = λ can next long.
+              agree_then (leaves_repetition piece here enter body tree ends between told
+              kept.here (λ next. Marked (behind piece next) body'' tree) whole last
+              (λ next long. agree_then (beside.leaves (inner.takes can) next long)
+              (agree_either (inner.leaves can next long)
+              (agree_refl (Crossing T' (Followed (Held told) tree (over piece next))))))
+              next long)
+              (agree_crossing T' (agree_sym (from_starts next)));
+          takes = λ can. all_later piece body'' tree (beside.takes (inner.takes can));
+          well = record {
+            well = (
+              record { ends = λ a b n some h. ((last.at a b n some).0 h).right.ends },
+              beside.well.well,
+            );
+          };
+        }))

@@ -1,0 +1,20 @@
+use Rattle.std.proofs.Common.{◌∙◌, ap, sym, subst}
+use Rattle.tre_syntax.specs.Expr.{tree_of}
+use Rattle.tre_mark.specs.MarkTree.{MarkTree, atom_mark}
+use Rattle.tre_advance.specs.Advance.{Advances}
+use Rattle.tre_advance.proofs.Onward.{brief_advances}
+use Rattle.tre_advance.proofs.atoms.advance_brief.Goals as goal
+
+pub returns : goal.returns
+returns c =
+    let here = c.args.here.now in
+    let begun = c.args.begun.now in
+    let enter = c.args.entering.now in
+    let piece = c.args.piece.now in
+    let tree = tree_of c.args.expr.now in
+    let told = c.in_ok-told.told in
+    let last = c.in_ok-last.last in
+    subst (λ (mark : MarkTree). Advances (atom_mark here begun) tree enter piece told mark)
+    (sym (c.atom.ensures ∙ ap (λ x. atom_mark last x) c.new.ensures))
+    (brief_advances piece here begun enter told last c.requires.enter c.in_ok-last.ensures tree
+    c.requires.brief c.requires.well c.in_ok-told.ensures.set)
