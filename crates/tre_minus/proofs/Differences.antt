@@ -110,7 +110,7 @@ Together-first taken found zone parts part next none is at held = record {
 
 -- ---- laws
 
-SetHolds-decides : (zones : List ZoneBounds) (a b n : ℕ)
+pub SetHolds-decides : (zones : List ZoneBounds) (a b n : ℕ)
     → SetHolds zones a b n ⊎ (SetHolds zones a b n → ⊥)
 unfolding SetHolds
 SetHolds-decides [] a b n = inr (λ h. h)

@@ -84,7 +84,7 @@ module _ (M N : Pairs) (same : (a b n : ℕ) → 0 < n → M a b n ↔ N a b n)
 
 module _ (M N : Pairs) (same : (a b n : ℕ) → 0 < n → M a b n ↔ N a b n)
     (back : (a b n : ℕ) → 0 < n → N a b n ↔ M a b n) where
-  IsStripZone-pairs : (zone : ZoneBounds) → IsStripZone M zone → IsStripZone N zone
+  pub IsStripZone-pairs : (zone : ZoneBounds) → IsStripZone M zone → IsStripZone N zone
   IsStripZone-pairs zone (of_run bars from until bar run has is) =
       of_run bars from until bar (IsRun-pairs M N same back bars from until run) has (record {
         exact = λ a b n some le.

@@ -1,5 +1,8 @@
 pub mod Alone
+pub mod Answering
+pub mod Canonical
 pub mod Cuts
+pub mod Differences
 pub mod Feeding
 pub mod Found
 pub mod Inputs
@@ -12,6 +15,7 @@ pub mod Pieces
 pub mod Promise
 pub mod Readings
 pub mod Stops
+pub mod Strips
 pub mod Tellings
 pub mod Told
 pub mod Transcripts

@@ -13,20 +13,14 @@ ghost use Rattle.tre_words.specs.Job.{GivesJob};
 ghost use Rattle.tre_zone.specs.ZoneList.{SetHolds, HoldExactly};
 ghost use Rattle.tre_zone.specs.declared.zone_bounds.ZoneBounds.{ZoneBounds};
 
-use tre_num::laws::one_reading;
 use tre_show::laws::one_front;
-use tre_strips::laws::one_list;
-use tre_words::laws::one_job;
 
 /// Words ask for one thing at most: one job, one list of patterns with their names, and one list of
 /// definitions.
 pub fn one_request()
     ensures { (words : List (List ℕ)) (one other : Request) →
         AsksFor (GivesJob words) one → AsksFor (GivesJob words) other → one ≡ other }
-{
-    one_job();
-    one_reading();
-}
+{}
 
 /// Where the canonical zones are asked for, the bytes of an input have one answer, and either that
 /// or too many zones.
@@ -37,9 +31,7 @@ pub fn one_canonical_answer()
         AreTooMany request bytes one → AreTooMany request bytes other → one ≡ other }
     ensures apart { (request : Request) (bytes text : List ℕ) (count : ℕ) →
         IsOfflineAnswer request bytes text → AreTooMany request bytes count → ⊥ }
-{
-    one_list();
-}
+{}
 
 /// What is told of a pattern without another, and what both match, make up what the first matches.
 /// `left` and `taken` are the zones of the difference, and those of the second pattern.

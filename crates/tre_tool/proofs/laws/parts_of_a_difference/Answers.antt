@@ -1,0 +1,5 @@
+use Rattle.tre_tool.proofs.Differences.{parts_of_first}
+use Rattle.tre_tool.proofs.laws.parts_of_a_difference.Goals as goal
+
+pub returns : goal.returns
+returns c = parts_of_first
