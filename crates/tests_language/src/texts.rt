@@ -1,7 +1,8 @@
 // Tests of tre_show.
 use std::alloc::Global;
 use std::test::Fail;
-use tests_support::set_of;
+use tests_support::{set_of, zone_of};
+use tre_decimal::SCALE_MAX;
 use tre_parse::parse;
 use tre_show::{offline_text, pattern_text, printed_order, zone_line, zone_lines};
 use tre_zone::Zone;
@@ -22,17 +23,45 @@ const PATTERNS: [(&str, &str); 9] = [
     ("p ; event(q) ; q ; event(p)", "p;event(q);q;event(p)"),
 ];
 
-fn printed(alloc: Global, text: &str) -> Result<String, Fail> {
-    let pattern = parse(alloc, text, 0)?;
-    let printed = pattern_text(alloc, &pattern, 0)?;
+// The text of the pattern that a text spells at a scale.
+fn printed(alloc: Global, text: &str, scale: u8) -> Result<String, Fail> {
+    let scale = scale.min(SCALE_MAX);
+    let pattern = parse(alloc, text, scale)?;
+    let printed = pattern_text(alloc, &pattern, scale)?;
     Ok(printed)
 }
 
 #[test]
 fn the_text_of_a_pattern_has_only_the_brackets_that_it_needs(rt: HostRuntime) -> Result<(), Fail> {
     for (text, want) in &PATTERNS {
-        let printed = printed(rt.alloc(), *text)?;
+        let printed = printed(rt.alloc(), *text, 0)?;
         assert!(rt; printed.as_str() == *want, "{text}");
+    }
+    Ok(())
+}
+
+// Patterns, a scale, and as they are printed at it.
+const SCALED: [(&str, u8, &str); 7] = [
+    ("p % [0.5,inf)", 2, "p % [0.50,inf)"),
+    ("p % (000.500,7]", 2, "p % (0.50,7.00]"),
+    ("p % [3.0,4]", 0, "p % [3,4]"),
+    ("p % [3.0,4]", 1, "p % [3.0,4.0]"),
+    ("p;(q % [0.001,0.01)|r)", 3, "p;(q % [0.001,0.010) | r)"),
+    ("p % [0,109951162777.6]", 1, "p % [0.0,109951162777.6]"),
+    (
+        "p % (0.000000001,1099.511627776]",
+        9,
+        "p % (0.000000001,1099.511627776]",
+    ),
+];
+
+#[test]
+fn the_numbers_of_a_pattern_have_as_many_decimals_as_the_scale(
+    rt: HostRuntime,
+) -> Result<(), Fail> {
+    for (text, scale, want) in &SCALED {
+        let printed = printed(rt.alloc(), *text, *scale)?;
+        assert!(rt; printed.as_str() == *want, "{text} {scale}");
     }
     Ok(())
 }
@@ -42,6 +71,66 @@ fn a_zone_is_a_line(rt: HostRuntime) -> Result<(), Fail> {
     let mut out = String::from_str(rt.alloc(), "at 3\n")?;
     zone_line(&Zone::span(0, 3), 0, &mut out)?;
     assert!(rt; out.as_str() == "at 3\n[0,3) (0,3] (0,3]\n");
+    Ok(())
+}
+
+const SHORT: &str = "[0,5) (0,5] (0,5]";
+
+const LATE: &str = "[1000,1050) (1000,1050] (0,50]";
+
+const LAST: &str = "[1099511627774,1099511627776) (1099511627774,1099511627776] (0,2]";
+
+// Lines of zones at scale 0, a scale, and the lines of the same zones at it.
+const LINES: [(&str, u8, &str); 13] = [
+    (SHORT, 0, SHORT),
+    (SHORT, 1, "[0.0,0.5) (0.0,0.5] (0.0,0.5]"),
+    (SHORT, 3, "[0.000,0.005) (0.000,0.005] (0.000,0.005]"),
+    (
+        SHORT,
+        9,
+        "[0.000000000,0.000000005) (0.000000000,0.000000005] (0.000000000,0.000000005]",
+    ),
+    ("[0,50) (0,50] (0,50]", 1, "[0.0,5.0) (0.0,5.0] (0.0,5.0]"),
+    (
+        "[7,7] [7,7] [0,0]",
+        3,
+        "[0.007,0.007] [0.007,0.007] [0.000,0.000]",
+    ),
+    (LATE, 0, LATE),
+    (LATE, 1, "[100.0,105.0) (100.0,105.0] (0.0,5.0]"),
+    (LATE, 3, "[1.000,1.050) (1.000,1.050] (0.000,0.050]"),
+    (LAST, 0, LAST),
+    (
+        LAST,
+        1,
+        "[109951162777.4,109951162777.6) (109951162777.4,109951162777.6] (0.0,0.2]",
+    ),
+    (
+        LAST,
+        3,
+        "[1099511627.774,1099511627.776) (1099511627.774,1099511627.776] (0.000,0.002]",
+    ),
+    (
+        LAST,
+        9,
+        "[1099.511627774,1099.511627776) (1099.511627774,1099.511627776] (0.000000000,0.000000002]",
+    ),
+];
+
+// The line of a zone at a scale, behind another text.
+fn line_at(alloc: Global, line: &str, scale: u8) -> Result<String, Fail> {
+    let zone = zone_of(line).ok_or("no zone")?;
+    let mut out = String::from_str(alloc, "at 3\n")?;
+    zone_line(&zone, scale.min(SCALE_MAX), &mut out)?;
+    Ok(out)
+}
+
+#[test]
+fn the_numbers_of_a_line_have_as_many_decimals_as_the_scale(rt: HostRuntime) -> Result<(), Fail> {
+    for (line, scale, want) in &LINES {
+        let text = line_at(rt.alloc(), *line, *scale)?;
+        assert!(rt; text.as_str().lines().nth(1) == Some(*want), "{want}");
+    }
     Ok(())
 }
 
@@ -62,9 +151,9 @@ fn nothing_of_a_long_line_stays_in_the_next(rt: HostRuntime) -> Result<(), Fail>
 }
 
 // The text of a whole match of the zones of the lines.
-fn whole(alloc: Global, lines: &[&str], end: u64) -> Result<String, Fail> {
+fn whole(alloc: Global, lines: &[&str], end: u64, scale: u8) -> Result<String, Fail> {
     let zones = printed_order(alloc, &set_of(alloc, lines)?)?;
-    let text = offline_text(alloc, &zones, end, 0)?;
+    let text = offline_text(alloc, &zones, end, scale.min(SCALE_MAX))?;
     Ok(text)
 }
 
@@ -75,8 +164,19 @@ fn lines_are_in_rising_order(rt: HostRuntime) -> Result<(), Fail> {
         "[2,2] [2,2] [0,0]",
         "[0,3) (0,3] (0,3]",
     ];
-    let text = whole(rt.alloc(), &lines, 9)?;
+    let text = whole(rt.alloc(), &lines, 9, 0)?;
     let want = "[0,3) (0,3] (0,3]\n[2,2] [2,2] [0,0]\n[5,9) (5,9] (0,4]\nend 9\n";
     assert!(rt; text.as_str() == want);
+    Ok(())
+}
+
+#[test]
+fn the_end_has_as_many_decimals_as_the_scale(rt: HostRuntime) -> Result<(), Fail> {
+    let lines = ["[0,5) (0,5] (0,5]", "[5,5] [5,5] [0,0]"];
+    let text = whole(rt.alloc(), &lines, 10, 1)?;
+    let want = "[0.0,0.5) (0.0,0.5] (0.0,0.5]\n[0.5,0.5] [0.5,0.5] [0.0,0.0]\nend 1.0\n";
+    assert!(rt; text.as_str() == want);
+    let none = whole(rt.alloc(), &[], 1, 9)?;
+    assert!(rt; none.as_str() == "end 0.000000001\n");
     Ok(())
 }

@@ -3,16 +3,24 @@ use crate::reading::{feed, read};
 use std::alloc::Global;
 use std::test::Fail;
 use tests_support::names_of;
+use tre_decimal::SCALE_MAX;
 use tre_trace::TraceKind::{LineTooLong, Spent};
 use tre_trace::{TraceFault, TraceKind, TraceReader};
 use tre_vcd::{TokenReader, VcdReader};
 
-fn reader(alloc: Global, names: &str, events: &str) -> Result<VcdReader, Fail> {
+// A reader of these propositions and events at a scale, which the dump must declare.
+fn reader_at(alloc: Global, names: &str, events: &str, scale: u8) -> Result<VcdReader, Fail> {
     let names = names_of(alloc, names)?;
     let events = names_of(alloc, events)?;
-    let mut reader = TokenReader::new(alloc, names.try_clone()?, events.try_clone()?, 0);
+    let own = names.try_clone()?;
+    let own_events = events.try_clone()?;
+    let mut reader = TokenReader::new(alloc, own, own_events, scale.min(SCALE_MAX));
     reader.must_declare(&names, &events)?;
     Ok(VcdReader::new(alloc, reader))
+}
+
+fn reader(alloc: Global, names: &str, events: &str) -> Result<VcdReader, Fail> {
+    reader_at(alloc, names, events, 0)
 }
 
 // Whether the dump, read in pieces of this many bytes, says this for the propositions of the names:
@@ -377,6 +385,156 @@ fn events_named(rt: HostRuntime) -> Result<(), Fail> {
         let said = read(rt.alloc(), &mut reader, EVENT.as_bytes(), 5)?;
         assert!(rt; said.as_str() == *want, "{names} {events}");
     }
+    Ok(())
+}
+
+// A scale, what stands behind the header, and what it says for p.
+const SCALED: [(u8, &str, &str); 24] = [
+    (0, "#0 1! #5 0! #7", "5:1 2:0 "),
+    (1, "#0 1! #5 0! #7", "50:1 20:0 "),
+    (3, "#0 1! #5 0! #7", "5000:1 2000:0 "),
+    (9, "#0 1! #5 0! #7", "5000000000:1 2000000000:0 "),
+    (1, "#05 #007 #0000000000000000000000008", "50:0 20:0 10:0 "),
+    (9, "#0 #0 1! #000 #1 #1", "1000000000:1 "),
+    // The latest time is 2^40 units.
+    (0, "#1099511627776", "1099511627776:0 "),
+    (0, "#1099511627777", "TooLate 63"),
+    (
+        1,
+        "#109951162777 #109951162778",
+        "1099511627770:0 TooLate 77",
+    ),
+    (3, "#1099511627 #1099511628", "1099511627000:0 TooLate 75"),
+    (9, "#1099 #1100", "1099000000000:0 TooLate 69"),
+    // Times, and times in units, past 2^64.
+    (0, "#99999999999999999999999999", "TooLate 63"),
+    (1, "#1844674407370955162", "TooLate 63"),
+    (3, "#18446744073709552", "TooLate 63"),
+    (9, "#18446744074", "TooLate 63"),
+    (
+        9,
+        "#5 #99999999999999999999999999 #4",
+        "5000000000:0 TooLate 66",
+    ),
+    (1, "#5 #4", "50:0 TimeBack 66"),
+    (9, "#5 #4", "5000000000:0 TimeBack 66"),
+    // There is no point in a time.
+    (0, "#5.0", "BadToken 63"),
+    (1, "#5.0", "BadToken 63"),
+    (3, "#2 #5.125 #4", "2000:0 BadToken 66"),
+    (9, "#5.", "BadToken 63"),
+    (1, "#.5", "BadToken 63"),
+    (1, "#", "BadToken 63"),
+];
+
+#[test]
+fn times_at_scales(rt: HostRuntime) -> Result<(), Fail> {
+    for (scale, values, want) in &SCALED {
+        let dump = with_header(rt.alloc(), *values)?;
+        for most in [1, 1000] {
+            let mut reader = reader_at(rt.alloc(), "p", "", *scale)?;
+            let said = read(rt.alloc(), &mut reader, dump.as_bytes(), most)?;
+            assert!(rt; said.as_str() == *want, "{scale} {values} {most}");
+        }
+    }
+    Ok(())
+}
+
+#[test]
+fn digits_past_every_number(rt: HostRuntime) -> Result<(), Fail> {
+    let dump = with_header(rt.alloc(), "#1 #340282366920938463463374607431768211456")?;
+    for (scale, want) in [
+        (0, "1:0 TooLate 66"),
+        (1, "10:0 TooLate 66"),
+        (3, "1000:0 TooLate 66"),
+        (9, "1000000000:0 TooLate 66"),
+    ] {
+        let mut reader = reader_at(rt.alloc(), "p", "", scale)?;
+        let said = read(rt.alloc(), &mut reader, dump.as_bytes(), 7)?;
+        assert!(rt; said.as_str() == want, "{scale}");
+    }
+    Ok(())
+}
+
+#[test]
+fn events_at_a_scale(rt: HostRuntime) -> Result<(), Fail> {
+    let mut reader = reader_at(rt.alloc(), "", "top.e", 3)?;
+    let said = read(rt.alloc(), &mut reader, EVENT.as_bytes(), 5)?;
+    assert!(rt; said.as_str() == "4000:0 2000:0@1 ");
+    Ok(())
+}
+
+// The propositions p and q, and the event e.
+const DECLARING: &str = "$var wire 1 ! p $end $var wire 1 \" q $end $var event 1 % e $end \
+    $enddefinitions $end #1 1! 1% #3";
+
+// Names and events that are read, others that must be declared too, and what the dump says.
+const BESIDE: [(&str, &str, &str, &str, &str); 16] = [
+    ("p", "", "", "", "1:0 2:1 "),
+    ("p", "", "q", "", "1:0 2:1 "),
+    ("p", "", "p", "", "1:0 2:1 "),
+    ("p", "", "q p", "e", "1:0 2:1 "),
+    ("q", "e", "p", "", "1:0 2:0@1 "),
+    ("", "", "p q", "e", "1:0 2:0 "),
+    // Another isn't declared.
+    ("p", "", "r", "", "UnknownName 64"),
+    ("p", "", "q r", "", "UnknownName 64"),
+    ("p", "", "r q", "e", "UnknownName 64"),
+    ("p", "e", "q", "f", "UnknownName 64"),
+    ("", "", "r", "", "UnknownName 64"),
+    // A proposition is no event, and an event is no proposition.
+    ("p", "", "", "q", "UnknownName 64"),
+    ("p", "", "e", "", "UnknownName 64"),
+    ("p", "e", "e", "p", "UnknownName 64"),
+    // One that is read isn't declared.
+    ("r", "", "p", "", "UnknownName 64"),
+    ("p", "f", "q", "e", "UnknownName 64"),
+];
+
+// Reads these names and events. The dump must declare the first two lists, and then the others.
+fn says_beside(
+    alloc: Global,
+    own: (&str, &str),
+    first: (&str, &str),
+    second: (&str, &str),
+) -> Result<String, Fail> {
+    let names = names_of(alloc, own.0)?;
+    let events = names_of(alloc, own.1)?;
+    let mut tokens = TokenReader::new(alloc, names, events, 0);
+    let names = names_of(alloc, first.0)?;
+    let events = names_of(alloc, first.1)?;
+    tokens.must_declare(&names, &events)?;
+    let names = names_of(alloc, second.0)?;
+    let events = names_of(alloc, second.1)?;
+    tokens.must_declare(&names, &events)?;
+    let mut reader = VcdReader::new(alloc, tokens);
+    Ok(read(alloc, &mut reader, DECLARING.as_bytes(), 5)?)
+}
+
+#[test]
+fn names_beside(rt: HostRuntime) -> Result<(), Fail> {
+    for (names, events, others, other_events, want) in &BESIDE {
+        let own = (*names, *events);
+        let other = (*others, *other_events);
+        let said = says_beside(rt.alloc(), own, own, other)?;
+        let turned = says_beside(rt.alloc(), own, other, own)?;
+        assert!(rt;
+            said.as_str() == *want && turned.as_str() == *want,
+            "{names} {events} {others} {other_events}"
+        );
+    }
+    Ok(())
+}
+
+// Names that are read need not be declared where nothing says that they must.
+#[test]
+fn names_need_not_be_declared(rt: HostRuntime) -> Result<(), Fail> {
+    let names = names_of(rt.alloc(), "r p")?;
+    let events = names_of(rt.alloc(), "f e")?;
+    let tokens = TokenReader::new(rt.alloc(), names, events, 0);
+    let mut reader = VcdReader::new(rt.alloc(), tokens);
+    let said = read(rt.alloc(), &mut reader, DECLARING.as_bytes(), 5)?;
+    assert!(rt; said.as_str() == "1:0 2:2@2 ");
     Ok(())
 }
 

@@ -60,11 +60,9 @@ takes_front : (byte : ℕ) (bytes rest : List ℕ) (word : RawToken) (at : ℕ)
     ≡ with_raw_token at word (next (length bytes)))
     → Takes word at (byte ∷ (bytes ++ rest)) rest
 takes_front byte bytes rest word at is =
-    let end = skipped bytes rest (at + 1) in (
-      at,
-      end.0,
-      is (λ skip. raw_tokens_from skip (at + 1) (bytes ++ rest)) ∙ ap (with_raw_token at word) end.1,
-    )
+    let next = λ (skip : ℕ). raw_tokens_from skip (at + 1) (bytes ++ rest) in
+    let end = skipped bytes rest (at + 1) in
+    (at, end.0, is next ∙ ap (with_raw_token at word) end.1)
 
 -- A word that is taken is a name or a reserved one.
 scanned_named : (len : ℕ) (o : Option Token) (at : ℕ) (bytes : List ℕ) (next : ℕ → RawTokens)

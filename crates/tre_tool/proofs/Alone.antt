@@ -157,7 +157,7 @@ module _ (scale : ℕ) where
       ap (λ one. blocks_text scale (one ∷ []) segments ++ ending_text scale (one ∷ []) segments)
       (is_alone account none)
       ∙ sym (whole_text-alone account.pattern.tree account.pattern.names account.trace
-          account.blocks
+      account.blocks
       account.closing segments count)
 
 -- a list is its own front
@@ -353,7 +353,7 @@ module _ (job : Job) (lets : List Defined) (tree : PatternTree) (names : Vocabul
             ∙ (whole_text-alone job.scale tree names answer.trace answer.blocks answer.zones
             answer.trace.segments answer.transcript.count
             ∙ ap (λ segments. blocks_text job.scale (account_of tree names answer.trace
-                answer.blocks
+            answer.blocks
             answer.zones ∷ []) segments ++ ending_text job.scale (account_of tree names answer.trace
             answer.blocks answer.zones ∷ []) segments) (sym same));
       }

@@ -1,4 +1,5 @@
 pub mod Alone
+pub mod Answering
 pub mod Canonical
 pub mod Cuts
 pub mod Differences

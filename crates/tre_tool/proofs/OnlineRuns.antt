@@ -61,7 +61,7 @@ module _ (job : Job) (lets : List Defined) (tree : PatternTree) (names : Vocabul
   )
   EndsOver-telling InputTooLong online ends =
       EndsAtInput-decided (request_alone job lets tree names) input output exceeds (reads_here
-          online) ends.decided
+      online) ends.decided
       (blocks_so_far job.mode _ online
       (AllStand-fault job lets tree names ends.decided.cause.bytes output ends.stands))
   EndsOver-telling ReadFault online ends = record {
@@ -96,7 +96,7 @@ module _ (job : Job) (lets : List Defined) (tree : PatternTree) (names : Vocabul
   unopened_by as_it_comes closed reads unwritten =
       FirstBlocksStand-alone job lets tree names input output
       (EndsTelling-unopened job.scale (reading_for (request_alone job lets tree names))
-          job.max_bytes tree job.input
+      job.max_bytes tree job.input
       input output (reading_in-nothing job lets (all_names (alone tree names)) names job.format)
       (reading_in-faultless job lets (all_names (alone tree names)) names job.format) closed reads
       unwritten.unwritten unwritten.writes).stands

@@ -35,7 +35,7 @@ module _ (scale : ℕ) where
         → (zones ≡ others) × (letter ≡ other) × (xs ≡ ys)
     pub number : (number other : ℕ) (xs ys : List ℕ) → number < 2 ^ 64 → other < 2 ^ 64
         → number_text scale number ++ (10 ∷ xs) ≡ number_text scale other ++ (10 ∷ ys) → (number ≡
-            other) × (xs ≡ ys)
+        other) × (xs ≡ ys)
 
   -- the line of a segment's end behind its letter a, and what follows it
   abbrev end_line : ℕ → List ℕ → List ℕ
@@ -80,7 +80,7 @@ module _ (scale : ℕ) where
   no_block : FrontTells → (zones : List ZoneBounds) (end at : ℕ)
       (closing : Option (List ZoneBounds)) (xs : List ℕ) → AreCanonical zones
       → IfSome closing AreCanonical → closing_text scale closing at ≡ block_text scale zones end ++
-          xs → ⊥
+      xs → ⊥
   no_block tells zones end at (Some told) xs p q e =
       let both = tells.lines told zones 101 97 (end_bytes at) (end_line end xs) q p
       (omega arith) (omega arith) (sym (closing_bytes told at) ∙ e ∙ block_bytes zones end xs) in
@@ -137,7 +137,7 @@ module _ (scale : ℕ) where
       (sym (append_assoc (block_text scale zones m) (block_texts scale m blocks trace) (closing_text
       scale closing at)) ∙ e
       ∙ append_assoc (block_text scale zones' m') (block_texts scale m' others other) (closing_text
-          scale ending at'))
+      scale ending at'))
       in
       let same : m ≡ m' = block.1 in
       let rest = texts_once tells m blocks others closing ending trace other at at'

@@ -584,6 +584,7 @@ EndsAs-refused Gives job input output status gives told nothing =
     refused_by : (refusal : Status) → IsRefusalIn job.mode job refusal
         → IsRefused Gives refusal
     refused_by refusal is = record { job = job; gives = gives; refuses = is }
+
     ends_by : Stopped job status → EndsAs Gives input output status
     ends_by (by_memory is) = rw is (record { reads = nothing.reads; stands = inl nothing })
     ends_by (by_expression fault is refuses) =

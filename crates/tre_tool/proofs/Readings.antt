@@ -6,7 +6,7 @@ use Rattle.tre_parts.specs.Format.{reading_from}
 use Rattle.tre_num.specs.Defined.{Defined}
 use Rattle.tre_num.specs.Rows.{Terms as RowTerms, rows_reading}
 use Rattle.tre_text.specs.TextReading.{Terms as TextTerms, text_reading}
-use Rattle.tre_trace.specs.Reading.{Reading, Vocabulary}
+use Rattle.tre_trace.specs.Reading.{Reading, Vocabulary, Adds}
 use Rattle.tre_trace.specs.Trace.{IsTrace, timeline_of}
 use Rattle.tre_trace.specs.declared.segment.Segment.{Segment}
 use Rattle.tre_vcd.specs.VcdReading.{Terms, vcd_reading}
@@ -216,6 +216,16 @@ IsWhole-ended reading limit input kept bytes old new last opened reads keeps end
       reads_as = same_reading (reading true bytes) new last same ended.last_is ended.whole;
       is_trace = subst IsTrace (sym same) trace;
     }
+
+-- the segments of bytes that were fed at once to a reader that had read nothing
+pub fed_whole : (reading : Bool → List ℕ → Reading) (bytes : List ℕ)
+    (none fed all : List Segment) → (reading false []).segments ≡ [] → none ≡ []
+    → Adds none fed (reading false []) (reading false bytes)
+    → Adds fed all (reading false bytes) (reading true bytes)
+    → all ≡ (reading true bytes).segments
+fed_whole reading bytes none fed all nothing empty first rest =
+    Adds-now fed all (reading false bytes) (reading true bytes)
+    (Adds-now none fed (reading false []) (reading false bytes) (empty ∙ sym nothing) first) rest
 
 -- a turn went on
 pub IsCollected-more : {represents : List ℕ → Type 0} (reading : Bool → List ℕ → Reading)

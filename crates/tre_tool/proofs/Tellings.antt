@@ -419,7 +419,7 @@ module _ (scale : ℕ) where
   -- all was told, and what the end completes wasn't, or not all of it
   pub EndsTelling-cut : (reading : Bool → List ℕ → Reading) → AllGrow reading → (most limit : ℕ)
       (tree : PatternTree) (name : List ℕ) (input : InputTold) (output : OutputTold) (bytes : List
-          ℕ)
+      ℕ)
       (new : List Segment) (last : ℕ) (status : Status)
       → HasRead reading most limit input.file input.left input.found bytes [] new → most ≡ PIECE
       → input.opened ≡ true
@@ -428,7 +428,7 @@ module _ (scale : ℕ) where
       → AllReadsGood input
       → HasWriteCause {T = Unit {0}} output.faults_before output.faults_now (Err status)
       → StopsAtEnd scale tree (timeline_of ((reading false (take limit bytes)).segments ++ new)
-          last)
+      last)
       output.written_before output.written_now status
       → EndsTelling reading limit scale tree name input output status
   EndsTelling-cut reading grows most limit tree name input output bytes new last WriteFault

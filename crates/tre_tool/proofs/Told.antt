@@ -142,7 +142,7 @@ module _ (scale : ℕ) where
       last_of : (blocks : List (List ZoneBounds)) (zones : List ZoneBounds)
           (ended : List ZoneBounds) → IsPermutation ended zones
           → IsPermutation ended (block_before (length (blocks ++ zones ∷ [])) (blocks ++ zones ∷
-              []))
+          []))
       last_of blocks zones ended order =
           let count : length (blocks ++ zones ∷ []) ≡ suc (length blocks) = omega
           (arith, length-append blocks (zones ∷ [])) in

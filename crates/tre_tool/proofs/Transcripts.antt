@@ -31,7 +31,7 @@ block_texts-more : (scale start : ℕ) (blocks : List (List ZoneBounds)) (zones 
     (segments : List Segment) (segment : Segment) → length blocks ≡ length segments
     → block_texts scale start (blocks ++ zones ∷ []) (segments ++ segment ∷ [])
     ≡ block_texts scale start blocks segments ++ block_text scale zones (end_of start segments +
-        segment.len)
+    segment.len)
 block_texts-more scale start [] zones [] segment same = append-nil _
 block_texts-more scale start [] zones (first ∷ rest) segment same = absurd (omega (arith, same))
 block_texts-more scale start (block ∷ blocks) zones [] segment same = absurd (omega (arith, same))
@@ -45,7 +45,7 @@ pub online_text-more : (scale : ℕ) (blocks : List (List ZoneBounds)) (zones : 
     (segments : List Segment) (segment : Segment) → length blocks ≡ length segments
     → online_text scale (blocks ++ zones ∷ []) None (segments ++ segment ∷ [])
     ≡ online_text scale blocks None segments ++ block_text scale zones (end_of 0 (segments ++
-        segment ∷ []))
+    segment ∷ []))
 unfolding online_text
 online_text-more scale blocks zones segments segment same =
     rw (

@@ -3,7 +3,7 @@ ghost use Rattle.std.specs.Prelude.{◌≡◌, ℕ, ◌≤◌, ◌+◌, List, []
 ghost use Rattle.std.specs.Option.{option_map};
 ghost use Rattle.tre_num.specs.Defined.{Defined};
 ghost use Rattle.tre_syntax.specs.Pattern.{names_of};
-ghost use Rattle.tre_trace.specs.Trace.{IsTrace};
+ghost use Rattle.tre_trace.specs.Trace.{IsTrace, timeline_of};
 ghost use Rattle.tre_zone.specs.ZoneList.{SetHolds};
 ghost use Rattle.tre_zoneset.specs.ZoneSet.{IsZoneSet};
 ghost use Rattle.tre_tool.specs.Answer.{request_for, IsFoundFor, IsFound, IsFresh, AreMatchesOver, AreOver, StopsAs};
@@ -26,7 +26,7 @@ use tre_offline::matches;
 use tre_show::{in_printed_order, offline_text};
 use tre_strips::strips;
 use tre_syntax::Pattern;
-use tre_trace::{Trace, TraceReader};
+use tre_trace::{Segment, Trace, TraceReader};
 use tre_words::{Job, Mode};
 use tre_zone::Zone;
 use tre_zoneset::ZoneSet;
@@ -50,6 +50,17 @@ struct Whole {
 struct Found {
     set: ZoneSet,
     end: u64,
+}
+
+// The trace of these segments, with these events at its end.
+fn trace_with(alloc: Global, segments: Vec<Segment>, last: u64) -> Result<Trace, AllocError>
+    requires { IsTrace segments.items }
+    ensures same { IfOk result (λ trace. trace ≡ timeline_of segments.items last) }
+    ensures trace { IfOk result (λ trace. IsTrace trace.segments) }
+{
+    let mut trace = Trace::of_segments(alloc, segments)?;
+    trace.set_last(last);
+    Ok(trace)
 }
 
 // Reads the trace that the input of this name is, where it has at most `limit` bytes.
@@ -85,8 +96,7 @@ fn read_trace<S: Source, R: TraceReader>(
             break;
         }
     }
-    let mut trace = Trace::of_segments(alloc, segments)?;
-    trace.set_last(feed.last());
+    let trace = trace_with(alloc, segments, feed.last())?;
     Ok(Whole {
         trace,
         kept: feed.into_kept(),
@@ -104,15 +114,16 @@ fn trace_of<R: TraceReader>(alloc: Global, bytes: &[u8], reader: &mut R) -> Resu
     ensures failed { IfErr result (λ status. status ≡ Status.Memory) }
 {
     let mut segments = Vec::new(alloc);
-    if reader.feed(bytes, &mut segments).is_err() {
-        return Err(Status::Memory);
+    match reader.feed(bytes, &mut segments) {
+        Err(_) => Err(Status::Memory),
+        Ok(()) => match reader.finish(&mut segments) {
+            Err(_) => Err(Status::Memory),
+            Ok(last) => {
+                let trace = trace_with(alloc, segments, last)?;
+                Ok(trace)
+            }
+        },
     }
-    let Ok(last) = reader.finish(&mut segments) else {
-        return Err(Status::Memory);
-    };
-    let mut trace = Trace::of_segments(alloc, segments)?;
-    trace.set_last(last);
-    Ok(trace)
 }
 
 // The matches that are taken away, over these bytes.

@@ -74,7 +74,7 @@ fn put_pieces<E: Sink>(err: &mut E, pieces: &[&str]) -> Result<(), Failed>
 }
 
 // Tells of a refused pattern, behind these words.
-fn tell_fault<E: Sink>(front: &str, fault: &ParseFault, err: &mut E) -> Result<(), Failed>
+fn tell_fault<E: Sink>(front: &'static str, fault: &ParseFault, err: &mut E) -> Result<(), Failed>
     ensures line { OnOk result (Appends (E.written err.old) (E.written err.new)
         (front.now ++ refusal_words fault.now)) }
     ensures part { OnErr result (AppendsPart (E.written err.old) (E.written err.new)
@@ -108,7 +108,7 @@ fn tell_definitions<E: Sink>(fault: &LetFault, err: &mut E) -> Result<(), Failed
 }
 
 // Tells a line that ends with a number.
-fn tell_number<E: Sink>(err: &mut E, front: &str, number: u64) -> Result<(), Failed>
+fn tell_number<E: Sink>(err: &mut E, front: &'static str, number: u64) -> Result<(), Failed>
     ensures line { OnOk result (Appends (E.written err.old) (E.written err.new)
         (front.now ++ (decimal number ++ codes "\n"))) }
     ensures part { OnErr result (AppendsPart (E.written err.old) (E.written err.new)

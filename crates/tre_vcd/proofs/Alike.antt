@@ -9,7 +9,7 @@ use Rattle.tre_parts.specs.Format.{Step}
 use Rattle.tre_trace.specs.Reading.{Vocabulary}
 use Rattle.tre_trace.specs.declared.fault.TraceKind.{TraceKind}
 use Rattle.tre_trace.specs.declared.fault.TraceKind.TheVariants.{BadToken, TimeBack, TooLate}
-use Rattle.tre_vcd.specs.VcdReading.{Terms, Statement, time, Open, nothing, section, comment, vector, number, Place, time_at, is_defined, segment_until, goes_to, time_says, ticks_say, value_says, command_says, first_says, token_at, token_says, end_says, vcd_format, vcd_reading}
+use Rattle.tre_vcd.specs.VcdReading.{Terms, Statement, time, Open, nothing, section, comment, vector, number, Place, time_at, is_defined, segment_until, goes_to, ticks_say, value_says, command_says, token_at, token_says, end_says, vcd_format, vcd_reading}
 
 -- the same place
 abbrev SamePlace : Place → Place → Type 0

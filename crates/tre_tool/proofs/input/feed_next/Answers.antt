@@ -56,7 +56,7 @@ returns-in_err-last-clause-read g c =
     (c.in_ok-count.ensures.adds bytes (IsFed-all so_far inside)) in
     let at_end = IsAtEndOf-read {represents' = IsFedTo
     (g.R.TraceReader.represents c.feed_piece.new.reader) c.feed_piece.new.kept} (length
-        c.args.buffer.now) c.args.limit file (g.S.Source.left c.args.input.now)
+    c.args.buffer.now) c.args.limit file (g.S.Source.left c.args.input.now)
     (g.S.Source.found c.args.input.now) (g.S.Source.left c.feed_piece.new.input)
     (g.S.Source.found c.feed_piece.new.input) c.args.taken.now count bytes buffer so_far inside
     c.in_ok-count.ensures.taken c.feed_piece.ensures.finds (c.in_ok-count.ensures.end none) none
@@ -81,7 +81,7 @@ returns-in_err-last-clause-ends g c =
     (c.in_ok-count.ensures.adds bytes (IsFed-all so_far inside)) in
     let at_end = IsAtEndOf-read {represents' = IsFedTo
     (g.R.TraceReader.represents c.feed_piece.new.reader) c.feed_piece.new.kept} (length
-        c.args.buffer.now) c.args.limit file (g.S.Source.left c.args.input.now)
+    c.args.buffer.now) c.args.limit file (g.S.Source.left c.args.input.now)
     (g.S.Source.found c.args.input.now) (g.S.Source.left c.feed_piece.new.input)
     (g.S.Source.found c.feed_piece.new.input) c.args.taken.now count bytes buffer so_far inside
     c.in_ok-count.ensures.taken c.feed_piece.ensures.finds (c.in_ok-count.ensures.end none) none
@@ -104,7 +104,7 @@ returns-then-count-eq0-clause-read g c =
     (c.in_ok-count.ensures.adds bytes (IsFed-all so_far inside)) in
     let at_end = IsAtEndOf-read {represents' = IsFedTo
     (g.R.TraceReader.represents c.feed_piece.new.reader) c.feed_piece.new.kept} (length
-        c.args.buffer.now) c.args.limit file (g.S.Source.left c.args.input.now)
+    c.args.buffer.now) c.args.limit file (g.S.Source.left c.args.input.now)
     (g.S.Source.found c.args.input.now) (g.S.Source.left c.feed_piece.new.input)
     (g.S.Source.found c.feed_piece.new.input) c.args.taken.now count bytes buffer so_far inside
     c.in_ok-count.ensures.taken c.feed_piece.ensures.finds (c.in_ok-count.ensures.end none) none
@@ -127,7 +127,7 @@ returns-then-count-eq0-clause-ends g c =
     (c.in_ok-count.ensures.adds bytes (IsFed-all so_far inside)) in
     let at_end = IsAtEndOf-read {represents' = IsFedTo
     (g.R.TraceReader.represents c.feed_piece.new.reader) c.feed_piece.new.kept} (length
-        c.args.buffer.now) c.args.limit file (g.S.Source.left c.args.input.now)
+    c.args.buffer.now) c.args.limit file (g.S.Source.left c.args.input.now)
     (g.S.Source.found c.args.input.now) (g.S.Source.left c.feed_piece.new.input)
     (g.S.Source.found c.feed_piece.new.input) c.args.taken.now count bytes buffer so_far inside
     c.in_ok-count.ensures.taken c.feed_piece.ensures.finds (c.in_ok-count.ensures.end none) none

@@ -129,7 +129,7 @@ returns-clause-read g c =
     let input = input_told g.S.Source.file_name g.S.Source.file g.S.Source.sound g.S.Source.opened
     g.S.Source.left g.S.Source.found g.S.Source.faults c.args.input.now
     c.next.new.input in
-    rw (c.set_last.ensures.set, c.in_ok-trace.ensures.same, c.last.ensures)
+    rw (c.in_ok-trace.ensures.same, c.last.ensures, c.into_kept.ensures)
     (IsWhole-ended reading c.args.limit input c.next.new.self.kept so_far.bytes
     c.loop-segments.segments.items c.next.new.segments.items c.next.new.self.last
     (c.next.ensures.same_opened ∙ inv.opened) (c.in_ok-next.ensures.cause ∙ inv.no_fault)

@@ -187,7 +187,7 @@ loop-segments-preserved g c =
     record {
       telling = rw c.next-fed.ensures.length
           (IsTelling-more c.args.job.now.scale reading (length c.loop-segments.feed.buffer.items)
-              limit file
+          limit file
           (g.S.Source.left c.next-fed.new.input) (g.S.Source.found c.next-fed.new.input)
           c.next-fed.new.self.taken c.tell_blocks.new.session tree tel.bytes new
           (g.O.Sink.written c.args.out.now) (g.O.Sink.written c.tell_blocks.new.out) more told);

@@ -8,7 +8,7 @@ pub returns-in_err-session-clause-ends : goal.returns-in_err-session-clause-ends
 returns-in_err-session-clause-ends g c =
     let p = err_from_is_err_and c.from_residual.result c.from_residual.ensures.1 in
     rw (p.1, p.2) (EndsTelling-unopened c.args.job.now.scale _ _ _ c.args.job.now.input _ _
-        c.requires.nothing
+    c.requires.nothing
     (g.met.R.TraceReader.faultless c.args.reader.now [] c.requires.fresh) c.requires.closed refl
     refl refl)
 
@@ -23,5 +23,5 @@ returns-in_err-tell_input-clause-ends g c =
 pub returns-clause-ends : goal.returns-clause-ends
 returns-clause-ends g c =
     EndsTelling-same c.args.job.now.scale _ _ _ _ _ c.args.job.now.input _ _ Done refl
-        c.in_ok-session.ensures.tree
+    c.in_ok-session.ensures.tree
     c.in_ok-tell_input.ensures.ends
