@@ -109,27 +109,20 @@ fn answer_text<S: Source, O: Sink>(
     ensures by_name { IsTrue (S.opened input.new) →
         IfSome (S.file_name input.old) (λ told. told ≡ job.now.input) }
 {
-    let mut reader = text_reader(alloc, &asked.pattern, job.scale)?;
-    match asked.taken {
+    let Asked { pattern, taken, .. } = asked;
+    let mut reader = text_reader(alloc, &pattern, job.scale)?;
+    match taken {
         None => {
-            answer_by(alloc, asked.pattern, None, job, &mut reader, input, out)?;
+            answer_by(alloc, pattern, None, job, &mut reader, input, out)?;
             Ok(())
         }
-        Some(pattern) => {
-            let second = text_reader(alloc, &pattern, job.scale)?;
+        Some(other) => {
+            let second = text_reader(alloc, &other, job.scale)?;
             let taken = Taken {
-                pattern,
+                pattern: other,
                 reader: second,
             };
-            answer_by(
-                alloc,
-                asked.pattern,
-                Some(taken),
-                job,
-                &mut reader,
-                input,
-                out,
-            )?;
+            answer_by(alloc, pattern, Some(taken), job, &mut reader, input, out)?;
             Ok(())
         }
     }
@@ -213,21 +206,21 @@ fn answer_dump<S: Source, O: Sink>(
     ensures by_name { IsTrue (S.opened input.new) →
         IfSome (S.file_name input.old) (λ told. told ≡ job.now.input) }
 {
-    let first = asked.pattern;
-    match asked.taken {
+    let Asked { pattern, taken, .. } = asked;
+    match taken {
         None => {
-            let mut reader = dump_reader(alloc, &first, job.scale)?;
-            answer_by(alloc, first, None, job, &mut reader, input, out)?;
+            let mut reader = dump_reader(alloc, &pattern, job.scale)?;
+            answer_by(alloc, pattern, None, job, &mut reader, input, out)?;
             Ok(())
         }
-        Some(pattern) => {
-            let mut reader = dump_reader_of_two(alloc, &first, &first, &pattern, job.scale)?;
-            let second = dump_reader_of_two(alloc, &pattern, &first, &pattern, job.scale)?;
+        Some(other) => {
+            let mut reader = dump_reader_of_two(alloc, &pattern, &pattern, &other, job.scale)?;
+            let second = dump_reader_of_two(alloc, &other, &pattern, &other, job.scale)?;
             let taken = Taken {
-                pattern,
+                pattern: other,
                 reader: second,
             };
-            answer_by(alloc, first, Some(taken), job, &mut reader, input, out)?;
+            answer_by(alloc, pattern, Some(taken), job, &mut reader, input, out)?;
             Ok(())
         }
     }
