@@ -54,7 +54,7 @@ of_common : (readings : List Reading)
     → All (λ one. All (AreAlike one) readings) readings
     → All (AreAlike (common readings)) readings
 of_common [] alike k d below = absurd (omega (arith, below))
-of_common (reading ∷ readings) alike = alike 0 reading (omega arith)
+of_common (reading ∷ readings) alike k d below = alike 0 reading (omega arith) k d below
 
 pub common_alike : (request : Request) (closed : Bool) (bytes : List ℕ)
     → request.job.format ≢ Csv
