@@ -1,5 +1,5 @@
 -- What is told of one pattern alone, as what is told of a list of one.
-use Rattle.std.proofs.Common.{◌≡◌, ◌∙◌, ℕ, zero, suc, ◌+◌, ◌≤◌, true, List, [], ◌∷◌, ◌++◌, All, length, take, Option, None, Some, IfSome, refl, sym, ap, arith, length-append, append-nil, append_assoc, codes}
+use Rattle.std.proofs.Common.{◌≡◌, ◌∙◌, ℕ, zero, suc, ◌+◌, ◌≤◌, true, List, [], ◌∷◌, ◌++◌, All, length, take, None, Some, refl, sym, ap, arith, length-append, append-nil, append_assoc, codes}
 use Rattle.std.proofs.Math.Seq.{get_or-append_seam, take-append_seam}
 use Rattle.tre_generate.specs.Summary.{IsSummary}
 use Rattle.tre_num.specs.Defined.{Defined}

@@ -9,7 +9,8 @@ use Rattle.tre_syntax.specs.Pattern.{pattern_tree, names_of}
 use Rattle.tre_syntax.specs.declared.pattern.Pattern.{Pattern}
 use Rattle.tre_text.specs.TextReading.{Terms as TextTerms}
 use Rattle.tre_trace.specs.Reading.{Reading, Vocabulary}
-use Rattle.tre_tool.specs.Answer.{EndsOver, IsFresh, request_for}
+use Rattle.tre_vcd.specs.VcdReading.{Terms as DumpTerms, requiring}
+use Rattle.tre_tool.specs.Answer.{EndsOver, request_for}
 use Rattle.tre_tool.specs.Devices.{InputTold, OutputTold, AllReadsGood, NothingWritten}
 use Rattle.tre_tool.specs.Readings.{reading_of}
 use Rattle.tre_tool.specs.Run.{IsAnswerIn}
@@ -39,6 +40,23 @@ text_terms_of names scale = record { names = names; scale = scale }
 pub text_terms : (scale : ℕ) {names other : Vocabulary} → names ≡ other
     → text_terms_of names scale ≡ text_terms_of other scale
 text_terms scale same = ap (λ names. text_terms_of names scale) same
+
+abbrev pub dump_terms_of : Vocabulary → List Vocabulary → ℕ → DumpTerms
+dump_terms_of names declared scale = record {
+  names = names;
+  declared = declared;
+  scale = scale;
+}
+
+pub dump_terms : (scale : ℕ) {names other : Vocabulary} → names ≡ other
+    → dump_terms_of names [] scale ≡ dump_terms_of other [] scale
+dump_terms scale same = ap (λ names. dump_terms_of names [] scale) same
+
+-- the names that must be declared besides
+pub declaring : {terms told : DumpTerms} {names other : Vocabulary} → terms ≡ told → names ≡ other
+    → requiring terms names ≡ requiring told other
+declaring {terms} {told} {names} {other} same own =
+    ap (λ t. requiring t names) same ∙ ap (requiring told) own
 
 -- ---- where nothing is taken away
 

@@ -1,5 +1,5 @@
 -- What was found over a whole input, and the text that tells it.
-use Rattle.std.proofs.Common.{◌≡◌, ◌∙◌, ℕ, ◌<◌, ◌≤◌, Bool, true, false, List, [], ◌∷◌, All, length, Option, None, Some, IfSome, IsTrue, zero, suc, refl, sym, ap, subst, arith}
+use Rattle.std.proofs.Common.{◌≡◌, ◌∙◌, ℕ, ◌≤◌, Bool, true, List, [], ◌∷◌, All, length, Option, None, Some, IfSome, IsTrue, zero, suc, refl, sym, ap, subst, arith}
 use Rattle.tre_num.specs.Defined.{Defined}
 use Rattle.tre_offline.specs.MatchSet.{IsMatchSet}
 use Rattle.tre_pairs.specs.Except.{Except}
@@ -11,19 +11,18 @@ use Rattle.tre_trace.specs.Trace.{Timeline, end_of, IsTrace}
 use Rattle.tre_zone.specs.ZoneList.{SetHolds, HoldExactly}
 use Rattle.tre_zone.specs.declared.zone_bounds.ZoneBounds.{ZoneBounds}
 use Rattle.tre_zoneset.specs.ZoneSet.{IsZoneSet}
-use Rattle.tre_tool.specs.Answer.{sought_by, patterns_with, request_for, AreMatchesOver, AreOver, IsFound, IsFoundFor, StopsAs}
+use Rattle.tre_tool.specs.Answer.{sought_by, request_for, AreMatchesOver, AreOver, IsFound, IsFoundFor, StopsAs}
 use Rattle.tre_tool.specs.Devices.{InputTold, AllReadsGood}
 use Rattle.tre_tool.specs.Feeding.{IsWhole, StopsReading}
 use Rattle.tre_tool.specs.Outcome.{IsReadingOf, whole_reading}
-use Rattle.tre_tool.specs.Readings.{reading_of, reading_for, readings_of, AreTraces}
-use Rattle.tre_tool.specs.Request.{Sought, Request}
+use Rattle.tre_tool.specs.Readings.{reading_of, reading_for}
+use Rattle.tre_tool.specs.Request.{Request}
 use Rattle.tre_tool.specs.Run.{IsAnswerIn}
-use Rattle.tre_tool.specs.Wanted.{IsWanted, AreZonesOf, AreZonesFor, IsOfflineAnswer}
+use Rattle.tre_tool.specs.Wanted.{AreZonesOf, AreZonesFor}
 use Rattle.tre_tool.specs.declared.kept.Kept.{Kept}
 use Rattle.tre_tool.specs.declared.status.Status.{Status}
 use Rattle.tre_tool.specs.declared.status.Status.TheVariants.{TooManyZones, Memory}
 use Rattle.tre_words.specs.declared.job.Job.{Job}
-use Rattle.tre_words.specs.declared.job.Mode.{Mode}
 use Rattle.tre_words.specs.declared.job.Mode.TheVariants.{Offline}
 use Rattle.tre_tool.proofs.Alone.{All-alone}
 use Rattle.tre_tool.proofs.Stops.{once, StopsAs-reading, StopsAs-memory}
@@ -172,3 +171,45 @@ StopsAs-first job lets pattern taken input reading name status offline same name
     StopsAs-reading request input offline status
     (subst (λ n. StopsReading (reading_for request) job.max_bytes n input status) named
     (subst (λ r. StopsReading r job.max_bytes name input status) common stops))
+
+-- what was found of a pattern alone, read by a reader of its names
+pub IsFound-none : (job : Job) (lets : List Defined) (pattern : Pattern) (taken : Option Pattern)
+    (input : InputTold) (reading : Bool → List ℕ → Reading) (kept : Kept) (trace : Timeline)
+    (set : List ZoneBounds) (end : ℕ) → taken ≡ None
+    → reading ≡ reading_of (request_for job lets pattern taken) (names_of pattern)
+    → IsWhole reading job.max_bytes input kept trace
+    → IsMatchSet set (pattern_tree pattern) trace → end ≡ end_of 0 trace.segments
+    → IsFound (request_for job lets pattern taken) input set end
+IsFound-none job lets pattern taken input reading kept trace set end none same read matches ends =
+    let own : reading ≡ reading_of (request_for job lets pattern None) (names_of pattern) =
+    subst (λ t. reading ≡ reading_of (request_for job lets pattern t) (names_of pattern)) none same
+    in
+    subst (λ t. IsFound (request_for job lets pattern t) input set end) (sym none)
+    (IsFound-alone job lets pattern input kept trace set end
+    (subst (λ r. IsWhole r job.max_bytes input kept trace) own read) matches ends)
+
+-- and of a pattern without another
+pub IsFound-some : (job : Job) (lets : List Defined) (pattern other : Pattern)
+    (taken : Option Pattern) (input : InputTold) (reading second : Bool → List ℕ → Reading)
+    (kept : Kept) (trace : Timeline) (set others left : List ZoneBounds) (end : ℕ)
+    (bytes : List ℕ) → taken ≡ Some other
+    → reading ≡ reading_of (request_for job lets pattern taken) (names_of pattern)
+    → second ≡ reading_of (request_for job lets pattern taken) (names_of other)
+    → IsTrue kept.asked → bytes ≡ kept.bytes.items
+    → IsWhole reading job.max_bytes input kept trace
+    → IsMatchSet set (pattern_tree pattern) trace → AreMatchesOver other second bytes others
+    → HoldExactly left (Except (SetHolds set) (SetHolds others))
+    → end ≡ end_of 0 trace.segments
+    → IsFound (request_for job lets pattern taken) input left end
+IsFound-some job lets pattern other taken input reading second kept trace set others left end bytes
+    some same same' asked all read matches over differs ends =
+    let own : reading ≡ reading_of (request_for job lets pattern (Some other)) (names_of pattern) =
+    subst (λ t. reading ≡ reading_of (request_for job lets pattern t) (names_of pattern)) some same
+    in
+    let own' : second ≡ reading_of (request_for job lets pattern (Some other)) (names_of other) =
+    subst (λ t. second ≡ reading_of (request_for job lets pattern t) (names_of other)) some same'
+    in
+    subst (λ t. IsFound (request_for job lets pattern t) input left end) (sym some)
+    (IsFound-without job lets pattern input other kept trace set others left end bytes asked all
+    (subst (λ r. IsWhole r job.max_bytes input kept trace) own read) matches
+    (subst (λ r. AreMatchesOver other r bytes others) own' over) differs ends)

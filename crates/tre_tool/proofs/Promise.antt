@@ -1,5 +1,5 @@
 -- What the end of a run says of each part of its promise.
-use Rattle.std.proofs.Common.{◌≡◌, ◌≢◌, ℕ, Bool, true, false, List, [], ◌∷◌, Option, None, Some, IfSome, Result, Ok, Err, OnOk, OnErr, refl, sym, ◌∙◌, subst, inl, inr, ⊎_elim, ap, ◌⊎◌, arith}
+use Rattle.std.proofs.Common.{◌≡◌, ◌≢◌, ℕ, List, [], ◌∷◌, Option, None, Some, IfSome, Result, Ok, Err, OnOk, OnErr, refl, sym, ◌∙◌, subst, inl, inr, ⊎_elim, ap, ◌⊎◌, arith}
 use Rattle.std.specs.Io.KnownBytes.{Appends}
 use Rattle.tre_io.specs.Faults.{counted, Rises, HasCause}
 use Rattle.tre_io.specs.Written.{AppendsPart}

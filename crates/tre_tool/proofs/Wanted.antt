@@ -1,8 +1,7 @@
 -- What is wanted of patterns over their traces, and the zones that hold it.
-use Rattle.std.proofs.Common.{◌≡◌, ◌∙◌, ◌↔◌, ◌⊎◌, ⊎_elim, inl, inr, ℕ, ◌<◌, ◌≤◌, Bool, true, false, List, [], ◌∷◌, Option, None, Some, Contains, IfSome, length, arith, refl, sym, ap, subst}
+use Rattle.std.proofs.Common.{◌↔◌, ◌⊎◌, ⊎_elim, inl, ℕ, ◌<◌, ◌≤◌, Bool, true, false, List, [], ◌∷◌}
 use Rattle.tre_offline.specs.MatchSet.{IsMatchSet}
 use Rattle.tre_pairs.specs.Except.{Except}
-use Rattle.tre_pairs.specs.Pairs.{Pairs}
 use Rattle.tre_syntax.specs.Meaning.{Matches}
 use Rattle.tre_syntax.specs.Rest.{whole}
 use Rattle.tre_syntax.proofs.CutMeaning.{IsOrdered-rest}
@@ -11,7 +10,7 @@ use Rattle.tre_zone.specs.ZoneList.{SetHolds, AreCanonical, HoldExactly}
 use Rattle.tre_zone.specs.declared.zone_bounds.ZoneBounds.{ZoneBounds}
 use Rattle.tre_zone.proofs.Scaling.{SetHolds-rising}
 use Rattle.tre_tool.specs.Request.{Sought}
-use Rattle.tre_tool.specs.Wanted.{MatchesSome, IsWanted, AreAsAsked, AreZonesOf}
+use Rattle.tre_tool.specs.Wanted.{IsWanted, AreAsAsked, AreZonesOf}
 use Rattle.tre_tool.proofs.Strips.{AreStrips-pairs}
 
 -- the first time of a pair that is wanted isn't after the second

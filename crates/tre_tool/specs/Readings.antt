@@ -1,8 +1,7 @@
 -- What the bytes of an input say for each of the patterns of a request.
-use Rattle.std.specs.Prelude.{◌≡◌, ℕ, ◌≤◌, nat_le, Bool, true, List, [], ◌∷◌, length, take, map, All, None, IfSome}
+use Rattle.std.specs.Prelude.{◌≡◌, ℕ, ◌≤◌, nat_le, Bool, true, List, [], ◌∷◌, length, take, map, All, None}
 use Rattle.tre_trace.specs.Reading.{Reading, Vocabulary}
 use Rattle.tre_trace.specs.Trace.{Timeline, IsTrace, quiet}
-use Rattle.tre_trace.specs.declared.segment.Segment.{Segment}
 use Rattle.tre_tool.specs.Devices.{InputTold}
 use Rattle.tre_tool.specs.Outcome.{Outcome, ComesTo, reading_in, outcome_of, whole_reading}
 use Rattle.tre_tool.specs.Request.{Request, all_names}

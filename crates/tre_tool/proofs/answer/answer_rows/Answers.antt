@@ -1,7 +1,6 @@
-use Rattle.std.proofs.Common.{◌≡◌, ◌∙◌, refl, ap, sym}
+use Rattle.std.proofs.Common.{◌∙◌, refl, ap, sym}
 use Rattle.std.proofs.lemmas.Result.{err_from_is_err_and}
-use Rattle.tre_num.specs.Rows.{terms_of, rows_reading}
-use Rattle.tre_syntax.specs.Pattern.{names_of}
+use Rattle.tre_num.specs.Rows.{rows_reading}
 use Rattle.tre_tool.specs.Outcome.{reading_in}
 use Rattle.tre_tool.proofs.Answering.{EndsOver-early, rows_terms}
 use Rattle.tre_tool.proofs.Readings.{rows_reading-nothing, vocabulary_same}

@@ -1,9 +1,7 @@
-use Rattle.std.proofs.Common.{refl}
+use Rattle.std.proofs.Common.{◌∙◌, ap}
 use Rattle.std.proofs.lemmas.Result.{err_from_is_err_and}
-use Rattle.std.specs.Prelude.{option_map}
-use Rattle.tre_tool.specs.Answer.{request_for}
-use Rattle.tre_tool.specs.Devices.{input_told}
-use Rattle.tre_tool.proofs.Found.{IsFound-alone, IsFound-without, StopsAs-first, StopsAs-wanting}
+use Rattle.std.specs.Prelude.{is_some, option_map}
+use Rattle.tre_tool.proofs.Found.{IsFound-none, IsFound-some, StopsAs-first, StopsAs-wanting}
 use Rattle.tre_tool.proofs.offline.wanted_matches.Goals as goal
 
 pub returns-in_err-whole-clause-stops : goal.returns-in_err-whole-clause-stops
@@ -19,3 +17,32 @@ returns-in_err-set-clause-stops g c =
     c.from_residual-in_err-set.ensures.1 in
     λ lets same. rw (p.1, p.2)
     (StopsAs-wanting _ _ c.requires.offline c.in_ok-whole.ensures.read.reads)
+
+pub returns-in-None-clause-found : goal.returns-in-None-clause-found
+returns-in-None-clause-found g c = λ lets same others.
+    IsFound-none c.args.job.now lets c.args.pattern.now _ _ _ _ _ _ _
+    (ap (option_map _) c.in-None.is) same c.in_ok-whole.ensures.read c.in_ok-set.ensures
+    c.end-end.ensures.end
+
+pub returns-in_err-others-in-Some-clause-stops : goal.returns-in_err-others-in-Some-clause-stops
+returns-in_err-others-in-Some-clause-stops g c =
+    let p = err_from_is_err_and c.from_residual-in_err-others-in-Some.result
+    c.from_residual-in_err-others-in-Some.ensures.1 in
+    λ lets same. rw (p.1, p.2, c.in_err-others-in-Some.ensures.failed)
+    (StopsAs-wanting _ _ c.requires.offline c.in_ok-whole.ensures.read.reads)
+
+pub returns-in_err-left-in-Some-clause-stops : goal.returns-in_err-left-in-Some-clause-stops
+returns-in_err-left-in-Some-clause-stops g c =
+    let p = err_from_is_err_and c.from_residual-in_err-left-in-Some.result
+    c.from_residual-in_err-left-in-Some.ensures.1 in
+    λ lets same. rw (p.1, p.2)
+    (StopsAs-wanting _ _ c.requires.offline c.in_ok-whole.ensures.read.reads)
+
+pub returns-in_ok-left-in-Some-clause-found : goal.returns-in_ok-left-in-Some-clause-found
+returns-in_ok-left-in-Some-clause-found g c = λ lets same others.
+    IsFound-some c.args.job.now lets c.args.pattern.now c.in-Some.taken.pattern _ _ _ _ _ _ _ _ _
+    _ _ (ap (option_map _) c.in-Some.is) same (rw c.in-Some.is at others)
+    (c.in_ok-whole.ensures.keeps ∙ (c.is_some.ensures ∙ ap is_some c.in-Some.is))
+    (rw c.into_bytes-bytes.ensures at c.deref.ensures.value) c.in_ok-whole.ensures.read
+    c.in_ok-set.ensures
+    c.in_ok-others-in-Some.ensures.found c.in_ok-left-in-Some.ensures c.end-end.ensures.end

@@ -1,0 +1,12 @@
+use Rattle.std.proofs.Common.{◌∙◌}
+use Rattle.tre_syntax.specs.Pattern.{names_of}
+use Rattle.tre_tool.proofs.Answering.{dump_terms}
+use Rattle.tre_tool.proofs.Readings.{vocabulary_same}
+use Rattle.tre_tool.proofs.answer.dump_tokens.Goals as goal
+
+pub returns-clause-terms : goal.returns-clause-terms
+returns-clause-terms c =
+    let own = vocabulary_same c.in_ok-names.names c.in_ok-events.events
+    (names_of c.args.pattern.now) (c.in_ok-names.ensures ∙ c.names.ensures.names)
+    (c.in_ok-events.ensures ∙ c.events.ensures.events) in
+    c.new-tokens.ensures.terms ∙ dump_terms c.args.scale own
