@@ -1,12 +1,11 @@
 -- Where the canonical zones are asked for, an input has one answer.
-use Rattle.std.proofs.Common.{◌≡◌, ℕ, ◌<◌, ◌≤◌, Bool, true, List, [], ◌∷◌, length, map, Option, Some, IfSome, refl, sym, subst, ap, ◌∙◌, arith}
+use Rattle.std.proofs.Common.{◌≡◌, ℕ, ◌≤◌, Bool, true, List, [], ◌∷◌, length, map, Option, Some, IfSome, refl, sym, subst, ap, ◌∙◌, arith}
 use Rattle.tre_pairs.specs.Pairs.{Pairs}
 use Rattle.tre_strips.specs.Strips.{AreStrips}
 use Rattle.tre_trace.specs.Reading.{Reading}
 use Rattle.tre_trace.specs.Trace.{Timeline, timeline_of}
 use Rattle.tre_zone.specs.declared.zone_bounds.ZoneBounds.{ZoneBounds}
 use Rattle.tre_tool.specs.Outcome.{whole_reading}
-use Rattle.tre_tool.specs.Readings.{AreTraces}
 use Rattle.tre_tool.specs.Request.{Request}
 use Rattle.tre_tool.specs.Wanted.{IsWanted, AreAsAsked, AreZonesFor, IsOfflineAnswer, AreTooMany}
 use Rattle.tre_tool.proofs.Strips.{strips_once}

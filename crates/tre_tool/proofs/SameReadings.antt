@@ -1,5 +1,5 @@
 -- All readings of an input are alike, but those of columns.
-use Rattle.std.proofs.Common.{◌≢◌, ℕ, zero, suc, ◌<◌, Bool, List, [], ◌∷◌, All, map, length, refl, arith}
+use Rattle.std.proofs.Common.{◌≢◌, ℕ, zero, suc, Bool, List, [], ◌∷◌, All, map, refl, arith}
 use Rattle.tre_num.specs.Defined.{Defined}
 use Rattle.tre_parts.specs.Alike.{AreAlike}
 use Rattle.tre_text.proofs.Alike.{texts-alike}
