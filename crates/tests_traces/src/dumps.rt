@@ -491,41 +491,37 @@ const BESIDE: [(&str, &str, &str, &str, &str); 16] = [
     ("p", "f", "q", "e", "UnknownName 64"),
 ];
 
-// Reads the first names and events, and the dump must declare all of them.
+// Reads these names and events. The dump must declare the first two lists, and then the others.
 fn says_beside(
     alloc: Global,
     own: (&str, &str),
-    other: (&str, &str),
-    is_first: bool,
+    first: (&str, &str),
+    second: (&str, &str),
 ) -> Result<String, Fail> {
     let names = names_of(alloc, own.0)?;
     let events = names_of(alloc, own.1)?;
-    let others = names_of(alloc, other.0)?;
-    let other_events = names_of(alloc, other.1)?;
-    let mut reader = TokenReader::new(alloc, names.try_clone()?, events.try_clone()?, 0);
-    if is_first {
-        reader.must_declare(&names, &events)?;
-        reader.must_declare(&others, &other_events)?;
-    } else {
-        reader.must_declare(&others, &other_events)?;
-        reader.must_declare(&names, &events)?;
-    }
-    let mut reader = VcdReader::new(alloc, reader);
+    let mut tokens = TokenReader::new(alloc, names, events, 0);
+    let names = names_of(alloc, first.0)?;
+    let events = names_of(alloc, first.1)?;
+    tokens.must_declare(&names, &events)?;
+    let names = names_of(alloc, second.0)?;
+    let events = names_of(alloc, second.1)?;
+    tokens.must_declare(&names, &events)?;
+    let mut reader = VcdReader::new(alloc, tokens);
     Ok(read(alloc, &mut reader, DECLARING.as_bytes(), 5)?)
 }
 
 #[test]
 fn names_beside(rt: HostRuntime) -> Result<(), Fail> {
     for (names, events, others, other_events, want) in &BESIDE {
-        for is_first in [true, false] {
-            let own = (*names, *events);
-            let other = (*others, *other_events);
-            let said = says_beside(rt.alloc(), own, other, is_first)?;
-            assert!(rt;
-                said.as_str() == *want,
-                "{names} {events} {others} {other_events}"
-            );
-        }
+        let own = (*names, *events);
+        let other = (*others, *other_events);
+        let said = says_beside(rt.alloc(), own, own, other)?;
+        let turned = says_beside(rt.alloc(), own, other, own)?;
+        assert!(rt;
+            said.as_str() == *want && turned.as_str() == *want,
+            "{names} {events} {others} {other_events}"
+        );
     }
     Ok(())
 }

@@ -1,7 +1,6 @@
 -- The made trace, one segment after another.
 use Rattle.std.proofs.Common.{◌≡◌, ℕ, zero, suc, ◌+◌, ◌*◌, ◌%◌, ◌<◌, ◌≤◌, [], ◌∷◌, ◌++◌, length, refl, ap, ◌∙◌, add-one, length-append, arith}
 use Rattle.std.proofs.Math.Nat.{mod-lt}
-use Rattle.tre_trace.specs.declared.segment.Segment.{Segment}
 use Rattle.tre_trace.specs.Trace.{end_of, Fits}
 use Rattle.tre_trace.proofs.Segments.{end_of-append}
 use Rattle.tre_generate.specs.Made.{made_segment, made_trace}

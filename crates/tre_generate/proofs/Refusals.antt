@@ -1,9 +1,7 @@
 -- What a refused segment says.
-use Rattle.std.proofs.Common.{◌≡◌, ◌+◌, ◌≤◌, List, [], ◌∷◌, ◌++◌, refl, arith}
-use Rattle.tre_trace.specs.Trace.{end_of, AreLong, IsTrace, Fits, IsRefusedFor}
+use Rattle.std.proofs.Common.{◌+◌, ◌≤◌, List, [], ◌∷◌, ◌++◌, arith}
+use Rattle.tre_trace.specs.Trace.{end_of, AreLong, IsTrace, Fits}
 use Rattle.tre_trace.specs.declared.segment.Segment.{Segment}
-use Rattle.tre_trace.specs.declared.fault.PushFault.{PushFault}
-use Rattle.tre_trace.specs.declared.fault.PushFault.TheVariants.{Zero, TooLate, Memory}
 use Rattle.tre_trace.proofs.Segments.{end_of-append, end_of-le}
 
 long_within : (front : List Segment) (segment : Segment) (rest : List Segment)

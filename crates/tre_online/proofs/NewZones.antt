@@ -106,6 +106,14 @@ module _ (zones told : List ZoneBounds) (i : ℕ) (zone : ZoneBounds) (below : i
       (added (WasTold earlier) (take i zones) told zone without x.0))
       kept.how)
 
+-- All of them stay where each does.
+pub stays_next : (zones : List ZoneBounds) (i : ℕ) (zone : ZoneBounds) → i < length zones
+    → zone ≡ get_or zones i zone → (P : ZoneBounds → Type 0)
+    → Without P (take i zones) (take i zones) → (P zone → ⊥)
+    → Without P (take (i + 1) zones) (take (i + 1) zones)
+stays_next zones i zone below is P without stays =
+    rw (take_more zones i zone below, ← is) (added P (take i zones) (take i zones) zone without stays)
+
 pub Without-empty : (P : ZoneBounds → Type 0) → Without P [] []
 unfolding Without
 Without-empty P = refl

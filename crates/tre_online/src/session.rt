@@ -171,7 +171,9 @@ impl Session {
         let entering = Session::moments(self.alloc, piece.begin, end)?;
         let expr = self.pattern.expr();
         let advanced = advance(self.alloc, &self.mark, expr, &entering, piece)?;
-        let told = not_told(self.alloc, &advanced.told, &self.ended)?;
+        // For the proof: the call says that it is a set of zones.
+        let _found = advanced.told.zones();
+        let told = not_told(self.alloc, advanced.told, &self.ended)?;
         let ended = told.try_clone()?;
         Ok(Read {
             told,
@@ -192,7 +194,7 @@ impl Session {
         let found = close(self.alloc, &self.mark, self.pattern.expr(), self.at, events)?;
         // For the proof: the call says that it is a set of zones.
         let _found = found.zones();
-        not_told(self.alloc, &found, &self.ended)
+        not_told(self.alloc, found, &self.ended)
     }
 }
 

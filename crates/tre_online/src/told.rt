@@ -10,16 +10,31 @@ use tre_zone::Zone;
 use tre_zoneset::{ZoneSet, are_few, index_of};
 
 /// The zones that were found, without those that a zone of `earlier` includes.
-pub fn not_told(alloc: Global, found: &ZoneSet, earlier: &ZoneSet) -> Result<ZoneSet, AllocError>
-    ensures { IfOk result (λ told. Without (WasTold earlier.now) found.now told) }
+pub fn not_told(alloc: Global, found: ZoneSet, earlier: &ZoneSet) -> Result<ZoneSet, AllocError>
+    ensures { IfOk result (λ told. Without (WasTold earlier.now) found told) }
 {
     if are_few(earlier.zones()) {
+        if are_new(found.zones(), earlier.zones()) {
+            return Ok(found);
+        }
         let told = new_beside(alloc, found.zones(), earlier.zones())?;
         return Ok(told);
     }
     let index = index_of(alloc, earlier.zones())?;
     let told = new_among(alloc, found.zones(), &index)?;
     Ok(told)
+}
+
+// Whether no zone of `earlier` includes one of the zones.
+fn are_new(zones: &[Zone], earlier: &[Zone]) -> bool
+    ensures { IsTrue result → Without (WasTold earlier.now) zones.now zones.now }
+{
+    for zone in zones {
+        if is_beside(zone, earlier) {
+            return false;
+        }
+    }
+    true
 }
 
 // Those of the zones of a set that no zone of `earlier` includes, by looking at each of these.

@@ -1,5 +1,5 @@
 -- Formats whose parts say alike have alike readings.
-use Rattle.std.proofs.Common.{◌≡◌, ℕ, ◌+◌, nat_le, Bool, true, false, List, [], ◌∷◌, ◌++◌, map, length, Option, None, Some, Result, Ok, Err, refl, sym, ap, ◌∙◌, subst, if◌then◌else◌}
+use Rattle.std.proofs.Common.{◌≡◌, ℕ, ◌+◌, nat_le, Bool, true, false, List, [], ◌∷◌, ◌++◌, length, Option, None, Some, Result, Ok, Err, refl, sym, ap, ◌∙◌, if◌then◌else◌}
 use Rattle.std.specs.List.{slice_split}
 use Rattle.tre_parts.specs.Alike.{lengths_of, AreAlike, SaysAlike, AreFormatsAlike}
 use Rattle.tre_parts.specs.Format.{Format, Step, nothing, faulty, behind, ending, read_on, after_part, part_says, last_part, parts_reading, reading_from, reading_of, first_spot}

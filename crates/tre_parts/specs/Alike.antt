@@ -14,8 +14,8 @@ pub record AreAlike (one other : Reading) : Type 0 where
   pub fault : one.fault ≡ other.fault
   pub lengths : lengths_of one.segments ≡ lengths_of other.segments
 
--- A part says segments of the same lengths for both, and what is known behind it is alike; or it has
--- the same fault.
+-- A part says segments of the same lengths for both, and what is known behind it is alike; or it
+-- has the same fault.
 abbrev pub SaysAlike : {State : Type 0} → (State → State → Type 0) → Result (Step State) TraceKind
     → Result (Step State) TraceKind → Type 0
 SaysAlike Alike (Ok one) (Ok other) =
@@ -25,8 +25,8 @@ SaysAlike Alike one other = ⊥
 
 -- What both formats know is alike before the first part and behind each, and nothing that is alike
 -- is told apart.
-pub record AreFormatsAlike {State : Type 0} (Alike : State → State → Type 0) (one other : Format State) :
-    Type 0 where
+pub record AreFormatsAlike {State : Type 0} (Alike : State → State → Type 0)
+    (one other : Format State) : Type 0 where
   pub separates : one.separates ≡ other.separates
   pub place : one.place ≡ other.place
   pub start : Alike one.start other.start

@@ -33,7 +33,8 @@ fn room_for(lines: usize, end: u64, scale: u8) -> usize
         .saturating_mul(LINE_NUMBERS * number + LINE_SIGNS)
 }
 
-// How many bytes a number of units has: its digits, and more than the decimals one, and the point.
+// How many bytes the text of a number of units has: with decimals, one digit stands before the
+// point at least.
 fn number_len(units: u64, scale: u8) -> usize
     requires { scale ≤ SCALE_MAX }
     ensures { result ≤ 41 }

@@ -69,8 +69,8 @@ module _ (terms : Terms) (known : Known) (line first : List ℕ) (fields : List 
         → bits ≡ valuation_after (list_of other terms.names.names terms.names.events)
         (said_of other known) fields
     bits_for other e = value
-        ∙ ap (λ h. valuation_after (list_of h terms.names.names terms.names.events) (said_of h known)
-        fields) e
+        ∙ ap (λ h. valuation_after (list_of h terms.names.names terms.names.events)
+        (said_of h known) fields) e
 
     pub events-behind : head ≡ Events
         → line_says terms known line ≡ Ok (no_segment (known_at known.end bits))

@@ -262,8 +262,8 @@ read_fault digits terms closed front line back segments last kind are is say tra
     let number : spot.number ≡ length front + 1 = omega (arith, spot_after-number first_spot front)
     in
     let known = known_at (end_of 0 segments) last in
-    read_through digits terms closed (known_at 0 0) first_spot front segments last (line ++ 10 ∷ back)
-    are say trace.long trace.in_time
+    read_through digits terms closed (known_at 0 0) first_spot front segments last
+    (line ++ 10 ∷ back) are say trace.long trace.in_time
     ∙ ap (behind segments)
     (one_line terms closed known spot line back is
     ∙ ap (λ (said : Result (Step Known) TraceKind). read_on spot.number said

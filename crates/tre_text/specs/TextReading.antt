@@ -13,7 +13,8 @@ use Rattle.tre_trace.specs.Segments.{segment_with}
 use Rattle.tre_trace.specs.declared.fault.TraceKind.{TraceKind}
 use Rattle.tre_trace.specs.declared.fault.TraceKind.TheVariants.{BadNumber, Zero, TooLate, BadName}
 
--- What a text is read by: the names whose truth and events are read, and the scale of its durations.
+-- What a text is read by: the names whose truth and events are read, and the scale of its
+-- durations.
 pub record Terms : Type 0 where
   pub names : Vocabulary
   pub scale : ℕ
@@ -141,8 +142,8 @@ fields_say terms known (first ∷ fields) =
 unfoldable pub line_says : Terms → Known → List ℕ → Result (Step Known) TraceKind
 line_says terms known line = fields_say terms known (fields_of line)
 
--- The text format: lines, of which each later one needs to know when the trace so far ends and which
--- events were said since. A fault is told with the number of its line, and the input may end
+-- The text format: lines, of which each later one needs to know when the trace so far ends and
+-- which events were said since. A fault is told with the number of its line, and the input may end
 -- anywhere.
 abbrev pub text_format : Terms → Format Known
 text_format terms = record {

@@ -44,8 +44,8 @@ pub record HasFields (line : List ℕ) (P : List ℕ → List (List ℕ) → Typ
 abbrev pub IsSilent : List ℕ → Type 0
 IsSilent line = (fields_of line ≡ []) ⊎ HasFields line (λ first others. begins_comment first ≡ true)
 
--- The sign of events stands first, and the others are names: those of the events that happen besides
--- the ones that were said before, and this holds of all of them.
+-- The sign of events stands first, and the others are names: those of the events that happen
+-- besides the ones that were said before, and this holds of all of them.
 pub record SaysEvents (events : List (List ℕ)) (pending : ℕ) (Later : ℕ → Type 0) (first : List ℕ)
     (others : List (List ℕ)) : Type 0 where
   pub sign : begins_events first ≡ true

@@ -72,8 +72,8 @@ pub fn naming()
         IsBitSet (valuation_of names fields) i ↔ IsNamed names fields i }
 {}
 
-/// What a text says is the same whatever names it is read for, but for what is true: readings of the
-/// same bytes at one scale have the same fault, and segments of the same lengths.
+/// Whatever names a text is read for, it says the same but for what is true: readings of the same
+/// bytes at one scale have the same fault, and segments of the same lengths.
 pub fn alike()
     ensures { (one other : Terms) (closed : Bool) (bytes : List ℕ) → one.scale ≡ other.scale →
         AreAlike (text_reading one closed bytes) (text_reading other closed bytes) }

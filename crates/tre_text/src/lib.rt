@@ -1,5 +1,5 @@
-//! Text traces: a line for each segment, with its length and the names of what is true on it. A line
-//! that begins with `@` names events that happen where the next segment begins, or at the end.
+//! Text traces: a line for each segment, with its length and the names of what is true on it. A
+//! line that begins with `@` names events that happen where the next segment begins, or at the end.
 //! Lengths are decimals, counted in the units of the reader's scale.
 //!
 //! [`TextReader`] reads them in pieces. It keeps the line that isn't ended yet, when the trace so

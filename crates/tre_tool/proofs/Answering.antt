@@ -3,10 +3,12 @@ use Rattle.std.proofs.Common.{◌≡◌, ◌≢◌, ◌∙◌, ℕ, Bool, true, 
 use Rattle.std.specs.Prelude.{is_some, option_map}
 use Rattle.tre_generate.specs.Summary.{IsSummary}
 use Rattle.tre_num.specs.Defined.{Defined}
+use Rattle.tre_num.specs.Rows.{Terms as RowTerms}
 use Rattle.tre_show.specs.PatternText.{expression_text}
 use Rattle.tre_syntax.specs.Pattern.{pattern_tree, names_of}
 use Rattle.tre_syntax.specs.declared.pattern.Pattern.{Pattern}
-use Rattle.tre_trace.specs.Reading.{Reading}
+use Rattle.tre_text.specs.TextReading.{Terms as TextTerms}
+use Rattle.tre_trace.specs.Reading.{Reading, Vocabulary}
 use Rattle.tre_tool.specs.Answer.{EndsOver, IsFresh, request_for}
 use Rattle.tre_tool.specs.Devices.{InputTold, OutputTold, AllReadsGood, NothingWritten}
 use Rattle.tre_tool.specs.Readings.{reading_of}
@@ -21,6 +23,22 @@ use Rattle.tre_words.specs.declared.job.Mode.TheVariants.{Offline, Online, Show,
 use Rattle.tre_tool.proofs.Alone.{shown_in, made_in}
 use Rattle.tre_tool.proofs.OnlineRuns.{EndsOver-telling, EndsOver-unopened}
 use Rattle.tre_tool.proofs.Stops.{StopsAs-memory}
+
+-- ---- what readers read
+
+abbrev pub rows_terms_of : List Defined → Vocabulary → ℕ → RowTerms
+rows_terms_of lets names scale = record { definitions = lets; names = names; scale = scale }
+
+pub rows_terms : (lets : List Defined) (scale : ℕ) {names other : Vocabulary} → names ≡ other
+    → rows_terms_of lets names scale ≡ rows_terms_of lets other scale
+rows_terms lets scale same = ap (λ names. rows_terms_of lets names scale) same
+
+abbrev pub text_terms_of : Vocabulary → ℕ → TextTerms
+text_terms_of names scale = record { names = names; scale = scale }
+
+pub text_terms : (scale : ℕ) {names other : Vocabulary} → names ≡ other
+    → text_terms_of names scale ≡ text_terms_of other scale
+text_terms scale same = ap (λ names. text_terms_of names scale) same
 
 -- ---- where nothing is taken away
 
@@ -108,6 +126,7 @@ EndsOver-early job lets pattern taken input output is none closed reads unwritte
         → EndsOver (request_for job lets pattern taken) input output Memory
     other_mode other = unopened_alone job lets pattern taken (none (no_minus job is other)) input
         output closed reads unwritten
+
     by_mode : (mode : Mode) → job.mode ≡ mode
         → EndsOver (request_for job lets pattern taken) input output Memory
     by_mode Offline e =

@@ -2,6 +2,7 @@
 use Rattle.std.proofs.Common.{◌≡◌, ℕ, ◌<◌, ◌≤◌, Bool, true, List, [], ◌∷◌, length, map, Option, Some, IfSome, refl, sym, subst, ap, ◌∙◌, arith}
 use Rattle.tre_pairs.specs.Pairs.{Pairs}
 use Rattle.tre_strips.specs.Strips.{AreStrips}
+use Rattle.tre_trace.specs.Reading.{Reading}
 use Rattle.tre_trace.specs.Trace.{Timeline, timeline_of}
 use Rattle.tre_zone.specs.declared.zone_bounds.ZoneBounds.{ZoneBounds}
 use Rattle.tre_tool.specs.Outcome.{whole_reading}
@@ -15,8 +16,8 @@ one_value e = cc
 
 trace_once : (one other : Timeline) → whole_reading one ≡ whole_reading other → one ≡ other
 trace_once one other e =
-    let segments : one.segments ≡ other.segments = cc in
-    let last : one.last ≡ other.last = cc in
+    let segments : one.segments ≡ other.segments = ap (λ (r : Reading). r.segments) e in
+    let last : one.last ≡ other.last = ap (λ (r : Reading). r.last) e in
     ap (λ s. timeline_of s one.last) segments ∙ ap (λ l. timeline_of other.segments l) last
 
 traces_once : (some others : List Timeline) → map whole_reading some ≡ map whole_reading others

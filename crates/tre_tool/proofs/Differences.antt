@@ -20,8 +20,10 @@ parts_of_first pattern other trace second left taken exact exact' a b n some le 
     let own = exact.exact a b n some le in
     let others = exact'.exact a b n some le in (
       (λ match. ⊎_elim (λ h. inr (match, others.0 h))
-          (λ none. inl (own.1 (match,
-          λ either. ⊎_elim (λ is. none (others.1 is)) (λ never. never) either)))
+          (λ none. inl (own.1 (
+            match,
+            λ either. ⊎_elim (λ is. none (others.1 is)) (λ never. never) either,
+          )))
           (SetHolds-decides taken a b n)),
       (λ parts. ⊎_elim (λ h. (own.0 h).0) (λ both. both.0) parts),
     )

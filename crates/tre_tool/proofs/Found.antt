@@ -13,18 +13,20 @@ use Rattle.tre_zone.specs.declared.zone_bounds.ZoneBounds.{ZoneBounds}
 use Rattle.tre_zoneset.specs.ZoneSet.{IsZoneSet}
 use Rattle.tre_tool.specs.Answer.{sought_by, patterns_with, request_for, AreMatchesOver, AreOver, IsFound, IsFoundFor, StopsAs}
 use Rattle.tre_tool.specs.Devices.{InputTold, AllReadsGood}
-use Rattle.tre_tool.specs.Feeding.{IsWhole}
+use Rattle.tre_tool.specs.Feeding.{IsWhole, StopsReading}
 use Rattle.tre_tool.specs.Outcome.{IsReadingOf, whole_reading}
 use Rattle.tre_tool.specs.Readings.{reading_of, reading_for, readings_of, AreTraces}
 use Rattle.tre_tool.specs.Request.{Sought, Request}
 use Rattle.tre_tool.specs.Run.{IsAnswerIn}
 use Rattle.tre_tool.specs.Wanted.{IsWanted, AreZonesOf, AreZonesFor, IsOfflineAnswer}
 use Rattle.tre_tool.specs.declared.kept.Kept.{Kept}
-use Rattle.tre_tool.specs.declared.status.Status.TheVariants.{TooManyZones}
+use Rattle.tre_tool.specs.declared.status.Status.{Status}
+use Rattle.tre_tool.specs.declared.status.Status.TheVariants.{TooManyZones, Memory}
 use Rattle.tre_words.specs.declared.job.Job.{Job}
 use Rattle.tre_words.specs.declared.job.Mode.{Mode}
 use Rattle.tre_words.specs.declared.job.Mode.TheVariants.{Offline}
 use Rattle.tre_tool.proofs.Alone.{All-alone}
+use Rattle.tre_tool.proofs.Stops.{once, StopsAs-reading, StopsAs-memory}
 use Rattle.tre_tool.proofs.Wanted.{AreZonesOf-wanted, wanted_alone, wanted_without}
 
 -- what the readings of a request have in common is the first of them
@@ -149,3 +151,24 @@ module _ (request : Request) (input : InputTold) (set zones : List ZoneBounds) (
     };
     nothing = unwritten;
   }
+
+-- memory was wanting for an answer that is written at once
+pub StopsAs-wanting : (request : Request) (input : InputTold) → request.job.mode ≡ Offline
+    → AllReadsGood input → StopsAs request input Memory
+StopsAs-wanting request input offline reads =
+    StopsAs-memory request input (once request input offline) reads
+
+-- the first reader read no trace
+pub StopsAs-first : (job : Job) (lets : List Defined) (pattern : Pattern) (taken : Option Pattern)
+    (input : InputTold) (reading : Bool → List ℕ → Reading) (name : List ℕ) (status : Status)
+    → job.mode ≡ Offline
+    → reading ≡ reading_of (request_for job lets pattern taken) (names_of pattern)
+    → name ≡ job.input → StopsReading reading job.max_bytes name input status
+    → StopsAs (request_for job lets pattern taken) input status
+StopsAs-first job lets pattern taken input reading name status offline same named stops =
+    let request = request_for job lets pattern taken in
+    let common : reading ≡ reading_for request =
+    same ∙ sym (reading_for-first job lets pattern taken) in
+    StopsAs-reading request input offline status
+    (subst (λ n. StopsReading (reading_for request) job.max_bytes n input status) named
+    (subst (λ r. StopsReading r job.max_bytes name input status) common stops))

@@ -14,6 +14,7 @@ pub mod Outcomes
 pub mod Pieces
 pub mod Promise
 pub mod Readings
+pub mod SameReadings
 pub mod Stops
 pub mod Strips
 pub mod Tellings

@@ -12,11 +12,12 @@ use Rattle.tre_parse.specs.Outcome.{IsOutcome, spelt, refused}
 use Rattle.tre_parse.specs.declared.fault.ParseFault.{ParseFault}
 use Rattle.tre_parse.specs.declared.fault.ParseFault.TheVariants.{Memory as ParseMemory}
 use Rattle.tre_parse.proofs.Outcomes.{outcome_once}
+use Rattle.tre_syntax.specs.Pattern.{pattern_tree, names_of}
 use Rattle.tre_syntax.specs.PatternTree.{PatternTree}
 use Rattle.tre_syntax.specs.declared.pattern.Pattern.{Pattern}
 use Rattle.tre_trace.specs.Reading.{Vocabulary}
 use Rattle.tre_trace.specs.Trace.{Timeline, quiet}
-use Rattle.tre_tool.specs.Answer.{EndsOver, StopsAs, IsFoundFor, patterns_with, request_for}
+use Rattle.tre_tool.specs.Answer.{EndsOver, StopsAs, IsFoundFor, sought_by, patterns_with, request_for}
 use Rattle.tre_tool.specs.Devices.{InputTold, OutputTold, NothingWritten, NothingDone, AllWritesGood}
 use Rattle.tre_words.specs.Job.{GivesJob}
 use Rattle.tre_words.proofs.Jobs.{job_unique}
@@ -106,6 +107,16 @@ IsRefusalIn-texts Offline job refusal other is = is
 IsRefusalIn-texts Online job refusal other is = is
 IsRefusalIn-texts Show job refusal other is = is
 IsRefusalIn-texts (Generate count) job refusal other is = absurd (other count refl)
+
+-- the first of the texts, from what `parse` answers
+pub Spell-read : (job : Job) (pattern : Pattern) (read : List ℕ) → read ≡ job.expr
+    → IsOutcome job.scale read (spelt (pattern_tree pattern) (names_of pattern))
+    → Spell job.scale (job.expr ∷ []) (sought_by pattern ∷ [])
+Spell-read job pattern read same is = (
+  refl,
+  subst (λ t. IsOutcome job.scale t (spelt (pattern_tree pattern) (names_of pattern))) same is,
+  tt,
+)
 
 -- the text of a refusal, from what `parse` answers
 pub IsRefusedText-of : (scale : ℕ) (text read : List ℕ) (fault : ParseFault) → read ≡ text
@@ -587,12 +598,12 @@ EndsAs-refused Gives job input output status gives told nothing =
 
     ends_by : Stopped job status → EndsAs Gives input output status
     ends_by (by_memory is) = rw is (record { reads = nothing.reads; stands = inl nothing })
-    ends_by (by_expression fault is refuses) =
-        rw is (record { refused = refused_by (Expression fault) refuses; nothing = nothing })
-    ends_by (by_minus fault is refuses) =
-        rw is (record { refused = refused_by (Minus fault) refuses; nothing = nothing })
-    ends_by (by_definitions fault is refuses) =
-        rw is (record { refused = refused_by (Definitions fault) refuses; nothing = nothing })
+    ends_by (by_expression fault is so) =
+        rw is (record { refused = refused_by (Expression fault) so; nothing = nothing })
+    ends_by (by_minus fault is so) =
+        rw is (record { refused = refused_by (Minus fault) so; nothing = nothing })
+    ends_by (by_definitions fault is so) =
+        rw is (record { refused = refused_by (Definitions fault) so; nothing = nothing })
 
 -- a call that tells a line, or fails
 pub IsLineTold-of : {T : Type 0} (output : OutputTold) (line : List ℕ) (result : Result T Failed)

@@ -264,7 +264,7 @@ vcd_reading-faultless terms = refl
 rows_reading-faultless : (terms : RowTerms) → (rows_reading terms false []).fault ≡ None
 rows_reading-faultless terms = refl
 
-rows_reading-nothing : (terms : RowTerms) → (rows_reading terms false []).segments ≡ []
+pub rows_reading-nothing : (terms : RowTerms) → (rows_reading terms false []).segments ≡ []
 rows_reading-nothing terms = refl
 
 module _ (job : Job) (lets : List Defined) (declared : List Vocabulary) (names : Vocabulary) where

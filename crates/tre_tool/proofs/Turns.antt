@@ -5,8 +5,9 @@ use Rattle.std.proofs.KnownBytes.{Consumes-trans}
 use Rattle.tre_trace.specs.Reading.{Reading, Adds, AddsSome, IsRefused}
 use Rattle.tre_trace.specs.declared.segment.Segment.{Segment}
 use Rattle.tre_trace.specs.declared.fault.TraceFault.{TraceFault}
-use Rattle.tre_tool.specs.Feeding.{StopsPiece, HasFed, IsFed, HasRead, GoesOn, IsEnded, StopsTurn}
+use Rattle.tre_tool.specs.Feeding.{StopsPiece, HasFed, IsFed, IsKept, HasRead, GoesOn, IsEnded, StopsTurn}
 use Rattle.tre_tool.specs.Status.{trace_status}
+use Rattle.tre_tool.specs.declared.kept.Kept.{Kept}
 use Rattle.tre_tool.specs.declared.status.Status.{Status}
 use Rattle.tre_tool.specs.declared.status.Status.TheVariants.{Done, Usage, Expression, Minus, Definitions, Trace, InputTooLong, TooManyZones, ReadFault, WriteFault, Memory}
 use Rattle.tre_tool.proofs.Lists.{take-over}
@@ -293,6 +294,12 @@ pub Adds-none : (reading : Bool → List ℕ → Reading) (limit count : ℕ) (b
     → new ≡ old
 Adds-none reading limit count bytes buffer old new none adds =
     Adds-same (rw (nothing_of limit count buffer none, append-nil bytes) at adds)
+
+-- what such a read keeps
+pub IsKept-none : (kept : Kept) (limit count : ℕ) (bytes buffer : List ℕ) → count ≡ 0
+    → IsKept kept (bytes ++ take limit (take count buffer)) → IsKept kept bytes
+IsKept-none kept limit count bytes buffer none keeps =
+    rw (nothing_of limit count buffer none, append-nil bytes) at keeps
 
 -- a turn at the end of the input
 pub HasRead-end : {represents : List ℕ → Type 0} (reading : Bool → List ℕ → Reading)

@@ -1,16 +1,16 @@
 // From a job to the text that answers it.
-ghost use Rattle.std.specs.Prelude.{◌≡◌, ◌≤◌, ◌+◌, ◌++◌, [], List, codes, false, IsTrue, IfOk, IfSome, None, string_bytes};
+ghost use Rattle.std.specs.Prelude.{◌≡◌, ◌≤◌, ◌+◌, ◌++◌, ◌∷◌, [], List, codes, false, IsTrue, IfOk, IfSome, None, string_bytes};
 ghost use Rattle.std.specs.Option.{option_map};
 ghost use Rattle.tre_decimal.specs.declared.TheConstants.{SCALE_MAX};
 ghost use Rattle.tre_num.specs.Defined.{Defined};
 ghost use Rattle.tre_show.specs.PatternText.{expression_text};
 ghost use Rattle.tre_syntax.specs.Pattern.{pattern_tree, names_of};
-ghost use Rattle.tre_tool.specs.Answer.{status_of, patterns_with, request_for, EndsOver, IsFresh};
-ghost use Rattle.tre_tool.specs.Request.{all_names};
+ghost use Rattle.tre_tool.specs.Answer.{status_of, request_for, EndsOver, IsFresh};
 ghost use Rattle.tre_tool.specs.Devices.{input_told, output_told};
 ghost use Rattle.tre_tool.specs.Input.{TakesAtMost};
 ghost use Rattle.tre_tool.specs.Readings.{reading_of};
 ghost use Rattle.tre_tool.specs.Run.{ReadsInput};
+ghost use Rattle.tre_vcd.specs.VcdReading.{first_place};
 ghost use Rattle.tre_words.specs.Job.{IsJob};
 
 use crate::asked::Asked;
@@ -21,7 +21,8 @@ use crate::status::Status;
 use std::alloc::{AllocError, Global};
 use tre_generate::summary;
 use tre_io::{Sink, Source};
-use tre_num::{ColumnsReader, Definition};
+use tre_num::ColumnsReader;
+use tre_parts::PartReader;
 use tre_show::pattern_text;
 use tre_syntax::Pattern;
 use tre_text::{LineReader, TextReader};
@@ -82,30 +83,8 @@ fn text_reader(alloc: Global, pattern: &Pattern, scale: u8) -> Result<TextReader
 {
     let names = pattern.names().try_clone()?;
     let events = pattern.events().try_clone()?;
-    Ok(TextReader::new(alloc, LineReader::new(names, events, scale)))
-}
-
-// The pattern that is taken away, if there is one, with a reader of its own.
-fn taken_from_text(
-    alloc: Global,
-    taken: Option<Pattern>,
-    scale: u8,
-) -> Result<Option<Taken<TextReader>>, AllocError>
-    requires { scale ≤ SCALE_MAX }
-    ensures pattern { IfOk result (λ found. option_map (λ taken. taken.pattern) found ≡ taken) }
-    ensures fresh { IfOk result (λ found. IfSome found (λ taken.
-        ⟦<TextReader as TraceReader>⟧.represents taken.reader [])) }
-    ensures terms { IfOk result (λ found. IfSome found (λ taken.
-        ⟦<TextReader as TraceReader>⟧.terms taken.reader
-        ≡ record { names = names_of taken.pattern; scale = scale })) }
-{
-    match taken {
-        None => Ok(None),
-        Some(pattern) => {
-            let reader = text_reader(alloc, &pattern, scale)?;
-            Ok(Some(Taken { pattern, reader }))
-        }
-    }
+    let reader = TextReader::new(alloc, LineReader::new(names, events, scale));
+    Ok(reader)
 }
 
 // Writes what answers a job over a text trace.
@@ -130,63 +109,79 @@ fn answer_text<S: Source, O: Sink>(
     ensures by_name { IsTrue (S.opened input.new) →
         IfSome (S.file_name input.old) (λ told. told ≡ job.now.input) }
 {
-    let mut reader = text_reader(alloc, &asked.pattern, job.scale)?;
-    let taken = taken_from_text(alloc, asked.taken, job.scale)?;
-    answer_by(alloc, asked.pattern, taken, job, &mut reader, input, out)?;
-    Ok(())
+    let Asked { pattern, taken, .. } = asked;
+    let mut reader = text_reader(alloc, &pattern, job.scale)?;
+    match taken {
+        None => {
+            answer_by(alloc, pattern, None, job, &mut reader, input, out)?;
+            Ok(())
+        }
+        Some(other) => {
+            let second = text_reader(alloc, &other, job.scale)?;
+            let taken = Taken {
+                pattern: other,
+                reader: second,
+            };
+            answer_by(alloc, pattern, Some(taken), job, &mut reader, input, out)?;
+            Ok(())
+        }
+    }
 }
 
-// A reader of a dump for the names of the pattern, which must declare those of every pattern.
-fn dump_reader(
+// What reads the tokens of a dump for the names of the pattern.
+fn dump_tokens(alloc: Global, pattern: &Pattern, scale: u8) -> Result<TokenReader, AllocError>
+    requires { scale ≤ SCALE_MAX }
+    ensures begins { IfOk result (λ tokens.
+        ⟦<TokenReader as PartReader>⟧.holds tokens first_place) }
+    ensures terms { IfOk result (λ tokens. ⟦<TokenReader as PartReader>⟧.terms tokens ≡ record {
+      names = names_of pattern.now;
+      declared = [];
+      scale = scale;
+    }) }
+{
+    let names = pattern.names().try_clone()?;
+    let events = pattern.events().try_clone()?;
+    let tokens = TokenReader::new(alloc, names, events, scale);
+    Ok(tokens)
+}
+
+// A reader of a dump for the names of one pattern, which must declare them.
+fn dump_reader(alloc: Global, pattern: &Pattern, scale: u8) -> Result<VcdReader, AllocError>
+    requires { scale ≤ SCALE_MAX }
+    ensures fresh { IfOk result (λ reader. ⟦<VcdReader as TraceReader>⟧.represents reader []) }
+    ensures terms { IfOk result (λ reader. ⟦<VcdReader as TraceReader>⟧.terms reader ≡ record {
+      names = names_of pattern.now;
+      declared = names_of pattern.now ∷ [];
+      scale = scale;
+    }) }
+{
+    let mut tokens = dump_tokens(alloc, pattern, scale)?;
+    tokens.must_declare(pattern.names(), pattern.events())?;
+    let reader = VcdReader::new(alloc, tokens);
+    Ok(reader)
+}
+
+// A reader of a dump for the names of a pattern, which must declare those of both patterns.
+fn dump_reader_of_two(
     alloc: Global,
     pattern: &Pattern,
     first: &Pattern,
-    second: Option<&Pattern>,
+    second: &Pattern,
     scale: u8,
 ) -> Result<VcdReader, AllocError>
     requires { scale ≤ SCALE_MAX }
     ensures fresh { IfOk result (λ reader. ⟦<VcdReader as TraceReader>⟧.represents reader []) }
     ensures terms { IfOk result (λ reader. ⟦<VcdReader as TraceReader>⟧.terms reader ≡ record {
       names = names_of pattern.now;
-      declared = all_names (patterns_with first.now (option_map (λ second. second.now) second));
+      declared = names_of first.now ∷ names_of second.now ∷ [];
       scale = scale;
     }) }
 {
-    let names = pattern.names().try_clone()?;
-    let events = pattern.events().try_clone()?;
-    let mut tokens = TokenReader::new(alloc, names, events, scale);
+    let mut tokens = dump_tokens(alloc, pattern, scale)?;
     tokens.must_declare(first.names(), first.events())?;
-    if let Some(second) = second {
-        tokens.must_declare(second.names(), second.events())?;
-    }
-    Ok(VcdReader::new(alloc, tokens))
-}
-
-// The pattern that is taken away, if there is one, with a reader of its own.
-fn taken_from_dump(
-    alloc: Global,
-    first: &Pattern,
-    taken: Option<Pattern>,
-    scale: u8,
-) -> Result<Option<Taken<VcdReader>>, AllocError>
-    requires { scale ≤ SCALE_MAX }
-    ensures pattern { IfOk result (λ found. option_map (λ taken. taken.pattern) found ≡ taken) }
-    ensures fresh { IfOk result (λ found. IfSome found (λ taken.
-        ⟦<VcdReader as TraceReader>⟧.represents taken.reader [])) }
-    ensures terms { IfOk result (λ found. IfSome found (λ other.
-        ⟦<VcdReader as TraceReader>⟧.terms other.reader ≡ record {
-          names = names_of other.pattern;
-          declared = all_names (patterns_with first.now taken);
-          scale = scale;
-        })) }
-{
-    match taken {
-        None => Ok(None),
-        Some(pattern) => {
-            let reader = dump_reader(alloc, &pattern, first, Some(&pattern), scale)?;
-            Ok(Some(Taken { pattern, reader }))
-        }
-    }
+    tokens.must_declare(second.names(), second.events())?;
+    let reader = VcdReader::new(alloc, tokens);
+    Ok(reader)
 }
 
 // Writes what answers a job over a dump.
@@ -211,11 +206,24 @@ fn answer_dump<S: Source, O: Sink>(
     ensures by_name { IsTrue (S.opened input.new) →
         IfSome (S.file_name input.old) (λ told. told ≡ job.now.input) }
 {
-    let pattern = asked.pattern;
-    let mut reader = dump_reader(alloc, &pattern, &pattern, asked.taken.as_ref(), job.scale)?;
-    let taken = taken_from_dump(alloc, &pattern, asked.taken, job.scale)?;
-    answer_by(alloc, pattern, taken, job, &mut reader, input, out)?;
-    Ok(())
+    let Asked { pattern, taken, .. } = asked;
+    match taken {
+        None => {
+            let mut reader = dump_reader(alloc, &pattern, job.scale)?;
+            answer_by(alloc, pattern, None, job, &mut reader, input, out)?;
+            Ok(())
+        }
+        Some(other) => {
+            let mut reader = dump_reader_of_two(alloc, &pattern, &pattern, &other, job.scale)?;
+            let second = dump_reader_of_two(alloc, &other, &pattern, &other, job.scale)?;
+            let taken = Taken {
+                pattern: other,
+                reader: second,
+            };
+            answer_by(alloc, pattern, Some(taken), job, &mut reader, input, out)?;
+            Ok(())
+        }
+    }
 }
 
 // Writes what answers a job over rows, where nothing is taken away.

@@ -1,15 +1,18 @@
 //! Laws of what words ask for, of the zones that answer it, and of the text that is told as the
 //! input comes, each as a function whose contract it is.
 
-ghost use Rattle.std.specs.Prelude.{◌≡◌, ◌++◌, ◌∷◌, ◌<◌, ◌≤◌, ◌⊎◌, ◌↔◌, ℕ, true, List, [], Option, None, Some, length, map};
+ghost use Rattle.std.specs.Prelude.{◌≡◌, ◌≢◌, ◌++◌, ◌∷◌, ◌<◌, ◌≤◌, ◌⊎◌, ◌↔◌, ℕ, Bool, true, All, List, [], Option, None, Some, length, map};
+ghost use Rattle.tre_parts.specs.Alike.{AreAlike};
 ghost use Rattle.tre_syntax.specs.Meaning.{Matches};
 ghost use Rattle.tre_tool.specs.Blocks.{Account, blocks_text, ending_text};
+ghost use Rattle.tre_tool.specs.Readings.{readings_of, reading_for};
 ghost use Rattle.tre_tool.specs.Request.{Sought, Request, AsksFor};
 ghost use Rattle.tre_tool.specs.Transcript.{AreBlocksOf, online_text};
 ghost use Rattle.tre_tool.specs.Wanted.{IsWanted, IsOfflineAnswer, AreTooMany};
 ghost use Rattle.tre_trace.specs.Trace.{Timeline};
 ghost use Rattle.tre_trace.specs.declared.segment.Segment.{Segment};
 ghost use Rattle.tre_words.specs.Job.{GivesJob};
+ghost use Rattle.tre_words.specs.declared.job.Format.TheVariants.{Csv};
 ghost use Rattle.tre_zone.specs.ZoneList.{SetHolds, HoldExactly};
 ghost use Rattle.tre_zone.specs.declared.zone_bounds.ZoneBounds.{ZoneBounds};
 
@@ -42,6 +45,18 @@ pub fn parts_of_a_difference()
         (a b n : ℕ) → 0 < n → a ≤ b → Matches pattern.tree trace a b n
         ↔ (SetHolds left a b n
         ⊎ (Matches pattern.tree trace a b n × Matches other.tree second a b n)) }
+{}
+
+/// What bytes say is alike for all patterns of a request, but in columns: each reading has the fault
+/// of every other, and segments of the same lengths; so has the one that is taken for all of them.
+pub fn readings_alike()
+    ensures each { (request : Request) (closed : Bool) (bytes : List ℕ) →
+        request.job.format ≢ Csv →
+        All (λ one. All (AreAlike one) (readings_of request closed bytes))
+        (readings_of request closed bytes) }
+    ensures shared { (request : Request) (closed : Bool) (bytes : List ℕ) →
+        request.job.format ≢ Csv →
+        All (AreAlike (reading_for request closed bytes)) (readings_of request closed bytes) }
 {}
 
 /// What is told of one pattern without a label is the text of its blocks, and of what closes them.

@@ -1,5 +1,5 @@
 // The matches over a whole input, told at once.
-ghost use Rattle.std.specs.Prelude.{◌≡◌, ℕ, ◌≤◌, ◌+◌, List, [], false, IsTrue, IfOk, IfErr, IfSome, OnOk, length, string_bytes};
+ghost use Rattle.std.specs.Prelude.{◌≡◌, ℕ, ◌≤◌, ◌+◌, List, [], false, true, IsTrue, IfOk, IfErr, IfSome, OnOk, length, string_bytes};
 ghost use Rattle.std.specs.Option.{option_map};
 ghost use Rattle.tre_num.specs.Defined.{Defined};
 ghost use Rattle.tre_syntax.specs.Pattern.{names_of};

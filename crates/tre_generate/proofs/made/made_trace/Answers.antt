@@ -1,6 +1,5 @@
-use Rattle.std.proofs.Common.{arith, List, [], ◌∷◌, ◌++◌, sym, ap, ◌∙◌}
+use Rattle.std.proofs.Common.{arith, [], ◌∷◌, ◌++◌, sym, ap, ◌∙◌}
 use Rattle.tre_trace.specs.Trace.{Timeline, quiet}
-use Rattle.tre_trace.specs.declared.segment.Segment.{Segment}
 use Rattle.tre_generate.specs.Made.{made_segment}
 use Rattle.tre_generate.proofs.MadeTraces.{made_trace-none, made_trace-next, made_fits}
 use Rattle.tre_generate.proofs.made.made_trace.Goals as goal

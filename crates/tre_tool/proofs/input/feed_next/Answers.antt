@@ -2,7 +2,7 @@ use Rattle.std.proofs.Common.{◌≡◌, ℕ, ◌+◌, ◌-◌, ◌≤◌, lengt
 use Rattle.std.proofs.lemmas.Result.{err_from_is_err_and}
 use Rattle.tre_tool.specs.Feeding.{IsFedTo}
 use Rattle.tre_tool.proofs.Feeding.{TellsAll-exceeds}
-use Rattle.tre_tool.proofs.Turns.{Adds-some, IsFed-all, HasRead-nothing, HasRead-piece, HasRead-fed, HasRead-end, StopsTurn-piece, StopsTurn-end, IsAtEndOf-read, IsEnded-end, GoesOn-fed, Adds-none}
+use Rattle.tre_tool.proofs.Turns.{IsKept-none, Adds-some, IsFed-all, HasRead-nothing, HasRead-piece, HasRead-fed, HasRead-end, StopsTurn-piece, StopsTurn-end, IsAtEndOf-read, IsEnded-end, GoesOn-fed, Adds-none}
 use Rattle.tre_tool.proofs.input.feed_next.Goals as goal
 
 pub returns-then-taken-limit-clause-read : goal.returns-then-taken-limit-clause-read
@@ -180,7 +180,8 @@ returns-clause-ends g c =
       c.in_ok-count.ensures.length,
       length-take {A = ℕ} c.min-room.result c.args.buffer.now,
     ) in
-    λ file bytes so_far. GoesOn-fed
+    λ file bytes so_far. GoesOn-fed {represents' = IsFedTo
+    (g.R.TraceReader.represents c.feed_piece.new.reader) c.feed_piece.new.kept}
     (g.R.TraceReader.reading (g.R.TraceReader.terms c.args.reader.now))
     (length c.args.buffer.now) c.args.limit file
     (g.S.Source.left c.args.input.now) (g.S.Source.found c.args.input.now) _ _ _ count bytes
@@ -188,3 +189,8 @@ returns-clause-ends g c =
     size few short
     (c.in_ok-count.ensures.goes_on bytes (IsFed-all so_far inside))
     (c.in_ok-count.ensures.adds bytes (IsFed-all so_far inside))
+
+pub returns-then-count-eq0-clause-keeps : goal.returns-then-count-eq0-clause-keeps
+returns-then-count-eq0-clause-keeps g c = λ bytes kept ended.
+    IsKept-none c.feed_piece.new.kept (c.args.limit - c.args.taken.now) c.in_ok-count.count bytes
+    c.feed_piece.new.buffer c.if-count-eq0.true (c.in_ok-count.ensures.keeps bytes kept)

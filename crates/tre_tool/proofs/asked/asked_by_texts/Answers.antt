@@ -1,0 +1,25 @@
+use Rattle.std.proofs.Common.{[], ◌∷◌}
+use Rattle.std.proofs.lemmas.Result.{err_from_is_err_and}
+use Rattle.tre_tool.specs.Answer.{sought_by, patterns_with}
+use Rattle.tre_tool.proofs.Promise.{Spell-read}
+use Rattle.tre_tool.proofs.asked.asked_by_texts.Goals as goal
+
+pub returns-in_err-taken-clause-refuses : goal.returns-in_err-taken-clause-refuses
+returns-in_err-taken-clause-refuses c =
+    let p = err_from_is_err_and c.from_residual-in_err-taken.result
+    c.from_residual-in_err-taken.ensures.1 in
+    let pattern = c.in_ok-pattern.pattern in
+    rw (p.1, p.2) (λ never. c.in_err-taken.ensures.refuses never (sought_by pattern ∷ [])
+    (Spell-read c.args.job.now pattern c.text.result.now c.text.ensures
+    c.in_ok-pattern.ensures.outcome))
+
+pub returns-in_err-definitions-clause-refuses : goal.returns-in_err-definitions-clause-refuses
+returns-in_err-definitions-clause-refuses c =
+    let p = err_from_is_err_and c.from_residual-in_err-definitions.result
+    c.from_residual-in_err-definitions.ensures.1 in
+    let pattern = c.in_ok-pattern.pattern in
+    rw (p.1, p.2) (λ never. c.in_err-definitions.ensures.refuses never
+    (patterns_with pattern c.in_ok-taken.taken)
+    (c.in_ok-taken.ensures.spells pattern
+    (Spell-read c.args.job.now pattern c.text.result.now c.text.ensures
+    c.in_ok-pattern.ensures.outcome)))
