@@ -5,4 +5,4 @@ mod Tables
 mod NameColumns
 mod Pieces
 mod Defining
-mod OneReading
+pub mod OneReading

@@ -1,12 +1,10 @@
 -- What rows say, one after the other.
 use Rattle.std.proofs.Common.{◌≡◌, ◌≢◌, ℕ, ◌+◌, Option, Some, None, List, [], ◌∷◌, ◌++◌, length, Ok, Err, append_assoc, refl, sym, ap, ◌∙◌, arith}
 use Rattle.std.proofs.lemmas.List.{append-nil, length_push}
-use Rattle.csv.specs.Records.{Row, fields_of}
-use Rattle.csv.specs.declared.iter.ByteRecordsIntoIter.{ByteRecordsIntoIter}
+use Rattle.csv.specs.declared.reader.Reader.{Reader}
 use Rattle.tre_num.specs.declared.column.Column.{Column}
-use Rattle.tre_num.specs.Left.{IsLeft}
+use Rattle.tre_num.specs.Left.{IsLeft, Takes}
 use Rattle.tre_num.specs.Rows.{row_says, says_on, rows_from}
-use Rattle.tre_num.proofs.Records.{Takes}
 use Rattle.tre_parts.specs.Format.{behind, nothing}
 use Rattle.tre_trace.specs.Reading.{Adds, IsRefused, Reading}
 use Rattle.tre_trace.specs.declared.fault.TraceFault.{TraceFault}
@@ -18,7 +16,7 @@ use Rattle.tre_trace.proofs.Readings.{IsRefused-told}
 -- Of all rows, those that a reader has left stand behind the segments that were read. They were put
 -- behind other segments.
 pub record HasRead {R : Type 0} (known : R → Option (List ℕ)) (columns : List Column)
-    (width scale : ℕ) (all : List (List (List ℕ))) (rows : ByteRecordsIntoIter R)
+    (width scale : ℕ) (all : List (List (List ℕ))) (rows : Reader R)
     (before segments : List Segment) (end : ℕ) : Type 0 where
   pub read : List Segment
   pub put : segments ≡ before ++ read
@@ -33,7 +31,7 @@ module _ {R : Type 0} (known : R → Option (List ℕ)) (columns : List Column) 
   whole = rows_from columns width scale 2 all 0
 
   -- nothing was read
-  pub read-none : (rows : ByteRecordsIntoIter R) → IsLeft known rows all
+  pub read-none : (rows : Reader R) → IsLeft known rows all
       → HasRead known columns width scale all rows before before 0
   read-none rows left = record {
     read = [];
@@ -45,13 +43,13 @@ module _ {R : Type 0} (known : R → Option (List ℕ)) (columns : List Column) 
 
   -- one more row with a segment
   pub read-one : (segments : List Segment) (end : ℕ)
-      (old new : ByteRecordsIntoIter R) (row : Row) (segment : Segment)
+      (old new : Reader R) (fields : List (List ℕ)) (segment : Segment)
       → (so_far : HasRead known columns width scale all old before segments end)
-      → Takes known (fields_of row) new so_far.rest
-      → row_says columns width scale end (fields_of row) ≡ Ok segment
+      → Takes known fields new so_far.rest
+      → row_says columns width scale end fields ≡ Ok segment
       → HasRead known columns width scale all new before (segments ++ segment ∷ [])
       (end + segment.len)
-  read-one segments end old new row segment so_far takes says =
+  read-one segments end old new fields segment so_far takes says =
       let read = so_far.read in
       let more = rows_from columns width scale (length read + 2 + 1) takes.others in
       let number : length read + 2 + 1 ≡ length (read ++ segment ∷ []) + 2 =
@@ -79,13 +77,13 @@ module _ {R : Type 0} (known : R → Option (List ℕ)) (columns : List Column) 
 
   -- the first row with a fault
   pub read-fault : (segments : List Segment) (end : ℕ)
-      (old new : ByteRecordsIntoIter R) (row : Row) (kind : TraceKind) (count : ℕ)
+      (old new : Reader R) (fields : List (List ℕ)) (kind : TraceKind) (count : ℕ)
       → (so_far : HasRead known columns width scale all old before segments end)
-      → Takes known (fields_of row) new so_far.rest
-      → row_says columns width scale end (fields_of row) ≡ Err kind → kind ≢ Spent
+      → Takes known fields new so_far.rest
+      → row_says columns width scale end fields ≡ Err kind → kind ≢ Spent
       → count ≡ length so_far.read
       → IsRefused before segments nothing whole (record { place = count + 2; kind = kind })
-  read-fault segments end old new row kind count so_far takes says never_spent counts =
+  read-fault segments end old new fields kind count so_far takes says never_spent counts =
       let read = so_far.read in
       let more = rows_from columns width scale (length read + 2 + 1) takes.others in
       let is = so_far.is
@@ -104,7 +102,7 @@ module _ {R : Type 0} (known : R → Option (List ℕ)) (columns : List Column) 
 
   -- no memory was found for the rows that are left
   pub read-stopped : (segments : List Segment) (end : ℕ)
-      (rows : ByteRecordsIntoIter R) (fault : TraceFault)
+      (rows : Reader R) (fault : TraceFault)
       → HasRead known columns width scale all rows before segments end → fault.kind ≡ Memory
       → IsRefused before segments nothing whole fault
   read-stopped segments end rows fault so_far memory = record {
@@ -120,14 +118,14 @@ module _ {R : Type 0} (known : R → Option (List ℕ)) (columns : List Column) 
   }
 
   -- what all rows say, where none is left
-  all-is : (segments : List Segment) (end : ℕ) (rows : ByteRecordsIntoIter R)
+  all-is : (segments : List Segment) (end : ℕ) (rows : Reader R)
       → (so_far : HasRead known columns width scale all rows before segments end)
       → so_far.rest ≡ [] → whole ≡ behind so_far.read nothing
   all-is segments end rows so_far none = so_far.is
       ∙ ap (λ rows. behind so_far.read
       (rows_from columns width scale (length so_far.read + 2) rows end)) none
 
-  pub read-all : (segments : List Segment) (end : ℕ) (rows : ByteRecordsIntoIter R)
+  pub read-all : (segments : List Segment) (end : ℕ) (rows : Reader R)
       → (so_far : HasRead known columns width scale all rows before segments end)
       → so_far.rest ≡ [] → Adds before segments nothing whole
   read-all segments end rows so_far none = record {
@@ -137,7 +135,7 @@ module _ {R : Type 0} (known : R → Option (List ℕ)) (columns : List Column) 
         ∙ append-nil so_far.read;
   }
 
-  pub read-faultless : (segments : List Segment) (end : ℕ) (rows : ByteRecordsIntoIter R)
+  pub read-faultless : (segments : List Segment) (end : ℕ) (rows : Reader R)
       → (so_far : HasRead known columns width scale all rows before segments end)
       → so_far.rest ≡ [] → whole.fault ≡ None
   read-faultless segments end rows so_far none =

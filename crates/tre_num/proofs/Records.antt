@@ -1,11 +1,9 @@
 -- The records that are left, one after the other.
-use Rattle.std.proofs.Common.{subst, ◌≡◌, ℕ, zero, suc, ◌+◌, ◌<◌, ◌≤◌, Bool, true, false, Option, Some, None, List, [], ◌∷◌, ◌++◌, length, Ok, refl, sym, ap, ◌∙◌, inl, inr, arith}
+use Rattle.std.proofs.Common.{subst, ◌≡◌, ℕ, zero, suc, ◌+◌, ◌<◌, ◌≤◌, Bool, true, false, Option, Some, None, List, [], ◌∷◌, ◌++◌, length, refl, sym, ap, ◌∙◌, inl, inr, arith}
 use Rattle.std.specs.Prelude.{◌==◌, ◌&&◌, if◌then◌else◌}
 use Rattle.std.proofs.lemmas.Bool.{false≢true}
 use Rattle.csv.specs.Machine.{Read, carriage_return, after_end, ends_with, in_field, start_field, start_record, step, ends_at_end, is_end, is_byte, fields_after, field_after, next_record}
-use Rattle.csv.specs.Reading.{Reached, RowStep, default_config, names_headers, owned_rows_left, owned_rows_reader, reader_config, reader_headers, reader_state, reader_trim, records, records_from, records_next, source_of}
-use Rattle.csv.specs.Records.{Row, fields_of}
-use Rattle.csv.specs.declared.iter.ByteRecordsIntoIter.{ByteRecordsIntoIter}
+use Rattle.csv.specs.Reading.{Reached, ReadRecord, default_config, names_headers, reader_config, reader_headers, reader_state, reader_trim, records, records_from, records_next, source_of, took_first}
 use Rattle.csv.specs.declared.parser.Action.{Action}
 use Rattle.csv.specs.declared.parser.Config.{Config}
 use Rattle.csv.specs.declared.parser.State.{State}
@@ -15,7 +13,7 @@ use Rattle.csv.specs.declared.parser.Terminator.TheVariants as term
 use Rattle.csv.specs.declared.reader.Reader.{Reader}
 use Rattle.csv.specs.declared.reader.Trim.TheVariants as trim
 use Rattle.csv.proofs.ReadFacts.{rows-end, rows-more}
-use Rattle.tre_num.specs.Left.{IsLeft}
+use Rattle.tre_num.specs.Left.{IsLeft, Takes}
 
 -- ---- behind a record
 
@@ -137,92 +135,74 @@ next-less cfg s (c ∷ rest) read between is = by (is_end (step cfg s c).1) is
 
 -- ---- the records that are left
 
--- One of them was read, and the others are left.
-pub record Takes {R : Type 0} (known : R → Option (List ℕ)) (fields : List (List ℕ))
-    (rows : ByteRecordsIntoIter R) (left : List (List (List ℕ))) : Type 0 where
-  pub others : List (List (List ℕ))
-  pub first : left ≡ fields ∷ others
-  pub rest : IsLeft known rows others
+module _ {R : Type 0} (known : R → Option (List ℕ)) (old new : Reader R)
+    (left : List (List (List ℕ))) (is : IsLeft known old left) where
+  -- A record that was read is the first of those that were left.
+  pub takes-next : (fields : List (List ℕ)) → ReadRecord known old new true fields
+      → took_first new ≡ true → Takes known fields new left
+  unfolding Reached records_from
+  takes-next fields did taken = by is.most is.room is.is
+    where
+      by : (most : ℕ) → length is.bytes < most
+          → left ≡ records_from default_config most (reader_state old) is.bytes
+          → Takes known fields new left
+      by zero room e = absurd (omega arith)
+      by (suc n) room e =
+          let more = rows-more known old new fields default_config (reader_state old)
+          is.bytes is.bytes [] is.config is.source (refl, refl) did in
+          let read = more.2.0 in
+          let next = more.2.1 in
+          let less = next-less default_config (reader_state old) is.bytes read is.between next in
+          let kept = next-leaves default_config (reader_state old) [] [] is.bytes read next in
+          record {
+            others = records_from default_config n (reader_state new) more.0;
+            first = e
+                ∙ ap (records_next (records_from default_config n)) next
+                ∙ ap (λ fields. fields ∷ records_from default_config n read.1 read.2)
+                (sym more.2.2)
+                ∙ ap (λ s. fields ∷ records_from default_config n s read.2) more.2.3.0
+                ∙ ap (λ bytes. fields ∷ records_from default_config n (reader_state new) bytes)
+                more.2.3.1;
+            rest = record {
+              trim = did.3 ∙ is.trim;
+              ready = inl taken;
+              config = did.2 ∙ is.config;
+              bytes = more.0;
+              source = more.1;
+              between = ap ends_at_end (sym more.2.3.0) ∙ kept.between;
+              most = n;
+              room = omega (arith, less, ap length more.2.3.1);
+              is = refl;
+            };
+          }
 
--- A record that was read is the first of those that were left.
-pub IsLeft-next : {R : Type 0} (known : R → Option (List ℕ)) (old new : ByteRecordsIntoIter R)
-    (row : Row) (left : List (List (List ℕ))) → IsLeft known old left
-    → RowStep known (owned_rows_reader old) (owned_rows_reader new) (owned_rows_left new)
-    (Some (Ok row)) → Takes known (fields_of row) new left
-unfolding Reached records_from
-IsLeft-next known old new row left is did = by is.most is.room is.is
-  where
-    by : (most : ℕ) → length is.bytes < most
-        → left ≡ records_from default_config most (reader_state (owned_rows_reader old)) is.bytes
-        → Takes known (fields_of row) new left
-    by zero room e = absurd (omega arith)
-    by (suc n) room e =
-        let before = owned_rows_reader old in
-        let now = owned_rows_reader new in
-        let more = rows-more known before now (fields_of row) default_config (reader_state before)
-        is.bytes is.bytes [] is.config is.source (refl, refl) did.0 in
-        let read = more.2.0 in
-        let next = more.2.1 in
-        let less = next-less default_config (reader_state before) is.bytes read is.between next in
-        let kept = next-leaves default_config (reader_state before) [] [] is.bytes read next in
-        record {
-          others = records_from default_config n (reader_state now) more.0;
-          first = e
-              ∙ ap (records_next (records_from default_config n)) next
-              ∙ ap (λ fields. fields ∷ records_from default_config n read.1 read.2)
-              (sym more.2.2)
-              ∙ ap (λ s. fields_of row ∷ records_from default_config n s read.2) more.2.3.0
-              ∙ ap (λ bytes. fields_of row ∷ records_from default_config n (reader_state now) bytes)
-              more.2.3.1;
-          rest = record {
-            turns = did.2;
-            trim = did.0.3 ∙ is.trim;
-            ready = inl did.1;
-            config = did.0.2 ∙ is.config;
-            bytes = more.0;
-            source = more.1;
-            between = ap ends_at_end (sym more.2.3.0) ∙ kept.between;
-            most = n;
-            room = omega (arith, less, ap length more.2.3.1);
-            is = refl;
-          };
-        }
-
--- Where no record was read, none was left.
-pub IsLeft-end : {R : Type 0} (known : R → Option (List ℕ)) (old new : ByteRecordsIntoIter R)
-    (left : List (List (List ℕ))) → IsLeft known old left
-    → RowStep known (owned_rows_reader old) (owned_rows_reader new) (owned_rows_left new) None
-    → left ≡ []
-unfolding records_from
-IsLeft-end known old new left is did = by is.most is.is
-  where
-    by : (most : ℕ)
-        → left ≡ records_from default_config most (reader_state (owned_rows_reader old)) is.bytes
-        → left ≡ []
-    by zero e = e
-    by (suc n) e =
-        let none = rows-end known (owned_rows_reader old) (owned_rows_reader new) []
-        default_config is.bytes is.config is.source did in
-        e ∙ ap (records_next (records_from default_config n)) none
+  -- Where no record was read, none was left.
+  pub none-left : (fields : List (List ℕ)) → ReadRecord known old new false fields → left ≡ []
+  unfolding records_from
+  none-left fields did = by is.most is.is
+    where
+      by : (most : ℕ) → left ≡ records_from default_config most (reader_state old) is.bytes
+          → left ≡ []
+      by zero e = e
+      by (suc n) e =
+          e ∙ ap (records_next (records_from default_config n))
+          (rows-end known old new fields default_config is.bytes is.config is.source did)
 
 -- All records are left of a reader that has read nothing.
-pub IsLeft-begins : {R : Type 0} (known : R → Option (List ℕ)) (rows : ByteRecordsIntoIter R)
-    (reader : Reader R) (bytes : List ℕ) → owned_rows_reader rows ≡ reader
-    → 0 < owned_rows_left rows
-    → reader_trim reader ≡ trim.None → names_headers reader ≡ false → reader_headers reader ≡ None
-    → reader_config reader ≡ default_config → reader_state reader ≡ st.StartRecord
-    → source_of known reader ≡ Some bytes → IsLeft known rows (records default_config bytes)
-IsLeft-begins known rows reader bytes is turns trims plain headers config state source =
+pub IsLeft-begins : {R : Type 0} (known : R → Option (List ℕ)) (rows : Reader R)
+    (bytes : List ℕ) → reader_trim rows ≡ trim.None → names_headers rows ≡ false
+    → reader_headers rows ≡ None → reader_config rows ≡ default_config
+    → reader_state rows ≡ st.StartRecord → source_of known rows ≡ Some bytes
+    → IsLeft known rows (records default_config bytes)
+IsLeft-begins known rows bytes trims plain headers config state source =
     record {
-      turns = turns;
-      trim = ap reader_trim is ∙ trims;
-      ready = inr (inr (ap names_headers is ∙ plain, ap reader_headers is ∙ headers));
-      config = ap reader_config is ∙ config;
+      trim = trims;
+      ready = inr (inr (plain, headers));
+      config = config;
       bytes = bytes;
-      source = ap (source_of known) is ∙ source;
-      between = ap (λ r. ends_at_end (reader_state r)) is ∙ ap ends_at_end state;
+      source = source;
+      between = ap ends_at_end state;
       most = length bytes + 1;
       room = omega arith;
-      is = sym (ap (λ s. records_from default_config (length bytes + 1) s bytes)
-          (ap reader_state is ∙ state));
+      is = sym (ap (λ s. records_from default_config (length bytes + 1) s bytes) state);
     }

@@ -1,6 +1,8 @@
 -- What a table says, by its header.
-use Rattle.std.proofs.Common.{◌≡◌, ◌≢◌, ℕ, ◌+◌, Option, None, Some, List, [], ◌∷◌, ◌++◌, length, true, Result, Ok, Err, refl, sym, ap, ◌∙◌, inl, inr, ◌⊎◌}
+use Rattle.std.proofs.Common.{◌≡◌, ◌≢◌, ℕ, ◌+◌, Option, None, Some, List, [], ◌∷◌, ◌++◌, length, Bool, true, false, Result, Ok, Err, refl, sym, ap, ◌∙◌, inl, inr, ◌⊎◌}
 use Rattle.csv.specs.Reading.{default_config, records, strip_bom}
+use Rattle.csv.specs.declared.reader.Reader.{Reader}
+use Rattle.tre_num.specs.Left.{IsNext}
 use Rattle.tre_num.specs.declared.column.Column.{Column}
 use Rattle.tre_num.specs.Rows.{Terms, compared, row_says, rows_from, rows_reading, says_on, table_says, under_header}
 use Rattle.tre_parts.specs.Format.{faulty, nothing}
@@ -31,56 +33,51 @@ module _ (terms : Terms) (all : List (List (List ℕ))) where
       ap (table_says terms) none
       ∙ ap (λ columns. under_header columns 0 terms.scale []) found
 
-  -- a name has no column
-  unknown-says : (header : List (List ℕ)) (others : List (List (List ℕ)))
-      → all ≡ header ∷ others → compared terms header ≡ None
-      → table_says terms all ≡ faulty 1 UnknownName
-  unknown-says header others first unknown =
-      ap (table_says terms) first
-      ∙ ap (λ columns. under_header columns (length header) terms.scale others) unknown
+  -- What the rows say under this header.
+  pub record Heads (header : List (List ℕ)) : Type 0 where
+    pub rest : List (List (List ℕ))
+    pub is : table_says terms all
+        ≡ under_header (compared terms header) (length header) terms.scale rest
 
-  unknown-none : all ≡ [] → compared terms [] ≡ None
-      → table_says terms all ≡ faulty 1 UnknownName
-  unknown-none none unknown =
-      ap (table_says terms) none
-      ∙ ap (λ columns. under_header columns 0 terms.scale []) unknown
+  -- the first record is the header; without one there is a header of no fields
+  pub heads : {R : Type 0} (known : R → Option (List ℕ)) (found : Bool) (header : List (List ℕ))
+      (rows : Reader R) → IsNext known found header rows all → (found ≡ false → header ≡ [])
+      → Heads header
+  heads known true header rows next none =
+      record { rest = next.others; is = ap (table_says terms) next.first }
+  heads known false header rows next none = record {
+    rest = [];
+    is = ap (table_says terms) next
+        ∙ ap (λ fields. under_header (compared terms fields) (length fields) terms.scale [])
+        (sym (none refl));
+  }
 
   module _ (before : List Segment) (fault : TraceFault) where
-    refused : (unknown : Type 0) → (unknown → table_says terms all ≡ faulty 1 UnknownName)
-        → (fault.kind ≢ Memory → unknown × (fault ≡ record { place = 1; kind = UnknownName }))
-        → fault.kind ≢ Spent → IsRefused before before nothing (table_says terms all) fault
-    refused unknown says told never_spent = by (is_memory fault.kind) where
-      now : Reading
-      now = table_says terms all
+    abbrev now : Reading
+    now = table_says terms all
 
+    -- no memory was found
+    pub stopped : fault.kind ≡ Memory → IsRefused before before nothing now fault
+    stopped memory =
+        IsRefused-memory before nothing now fault
+        (record { added = now.segments; segments = refl; fault = λ f is. cc }) memory
+
+    -- a name has no column under the header
+    pub refused : (header : List (List ℕ)) → Heads header
+        → (fault.kind ≢ Memory → (compared terms header ≡ None)
+        × (fault ≡ record { place = 1; kind = UnknownName }))
+        → fault.kind ≢ Spent → IsRefused before before nothing now fault
+    refused header heads told never_spent = by (is_memory fault.kind) where
       by : (fault.kind ≡ Memory) ⊎ (fault.kind ≢ Memory)
           → IsRefused before before nothing now fault
-      by (inl memory) =
-          IsRefused-memory before nothing now fault
-          (record { added = now.segments; segments = refl; fault = λ f is. cc }) memory
+      by (inl memory) = stopped memory
       by (inr other) =
           let did = told other in
-          let is = says did.0 in
+          let is : now ≡ faulty 1 UnknownName = heads.is
+          ∙ ap (λ columns. under_header columns (length header) terms.scale heads.rest) did.0 in
           IsRefused-told before before nothing now fault
           (Adds-none before nothing now (ap (λ (r : Reading). r.segments) is))
           (ap (λ (r : Reading). r.fault) is ∙ ap Some (sym did.1)) never_spent
-
-    -- the header was refused
-    pub header-refused : (header : List (List ℕ)) (others : List (List (List ℕ)))
-        → all ≡ header ∷ others
-        → (fault.kind ≢ Memory → (compared terms header ≡ None)
-        × (fault ≡ record { place = 1; kind = UnknownName }))
-        → fault.kind ≢ Spent → IsRefused before before nothing (table_says terms all) fault
-    header-refused header others first told never_spent =
-        refused (compared terms header ≡ None) (unknown-says header others first) told never_spent
-
-    -- there was none, and a name needs one
-    pub none-refused : all ≡ []
-        → (fault.kind ≢ Memory → (compared terms [] ≡ None)
-        × (fault ≡ record { place = 1; kind = UnknownName }))
-        → fault.kind ≢ Spent → IsRefused before before nothing (table_says terms all) fault
-    none-refused none told never_spent =
-        refused (compared terms [] ≡ None) (unknown-none none) told never_spent
 
 -- ---- no event happens at the end
 

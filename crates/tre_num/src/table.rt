@@ -1,9 +1,9 @@
 // Reading a table: a header, and rows behind it.
-ghost use Rattle.std.specs.Prelude.{◌≡◌, ◌≢◌, ◌≤◌, ℕ, List, length, Some, None, true, IfErr, IfOk, OnOk, OnErr};
+ghost use Rattle.std.specs.Prelude.{◌≡◌, ◌≢◌, ◌≤◌, ℕ, List, [], length, Some, None, true, false, IfErr, IfOk, OnOk, OnErr};
 ghost use Rattle.csv.specs.Reading.{default_config, records, strip_bom};
 ghost use Rattle.csv.specs.Records.{fields_of};
 ghost use Rattle.tre_decimal.specs.declared.TheConstants.{SCALE_MAX};
-ghost use Rattle.tre_num.specs.Left.{IsLeft};
+ghost use Rattle.tre_num.specs.Left.{IsLeft, IsNext};
 ghost use Rattle.tre_num.specs.Rows.{compared, rows_from, rows_reading, terms_of};
 ghost use Rattle.tre_parts.specs.Format.{nothing};
 ghost use Rattle.tre_state.specs.declared.names.TheConstants.{NAMES_MAX};
@@ -14,7 +14,7 @@ use crate::column::Column;
 use crate::columns::{NO_MEMORY, UNKNOWN, columns_of};
 use crate::definition::Definition;
 use crate::row::read_row;
-use csv::{ByteRecord, ByteRecordsIntoIter, ReaderBuilder};
+use csv::{ByteRecord, Reader, ReaderBuilder};
 use std::alloc::Global;
 use std::io::Read;
 use std::marker::Model;
@@ -74,17 +74,14 @@ impl Table {
         ensures never_spent { IfErr result (λ fault. fault.kind ≢ Spent) }
     {
         let mut rows = records_of(alloc, source);
-        match rows.next() {
-            Some(Ok(header)) => {
-                let columns = self.columns_under(alloc, &header)?;
-                read_behind(rows, &columns, header.len(), self.scale, segments)
-            }
-            Some(Err(_)) => Err(NO_MEMORY),
-            None => {
-                self.columns_under(alloc, &ByteRecord::new(alloc))?;
-                Ok(())
-            }
+        let mut row = ByteRecord::new(alloc);
+        let found = next_row(&mut rows, &mut row)?;
+        let columns = self.columns_under(alloc, &row)?;
+        if !found {
+            return Ok(());
         }
+        let width = row.len();
+        read_behind(&mut rows, &mut row, &columns, width, self.scale, segments)
     }
 
     // The columns of all names under this header.
@@ -106,7 +103,7 @@ impl Table {
 }
 
 // The records of a source: no header among them, and of any lengths.
-fn records_of<R: Read + Drop>(alloc: Global, source: R) -> ByteRecordsIntoIter<R>
+fn records_of<R: Read + Drop>(alloc: Global, source: R) -> Reader<R>
     ensures { (bytes : List ℕ) → R.remaining source ≡ Some bytes →
         IsLeft R.remaining result (records default_config (strip_bom bytes)) }
 {
@@ -114,12 +111,29 @@ fn records_of<R: Read + Drop>(alloc: Global, source: R) -> ByteRecordsIntoIter<R
         .has_headers(false)
         .flexible(true)
         .from_reader(alloc, source)
-        .into_byte_records()
+}
+
+// Reads the next record, if there is one. Where there is none, the row has no fields.
+fn next_row<R: Read + Drop>(rows: &mut Reader<R>, row: &mut ByteRecord) -> Result<bool, TraceFault>
+    ensures next { (left : List (List (List ℕ))) → IsLeft R.remaining rows.old left →
+        IfOk result (λ found. IsNext R.remaining found (fields_of row.new) rows.new left) }
+    ensures none { IfOk result (λ found. found ≡ false → fields_of row.new ≡ []) }
+    ensures fault { IfErr result (λ fault. fault ≡ record { place = 0; kind = Memory }) }
+{
+    let Ok(found) = rows.read_byte_record(row) else {
+        return Err(NO_MEMORY);
+    };
+    if found {
+        return Ok(true);
+    }
+    row.clear();
+    Ok(false)
 }
 
 // Reads the rows behind a header of `width` fields, and puts their segments behind the others.
 fn read_behind<R: Read + Drop>(
-    rows: ByteRecordsIntoIter<R>,
+    rows: &mut Reader<R>,
+    row: &mut ByteRecord,
     columns: &[Column],
     width: usize,
     scale: u8,
@@ -127,12 +141,12 @@ fn read_behind<R: Read + Drop>(
 ) -> Result<(), TraceFault>
     requires few { length columns.now ≤ NAMES_MAX }
     requires scale { scale ≤ SCALE_MAX }
-    ensures whole { (left : List (List (List ℕ))) → IsLeft R.remaining rows left →
+    ensures whole { (left : List (List (List ℕ))) → IsLeft R.remaining rows.old left →
         OnOk result ((rows_from columns.now width scale 2 left 0).fault ≡ None) }
-    ensures adds { (left : List (List (List ℕ))) → IsLeft R.remaining rows left →
+    ensures adds { (left : List (List (List ℕ))) → IsLeft R.remaining rows.old left →
         OnOk result (Adds segments.old.items segments.new.items nothing
         (rows_from columns.now width scale 2 left 0)) }
-    ensures refused { (left : List (List (List ℕ))) → IsLeft R.remaining rows left →
+    ensures refused { (left : List (List (List ℕ))) → IsLeft R.remaining rows.old left →
         IfErr result (IsRefused segments.old.items segments.new.items nothing
         (rows_from columns.now width scale 2 left 0)) }
     ensures placed { IfErr result IsPlaced }
@@ -140,11 +154,13 @@ fn read_behind<R: Read + Drop>(
 {
     let before = segments.len();
     let mut end = 0;
-    for row in rows {
-        let Ok(row) = row else {
-            return Err(NO_MEMORY);
-        };
-        let segment = match read_row(columns, width, scale, end, &row) {
+    // No input has so many rows.
+    for _ in 0..u64::MAX {
+        let found = next_row(rows, row)?;
+        if !found {
+            return Ok(());
+        }
+        let segment = match read_row(columns, width, scale, end, row) {
             Ok(segment) => segment,
             Err(kind) => {
                 let place = (segments.len() - before) as u64 + 2;
@@ -156,5 +172,5 @@ fn read_behind<R: Read + Drop>(
         }
         end += segment.len;
     }
-    Ok(())
+    Err(NO_MEMORY)
 }

@@ -1,4 +1,4 @@
-mod Alike
+pub mod Alike
 mod Entries
 mod Fields
 mod Heads

@@ -10,7 +10,6 @@ use Rattle.tre_num.specs.declared.let_fault.LetFault.{LetFault}
 use Rattle.tre_num.proofs.OneReading.{same-definitions, refused-or, one-fault}
 use Rattle.tre_parse.specs.Outcome.{IsOutcome, spelt, refused}
 use Rattle.tre_parse.specs.declared.fault.ParseFault.{ParseFault}
-use Rattle.tre_parse.specs.declared.fault.ParseFault.TheVariants.{Memory as ParseMemory}
 use Rattle.tre_parse.proofs.Outcomes.{outcome_once}
 use Rattle.tre_syntax.specs.Pattern.{pattern_tree, names_of}
 use Rattle.tre_syntax.specs.PatternTree.{PatternTree}
@@ -45,7 +44,8 @@ spelt_once : (scale : ℕ) (text : List ℕ) (one other : Sought) → one.label 
     → IsOutcome scale text (spelt other.tree other.names) → one ≡ other
 unfolding sought_of
 spelt_once scale text one other none none' is is' =
-    let same = outcome_once scale text (spelt one.tree one.names) (spelt other.tree other.names) is is' in
+    let same = outcome_once scale text (spelt one.tree one.names)
+    (spelt other.tree other.names) is is' in
     let same_tree : one.tree ≡ other.tree = cc in
     let same_names : one.names ≡ other.names = cc in
     ap (λ l. sought_of l one.tree one.names) (none ∙ sym none')
@@ -91,23 +91,6 @@ definitions_once (Generate count) job some others so so' = so ∙ sym so'
 
 -- ---- refusals
 
--- a job that isn't that of a made run has the patterns of its texts, and is refused as they are
-pub ArePatterns-texts : (mode : Mode) (job : Job) (patterns : List Sought)
-    → ((count : ℕ) → mode ≡ Generate count → ⊥)
-    → Spell job.scale (texts_with job.expr job.minus) patterns → ArePatterns mode job patterns
-ArePatterns-texts Offline job patterns other is = is
-ArePatterns-texts Online job patterns other is = is
-ArePatterns-texts Show job patterns other is = is
-ArePatterns-texts (Generate count) job patterns other is = absurd (other count refl)
-
-pub IsRefusalIn-texts : (mode : Mode) (job : Job) (refusal : Status)
-    → ((count : ℕ) → mode ≡ Generate count → ⊥) → IsRefusalOf job refusal
-    → IsRefusalIn mode job refusal
-IsRefusalIn-texts Offline job refusal other is = is
-IsRefusalIn-texts Online job refusal other is = is
-IsRefusalIn-texts Show job refusal other is = is
-IsRefusalIn-texts (Generate count) job refusal other is = absurd (other count refl)
-
 -- the first of the texts, from what `parse` answers
 pub Spell-read : (job : Job) (pattern : Pattern) (read : List ℕ) → read ≡ job.expr
     → IsOutcome job.scale read (spelt (pattern_tree pattern) (names_of pattern))
@@ -117,16 +100,6 @@ Spell-read job pattern read same is = (
   subst (λ t. IsOutcome job.scale t (spelt (pattern_tree pattern) (names_of pattern))) same is,
   tt,
 )
-
--- the text of a refusal, from what `parse` answers
-pub IsRefusedText-of : (scale : ℕ) (text read : List ℕ) (fault : ParseFault) → read ≡ text
-    → (fault ≡ ParseMemory) ⊎ IsOutcome scale read (refused fault) → fault ≢ ParseMemory
-    → IsRefusedText scale text fault
-IsRefusedText-of scale text read fault same either never = record {
-  refuses = subst (λ t. IsOutcome scale t (refused fault)) same
-      (⊎_elim (λ memory. absurd (never memory)) (λ told. told) either);
-  never_memory = never;
-}
 
 -- a text that spells a pattern isn't refused
 text_or_refused : (scale : ℕ) (text : List ℕ) (fault : ParseFault) (pattern : Sought)

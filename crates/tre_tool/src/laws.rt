@@ -47,8 +47,8 @@ pub fn parts_of_a_difference()
         ⊎ (Matches pattern.tree trace a b n × Matches other.tree second a b n)) }
 {}
 
-/// What bytes say is alike for all patterns of a request, but in columns: each reading has the fault
-/// of every other, and segments of the same lengths; so has the one that is taken for all of them.
+/// What bytes say is alike for all patterns of a request, but in columns: each reading has the
+/// fault of every other, and segments of the same lengths; so has the one that is taken for all.
 pub fn readings_alike()
     ensures each { (request : Request) (closed : Bool) (bytes : List ℕ) →
         request.job.format ≢ Csv →

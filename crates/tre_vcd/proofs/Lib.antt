@@ -1,4 +1,4 @@
-mod Alike
+pub mod Alike
 mod Bits
 mod Deciding
 mod Dumps

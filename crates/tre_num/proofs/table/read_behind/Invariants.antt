@@ -5,11 +5,11 @@ use Rattle.tre_num.proofs.Reading.{HasRead}
 use Rattle.tre_num.proofs.table.read_behind.Given as goal
 
 -- the segments behind those that stood there are those of the rows so far
-abbrev pub invariant-loop-row : goal.invariant-loop-row
-invariant-loop-row g l = record {
+abbrev pub invariant-loop : goal.invariant-loop
+invariant-loop g l = record {
   in_time : l.end ≤ TIME_MAX;
   more : length l.fn.segments.items ≤ length l.segments.items;
   reads : (left : List (List (List ℕ))) → IsLeft g.R.Read.remaining l.fn.rows left
-      → HasRead g.R.Read.remaining l.columns l.width l.scale left l.row-iterator
+      → HasRead g.R.Read.remaining l.columns l.width l.scale left l.rows
       l.fn.segments.items l.segments.items l.end;
 }

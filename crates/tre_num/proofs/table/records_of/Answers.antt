@@ -9,9 +9,7 @@ returns g c bytes known =
     let reader = c.from_reader.ensures in
     let built = c.has_headers.ensures in
     let loose = c.flexible.ensures in
-    IsLeft-begins g.R.Read.remaining c.into_byte_records.result c.from_reader.result
-    (strip_bom bytes)
-    c.into_byte_records.ensures.rdr c.into_byte_records.ensures.left
+    IsLeft-begins g.R.Read.remaining c.from_reader.result (strip_bom bytes)
     (rw (loose, built) at reader.trim ∙ c.new.ensures.trim)
     (rw (loose, built) at reader.has_headers)
     reader.headers

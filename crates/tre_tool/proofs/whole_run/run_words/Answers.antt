@@ -33,7 +33,8 @@ returns-in_err-answer-clause-untouched g c =
     let asked = c.in_ok-asked.asked in
     let asks = AsksFor-of _ c.in_ok-job.job asked.definitions.items asked.pattern asked.taken
     c.in_ok-job.ensures.ok c.in_ok-asked.ensures.patterns c.in_ok-asked.ensures.defines in
-    λ nothing. absurd (nothing_asked _ (job_unique (map string_bytes c.args.words.now)) _ asks nothing)
+    λ nothing. absurd (nothing_asked _ (job_unique (map string_bytes c.args.words.now)) _ asks
+    nothing)
 
 pub returns-clause-ends : goal.returns-clause-ends
 returns-clause-ends g c =
@@ -47,7 +48,8 @@ returns-clause-untouched g c =
     let asked = c.in_ok-asked.asked in
     let asks = AsksFor-of _ c.in_ok-job.job asked.definitions.items asked.pattern asked.taken
     c.in_ok-job.ensures.ok c.in_ok-asked.ensures.patterns c.in_ok-asked.ensures.defines in
-    λ nothing. absurd (nothing_asked _ (job_unique (map string_bytes c.args.words.now)) _ asks nothing)
+    λ nothing. absurd (nothing_asked _ (job_unique (map string_bytes c.args.words.now)) _ asks
+    nothing)
 
 pub returns-in_err-answer-clause-by_name : goal.returns-in_err-answer-clause-by_name
 returns-in_err-answer-clause-by_name g c = λ job gives opened.
