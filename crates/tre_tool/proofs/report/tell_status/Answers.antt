@@ -39,3 +39,12 @@ returns-in-WriteFault-clause-part g c = rw c.in-WriteFault.is
 
 pub returns-in-Memory-clause-part : goal.returns-in-Memory-clause-part
 returns-in-Memory-clause-part g c = rw c.in-Memory.is c.put_pieces-in-Memory.ensures.part
+
+pub returns-in-Expression-clause-part : goal.returns-in-Expression-clause-part
+returns-in-Expression-clause-part g c = rw c.in-Expression.is c.tell_fault.ensures.part
+
+pub returns-in-TooManyZones-clause-line : goal.returns-in-TooManyZones-clause-line
+returns-in-TooManyZones-clause-line g c = rw c.in-TooManyZones.is c.tell_number.ensures.line
+
+pub returns-in-TooManyZones-clause-part : goal.returns-in-TooManyZones-clause-part
+returns-in-TooManyZones-clause-part g c = rw c.in-TooManyZones.is c.tell_number.ensures.part
