@@ -13,8 +13,8 @@ use tre_zoneset::ZoneSet;
 /// The lengths and valuations of segments. On a valuation of 1 p is true, of 2 q, of 3 both.
 pub(crate) type Lengths<'a> = &'a [(u64, u64)];
 
-/// The lengths and valuations of segments, and the events at their begins. Of events of 1 a happens,
-/// of 2 b, of 3 both.
+/// The lengths and valuations of segments, and the events at their begins: of 1 a happens, of 2 b,
+/// of 3 both.
 pub(crate) type Eventful<'a> = &'a [(u64, u64, u64)];
 
 /// The pattern that the text spells.

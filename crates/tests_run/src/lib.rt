@@ -1,5 +1,5 @@
-//! Tests of whole runs: of tre_tool over memory, from words and bytes to bytes, of tre_words, and of
-//! tre_generate.
+//! Tests of whole runs: of tre_tool over memory, from words and bytes to bytes.
+//! Also of tre_words and tre_generate.
 //!
 //! The crate has nothing but tests, and uses what it tests by its public calls, so that those
 //! crates are proved without them. `memory` runs over devices that fail where a test wants it.

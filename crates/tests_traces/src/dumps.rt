@@ -254,8 +254,8 @@ fn declarations(rt: HostRuntime) -> Result<(), Fail> {
     Ok(())
 }
 
-// Behind a proposition `t.p`: more declarations in the scope t, what stands behind them, and what it
-// says for that proposition and the events `t.e` and `t.f`: with `@` and the events at its begin
+// Behind a proposition `t.p`: more declarations in the scope t, what stands behind them, and what
+// that says for the proposition and the events `t.e` and `t.f`: with `@` and the events at its begin
 // behind a segment, and behind all the events at the end.
 const EVENTS: [(&str, &str, &str); 26] = [
     // At a time, at 0, before any time, and at the last time.

@@ -266,7 +266,8 @@ HasFault terms past begun token UnknownName = (begun ≡ []) × LacksName terms.
 HasFault terms past begun token TimeBack =
     (begun ≡ []) × HasTime terms.scale past token (λ ticks. ticks < time_at past)
 HasFault terms past begun token TooLate =
-    (begun ≡ []) × HasTime terms.scale past token (λ ticks. (time_at past ≤ ticks) × (TIME_MAX < ticks))
+    (begun ≡ [])
+    × HasTime terms.scale past token (λ ticks. (time_at past ≤ ticks) × (TIME_MAX < ticks))
 HasFault terms past begun token _ = ⊥
 
 -- ---- more white space

@@ -58,7 +58,8 @@ keeps-command terms past token =
     (keeps-err past BadToken)
     (keeps-if past (is token (codes "$upscope") && length (scopes_at past) == 0) _ _
     (keeps-err past BadToken)
-    (keeps-if past (is token (codes "$enddefinitions") && not (list_all (are_declared past) terms.declared)) _
+    (keeps-if past
+    (is token (codes "$enddefinitions") && not (list_all (are_declared past) terms.declared)) _
     _ (keeps-err past UnknownName) (keeps-goes past past (section token []) refl)))
 
 keeps-later : (asked : Vocabulary) (past : List Statement) (ticks : ℕ) → time_at past < ticks

@@ -44,7 +44,7 @@ pub struct TokenReader {
 }
 
 impl TokenReader {
-    /// Nothing was read, and no name must be declared. A tick of the dump is 10^scale units of time.
+    /// Nothing was read, and no name must be declared. A tick of the dump is 10^scale units.
     pub fn new(alloc: Global, names: Names, events: Names, scale: u8) -> TokenReader
         requires { scale ≤ SCALE_MAX }
         ensures begins { ⟦<TokenReader as PartReader>⟧.holds result first_place }
