@@ -15,6 +15,6 @@ trace_with-requires g c =
     let bytes = c.args.bytes.now in
     let same = fed_whole (g.R.TraceReader.reading terms) bytes _ _ _ c.requires.fresh.nothing
     c.new-segments.ensures.items (c.in-Ok.ensures.adds [] c.requires.fresh.unfed)
-    (rw c.feed.ensures.same_terms at c.in-Ok-2.ensures.adds bytes
+    (rw c.feed.ensures.same_terms at c.in-Ok-finish.ensures.adds bytes
     (c.in-Ok.ensures.goes_on [] c.requires.fresh.unfed)) in
     subst IsTrace (sym same) (g.met.R.TraceReader.is_trace terms true bytes)

@@ -38,8 +38,8 @@ returns-in_err-left-in-Some-clause-stops g c =
     λ lets same. rw (p.1, p.2)
     (StopsAs-wanting _ _ c.requires.offline c.in_ok-whole.ensures.read.reads)
 
-pub returns-in_ok-left-in-Some-clause-found : goal.returns-in_ok-left-in-Some-clause-found
-returns-in_ok-left-in-Some-clause-found g c = λ lets same others.
+pub returns-clause-found : goal.returns-in_ok-left-in-Some-clause-found
+returns-clause-found g c = λ lets same others.
     IsFound-some c.args.job.now lets c.args.pattern.now c.in-Some.taken.pattern _ _ _ _ _ _ _ _ _
     _ _ (ap (option_map _) c.in-Some.is) same (rw c.in-Some.is at others)
     (c.in_ok-whole.ensures.keeps ∙ (c.is_some.ensures ∙ ap is_some c.in-Some.is))
