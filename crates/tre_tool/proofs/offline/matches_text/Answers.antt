@@ -39,5 +39,5 @@ returns-clause-found g c = λ lets same others.
     IsFoundFor-text _ _ c.in_ok-found.found.set c.in_ok-zones.zones.items c.in_ok-found.found.end
     (c.in_ok-found.ensures.found lets same others) c.in_ok-zones.ensures.set
     c.in_ok-zones.ensures.zones c.requires.offline _
-    (rw c.deref.ensures.value at c.in_ok-check_count.ensures)
+    (rw c.deref.ensures.value at c.in_ok-check_count.ensures.few)
     (rw c.deref-2.ensures.value at c.in_ok-text.ensures)
