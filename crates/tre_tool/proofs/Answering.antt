@@ -3,21 +3,24 @@ use Rattle.std.proofs.Common.{◌≡◌, ◌≢◌, ◌∙◌, ℕ, Bool, true, 
 use Rattle.std.specs.Prelude.{is_some, option_map}
 use Rattle.tre_generate.specs.Summary.{IsSummary}
 use Rattle.tre_num.specs.Defined.{Defined}
-use Rattle.tre_num.specs.Rows.{Terms as RowTerms}
+use Rattle.tre_num.specs.Rows.{Terms as RowTerms, rows_reading}
 use Rattle.tre_show.specs.PatternText.{expression_text}
 use Rattle.tre_syntax.specs.Pattern.{pattern_tree, names_of}
 use Rattle.tre_syntax.specs.declared.pattern.Pattern.{Pattern}
-use Rattle.tre_text.specs.TextReading.{Terms as TextTerms}
+use Rattle.tre_text.specs.TextReading.{Terms as TextTerms, text_reading}
 use Rattle.tre_trace.specs.Reading.{Reading, Vocabulary}
-use Rattle.tre_vcd.specs.VcdReading.{Terms as DumpTerms, requiring}
-use Rattle.tre_tool.specs.Answer.{EndsOver, request_for}
+use Rattle.tre_vcd.specs.VcdReading.{Terms as DumpTerms, requiring, vcd_reading}
+use Rattle.tre_tool.specs.Answer.{EndsOver, patterns_with, request_for}
 use Rattle.tre_tool.specs.Devices.{InputTold, OutputTold, AllReadsGood, NothingWritten}
+use Rattle.tre_tool.specs.Outcome.{reading_in}
 use Rattle.tre_tool.specs.Readings.{reading_of}
+use Rattle.tre_tool.specs.Request.{all_names}
 use Rattle.tre_tool.specs.Run.{IsAnswerIn}
 use Rattle.tre_tool.specs.Telling.{EndsTelling}
 use Rattle.tre_tool.specs.declared.status.Status.{Status}
 use Rattle.tre_tool.specs.declared.status.Status.TheVariants.{Memory}
 use Rattle.tre_words.specs.Job.{IsJob}
+use Rattle.tre_words.specs.declared.job.Format.TheVariants.{Text, Vcd, Csv}
 use Rattle.tre_words.specs.declared.job.Job.{Job}
 use Rattle.tre_words.specs.declared.job.Mode.{Mode}
 use Rattle.tre_words.specs.declared.job.Mode.TheVariants.{Offline, Online, Show, Generate}
@@ -57,6 +60,33 @@ pub declaring : {terms told : DumpTerms} {names other : Vocabulary} → terms �
     → requiring terms names ≡ requiring told other
 declaring {terms} {told} {names} {other} same own =
     ap (λ t. requiring t names) same ∙ ap (requiring told) own
+
+-- What a reader of the names of a pattern reads is what the request asks for.
+module _ (job : Job) (lets : List Defined) (pattern : Pattern) (taken : Option Pattern)
+    (read : Pattern) where
+  declared : List Vocabulary
+  declared = all_names (patterns_with pattern taken)
+
+  pub text_reads : (terms : TextTerms) → job.format ≡ Text
+      → terms ≡ text_terms_of (names_of read) job.scale
+      → text_reading terms ≡ reading_of (request_for job lets pattern taken) (names_of read)
+  unfolding declared
+  text_reads terms is same = ap text_reading same
+      ∙ ap (λ format. reading_in format job lets declared (names_of read)) (sym is)
+
+  pub dump_reads : (terms : DumpTerms) → job.format ≡ Vcd
+      → terms ≡ dump_terms_of (names_of read) (all_names (patterns_with pattern taken)) job.scale
+      → vcd_reading terms ≡ reading_of (request_for job lets pattern taken) (names_of read)
+  unfolding declared
+  dump_reads terms is same = ap vcd_reading same
+      ∙ ap (λ format. reading_in format job lets declared (names_of read)) (sym is)
+
+  pub rows_read : (terms : RowTerms) → job.format ≡ Csv
+      → terms ≡ rows_terms_of lets (names_of read) job.scale
+      → rows_reading terms ≡ reading_of (request_for job lets pattern taken) (names_of read)
+  unfolding declared
+  rows_read terms is same = ap rows_reading same
+      ∙ ap (λ format. reading_in format job lets declared (names_of read)) (sym is)
 
 -- ---- where nothing is taken away
 

@@ -1,8 +1,8 @@
-use Rattle.std.proofs.Common.{◌∙◌, refl, ap, sym}
+use Rattle.std.proofs.Common.{◌∙◌, ◌∷◌, [], false, None, Some, refl, ap}
 use Rattle.std.proofs.lemmas.Result.{err_from_is_err_and}
+use Rattle.tre_syntax.specs.Pattern.{names_of}
 use Rattle.tre_vcd.specs.VcdReading.{vcd_reading}
-use Rattle.tre_tool.specs.Outcome.{reading_in}
-use Rattle.tre_tool.proofs.Answering.{EndsOver-early}
+use Rattle.tre_tool.proofs.Answering.{EndsOver-early, dump_terms_of, dump_reads}
 use Rattle.tre_tool.proofs.Readings.{vcd_reading-nothing}
 use Rattle.tre_tool.proofs.answer.answer_dump.Goals as goal
 
@@ -15,7 +15,9 @@ returns-in_err-reader-in-None-clause-ends g c =
 pub answer_by-requires-clause-fresh : goal.answer_by-requires-clause-fresh
 answer_by-requires-clause-fresh g c = record {
   unfed = c.in_ok-reader-in-None.ensures.fresh;
-  nothing = vcd_reading-nothing _;
+  nothing = ap (λ t. (vcd_reading t false []).segments) c.in_ok-reader-in-None.ensures.terms
+      ∙ vcd_reading-nothing (dump_terms_of (names_of c.args.asked.pattern)
+      (names_of c.args.asked.pattern ∷ []) c.args.job.now.scale);
 }
 
 pub returns-in_err-answer_by-in-None-clause-ends : goal.returns-in_err-answer_by-in-None-clause-ends
@@ -23,26 +25,28 @@ returns-in_err-answer_by-in-None-clause-ends g c =
     let p = err_from_is_err_and c.from_residual-in_err-answer_by-in-None.result
     c.from_residual-in_err-answer_by-in-None.ensures.1 in
     rw (p.1, p.2, c.in-None.is) (c.in_err-answer_by-in-None.ensures.ends
-    c.args.asked.definitions.items (ap vcd_reading c.in_ok-reader-in-None.ensures.terms
-    ∙ ap (λ format. reading_in format c.args.job.now c.args.asked.definitions.items _ _)
-    (sym c.requires.format)) tt)
+    c.args.asked.definitions.items (dump_reads c.args.job.now c.args.asked.definitions.items
+    c.args.asked.pattern None c.args.asked.pattern _ c.requires.format
+    c.in_ok-reader-in-None.ensures.terms) tt)
 
 pub returns-in_ok-answer_by-in-None-clause-ends : goal.returns-in_ok-answer_by-in-None-clause-ends
 returns-in_ok-answer_by-in-None-clause-ends g c =
     rw c.in-None.is (c.in_ok-answer_by-in-None.ensures.ends
-    c.args.asked.definitions.items (ap vcd_reading c.in_ok-reader-in-None.ensures.terms
-    ∙ ap (λ format. reading_in format c.args.job.now c.args.asked.definitions.items _ _)
-    (sym c.requires.format)) tt)
+    c.args.asked.definitions.items (dump_reads c.args.job.now c.args.asked.definitions.items
+    c.args.asked.pattern None c.args.asked.pattern _ c.requires.format
+    c.in_ok-reader-in-None.ensures.terms) tt)
 
 pub returns-in_err-reader-in-Some-clause-ends : goal.returns-in_err-reader-in-Some-clause-ends
 returns-in_err-reader-in-Some-clause-ends g c =
-    let p = err_from_is_err_and c.from_residual-in_err-reader-in-Some.result c.from_residual-in_err-reader-in-Some.ensures.1 in
+    let p = err_from_is_err_and c.from_residual-in_err-reader-in-Some.result
+    c.from_residual-in_err-reader-in-Some.ensures.1 in
     rw (p.1, p.2) (EndsOver-early c.args.job.now _ _ _ _ _ c.requires.job c.requires.taken
     c.requires.closed refl (record { unwritten = refl; writes = refl }))
 
 pub returns-in_err-second-in-Some-clause-ends : goal.returns-in_err-second-in-Some-clause-ends
 returns-in_err-second-in-Some-clause-ends g c =
-    let p = err_from_is_err_and c.from_residual-in_err-second-in-Some.result c.from_residual-in_err-second-in-Some.ensures.1 in
+    let p = err_from_is_err_and c.from_residual-in_err-second-in-Some.result
+    c.from_residual-in_err-second-in-Some.ensures.1 in
     rw (p.1, p.2) (EndsOver-early c.args.job.now _ _ _ _ _ c.requires.job c.requires.taken
     c.requires.closed refl (record { unwritten = refl; writes = refl }))
 
@@ -55,14 +59,18 @@ answer_by-requires-in-Some-clause-taken g c = λ minus.
 pub answer_by-requires-in-Some-clause-fresh : goal.answer_by-requires-in-Some-clause-fresh
 answer_by-requires-in-Some-clause-fresh g c = record {
   unfed = c.in_ok-reader-in-Some.ensures.fresh;
-  nothing = vcd_reading-nothing _;
+  nothing = ap (λ t. (vcd_reading t false []).segments) c.in_ok-reader-in-Some.ensures.terms
+      ∙ vcd_reading-nothing (dump_terms_of (names_of c.args.asked.pattern)
+      (names_of c.args.asked.pattern ∷ names_of c.in-Some.other ∷ []) c.args.job.now.scale);
 }
 
 pub answer_by-requires-in-Some-clause-fresh_taken :
     goal.answer_by-requires-in-Some-clause-fresh_taken
 answer_by-requires-in-Some-clause-fresh_taken g c = record {
   unfed = c.in_ok-second-in-Some.ensures.fresh;
-  nothing = vcd_reading-nothing _;
+  nothing = ap (λ t. (vcd_reading t false []).segments) c.in_ok-second-in-Some.ensures.terms
+      ∙ vcd_reading-nothing (dump_terms_of (names_of c.in-Some.other)
+      (names_of c.args.asked.pattern ∷ names_of c.in-Some.other ∷ []) c.args.job.now.scale);
 }
 
 pub returns-in_err-answer_by-in-Some-clause-ends : goal.returns-in_err-answer_by-in-Some-clause-ends
@@ -70,17 +78,19 @@ returns-in_err-answer_by-in-Some-clause-ends g c =
     let p = err_from_is_err_and c.from_residual-in_err-answer_by-in-Some.result
     c.from_residual-in_err-answer_by-in-Some.ensures.1 in
     rw (p.1, p.2, c.in-Some.is) (c.in_err-answer_by-in-Some.ensures.ends
-    c.args.asked.definitions.items (ap vcd_reading c.in_ok-reader-in-Some.ensures.terms
-    ∙ ap (λ format. reading_in format c.args.job.now c.args.asked.definitions.items _ _)
-    (sym c.requires.format)) (ap vcd_reading c.in_ok-second-in-Some.ensures.terms
-    ∙ ap (λ format. reading_in format c.args.job.now c.args.asked.definitions.items _ _)
-    (sym c.requires.format)))
+    c.args.asked.definitions.items (dump_reads c.args.job.now c.args.asked.definitions.items
+    c.args.asked.pattern (Some c.in-Some.other) c.args.asked.pattern _ c.requires.format
+    c.in_ok-reader-in-Some.ensures.terms) (dump_reads c.args.job.now
+    c.args.asked.definitions.items
+    c.args.asked.pattern (Some c.in-Some.other) c.in-Some.other _ c.requires.format
+    c.in_ok-second-in-Some.ensures.terms))
 
 pub returns-in_ok-answer_by-in-Some-clause-ends : goal.returns-in_ok-answer_by-in-Some-clause-ends
 returns-in_ok-answer_by-in-Some-clause-ends g c =
     rw c.in-Some.is (c.in_ok-answer_by-in-Some.ensures.ends
-    c.args.asked.definitions.items (ap vcd_reading c.in_ok-reader-in-Some.ensures.terms
-    ∙ ap (λ format. reading_in format c.args.job.now c.args.asked.definitions.items _ _)
-    (sym c.requires.format)) (ap vcd_reading c.in_ok-second-in-Some.ensures.terms
-    ∙ ap (λ format. reading_in format c.args.job.now c.args.asked.definitions.items _ _)
-    (sym c.requires.format)))
+    c.args.asked.definitions.items (dump_reads c.args.job.now c.args.asked.definitions.items
+    c.args.asked.pattern (Some c.in-Some.other) c.args.asked.pattern _ c.requires.format
+    c.in_ok-reader-in-Some.ensures.terms) (dump_reads c.args.job.now
+    c.args.asked.definitions.items
+    c.args.asked.pattern (Some c.in-Some.other) c.in-Some.other _ c.requires.format
+    c.in_ok-second-in-Some.ensures.terms))
