@@ -1,4 +1,4 @@
-use Rattle.std.proofs.Common.{◌∙◌, ap}
+use Rattle.std.proofs.Common.{◌∙◌}
 use Rattle.tre_syntax.specs.Pattern.{names_of}
 use Rattle.tre_tool.proofs.Answering.{declaring}
 use Rattle.tre_tool.proofs.Readings.{vocabulary_same}

@@ -1,4 +1,3 @@
-use Rattle.std.proofs.Common.{refl}
 use Rattle.std.proofs.lemmas.Result.{err_from_is_err_and}
 use Rattle.tre_tool.proofs.Answering.{normal_limit}
 use Rattle.tre_tool.proofs.Found.{IsFoundFor-text, StopsAs-over, StopsAs-wanting}

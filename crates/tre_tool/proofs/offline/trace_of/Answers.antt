@@ -1,6 +1,5 @@
-use Rattle.std.proofs.Common.{◌≡◌, true, [], sym, subst, arith}
+use Rattle.std.proofs.Common.{true, [], sym, subst, arith}
 use Rattle.tre_trace.specs.Trace.{IsTrace}
-use Rattle.tre_tool.proofs.Feeding.{same_reading}
 use Rattle.tre_tool.proofs.Readings.{fed_whole}
 use Rattle.tre_tool.proofs.offline.trace_of.Goals as goal
 

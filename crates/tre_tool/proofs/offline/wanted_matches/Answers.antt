@@ -38,7 +38,7 @@ returns-in_err-left-in-Some-clause-stops g c =
     λ lets same. rw (p.1, p.2)
     (StopsAs-wanting _ _ c.requires.offline c.in_ok-whole.ensures.read.reads)
 
-pub returns-clause-found : goal.returns-in_ok-left-in-Some-clause-found
+pub returns-clause-found : goal.returns-clause-found
 returns-clause-found g c = λ lets same others.
     IsFound-some c.args.job.now lets c.args.pattern.now c.in-Some.taken.pattern _ _ _ _ _ _ _ _ _
     _ _ (ap (option_map _) c.in-Some.is) same (rw c.in-Some.is at others)
