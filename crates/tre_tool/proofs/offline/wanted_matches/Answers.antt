@@ -1,7 +1,7 @@
 use Rattle.std.proofs.Common.{◌∙◌, ap}
 use Rattle.std.proofs.lemmas.Result.{err_from_is_err_and}
 use Rattle.std.specs.Prelude.{is_some, option_map}
-use Rattle.tre_tool.proofs.Found.{IsFound-none, IsFound-some, StopsAs-first, StopsAs-wanting}
+use Rattle.tre_tool.proofs.Found.{IsFound-none, IsFound-some, at_some, StopsAs-first, StopsAs-wanting}
 use Rattle.tre_tool.proofs.offline.wanted_matches.Goals as goal
 
 pub returns-in_err-whole-clause-stops : goal.returns-in_err-whole-clause-stops
@@ -41,7 +41,8 @@ returns-in_err-left-in-Some-clause-stops g c =
 pub returns-clause-found : goal.returns-clause-found
 returns-clause-found g c = λ lets same others.
     IsFound-some c.args.job.now lets c.args.pattern.now c.in-Some.taken.pattern _ _ _ _ _ _ _ _ _
-    _ _ (ap (option_map _) c.in-Some.is) same (rw c.in-Some.is at others)
+    _ _ (ap (option_map _) c.in-Some.is) same
+    (at_some c.args.taken c.in-Some.taken c.in-Some.is others)
     (c.in_ok-whole.ensures.keeps ∙ (c.is_some.ensures ∙ ap is_some c.in-Some.is))
     (rw c.into_bytes-bytes.ensures at c.deref.ensures.value) c.in_ok-whole.ensures.read
     c.in_ok-set.ensures
