@@ -215,5 +215,6 @@ IsFound-some job lets pattern other taken input reading second kept trace set ot
     (subst (λ r. AreMatchesOver other r bytes others) own' over) differs ends)
 
 -- what is so of each of an option is so of the one that it is
-pub at_some : {X : Type 0} {P : X → Type 0} (o : Option X) (x : X) → o ≡ Some x → IfSome o P → P x
-at_some {X} {P} o x is each = subst (λ (one : Option X). IfSome one P) is each
+pub at_some : {X : Type 0} (o : Option X) (x : X) → o ≡ Some x → (P : X → Type 0) → IfSome o P
+    → P x
+at_some {X} o x is P each = subst (λ (one : Option X). IfSome one P) is each

@@ -42,7 +42,7 @@ pub returns-clause-found : goal.returns-clause-found
 returns-clause-found g c = λ lets same others.
     IsFound-some c.args.job.now lets c.args.pattern.now c.in-Some.taken.pattern _ _ _ _ _ _ _ _ _
     _ _ (ap (option_map _) c.in-Some.is) same
-    (at_some c.args.taken c.in-Some.taken c.in-Some.is others)
+    (at_some c.args.taken c.in-Some.taken c.in-Some.is _ others)
     (c.in_ok-whole.ensures.keeps ∙ (c.is_some.ensures ∙ ap is_some c.in-Some.is))
     (rw c.into_bytes-bytes.ensures at c.deref.ensures.value) c.in_ok-whole.ensures.read
     c.in_ok-set.ensures
