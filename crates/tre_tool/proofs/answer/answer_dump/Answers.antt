@@ -9,7 +9,8 @@ use Rattle.tre_tool.proofs.answer.answer_dump.Goals as goal
 pub returns-in_err-reader-in-None-clause-ends : goal.returns-in_err-reader-in-None-clause-ends
 returns-in_err-reader-in-None-clause-ends g c =
     let p = err_from_is_err_and c.from_residual.result c.from_residual.ensures.1 in
-    rw (p.1, p.2) (EndsOver-early c.args.job.now _ _ _ _ _ c.requires.job c.requires.taken
+    rw (p.1, p.2) (EndsOver-early c.args.job.now c.args.asked.definitions.items
+    c.args.asked.pattern c.args.asked.taken _ _ c.requires.job c.requires.taken
     c.requires.closed refl (record { unwritten = refl; writes = refl }))
 
 pub answer_by-requires-clause-fresh : goal.answer_by-requires-clause-fresh
@@ -40,14 +41,16 @@ pub returns-in_err-reader-in-Some-clause-ends : goal.returns-in_err-reader-in-So
 returns-in_err-reader-in-Some-clause-ends g c =
     let p = err_from_is_err_and c.from_residual-in_err-reader-in-Some.result
     c.from_residual-in_err-reader-in-Some.ensures.1 in
-    rw (p.1, p.2) (EndsOver-early c.args.job.now _ _ _ _ _ c.requires.job c.requires.taken
+    rw (p.1, p.2) (EndsOver-early c.args.job.now c.args.asked.definitions.items
+    c.args.asked.pattern c.args.asked.taken _ _ c.requires.job c.requires.taken
     c.requires.closed refl (record { unwritten = refl; writes = refl }))
 
 pub returns-in_err-second-in-Some-clause-ends : goal.returns-in_err-second-in-Some-clause-ends
 returns-in_err-second-in-Some-clause-ends g c =
     let p = err_from_is_err_and c.from_residual-in_err-second-in-Some.result
     c.from_residual-in_err-second-in-Some.ensures.1 in
-    rw (p.1, p.2) (EndsOver-early c.args.job.now _ _ _ _ _ c.requires.job c.requires.taken
+    rw (p.1, p.2) (EndsOver-early c.args.job.now c.args.asked.definitions.items
+    c.args.asked.pattern c.args.asked.taken _ _ c.requires.job c.requires.taken
     c.requires.closed refl (record { unwritten = refl; writes = refl }))
 
 pub answer_by-requires-in-Some-clause-taken : goal.answer_by-requires-in-Some-clause-taken

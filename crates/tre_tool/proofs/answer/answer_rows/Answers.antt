@@ -9,14 +9,16 @@ use Rattle.tre_tool.proofs.answer.answer_rows.Goals as goal
 pub returns-in_err-names-clause-ends : goal.returns-in_err-names-clause-ends
 returns-in_err-names-clause-ends g c =
     let p = err_from_is_err_and c.from_residual.result c.from_residual.ensures.1 in
-    rw (p.1, p.2) (EndsOver-early c.args.job.now _ _ _ _ _ c.requires.job c.requires.taken
+    rw (p.1, p.2) (EndsOver-early c.args.job.now c.args.asked.definitions.items
+    c.args.asked.pattern c.args.asked.taken _ _ c.requires.job c.requires.taken
     c.requires.closed refl (record { unwritten = refl; writes = refl }))
 
 pub returns-in_err-events-clause-ends : goal.returns-in_err-events-clause-ends
 returns-in_err-events-clause-ends g c =
     let p = err_from_is_err_and c.from_residual-in_err-events.result
     c.from_residual-in_err-events.ensures.1 in
-    rw (p.1, p.2) (EndsOver-early c.args.job.now _ _ _ _ _ c.requires.job c.requires.taken
+    rw (p.1, p.2) (EndsOver-early c.args.job.now c.args.asked.definitions.items
+    c.args.asked.pattern c.args.asked.taken _ _ c.requires.job c.requires.taken
     c.requires.closed refl (record { unwritten = refl; writes = refl }))
 
 pub answer_by-requires-clause-fresh : goal.answer_by-requires-clause-fresh
