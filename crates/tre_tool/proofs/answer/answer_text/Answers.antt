@@ -30,8 +30,8 @@ returns-in_err-answer_by-in-None-clause-ends g c =
     c.args.asked.pattern None c.args.asked.pattern _ c.requires.format c.in_ok-reader.ensures.terms)
     tt)
 
-pub returns-in_ok-answer_by-in-None-clause-ends : goal.returns-in_ok-answer_by-in-None-clause-ends
-returns-in_ok-answer_by-in-None-clause-ends g c =
+pub returns-in-None-clause-ends : goal.returns-in-None-clause-ends
+returns-in-None-clause-ends g c =
     rw c.in-None.is (c.in_ok-answer_by-in-None.ensures.ends
     c.args.asked.definitions.items (text_reads c.args.job.now c.args.asked.definitions.items
     c.args.asked.pattern None c.args.asked.pattern _ c.requires.format c.in_ok-reader.ensures.terms)
@@ -79,8 +79,8 @@ returns-in_err-answer_by-in-Some-clause-ends g c =
     c.args.asked.pattern (Some c.in-Some.other) c.in-Some.other _ c.requires.format
     c.in_ok-second-in-Some.ensures.terms))
 
-pub returns-in_ok-answer_by-in-Some-clause-ends : goal.returns-in_ok-answer_by-in-Some-clause-ends
-returns-in_ok-answer_by-in-Some-clause-ends g c =
+pub returns-clause-ends : goal.returns-clause-ends
+returns-clause-ends g c =
     rw c.in-Some.is (c.in_ok-answer_by-in-Some.ensures.ends
     c.args.asked.definitions.items (text_reads c.args.job.now c.args.asked.definitions.items
     c.args.asked.pattern (Some c.in-Some.other) c.args.asked.pattern _ c.requires.format
