@@ -10,6 +10,7 @@ use Rattle.tre_num.specs.declared.let_fault.LetFault.{LetFault}
 use Rattle.tre_num.proofs.OneReading.{same-definitions, refused-or, one-fault}
 use Rattle.tre_parse.specs.Outcome.{IsOutcome, spelt, refused}
 use Rattle.tre_parse.specs.declared.fault.ParseFault.{ParseFault}
+use Rattle.tre_parse.specs.declared.fault.ParseFault.TheVariants.{TooLong, BadByte, Number, TooDeep, Syntax, EmptyInterval, TooManyNames, TooLarge, Memory as ParseMemory}
 use Rattle.tre_parse.proofs.Outcomes.{outcome_once}
 use Rattle.tre_syntax.specs.Pattern.{pattern_tree, names_of}
 use Rattle.tre_syntax.specs.PatternTree.{PatternTree}
@@ -24,7 +25,7 @@ use Rattle.tre_tool.specs.Outcome.{Outcome, completes, refuses, exceeds}
 use Rattle.tre_tool.specs.Readings.{AreTraces, common, reading_for, outcome_for}
 use Rattle.tre_tool.specs.Request.{Sought, Request, Spell, texts_with, ArePatterns, AreDefinedBy, AreDefinitions, IsRefusedText, IsRefusedMinus, AreRefusedDefinitions, IsRefusalOf, IsRefusalIn, AsksFor, Asks, IsRefused, GiveNone, AsksForNothing}
 use Rattle.tre_tool.specs.Run.{ReadsInput, IsAnswerIn, EndsAs, EndsDone, EndsAtInput, EndsTooMany, EndsReadFault, EndsWriteFault, IsStatusFor, IsUnlessMemory, IsComplete, IsLineTold}
-use Rattle.tre_tool.specs.Status.{words_status}
+use Rattle.tre_tool.specs.Status.{words_status, parse_status, minus_status}
 use Rattle.tre_words.specs.declared.job.Job.{Job}
 use Rattle.tre_words.specs.declared.job.Mode.{Mode}
 use Rattle.tre_words.specs.declared.job.Mode.TheVariants.{Offline, Online, Show, Generate}
@@ -100,6 +101,86 @@ Spell-read job pattern read same is = (
   subst (λ t. IsOutcome job.scale t (spelt (pattern_tree pattern) (names_of pattern))) same is,
   tt,
 )
+
+-- the two texts of a job, from what `parse` answers to the second
+pub Spell-taken : (job : Job) (pattern taken : Pattern) (text read : List ℕ)
+    → job.minus ≡ Some text → read ≡ text
+    → IsOutcome job.scale read (spelt (pattern_tree taken) (names_of taken))
+    → Spell job.scale (job.expr ∷ []) (sought_by pattern ∷ [])
+    → Spell job.scale (texts_with job.expr job.minus) (patterns_with pattern (Some taken))
+Spell-taken job pattern taken text read given same is first =
+    rw given (
+      first.0,
+      first.1,
+      (
+        refl,
+        subst (λ t. IsOutcome job.scale t (spelt (pattern_tree taken) (names_of taken))) same is,
+        tt,
+      ),
+    )
+
+-- a text is refused, from what `parse` answers to it
+refused_by : (scale : ℕ) (text read : List ℕ) (fault : ParseFault) → read ≡ text
+    → (fault ≡ ParseMemory) ⊎ IsOutcome scale read (refused fault) → fault ≢ ParseMemory
+    → IsRefusedText scale text fault
+refused_by scale text read fault same either never = record {
+  refuses = subst (λ t. IsOutcome scale t (refused fault)) same
+      (⊎_elim (λ memory. absurd (never memory)) (λ told. told) either);
+  never_memory = never;
+}
+
+-- memory was wanting, or the fault of the first text is told
+parse_faults : (fault : ParseFault)
+    → (fault ≡ ParseMemory) ⊎ ((fault ≢ ParseMemory) × (parse_status fault ≡ Expression fault))
+parse_faults ParseMemory = inl refl
+parse_faults TooLong = inr (λ e. cc, refl)
+parse_faults (BadByte at) = inr (λ e. cc, refl)
+parse_faults (Number at) = inr (λ e. cc, refl)
+parse_faults (TooDeep at) = inr (λ e. cc, refl)
+parse_faults (Syntax at) = inr (λ e. cc, refl)
+parse_faults (EmptyInterval at) = inr (λ e. cc, refl)
+parse_faults (TooManyNames at) = inr (λ e. cc, refl)
+parse_faults (TooLarge nodes) = inr (λ e. cc, refl)
+
+-- the refusal of the first text
+pub IsRefusalOf-first : (job : Job) (read : List ℕ) (fault : ParseFault) → read ≡ job.expr
+    → (fault ≡ ParseMemory) ⊎ IsOutcome job.scale read (refused fault)
+    → parse_status fault ≢ Memory → IsRefusalOf job (parse_status fault)
+IsRefusalOf-first job read fault same either never = elim (parse_faults fault) [
+  | inl memory ↦ absurd (never (rw memory refl))
+  | inr other ↦ rw other.1 (refused_by job.scale job.expr read fault same either other.0)
+]
+
+-- memory was wanting, or the fault of the second text is told
+minus_faults : (fault : ParseFault)
+    → (fault ≡ ParseMemory) ⊎ ((fault ≢ ParseMemory) × (minus_status fault ≡ Minus fault))
+minus_faults ParseMemory = inl refl
+minus_faults TooLong = inr (λ e. cc, refl)
+minus_faults (BadByte at) = inr (λ e. cc, refl)
+minus_faults (Number at) = inr (λ e. cc, refl)
+minus_faults (TooDeep at) = inr (λ e. cc, refl)
+minus_faults (Syntax at) = inr (λ e. cc, refl)
+minus_faults (EmptyInterval at) = inr (λ e. cc, refl)
+minus_faults (TooManyNames at) = inr (λ e. cc, refl)
+minus_faults (TooLarge nodes) = inr (λ e. cc, refl)
+
+-- the refusal of the second text, from what `parse` answers to it
+pub IsRefusalOf-taken : (job : Job) (text read : List ℕ) (fault : ParseFault)
+    → job.minus ≡ Some text → read ≡ text
+    → (fault ≡ ParseMemory) ⊎ IsOutcome job.scale read (refused fault)
+    → minus_status fault ≢ Memory → (patterns : List Sought)
+    → Spell job.scale (job.expr ∷ []) patterns → IsRefusalOf job (minus_status fault)
+IsRefusalOf-taken job text read fault given same either never patterns first =
+    elim (minus_faults fault) [
+      | inl memory ↦ absurd (never (rw memory refl))
+      | inr other ↦ rw other.1 (record {
+        patterns = patterns;
+        spelt = first;
+        text = text;
+        given = given;
+        refuses = refused_by job.scale text read fault same either other.0;
+      })
+    ]
 
 -- a text that spells a pattern isn't refused
 text_or_refused : (scale : ℕ) (text : List ℕ) (fault : ParseFault) (pattern : Sought)

@@ -1,7 +1,7 @@
 use Rattle.std.proofs.Common.{[], ◌∷◌}
 use Rattle.std.proofs.lemmas.Result.{err_from_is_err_and}
 use Rattle.tre_tool.specs.Answer.{sought_by, patterns_with}
-use Rattle.tre_tool.proofs.Promise.{Spell-read}
+use Rattle.tre_tool.proofs.Promise.{IsRefusalOf-first, Spell-read}
 use Rattle.tre_tool.proofs.asked.asked_by_texts.Goals as goal
 
 pub returns-in_err-taken-clause-refuses : goal.returns-in_err-taken-clause-refuses
@@ -23,3 +23,16 @@ returns-in_err-definitions-clause-refuses c =
     (c.in_ok-taken.ensures.spells pattern
     (Spell-read c.args.job.now pattern c.text.result.now c.text.ensures
     c.in_ok-pattern.ensures.outcome)))
+
+pub returns-in_err-pattern-clause-refuses : goal.returns-in_err-pattern-clause-refuses
+returns-in_err-pattern-clause-refuses c =
+    let p = err_from_is_err_and c.from_residual.result c.from_residual.ensures.1 in
+    rw (p.1, p.2) (λ never. IsRefusalOf-first c.args.job.now c.text.result.now
+    c.in_err-pattern.field-0.0 c.text.ensures c.in_err-pattern.ensures.outcome never)
+
+pub returns-clause-spells : goal.returns-clause-spells
+returns-clause-spells c =
+    let pattern = c.in_ok-pattern.pattern in
+    c.in_ok-taken.ensures.spells pattern
+    (Spell-read c.args.job.now pattern c.text.result.now c.text.ensures
+    c.in_ok-pattern.ensures.outcome)
