@@ -1,9 +1,13 @@
 // Tests of tre_vcd.
+ghost use Rattle.std.specs.Prelude.{IfOk, OnOk};
+ghost use Rattle.tre_vcd.specs.VcdReading.{first_place};
+
 use crate::reading::{feed, read};
 use std::alloc::Global;
 use std::test::Fail;
 use tests_support::names_of;
 use tre_decimal::SCALE_MAX;
+use tre_parts::PartReader;
 use tre_trace::TraceKind::{LineTooLong, Spent};
 use tre_trace::{TraceFault, TraceKind, TraceReader};
 use tre_vcd::{TokenReader, VcdReader};
@@ -491,6 +495,26 @@ const BESIDE: [(&str, &str, &str, &str, &str); 16] = [
     ("p", "f", "q", "e", "UnknownName 64"),
 ];
 
+// What reads these names and events, where none must be declared yet.
+fn tokens_for(alloc: Global, own: (&str, &str)) -> Result<TokenReader, Fail>
+    ensures { IfOk result (λ tokens. ⟦<TokenReader as PartReader>⟧.holds tokens first_place) }
+{
+    let names = names_of(alloc, own.0)?;
+    let events = names_of(alloc, own.1)?;
+    Ok(TokenReader::new(alloc, names, events, 0))
+}
+
+// Asks that the dump declare these too.
+fn must_declare(alloc: Global, tokens: &mut TokenReader, others: (&str, &str)) -> Result<(), Fail>
+    ensures { ⟦<TokenReader as PartReader>⟧.holds tokens.old first_place →
+        OnOk result (⟦<TokenReader as PartReader>⟧.holds tokens.new first_place) }
+{
+    let names = names_of(alloc, others.0)?;
+    let events = names_of(alloc, others.1)?;
+    tokens.must_declare(&names, &events)?;
+    Ok(())
+}
+
 // Reads these names and events. The dump must declare the first two lists, and then the others.
 fn says_beside(
     alloc: Global,
@@ -498,17 +522,24 @@ fn says_beside(
     first: (&str, &str),
     second: (&str, &str),
 ) -> Result<String, Fail> {
-    let names = names_of(alloc, own.0)?;
-    let events = names_of(alloc, own.1)?;
-    let mut tokens = TokenReader::new(alloc, names, events, 0);
-    let names = names_of(alloc, first.0)?;
-    let events = names_of(alloc, first.1)?;
-    tokens.must_declare(&names, &events)?;
-    let names = names_of(alloc, second.0)?;
-    let events = names_of(alloc, second.1)?;
-    tokens.must_declare(&names, &events)?;
+    let mut tokens = tokens_for(alloc, own)?;
+    must_declare(alloc, &mut tokens, first)?;
+    must_declare(alloc, &mut tokens, second)?;
     let mut reader = VcdReader::new(alloc, tokens);
     Ok(read(alloc, &mut reader, DECLARING.as_bytes(), 5)?)
+}
+
+// Whether the dump says this, whichever of the two lists comes first.
+fn is_said_beside(
+    alloc: Global,
+    own: (&str, &str),
+    other: (&str, &str),
+    want: &str,
+) -> Result<bool, Fail> {
+    if says_beside(alloc, own, own, other)?.as_str() != want {
+        return Ok(false);
+    }
+    Ok(says_beside(alloc, own, other, own)?.as_str() == want)
 }
 
 #[test]
@@ -516,10 +547,8 @@ fn names_beside(rt: HostRuntime) -> Result<(), Fail> {
     for (names, events, others, other_events, want) in &BESIDE {
         let own = (*names, *events);
         let other = (*others, *other_events);
-        let said = says_beside(rt.alloc(), own, own, other)?;
-        let turned = says_beside(rt.alloc(), own, other, own)?;
         assert!(rt;
-            said.as_str() == *want && turned.as_str() == *want,
+            is_said_beside(rt.alloc(), own, other, *want)?,
             "{names} {events} {others} {other_events}"
         );
     }
