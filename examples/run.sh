@@ -82,6 +82,9 @@ status_of() {
         'montre: read fault') echo 6 ;;
         'montre: write fault') echo 7 ;;
         'montre: out of memory') echo 8 ;;
+        'montre: too many zones '*) echo 9 ;;
+        'montre: minus expression: '*) echo 10 ;;
+        'montre: definitions: '*) echo 11 ;;
         *) echo 0 ;;
     esac
 }
