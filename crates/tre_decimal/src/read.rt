@@ -42,9 +42,19 @@ pub fn read_units(text: &[u8], scale: u8) -> Option<u64>
     requires { scale ≤ SCALE_MAX }
     ensures { result ≡ option_map (λ units. min units (2 ^ 64 - 1)) (units_of scale text.now) }
 {
-    if let Some(units) = read_digits(text, scale) {
-        return Some(units);
+    match read_digits(text, scale) {
+        Some(units) => Some(units),
+        None => read_with_point(text, scale),
     }
+}
+
+// The same of a text that isn't digits alone; kept apart, since most numbers are.
+#[inline(never)]
+fn read_with_point(text: &[u8], scale: u8) -> Option<u64>
+    requires digits { is_numeral text.now ≡ false }
+    requires scale { scale ≤ SCALE_MAX }
+    ensures { result ≡ option_map (λ units. min units (2 ^ 64 - 1)) (units_of scale text.now) }
+{
     let place = first_point(text);
     if place == text.len() {
         return None;

@@ -11,7 +11,7 @@ use tre_zone::Zone;
 
 impl ZoneSet {
     /// `of_zones`, with one zone for zones that touch and are one together. Of zones that all end
-    /// at one time no fewer could hold the same pairs.
+    /// at one time it is one for each stretch of starts.
     pub fn of_touching(alloc: Global, zones: Vec<Zone>) -> Result<ZoneSet, AllocError>
         ensures { IfOk result (λ set. HoldExactly set (SetHolds zones.items)) }
     {

@@ -227,7 +227,7 @@ impl ZoneSet {
         Ok(lasting)
     }
 
-    /// The pairs that end at `time`, in as few zones as may be.
+    /// The pairs that end at `time`; of zones that touch there, each stretch is one zone.
     pub fn ending_at(&self, time: u64) -> Result<ZoneSet, AllocError>
         requires { time ≤ TIME_MAX }
         ensures { IfOk result (λ set. HoldExactly set (Both (SetHolds self.now) (EndsAt time))) }
