@@ -43,8 +43,10 @@ fn read_names(names: &Names, bits: u64, fields: &[u8]) -> Option<u64>
         if !ends_word(rest, end) {
             return None;
         }
-        valuation = with_name(names, valuation, &rest[..end]);
+        let name = &rest[..end];
+        // First of all, so that the end of the name need not be kept while it is looked for.
         rest = behind_word(rest, end);
+        valuation = with_name(names, valuation, name);
     }
     Some(valuation)
 }

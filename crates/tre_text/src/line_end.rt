@@ -31,13 +31,12 @@ pub fn line_end_in(bytes: &[u8]) -> Option<usize>
     ensures none { IfNone result (IsInside is_line_end bytes.now) }
     ensures first { IfSome result (EndsAt is_line_end bytes.now) }
 {
-    if bytes.len() < NEAR {
-        return memchr(b'\n', bytes);
+    if bytes.len() >= NEAR {
+        if let Some(place) = near_line_end(bytes, NEAR) {
+            return Some(place);
+        }
     }
-    match near_line_end(bytes, NEAR) {
-        Some(place) => Some(place),
-        None => memchr(b'\n', bytes),
-    }
+    memchr(b'\n', bytes)
 }
 
 // The same, where it is one of so many first bytes.
