@@ -1,7 +1,7 @@
 -- Readings in which the same is seen are alike.
-use Rattle.std.proofs.Common.{◌≡◌, List, [], ◌∷◌, map, refl, sym, ap, ◌∙◌}
+use Rattle.std.proofs.Common.{◌≡◌, List, [], ◌∷◌, map, refl, sym, ap, ◌∙◌, arith}
 use Rattle.tre_parts.specs.Alike.{lengths_of, AreAlike}
-use Rattle.tre_parts.specs.Shared.{seen_segment, seen_reading}
+use Rattle.tre_parts.specs.Shared.{AreAmong, AreDistinct, seen_segment, seen_reading}
 use Rattle.tre_trace.specs.Reading.{Reading, Vocabulary}
 use Rattle.tre_trace.specs.declared.segment.Segment.{Segment}
 
@@ -29,3 +29,20 @@ both-alike asked some all seen one other is also =
       fault = sym first.fault ∙ second.fault;
       lengths = sym first.lengths ∙ second.lengths;
     }
+
+-- ---- no name is among any
+
+abbrev pub no_names : Vocabulary
+no_names = record { names = []; events = [] }
+
+pub none-among : (all : Vocabulary) → AreAmong no_names all
+none-among all = record {
+  names = λ k d within. absurd (omega (arith, within));
+  events = λ k d within. absurd (omega (arith, within));
+}
+
+pub none-distinct : AreDistinct no_names
+none-distinct = record {
+  names = λ i j d before within. absurd (omega (arith, within));
+  events = λ i j d before within. absurd (omega (arith, within));
+}

@@ -1,13 +1,17 @@
 -- Formats of which one is seen in another have readings of which one is seen in the other.
-use Rattle.std.proofs.Common.{◌≡◌, ℕ, zero, suc, ◌+◌, ◌*◌, ◌<◌, nat_le, Bool, true, false, List, [], ◌∷◌, ◌++◌, length, get_or, map, Option, None, Some, Result, Ok, Err, refl, sym, ap, ◌∙◌, arith, if◌then◌else◌}
+use Rattle.std.proofs.Common.{◌≡◌, ℕ, zero, suc, ◌+◌, ◌*◌, ◌/◌, ◌%◌, ◌<◌, ◌≤◌, nat_le, Bool, true, false, List, [], ◌∷◌, ◌++◌, length, get_or, map, Option, None, Some, Result, Ok, Err, refl, sym, ap, ◌∙◌, arith, if◌then◌else◌}
 use Rattle.std.specs.Int.{bit_at}
-use Rattle.std.specs.List.{slice_split}
+use Rattle.std.specs.List.{slice_split, Contains}
+use Rattle.std.specs.Str.{bytes_eq}
 use Rattle.std.proofs.lemmas.List.{map-append}
+use Rattle.std.proofs.lemmas.List.Quantifiers.{position-Some}
+use Rattle.std.proofs.lemmas.Slice.Eq.{bytes_eq-Decides}
 use Rattle.std.proofs.lemmas.Nat.Bits.{bit_at-zero, bit_at_lowest, bit_at-suc, bit_at-lt}
 use Rattle.tre_parts.specs.Format.{Format, Step, nothing, faulty, behind, ending, read_on, after_part, part_says, last_part, parts_reading, reading_from, reading_of, first_spot}
 use Rattle.tre_parts.specs.Shared.{bit_there, seen, seen_segment, seen_reading, seen_said, IsSeenFormat}
 use Rattle.tre_parts.specs.declared.TheConstants.{PART_MAX}
 use Rattle.tre_parts.specs.declared.spot.Spot.{Spot}
+use Rattle.tre_state.proofs.Places.{none_len, len_fails}
 use Rattle.tre_state.specs.Names.{place_of}
 use Rattle.tre_trace.specs.Reading.{Reading, Vocabulary}
 use Rattle.tre_trace.specs.declared.segment.Segment.{Segment}
@@ -15,31 +19,65 @@ use Rattle.tre_trace.specs.declared.fault.TraceFault.{TraceFault}
 use Rattle.tre_trace.specs.declared.fault.TraceKind.{TraceKind}
 use Rattle.tre_trace.specs.declared.fault.TraceKind.TheVariants.{LineTooLong}
 
+-- ---- places of names
+
+-- a name among some has a place
+pub not_among : (names : List (List ℕ)) (name : List ℕ) → Contains names name
+    → place_of names name ≡ None → ⊥
+not_among names name among none =
+    let fails = len_fails (bytes_eq name) names (none_len (bytes_eq name) names none) among.0 name
+    among.1 in
+    let passes = (bytes_eq-Decides name (get_or names among.0 name)).1 (sym among.2) in
+    cc (fails, passes)
+
+-- where the name stands
+pub name_at : (names : List (List ℕ)) (name : List ℕ) (i : ℕ) (other : List ℕ)
+    → place_of names name ≡ Some i → (i < length names) × (name ≡ get_or names i other)
+name_at names name i other is =
+    let at = position-Some (bytes_eq name) names i other is in
+    (at.0, (bytes_eq-Decides name (get_or names i other)).0 at.1)
+
 -- ---- bits
 
-few : (bits : ℕ) (place : Option ℕ) → bit_there bits place < 2
+pub few : (bits : ℕ) (place : Option ℕ) → bit_there bits place < 2
 few bits None = omega arith
 few bits (Some place) = bit_at-lt bits place
 
-low_bit : (bit rest : ℕ) → bit < 2 → (bit + 2 * rest) % 2 ≡ bit
+pub low_bit : (bit rest : ℕ) → bit < 2 → (bit + 2 * rest) % 2 ≡ bit
 low_bit bit rest is = omega arith
 
-other_bits : (bit rest : ℕ) → bit < 2 → (bit + 2 * rest) / 2 ≡ rest
+pub other_bits : (bit rest : ℕ) → bit < 2 → (bit + 2 * rest) / 2 ≡ rest
 other_bits bit rest is = omega arith
 
--- bit i of what is seen
+module _ (name : List ℕ) (asked all : List (List ℕ)) (bits : ℕ) where
+  -- the first bit of what is seen
+  pub seen-first : bit_at (seen (name ∷ asked) all bits) 0 ≡ bit_there bits (place_of all name)
+  seen-first =
+      bit_at_lowest (seen (name ∷ asked) all bits)
+      ∙ low_bit (bit_there bits (place_of all name)) (seen asked all bits)
+      (few bits (place_of all name))
+
+  -- and the others
+  pub seen-later : (i : ℕ) → bit_at (seen (name ∷ asked) all bits) (suc i)
+      ≡ bit_at (seen asked all bits) i
+  seen-later i =
+      bit_at-suc (seen (name ∷ asked) all bits) i
+      ∙ ap (λ rest. bit_at rest i) (other_bits (bit_there bits (place_of all name))
+      (seen asked all bits) (few bits (place_of all name)))
+
 pub seen-bit : (asked all : List (List ℕ)) (bits i : ℕ) → i < length asked
     → bit_at (seen asked all bits) i ≡ bit_there bits (place_of all (get_or asked i []))
 seen-bit [] all bits i within = absurd (omega (arith, within))
-seen-bit (name ∷ asked) all bits zero within =
-    bit_at_lowest (seen (name ∷ asked) all bits)
-    ∙ low_bit (bit_there bits (place_of all name)) (seen asked all bits)
-    (few bits (place_of all name))
+seen-bit (name ∷ asked) all bits zero within = seen-first name asked all bits
 seen-bit (name ∷ asked) all bits (suc i) within =
-    bit_at-suc (seen (name ∷ asked) all bits) i
-    ∙ ap (λ rest. bit_at rest i) (other_bits (bit_there bits (place_of all name))
-    (seen asked all bits) (few bits (place_of all name)))
-    ∙ seen-bit asked all bits i (omega (arith, within))
+    seen-later name asked all bits i ∙ seen-bit asked all bits i (omega (arith, within))
+
+pub seen-above : (asked all : List (List ℕ)) (bits i : ℕ) → length asked ≤ i
+    → bit_at (seen asked all bits) i ≡ 0
+seen-above [] all bits i past = bit_at-zero i
+seen-above (name ∷ asked) all bits zero past = absurd (omega (arith, past))
+seen-above (name ∷ asked) all bits (suc i) past =
+    seen-later name asked all bits i ∙ seen-above asked all bits i (omega (arith, past))
 
 none_there : (place : Option ℕ) → bit_there 0 place ≡ 0
 none_there None = refl
