@@ -1,5 +1,5 @@
 -- What a text says of names is what it says of more, seen.
-use Rattle.std.proofs.Common.{◌≡◌, ◌≢◌, ℕ, suc, ◌+◌, ◌*◌, ◌/◌, ◌%◌, ◌^◌, ◌<◌, nat_le, nat_lt, ◌==◌, Bool, true, false, cond, max, List, [], ◌∷◌, length, get_or, Option, None, Some, Result, Ok, Err, All, AllPairs, Contains, refl, sym, ap, ap₂, ◌∙◌, subst, arith, if◌then◌else◌}
+use Rattle.std.proofs.Common.{◌≡◌, ◌≢◌, ℕ, suc, ◌+◌, ◌*◌, ◌/◌, ◌%◌, ◌^◌, ◌<◌, nat_le, nat_lt, ◌==◌, Bool, true, false, cond, List, [], ◌∷◌, length, get_or, Option, None, Some, Ok, Err, All, AllPairs, Contains, refl, sym, ap, ap₂, ◌∙◌, subst, arith, if◌then◌else◌}
 use Rattle.std.proofs.Math.Nat.{pow-suc}
 use Rattle.std.proofs.lemmas.Bool.Decides.{nat_tests}
 use Rattle.std.proofs.lemmas.List.Elements.{All-tail}
@@ -11,15 +11,13 @@ use Rattle.std.specs.Str.{bytes_eq}
 use Rattle.tre_decimal.specs.Decimal.{units_of}
 use Rattle.tre_pairs.specs.declared.TheConstants.{TIME_MAX}
 use Rattle.tre_parts.proofs.Shared.{not_among, name_at, few, low_bit, other_bits, seen-none, seen-readings}
-use Rattle.tre_parts.specs.Format.{Step}
 use Rattle.tre_parts.specs.Shared.{AreAmong, AreDistinct, bit_there, seen, seen_said, seen_reading, IsSeenFormat}
 use Rattle.tre_state.specs.Names.{place_of}
 use Rattle.tre_text.proofs.Valuations.{set_same, set_other}
-use Rattle.tre_text.specs.TextReading.{Terms, begins_comment, begins_events, spells_word, with_bit, with_name, valuation_of, valuation_after, known_at, no_segment, one_segment, entry_says, events_say, duration_says, fields_say, fields_of, line_says, text_format, text_reading}
+use Rattle.tre_text.specs.TextReading.{Terms, begins_comment, begins_events, spells_word, with_bit, with_name, valuation_of, valuation_after, known_at, no_segment, one_segment, events_say, duration_says, fields_say, fields_of, line_says, text_format, text_reading}
 use Rattle.tre_text.specs.declared.known.Known.{Known}
 use Rattle.tre_trace.specs.Reading.{Vocabulary}
 use Rattle.tre_trace.specs.Segments.{segment_with}
-use Rattle.tre_trace.specs.declared.fault.TraceKind.{TraceKind}
 use Rattle.tre_trace.specs.declared.fault.TraceKind.TheVariants.{Zero, TooLate, BadName}
 
 -- ---- the place of a name behind another
@@ -102,31 +100,27 @@ module _ (all : List (List ℕ)) (bits : ℕ) (field : List ℕ) where
   named-seen [] among distinct = refl
   named-seen (name ∷ asked) among distinct = by (bytes_eq field name) refl
     where
-      abbrev bit : ℕ
-      bit = bit_there bits (place_of all name)
-      abbrev rest : ℕ
-      rest = seen asked all bits
-      abbrev now : ℕ
-      now = with_name all bits field
       by : (same : Bool) → bytes_eq field name ≡ same
           → with_name (name ∷ asked) (seen (name ∷ asked) all bits) field
-          ≡ seen (name ∷ asked) all now
+          ≡ seen (name ∷ asked) all (with_name all bits field)
       by true e =
           let same : field ≡ name = (bytes_eq-Decides field name).0 e in
-          let own : bit_there now (place_of all name) ≡ 1 =
-          ap (λ (n : List ℕ). bit_there now (place_of all n)) (sym same)
+          let own : bit_there (with_name all bits field) (place_of all name) ≡ 1 =
+          ap (λ (n : List ℕ). bit_there (with_name all bits field) (place_of all n)) (sym same)
           ∙ own_bit (subst (Contains all) (sym same) (among 0 name (omega arith))) in
-          let stay : seen asked all now ≡ rest =
+          let stay : seen asked all (with_name all bits field) ≡ seen asked all bits =
           other_bits_stay asked (λ k d within.
           subst (λ (n : List ℕ). n ≢ get_or asked k d) (sym same)
           (distinct 0 (suc k) d (omega arith) (omega (arith, within)))) in
-          ap (with_bit (bit + 2 * rest)) (place-first asked name field e)
-          ∙ set_low bit rest (few bits (place_of all name))
+          ap (with_bit (seen (name ∷ asked) all bits)) (place-first asked name field e)
+          ∙ set_low (bit_there bits (place_of all name)) (seen asked all bits)
+          (few bits (place_of all name))
           ∙ sym (ap₂ (λ bit rest. bit + 2 * rest) own stay)
       by false e =
           let apart : field ≢ name = λ same. cc (e, (bytes_eq-Decides field name).1 same) in
-          ap (with_bit (bit + 2 * rest)) (place-later asked name field e)
-          ∙ with_bit-later bit rest (place_of asked field) (few bits (place_of all name))
+          ap (with_bit (seen (name ∷ asked) all bits)) (place-later asked name field e)
+          ∙ with_bit-later (bit_there bits (place_of all name)) (seen asked all bits)
+          (place_of asked field) (few bits (place_of all name))
           ∙ ap₂ (λ bit rest. bit + 2 * rest) (sym (other_bit name apart))
           (named-seen asked (All-tail (Contains all) name asked among)
           (λ i j d before within. distinct (suc i) (suc j) d (omega (arith, before))

@@ -1,5 +1,5 @@
 -- What a dump says of names is what it says of more, seen.
-use Rattle.std.proofs.Common.{◌≡◌, ℕ, zero, suc, ◌+◌, ◌*◌, ◌^◌, ◌<◌, nat_lt, ◌==◌, Bool, true, false, List, [], ◌∷◌, length, get_or, map, Option, None, Some, Result, Ok, Err, All, Contains, refl, sym, ap, ap₂, ◌∙◌, subst, arith, if◌then◌else◌}
+use Rattle.std.proofs.Common.{◌≡◌, ℕ, zero, suc, ◌*◌, ◌^◌, ◌<◌, nat_lt, ◌==◌, Bool, true, false, List, [], ◌∷◌, length, get_or, map, Option, None, Some, Result, Ok, Err, All, Contains, refl, sym, ap, ap₂, ◌∙◌, subst, arith, if◌then◌else◌}
 use Rattle.std.proofs.lemmas.List.Elements.{All-tail}
 use Rattle.std.specs.Str.Parse.{digits_value}
 use Rattle.tre_decimal.specs.Decimal.{is_numeral}
@@ -15,7 +15,7 @@ use Rattle.tre_trace.specs.declared.fault.TraceKind.{TraceKind}
 use Rattle.tre_trace.specs.declared.fault.TraceKind.TheVariants.{BadToken, TimeBack, TooLate}
 use Rattle.tre_vcd.proofs.Deciding.{passes_at, split-bits, bit_in}
 use Rattle.tre_vcd.specs.Times.{IsSilent, silent-command, silent-open, silent-value}
-use Rattle.tre_vcd.specs.VcdReading.{Terms, Statement, time, Open, nothing, section, comment, vector, number, Place, time_at, is_defined, is_whole, is_signal, is_event, value_at, happened_at, identifier_of, passes, mask_from, valuation_at, events_at, segment_until, goes_to, time_says, ticks_say, value_says, command_says, first_says, token_at, token_says, vcd_format, vcd_reading}
+use Rattle.tre_vcd.specs.VcdReading.{Terms, Statement, time, Open, nothing, section, comment, vector, number, Place, time_at, is_defined, is_whole, is_signal, is_event, value_at, happened_at, identifier_of, passes, mask_from, valuation_at, events_at, segment_until, goes_to, ticks_say, value_says, command_says, first_says, token_at, token_says, vcd_format, vcd_reading}
 
 -- ---- masks
 
