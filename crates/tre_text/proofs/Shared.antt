@@ -1,5 +1,5 @@
 -- What a text says of names is what it says of more, seen.
-use Rattle.std.proofs.Common.{◌≡◌, ◌≢◌, ℕ, suc, ◌+◌, ◌*◌, ◌/◌, ◌%◌, ◌^◌, ◌<◌, nat_le, nat_lt, ◌==◌, Bool, true, false, cond, List, [], ◌∷◌, length, get_or, Option, None, Some, Ok, Err, All, AllPairs, Contains, refl, sym, ap, ap₂, ◌∙◌, subst, arith, if◌then◌else◌}
+use Rattle.std.proofs.Common.{◌≡◌, ◌≢◌, ℕ, suc, ◌+◌, ◌*◌, ◌/◌, ◌%◌, ◌^◌, ◌<◌, nat_le, nat_lt, ◌==◌, Bool, true, false, cond, not, List, [], ◌∷◌, length, get_or, Option, None, Some, Ok, Err, All, AllPairs, Contains, refl, sym, ap, ap₂, ◌∙◌, subst, arith, if◌then◌else◌}
 use Rattle.std.proofs.Math.Nat.{pow-suc}
 use Rattle.std.proofs.lemmas.Bool.Decides.{nat_tests}
 use Rattle.std.proofs.lemmas.List.Elements.{All-tail}
@@ -22,23 +22,39 @@ use Rattle.tre_trace.specs.declared.fault.TraceKind.TheVariants.{Zero, TooLate, 
 
 -- ---- the place of a name behind another
 
-place-first : (names : List (List ℕ)) (name field : List ℕ) → bytes_eq field name ≡ true
-    → place_of (name ∷ names) field ≡ Some 0
-place-first names name field same = rw (same) refl
+abbrev placed : Bool → ℕ → ℕ → Option ℕ
+placed same n m =
+    cond (nat_lt (cond (not same) (1 + n) 0) (suc m)) (Some (cond (not same) (1 + n) 0)) None
 
-place-step : (n m : ℕ) (less : Bool) → nat_lt n m ≡ less
-    → cond (nat_lt (suc n) (suc m)) (Some (suc n)) None ≡ option_map suc (cond less (Some n) None)
-place-step n m true is =
-    let more : nat_lt (suc n) (suc m) ≡ true = grind (arith, nat_tests) in
-    ap (λ (b : Bool). cond b (Some (suc n)) None) more
-place-step n m false is =
-    let no_more : nat_lt (suc n) (suc m) ≡ false = grind (arith, nat_tests) in
-    ap (λ (b : Bool). cond b (Some (suc n)) None) no_more
+placed-first : (n m : ℕ) → placed true n m ≡ Some 0
+placed-first n m =
+    let some : nat_lt 0 (suc m) ≡ true = grind (arith, nat_tests) in
+    ap (λ (b : Bool). cond b (Some 0) None) some
 
-place-later : (names : List (List ℕ)) (name field : List ℕ) → bytes_eq field name ≡ false
-    → place_of (name ∷ names) field ≡ option_map suc (place_of names field)
-place-later names name field apart =
-    rw (apart) (place-step (position_or_len (bytes_eq field) names) (length names) _ refl)
+placed-later : (n m : ℕ) (less : Bool) → nat_lt n m ≡ less
+    → placed false n m ≡ option_map suc (cond less (Some n) None)
+placed-later n m true is =
+    let one : 1 + n ≡ suc n = omega arith in
+    let more : nat_lt (1 + n) (suc m) ≡ true = grind (arith, nat_tests) in
+    ap (λ (b : Bool). cond b (Some (1 + n)) None) more ∙ ap Some one
+placed-later n m false is =
+    let no_more : nat_lt (1 + n) (suc m) ≡ false = grind (arith, nat_tests) in
+    ap (λ (b : Bool). cond b (Some (1 + n)) None) no_more
+
+module _ (names : List (List ℕ)) (name field : List ℕ) where
+  abbrev here : Bool → Option ℕ
+  here same = placed same (position_or_len (bytes_eq field) names) (length names)
+
+  place-first : bytes_eq field name ≡ true → place_of (name ∷ names) field ≡ Some 0
+  place-first same =
+      ap here same ∙ placed-first (position_or_len (bytes_eq field) names) (length names)
+
+  place-later : bytes_eq field name ≡ false
+      → place_of (name ∷ names) field ≡ option_map suc (place_of names field)
+  place-later apart =
+      ap here apart
+      ∙ placed-later (position_or_len (bytes_eq field) names) (length names)
+      (nat_lt (position_or_len (bytes_eq field) names) (length names)) refl
 
 -- ---- a bit that is set besides
 
@@ -98,12 +114,18 @@ module _ (all : List (List ℕ)) (bits : ℕ) (field : List ℕ) where
       → AllPairs (λ name other. name ≢ other) asked
       → with_name asked (seen asked all bits) field ≡ seen asked all (with_name all bits field)
   named-seen [] among distinct = refl
-  named-seen (name ∷ asked) among distinct = by (bytes_eq field name) refl
+  named-seen (name ∷ asked) among distinct =
+      by (bytes_eq field name) refl
+      (named-seen asked (All-tail (Contains all) name asked among)
+      (λ i j d before within. distinct (suc i) (suc j) d (omega (arith, before))
+      (omega (arith, within))))
     where
       by : (same : Bool) → bytes_eq field name ≡ same
+          → with_name asked (seen asked all bits) field
+          ≡ seen asked all (with_name all bits field)
           → with_name (name ∷ asked) (seen (name ∷ asked) all bits) field
           ≡ seen (name ∷ asked) all (with_name all bits field)
-      by true e =
+      by true e rest =
           let same : field ≡ name = (bytes_eq-Decides field name).0 e in
           let own : bit_there (with_name all bits field) (place_of all name) ≡ 1 =
           ap (λ (n : List ℕ). bit_there (with_name all bits field) (place_of all n)) (sym same)
@@ -116,15 +138,12 @@ module _ (all : List (List ℕ)) (bits : ℕ) (field : List ℕ) where
           ∙ set_low (bit_there bits (place_of all name)) (seen asked all bits)
           (few bits (place_of all name))
           ∙ sym (ap₂ (λ bit rest. bit + 2 * rest) own stay)
-      by false e =
+      by false e rest =
           let apart : field ≢ name = λ same. cc (e, (bytes_eq-Decides field name).1 same) in
           ap (with_bit (seen (name ∷ asked) all bits)) (place-later asked name field e)
           ∙ with_bit-later (bit_there bits (place_of all name)) (seen asked all bits)
           (place_of asked field) (few bits (place_of all name))
-          ∙ ap₂ (λ bit rest. bit + 2 * rest) (sym (other_bit name apart))
-          (named-seen asked (All-tail (Contains all) name asked among)
-          (λ i j d before within. distinct (suc i) (suc j) d (omega (arith, before))
-          (omega (arith, within))))
+          ∙ ap₂ (λ bit more. bit + 2 * more) (sym (other_bit name apart)) rest
 
 -- ---- lines
 
