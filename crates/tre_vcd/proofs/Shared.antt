@@ -1,5 +1,5 @@
 -- What a dump says of names is what it says of more, seen.
-use Rattle.std.proofs.Common.{◌≡◌, ℕ, zero, suc, ◌*◌, ◌^◌, ◌<◌, nat_lt, ◌==◌, Bool, true, false, List, [], ◌∷◌, length, get_or, map, Option, None, Some, Result, Ok, Err, All, Contains, refl, sym, ap, ap₂, ◌∙◌, subst, arith, if◌then◌else◌}
+use Rattle.std.proofs.Common.{◌≡◌, ℕ, zero, suc, ◌-◌, ◌*◌, ◌^◌, ◌<◌, nat_lt, ◌==◌, Bool, true, false, List, [], ◌∷◌, length, get_or, map, Option, None, Some, Result, Ok, Err, All, Contains, refl, sym, ap, ap₂, ◌∙◌, subst, arith, if◌then◌else◌}
 use Rattle.std.proofs.lemmas.List.Elements.{All-tail}
 use Rattle.std.specs.Str.Parse.{digits_value}
 use Rattle.tre_decimal.specs.Decimal.{is_numeral}
