@@ -63,4 +63,5 @@ pub record IsSeenFormat {State : Type 0} (asked all : Vocabulary) (see : State �
   pub says : (state : State) (part : List ℕ) →
       one.says (see state) part ≡ seen_said asked all see (other.says state part)
   pub at_end : (state : State) → one.at_end (see state) ≡ other.at_end state
-  pub last : (state : State) → one.last (see state) ≡ seen asked.events all.events (other.last state)
+  pub last : (state : State) →
+      one.last (see state) ≡ seen asked.events all.events (other.last state)

@@ -81,8 +81,8 @@ pub fn alike()
 {}
 
 /// One reading for many names tells what each reading for some of them does: at one scale, what a
-/// text says of names is what it says of more, seen through the bits of those that are asked. A name
-/// that is asked twice would have no bit at its second place.
+/// text says of names is what it says of more, seen through the bits of those that are asked. (A
+/// name that is asked twice would have no bit at its second place.)
 pub fn shared()
     ensures { (one all : Terms) (closed : Bool) (bytes : List ℕ) → one.scale ≡ all.scale →
         AreAmong one.names all.names → AreDistinct one.names →

@@ -41,15 +41,16 @@ silent-scope past [] = silent-err past BadToken
 silent-scope past (kind ∷ []) = silent-err past BadToken
 silent-scope past (kind ∷ name ∷ tokens) = silent-goes past (scope name ∷ past) nothing refl
 
-silent-section : (past : List Statement) (command : List ℕ) (tokens : List (List ℕ)) → IsSilent past (section_says past command tokens)
+silent-section : (past : List Statement) (command : List ℕ) (tokens : List (List ℕ))
+    → IsSilent past (section_says past command tokens)
 silent-section past command tokens =
     silent-if past (is command (codes "$scope")) _ _ (silent-scope past tokens)
     (silent-if past (is command (codes "$upscope")) _ _ (silent-goes past (upscope ∷ past) nothing
     refl)
     (silent-if past (is command (codes "$var")) _ _ (silent-if past (nat_lt (length tokens) 4) _ _
     (silent-err past BadToken) (silent-goes past (var tokens ∷ past) nothing refl))
-    (silent-if past (is command (codes "$enddefinitions")) _ _ (silent-goes past (definitions ∷ past)
-    nothing refl) (silent-goes past past nothing refl))))
+    (silent-if past (is command (codes "$enddefinitions")) _ _
+    (silent-goes past (definitions ∷ past) nothing refl) (silent-goes past past nothing refl))))
 
 pub silent-command : (terms : Terms) (past : List Statement) (token : List ℕ) → IsSilent past
     (command_says terms past token)
