@@ -8,7 +8,7 @@ use Rattle.std.proofs.lemmas.List.Quantifiers.{position-Some}
 use Rattle.std.proofs.lemmas.Slice.Eq.{bytes_eq-Decides}
 use Rattle.std.proofs.lemmas.Nat.Bits.{bit_at-zero, bit_at_lowest, bit_at-suc, bit_at-lt}
 use Rattle.tre_parts.specs.Format.{Format, Step, nothing, faulty, behind, ending, read_on, after_part, part_says, last_part, parts_reading, reading_from, reading_of, first_spot}
-use Rattle.tre_parts.specs.Shared.{bit_there, seen, seen_segment, seen_reading, seen_said, IsSeenFormat}
+use Rattle.tre_parts.specs.Shared.{bit_there, seen, seen_segment, seen_reading}
 use Rattle.tre_parts.specs.declared.TheConstants.{PART_MAX}
 use Rattle.tre_parts.specs.declared.spot.Spot.{Spot}
 use Rattle.tre_state.proofs.Places.{none_len, len_fails}
@@ -87,6 +87,31 @@ pub seen-none : (asked all : List (List ℕ)) → seen asked all 0 ≡ 0
 seen-none [] all = refl
 seen-none (name ∷ asked) all =
     omega (arith, none_there (place_of all name), seen-none asked all)
+
+-- ---- formats
+
+-- What a part says of the asked names, where it says this of all. What is known behind it is seen
+-- too.
+abbrev pub seen_said : {State : Type 0} → Vocabulary → Vocabulary → (State → State)
+    → Result (Step State) TraceKind → Result (Step State) TraceKind
+seen_said asked all see (Err kind) = Err kind
+seen_said asked all see (Ok step) = Ok (record {
+  segments = map (seen_segment asked all) step.segments;
+  state = see step.state;
+})
+
+-- One format reads the asked names and another all: what the one knows and says is what the other
+-- does, seen.
+pub record IsSeenFormat {State : Type 0} (asked all : Vocabulary) (see : State → State)
+    (one other : Format State) : Type 0 where
+  pub separates : one.separates ≡ other.separates
+  pub place : one.place ≡ other.place
+  pub start : one.start ≡ see other.start
+  pub says : (state : State) (part : List ℕ) →
+      one.says (see state) part ≡ seen_said asked all see (other.says state part)
+  pub at_end : (state : State) → one.at_end (see state) ≡ other.at_end state
+  pub last : (state : State) →
+      one.last (see state) ≡ seen asked.events all.events (other.last state)
 
 -- ---- readings
 

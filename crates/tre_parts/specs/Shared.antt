@@ -1,12 +1,10 @@
--- What a reading for many names says of some of them, and formats whose readings share one.
-use Rattle.std.specs.Prelude.{◌≡◌, ◌≢◌, ℕ, ◌+◌, ◌*◌, List, [], ◌∷◌, map, Option, None, Some, Result, Ok, Err, All, AllPairs, Contains}
+-- What a reading for many names says of some of them.
+use Rattle.std.specs.Prelude.{◌≢◌, ℕ, ◌+◌, ◌*◌, List, [], ◌∷◌, map, Option, None, Some, All, AllPairs, Contains}
 use Rattle.std.specs.Int.{bit_at}
-use Rattle.tre_parts.specs.Format.{Format, Step}
 use Rattle.tre_state.specs.Names.{place_of}
 use Rattle.tre_trace.specs.Reading.{Reading, Vocabulary}
 use Rattle.tre_trace.specs.Segments.{segment_with}
 use Rattle.tre_trace.specs.declared.segment.Segment.{Segment}
-use Rattle.tre_trace.specs.declared.fault.TraceKind.{TraceKind}
 
 -- Each of the asked names is among all, as a proposition or as an event.
 pub record AreAmong (asked all : Vocabulary) : Type 0 where
@@ -42,26 +40,3 @@ seen_reading asked all reading = record {
   last = seen asked.events all.events reading.last;
   fault = reading.fault;
 }
-
--- What a part says of the asked names, where it says this of all. What is known behind it is seen
--- too.
-abbrev pub seen_said : {State : Type 0} → Vocabulary → Vocabulary → (State → State)
-    → Result (Step State) TraceKind → Result (Step State) TraceKind
-seen_said asked all see (Err kind) = Err kind
-seen_said asked all see (Ok step) = Ok (record {
-  segments = map (seen_segment asked all) step.segments;
-  state = see step.state;
-})
-
--- One format reads the asked names and another all: what the one knows and says is what the other
--- does, seen.
-pub record IsSeenFormat {State : Type 0} (asked all : Vocabulary) (see : State → State)
-    (one other : Format State) : Type 0 where
-  pub separates : one.separates ≡ other.separates
-  pub place : one.place ≡ other.place
-  pub start : one.start ≡ see other.start
-  pub says : (state : State) (part : List ℕ) →
-      one.says (see state) part ≡ seen_said asked all see (other.says state part)
-  pub at_end : (state : State) → one.at_end (see state) ≡ other.at_end state
-  pub last : (state : State) →
-      one.last (see state) ≡ seen asked.events all.events (other.last state)

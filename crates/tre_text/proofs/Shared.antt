@@ -10,8 +10,8 @@ use Rattle.std.specs.Option.{option_map}
 use Rattle.std.specs.Str.{bytes_eq}
 use Rattle.tre_decimal.specs.Decimal.{units_of}
 use Rattle.tre_pairs.specs.declared.TheConstants.{TIME_MAX}
-use Rattle.tre_parts.proofs.Shared.{not_among, name_at, few, low_bit, other_bits, seen-none, seen-readings}
-use Rattle.tre_parts.specs.Shared.{AreAmong, AreDistinct, bit_there, seen, seen_said, seen_reading, IsSeenFormat}
+use Rattle.tre_parts.proofs.Shared.{not_among, name_at, few, low_bit, other_bits, seen-none, seen_said, IsSeenFormat, seen-readings}
+use Rattle.tre_parts.specs.Shared.{AreAmong, AreDistinct, bit_there, seen, seen_reading}
 use Rattle.tre_state.specs.Names.{place_of}
 use Rattle.tre_text.proofs.Valuations.{set_same, set_other}
 use Rattle.tre_text.specs.TextReading.{Terms, begins_comment, begins_events, spells_word, with_bit, with_name, valuation_of, valuation_after, known_at, no_segment, one_segment, events_say, duration_says, fields_say, fields_of, line_says, text_format, text_reading}

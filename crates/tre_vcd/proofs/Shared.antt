@@ -4,9 +4,9 @@ use Rattle.std.proofs.lemmas.List.Elements.{All-tail}
 use Rattle.std.specs.Str.Parse.{digits_value}
 use Rattle.tre_decimal.specs.Decimal.{is_numeral}
 use Rattle.tre_pairs.specs.declared.TheConstants.{TIME_MAX}
-use Rattle.tre_parts.proofs.Shared.{not_among, name_at, seen-readings}
+use Rattle.tre_parts.proofs.Shared.{not_among, name_at, seen_said, IsSeenFormat, seen-readings}
 use Rattle.tre_parts.specs.Format.{Step}
-use Rattle.tre_parts.specs.Shared.{AreAmong, bit_there, seen, seen_segment, seen_said, seen_reading, IsSeenFormat}
+use Rattle.tre_parts.specs.Shared.{AreAmong, bit_there, seen, seen_segment, seen_reading}
 use Rattle.tre_state.specs.Names.{place_of}
 use Rattle.tre_trace.specs.Reading.{Vocabulary}
 use Rattle.tre_trace.specs.Segments.{segment_with}
