@@ -8,8 +8,8 @@ returns-clause-column c =
     c.extend_from_slice.new.self.items c.args.self.now.waiting c.first_waiting-next.result
     c.args.self.now.time c.first_waiting-next.ensures.rising c.first_waiting-next.ensures.count
     c.in_ok-extend_from_slice.ensures.items c.requires.swept in
-    let one = c.in_ok-there.ensures.narrowed in
-    let many = c.in_ok-behind.ensures.narrowed in
+    let one = c.in_ok-profile.ensures.narrowed in
+    let many = c.in_ok-profile-2.ensures.narrowed in
     let later = c.next_begin.ensures.later in
     let rising = many.many later in
     let from = many.from in
@@ -19,12 +19,12 @@ returns-clause-column c =
           c.first_waiting-next.result c.args.self.now.time c.next_begin.result
           c.profile.new.times.from c.profile.new.times.until one.from (one.single refl) swept
           later c.next_begin.ensures.first
-          (rw c.deref.ensures.value at c.in_ok-there.ensures.profile);
+          (rw c.deref.ensures.value at c.in_ok-profile.ensures.profile);
       behind = IsProfile-behind c.args.zones.now c.extend_from_slice.new.self.items
           c.close_zones.new.zones.items _ c.first_waiting-next.result c.args.self.now.time
           c.next_begin.result c.profile-2.new.times.from c.profile-2.new.times.until many.from
           rising many.until swept c.close_zones.ensures c.next_begin.ensures.first
-          (rw c.deref-2.ensures.value at c.in_ok-behind.ensures.profile);
+          (rw c.deref-2.ensures.value at c.in_ok-profile-2.ensures.profile);
     }
 
 pub returns-clause-swept : goal.returns-clause-swept
@@ -33,7 +33,7 @@ returns-clause-swept c =
     c.extend_from_slice.new.self.items c.args.self.now.waiting c.first_waiting-next.result
     c.args.self.now.time c.first_waiting-next.ensures.rising c.first_waiting-next.ensures.count
     c.in_ok-extend_from_slice.ensures.items c.requires.swept in
-    let many = c.in_ok-behind.ensures.narrowed in
+    let many = c.in_ok-profile-2.ensures.narrowed in
     let rising = many.many c.next_begin.ensures.later in
     let from = many.from in
     IsSwept-behind c.args.zones.now c.extend_from_slice.new.self.items
