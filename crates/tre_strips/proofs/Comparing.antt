@@ -1,5 +1,5 @@
 -- Whether an end stands before another over some times, seen at one of them; and cut times.
-use Rattle.std.proofs.Common.{◌≡◌, ◌≢◌, ℕ, ◌+◌, ◌*◌, ◌<◌, ◌≤◌, ◌↔◌, Bool, true, false, IsTrue, refl, sym, ap, arith, inl, inr, ⊎_elim, true≢false, mul-le-mul_right}
+use Rattle.std.proofs.Common.{◌≡◌, ◌≢◌, ℕ, ◌+◌, ◌*◌, ◌<◌, ◌≤◌, ◌↔◌, Bool, true, false, cond, IsTrue, refl, sym, ap, arith, inl, inr, ⊎_elim, true≢false, mul-le-mul_right}
 use Rattle.std.proofs.lemmas.Bool.{cases_eq, cases_lt}
 use Rattle.tre_strips.specs.Bar.{place_of}
 use Rattle.tre_strips.specs.Times.{IsTime, Narrows, sample_of, IsSettled, Compares, IsLater, IsEarlier}
@@ -138,3 +138,13 @@ pub sample_many : (times : Times) → times.from < times.until
     → sample_of times ≡ 2 * times.from + 1
 unfolding sample_of
 sample_many times less = omega arith
+
+-- The sample stands at the first of the times, or half a tick behind it.
+pub sample_near : (times : Times)
+    → (2 * times.from ≤ sample_of times) × (sample_of times ≤ 2 * times.from + 1)
+unfolding sample_of
+sample_near times = (omega arith, omega arith)
+
+pub flag_small : (flag : Bool) → cond flag 1 0 ≤ 1
+flag_small true = omega arith
+flag_small false = omega arith

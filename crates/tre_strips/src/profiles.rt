@@ -16,6 +16,7 @@ use tre_zone::{Bound, Zone};
 
 /// Writes the profile of what the zones hold over the times, which are cut to those over which it is
 /// one list.
+#[inline(always)]
 pub(crate) fn profile(
     alloc: Global,
     zones: &[Zone],

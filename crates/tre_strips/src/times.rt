@@ -24,30 +24,64 @@ impl Times {
     }
 
     /// Whether the one end stands before the other over the first of the times, or half a tick later
-    /// where they are many. Whole ticks decide, or else the quarters behind them.
+    /// where they are many.
+    #[inline(always)]
     pub(crate) fn stands_before(&self, one: &BarEnd, other: &BarEnd) -> bool
         ensures { IsTrue result ↔ (place_of one.now (sample_of self.now) 2
             < place_of other.now (sample_of self.now) 2) }
     {
-        let part = part_of(one);
-        let other_part = part_of(other);
         if one.moves == other.moves {
-            return is_in_order(one.ticks, part, other.ticks, other_part);
+            return is_in_order(one.ticks, part_of(one), other.ticks, part_of(other));
         }
         if one.moves {
-            match other.ticks.checked_sub(one.ticks) {
-                Some(meeting) => is_in_order(self.from, part + self.late(), meeting, other_part),
-                None => false,
-            }
+            self.is_moving_first(one, other)
         } else {
-            match one.ticks.checked_sub(other.ticks) {
-                Some(meeting) => is_in_order(meeting, part, self.from, other_part + self.late()),
-                None => true,
-            }
+            self.is_fixed_first(one, other)
         }
     }
 
+    // Whether a moving end stands before a fixed one there. Mostly the time where they meet tells,
+    // and no quarters of a tick are looked at.
+    #[inline(always)]
+    fn is_moving_first(&self, moving: &BarEnd, fixed: &BarEnd) -> bool
+        ensures { IsTrue result
+            ↔ (4 * moving.now.ticks + (2 * sample_of self.now + cond moving.now.after 1 0)
+            < 4 * fixed.now.ticks + cond fixed.now.after 1 0) }
+    {
+        let meeting = fixed.ticks.saturating_sub(moving.ticks);
+        if self.from < meeting {
+            return true;
+        }
+        if meeting < self.from {
+            return false;
+        }
+        if fixed.ticks < moving.ticks {
+            return false;
+        }
+        is_less(part_of(moving) + self.late(), part_of(fixed))
+    }
+
+    // Whether a fixed end stands before a moving one there.
+    #[inline(always)]
+    fn is_fixed_first(&self, fixed: &BarEnd, moving: &BarEnd) -> bool
+        ensures { IsTrue result ↔ (4 * fixed.now.ticks + cond fixed.now.after 1 0
+            < 4 * moving.now.ticks + (2 * sample_of self.now + cond moving.now.after 1 0)) }
+    {
+        let meeting = fixed.ticks.saturating_sub(moving.ticks);
+        if meeting < self.from {
+            return true;
+        }
+        if self.from < meeting {
+            return false;
+        }
+        if fixed.ticks < moving.ticks {
+            return true;
+        }
+        is_less(part_of(fixed), part_of(moving) + self.late())
+    }
+
     /// Whether the two ends stand alike there.
+    #[inline(always)]
     pub(crate) fn stand_together(&self, one: &BarEnd, other: &BarEnd) -> bool
         ensures { IsTrue result ↔ (place_of one.now (sample_of self.now) 2
             ≡ place_of other.now (sample_of self.now) 2) }
@@ -120,6 +154,12 @@ fn part_of(end: &BarEnd) -> u64
     ensures { result ≡ cond end.now.after 1 0 }
 {
     if end.after { 1 } else { 0 }
+}
+
+fn is_less(one: u64, other: u64) -> bool
+    ensures { IsTrue result ↔ (one < other) }
+{
+    one < other
 }
 
 // Whether so many ticks and quarters are less than others.

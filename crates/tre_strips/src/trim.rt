@@ -65,6 +65,7 @@ fn rest_of(zone: &Zone, before: &Option<Zone>) -> Option<Zone>
 fn rest_behind(zone: &Zone, other: &Zone) -> Option<Zone>
     ensures { TrimsBehind zone.now other.now result }
 {
+    // Zones that begin apart have nothing in common, and no other need be made.
     if first_begin(zone) > last_begin(other) {
         return Some(*zone);
     }
