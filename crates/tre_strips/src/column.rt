@@ -1,5 +1,5 @@
 // One pass over time, from column to column.
-ghost use Rattle.std.specs.Prelude.{◌≡◌, ◌≤◌, List, IfOk, OnOk};
+ghost use Rattle.std.specs.Prelude.{◌≡◌, ◌≤◌, ◌++◌, List, IfOk, OnOk};
 ghost use Rattle.tre_zone.specs.declared.zone_bounds.ZoneBounds.{ZoneBounds};
 ghost use Rattle.tre_zone.specs.ZoneList.{SetHolds};
 
@@ -76,8 +76,7 @@ impl Sweep {
     {
         let time = self.time;
         let next = first_waiting(zones, self.waiting, time);
-        self.open_zones
-            .extend_from_slice(&zones[self.waiting..next])?;
+        add_all(&mut self.open_zones, &zones[self.waiting..next])?;
         self.waiting = next;
         let mut here = Times {
             from: time,
@@ -95,4 +94,14 @@ impl Sweep {
         column.until = times.until;
         Ok(())
     }
+}
+
+// Adds the zones, of which there are mostly none or one.
+fn add_all(all: &mut Vec<Zone>, more: &[Zone]) -> Result<(), AllocError>
+    ensures { OnOk result (all.new.items ≡ all.old.items ++ more.now) }
+{
+    for zone in more {
+        all.push(*zone)?;
+    }
+    Ok(())
 }

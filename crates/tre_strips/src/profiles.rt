@@ -14,8 +14,8 @@ use std::alloc::{AllocError, Global};
 use std::mem::replace;
 use tre_zone::{Bound, Zone};
 
-/// Writes the profile of what the zones hold over the times, which are cut to those over which it is
-/// one list.
+/// Writes the profile of what the zones hold over the times, which are cut to those over which it
+/// is one list.
 #[inline(always)]
 pub(crate) fn profile(
     alloc: Global,

@@ -23,8 +23,8 @@ impl Times {
         self.stands_before(one, other)
     }
 
-    /// Whether the one end stands before the other over the first of the times, or half a tick later
-    /// where they are many.
+    /// Whether the one end stands before the other over the first of the times, or half a tick
+    /// later where they are many.
     #[inline(always)]
     pub(crate) fn stands_before(&self, one: &BarEnd, other: &BarEnd) -> bool
         ensures { IsTrue result ↔ (place_of one.now (sample_of self.now) 2

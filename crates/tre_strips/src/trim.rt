@@ -91,7 +91,7 @@ fn is_early_held(zone: &Zone, other: &Zone, last: &Bound) -> bool
     }
 }
 
-// Whether the six keys alone tell that the other holds them, so that no zone has to be made of them.
+// Whether the six keys alone tell that the other holds them: then no zone has to be made of them.
 fn covers_early(other: &Zone, zone: &Zone, last: &Bound) -> bool
     ensures { IsTrue result ↔ Covers other.now (bounds_by zone.now last.now) }
 {

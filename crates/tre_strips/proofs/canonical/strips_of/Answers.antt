@@ -8,7 +8,8 @@ loop-sweep-init c = record {
   spun = λ set canonical same.
       rw (← c.in_ok-next_column.ensures.until)
       (c.in_ok-run.ensures set canonical
-      (IsColumn-same set c.args.zones.now c.next_column.new.column same c.in_ok-next_column.ensures.column));
+      (IsColumn-same set c.args.zones.now c.next_column.new.column same
+      c.in_ok-next_column.ensures.column));
 }
 
 pub loop-sweep-preserved : goal.loop-sweep-preserved
@@ -17,7 +18,8 @@ loop-sweep-preserved c = record {
   spun = λ set canonical same.
       rw (← c.in_ok-next_column-2.ensures.until)
       (c.in_ok-next.ensures set canonical
-      (IsColumn-same set c.args.zones.now c.next_column-in-loop-sweep.new.column same c.in_ok-next_column-2.ensures.column)
+      (IsColumn-same set c.args.zones.now c.next_column-in-loop-sweep.new.column same
+      c.in_ok-next_column-2.ensures.column)
       (rw c.in_ok-next_column-2.ensures.at (c.loop-sweep.invariant.spun set canonical same)));
 }
 
