@@ -105,8 +105,8 @@ pub fn white()
 {}
 
 /// What a dump says is the same whatever names are read of it, but for what is true: where the same
-/// names must be declared, readings of the same bytes at one scale have the same fault, and segments
-/// of the same lengths.
+/// names must be declared, readings of the same bytes at one scale have the same fault, and
+/// segments of the same lengths.
 pub fn alike()
     ensures { (one other : Terms) (closed : Bool) (bytes : List ℕ) →
         one.declared ≡ other.declared → one.scale ≡ other.scale →
