@@ -1,6 +1,7 @@
 -- Watches: what one stands for, and what it tells of its segments and of the ends. Each word is that
 -- of a session, said of each in turn.
-use Rattle.std.specs.Prelude.{◌≡◌, ℕ, AllByRecursion, List, [], ◌∷◌, ◌++◌, map}
+use Rattle.std.specs.Prelude.{◌≡◌, ℕ, List, [], ◌∷◌, ◌++◌, map}
+use Rattle.std.specs.List.{AllByRecursion}
 use Rattle.tre_syntax.specs.Pattern.{pattern_tree}
 use Rattle.tre_syntax.specs.PatternTree.{PatternTree}
 use Rattle.tre_trace.specs.Trace.{end_of, Fits, IsRefusedFor}
