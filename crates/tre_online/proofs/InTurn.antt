@@ -104,9 +104,11 @@ module _ (olds : List Session) (segments : List Segment) (place : ℕ) (now : Li
         sym (ap (λ (list : List (List ZoneBounds)). list ++ more) pushed
         ∙ append_assoc told (zones ∷ []) more) in
         let both : GoEach (session ∷ drop (place + 1) now) (segment ∷ drop (place + 1) segments)
-        (new ∷ news) (zones ∷ more) =
-        (goes, subst (λ (list : List Session). GoEach list (drop (place + 1) segments) news more)
-        (sym rest_same) go) in
+        (new ∷ news) (zones ∷ more) = (
+          goes,
+          subst (λ (list : List Session). GoEach list (drop (place + 1) segments) news more)
+              (sym rest_same) go,
+        ) in
         subst (λ (list : List Session). GoEach olds segments list (next ++ more)) sessions
         (subst (λ (list : List (List ZoneBounds)).
         GoEach olds segments (take place now ++ new ∷ news) list) sets

@@ -58,7 +58,17 @@ together_new (pattern ∷ patterns) (session ∷ sessions) new =
     (sym new.0.stands.at) (end_empty (pattern ∷ patterns))
 together_new patterns sessions new = absurd new
 
--- The last sessions of each kind are those before, with what they were told.
+-- There are as many sessions as before.
+pub as_many : (olds : List Session) (segments : List Segment) (news : List Session)
+    (told : List (List ZoneBounds)) → GoEach olds segments news told
+    → length news ≡ length olds
+as_many [] [] [] [] go = refl
+as_many (old ∷ olds) (segment ∷ segments) (new ∷ news) (zones ∷ told) go =
+    let rest = as_many olds segments news told go.1 in
+    omega (arith, rest)
+as_many olds segments news told go = absurd go
+
+-- Each session then stands for its trace with the segment behind it.
 pub stand_next : (olds : List Session) (segments : List Segment) (news : List Session)
     (told : List (List ZoneBounds)) (traces : List (List Segment))
     → GoEach olds segments news told → StandForEach olds traces
@@ -187,11 +197,10 @@ module _ (time len : ℕ) (fault : PushFault) where
       → AllByRecursion (λ segment. segment.len ≡ len) segments
       → RefuseEach fault traces segments
   refuse_each [] [] [] all count each ends alike = tt
-  refuse_each (session ∷ sessions) (segment ∷ segments) (trace ∷ traces) all count each ends alike =
-      (
-        all trace segment ends.0 alike.0,
-        refuse_each sessions segments traces all (omega (arith, count)) each.1 ends.1 alike.1,
-      )
+  refuse_each (session ∷ sessions) (segment ∷ segments) (trace ∷ traces) all count each ends alike = (
+    all trace segment ends.0 alike.0,
+    refuse_each sessions segments traces all (omega (arith, count)) each.1 ends.1 alike.1,
+  )
   refuse_each [] (segment ∷ segments) traces all count each ends alike = absurd (omega (arith, count))
   refuse_each (session ∷ sessions) [] traces all count each ends alike = absurd (omega (arith, count))
   refuse_each [] [] (trace ∷ traces) all count each ends alike = absurd each
