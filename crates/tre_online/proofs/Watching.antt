@@ -1,16 +1,16 @@
 -- What a watch stands for and what it tells, from what each of its sessions does.
-use Rattle.std.proofs.Common.{◌≡◌, ℕ, ◌+◌, ◌<◌, ◌≤◌, length, List, [], ◌∷◌, ◌++◌, map, refl, sym, subst, inl, inr, ⊎_elim, arith, ◌∙◌}
+use Rattle.std.proofs.Common.{◌≡◌, ℕ, ◌+◌, length, List, [], ◌∷◌, ◌++◌, map, refl, sym, subst, inl, inr, arith, ◌∙◌}
 use Rattle.std.specs.List.{AllByRecursion}
 use Rattle.tre_syntax.specs.Pattern.{pattern_tree}
 use Rattle.tre_syntax.specs.PatternTree.{PatternTree}
 use Rattle.tre_syntax.specs.declared.pattern.Pattern.{Pattern}
-use Rattle.tre_trace.specs.Trace.{end_of, Fits, IsRefusedFor}
+use Rattle.tre_trace.specs.Trace.{end_of, IsRefusedFor}
 use Rattle.tre_trace.specs.declared.fault.PushFault.{PushFault}
 use Rattle.tre_trace.specs.declared.fault.PushFault.TheVariants.{Zero, TooLate, Memory}
 use Rattle.tre_trace.specs.declared.segment.Segment.{Segment}
 use Rattle.tre_trace.proofs.Segments.{end_of-append}
 use Rattle.tre_zone.specs.declared.zone_bounds.ZoneBounds.{ZoneBounds}
-use Rattle.tre_online.specs.Session.{pattern_of, at_of, ended_of, StandsFor}
+use Rattle.tre_online.specs.Session.{pattern_of, at_of, ended_of}
 use Rattle.tre_online.specs.Watch.{first_at, StandForEach, EndEach, pushed_each, FitEach, TellEach, TellLastEach, RefuseEach, AreAlike, AreRefusedFor}
 use Rattle.tre_online.specs.Giving.{AreNewFor, GoEach, IsRefusedByOne, TellEachAtEnd}
 use Rattle.tre_online.specs.declared.session.Session.{Session}

@@ -50,8 +50,8 @@ impl Watch {
         }
     }
 
-    /// Reads a segment for each pattern, and gives the watch back with what each session tells. After
-    /// a refusal the watch is given up.
+    /// Reads a segment for each pattern, and gives the watch back with what each session tells.
+    /// After a refusal the watch is given up.
     pub fn segment(self, segments: &[Segment]) -> Result<(Watch, Told), PushFault>
         requires count { length segments.now ≡ length (trees_of self) }
         requires alike { AreAlike segments.now }
@@ -92,7 +92,8 @@ impl Watch {
     }
 }
 
-/// What the sessions of a watch tell: a set of zones for each pattern, in the order of the patterns.
+/// What the sessions of a watch tell: a set of zones for each pattern, in the order of the
+/// patterns.
 #[derive(Debug, Drop)]
 pub struct Told {
     sets: Vec<ZoneSet>,
