@@ -1,0 +1,11 @@
+use Rattle.std.proofs.Common.{take}
+use Rattle.tre_share.specs.Growth.{Extends}
+use Rattle.tre_share.specs.Places.{ArePlaces}
+use Rattle.tre_share.proofs.places.Places.join.Given as goal
+
+-- the names so far have their places
+abbrev pub invariant-loop-number : goal.invariant-loop-number
+invariant-loop-number l = record {
+  places : ArePlaces (take l.number l.asked) l.all l.places.items;
+  kept : Extends l.fn.all l.all;
+}

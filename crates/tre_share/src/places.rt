@@ -1,0 +1,93 @@
+ghost use Rattle.std.specs.Prelude.{◌≡◌, ◌≢◌, ◌<◌, ◌≤◌, [], ◌∷◌, ◌++◌, length, IsSomeAnd, All, AllPairs, IfOk, OnOk};
+ghost use Rattle.std.specs.Int.{bit_at};
+ghost use Rattle.tre_share.specs.Growth.{Extends};
+ghost use Rattle.tre_state.specs.Name.{IsName};
+ghost use Rattle.tre_state.specs.Names.{place_of};
+ghost use Rattle.tre_state.specs.declared.names.TheConstants.{NAMES_MAX};
+
+use std::alloc::{AllocError, Global};
+use tre_state::{NAMES_MAX, NameFault, Names};
+
+/// Where some names stand among others: for each name its place.
+#[derive(Debug, Drop)]
+pub struct Places {
+    places: Vec<u8>,
+    ghost few: { length places.items ≤ NAMES_MAX },
+    ghost within: { All (λ place. place < NAMES_MAX) places.items },
+}
+
+impl Places {
+    ghost use Rattle.std.specs.Prelude.{ℕ, List};
+    ghost use Rattle.tre_parts.specs.Shared.{seen};
+    ghost use Rattle.tre_share.specs.Places.{places_of, ArePlaces, bits_at};
+
+    /// Where each of the names stands among themselves.
+    pub(crate) fn own(alloc: Global, names: &Names) -> Result<Places, AllocError>
+        ensures places { IfOk result (λ places.
+            ArePlaces names.now names.now (places_of places)) }
+        ensures distinct { AllPairs (λ name other. name ≢ other) names.now }
+    {
+        let mut places = Vec::new(alloc);
+        for number in 0..names.len() as u8 {
+            places.push(number)?;
+        }
+        Ok(Places { places })
+    }
+
+    /// Puts those of the asked names that aren't among all at their end, and says where each then
+    /// stands.
+    pub(crate) fn join(
+        alloc: Global,
+        all: &mut Names,
+        asked: &Names,
+    ) -> Result<Places, NameFault>
+        ensures places { IfOk result (λ places. ArePlaces asked.now all.new (places_of places)) }
+        ensures kept { OnOk result (Extends all.old all.new) }
+        ensures distinct { AllPairs (λ name other. name ≢ other) asked.now }
+    {
+        let mut places = Vec::new(alloc);
+        for number in 0..asked.len() as u8 {
+            match asked.name(number) {
+                Some(name) => put(all, name, &mut places)?,
+                None => unreachable!(),
+            }
+        }
+        Ok(Places { places })
+    }
+
+    /// The bits of the asked names, where these are those of all names.
+    pub fn seen(&self, bits: u64) -> u64
+        ensures { (asked all : List (List ℕ)) → ArePlaces asked all (places_of self.now) →
+            result ≡ seen asked all bits }
+    {
+        let mut seen = 0;
+        let mut left = self.places.len();
+        while left > 0 {
+            left -= 1;
+            seen = 2 * seen + bit_of(bits, self.places[left]);
+        }
+        seen
+    }
+}
+
+// Puts the name among all, if it isn't there yet, and its place behind the places.
+fn put(all: &mut Names, name: &str, places: &mut Vec<u8>) -> Result<(), NameFault>
+    requires { IsName name.now }
+    ensures place { OnOk result (IsSomeAnd (place_of all.new name.now) (λ place.
+        places.new.items ≡ places.old.items ++ place ∷ [])) }
+    ensures kept { OnOk result (Extends all.old all.new) }
+{
+    let place = all.number(name)?;
+    match places.push(place) {
+        Ok(()) => Ok(()),
+        Err(_) => Err(NameFault::Memory),
+    }
+}
+
+// The bit at this place.
+fn bit_of(bits: u64, place: u8) -> u64
+    requires { place < NAMES_MAX }
+    ensures { result ≡ bit_at bits place }
+{
+    bits >> place & 1
+}

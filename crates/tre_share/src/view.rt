@@ -1,0 +1,45 @@
+ghost use Rattle.std.specs.Prelude.{◌≡◌};
+ghost use Rattle.tre_parts.specs.Shared.{seen, seen_segment};
+ghost use Rattle.tre_trace.specs.Reading.{Vocabulary};
+
+use crate::places::Places;
+use tre_trace::Segment;
+
+/// How the names of a pattern stand among those of its group.
+#[derive(Debug, Drop)]
+pub struct View {
+    pub(crate) group: usize,
+    pub(crate) names: Places,
+    pub(crate) events: Places,
+}
+
+impl View {
+    ghost use Rattle.tre_share.specs.Shares.{Shows};
+
+    /// Which group it is, counted from 0.
+    pub fn group(&self) -> usize
+        ensures { result ≡ self.now.group }
+    {
+        self.group
+    }
+
+    /// What a segment that was read for the group is for the pattern.
+    pub fn segment(&self, wide: Segment) -> Segment
+        ensures { (asked all : Vocabulary) → Shows asked all self.now →
+            result ≡ seen_segment asked all wide }
+    {
+        Segment {
+            len: wide.len,
+            val: self.names.seen(wide.val),
+            ev: self.events.seen(wide.ev),
+        }
+    }
+
+    /// Which events of the pattern happen where those of the group do.
+    pub fn events(&self, wide: u64) -> u64
+        ensures { (asked all : Vocabulary) → Shows asked all self.now →
+            result ≡ seen asked.events all.events wide }
+    {
+        self.events.seen(wide)
+    }
+}
