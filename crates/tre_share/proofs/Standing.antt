@@ -1,14 +1,18 @@
 -- Where names stand among others: places stay when names come behind, and tell the bits.
-use Rattle.std.proofs.Common.{◌≡◌, ◌≢◌, ℕ, zero, suc, ◌+◌, ◌*◌, ◌^◌, ◌<◌, ◌≤◌, Bool, true, false, cond, List, [], ◌∷◌, ◌++◌, length, get_or, drop, Some, refl, sym, ap, ◌∙◌, subst, arith, length-append}
-use Rattle.std.specs.Prelude.{All, AllPairs, position, nat_lt}
+use Rattle.std.proofs.Common.{◌≡◌, ◌≢◌, ℕ, zero, suc, ◌+◌, ◌*◌, ◌^◌, ◌<◌, ◌≤◌, Bool, true, false, cond, List, [], ◌∷◌, ◌++◌, length, get_or, take, drop, Option, None, Some, refl, sym, ap, ◌∙◌, subst, arith, length-append, append_assoc}
+use Rattle.std.proofs.lemmas.List.{append-nil, length-take, length-drop, take_more}
+use Rattle.std.proofs.lemmas.Option.{get_or_from_slice_get, slice_get_within}
+use Rattle.std.proofs.Math.Pow.{pow_mono}
+use Rattle.std.specs.Prelude.{All, AllPairs, position, nat_lt, slice_get, IsSomeAnd}
 use Rattle.std.specs.Int.{bit_at}
 use Rattle.std.specs.List.{AllZip, Contains, position_or_len}
 use Rattle.std.specs.Str.{bytes_eq}
 use Rattle.std.proofs.lemmas.Bool.Decides.{nat_tests}
-use Rattle.std.proofs.lemmas.List.Elements.{All-nil, All-cons}
+use Rattle.std.proofs.lemmas.List.Elements.{All-nil, All-cons, All-push}
 use Rattle.std.proofs.lemmas.List.Quantifiers.{position-Some}
 use Rattle.std.proofs.lemmas.List.Sums.{position_or_len_is}
 use Rattle.std.proofs.lemmas.Nat.Bits.{bit_at-lt}
+use Rattle.std.proofs.Math.Nat.{two-pow-succ}
 use Rattle.std.proofs.lemmas.Slice.Eq.{bytes_eq-Decides}
 use Rattle.tre_parts.specs.Shared.{bit_there, seen, AreAmong}
 use Rattle.tre_state.specs.Names.{place_of, IsNameList}
@@ -33,12 +37,16 @@ is_position p xs i d within here before =
     ) refl
 
 -- elements behind change none of those before
-get_or-front : {X : Type 0} (xs ys : List X) (i : ℕ) (d : X) → i < length xs
+pub get_or-front : {X : Type 0} (xs ys : List X) (i : ℕ) (d : X) → i < length xs
     → get_or (xs ++ ys) i d ≡ get_or xs i d
 get_or-front [] ys i d within = absurd (omega (arith, within))
 get_or-front (x ∷ xs) ys zero d within = refl
 get_or-front (x ∷ xs) ys (suc i) d within =
     get_or-front xs ys i d (omega (arith, within))
+
+pub get_or-last : {X : Type 0} (xs : List X) (x : X) → get_or (xs ++ x ∷ []) (length xs) x ≡ x
+get_or-last [] x = refl
+get_or-last (y ∷ xs) x = get_or-last xs x
 
 position-front : {X : Type 0} (p : X → Bool) (xs ys : List X) (i : ℕ) (d : X)
     → position p xs ≡ Some i → position p (xs ++ ys) ≡ Some i
@@ -56,11 +64,15 @@ place-kept old new name i more is =
     (position-front (bytes_eq name) old more.added i [] is)
 
 pub Extends-none : (names : List (List ℕ)) → Extends names names
-Extends-none names = record { added = []; new_is = ? }
+Extends-none names = record { added = []; new_is = sym (append-nil names) }
 
 pub Extends-trans : (old mid new : List (List ℕ)) → Extends old mid → Extends mid new
     → Extends old new
-Extends-trans old mid new one two = record { added = one.added ++ two.added; new_is = ? }
+Extends-trans old mid new one two = record {
+  added = one.added ++ two.added;
+  new_is = two.new_is ∙ ap (λ front. front ++ two.added) one.new_is
+      ∙ append_assoc old one.added two.added;
+}
 
 -- the place of a name that is among others
 pub place-within : (names : List (List ℕ)) (name : List ℕ) (i : ℕ) → place_of names name ≡ Some i
@@ -132,4 +144,81 @@ seen-places (name ∷ asked) all (place ∷ places) bits are =
 pub bits_at-lt : (places : List ℕ) (bits : ℕ) → bits_at places bits < 2 ^ length places
 bits_at-lt [] bits = omega arith
 bits_at-lt (place ∷ places) bits =
-    omega (arith, bit_at-lt bits place, bits_at-lt places bits)
+    omega (arith, bit_at-lt bits place, bits_at-lt places bits, two-pow-succ (length places))
+
+-- there is room for one more bit
+pub seen-room : (places : List ℕ) (left bits : ℕ) → length places ≤ NAMES_MAX → 0 < left
+    → left ≤ length places → 2 * bits_at (drop left places) bits + 1 < 2 ^ 64
+seen-room places left bits few some within =
+    let count = length (drop left places) in
+    let short : count ≤ 63 = omega (arith, length-drop left places, few, some, within) in
+    omega (arith, bits_at-lt (drop left places) bits, pow_mono {i = count} {j = 63} short)
+
+-- ---- names among themselves
+
+false_of : (b : Bool) → (b ≡ true → ⊥) → b ≡ false
+false_of true wrong = absurd (wrong refl)
+false_of false wrong = refl
+
+-- where names differ, each stands at its own place
+pub place-own : (names : List (List ℕ)) (i : ℕ) → AllPairs (λ name other. name ≢ other) names
+    → i < length names → place_of names (get_or names i []) ≡ Some i
+place-own names i distinct within =
+    let name = get_or names i [] in
+    is_position (bytes_eq name) names i [] within ((bytes_eq-Decides name name).1 refl)
+    (λ k before.
+        false_of (bytes_eq name (get_or names k [])) (λ same.
+        distinct k i [] before within
+        (sym ((bytes_eq-Decides name (get_or names k [])).0 same))))
+
+-- the places of the first names, with one more
+pub places-next : (all asked : List (List ℕ)) (places more : List ℕ) (i place : ℕ) → i < length asked
+    → ArePlaces (take i asked) all places → place_of all (get_or asked i []) ≡ Some place
+    → more ≡ places ++ place ∷ [] → ArePlaces (take (i + 1) asked) all more
+places-next all asked places more i place within are is new =
+    rw (take_more asked i [] within, new)
+    (places-push all (take i asked) places (get_or asked i []) place are is)
+
+-- they are few
+pub places-few : (all asked : List (List ℕ)) (places : List ℕ) (i : ℕ) → length asked ≤ NAMES_MAX
+    → ArePlaces (take i asked) all places → length places ≤ NAMES_MAX
+places-few all asked places i few are =
+    omega (arith, places-count all (take i asked) places are, length-take i asked, few)
+
+-- a name that was put among others has its place behind the places so far
+put-at : (found : Option ℕ) (old asked new : List (List ℕ)) (places more : List ℕ) (i : ℕ)
+    → i < length asked → Extends old new → ArePlaces (take i asked) old places
+    → place_of new (get_or asked i []) ≡ found
+    → IsSomeAnd found (λ place. more ≡ places ++ place ∷ [])
+    → ArePlaces (take (i + 1) asked) new more
+put-at None old asked new places more i within wider are is at = absurd at
+put-at (Some place) old asked new places more i within wider are is at =
+    places-next new asked places more i place within
+    (places-kept old new (take i asked) places wider are) is at
+
+pub places-put : (old asked new : List (List ℕ)) (places more : List ℕ) (i : ℕ) (name : List ℕ)
+    → Some name ≡ slice_get asked i → Extends old new → ArePlaces (take i asked) old places
+    → IsSomeAnd (place_of new name) (λ place. more ≡ places ++ place ∷ [])
+    → ArePlaces (take (i + 1) asked) new more
+places-put old asked new places more i name is wider are at =
+    let here : get_or asked i [] ≡ name = get_or_from_slice_get asked i name [] (sym is) in
+    put-at (place_of new (get_or asked i [])) old asked new places more i
+    (slice_get_within asked i name (sym is)) wider are refl
+    (rw here at)
+
+-- and is a place of a number of a name
+within-at : (found : Option ℕ) (all : List (List ℕ)) (name : List ℕ) (places more : List ℕ)
+    → length all ≤ NAMES_MAX → All (λ place. place < NAMES_MAX) places → place_of all name ≡ found
+    → IsSomeAnd found (λ place. more ≡ places ++ place ∷ [])
+    → All (λ place. place < NAMES_MAX) more
+within-at None all name places more few within is at = absurd at
+within-at (Some place) all name places more few within is at =
+    let here = place-within all name place is in
+    rw at (All-push (λ place. place < NAMES_MAX) places place within (omega (arith, here, few)))
+
+pub within-put : (all : List (List ℕ)) (name : List ℕ) (places more : List ℕ)
+    → length all ≤ NAMES_MAX → All (λ place. place < NAMES_MAX) places
+    → IsSomeAnd (place_of all name) (λ place. more ≡ places ++ place ∷ [])
+    → All (λ place. place < NAMES_MAX) more
+within-put all name places more few within at =
+    within-at (place_of all name) all name places more few within refl at

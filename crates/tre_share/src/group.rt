@@ -1,4 +1,4 @@
-ghost use Rattle.std.specs.Prelude.{◌≡◌, ◌≢◌, AllPairs, IfOk, IfSome};
+ghost use Rattle.std.specs.Prelude.{◌≡◌, ◌≢◌, AllPairs, IfOk, IfSome, OnOk};
 ghost use Rattle.tre_share.specs.Growth.{Extends};
 ghost use Rattle.tre_share.specs.Places.{places_of, ArePlaces};
 ghost use Rattle.tre_syntax.specs.Pattern.{names_of};
@@ -95,7 +95,7 @@ fn extended(alloc: Global, all: &Names, asked: &Names) -> Result<Option<Widened>
         ArePlaces asked.now wide.all (places_of wide.places))) }
     ensures kept { IfOk result (λ found. IfSome found (λ wide.
         Extends all.now wide.all)) }
-    ensures distinct { AllPairs (λ name other. name ≢ other) asked.now }
+    ensures distinct { OnOk result (AllPairs (λ name other. name ≢ other) asked.now) }
 {
     let mut wider = all.try_clone()?;
     match Places::join(alloc, &mut wider, asked) {

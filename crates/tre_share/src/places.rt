@@ -76,6 +76,7 @@ fn put(all: &mut Names, name: &str, places: &mut Vec<u8>) -> Result<(), NameFaul
     ensures place { OnOk result (IsSomeAnd (place_of all.new name.now) (λ place.
         places.new.items ≡ places.old.items ++ place ∷ [])) }
     ensures kept { OnOk result (Extends all.old all.new) }
+    ensures few { OnOk result (length all.new ≤ NAMES_MAX) }
 {
     let place = all.number(name)?;
     match places.push(place) {

@@ -1,4 +1,5 @@
-use Rattle.std.proofs.Common.{take}
+use Rattle.std.proofs.Common.{◌<◌, All, take}
+use Rattle.tre_state.specs.declared.names.TheConstants.{NAMES_MAX}
 use Rattle.tre_share.specs.Growth.{Extends}
 use Rattle.tre_share.specs.Places.{ArePlaces}
 use Rattle.tre_share.proofs.places.Places.join.Given as goal
@@ -8,4 +9,5 @@ abbrev pub invariant-loop-number : goal.invariant-loop-number
 invariant-loop-number l = record {
   places : ArePlaces (take l.number l.asked) l.all l.places.items;
   kept : Extends l.fn.all l.all;
+  within : All (λ place. place < NAMES_MAX) l.places.items;
 }

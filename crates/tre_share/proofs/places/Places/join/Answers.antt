@@ -1,0 +1,25 @@
+use Rattle.tre_share.proofs.Standing.{Extends-trans, places-put, within-put, places-few}
+use Rattle.tre_share.proofs.places.Places.join.Goals as goal
+
+pub loop-number-preserved : goal.loop-number-preserved
+loop-number-preserved c =
+    let old = c.loop-number.all in
+    let new = c.put.new.all in
+    let name = c.in-Some.name.now in
+    let places = c.loop-number.places.items in
+    let put = c.in_ok-put-in-Some.ensures in
+    record {
+      places = places-put old c.args.asked.now new places c.put.new.places.items
+          c.loop-number.number name c.in-Some.ensures put.kept c.loop-number.invariant.places
+          put.place;
+      kept = Extends-trans c.args.all.now old new c.loop-number.invariant.kept put.kept;
+      within = within-put new name places c.put.new.places.items put.few
+          c.loop-number.invariant.within put.place;
+    }
+
+pub invariant_of-result : goal.invariant_of-result
+invariant_of-result c = record {
+  few = places-few c.loop-number.all c.args.asked.now c.loop-number.places.items
+      c.loop-number.number c.len-number-end.ensures.list.few c.loop-number.invariant.places;
+  within = c.loop-number.invariant.within;
+}

@@ -1,0 +1,27 @@
+use Rattle.std.proofs.Common.{◌≡◌, ◌∙◌, ap, drop, arith}
+use Rattle.std.proofs.lemmas.Nat.Bits.{bit_at-lt}
+use Rattle.tre_share.specs.Places.{bits_at}
+use Rattle.tre_share.proofs.Standing.{seen-room, seen-places}
+use Rattle.tre_share.proofs.places.Places.seen.Goals as goal
+
+pub overflow_mul-seen : goal.overflow_mul-seen
+overflow_mul-seen c =
+    let places = c.args.self.now.places.items in
+    omega (arith, c.loop-left.invariant.seen, seen-room places c.loop-left.left c.args.bits
+    c.args.self.now.few c.loop-left-test.true c.loop-left.invariant.within)
+
+pub overflow_add-seen : goal.overflow_add-seen
+overflow_add-seen c =
+    let places = c.args.self.now.places.items in
+    omega (arith, c.loop-left.invariant.seen, c.bit_of.ensures,
+    bit_at-lt c.args.bits c.index.result.now,
+    seen-room places c.loop-left.left c.args.bits c.args.self.now.few c.loop-left-test.true
+    c.loop-left.invariant.within)
+
+pub returns : goal.returns
+returns c asked all are =
+    let places = c.args.self.now.places.items in
+    let none : c.loop-left.left ≡ 0 = omega (arith, c.loop-left-test.false) in
+    c.loop-left.invariant.seen
+    ∙ ap (λ left. bits_at (drop left places) c.args.bits) none
+    ∙ seen-places asked all places c.args.bits are

@@ -1,0 +1,28 @@
+use Rattle.std.proofs.Common.{arith}
+use Rattle.tre_syntax.specs.Pattern.{names_of}
+use Rattle.tre_share.specs.declared.view.View.{View}
+use Rattle.tre_share.proofs.Sharing.{shows, view-last, Keep-push}
+use Rattle.tre_share.proofs.shares.view_alone.Goals as goal
+
+pub returns-clause-view : goal.returns-clause-view
+returns-clause-view c =
+    let asked = names_of c.args.pattern.now in
+    let names = c.in_ok-own.ensures in
+    let events = c.in_ok-own-2.ensures in
+    let view : View = record {
+      group = c.len.result;
+      names = c.in_ok-own.field-0;
+      events = c.in_ok-own-2.field-0;
+    } in
+    rw (c.in_ok-push.ensures.items, c.in_ok-of.ensures)
+    (view-last c.args.groups.now.items asked asked view
+    (omega (arith, c.len.ensures, c.args.groups.now.ok.0))
+    (shows asked asked view
+    (record {
+      names = rw (← c.names.ensures.names) names.distinct;
+      events = rw (← c.events.ensures.events) events.distinct;
+    }) (rw (← c.names.ensures.names) names.places) (rw (← c.events.ensures.events) events.places)))
+
+pub returns-clause-keep : goal.returns-clause-keep
+returns-clause-keep c =
+    rw c.in_ok-push.ensures.items (Keep-push c.args.groups.now.items c.in_ok-of.field-0)
