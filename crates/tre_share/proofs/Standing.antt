@@ -1,5 +1,5 @@
 -- Where names stand among others: places stay when names come behind, and tell the bits.
-use Rattle.std.proofs.Common.{◌≡◌, ◌≢◌, ℕ, zero, suc, ◌+◌, ◌*◌, ◌^◌, ◌<◌, ◌≤◌, Bool, true, false, cond, List, [], ◌∷◌, ◌++◌, length, get_or, take, drop, Option, None, Some, refl, sym, ap, ◌∙◌, subst, arith, length-append, append_assoc}
+use Rattle.std.proofs.Common.{◌≡◌, ◌≢◌, ℕ, zero, suc, ◌+◌, ◌*◌, ◌/◌, ◌%◌, ◌^◌, ◌<◌, ◌≤◌, Bool, true, false, cond, List, [], ◌∷◌, ◌++◌, length, get_or, take, drop, Option, None, Some, refl, sym, ap, ◌∙◌, subst, arith, length-append, append_assoc}
 use Rattle.std.proofs.lemmas.List.{append-nil, length-take, length-drop, take_more}
 use Rattle.std.proofs.lemmas.Option.{get_or_from_slice_get, slice_get_within}
 use Rattle.std.proofs.Math.Pow.{pow_mono}
@@ -12,13 +12,16 @@ use Rattle.std.proofs.lemmas.List.Elements.{All-nil, All-cons, All-push}
 use Rattle.std.proofs.lemmas.List.Quantifiers.{position-Some}
 use Rattle.std.proofs.lemmas.List.Sums.{position_or_len_is}
 use Rattle.std.proofs.lemmas.Nat.Bits.{bit_at-lt}
-use Rattle.std.proofs.Math.Nat.{two-pow-succ}
+use Rattle.std.proofs.Math.Nat.{two-pow-succ, pow-suc, div-div-eq-div-mul, mod-one, div-one}
+use Rattle.std.proofs.Math.Arith.{mod-mul}
+use Rattle.std.proofs.lemmas.Nat.{pow_pos}
 use Rattle.std.proofs.lemmas.Slice.Eq.{bytes_eq-Decides}
 use Rattle.tre_parts.specs.Shared.{bit_there, seen, AreAmong}
 use Rattle.tre_state.specs.Names.{place_of, IsNameList}
 use Rattle.tre_state.specs.declared.names.TheConstants.{NAMES_MAX}
 use Rattle.tre_trace.specs.Reading.{Vocabulary}
 use Rattle.tre_share.specs.Growth.{Extends}
+use Rattle.tre_share.specs.Order.{AreInOrder}
 use Rattle.tre_share.specs.Places.{ArePlaces, bits_at}
 
 -- ---- the place of a name
@@ -167,9 +170,9 @@ place-own names i distinct within =
     let name = get_or names i [] in
     is_position (bytes_eq name) names i [] within ((bytes_eq-Decides name name).1 refl)
     (λ k before.
-        false_of (bytes_eq name (get_or names k [])) (λ same.
-        distinct k i [] before within
-        (sym ((bytes_eq-Decides name (get_or names k [])).0 same))))
+    false_of (bytes_eq name (get_or names k [])) (λ same.
+    distinct k i [] before within
+    (sym ((bytes_eq-Decides name (get_or names k [])).0 same))))
 
 -- the places of the first names, with one more
 pub places-next : (all asked : List (List ℕ)) (places more : List ℕ) (i place : ℕ) → i < length asked
@@ -222,3 +225,39 @@ pub within-put : (all : List (List ℕ)) (name : List ℕ) (places more : List �
     → All (λ place. place < NAMES_MAX) more
 within-put all name places more few within at =
     within-at (place_of all name) all name places more few within refl at
+
+-- ---- places in order
+
+module _ (bits : ℕ) where
+  half : (base : ℕ) → bits / 2 ^ suc base ≡ bits / 2 ^ base / 2
+  half base =
+      ap (λ n. bits / n) (pow-suc 2 base) ∙ sym (div-div-eq-div-mul bits (2 ^ base) 2)
+
+  -- the bits at the places from one on are those of what is left above it
+  bits_at-from : (places : List ℕ) (base : ℕ)
+      → ((k : ℕ) → k < length places → get_or places k 0 ≡ base + k)
+      → bits_at places bits ≡ bits / 2 ^ base % 2 ^ length places
+  bits_at-from [] base each = sym (mod-one (bits / 2 ^ base))
+  bits_at-from (place ∷ places) base each =
+      let above = bits / 2 ^ base in
+      let count = length places in
+      let first : place ≡ base = omega (arith, each 0 (omega arith)) in
+      let later = λ (k : ℕ) (within : k < length places).
+      each (suc k) (omega (arith, within)) ∙ omega arith in
+      let low : bit_at bits place ≡ above % 2 = ap (λ at. bit_at bits at) first in
+      let high : bits_at places bits ≡ above / 2 % 2 ^ count =
+      bits_at-from places (suc base) later ∙ ap (λ rest. rest % 2 ^ count) (half base) in
+      let power : above % 2 ^ suc count ≡ above % (2 ^ count * 2) =
+      ap (λ n. above % n) (pow-suc 2 count) in
+      let whole = mod-mul above {m = 2 ^ count} {c = 2} (pow_pos count) (omega arith) in
+      by (bit_at bits place) (above % 2) (bits_at places bits) (above / 2 % 2 ^ count) low high
+      ∙ sym (power ∙ whole)
+    where
+      by : (low bit high rest : ℕ) → low ≡ bit → high ≡ rest → low + 2 * high ≡ rest * 2 + bit
+      by low bit high rest one other = omega arith
+
+pub bits_at-order : (places : List ℕ) (bits : ℕ) → AreInOrder places
+    → bits_at places bits ≡ bits % 2 ^ length places
+bits_at-order places bits order =
+    bits_at-from bits places 0 (λ k within. order.each k within ∙ omega arith)
+    ∙ ap (λ rest. rest % 2 ^ length places) (div-one bits)

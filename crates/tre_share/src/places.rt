@@ -1,6 +1,7 @@
-ghost use Rattle.std.specs.Prelude.{◌≡◌, ◌≢◌, ◌<◌, ◌≤◌, [], ◌∷◌, ◌++◌, length, IsSomeAnd, All, AllPairs, IfOk, OnOk};
+ghost use Rattle.std.specs.Prelude.{◌≡◌, ◌≢◌, ◌%◌, ◌^◌, ◌<◌, ◌≤◌, true, [], ◌∷◌, ◌++◌, length, IsSomeAnd, All, AllPairs, IfOk, OnOk};
 ghost use Rattle.std.specs.Int.{bit_at};
 ghost use Rattle.tre_share.specs.Growth.{Extends};
+ghost use Rattle.tre_share.specs.Order.{AreInOrder};
 ghost use Rattle.tre_state.specs.Name.{IsName};
 ghost use Rattle.tre_state.specs.Names.{place_of};
 ghost use Rattle.tre_state.specs.declared.names.TheConstants.{NAMES_MAX};
@@ -12,8 +13,11 @@ use tre_state::{NAMES_MAX, NameFault, Names};
 #[derive(Debug, Drop)]
 pub struct Places {
     places: Vec<u8>,
+    // Whether they are 0, 1 and so on: then the bits are taken all at once.
+    in_order: bool,
     ghost few: { length places.items ≤ NAMES_MAX },
     ghost within: { All (λ place. place < NAMES_MAX) places.items },
+    ghost order: { in_order ≡ true → AreInOrder places.items },
 }
 
 impl Places {
@@ -31,16 +35,12 @@ impl Places {
         for number in 0..names.len() as u8 {
             places.push(number)?;
         }
-        Ok(Places { places })
+        Ok(Places::of(places))
     }
 
     /// Puts those of the asked names that aren't among all at their end, and says where each then
     /// stands.
-    pub(crate) fn join(
-        alloc: Global,
-        all: &mut Names,
-        asked: &Names,
-    ) -> Result<Places, NameFault>
+    pub(crate) fn join(alloc: Global, all: &mut Names, asked: &Names) -> Result<Places, NameFault>
         ensures places { IfOk result (λ places. ArePlaces asked.now all.new (places_of places)) }
         ensures kept { OnOk result (Extends all.old all.new) }
         ensures distinct { AllPairs (λ name other. name ≢ other) asked.now }
@@ -52,7 +52,16 @@ impl Places {
                 None => unreachable!(),
             }
         }
-        Ok(Places { places })
+        Ok(Places::of(places))
+    }
+
+    fn of(places: Vec<u8>) -> Places
+        requires few { length places.items ≤ NAMES_MAX }
+        requires within { All (λ place. place < NAMES_MAX) places.items }
+        ensures { places_of result ≡ places.items }
+    {
+        let in_order = are_in_order(&places);
+        Places { places, in_order }
     }
 
     /// The bits of the asked names, where these are those of all names.
@@ -60,6 +69,9 @@ impl Places {
         ensures { (asked all : List (List ℕ)) → ArePlaces asked all (places_of self.now) →
             result ≡ seen asked all bits }
     {
+        if self.in_order {
+            return bits_below(bits, self.places.len());
+        }
         let mut seen = 0;
         let mut left = self.places.len();
         while left > 0 {
@@ -91,4 +103,27 @@ fn bit_of(bits: u64, place: u8) -> u64
     ensures { result ≡ bit_at bits place }
 {
     bits >> place & 1
+}
+
+// The bits below this place.
+fn bits_below(bits: u64, place: usize) -> u64
+    requires { place ≤ 64 }
+    ensures { result ≡ bits % 2 ^ place }
+{
+    if place == 64 {
+        return bits;
+    }
+    bits & ((1 << place) - 1)
+}
+
+// Whether the places are 0, 1 and so on.
+fn are_in_order(places: &[u8]) -> bool
+    ensures { result ≡ true → AreInOrder places.now }
+{
+    for (number, place) in places.iter().enumerate() {
+        if usize::from(*place) != number {
+            return false;
+        }
+    }
+    true
 }

@@ -61,11 +61,7 @@ impl Shares {
 }
 
 // Has a group take in the names of the pattern, and gives the pattern's view of it.
-fn view_for(
-    alloc: Global,
-    groups: &mut Vec<Group>,
-    pattern: &Pattern,
-) -> Result<View, AllocError>
+fn view_for(alloc: Global, groups: &mut Vec<Group>, pattern: &Pattern) -> Result<View, AllocError>
     ensures view { IfOk result (IsViewOf groups.new.items (names_of pattern.now)) }
     ensures keep { OnOk result (Keep groups.old.items groups.new.items) }
     ensures count { OnOk result (length groups.new.items ≤ length groups.old.items + 1) }
@@ -96,11 +92,7 @@ fn view_among(
 }
 
 // Begins a group with them, behind the others.
-fn view_alone(
-    alloc: Global,
-    groups: &mut Vec<Group>,
-    pattern: &Pattern,
-) -> Result<View, AllocError>
+fn view_alone(alloc: Global, groups: &mut Vec<Group>, pattern: &Pattern) -> Result<View, AllocError>
     ensures view { IfOk result (IsViewOf groups.new.items (names_of pattern.now)) }
     ensures keep { OnOk result (Keep groups.old.items groups.new.items) }
     ensures count { OnOk result (length groups.new.items ≡ length groups.old.items + 1) }

@@ -17,8 +17,8 @@ loop-number-preserved c =
           c.loop-number.invariant.within put.place;
     }
 
-pub invariant_of-result : goal.invariant_of-result
-invariant_of-result c = record {
+pub of-requires : goal.of-requires
+of-requires c = record {
   few = places-few c.loop-number.all c.args.asked.now c.loop-number.places.items
       c.loop-number.number c.len-number-end.ensures.list.few c.loop-number.invariant.places;
   within = c.loop-number.invariant.within;

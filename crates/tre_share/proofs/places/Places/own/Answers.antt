@@ -13,8 +13,8 @@ loop-number-preserved c =
     (place-own names number c.len-number-end.ensures.list.distinct within)
     c.in_ok-push.ensures.items
 
-pub invariant_of-result : goal.invariant_of-result
-invariant_of-result c =
+pub of-requires : goal.of-requires
+of-requires c =
     let names = c.args.names.now in
     let few = c.len-number-end.ensures.list.few in
     let number = c.loop-number.number in

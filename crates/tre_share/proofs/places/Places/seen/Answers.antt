@@ -1,22 +1,30 @@
-use Rattle.std.proofs.Common.{◌≡◌, ◌∙◌, ap, drop, arith}
+use Rattle.std.proofs.Common.{◌≡◌, ◌%◌, ◌^◌, length, drop, sym, ap, ◌∙◌, arith}
 use Rattle.std.proofs.lemmas.Nat.Bits.{bit_at-lt}
 use Rattle.tre_share.specs.Places.{bits_at}
-use Rattle.tre_share.proofs.Standing.{seen-room, seen-places}
+use Rattle.tre_share.proofs.Standing.{seen-room, seen-places, bits_at-order}
 use Rattle.tre_share.proofs.places.Places.seen.Goals as goal
 
 pub overflow_mul-seen : goal.overflow_mul-seen
 overflow_mul-seen c =
     let places = c.args.self.now.places.items in
-    omega (arith, c.loop-left.invariant.seen, seen-room places c.loop-left.left c.args.bits
-    c.args.self.now.few c.loop-left-test.true c.loop-left.invariant.within)
+    omega (
+      arith,
+      c.loop-left.invariant.seen,
+      seen-room places c.loop-left.left c.args.bits
+          c.args.self.now.few c.loop-left-test.true c.loop-left.invariant.within,
+    )
 
 pub overflow_add-seen : goal.overflow_add-seen
 overflow_add-seen c =
     let places = c.args.self.now.places.items in
-    omega (arith, c.loop-left.invariant.seen, c.bit_of.ensures,
-    bit_at-lt c.args.bits c.index.result.now,
-    seen-room places c.loop-left.left c.args.bits c.args.self.now.few c.loop-left-test.true
-    c.loop-left.invariant.within)
+    omega (
+      arith,
+      c.loop-left.invariant.seen,
+      c.bit_of.ensures,
+      bit_at-lt c.args.bits c.index.result.now,
+      seen-room places c.loop-left.left c.args.bits c.args.self.now.few c.loop-left-test.true
+          c.loop-left.invariant.within,
+    )
 
 pub returns : goal.returns
 returns c asked all are =
@@ -25,3 +33,12 @@ returns c asked all are =
     c.loop-left.invariant.seen
     ∙ ap (λ left. bits_at (drop left places) c.args.bits) none
     ∙ seen-places asked all places c.args.bits are
+
+pub returns-then-self : goal.returns-then-self
+returns-then-self c asked all are =
+    let places = c.args.self.now.places in
+    let count : c.len.result ≡ length places.items = omega (arith, c.len.ensures, places.ok.0) in
+    c.bits_below.ensures
+    ∙ ap (λ place. c.args.bits % 2 ^ place) count
+    ∙ sym (bits_at-order places.items c.args.bits (c.args.self.now.order c.if-self.true))
+    ∙ seen-places asked all places.items c.args.bits are
