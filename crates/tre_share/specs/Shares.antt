@@ -1,7 +1,8 @@
 -- Who shares a reader.
-use Rattle.std.specs.Prelude.{◌≡◌, ◌≤◌, List, length, Some, slice_get}
+use Rattle.std.specs.Prelude.{◌≡◌, ℕ, ◌<◌, ◌≤◌, ◌⊎◌, List, length, Some, All, AllPairs, Contains, slice_get}
 use Rattle.std.specs.List.{AllZip}
 use Rattle.tre_parts.specs.Shared.{AreAmong, AreDistinct}
+use Rattle.tre_state.specs.declared.names.TheConstants.{NAMES_MAX}
 use Rattle.tre_trace.specs.Reading.{Vocabulary}
 use Rattle.tre_share.specs.Places.{places_of, ArePlaces}
 use Rattle.tre_share.specs.declared.shares.Shares.{Shares}
@@ -28,7 +29,18 @@ pub record IsViewOf (groups : List Vocabulary) (asked : Vocabulary) (view : View
   pub group : slice_get groups view.group ≡ Some all
   pub shows : Shows asked all view
 
--- There is a view for the names of each pattern, and at most one group for each.
+-- No reader has room for both lists: whatever names these are among, they are too many.
+pub record Exceed (one other : List (List ℕ)) : Type 0 where
+  pub each : (names : List (List ℕ)) → All (Contains names) one → All (Contains names) other →
+      NAMES_MAX < length names
+
+-- Two groups that can't be one.
+abbrev pub AreApart : Vocabulary → Vocabulary → Type 0
+AreApart one other = Exceed one.names other.names ⊎ Exceed one.events other.events
+
+-- There is a view for the names of each pattern, and at most one group for each. No two of the
+-- groups could be one.
 pub record AreShared (asked : List Vocabulary) (shares : Shares) : Type 0 where
   pub each : AllZip (IsViewOf (groups_of shares)) asked (views_of shares)
   pub few : length (groups_of shares) ≤ length asked
+  pub apart : AllPairs AreApart (groups_of shares)

@@ -1,6 +1,7 @@
-ghost use Rattle.std.specs.Prelude.{◌≡◌, ◌≢◌, AllPairs, IfOk, IfSome, OnOk};
+ghost use Rattle.std.specs.Prelude.{◌≡◌, ◌≢◌, AllPairs, IfOk, IfSome, IfNone, OnOk};
 ghost use Rattle.tre_share.specs.Growth.{Extends};
 ghost use Rattle.tre_share.specs.Places.{places_of, ArePlaces};
+ghost use Rattle.tre_share.specs.Shares.{Exceed};
 ghost use Rattle.tre_syntax.specs.Pattern.{names_of};
 
 use crate::places::Places;
@@ -26,7 +27,7 @@ impl Model for Group {
 }
 
 impl Group {
-    ghost use Rattle.tre_share.specs.Shares.{Shows};
+    ghost use Rattle.tre_share.specs.Shares.{Shows, AreApart};
     ghost use Rattle.tre_share.specs.Growth.{IsWider};
 
     /// The names of the propositions.
@@ -65,6 +66,8 @@ impl Group {
             Shows (names_of pattern.now) self.new view)) }
         ensures number { IfOk result (λ found. IfSome found (λ view. view.group ≡ number)) }
         ensures wider { IsWider self.old self.new }
+        ensures none { IfOk result (λ found. IfNone found (
+            AreApart self.new (names_of pattern.now))) }
     {
         let Some(names) = extended(alloc, &self.names, pattern.names())? else {
             return Ok(None);
@@ -95,6 +98,7 @@ fn extended(alloc: Global, all: &Names, asked: &Names) -> Result<Option<Widened>
         ArePlaces asked.now wide.all (places_of wide.places))) }
     ensures kept { IfOk result (λ found. IfSome found (λ wide.
         Extends all.now wide.all)) }
+    ensures none { IfOk result (λ found. IfNone found (Exceed all.now asked.now)) }
     ensures distinct { OnOk result (AllPairs (λ name other. name ≢ other) asked.now) }
 {
     let mut wider = all.try_clone()?;

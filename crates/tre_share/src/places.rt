@@ -1,6 +1,6 @@
-ghost use Rattle.std.specs.Prelude.{◌≡◌, ◌≢◌, ◌%◌, ◌^◌, ◌<◌, ◌≤◌, true, [], ◌∷◌, ◌++◌, length, IsSomeAnd, All, AllPairs, IfOk, OnOk};
+ghost use Rattle.std.specs.Prelude.{◌≡◌, ◌≢◌, ◌%◌, ◌^◌, ◌<◌, ◌≤◌, ◌⊎◌, true, [], ◌∷◌, ◌++◌, length, IsSomeAnd, All, AllPairs, IfOk, OnOk};
 ghost use Rattle.std.specs.Int.{bit_at};
-ghost use Rattle.tre_share.specs.Growth.{Extends};
+ghost use Rattle.tre_share.specs.Growth.{Extends, HasNoRoom};
 ghost use Rattle.tre_share.specs.Order.{AreInOrder};
 ghost use Rattle.tre_state.specs.Name.{IsName};
 ghost use Rattle.tre_state.specs.Names.{place_of};
@@ -23,6 +23,7 @@ pub struct Places {
 impl Places {
     ghost use Rattle.std.specs.Prelude.{ℕ, List};
     ghost use Rattle.tre_parts.specs.Shared.{seen};
+    ghost use Rattle.tre_share.specs.Shares.{Exceed};
     ghost use Rattle.tre_share.specs.Places.{places_of, ArePlaces, bits_at};
 
     /// Where each of the names stands among themselves.
@@ -43,6 +44,7 @@ impl Places {
     pub(crate) fn join(alloc: Global, all: &mut Names, asked: &Names) -> Result<Places, NameFault>
         ensures places { IfOk result (λ places. ArePlaces asked.now all.new (places_of places)) }
         ensures kept { OnOk result (Extends all.old all.new) }
+        ensures too_many { result ≡ Err NameFault.TooMany → Exceed all.old asked.now }
         ensures distinct { AllPairs (λ name other. name ≢ other) asked.now }
     {
         let mut places = Vec::new(alloc);
@@ -89,6 +91,9 @@ fn put(all: &mut Names, name: &str, places: &mut Vec<u8>) -> Result<(), NameFaul
         places.new.items ≡ places.old.items ++ place ∷ [])) }
     ensures kept { OnOk result (Extends all.old all.new) }
     ensures few { OnOk result (length all.new ≤ NAMES_MAX) }
+    ensures grown { OnOk result (
+        (all.new ≡ all.old) ⊎ (all.new ≡ all.old ++ name.now ∷ [])) }
+    ensures too_many { result ≡ Err NameFault.TooMany → HasNoRoom all.old name.now }
 {
     let place = all.number(name)?;
     match places.push(place) {

@@ -1,6 +1,6 @@
-ghost use Rattle.std.specs.Prelude.{◌≡◌, ◌+◌, ◌≤◌, [], ◌∷◌, ◌++◌, length, map, List, IfOk, IfSome, OnOk};
+ghost use Rattle.std.specs.Prelude.{◌≡◌, ◌+◌, ◌≤◌, All, AllPairs, IfNone, [], ◌∷◌, ◌++◌, length, map, List, IfOk, IfSome, OnOk};
 ghost use Rattle.tre_share.specs.Growth.{Keep};
-ghost use Rattle.tre_share.specs.Shares.{IsViewOf, AreShared};
+ghost use Rattle.tre_share.specs.Shares.{IsViewOf, AreApart, AreShared};
 ghost use Rattle.tre_syntax.specs.Pattern.{names_of};
 
 use crate::group::Group;
@@ -65,6 +65,8 @@ fn view_for(alloc: Global, groups: &mut Vec<Group>, pattern: &Pattern) -> Result
     ensures view { IfOk result (IsViewOf groups.new.items (names_of pattern.now)) }
     ensures keep { OnOk result (Keep groups.old.items groups.new.items) }
     ensures count { OnOk result (length groups.new.items ≤ length groups.old.items + 1) }
+    ensures apart { AllPairs AreApart groups.old.items →
+        OnOk result (AllPairs AreApart groups.new.items) }
 {
     if let Some(view) = view_among(alloc, groups, pattern)? {
         return Ok(view);
@@ -82,6 +84,8 @@ fn view_among(
     ensures view { IfOk result (λ found. IfSome found (
         IsViewOf groups.new (names_of pattern.now))) }
     ensures keep { Keep groups.old groups.new }
+    ensures none { IfOk result (λ found. IfNone found (
+        All (λ group. AreApart group (names_of pattern.now)) groups.new)) }
 {
     for number in 0..groups.len() {
         if let Some(view) = groups[number].admit(alloc, number, pattern)? {
@@ -94,8 +98,8 @@ fn view_among(
 // Begins a group with them, behind the others.
 fn view_alone(alloc: Global, groups: &mut Vec<Group>, pattern: &Pattern) -> Result<View, AllocError>
     ensures view { IfOk result (IsViewOf groups.new.items (names_of pattern.now)) }
-    ensures keep { OnOk result (Keep groups.old.items groups.new.items) }
-    ensures count { OnOk result (length groups.new.items ≡ length groups.old.items + 1) }
+    ensures groups { OnOk result (
+        groups.new.items ≡ groups.old.items ++ names_of pattern.now ∷ []) }
 {
     let view = View {
         group: groups.len(),

@@ -1,7 +1,7 @@
 use Rattle.std.proofs.Common.{arith}
 use Rattle.tre_syntax.specs.Pattern.{names_of}
 use Rattle.tre_share.specs.declared.view.View.{View}
-use Rattle.tre_share.proofs.Sharing.{shows, view-last, Keep-push}
+use Rattle.tre_share.proofs.Sharing.{shows, view-last}
 use Rattle.tre_share.proofs.shares.view_alone.Goals as goal
 
 pub returns-clause-view : goal.returns-clause-view
@@ -23,6 +23,5 @@ returns-clause-view c =
       events = rw (← c.events.ensures.events) events.distinct;
     }) (rw (← c.names.ensures.names) names.places) (rw (← c.events.ensures.events) events.places)))
 
-pub returns-clause-keep : goal.returns-clause-keep
-returns-clause-keep c =
-    rw c.in_ok-push.ensures.items (Keep-push c.args.groups.now.items c.in_ok-of.field-0)
+pub returns-clause-groups : goal.returns-clause-groups
+returns-clause-groups c = rw (← c.in_ok-of.ensures) c.in_ok-push.ensures.items

@@ -1,13 +1,14 @@
 use Rattle.std.proofs.Common.{◌<◌, length, arith}
 use Rattle.tre_syntax.specs.Pattern.{names_of}
 use Rattle.tre_share.proofs.Sharing.{view-here, Keep-set}
+use Rattle.tre_share.proofs.Apart.{apart-next}
 use Rattle.tre_share.proofs.shares.view_among.Goals as goal
 
 pub returns-in_err-view-clause-keep : goal.returns-in_err-view-clause-keep
 returns-in_err-view-clause-keep c =
     let within : c.loop-number.number < length c.loop-number.groups = omega arith in
     Keep-set c.args.groups.now c.loop-number.groups c.loop-number.number
-    c.index-groups-number.result c.admit.new.self c.loop-number.invariant within
+    c.index-groups-number.result c.admit.new.self c.loop-number.invariant.keep within
     c.in_err-view.ensures.wider
 
 pub returns-in-Some-clause-view : goal.returns-in-Some-clause-view
@@ -21,12 +22,21 @@ pub returns-in-Some-clause-keep : goal.returns-in-Some-clause-keep
 returns-in-Some-clause-keep c =
     let within : c.loop-number.number < length c.loop-number.groups = omega arith in
     Keep-set c.args.groups.now c.loop-number.groups c.loop-number.number
-    c.index-groups-number.result c.admit.new.self c.loop-number.invariant within
+    c.index-groups-number.result c.admit.new.self c.loop-number.invariant.keep within
     c.in_ok-view.ensures.wider
 
 pub loop-number-preserved : goal.loop-number-preserved
 loop-number-preserved c =
     let within : c.loop-number.number < length c.loop-number.groups = omega arith in
-    Keep-set c.args.groups.now c.loop-number.groups c.loop-number.number
-    c.index-groups-number.result c.admit.new.self c.loop-number.invariant within
-    c.in_ok-view.ensures.wider
+    record {
+      keep = Keep-set c.args.groups.now c.loop-number.groups c.loop-number.number
+          c.index-groups-number.result c.admit.new.self c.loop-number.invariant.keep within
+          c.in_ok-view.ensures.wider;
+      apart = apart-next c.loop-number.groups c.loop-number.number c.admit.new.self
+          (names_of c.args.pattern.now) within c.loop-number.invariant.apart
+          (rw c.in_default.is at c.in_ok-view.ensures.none);
+    }
+
+pub returns-clause-none : goal.returns-clause-none
+returns-clause-none c = λ k d within.
+    c.loop-number.invariant.apart k d (omega (arith, within, c.loop-number-test.false))

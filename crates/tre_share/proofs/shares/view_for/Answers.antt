@@ -1,14 +1,40 @@
 use Rattle.std.proofs.Common.{◌≡◌, length, arith}
 use Rattle.std.proofs.lemmas.List.{with_items_is}
-use Rattle.tre_share.proofs.Sharing.{Keep-trans}
+use Rattle.tre_syntax.specs.Pattern.{names_of}
+use Rattle.tre_share.proofs.Sharing.{Keep-trans, Keep-push}
+use Rattle.tre_share.proofs.Apart.{Keep-apart, apart-push}
 use Rattle.tre_share.proofs.shares.view_for.Goals as goal
+
+pub returns-in-Some-clause-apart : goal.returns-in-Some-clause-apart
+returns-in-Some-clause-apart c apart =
+    let groups = c.args.groups.now in
+    let mid = c.view_among.new.groups in
+    let same : length mid ≡ groups.len =
+    omega (arith, c.view_among.auto.groups, c.deref_mut.ensures.len) in
+    let keep = rw c.deref_mut.ensures.value at c.view_among.ensures.keep in
+    rw (with_items_is groups mid same)
+    (Keep-apart groups.items mid keep (omega (arith, same, groups.ok.0)) apart)
 
 pub returns-clause-keep : goal.returns-clause-keep
 returns-clause-keep c =
     let groups = c.args.groups.now in
     let mid = c.view_among.new.groups in
+    let names = names_of c.args.pattern.now in
     let same : length mid ≡ groups.len =
     omega (arith, c.view_among.auto.groups, c.deref_mut.ensures.len) in
     let first = rw c.deref_mut.ensures.value at c.view_among.ensures.keep in
-    let second = rw (with_items_is groups mid same) at c.in_ok-view-2.ensures.keep in
-    Keep-trans groups.items mid c.view_alone.new.groups.items first second
+    let new = rw (with_items_is groups mid same) at c.in_ok-view-2.ensures.groups in
+    rw new (Keep-trans groups.items mid _ first (Keep-push mid names))
+
+pub returns-clause-apart : goal.returns-clause-apart
+returns-clause-apart c apart =
+    let groups = c.args.groups.now in
+    let mid = c.view_among.new.groups in
+    let names = names_of c.args.pattern.now in
+    let same : length mid ≡ groups.len =
+    omega (arith, c.view_among.auto.groups, c.deref_mut.ensures.len) in
+    let keep = rw c.deref_mut.ensures.value at c.view_among.ensures.keep in
+    let new = rw (with_items_is groups mid same) at c.in_ok-view-2.ensures.groups in
+    rw new (apart-push mid names
+    (Keep-apart groups.items mid keep (omega (arith, same, groups.ok.0)) apart)
+    (rw c.in_default.is at c.in_ok-view.ensures.none))

@@ -1,4 +1,9 @@
-use Rattle.tre_share.proofs.Standing.{Extends-trans, places-put, within-put, places-few}
+use Rattle.std.proofs.Common.{◌≡◌, ◌<◌, [], length, Err, sym, ap, arith}
+use Rattle.std.proofs.lemmas.List.Elements.{All-nil}
+use Rattle.std.proofs.lemmas.Option.{slice_get-get_or}
+use Rattle.tre_state.specs.declared.names.NameFault.{NameFault}
+use Rattle.tre_share.proofs.Standing.{Extends-none, Extends-trans, places-put, within-put, places-few}
+use Rattle.tre_share.proofs.Apart.{AreOf-none, AreOf-next, exceeds}
 use Rattle.tre_share.proofs.places.Places.join.Goals as goal
 
 pub loop-number-preserved : goal.loop-number-preserved
@@ -8,11 +13,15 @@ loop-number-preserved c =
     let name = c.in-Some.name.now in
     let places = c.loop-number.places.items in
     let put = c.in_ok-put-in-Some.ensures in
+    let within : c.loop-number.number < length c.args.asked.now =
+    omega (arith, c.loop-number-test.true, c.len-number-end.ensures.len) in
     record {
       places = places-put old c.args.asked.now new places c.put.new.places.items
           c.loop-number.number name c.in-Some.ensures put.kept c.loop-number.invariant.places
           put.place;
       kept = Extends-trans c.args.all.now old new c.loop-number.invariant.kept put.kept;
+      of = AreOf-next c.args.all.now c.args.asked.now old new c.loop-number.number name
+          c.in-Some.ensures within c.loop-number.invariant.of put.grown;
       within = within-put new name places c.put.new.places.items put.few
           c.loop-number.invariant.within put.place;
     }
@@ -23,3 +32,29 @@ of-requires c = record {
       c.loop-number.number c.len-number-end.ensures.list.few c.loop-number.invariant.places;
   within = c.loop-number.invariant.within;
 }
+
+pub loop-number-init : goal.loop-number-init
+loop-number-init c = record {
+  places = rw c.new-places.ensures.items tt;
+  kept = Extends-none c.args.all.now;
+  of = AreOf-none c.args.all.now c.args.asked.now;
+  within = rw c.new-places.ensures.items (All-nil _);
+}
+
+pub returns-in_err-put-in-Some-clause-too_many : goal.returns-in_err-put-in-Some-clause-too_many
+returns-in_err-put-in-Some-clause-too_many c fails =
+    let told : NameFault.TooMany ≡ c.in_err-put-in-Some.field-0.0 =
+    rw fails at c.from_residual.ensures.1 in
+    let within : c.loop-number.number < length c.args.asked.now =
+    omega (arith, c.loop-number-test.true, c.len-number-end.ensures.len) in
+    exceeds c.args.all.now c.args.asked.now c.loop-number.all c.loop-number.number
+    c.in-Some.name.now c.in-Some.ensures within c.loop-number.invariant.of
+    (c.in_err-put-in-Some.ensures.too_many (ap Err (sym told)))
+
+pub unreachable-requires : goal.unreachable-requires
+unreachable-requires c =
+    let within : c.loop-number.number < length c.args.asked.now =
+    omega (arith, c.loop-number-test.true, c.len-number-end.ensures.len) in
+    let there = slice_get-get_or c.args.asked.now c.loop-number.number [] within in
+    let none = c.in-None.ensures in
+    cc (there, none)

@@ -1,6 +1,6 @@
 use Rattle.std.proofs.Common.{◌<◌, All, take}
 use Rattle.tre_state.specs.declared.names.TheConstants.{NAMES_MAX}
-use Rattle.tre_share.specs.Growth.{Extends}
+use Rattle.tre_share.specs.Growth.{Extends, AreOf}
 use Rattle.tre_share.specs.Places.{ArePlaces}
 use Rattle.tre_share.proofs.places.Places.join.Given as goal
 
@@ -9,5 +9,6 @@ abbrev pub invariant-loop-number : goal.invariant-loop-number
 invariant-loop-number l = record {
   places : ArePlaces (take l.number l.asked) l.all l.places.items;
   kept : Extends l.fn.all l.all;
+  of : AreOf l.fn.all l.asked l.all;
   within : All (λ place. place < NAMES_MAX) l.places.items;
 }

@@ -14,4 +14,5 @@ returns c asked are =
           (views-push groups asked old.views.items names c.in_ok-view.view
           (views-kept old.groups.items groups asked old.views.items told.keep are.each) told.view);
       few = omega (arith, are.few, told.count, length-append asked (names ∷ []));
+      apart = told.apart are.apart;
     }
