@@ -21,8 +21,8 @@ use Rattle.tre_state.specs.Names.{place_of, IsNameList}
 use Rattle.tre_state.specs.declared.names.TheConstants.{NAMES_MAX}
 use Rattle.tre_trace.specs.Reading.{Vocabulary}
 use Rattle.tre_share.specs.Growth.{Extends}
-use Rattle.tre_share.specs.Order.{AreInOrder}
-use Rattle.tre_share.specs.Places.{ArePlaces, bits_at}
+use Rattle.tre_share.specs.Places.{ArePlaces}
+use Rattle.tre_share.specs.Taking.{bits_at, AreInOrder}
 
 -- ---- the place of a name
 

@@ -3,4 +3,4 @@ pub mod Places
 pub mod Shares
 -- What the functions inside promise each other.
 pub mod Growth
-pub mod Order
+pub mod Taking

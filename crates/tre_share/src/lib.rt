@@ -3,8 +3,9 @@
 //! [`share`] puts patterns into groups: a reader is made for each group, for the names of all its
 //! patterns. A [`Group`] has at most 64 names of propositions and 64 of events, as a pattern has.
 //! The layers above may rely on `AreShared` (specs/Shares.antt): the names of each pattern are
-//! among those of its group, and the [`View`] of a pattern says of each segment that was read for
-//! the group what it is for the pattern (`seen_segment` of tre_parts).
+//! among those of its group, and no two of the groups could be one. The [`View`] of a pattern says
+//! of each segment that was read for its group what it is for the pattern (`seen_segment` of
+//! tre_parts).
 //!
 //! ```text
 //! let shares = share(alloc, &patterns)?;
@@ -15,7 +16,6 @@
 #![tactic(auto)]
 
 pub use group::Group;
-pub use places::Places;
 pub use shares::{Shares, share};
 pub use view::View;
 

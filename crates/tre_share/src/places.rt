@@ -1,7 +1,7 @@
 ghost use Rattle.std.specs.Prelude.{◌≡◌, ◌≢◌, ◌%◌, ◌^◌, ◌<◌, ◌≤◌, ◌⊎◌, true, [], ◌∷◌, ◌++◌, length, IsSomeAnd, All, AllPairs, IfOk, OnOk};
 ghost use Rattle.std.specs.Int.{bit_at};
 ghost use Rattle.tre_share.specs.Growth.{Extends, HasNoRoom};
-ghost use Rattle.tre_share.specs.Order.{AreInOrder};
+ghost use Rattle.tre_share.specs.Taking.{AreInOrder};
 ghost use Rattle.tre_state.specs.Name.{IsName};
 ghost use Rattle.tre_state.specs.Names.{place_of};
 ghost use Rattle.tre_state.specs.declared.names.TheConstants.{NAMES_MAX};
@@ -24,7 +24,7 @@ impl Places {
     ghost use Rattle.std.specs.Prelude.{ℕ, List};
     ghost use Rattle.tre_parts.specs.Shared.{seen};
     ghost use Rattle.tre_share.specs.Shares.{Exceed};
-    ghost use Rattle.tre_share.specs.Places.{places_of, ArePlaces, bits_at};
+    ghost use Rattle.tre_share.specs.Places.{places_of, ArePlaces};
 
     /// Where each of the names stands among themselves.
     pub(crate) fn own(alloc: Global, names: &Names) -> Result<Places, AllocError>
@@ -57,6 +57,7 @@ impl Places {
         Ok(Places::of(places))
     }
 
+    // These places, each of which is one of a group.
     fn of(places: Vec<u8>) -> Places
         requires few { length places.items ≤ NAMES_MAX }
         requires within { All (λ place. place < NAMES_MAX) places.items }

@@ -1,6 +1,6 @@
 use Rattle.std.proofs.Common.{◌≡◌, ◌%◌, ◌^◌, length, drop, sym, ap, ◌∙◌, arith}
 use Rattle.std.proofs.lemmas.Nat.Bits.{bit_at-lt}
-use Rattle.tre_share.specs.Places.{bits_at}
+use Rattle.tre_share.specs.Taking.{bits_at}
 use Rattle.tre_share.proofs.Standing.{seen-room, seen-places, bits_at-order}
 use Rattle.tre_share.proofs.places.Places.seen.Goals as goal
 

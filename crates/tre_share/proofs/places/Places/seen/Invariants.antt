@@ -1,5 +1,5 @@
 use Rattle.std.proofs.Common.{◌≡◌, ◌≤◌, length, drop}
-use Rattle.tre_share.specs.Places.{bits_at}
+use Rattle.tre_share.specs.Taking.{bits_at}
 use Rattle.tre_share.proofs.places.Places.seen.Given as goal
 
 -- the bits of the names from this place on
