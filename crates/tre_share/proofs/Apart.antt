@@ -1,22 +1,20 @@
 -- Names that no reader has room for, and groups that can't be one.
-use Rattle.std.proofs.Common.{◌≡◌, ◌≢◌, ℕ, ◌+◌, ◌<◌, ◌≤◌, ◌⊎◌, inl, inr, Bool, true, false, List, [], ◌∷◌, ◌++◌, length, get_or, set, Option, None, Some, refl, sym, ap, subst, ◌∙◌, arith, length-append}
-use Rattle.std.specs.Prelude.{All, AllPairs, Contains, IsSome, IsOk, Result, slice_get}
-use Rattle.std.specs.Option.{is_some}
+use Rattle.std.proofs.Common.{◌≡◌, ◌≢◌, ℕ, ◌+◌, ◌<◌, ◌≤◌, ◌⊎◌, inl, inr, false, List, [], ◌∷◌, ◌++◌, length, get_or, set, Some, refl, sym, ap, subst, ◌∙◌, arith, length-append}
+use Rattle.std.specs.Prelude.{All, AllPairs, Contains, slice_get}
 use Rattle.std.specs.Cmp.{IsEquivalence}
 use Rattle.std.specs.Str.{bytes_eq}
 use Rattle.std.proofs.lemmas.Bool.{false≢true, cases_eq}
 use Rattle.std.proofs.lemmas.Bool.Decides.{same_from_decides}
-use Rattle.std.proofs.lemmas.List.{get_or-set_same, get_or-set_other, length-set}
+use Rattle.std.proofs.lemmas.List.{get_or-set_same, get_or-set_other}
 use Rattle.std.proofs.lemmas.List.Elements.{All-push, All-contains}
 use Rattle.std.proofs.lemmas.List.Quantifiers.{all_pairs_push}
 use Rattle.std.proofs.lemmas.Map.Made.{IsDistinct-from_AllPairs, is_member-Decides, length-le_from_is_member}
 use Rattle.std.proofs.lemmas.Option.{slice_get-get_or, get_or_from_slice_get}
 use Rattle.std.proofs.lemmas.Slice.Eq.{bytes_eq-Decides}
 use Rattle.tre_state.proofs.Places.{none_len, len_fails}
-use Rattle.tre_state.specs.Names.{place_of}
 use Rattle.tre_state.specs.declared.names.TheConstants.{NAMES_MAX}
 use Rattle.tre_trace.specs.Reading.{Vocabulary}
-use Rattle.tre_share.specs.Growth.{Extends, HasNoRoom, AreOf, IsWider, HasWider, Keep}
+use Rattle.tre_share.specs.Growth.{Extends, HasNoRoom, AreOf, IsWider, Keep}
 use Rattle.tre_share.specs.Shares.{Exceed, AreApart}
 use Rattle.tre_share.proofs.Standing.{get_or-front}
 
@@ -35,11 +33,12 @@ same_bytes = record {
 few_among : (xs names : List (List ℕ)) → AllPairs (λ name other. name ≢ other) xs
     → All (Contains names) xs → length xs ≤ length names
 few_among xs names distinct among =
-    length-le_from_is_member same_bytes xs names (IsDistinct-from_AllPairs bytes_eq-Decides xs distinct)
+    length-le_from_is_member same_bytes xs names
+    (IsDistinct-from_AllPairs bytes_eq-Decides xs distinct)
     (λ q member.
-        (is_member-Decides bytes_eq-Decides names q).1
-        (All-contains (Contains names) xs q among
-        ((is_member-Decides bytes_eq-Decides xs q).0 member)))
+    (is_member-Decides bytes_eq-Decides names q).1
+    (All-contains (Contains names) xs q among
+    ((is_member-Decides bytes_eq-Decides xs q).0 member)))
 
 -- two lists of bytes that the test tells apart are not the same
 differ : (x y : List ℕ) → bytes_eq y x ≡ false → x ≢ y

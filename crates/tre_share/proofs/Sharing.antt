@@ -1,16 +1,15 @@
 -- Views of groups stay right when groups grow.
-use Rattle.std.proofs.Common.{◌≡◌, ◌≢◌, ℕ, ◌+◌, ◌<◌, ◌≤◌, List, [], ◌∷◌, ◌++◌, length, get_or, set, Some, inl, inr, refl, sym, ap, subst, ◌∙◌, arith, length-append}
+use Rattle.std.proofs.Common.{◌≡◌, ◌≢◌, ℕ, ◌<◌, List, [], ◌∷◌, ◌++◌, length, get_or, set, Some, inl, inr, sym, ap, subst, ◌∙◌, arith, length-append}
 use Rattle.std.specs.Prelude.{slice_get}
 use Rattle.std.proofs.lemmas.List.{length-set, get_or-set_same, get_or-set_other}
 use Rattle.std.proofs.lemmas.Bool.{cases_eq}
 use Rattle.std.proofs.lemmas.Option.{slice_get-get_or, slice_get_within, get_or_from_slice_get}
 use Rattle.std.specs.List.{AllZip}
-use Rattle.tre_parts.specs.Shared.{AreAmong, AreDistinct}
+use Rattle.tre_parts.specs.Shared.{AreDistinct}
 use Rattle.tre_trace.specs.Reading.{Vocabulary}
-use Rattle.tre_share.specs.Growth.{Extends, IsWider, HasWider, Keep}
+use Rattle.tre_share.specs.Growth.{IsWider, HasWider, Keep}
 use Rattle.tre_share.specs.Places.{places_of, ArePlaces}
-use Rattle.tre_share.specs.Shares.{groups_of, views_of, Shows, IsViewOf, AreShared}
-use Rattle.tre_share.specs.declared.shares.Shares.{Shares}
+use Rattle.tre_share.specs.Shares.{Shows, IsViewOf}
 use Rattle.tre_share.specs.declared.view.View.{View}
 use Rattle.tre_share.proofs.Standing.{get_or-front, get_or-last, places-kept, places-among, Extends-none, Extends-trans}
 

@@ -1,11 +1,11 @@
 -- Where names stand among others: places stay when names come behind, and tell the bits.
-use Rattle.std.proofs.Common.{◌≡◌, ◌≢◌, ℕ, zero, suc, ◌+◌, ◌*◌, ◌/◌, ◌%◌, ◌^◌, ◌<◌, ◌≤◌, Bool, true, false, cond, List, [], ◌∷◌, ◌++◌, length, get_or, take, drop, Option, None, Some, refl, sym, ap, ◌∙◌, subst, arith, length-append, append_assoc}
+use Rattle.std.proofs.Common.{◌≡◌, ◌≢◌, ℕ, zero, suc, ◌+◌, ◌*◌, ◌/◌, ◌%◌, ◌^◌, ◌<◌, ◌≤◌, Bool, true, false, List, [], ◌∷◌, ◌++◌, length, get_or, take, drop, Option, None, Some, refl, sym, ap, ◌∙◌, subst, arith, length-append, append_assoc}
 use Rattle.std.proofs.lemmas.List.{append-nil, length-take, length-drop, take_more}
 use Rattle.std.proofs.lemmas.Option.{get_or_from_slice_get, slice_get_within}
 use Rattle.std.proofs.Math.Pow.{pow_mono}
 use Rattle.std.specs.Prelude.{All, AllPairs, position, nat_lt, slice_get, IsSomeAnd}
 use Rattle.std.specs.Int.{bit_at}
-use Rattle.std.specs.List.{AllZip, Contains, position_or_len}
+use Rattle.std.specs.List.{Contains}
 use Rattle.std.specs.Str.{bytes_eq}
 use Rattle.std.proofs.lemmas.Bool.Decides.{nat_tests}
 use Rattle.std.proofs.lemmas.List.Elements.{All-nil, All-cons, All-push}
@@ -16,10 +16,9 @@ use Rattle.std.proofs.Math.Nat.{two-pow-succ, pow-suc, div-div-eq-div-mul, mod-o
 use Rattle.std.proofs.Math.Arith.{mod-mul}
 use Rattle.std.proofs.lemmas.Nat.{pow_pos}
 use Rattle.std.proofs.lemmas.Slice.Eq.{bytes_eq-Decides}
-use Rattle.tre_parts.specs.Shared.{bit_there, seen, AreAmong}
-use Rattle.tre_state.specs.Names.{place_of, IsNameList}
+use Rattle.tre_parts.specs.Shared.{seen}
+use Rattle.tre_state.specs.Names.{place_of}
 use Rattle.tre_state.specs.declared.names.TheConstants.{NAMES_MAX}
-use Rattle.tre_trace.specs.Reading.{Vocabulary}
 use Rattle.tre_share.specs.Growth.{Extends}
 use Rattle.tre_share.specs.Places.{ArePlaces}
 use Rattle.tre_share.specs.Taking.{bits_at, AreInOrder}
