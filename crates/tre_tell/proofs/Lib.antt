@@ -1,0 +1,5 @@
+pub mod Accounts
+pub mod Lists
+pub mod Printing
+pub mod Told
+pub mod Transcripts
