@@ -1,0 +1,69 @@
+// One reader, and what it has read.
+ghost use Rattle.std.specs.Prelude.{◌≡◌, ℕ, ◌+◌, ◌≤◌, List, ◌++◌, [], length, false, true, None, OnOk, IfOk, IfErr};
+ghost use Rattle.tre_trace.specs.Reading.{Adds, IsRefused};
+ghost use Rattle.tre_trace.specs.declared.reader.TheConstants.{FED_MAX};
+
+use std::alloc::Global;
+use tre_trace::{Segment, TraceFault, TraceReader};
+
+// A reader, the segments that it has read and nobody has taken, and the events at the end; 0 before
+// it was told the end.
+#[derive(Drop)]
+pub struct Fed<R: Drop> {
+    pub reader: R,
+    pub segments: Vec<Segment>,
+    pub last: u64,
+}
+
+impl<R: TraceReader + Drop> Fed<R> {
+    // Nothing was read yet.
+    pub fn new(alloc: Global, reader: R) -> Fed<R>
+        ensures reader { result.reader ≡ reader }
+        ensures none { result.segments.items ≡ [] }
+        ensures last { result.last ≡ 0 }
+    {
+        Fed {
+            reader,
+            segments: Vec::new(alloc),
+            last: 0,
+        }
+    }
+
+    // Feeds a piece.
+    pub fn feed(&mut self, piece: &[u8]) -> Result<(), TraceFault>
+        requires room { R.fed_of self.old.reader + length piece.now ≤ FED_MAX }
+        ensures goes_on { (bytes : List ℕ) → R.represents self.old.reader bytes →
+            OnOk result (R.represents self.new.reader (bytes ++ piece.now)) }
+        ensures adds { (bytes : List ℕ) → R.represents self.old.reader bytes →
+            OnOk result (Adds self.old.segments.items self.new.segments.items
+            (R.reading (R.terms self.old.reader) false bytes)
+            (R.reading (R.terms self.old.reader) false (bytes ++ piece.now))) }
+        ensures refused { (bytes : List ℕ) → R.represents self.old.reader bytes →
+            IfErr result (IsRefused self.old.segments.items self.new.segments.items
+            (R.reading (R.terms self.old.reader) false bytes)
+            (R.reading (R.terms self.old.reader) false (bytes ++ piece.now))) }
+        ensures terms { R.terms self.new.reader ≡ R.terms self.old.reader }
+    {
+        self.reader.feed(piece, &mut self.segments)
+    }
+
+    // Tells the end.
+    pub fn finish(&mut self) -> Result<(), TraceFault>
+        ensures whole { (bytes : List ℕ) → R.represents self.old.reader bytes →
+            OnOk result ((R.reading (R.terms self.old.reader) true bytes).fault ≡ None) }
+        ensures last { (bytes : List ℕ) → R.represents self.old.reader bytes →
+            OnOk result (self.new.last ≡ (R.reading (R.terms self.old.reader) true bytes).last) }
+        ensures adds { (bytes : List ℕ) → R.represents self.old.reader bytes →
+            OnOk result (Adds self.old.segments.items self.new.segments.items
+            (R.reading (R.terms self.old.reader) false bytes)
+            (R.reading (R.terms self.old.reader) true bytes)) }
+        ensures refused { (bytes : List ℕ) → R.represents self.old.reader bytes →
+            IfErr result (IsRefused self.old.segments.items self.new.segments.items
+            (R.reading (R.terms self.old.reader) false bytes)
+            (R.reading (R.terms self.old.reader) true bytes)) }
+        ensures terms { R.terms self.new.reader ≡ R.terms self.old.reader }
+    {
+        self.last = self.reader.finish(&mut self.segments)?;
+        Ok(())
+    }
+}
