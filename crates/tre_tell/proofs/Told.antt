@@ -1,10 +1,11 @@
 -- What was told of the columns that a watch was given, and what stands where it stopped.
-use Rattle.std.proofs.Common.{◌≡◌, ◌∙◌, ℕ, suc, ◌+◌, ◌<◌, All, AllByRecursion, List, [], ◌∷◌, ◌++◌, length, map, codes, Option, None, Some, refl, sym, ap, subst, arith, length-append, append-nil}
+use Rattle.std.proofs.Common.{◌≡◌, ◌∙◌, ℕ, suc, ◌+◌, ◌<◌, All, List, [], ◌∷◌, ◌++◌, length, map, codes, Option, None, Some, refl, sym, ap, subst, arith, length-append, append-nil}
 use Rattle.std.specs.Io.KnownBytes.{Appends}
-use Rattle.std.specs.List.{AllZip}
+use Rattle.std.specs.List.{AllByRecursion, AllZip}
 use Rattle.std.specs.List.Sorted.{IsPermutation}
 use Rattle.std.proofs.KnownBytes.{Appends-trans}
 use Rattle.std.proofs.Math.Seq.{take-append-add, get_or-append_seam}
+use Rattle.std.proofs.lemmas.List.{length-map, map-id}
 use Rattle.std.proofs.lemmas.List.Elements.{All-nil, All-head, All-tail, All-from_recursion, recursion_from_All}
 use Rattle.std.proofs.lemmas.List.Sorted.{IsPermutation-refl}
 use Rattle.tre_feed.specs.Readings.{AreLevel, count_of}
@@ -13,7 +14,7 @@ use Rattle.tre_online.specs.Watch.{sessions_of, trees_of, ended_of_each, first_a
 use Rattle.tre_online.specs.declared.session.Session.{Session}
 use Rattle.tre_online.specs.declared.watch.Watch.{Watch}
 use Rattle.tre_syntax.specs.PatternTree.{PatternTree}
-use Rattle.tre_trace.specs.Trace.{quiet, end_of}
+use Rattle.tre_trace.specs.Trace.{Timeline, quiet, end_of}
 use Rattle.tre_trace.specs.declared.fault.PushFault.{PushFault}
 use Rattle.tre_trace.specs.declared.fault.PushFault.TheVariants.{Zero, TooLate, Memory}
 use Rattle.tre_trace.specs.declared.segment.Segment.{Segment}
@@ -95,11 +96,11 @@ HasTranscript account =
     IsTranscript account.blocks account.pattern.tree account.trace.segments
 
 -- the trees of accounts, and their rows
-abbrev pub trees_in : List Account → List PatternTree
-trees_in accounts = map (λ account. account.pattern.tree) accounts
+abbrev pub told_trees : List Account → List PatternTree
+told_trees accounts = map (λ account. account.pattern.tree) accounts
 
-abbrev pub rows_in : List Account → List (List Segment)
-rows_in accounts = map (λ account. account.trace.segments) accounts
+abbrev pub told_rows : List Account → List (List Segment)
+told_rows accounts = map (λ account. account.trace.segments) accounts
 
 -- What is known of accounts with one block more.
 pub record AreMore (accounts : List Account) (column : List Segment)
@@ -111,7 +112,7 @@ pub record AreMore (accounts : List Account) (column : List Segment)
   pub patterns : map (λ account. account.pattern) (accounts_more accounts column printed)
       ≡ map (λ account. account.pattern) accounts
   pub traces : map (λ account. account.trace) (accounts_more accounts column printed)
-      ≡ map quiet (pushed_each (rows_in accounts) column)
+      ≡ map quiet (pushed_each (told_rows accounts) column)
 
 -- the last of some blocks
 last_of : (blocks : List (List ZoneBounds)) (told zones : List ZoneBounds)
@@ -125,7 +126,7 @@ last_of blocks told zones order =
 -- one block more of each pattern
 are_more : (accounts : List Account) (column : List Segment)
     (earlier told printed : List (List ZoneBounds))
-    → TellEach (trees_in accounts) (rows_in accounts) column earlier told
+    → TellEach (told_trees accounts) (told_rows accounts) column earlier told
     → AllZip IsPrinted told printed → AllZip IsLastBlock earlier accounts
     → All HasTranscript accounts → AreMore accounts column told printed
 are_more [] [] [] [] [] tells prints ended transcripts = record {
@@ -159,8 +160,9 @@ are_more (account ∷ accounts) (segment ∷ column) (last ∷ earlier) (zones �
 are_more [] [] [] [] (lines ∷ printed) tells prints ended transcripts = absurd prints
 are_more [] [] [] (zones ∷ told) printed tells prints ended transcripts = absurd tells
 are_more [] [] (last ∷ earlier) told printed tells prints ended transcripts = absurd ended
-are_more [] (segment ∷ column) earlier told printed tells prints ended transcripts = ?
-are_more (account ∷ accounts) [] earlier told printed tells prints ended transcripts = ?
+are_more [] (segment ∷ column) earlier told printed tells prints ended transcripts = absurd tells
+are_more (account ∷ accounts) [] earlier told printed tells prints ended transcripts =
+    absurd tells
 are_more (account ∷ accounts) (segment ∷ column) [] told printed tells prints ended transcripts =
     absurd ended
 are_more (account ∷ accounts) (segment ∷ column) (last ∷ earlier) [] printed tells prints ended
@@ -170,9 +172,179 @@ are_more (account ∷ accounts) (segment ∷ column) (last ∷ earlier) (zones �
 
 -- each has as many blocks as segments
 have_blocks : (n : ℕ) (accounts : List Account) → All HasTranscript accounts
-    → AllByRecursion (λ row. length row ≡ n) (rows_in accounts) → HaveBlocks n accounts
+    → AllByRecursion (λ row. length row ≡ n) (told_rows accounts) → HaveBlocks n accounts
 have_blocks n [] transcripts each = tt
 have_blocks n (account ∷ accounts) transcripts each = (
   (All-head HasTranscript account accounts transcripts).count ∙ each.0,
   have_blocks n accounts (All-tail HasTranscript account accounts transcripts) each.1,
 )
+
+-- the head of what was pushed
+first_pushed : (row : List Segment) (rows : List (List Segment)) (segment : Segment)
+    (column : List Segment)
+    → first_row (pushed_each (row ∷ rows) (segment ∷ column)) ≡ row ++ segment ∷ []
+first_pushed row rows segment column = refl
+
+module _ (scale : ℕ) where
+  -- the text with one block more
+  text_more : (accounts : List Account) (rows : List (List Segment)) (column : List Segment)
+      (printed : List (List ZoneBounds)) (time : ℕ) → HaveBlocks (count_of rows) accounts
+      → length rows ≡ length accounts → length column ≡ length accounts
+      → length printed ≡ length accounts → 0 < length column
+      → time ≡ end_of 0 (first_row (pushed_each rows column))
+      → blocks_text scale (accounts_more accounts column printed)
+      (first_row (pushed_each rows column))
+      ≡ blocks_text scale accounts (first_row rows)
+      ++ (lines_behind scale (labels_of accounts) printed ++ time_line scale (codes "at ") time)
+  text_more accounts rows [] printed time have count columns prints some ends =
+      absurd (omega (arith, some))
+  text_more accounts [] (segment ∷ column) printed time have count columns prints some ends =
+      absurd (omega (arith, count, columns))
+  text_more accounts (row ∷ rows) (segment ∷ column) printed time have count columns prints some
+      ends = rw ends (blocks_text-more scale accounts (segment ∷ column) printed row segment have
+      columns prints)
+
+  -- the blocks before it
+  text_before : (accounts : List Account) (rows : List (List Segment)) (column : List Segment)
+      (printed : List (List ZoneBounds)) → HaveBlocks (count_of rows) accounts
+      → length column ≡ length accounts → length printed ≡ length accounts
+      → blocks_text scale (accounts_more accounts column printed) (first_row rows)
+      ≡ blocks_text scale accounts (first_row rows)
+  text_before accounts [] column printed have columns prints =
+      blocks_text-before scale accounts column printed [] have columns prints
+  text_before accounts (row ∷ rows) column printed have columns prints =
+      blocks_text-before scale accounts column printed row have columns prints
+
+-- What is known of a watch that has told its rows, in the words of the accounts.
+pub record InAccounts (watch : Watch) (labels : List (List ℕ)) (patterns : List Sought)
+    (rows : List (List Segment)) (accounts : List Account) : Type 0 where
+  pub trees : trees_of watch ≡ told_trees accounts
+  pub labels_are : labels ≡ labels_of accounts
+  pub rows_are : rows ≡ told_rows accounts
+  pub have : HaveBlocks (count_of rows) accounts
+
+module _ {watch : Watch} {labels : List (List ℕ)} {scale : ℕ} {patterns : List Sought}
+    {rows : List (List Segment)} {before now : Option (List ℕ)} where
+  pub in_accounts : (so_far : HasTold watch labels scale patterns rows before now)
+      → InAccounts watch labels patterns rows so_far.told.accounts
+  in_accounts so_far =
+      let accounts = so_far.told.accounts in
+      let are = so_far.told.are in
+      let rows_are : rows ≡ told_rows accounts =
+      sym (map-id rows)
+      ∙ (sym (map-map quiet (λ (trace : Timeline). trace.segments) rows)
+      ∙ (ap (map (λ (trace : Timeline). trace.segments)) (sym are.over_traces)
+      ∙ map-map (λ (account : Account). account.trace) (λ trace. trace.segments) accounts)) in
+      record {
+        trees = so_far.same_trees
+            ∙ (ap (map (λ (pattern : Sought). pattern.tree)) (sym are.of_patterns)
+            ∙ map-map (λ (account : Account). account.pattern) (λ pattern. pattern.tree) accounts);
+        labels_are = so_far.same_labels
+            ∙ (ap (map (λ (pattern : Sought). pattern.label)) (sym are.of_patterns)
+            ∙ map-map (λ (account : Account). account.pattern) (λ pattern. pattern.label)
+            accounts);
+        rows_are = rows_are;
+        have = have_blocks (count_of rows) accounts are.told
+            (subst (λ rs. AllByRecursion (λ (row : List Segment). length row ≡ count_of rows) rs)
+            rows_are (lengths_in rows so_far.level));
+      }
+
+  -- accounts with the block of one column more
+  more_of : (column : List Segment) (sets printed : List (List ZoneBounds))
+      → (so_far : HasTold watch labels scale patterns rows before now)
+      → TellEach (trees_of watch) rows column (ended_of_each watch) sets
+      → AllZip IsPrinted sets printed
+      → AreMore so_far.told.accounts column sets printed
+  more_of column sets printed so_far tells prints =
+      let known = in_accounts so_far in
+      let accounts = so_far.told.accounts in
+      are_more accounts column (ended_of_each watch) sets printed
+      (subst (λ rs. TellEach (told_trees accounts) rs column (ended_of_each watch) sets)
+      known.rows_are
+      (subst (λ ts. TellEach ts rows column (ended_of_each watch) sets) known.trees tells))
+      prints so_far.ended so_far.told.are.told
+
+  -- they are those of the rows with the column
+  are_accounts : (column : List Segment) (sets printed : List (List ZoneBounds))
+      → (so_far : HasTold watch labels scale patterns rows before now)
+      → AreMore so_far.told.accounts column sets printed
+      → AreAccounts patterns (map quiet (pushed_each rows column))
+      (accounts_more so_far.told.accounts column printed)
+  are_accounts column sets printed so_far more =
+      let known = in_accounts so_far in
+      record {
+        of_patterns = more.patterns ∙ so_far.told.are.of_patterns;
+        over_traces = more.traces
+            ∙ ap (λ rs. map quiet (pushed_each rs column)) (sym known.rows_are);
+        told = All-from_recursion HasTranscript _ more.transcripts;
+      }
+
+  -- the text with the block of the column
+  text_with : (column : List Segment) (sets printed : List (List ZoneBounds)) (time : ℕ)
+      → (so_far : HasTold watch labels scale patterns rows before now)
+      → AreMore so_far.told.accounts column sets printed → 0 < length column
+      → time ≡ end_of 0 (first_row (pushed_each rows column))
+      → blocks_text scale (accounts_more so_far.told.accounts column printed)
+      (first_row (pushed_each rows column))
+      ≡ blocks_text scale so_far.told.accounts (first_row rows)
+      ++ (lines_behind scale labels printed ++ time_line scale (codes "at ") time)
+  text_with column sets printed time so_far more some ends =
+      let known = in_accounts so_far in
+      let accounts = so_far.told.accounts in
+      let count : length rows ≡ length accounts =
+      ap length known.rows_are ∙ length-map accounts (λ account. account.trace.segments) in
+      rw known.labels_are (text_more scale accounts rows column printed time known.have count
+      more.columns more.prints some ends)
+
+  -- one column more was told
+  pub HasTold-more : (then : Watch) (column : List Segment) (sets : List (List ZoneBounds))
+      (text : List ℕ) (now' : Option (List ℕ))
+      → HasTold watch labels scale patterns rows before now
+      → Watches then (pushed_each rows column)
+      → trees_of then ≡ trees_of watch → ended_of_each then ≡ sets
+      → TellEach (trees_of watch) rows column (ended_of_each watch) sets
+      → IsTextOf scale labels sets (time_line scale (codes "at ") (time_of then)) text
+      → 0 < length column → Appends now now' text
+      → HasTold then labels scale patterns (pushed_each rows column) before now'
+  HasTold-more then column sets text now' so_far stands trees ended tells made some written =
+      let more = more_of column sets made.printed so_far tells made.are in
+      let same = text_with column sets made.printed (time_of then) so_far more some
+      (time_first then (pushed_each rows column) stands) in
+      record {
+        stands = stands;
+        level = level_of (suc (count_of rows)) (pushed_each rows column)
+            (level_pushed (count_of rows) rows column (lengths_in rows so_far.level));
+        same_trees = trees ∙ so_far.same_trees;
+        same_labels = so_far.same_labels;
+        told = record {
+          accounts = accounts_more so_far.told.accounts column made.printed;
+          are = are_accounts column sets made.printed so_far more;
+          written = rw same (Appends-trans before now now' _ _ so_far.told.written
+              (rw made.is_text at written));
+        };
+        ended = rw ended more.ended;
+      }
+
+  -- a write failed within the block of one column more
+  pub HasTold-cut : (then : Watch) (column : List Segment) (sets : List (List ZoneBounds))
+      (text : List ℕ) (now' : Option (List ℕ))
+      → HasTold watch labels scale patterns rows before now
+      → Watches then (pushed_each rows column)
+      → TellEach (trees_of watch) rows column (ended_of_each watch) sets
+      → IsTextOf scale labels sets (time_line scale (codes "at ") (time_of then)) text
+      → 0 < length column → AppendsPart now now' text
+      → LastBlockIsCut scale patterns rows column before now'
+  HasTold-cut then column sets text now' so_far stands tells made some part =
+      let more = more_of column sets made.printed so_far tells made.are in
+      let known = in_accounts so_far in
+      let same = text_with column sets made.printed (time_of then) so_far more some
+      (time_first then (pushed_each rows column) stands) in
+      record {
+        accounts = accounts_more so_far.told.accounts column made.printed;
+        are = are_accounts column sets made.printed so_far more;
+        cut = rw (
+          text_before scale so_far.told.accounts rows column made.printed known.have more.columns
+              more.prints,
+          same,
+        ) (IsCutBehind-after before now now' _ _ so_far.told.written (rw made.is_text at part));
+      }

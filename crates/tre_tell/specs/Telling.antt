@@ -1,7 +1,7 @@
 -- What the parts of a telling promise each other of what was told. A row is the segments of one
 -- pattern, and a column the segments of all patterns at one place.
-use Rattle.std.specs.Prelude.{◌≡◌, ◌<◌, ℕ, AllByRecursion, List, [], ◌∷◌, ◌++◌, length, take, map, Option, Result, Ok, Err, IsPermutation}
-use Rattle.std.specs.List.{AllZip}
+use Rattle.std.specs.Prelude.{◌≡◌, ◌<◌, ℕ, List, [], ◌∷◌, ◌++◌, length, take, map, Option, Result, Ok, Err, IsPermutation}
+use Rattle.std.specs.List.{AllByRecursion, AllZip}
 use Rattle.std.specs.Io.KnownBytes.{Appends}
 use Rattle.tre_feed.specs.Readers.{column}
 use Rattle.tre_feed.specs.Readings.{AreLevel, count_of}
@@ -52,15 +52,14 @@ pub record CanTell (watch : Watch) (column : List Segment) : Type 0 where
   pub alike : AreAlike column
   pub fits : FirstFits rows column
 
--- It has read rows, and these come behind them.
+-- It has read rows, and these come behind them: as many segments of each, and of the same lengths.
 pub record CanTellAll (watch : Watch) (waiting : List (List Segment)) : Type 0 where
   pub rows : List (List Segment)
-  pub left : List Segment
   pub lengths : List ℕ
   pub stands : Watches watch rows
   pub count : length waiting ≡ length (trees_of watch)
   pub alike : AllByRecursion (λ row. lengths_of row ≡ lengths) waiting
-  pub is_trace : IsTrace (first_row rows ++ (first_row waiting ++ left))
+  pub is_trace : IsTrace (first_row rows ++ first_row waiting)
 
 -- The blocks of these rows were written, and nothing else.
 pub record BlocksWritten (scale : ℕ) (patterns : List Sought) (rows : List (List Segment))
