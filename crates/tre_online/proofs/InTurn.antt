@@ -1,7 +1,8 @@
 -- Going through the sessions of a watch in turn: what was done for those up to a place, and what is
 -- left, make up what is done for all.
-use Rattle.std.proofs.Common.{◌≡◌, ℕ, suc, zero, ◌+◌, ◌<◌, ◌≤◌, length, get_or, set, take, drop, drop-cons, List, [], ◌∷◌, ◌++◌, refl, sym, ap, subst, inl, inr, arith, append_assoc, ◌∙◌}
-use Rattle.std.proofs.lemmas.List.{append-nil, take_all, drop_all, take_more_set, drop-set-lt, length-set}
+use Rattle.std.proofs.Common.{◌≡◌, ℕ, ◌+◌, ◌<◌, ◌≤◌, length, get_or, set, take, drop, List, [], ◌∷◌, ◌++◌, refl, sym, ap, subst, inl, inr, arith, append_assoc, ◌∙◌}
+use Rattle.std.proofs.lemmas.List.{append-nil, take_all, drop_all, drop_more, take_more_set, drop-set-lt, length-set}
+use Rattle.std.proofs.lemmas.Grind.{drop_more_same}
 use Rattle.tre_syntax.specs.declared.pattern.Pattern.{Pattern}
 use Rattle.tre_trace.specs.declared.fault.PushFault.{PushFault}
 use Rattle.tre_trace.specs.declared.segment.Segment.{Segment}
@@ -12,9 +13,8 @@ use Rattle.tre_online.specs.declared.session.Session.{Session}
 -- What is at the place, and what is behind it.
 split_at : {X : Type 0} → (list : List X) (place : ℕ) (d : X) → place < length list
     → d ≡ get_or list place d → drop place list ≡ d ∷ drop (place + 1) list
-split_at list place d below is =
-    let split = drop-cons list place d below in
-    cc
+split_at {X = X} list place d below is =
+    drop_more list place d below ∙ ap (λ (x : X). x ∷ drop (place + 1) list) (sym is)
 
 -- The patterns up to the place have their sessions.
 pub record HaveBegun (patterns : List Pattern) (place : ℕ) (sessions : List Session) : Type 0 where
@@ -76,15 +76,8 @@ module _ (olds : List Session) (segments : List Segment) (place : ℕ) (now : Li
   olds_split : drop place olds ≡ session ∷ drop (place + 1) now
   olds_split = sym gone.rest ∙ split_at now place session below here
 
-  tail_of : {X : Type 0} → (x : X) (list : List X) → (place : ℕ) (all : List X)
-      → drop place all ≡ x ∷ list → list ≡ drop (place + 1) all
-  tail_of x list zero [] split = cc
-  tail_of x list zero (first ∷ all) split = cc
-  tail_of x list (suc place) [] split = cc
-  tail_of x list (suc place) (first ∷ all) split = tail_of x list place all split
-
   rest_same : drop (place + 1) now ≡ drop (place + 1) olds
-  rest_same = tail_of session (drop (place + 1) now) place olds olds_split
+  rest_same = drop_more_same now olds place gone.rest
 
   -- A refusal at the place is one of the sessions.
   pub refused_here : (fault : PushFault) → IsRefusedBy session segment fault
@@ -111,9 +104,11 @@ module _ (olds : List Session) (segments : List Segment) (place : ℕ) (now : Li
         sym (ap (λ (list : List (List ZoneBounds)). list ++ more) pushed
         ∙ append_assoc told (zones ∷ []) more) in
         let both : GoEach (session ∷ drop (place + 1) now) (segment ∷ drop (place + 1) segments)
-        (new ∷ news) (zones ∷ more) =
-        (goes, subst (λ (list : List Session). GoEach list (drop (place + 1) segments) news more)
-        (sym rest_same) go) in
+        (new ∷ news) (zones ∷ more) = (
+          goes,
+          subst (λ (list : List Session). GoEach list (drop (place + 1) segments) news more)
+              (sym rest_same) go,
+        ) in
         subst (λ (list : List Session). GoEach olds segments list (next ++ more)) sessions
         (subst (λ (list : List (List ZoneBounds)).
         GoEach olds segments (take place now ++ new ∷ news) list) sets
@@ -162,12 +157,12 @@ pub HaveClosed-start : (sessions : List Session) (events : List ℕ)
 HaveClosed-start sessions events = record { goes_on = λ more tell. tell }
 
 pub HaveClosed-next : (sessions : List Session) (events : List ℕ) (place : ℕ)
-    (told : List (List ZoneBounds)) (session : Session) (here : ℕ) (zones : List ZoneBounds)
+    (told : List (List ZoneBounds)) (session : Session) (zones : List ZoneBounds)
     → HaveClosed sessions events place told → length events ≡ length sessions
     → place < length sessions → session ≡ get_or sessions place session
-    → here ≡ get_or events place here → TellsAtEnd session here zones
+    → TellsAtEnd session (get_or events place 0) zones
     → HaveClosed sessions events (place + 1) (told ++ zones ∷ [])
-HaveClosed-next sessions events place told session here zones closed count below at is tells =
+HaveClosed-next sessions events place told session zones closed count below at tells =
     record {
       goes_on = λ more rest.
           subst (TellEachAtEnd sessions events) (sym (append_assoc told (zones ∷ []) more))
@@ -177,7 +172,7 @@ HaveClosed-next sessions events place told session here zones closed count below
           (sym (split_at sessions place session below at))
           (subst (λ (list : List ℕ).
           TellEachAtEnd (session ∷ drop (place + 1) sessions) list (zones ∷ more))
-          (sym (split_at events place here (omega (arith, below, count)) is)) (tells, rest))));
+          (sym (drop_more events place 0 (omega (arith, below, count)))) (tells, rest))));
     }
 
 pub HaveClosed-end : (sessions : List Session) (events : List ℕ) (place : ℕ)

@@ -1,16 +1,16 @@
 -- What a watch stands for and what it tells, from what each of its sessions does.
-use Rattle.std.proofs.Common.{◌≡◌, ℕ, ◌+◌, ◌<◌, ◌≤◌, length, List, [], ◌∷◌, ◌++◌, map, refl, sym, subst, inl, inr, ⊎_elim, arith, ◌∙◌}
+use Rattle.std.proofs.Common.{◌≡◌, ℕ, ◌+◌, length, List, [], ◌∷◌, ◌++◌, map, refl, sym, subst, inl, inr, arith, ◌∙◌}
 use Rattle.std.specs.List.{AllByRecursion}
 use Rattle.tre_syntax.specs.Pattern.{pattern_tree}
 use Rattle.tre_syntax.specs.PatternTree.{PatternTree}
 use Rattle.tre_syntax.specs.declared.pattern.Pattern.{Pattern}
-use Rattle.tre_trace.specs.Trace.{end_of, Fits, IsRefusedFor}
+use Rattle.tre_trace.specs.Trace.{end_of, IsRefusedFor}
 use Rattle.tre_trace.specs.declared.fault.PushFault.{PushFault}
 use Rattle.tre_trace.specs.declared.fault.PushFault.TheVariants.{Zero, TooLate, Memory}
 use Rattle.tre_trace.specs.declared.segment.Segment.{Segment}
 use Rattle.tre_trace.proofs.Segments.{end_of-append}
 use Rattle.tre_zone.specs.declared.zone_bounds.ZoneBounds.{ZoneBounds}
-use Rattle.tre_online.specs.Session.{pattern_of, at_of, ended_of, StandsFor}
+use Rattle.tre_online.specs.Session.{pattern_of, at_of, ended_of}
 use Rattle.tre_online.specs.Watch.{first_at, StandForEach, EndEach, pushed_each, FitEach, TellEach, TellLastEach, RefuseEach, AreAlike, AreRefusedFor}
 use Rattle.tre_online.specs.Giving.{AreNewFor, GoEach, IsRefusedByOne, TellEachAtEnd}
 use Rattle.tre_online.specs.declared.session.Session.{Session}
@@ -58,7 +58,17 @@ together_new (pattern ∷ patterns) (session ∷ sessions) new =
     (sym new.0.stands.at) (end_empty (pattern ∷ patterns))
 together_new patterns sessions new = absurd new
 
--- The last sessions of each kind are those before, with what they were told.
+-- There are as many sessions as before.
+pub as_many : (olds : List Session) (segments : List Segment) (news : List Session)
+    (told : List (List ZoneBounds)) → GoEach olds segments news told
+    → length news ≡ length olds
+as_many [] [] [] [] go = refl
+as_many (old ∷ olds) (segment ∷ segments) (new ∷ news) (zones ∷ told) go =
+    let rest = as_many olds segments news told go.1 in
+    omega (arith, rest)
+as_many olds segments news told go = absurd go
+
+-- Each session then stands for its trace with the segment behind it.
 pub stand_next : (olds : List Session) (segments : List Segment) (news : List Session)
     (told : List (List ZoneBounds)) (traces : List (List Segment))
     → GoEach olds segments news told → StandForEach olds traces
@@ -187,11 +197,10 @@ module _ (time len : ℕ) (fault : PushFault) where
       → AllByRecursion (λ segment. segment.len ≡ len) segments
       → RefuseEach fault traces segments
   refuse_each [] [] [] all count each ends alike = tt
-  refuse_each (session ∷ sessions) (segment ∷ segments) (trace ∷ traces) all count each ends alike =
-      (
-        all trace segment ends.0 alike.0,
-        refuse_each sessions segments traces all (omega (arith, count)) each.1 ends.1 alike.1,
-      )
+  refuse_each (session ∷ sessions) (segment ∷ segments) (trace ∷ traces) all count each ends alike = (
+    all trace segment ends.0 alike.0,
+    refuse_each sessions segments traces all (omega (arith, count)) each.1 ends.1 alike.1,
+  )
   refuse_each [] (segment ∷ segments) traces all count each ends alike = absurd (omega (arith, count))
   refuse_each (session ∷ sessions) [] traces all count each ends alike = absurd (omega (arith, count))
   refuse_each [] [] (trace ∷ traces) all count each ends alike = absurd each

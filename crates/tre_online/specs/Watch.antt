@@ -1,5 +1,5 @@
--- Watches: what one stands for, and what it tells of its segments and of the ends. Each word is that
--- of a session, said of each in turn.
+-- Watches: what one stands for, and what it tells of its segments and of the ends. Each word is
+-- that of a session, said of each in turn.
 use Rattle.std.specs.Prelude.{◌≡◌, ℕ, List, [], ◌∷◌, ◌++◌, map}
 use Rattle.std.specs.List.{AllByRecursion}
 use Rattle.tre_syntax.specs.Pattern.{pattern_tree}

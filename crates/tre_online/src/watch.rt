@@ -50,8 +50,8 @@ impl Watch {
         }
     }
 
-    /// Reads a segment for each pattern, and gives the watch back with what each session tells. After
-    /// a refusal the watch is given up.
+    /// Reads a segment for each pattern, and gives the watch back with what each session tells.
+    /// After a refusal the watch is given up.
     pub fn segment(self, segments: &[Segment]) -> Result<(Watch, Told), PushFault>
         requires count { length segments.now ≡ length (trees_of self) }
         requires alike { AreAlike segments.now }
@@ -92,7 +92,8 @@ impl Watch {
     }
 }
 
-/// What the sessions of a watch tell: a set of zones for each pattern, in the order of the patterns.
+/// What the sessions of a watch tell: a set of zones for each pattern, in the order of the
+/// patterns.
 #[derive(Debug, Drop)]
 pub struct Told {
     sets: Vec<ZoneSet>,
@@ -149,23 +150,40 @@ fn give_each(
 {
     let mut sets = Vec::new(alloc);
     for (place, session) in sessions.iter_mut().enumerate() {
-        give(session, segments[place], &mut sets)?;
+        give(session, segments[place], &mut sets, segments.len())?;
     }
     Ok(sets)
 }
 
 // Gives the session a segment, and puts what it tells behind the sets.
-fn give(session: &mut Session, segment: Segment, sets: &mut Vec<ZoneSet>) -> Result<(), PushFault>
+fn give(
+    session: &mut Session,
+    segment: Segment,
+    sets: &mut Vec<ZoneSet>,
+    count: usize,
+) -> Result<(), PushFault>
     ensures ok { OnOk result ((told : List ZoneBounds)
         × (sets.new.items ≡ sets.old.items ++ told ∷ [])
         × Goes session.old segment session.new told) }
     ensures err { IfErr result (IsRefusedBy session.old segment) }
 {
     let told = session.segment(segment)?;
-    match sets.push(told) {
+    match put(sets, told, count) {
         Ok(()) => Ok(()),
         Err(_) => Err(PushFault::Memory),
     }
+}
+
+// Puts the set behind the others, of which there will be so many. Room for all is made with the
+// first.
+fn put(sets: &mut Vec<ZoneSet>, told: ZoneSet, count: usize) -> Result<(), AllocError>
+    ensures { OnOk result (sets.new.items ≡ sets.old.items ++ told ∷ []) }
+{
+    if sets.is_empty() {
+        sets.reserve_exact(count)?;
+    }
+    sets.push(told)?;
+    Ok(())
 }
 
 // What each session tells where its trace ends with these events.
