@@ -271,7 +271,7 @@ module _ (labels : List (List ℕ)) (patterns : List Pattern)
     (same : length labels ≡ length patterns)
     (many : length (readings false []) ≡ length patterns)
     (nothing : SayNothing readings) where
-  none_taken : take limit [] ≡ []
+  none_taken : take {A = ℕ} limit [] ≡ []
   none_taken = take-over {X = ℕ} limit [] (omega arith)
 
   nothing_each : AllByRecursion (λ reading. reading.segments ≡ []) (readings false [])

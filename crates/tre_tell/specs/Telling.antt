@@ -61,6 +61,11 @@ pub record CanTellAll (watch : Watch) (waiting : List (List Segment)) : Type 0 w
   pub alike : AllByRecursion (λ row. lengths_of row ≡ lengths) waiting
   pub is_trace : IsTrace (first_row rows ++ first_row waiting)
 
+-- It has read some rows.
+pub record HasRows (watch : Watch) : Type 0 where
+  pub rows : List (List Segment)
+  pub stands : Watches watch rows
+
 -- The blocks of these rows were written, and nothing else.
 pub record BlocksWritten (scale : ℕ) (patterns : List Sought) (rows : List (List Segment))
     (before now : Option (List ℕ)) : Type 0 where

@@ -14,6 +14,7 @@
 //! ```
 #![tactic(auto)]
 
+mod block;
 mod fault;
 mod output;
 mod telling;
