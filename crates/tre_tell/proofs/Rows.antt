@@ -159,30 +159,12 @@ first_fits place (row ∷ rows) (more ∷ waiting) below trace =
     fits_within (row ++ take place more) (get_or more place no_segment) (drop (suc place) more)
     (subst IsTrace split trace)
 
--- the next column of those that wait can be told
-pub CanTell-at : (watch then : Watch) (waiting : List (List Segment)) (place : ℕ)
-    → (can : CanTellAll watch waiting) → place < count_of waiting
-    → trees_of then ≡ trees_of watch → Watches then (joined can.rows (heads place waiting))
-    → CanTell then (column place waiting)
-CanTell-at watch then waiting place can below trees stands =
-    let level : AllByRecursion (λ (row : List Segment). length row ≡ length can.lengths) waiting =
-    level_alike can.lengths waiting can.alike in
-    let inside : AllByRecursion (λ (row : List Segment). place < length row) waiting =
-    below_each place (count_of waiting) waiting below (same_count waiting (length can.lengths)
-    level) in
-    record {
-      rows = joined can.rows (heads place waiting);
-      stands = stands;
-      some = rw (length-map waiting (λ row. get_or row place no_segment)) (some_row waiting below);
-      count = length-map waiting (λ row. get_or row place no_segment)
-          ∙ (can.count ∙ ap length (sym trees));
-      alike = column_alike place can.lengths waiting can.alike;
-      fits = first_fits place can.rows waiting inside can.is_trace;
-    }
+-- as many wait of each as of the first
+pub counts_can : (watch : Watch) (waiting : List (List Segment)) → CanTellAll watch waiting
+    → AllByRecursion (λ row. length row ≡ count_of waiting) waiting
+counts_can watch waiting can =
+    same_count waiting (length can.lengths) (level_alike can.lengths waiting can.alike)
   where
-    some_row : (waiting : List (List Segment)) → place < count_of waiting → 0 < length waiting
-    some_row [] below = absurd (omega (arith, below))
-    some_row (row ∷ waiting) below = omega arith
     same_count : (waiting : List (List Segment)) (n : ℕ)
         → AllByRecursion (λ (row : List Segment). length row ≡ n) waiting
         → AllByRecursion (λ (row : List Segment). length row ≡ count_of waiting) waiting
@@ -190,3 +172,28 @@ CanTell-at watch then waiting place can below trees stands =
     same_count (row ∷ waiting) n level =
         subst (λ k. AllByRecursion (λ (other : List Segment). length other ≡ k) (row ∷ waiting))
         (sym level.0) level
+
+pub inside_can : (watch : Watch) (waiting : List (List Segment)) (place : ℕ)
+    → CanTellAll watch waiting → place < count_of waiting
+    → AllByRecursion (λ row. place < length row) waiting
+inside_can watch waiting place can below =
+    below_each place (count_of waiting) waiting below (counts_can watch waiting can)
+
+-- the next column of those that wait can be told
+pub CanTell-at : (watch then : Watch) (waiting : List (List Segment)) (place : ℕ)
+    → (can : CanTellAll watch waiting) → place < count_of waiting
+    → trees_of then ≡ trees_of watch → Watches then (joined can.rows (heads place waiting))
+    → CanTell then (column place waiting)
+CanTell-at watch then waiting place can below trees stands = record {
+  rows = joined can.rows (heads place waiting);
+  stands = stands;
+  some = rw (length-map waiting (λ row. get_or row place no_segment)) (some_row waiting below);
+  count = length-map waiting (λ row. get_or row place no_segment)
+      ∙ (can.count ∙ ap length (sym trees));
+  alike = column_alike place can.lengths waiting can.alike;
+  fits = first_fits place can.rows waiting (inside_can watch waiting place can below) can.is_trace;
+}
+  where
+    some_row : (waiting : List (List Segment)) → place < count_of waiting → 0 < length waiting
+    some_row [] below = absurd (omega (arith, below))
+    some_row (row ∷ waiting) below = omega arith
