@@ -7,7 +7,7 @@ use Rattle.std.proofs.lemmas.List.{length-map}
 use Rattle.std.proofs.lemmas.List.Elements.{All-head, All-weaker, recursion_from_All}
 use Rattle.tre_feed.specs.Feeding.{IsFed, AddsRead, HasRead, GoesOn, StopsTurn, EndsTurn}
 use Rattle.tre_feed.specs.Input.{InputTold, WereRead, TakesAtMost, HasReadCause}
-use Rattle.tre_feed.specs.Readers.{row_of, terms_of, rows_of, WereFed, WereFedAtMost}
+use Rattle.tre_feed.specs.Readers.{row_of, terms_of, rows_of, lasts_of, WereFed, WereFedAtMost}
 use Rattle.tre_feed.specs.Readings.{readings_by, common, AgreeAlways, rows_in, AddsEach}
 use Rattle.tre_feed.specs.declared.fault.FeedFault.{FeedFault}
 use Rattle.tre_feed.specs.declared.fault.FeedFault.TheVariants.{Trace as FeedTrace, TooLong as FeedTooLong, Read as FeedRead, Memory as FeedMemory}
@@ -24,7 +24,7 @@ use Rattle.tre_trace.specs.declared.segment.Segment.{Segment}
 use Rattle.tre_tell.specs.Ends.{EndsTelling}
 use Rattle.tre_tell.specs.Faults.{told_fault}
 use Rattle.tre_tell.specs.Outputs.{OutputTold, AllWritesGood}
-use Rattle.tre_tell.specs.Sought.{sought_by}
+use Rattle.tre_tell.specs.Sought.{Sought, sought_by}
 use Rattle.tre_tell.specs.Standing.{BlocksStand}
 use Rattle.tre_tell.specs.Telling.{first_row, joined, CanTellAll, HasTold, HasWriteCause}
 use Rattle.tre_tell.specs.Watched.{Watched, watched_by, SayNothing}
@@ -101,21 +101,39 @@ pub record IsTelling (watched : Watched) (were_fed : List ℕ → Type 0)
   pub told : HasTold watch labels watched.scale watched.patterns
       (rows_in (watched.readings false (take watched.limit bytes))) before now
 
--- a turn went on, and what it gave was told
-pub IsTelling-more : (watched : Watched) (were_fed : List ℕ → Type 0)
+-- a turn went on, and what it gave was told and dropped
+pub IsTelling-more : (watched : Watched) (were_fed then_fed : List ℕ → Type 0)
     (file left found : Option (List ℕ)) (count : ℕ) (watch : Watch) (labels : List (List ℕ))
     (bytes : List ℕ) (old new : List (List Segment)) (before now : Option (List ℕ))
+    → ((fed : List ℕ) → were_fed fed → then_fed fed)
     → GoesOn were_fed watched.readings watched.limit file left found count bytes old new
     → AreEmpty old
     → HasTold watch labels watched.scale watched.patterns
     (joined (rows_in (watched.readings false (take watched.limit bytes))) new) before now
-    → IsTelling watched were_fed file left found count watch labels before now
-IsTelling-more watched were_fed file left found count watch labels bytes old new before now more
-    empty told = record {
+    → IsTelling watched then_fed file left found count watch labels before now
+IsTelling-more watched were_fed then_fed file left found count watch labels bytes old new before now
+    then more empty told = record {
       bytes = bytes ++ more.piece;
-      fed = more.fed;
+      fed = record {
+        front = more.fed.front;
+        last = more.fed.last;
+        size = more.fed.size;
+        few = more.fed.few;
+        fed = then (take watched.limit (bytes ++ more.piece)) more.fed.fed;
+      };
       told = rw (joined_adds more.all empty) at told;
     }
+
+-- there are as many labels as patterns
+pub labels_count : {watch : Watch} {labels : List (List ℕ)} {scale : ℕ} {patterns : List Sought}
+    {rows : List (List Segment)} {before now : Option (List ℕ)}
+    → HasTold watch labels scale patterns rows before now
+    → length labels ≡ length (trees_of watch)
+labels_count {patterns = patterns} told =
+    ap length told.same_labels
+    ∙ (length-map patterns (λ (pattern : Sought). pattern.label)
+    ∙ (sym (length-map patterns (λ (pattern : Sought). pattern.tree))
+    ∙ ap length (sym told.same_trees)))
 
 -- one row of two lists of rows
 first_joined : (rows waiting : List (List Segment)) → length rows ≡ length waiting
@@ -264,6 +282,13 @@ common_nothing : (readings : List Reading)
     → AllByRecursion (λ reading. reading.segments ≡ []) readings → (common readings).segments ≡ []
 common_nothing [] nothing = refl
 common_nothing (reading ∷ readings) nothing = nothing.0
+
+-- each has told its last events
+pub lasts_count : {R : Type 0} (readers : Readers R)
+    → length (lasts_of readers) ≡ length (rows_of readers)
+lasts_count {R} readers =
+    length-map readers.each.items (λ (one : Fed R). one.last)
+    ∙ sym (length-map readers.each.items row_of)
 
 -- an input of which nothing was read
 module _ (labels : List (List ℕ)) (patterns : List Pattern)

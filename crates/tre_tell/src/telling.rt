@@ -114,5 +114,6 @@ pub fn tell_matches<S: Source, R: TraceReader + Drop, O: Sink>(
         }
     }
     let lasts = readers.last_events(alloc)?;
-    tell_end(&lasts, labels, scale, watch, &mut room.text, out)
+    tell_end(&lasts, labels, scale, watch, &mut room.text, out)?;
+    Ok(())
 }
