@@ -1,5 +1,5 @@
 -- What was told of a watch's rows at the start, and where they end.
-use Rattle.std.proofs.Common.{◌≡◌, ◌∙◌, ℕ, suc, ◌+◌, All, List, [], ◌∷◌, ◌++◌, length, map, codes, Option, refl, sym, ap, subst, arith, append_assoc}
+use Rattle.std.proofs.Common.{◌≡◌, ◌∙◌, ℕ, suc, All, List, [], ◌∷◌, ◌++◌, length, map, codes, Option, refl, sym, ap, subst, arith}
 use Rattle.std.specs.Io.KnownBytes.{Appends}
 use Rattle.std.specs.List.{AllByRecursion, AllZip}
 use Rattle.std.proofs.KnownBytes.{Appends-trans}
@@ -12,7 +12,7 @@ use Rattle.tre_online.specs.declared.watch.Watch.{Watch}
 use Rattle.tre_syntax.specs.Pattern.{pattern_tree}
 use Rattle.tre_syntax.specs.declared.pattern.Pattern.{Pattern}
 use Rattle.tre_syntax.specs.PatternTree.{PatternTree}
-use Rattle.tre_trace.specs.Trace.{timeline_of, quiet, end_of}
+use Rattle.tre_trace.specs.Trace.{timeline_of, quiet}
 use Rattle.tre_trace.specs.declared.segment.Segment.{Segment}
 use Rattle.tre_zone.specs.declared.zone_bounds.ZoneBounds.{ZoneBounds}
 use Rattle.tre_tell.specs.Blocks.{Account, AreAccounts, blocks_text, ending_text}
@@ -20,9 +20,9 @@ use Rattle.tre_tell.specs.Printed.{IsPrinted, IsTextOf, lines_behind, time_line}
 use Rattle.tre_tell.specs.Sought.{Sought, sought_by}
 use Rattle.tre_tell.specs.Telling.{first_row, timelines, IsLastBlock, BlocksWritten, HasTold, HasClosed, ClosingIsCut}
 use Rattle.tre_tell.specs.Transcript.{IsClosing}
-use Rattle.tre_tell.proofs.Accounts.{accounts_closed, labels_of, blocks_text-closed, ending_text-closed}
+use Rattle.tre_tell.proofs.Accounts.{accounts_closed, blocks_text-closed, ending_text-closed}
 use Rattle.tre_tell.proofs.Lists.{map-map}
-use Rattle.tre_tell.proofs.Told.{Appends-none, IsCutBehind-after, HasTranscript, told_trees, told_rows, InAccounts, in_accounts, level_of, time_first}
+use Rattle.tre_tell.proofs.Told.{Appends-none, IsCutBehind-after, HasTranscript, told_trees, told_rows, in_accounts, level_of, time_first}
 use Rattle.tre_tell.proofs.Transcripts.{IsTranscript-none, IsClosing-told}
 
 -- What the end completes is right.

@@ -1,11 +1,11 @@
 -- An input that is told, from before it is opened to its end.
-use Rattle.std.proofs.Common.{◌≡◌, ◌≢◌, ◌∙◌, ℕ, zero, suc, ◌+◌, ◌≤◌, All, Bool, true, false, List, [], ◌∷◌, ◌++◌, length, take, drop, map, Option, None, Some, IfSome, IfErr, IsTrue, Result, Ok, Err, refl, sym, ap, subst, arith, length-append, length-take, append-nil}
+use Rattle.std.proofs.Common.{◌≡◌, ◌≢◌, ◌∙◌, ℕ, suc, ◌+◌, ◌≤◌, All, Bool, false, List, [], ◌∷◌, ◌++◌, length, take, drop, map, Option, None, Some, IfSome, IfErr, IsTrue, Result, Ok, Err, refl, sym, ap, subst, arith, length-take, append-nil}
 use Rattle.std.specs.List.{AllByRecursion}
 use Rattle.std.specs.Io.KnownBytes.{Consumes, Keeps}
 use Rattle.std.proofs.KnownBytes.{Consumes-nil}
 use Rattle.std.proofs.lemmas.List.{length-map}
 use Rattle.std.proofs.lemmas.List.Elements.{All-head, All-weaker, recursion_from_All}
-use Rattle.tre_feed.specs.Feeding.{IsFed, AddsRead, HasRead, GoesOn, StopsTurn, EndsTurn}
+use Rattle.tre_feed.specs.Feeding.{IsFed, HasRead, GoesOn, StopsTurn, EndsTurn}
 use Rattle.tre_feed.specs.Input.{InputTold, WereRead, TakesAtMost, HasReadCause}
 use Rattle.tre_feed.specs.Readers.{row_of, terms_of, rows_of, lasts_of, WereFed, WereFedAtMost}
 use Rattle.tre_feed.specs.Readings.{readings_by, common, AgreeAlways, rows_in, AddsEach}
@@ -226,8 +226,12 @@ module _ {R Terms : Type 0} (represents : R → List ℕ → Type 0) (terms : R 
   WereFedAtMost-taken counts readers limit count bytes size fed = record {
     each = All-weaker (λ (one : Fed R). represents one.reader (take limit bytes))
         (λ one. fed_of one.reader ≤ count)
-        (λ one so. omega (arith, counts one.reader (take limit bytes) so, size,
-        length-take {A = ℕ} limit bytes)) readers.each.items fed.each;
+        (λ one so. omega (
+          arith,
+          counts one.reader (take limit bytes) so,
+          size,
+          length-take {A = ℕ} limit bytes,
+        )) readers.each.items fed.each;
   }
 
   -- what they were fed has no fault

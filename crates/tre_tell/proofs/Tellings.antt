@@ -1,19 +1,19 @@
 -- How the telling of an input ends.
-use Rattle.std.proofs.Common.{◌≡◌, ◌≢◌, ◌∙◌, ℕ, suc, ◌+◌, ◌-◌, ◌<◌, ◌≤◌, All, Bool, true, false, List, [], ◌∷◌, ◌++◌, length, take, drop, map, Option, None, Some, IfErr, IsTrue, nat_le, Result, Ok, Err, refl, sym, ap, subst, inl, inr, arith, length-append, append-nil, take-append-drop}
+use Rattle.std.proofs.Common.{◌≡◌, ◌≢◌, ◌∙◌, ℕ, suc, ◌+◌, ◌-◌, ◌<◌, ◌≤◌, Bool, true, false, List, [], ◌∷◌, ◌++◌, length, take, drop, map, Option, None, IfErr, IsTrue, nat_le, Result, Ok, Err, refl, sym, ap, subst, inl, inr, arith, take-append-drop}
 use Rattle.std.specs.List.{AllByRecursion}
-use Rattle.std.specs.Io.KnownBytes.{Consumes, IsAtEnd, Keeps}
-use Rattle.std.proofs.KnownBytes.{Consumes-nil, Consumes-whole}
+use Rattle.std.specs.Io.KnownBytes.{Consumes, IsAtEnd}
+use Rattle.std.proofs.KnownBytes.{Consumes-whole}
 use Rattle.std.proofs.Math.Seq.{take-append_seam}
 use Rattle.std.proofs.lemmas.List.{take-append-le}
-use Rattle.std.proofs.lemmas.List.Elements.{All-map, All-from_recursion, recursion_from_All}
-use Rattle.tre_feed.specs.Feeding.{IsFed, AddsRead, HasRead, GoesOn, IsEnded, TellsAll, HasFailed, StopsTurn}
-use Rattle.tre_feed.specs.Input.{InputTold, AllReadsGood, WereRead, AreAllBytes, MayGoOn, HasReadCause}
-use Rattle.tre_feed.specs.Outcome.{whole_reading, refuses, exceeds}
-use Rattle.tre_feed.specs.Readings.{common, AreAllAlike, AgreeAlways, rows_in, common_of, readings_within, AddsEach, count_of}
+use Rattle.std.proofs.lemmas.List.Elements.{All-from_recursion, recursion_from_All}
+use Rattle.tre_feed.specs.Feeding.{AddsRead, HasRead, IsEnded, StopsTurn}
+use Rattle.tre_feed.specs.Input.{InputTold, AllReadsGood, WereRead, AreAllBytes, HasReadCause}
+use Rattle.tre_feed.specs.Outcome.{whole_reading}
+use Rattle.tre_feed.specs.Readings.{common, AreAllAlike, AgreeAlways, rows_in, AddsEach, count_of}
 use Rattle.tre_feed.specs.Readers.{column}
 use Rattle.tre_feed.specs.declared.fault.FeedFault.{FeedFault}
 use Rattle.tre_feed.specs.declared.fault.FeedFault.TheVariants.{Trace as FeedTrace, TooLong as FeedTooLong, Read as FeedRead, Memory as FeedMemory}
-use Rattle.tre_online.specs.Watch.{trees_of, Watches, pushed_each}
+use Rattle.tre_online.specs.Watch.{pushed_each}
 use Rattle.tre_online.specs.declared.watch.Watch.{Watch}
 use Rattle.tre_trace.specs.Reading.{Reading}
 use Rattle.tre_trace.specs.Trace.{Timeline, IsTrace, timeline_of, quiet}
@@ -24,13 +24,13 @@ use Rattle.tre_tell.specs.Ends.{EndsTelling}
 use Rattle.tre_tell.specs.Faults.{told_fault}
 use Rattle.tre_tell.specs.Outputs.{OutputTold, AllWritesGood, IsCutBehind}
 use Rattle.tre_tell.specs.Standing.{BlocksStand, AllStand, IsPrompt, FirstBlocksStand, IsOnlineAnswer, AnswerIsCut}
-use Rattle.tre_tell.specs.Telling.{first_row, joined, heads, timelines, CanTellAll, BlocksWritten, HasTold, StopsWithin, HasWriteCause, HasClosed, ClosingIsCut, StopsAtEnd}
+use Rattle.tre_tell.specs.Telling.{first_row, joined, heads, timelines, BlocksWritten, StopsWithin, HasWriteCause, HasClosed, ClosingIsCut, StopsAtEnd}
 use Rattle.tre_tell.specs.Watched.{Watched, fronts}
 use Rattle.tre_tell.specs.declared.fault.TellFault.{TellFault}
 use Rattle.tre_tell.specs.declared.fault.TellFault.TheVariants.{Trace, TooLong, Read, Write, Memory}
 use Rattle.tre_tell.proofs.Lists.{take-over, take_split}
 use Rattle.tre_tell.proofs.Rows.{AreEmpty, heads_all, counts_in, count_empty, joined_none, joined_empty, pushed_heads, below_each}
-use Rattle.tre_tell.proofs.Turns.{tops, GrowEach, joined_adds, tops_adds, count_adds, tops_grow, count_grows, first_common, first_tops, fronts_tops, level_common, tops_all, alike_added}
+use Rattle.tre_tell.proofs.Turns.{tops, GrowEach, joined_adds, tops_adds, count_adds, tops_grow, count_grows, first_common, first_tops, fronts_tops, level_common, tops_all}
 
 -- the bytes of an open input
 were_read : (input : InputTold) (bytes : List ℕ) → input.opened ≡ true
@@ -410,111 +410,111 @@ module _ (watched : Watched) (input : InputTold) (name bytes : List ℕ)
     (ended : IsEnded watched.readings watched.limit input.file input.left bytes old waiting lasts)
     (empty : AreEmpty old) (opened : input.opened ≡ true)
     (traces : AllByRecursion (λ reading. IsTrace reading.segments) (watched.readings true bytes))
-    where
-  -- the rows of the whole input
-  rows_whole : joined (rows_in (watched.readings false (take watched.limit bytes))) waiting
-      ≡ rows_in (watched.readings true bytes)
-  rows_whole = joined_adds ended.all empty
+  where
+    -- the rows of the whole input
+    rows_whole : joined (rows_in (watched.readings false (take watched.limit bytes))) waiting
+        ≡ rows_in (watched.readings true bytes)
+    rows_whole = joined_adds ended.all empty
 
-  -- the text of accounts that are closed is right
-  right_text : (accounts : List Account)
-      → AreAccounts watched.patterns (timelines (joined (rows_in (watched.readings false
-      (take watched.limit bytes))) waiting) lasts) accounts → AreClosed accounts
-      → IsOnlineAnswer watched bytes
-      (blocks_text watched.scale accounts (first_row (joined (rows_in (watched.readings false
-      (take watched.limit bytes))) waiting))
-      ++ ending_text watched.scale accounts (first_row (joined (rows_in (watched.readings false
-      (take watched.limit bytes))) waiting)))
-  right_text accounts are closed =
-      let readings = watched.readings true bytes in
-      let lines : timelines (joined (rows_in (watched.readings false (take watched.limit bytes)))
-      waiting) lasts ≡ map whole_of readings =
-      ap (λ rows. timelines rows lasts) rows_whole
-      ∙ (ap (timelines (rows_in readings)) ended.lasts_are ∙ timelines_of readings) in
-      let first : first_row (joined (rows_in (watched.readings false (take watched.limit bytes)))
-      waiting) ≡ (common readings).segments =
-      ap first_row rows_whole ∙ first_common readings in
-      record {
-        traces = map whole_of readings;
-        are = record {
-          within = ended.within;
-          read = whole_readings readings (recursion_from_All (λ (reading : Reading). reading.fault
-              ≡ None) readings ended.whole);
-          are_traces = All-from_recursion (λ (trace : Timeline). IsTrace trace.segments)
-              (map whole_of readings) (whole_traces readings traces);
-        };
-        accounts = accounts;
-        told = subst (λ all. AreAccounts watched.patterns all accounts) lines are;
-        closed = closed;
-        printed = ap (λ segments. blocks_text watched.scale accounts segments
-            ++ ending_text watched.scale accounts segments) first;
-      }
+    -- the text of accounts that are closed is right
+    right_text : (accounts : List Account)
+        → AreAccounts watched.patterns (timelines (joined (rows_in (watched.readings false
+        (take watched.limit bytes))) waiting) lasts) accounts → AreClosed accounts
+        → IsOnlineAnswer watched bytes
+        (blocks_text watched.scale accounts (first_row (joined (rows_in (watched.readings false
+        (take watched.limit bytes))) waiting))
+        ++ ending_text watched.scale accounts (first_row (joined (rows_in (watched.readings false
+        (take watched.limit bytes))) waiting)))
+    right_text accounts are closed =
+        let readings = watched.readings true bytes in
+        let lines : timelines (joined (rows_in (watched.readings false (take watched.limit bytes)))
+        waiting) lasts ≡ map whole_of readings =
+        ap (λ rows. timelines rows lasts) rows_whole
+        ∙ (ap (timelines (rows_in readings)) ended.lasts_are ∙ timelines_of readings) in
+        let first : first_row (joined (rows_in (watched.readings false (take watched.limit bytes)))
+        waiting) ≡ (common readings).segments =
+        ap first_row rows_whole ∙ first_common readings in
+        record {
+          traces = map whole_of readings;
+          are = record {
+            within = ended.within;
+            read = whole_readings readings (recursion_from_All (λ (reading : Reading). reading.fault
+                ≡ None) readings ended.whole);
+            are_traces = All-from_recursion (λ (trace : Timeline). IsTrace trace.segments)
+                (map whole_of readings) (whole_traces readings traces);
+          };
+          accounts = accounts;
+          told = subst (λ all. AreAccounts watched.patterns all accounts) lines are;
+          closed = closed;
+          printed = ap (λ segments. blocks_text watched.scale accounts segments
+              ++ ending_text watched.scale accounts segments) first;
+        }
 
-  -- all was told, with what the end completes
-  pub EndsTelling-done : (output : OutputTold) → AllReadsGood input → AllWritesGood output
-      → HasClosed watched.scale watched.patterns
-      (joined (rows_in (watched.readings false (take watched.limit bytes))) waiting)
-      (timelines (joined (rows_in (watched.readings false (take watched.limit bytes))) waiting)
-      lasts) output.written_before output.written_now
-      → EndsTelling {T = Unit {0}} watched name input output (Ok tt)
-  EndsTelling-done output reads writes told = record {
-    reads = reads;
-    text = _;
-    right = record {
-      bytes = bytes;
-      all = all_bytes input bytes opened ended.front ended.all_read;
-      is_so = right_text told.accounts told.are told.closed;
-    };
-    writes = writes;
-    written = told.written;
-  }
+    -- all was told, with what the end completes
+    pub EndsTelling-done : (output : OutputTold) → AllReadsGood input → AllWritesGood output
+        → HasClosed watched.scale watched.patterns
+        (joined (rows_in (watched.readings false (take watched.limit bytes))) waiting)
+        (timelines (joined (rows_in (watched.readings false (take watched.limit bytes))) waiting)
+        lasts) output.written_before output.written_now
+        → EndsTelling {T = Unit {0}} watched name input output (Ok tt)
+    EndsTelling-done output reads writes told = record {
+      reads = reads;
+      text = _;
+      right = record {
+        bytes = bytes;
+        all = all_bytes input bytes opened ended.front ended.all_read;
+        is_so = right_text told.accounts told.are told.closed;
+      };
+      writes = writes;
+      written = told.written;
+    }
 
-  -- all was told, and a write failed within what the end completes
-  end_is_cut : (output : OutputTold)
-      → ClosingIsCut watched.scale watched.patterns
-      (joined (rows_in (watched.readings false (take watched.limit bytes))) waiting)
-      (timelines (joined (rows_in (watched.readings false (take watched.limit bytes))) waiting)
-      lasts) output.written_before output.written_now
-      → AnswerIsCut watched output bytes
-  unfolding right_text
-  end_is_cut output cut =
-      let segments = first_row (joined (rows_in (watched.readings false (take watched.limit
-      bytes))) waiting) in
-      let text = blocks_text watched.scale cut.accounts segments
-      ++ ending_text watched.scale cut.accounts segments in
-      let first : segments ≡ (common (watched.readings true bytes)).segments =
-      ap first_row rows_whole ∙ first_common (watched.readings true bytes) in
-      record {
-        text = text;
-        right = right_text cut.accounts cut.are cut.closed;
-        cut = subst (λ all. IsCutBehind (blocks_text watched.scale cut.accounts all) text
-            output.written_before output.written_now) first cut.cut;
-      }
+    -- all was told, and a write failed within what the end completes
+    end_is_cut : (output : OutputTold)
+        → ClosingIsCut watched.scale watched.patterns
+        (joined (rows_in (watched.readings false (take watched.limit bytes))) waiting)
+        (timelines (joined (rows_in (watched.readings false (take watched.limit bytes))) waiting)
+        lasts) output.written_before output.written_now
+        → AnswerIsCut watched output bytes
+    unfolding right_text
+    end_is_cut output cut =
+        let segments = first_row (joined (rows_in (watched.readings false (take watched.limit
+        bytes))) waiting) in
+        let text = blocks_text watched.scale cut.accounts segments
+        ++ ending_text watched.scale cut.accounts segments in
+        let first : segments ≡ (common (watched.readings true bytes)).segments =
+        ap first_row rows_whole ∙ first_common (watched.readings true bytes) in
+        record {
+          text = text;
+          right = right_text cut.accounts cut.are cut.closed;
+          cut = subst (λ all. IsCutBehind (blocks_text watched.scale cut.accounts all) text
+              output.written_before output.written_now) first cut.cut;
+        }
 
-  -- all was told, and what the end completes wasn't, or not all of it
-  pub EndsTelling-cut : (grows : GrowEach watched.readings)
-      (agree : AgreeAlways watched.readings) (fed : Result Bool FeedFault)
-      (turn : IsTurn watched grows agree input bytes waiting fed) (output : OutputTold)
-      (fault : TellFault) → AllReadsGood input
-      → HasWriteCause {T = Unit {0}} output.faults_before output.faults_now (Err fault)
-      → StopsAtEnd watched.scale watched.patterns
-      (joined (rows_in (watched.readings false (take watched.limit bytes))) waiting)
-      (timelines (joined (rows_in (watched.readings false (take watched.limit bytes))) waiting)
-      lasts) output.written_before output.written_now fault
-      → EndsTelling {T = Unit {0}} watched name input output (Err fault)
-  EndsTelling-cut grows agree fed turn output Write reads write stops = record {
-    cause = write;
-    reads = reads;
-    stands = inr (record {
-      bytes = bytes;
-      all = all_bytes input bytes opened ended.front ended.all_read;
-      is_so = end_is_cut output stops;
-    });
-  }
-  EndsTelling-cut grows agree fed turn output Memory reads write stops = record {
-    reads = reads;
-    stands = first_stand watched grows agree input bytes waiting fed turn output write stops;
-  }
-  EndsTelling-cut grows agree fed turn output (Trace fault) reads write stops = absurd stops
-  EndsTelling-cut grows agree fed turn output TooLong reads write stops = absurd stops
-  EndsTelling-cut grows agree fed turn output Read reads write stops = absurd stops
+    -- all was told, and what the end completes wasn't, or not all of it
+    pub EndsTelling-cut : (grows : GrowEach watched.readings)
+        (agree : AgreeAlways watched.readings) (fed : Result Bool FeedFault)
+        (turn : IsTurn watched grows agree input bytes waiting fed) (output : OutputTold)
+        (fault : TellFault) → AllReadsGood input
+        → HasWriteCause {T = Unit {0}} output.faults_before output.faults_now (Err fault)
+        → StopsAtEnd watched.scale watched.patterns
+        (joined (rows_in (watched.readings false (take watched.limit bytes))) waiting)
+        (timelines (joined (rows_in (watched.readings false (take watched.limit bytes))) waiting)
+        lasts) output.written_before output.written_now fault
+        → EndsTelling {T = Unit {0}} watched name input output (Err fault)
+    EndsTelling-cut grows agree fed turn output Write reads write stops = record {
+      cause = write;
+      reads = reads;
+      stands = inr (record {
+        bytes = bytes;
+        all = all_bytes input bytes opened ended.front ended.all_read;
+        is_so = end_is_cut output stops;
+      });
+    }
+    EndsTelling-cut grows agree fed turn output Memory reads write stops = record {
+      reads = reads;
+      stands = first_stand watched grows agree input bytes waiting fed turn output write stops;
+    }
+    EndsTelling-cut grows agree fed turn output (Trace fault) reads write stops = absurd stops
+    EndsTelling-cut grows agree fed turn output TooLong reads write stops = absurd stops
+    EndsTelling-cut grows agree fed turn output Read reads write stops = absurd stops

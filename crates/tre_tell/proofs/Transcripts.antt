@@ -1,5 +1,5 @@
 -- A transcript with one block more, and what closes one.
-use Rattle.std.proofs.Common.{◌≡◌, ◌∙◌, ◌⊎◌, ◌↔◌, ◌≢◌, ℕ, zero, suc, ◌+◌, ◌<◌, ◌≤◌, List, Contains, [], ◌∷◌, ◌++◌, length, take, get_or, refl, sym, ap, inl, inr, ⊎_elim, arith, length-append, append-nil, append_assoc}
+use Rattle.std.proofs.Common.{◌≡◌, ◌∙◌, ◌⊎◌, ◌≢◌, ℕ, zero, suc, ◌<◌, ◌≤◌, List, Contains, [], ◌∷◌, ◌++◌, length, take, get_or, refl, sym, ap, inl, inr, ⊎_elim, arith, length-append, append-nil}
 use Rattle.std.specs.List.{Any}
 use Rattle.std.specs.List.Sorted.{IsPermutation}
 use Rattle.std.proofs.Math.Seq.{get_or-append_seam, take-append_seam}
@@ -15,7 +15,7 @@ use Rattle.tre_syntax.proofs.CutMeaning.{IsBounded-rest}
 use Rattle.tre_trace.specs.Trace.{timeline_of, quiet, end_of}
 use Rattle.tre_trace.specs.declared.segment.Segment.{Segment}
 use Rattle.tre_zone.specs.Zone.{Includes}
-use Rattle.tre_zone.specs.ZoneList.{SetHolds, HoldExactly}
+use Rattle.tre_zone.specs.ZoneList.{HoldExactly}
 use Rattle.tre_zone.specs.declared.zone_bounds.ZoneBounds.{ZoneBounds}
 use Rattle.tre_zone.proofs.ZoneListLemmas.{SetHolds-append}
 use Rattle.tre_tell.specs.Printed.{IsPrinted}

@@ -1,9 +1,9 @@
 -- What the readings before a turn and behind it say of rows.
-use Rattle.std.proofs.Common.{◌≡◌, ◌∙◌, ℕ, zero, suc, ◌+◌, ◌≤◌, All, Bool, false, List, [], ◌∷◌, ◌++◌, length, take, drop, map, refl, sym, ap, subst, arith, length-append, append-nil}
+use Rattle.std.proofs.Common.{◌≡◌, ◌∙◌, ℕ, zero, suc, ◌+◌, ◌≤◌, Bool, false, List, [], ◌∷◌, ◌++◌, length, take, drop, map, refl, sym, ap, arith, length-append}
 use Rattle.std.specs.List.{AllByRecursion, AllZip}
 use Rattle.std.proofs.Math.Seq.{take-append-add, take-append_seam}
 use Rattle.std.proofs.lemmas.List.{length-map, map-append, drop_at}
-use Rattle.std.proofs.lemmas.List.Elements.{All-map, recursion_from_All}
+use Rattle.std.proofs.lemmas.List.Elements.{recursion_from_All}
 use Rattle.tre_feed.specs.Readings.{readings_by, common, AreAllAlike, rows_in, AddsEach, adds_none, adds_next, count_of}
 use Rattle.tre_parts.specs.Alike.{lengths_of, AreAlike}
 use Rattle.tre_trace.specs.Reading.{Reading, Adds, Grows}
@@ -156,6 +156,7 @@ alike_added {befores = befores} {nows = nows} adds empty alike alike' =
         ∙ length-map first.segments (λ (segment : Segment). segment.len) in
         sym (ap (drop (length first.segments)) split
         ∙ drop_at (lengths_of before.segments) (lengths_of new) (length first.segments) count)
+
     each_one : {olds news : List (List Segment)} {others lasts : List Reading}
         → AddsEach olds news others lasts → AreEmpty olds
         → AllByRecursion (AreAlike (common befores)) others

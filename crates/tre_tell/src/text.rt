@@ -19,12 +19,7 @@ fn printed(set: ZoneSet) -> Vec<Zone>
 }
 
 // Puts the lines of the zones behind the text, each behind the label.
-fn push_lines(
-    label: &str,
-    zones: &[Zone],
-    scale: u8,
-    text: &mut String,
-) -> Result<(), AllocError>
+fn push_lines(label: &str, zones: &[Zone], scale: u8, text: &mut String) -> Result<(), AllocError>
     requires { scale ≤ SCALE_MAX }
     ensures { OnOk result (string_bytes text.new
         ≡ string_bytes text.old ++ lines_with scale label.now zones.now) }

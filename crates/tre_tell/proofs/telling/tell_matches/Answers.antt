@@ -1,4 +1,4 @@
-use Rattle.std.proofs.Common.{◌≡◌, ◌∙◌, ◌+◌, List, Bool, false, true, Err, Ok, Some, None, [], ◌++◌, length, map, string_bytes, take, refl, sym, subst, ap, arith}
+use Rattle.std.proofs.Common.{◌≡◌, ◌∙◌, ◌+◌, List, Bool, false, true, Err, None, [], length, map, string_bytes, take, refl, sym, subst, ap}
 use Rattle.std.proofs.lemmas.List.{length-map}
 use Rattle.std.proofs.lemmas.List.Elements.{recursion_from_All}
 use Rattle.std.proofs.lemmas.Result.{err_from_is_err_and}
@@ -34,7 +34,11 @@ returns-in_err-watch-clause-ends g c =
     (λ one bytes. g.met.R.TraceReader.faultless one bytes) c.args.readers.now []
     c.requires.fresh.fed in
     rw (p.1, p.2) (EndsTelling-unread labels c.args.patterns.now readings c.args.limit c.args.scale
-    same many c.requires.nothing c.args.name.now _ _ FeedMemory faultless (λ is_open. cc)
+    same many c.requires.nothing c.args.name.now (input_told g.S.Source.file_name g.S.Source.file
+    g.S.Source.sound g.S.Source.opened g.S.Source.left g.S.Source.found g.S.Source.faults
+    c.args.input.now c.args.input.now)
+    (output_told g.O.Sink.written g.O.Sink.faults c.args.out.now c.args.out.now) FeedMemory
+    faultless (λ is_open. cc)
     (λ is_open. cc) refl (λ failed wanting. wanting refl) (λ good named is. cc) refl refl)
 
 pub returns-in_err-feed-clause-ends : goal.returns-in_err-feed-clause-ends
@@ -54,7 +58,11 @@ returns-in_err-feed-clause-ends g c =
     (λ one bytes. g.met.R.TraceReader.faultless one bytes) c.args.readers.now []
     c.requires.fresh.fed in
     rw (p.1, p.2) (EndsTelling-unread labels c.args.patterns.now readings c.args.limit c.args.scale
-    same many c.requires.nothing c.args.name.now _ _ c.in_err-feed.field-0.0 faultless
+    same many c.requires.nothing c.args.name.now (input_told g.S.Source.file_name g.S.Source.file
+    g.S.Source.sound g.S.Source.opened g.S.Source.left g.S.Source.found g.S.Source.faults
+    c.args.input.now c.open.new.input)
+    (output_told g.O.Sink.written g.O.Sink.faults c.args.out.now c.args.out.now)
+    c.in_err-feed.field-0.0 faultless
     c.in_err-feed.ensures.nothing c.in_err-feed.ensures.finds c.in_err-feed.ensures.cause
     c.in_err-feed.ensures.named
     (λ good named is. c.in_err-feed.ensures.sound good named (ap Err is)) refl refl)
@@ -377,8 +385,12 @@ tell_end-requires-clause-count g c =
     let many : length (lasts_of c.next-fed.new.readers) ≡ length (trees_of c.loop-feed.watch) =
     lasts_count c.next-fed.new.readers ∙ (turn.count
     ∙ count_rows c.loop-feed.watch (rows_in (readings false (take c.args.limit tel.bytes))) tel.told.stands) in
-    rw (c.deref.ensures.value, c.in_ok-lasts.ensures, c.clear.ensures.lasts,
-    c.in_ok-watch-2.ensures.trees) many
+    rw (
+      c.deref.ensures.value,
+      c.in_ok-lasts.ensures,
+      c.clear.ensures.lasts,
+      c.in_ok-watch-2.ensures.trees,
+    ) many
 
 pub tell_end-requires-clause-labels : goal.tell_end-requires-clause-labels
 tell_end-requires-clause-labels g c =

@@ -1,8 +1,7 @@
-use Rattle.std.proofs.Common.{◌≡◌, List, length, map, string_bytes, subst, sym}
+use Rattle.std.proofs.Common.{◌≡◌, length, string_bytes, sym}
 use Rattle.std.proofs.lemmas.Iterator.{YieldsList-from_slice, YieldsList-from_zip}
 use Rattle.std.proofs.lemmas.Iterator.Adapters.{YieldsList-from_vec}
 use Rattle.std.proofs.lemmas.Iterator.Consumers.{YieldsList-end}
-use Rattle.tre_tell.specs.Printed.{AreLinesPut}
 use Rattle.tre_tell.proofs.Printing.{AreLinesPut-more, firsts_of, seconds_of}
 use Rattle.tre_tell.proofs.text.push_sets.Goals as goal
 
