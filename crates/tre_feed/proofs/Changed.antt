@@ -1,6 +1,6 @@
 -- A list of which each element is changed at its place, from the first to the last.
-use Rattle.std.proofs.Common.{◌≡◌, ◌≢◌, ◌∙◌, ◌+◌, ◌<◌, ◌≤◌, ◌⊎◌, ℕ, zero, suc, List, [], ◌∷◌, All, length, get_or, set, refl, sym, subst, ap, inl, inr, arith, get_or-set_same, get_or-set_other, length-set}
-use Rattle.std.proofs.lemmas.List.{get_or_default}
+use Rattle.std.proofs.Common.{◌≡◌, ◌≢◌, ◌∙◌, ◌+◌, ◌<◌, ◌≤◌, ◌⊎◌, ℕ, zero, suc, List, [], ◌∷◌, All, map, length, get_or, set, refl, sym, subst, ap, inl, inr, arith, get_or-set_same, get_or-set_other, length-set}
+use Rattle.std.proofs.lemmas.List.{get_or_default, get_or-map, length-map}
 use Rattle.tre_feed.specs.Fed.{Changed, changed_none, changed_next}
 
 -- what is so of all is so of the first, and of all others
@@ -121,3 +121,9 @@ Changed-front {A} {Change} {olds} {news} {count} so_far itself =
           | inl before ↦ inl (omega (arith, before))
           | inr after ↦ inr (omega (arith, after))
         ]
+
+-- what is so of all that a function gives is so of each before it
+pub All-unmap : {A B : Type 0} (P : B → Type 0) (f : A → B) (xs : List A) → All P (map f xs)
+    → All (λ x. P (f x)) xs
+All-unmap P f xs all = λ k d below. subst P (get_or-map f xs k d (f d) below)
+    (all k (f d) (omega (arith, below, length-map xs f)))

@@ -9,3 +9,4 @@ pub mod Pieces
 pub mod Read
 pub mod Told
 pub mod Turns
+pub mod Wholes
