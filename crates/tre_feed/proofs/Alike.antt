@@ -1,8 +1,7 @@
 -- Readings that are alike have one fault, and as many segments.
-use Rattle.std.proofs.Common.{◌≡◌, ◌∙◌, ◌+◌, ◌-◌, ◌<◌, ℕ, Bool, List, [], ◌∷◌, ◌++◌, All, map, length, get_or, Option, None, Some, Result, Ok, Err, refl, sym, ap, arith, length-append}
+use Rattle.std.proofs.Common.{◌≡◌, ◌∙◌, ◌+◌, ◌-◌, ◌<◌, ℕ, List, [], ◌∷◌, ◌++◌, All, length, get_or, Option, None, Result, Ok, Err, refl, sym, ap, arith, length-append}
 use Rattle.std.proofs.lemmas.List.{length-map}
-use Rattle.tre_parts.specs.Alike.{AreAlike, lengths_of}
-use Rattle.tre_trace.specs.Reading.{Reading, Adds}
+use Rattle.tre_trace.specs.Reading.{Reading}
 use Rattle.tre_trace.specs.declared.segment.Segment.{Segment}
 use Rattle.tre_trace.specs.declared.fault.TraceFault.{TraceFault}
 use Rattle.tre_feed.specs.Fed.{IsEndOfAll, IsToldBy}

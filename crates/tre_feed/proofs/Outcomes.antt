@@ -8,7 +8,7 @@ use Rattle.tre_trace.specs.Reading.{Reading, Grows}
 use Rattle.tre_trace.specs.declared.segment.Segment.{Segment}
 use Rattle.tre_trace.specs.declared.fault.TraceFault.{TraceFault}
 use Rattle.tre_feed.specs.Feeding.{TellsAll}
-use Rattle.tre_feed.specs.Outcome.{Outcome, refuses, exceeds, outcome_of, outcome_of_reading}
+use Rattle.tre_feed.specs.Outcome.{refuses, exceeds, outcome_of, outcome_of_reading}
 use Rattle.tre_feed.specs.Readings.{AddsEach, common, common_of, readings_within, rows_in}
 use Rattle.tre_feed.proofs.Changed.{All-first, All-rest}
 use Rattle.tre_feed.proofs.Cuts.{take-over, take_split}

@@ -4,13 +4,12 @@ use Rattle.std.specs.Io.KnownBytes.{Consumes, Keeps, IsAtEnd}
 use Rattle.std.proofs.KnownBytes.{Consumes-trans}
 use Rattle.tre_trace.specs.Reading.{Reading, Adds}
 use Rattle.tre_trace.specs.declared.segment.Segment.{Segment}
-use Rattle.tre_trace.specs.declared.fault.TraceFault.{TraceFault}
-use Rattle.tre_feed.specs.Feeding.{IsFed, HasRead, GoesOn, IsEnded, StopsTurn, EndsTurn, AddsRead}
+use Rattle.tre_feed.specs.Feeding.{IsFed, HasRead, GoesOn, IsEnded, StopsTurn, AddsRead}
 use Rattle.tre_feed.specs.Fed.{IsOfReader}
 use Rattle.tre_feed.specs.Input.{HasReadCause}
 use Rattle.tre_feed.specs.Piece.{StopsPiece}
 use Rattle.tre_feed.specs.Readers.{TakesIn}
-use Rattle.tre_feed.specs.Readings.{AddsEach, adds_none, adds_next, AreAllAlike, AreLevel, common, rows_in}
+use Rattle.tre_feed.specs.Readings.{AddsEach, adds_none, adds_next, AreAllAlike, AreLevel, common}
 use Rattle.tre_feed.specs.declared.TheConstants.{PIECE}
 use Rattle.tre_feed.specs.declared.fault.FeedFault.{FeedFault}
 use Rattle.tre_feed.specs.declared.fault.FeedFault.TheVariants.{Trace, TooLong, Read, Memory}

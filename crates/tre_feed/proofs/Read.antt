@@ -1,5 +1,5 @@
 -- What the readers say, from what each of them promises.
-use Rattle.std.proofs.Common.{◌≡◌, ◌∙◌, ◌≤◌, ℕ, Bool, false, List, [], ◌∷◌, ◌++◌, All, length, map, None, refl, sym, arith}
+use Rattle.std.proofs.Common.{◌≡◌, ◌∙◌, ◌≤◌, ℕ, Bool, false, List, [], ◌∷◌, ◌++◌, length, map, None, sym, arith}
 use Rattle.std.proofs.lemmas.List.{length-map}
 use Rattle.std.proofs.lemmas.List.Elements.{All-map}
 use Rattle.tre_trace.specs.Reading.{Reading, Grows}
@@ -34,7 +34,7 @@ module _ {R Terms : Type 0} (terms : R → Terms) where
 
   module _ (represents : R → List ℕ → Type 0) (reading : Terms → Bool → List ℕ → Reading)
       (faultless : (reader : R) (bytes : List ℕ) → represents reader bytes
-          → (reading (terms reader) false bytes).fault ≡ None) where
+      → (reading (terms reader) false bytes).fault ≡ None) where
     -- readers that were fed bytes found no fault in them
     pub faultless_now : (readers : Readers R) (bytes : List ℕ) → WereFed represents readers bytes
         → (common (readings_by reading (terms_of terms readers) false bytes)).fault ≡ None

@@ -1,5 +1,5 @@
 -- How the fault of a reader is told.
-use Rattle.std.proofs.Common.{◌≡◌, ◌≢◌, ◌⊎◌, ℕ, List, Result, Ok, Err, refl, inl, inr}
+use Rattle.std.proofs.Common.{◌≡◌, ◌≢◌, ◌⊎◌, List, Err, refl, inl, inr}
 use Rattle.tre_trace.specs.Reading.{Reading, IsRefused}
 use Rattle.tre_trace.specs.declared.segment.Segment.{Segment}
 use Rattle.tre_trace.specs.declared.fault.TraceFault.{TraceFault}
@@ -7,8 +7,7 @@ use Rattle.tre_trace.specs.declared.fault.TraceKind.{TraceKind}
 use Rattle.tre_trace.specs.declared.fault.TraceKind.TheVariants.{LineTooLong, BadNumber, Zero, TooLate, BadName, BadToken, UnknownName, TimeBack, CutShort, Spent, Memory as KindMemory}
 use Rattle.tre_feed.specs.Faults.{told_fault}
 use Rattle.tre_feed.specs.Fed.{TakesOne}
-use Rattle.tre_feed.specs.declared.fault.FeedFault.{FeedFault}
-use Rattle.tre_feed.specs.declared.fault.FeedFault.TheVariants.{Trace, Memory}
+use Rattle.tre_feed.specs.declared.fault.FeedFault.TheVariants.{Trace}
 
 -- memory was wanting, or the kind is told
 pub kinds : (kind : TraceKind) (fault : TraceFault)

@@ -1,7 +1,7 @@
 -- One reader of several read on, or wanted memory for it.
-use Rattle.std.proofs.Common.{◌≡◌, ◌≢◌, ◌∙◌, ◌⊎◌, ◌+◌, ◌<◌, ◌≤◌, ℕ, List, [], ◌++◌, All, map, length, get_or, set, take, None, Some, Result, Ok, Err, OnOk, refl, sym, ap, subst, inl, inr, arith, append-nil}
+use Rattle.std.proofs.Common.{◌≡◌, ◌≢◌, ◌∙◌, ◌⊎◌, ◌+◌, ◌<◌, ◌≤◌, ℕ, List, [], ◌++◌, All, map, length, get_or, set, take, None, Result, Ok, Err, OnOk, refl, sym, ap, subst, inl, inr, arith, append-nil}
 use Rattle.std.proofs.lemmas.List.{take_at, get_or-map, length-map}
-use Rattle.tre_trace.specs.Reading.{Reading, Adds, AddsSome}
+use Rattle.tre_trace.specs.Reading.{Reading, Adds}
 use Rattle.tre_trace.specs.declared.segment.Segment.{Segment}
 use Rattle.tre_feed.specs.Fed.{Changed, IsEndOfAll, IsToldBy, Kept, TakesOne, Took}
 use Rattle.tre_feed.specs.Readers.{row_of}
@@ -67,7 +67,7 @@ module _ {R Terms : Type 0} (terms : R → Terms) (represents : R → List ℕ �
     module _ (old new : Fed R) (result : Result (Unit {0}) FeedFault)
         (same : terms new.reader ≡ terms old.reader)
         (takes : (bytes : List ℕ) → represents old.reader bytes → TakesOne (row_of old) (row_of new)
-            (before (terms old.reader) bytes) (now (terms old.reader) bytes) result) where
+        (before (terms old.reader) bytes) (now (terms old.reader) bytes) result) where
       pub Kept-call : Kept terms represents old new
       Kept-call = record {
         same_terms = same;
@@ -95,9 +95,9 @@ module _ {R Terms : Type 0} (terms : R → Terms) (represents : R → List ℕ �
       module _ (below : count < length news) (d new : Fed R) (result : Result (Unit {0}) FeedFault)
           (same : terms new.reader ≡ terms (get_or news count d).reader)
           (takes : (bytes : List ℕ) → represents (get_or news count d).reader bytes
-              → TakesOne (row_of (get_or news count d)) (row_of new)
-              (before (terms (get_or news count d).reader) bytes)
-              (now (terms (get_or news count d).reader) bytes) result) where
+          → TakesOne (row_of (get_or news count d)) (row_of new)
+          (before (terms (get_or news count d).reader) bytes)
+          (now (terms (get_or news count d).reader) bytes) result) where
         -- one more was called, and those behind it are as they were
         pub Kept-one : Changed (Kept terms represents) olds (set news count new)
         Kept-one = Changed-front (ChangedTo-more (ChangedTo-as Kept-took so_far) d new below

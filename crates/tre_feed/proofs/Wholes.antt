@@ -1,16 +1,16 @@
 -- What was read of an input, from no bytes to its end.
-use Rattle.std.proofs.Common.{◌≡◌, ◌≢◌, ◌∙◌, ◌+◌, ◌≤◌, ℕ, Bool, true, false, List, [], ◌∷◌, ◌++◌, All, length, map, take, Option, None, Some, IsTrue, Result, Ok, Err, refl, sym, ap, subst, arith}
+use Rattle.std.proofs.Common.{◌≡◌, ◌≢◌, ◌∙◌, ◌+◌, ℕ, Bool, true, false, List, [], ◌∷◌, ◌++◌, All, length, map, take, Option, None, Some, IsTrue, Result, Err, refl, sym, ap, subst, arith}
 use Rattle.std.specs.Io.KnownBytes.{Consumes, Keeps, IsAtEnd}
 use Rattle.std.proofs.KnownBytes.{Consumes-nil, Consumes-whole}
 use Rattle.tre_trace.specs.Reading.{Reading}
 use Rattle.tre_trace.specs.Trace.{Timeline, IsTrace, timeline_of}
 use Rattle.tre_trace.specs.declared.segment.Segment.{Segment}
 use Rattle.tre_trace.specs.declared.fault.TraceFault.{TraceFault}
-use Rattle.tre_feed.specs.Feeding.{IsFed, HasRead, HasFailed, GoesOn, IsEnded, StopsTurn}
-use Rattle.tre_feed.specs.Input.{InputTold, WereRead, AllReadsGood, AreAllBytes, TakesAtMost, MayGoOn, HasReadCause}
+use Rattle.tre_feed.specs.Feeding.{IsFed, HasRead, GoesOn, IsEnded, StopsTurn}
+use Rattle.tre_feed.specs.Input.{InputTold, WereRead, AllReadsGood, AreAllBytes, TakesAtMost, HasReadCause}
 use Rattle.tre_feed.specs.Outcome.{whole_reading}
 use Rattle.tre_feed.specs.Readers.{row_of, trace_of}
-use Rattle.tre_feed.specs.Readings.{common, common_of, rows_in}
+use Rattle.tre_feed.specs.Readings.{common, rows_in}
 use Rattle.tre_feed.specs.Whole.{IsWhole, StopsReading}
 use Rattle.tre_feed.specs.declared.fault.FeedFault.{FeedFault}
 use Rattle.tre_feed.specs.declared.fault.FeedFault.TheVariants.{Trace, TooLong, Read, Memory}

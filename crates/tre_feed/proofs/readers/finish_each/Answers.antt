@@ -1,8 +1,7 @@
-use Rattle.std.proofs.Common.{◌≡◌, ◌≢◌, ◌<◌, ◌↔◌, ℕ, List, All, map, length, false, true, Err, refl, inl, inr, arith, ◌∙◌}
+use Rattle.std.proofs.Common.{◌≡◌, ◌≢◌, ◌<◌, length, false, true, Err, inr, arith, ◌∙◌}
 use Rattle.std.proofs.lemmas.List.{length-map}
-use Rattle.tre_feed.specs.Fed.{TookEnd}
 use Rattle.tre_feed.specs.declared.fault.FeedFault.TheVariants.{Memory}
-use Rattle.tre_feed.proofs.Changed.{ChangedTo-none, Changed-all}
+use Rattle.tre_feed.proofs.Changed.{Changed-all}
 use Rattle.tre_feed.proofs.Turns.{Kept-all, Kept-one, Took-one, told-one, told-all}
 use Rattle.tre_feed.proofs.readers.finish_each.Goals as goal
 

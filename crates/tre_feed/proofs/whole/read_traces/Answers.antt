@@ -1,11 +1,10 @@
-use Rattle.std.proofs.Common.{◌≡◌, ◌∙◌, ℕ, Bool, true, false, [], List, All, Err, None, take, length, map, refl, sym, ap, subst, arith}
+use Rattle.std.proofs.Common.{◌≡◌, ◌∙◌, ℕ, Bool, true, false, [], List, Err, None, take, refl, sym, ap, subst, arith}
 use Rattle.std.proofs.lemmas.Result.{err_from_is_err_and}
 use Rattle.std.proofs.lemmas.List.Elements.{All-map}
 use Rattle.tre_trace.specs.Reading.{Reading}
 use Rattle.tre_trace.specs.Trace.{IsTrace}
-use Rattle.tre_feed.specs.Feeding.{EndsTurn, IsEnded}
 use Rattle.tre_feed.specs.Input.{HasReadCause, Progress, input_told}
-use Rattle.tre_feed.specs.Readers.{WereFed, lasts_of, rows_of, terms_of}
+use Rattle.tre_feed.specs.Readers.{rows_of, terms_of}
 use Rattle.tre_feed.specs.Readings.{common, readings_by, rows_in}
 use Rattle.tre_feed.proofs.Alike.{AddsEach-now}
 use Rattle.tre_feed.proofs.Cuts.{take-over}

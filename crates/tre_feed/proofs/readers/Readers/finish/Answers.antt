@@ -1,4 +1,4 @@
-use Rattle.std.proofs.Common.{◌≡◌, ◌≢◌, ◌∙◌, ◌↔◌, ◌++◌, ℕ, length, true, false, Err, arith}
+use Rattle.std.proofs.Common.{◌≡◌, ◌≢◌, ◌∙◌, length, true, false, Err, arith}
 use Rattle.std.proofs.lemmas.List.{with_items_is}
 use Rattle.std.specs.Vec.{with_items}
 use Rattle.tre_feed.specs.declared.fault.FeedFault.TheVariants.{Memory}
@@ -36,11 +36,13 @@ returns-then-is_out_of_memory-clause-level g c =
     let same_cut : length cut ≡ own.len =
     omega (arith, c.cut_each.auto.each, c.deref_mut-then-is_out_of_memory.ensures.len) in
     let second = c.deref_mut-then-is_out_of_memory.ensures.value ∙ with_items_is own fed same in
-    λ bytes so_far. rw (with_items_is (with_items own fed) cut same_cut,
-    (rows-cut g.R.TraceReader.terms g.R.TraceReader.represents c.waiting-waiting.result
-    (rw c.deref_mut.ensures.value at c.finish_each-outcome.ensures.kept)
-    (rw second at c.cut_each.ensures) bytes so_far.each
-    (rw c.waiting-waiting.ensures so_far.level))) so_far.level
+    λ bytes so_far. rw (
+      with_items_is (with_items own fed) cut same_cut,
+      (rows-cut g.R.TraceReader.terms g.R.TraceReader.represents c.waiting-waiting.result
+          (rw c.deref_mut.ensures.value at c.finish_each-outcome.ensures.kept)
+          (rw second at c.cut_each.ensures) bytes so_far.each
+          (rw c.waiting-waiting.ensures so_far.level)),
+    ) so_far.level
 
 pub returns-then-is_out_of_memory-clause-terms : goal.returns-then-is_out_of_memory-clause-terms
 returns-then-is_out_of_memory-clause-terms g c =

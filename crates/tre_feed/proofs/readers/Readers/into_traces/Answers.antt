@@ -1,10 +1,8 @@
-use Rattle.std.proofs.Common.{◌≡◌, ◌∙◌, ◌++◌, ◌∷◌, [], All, List, map, ap, sym, subst, rules}
+use Rattle.std.proofs.Common.{All, sym, subst, rules}
 use Rattle.std.proofs.lemmas.Grind.{common_steps}
 use Rattle.std.proofs.Common.{arith}
 use Rattle.tre_trace.specs.Trace.{IsTrace}
-use Rattle.tre_trace.specs.declared.segment.Segment.{Segment}
-use Rattle.tre_feed.specs.Readers.{row_of, trace_of}
-use Rattle.tre_feed.specs.declared.fed.Fed.{Fed}
+use Rattle.tre_feed.specs.Readers.{row_of}
 use Rattle.tre_feed.proofs.Changed.{All-first, All-rest, All-unmap}
 use Rattle.tre_feed.proofs.readers.Readers.into_traces.Goals as goal
 
@@ -12,8 +10,10 @@ pub of_segments-requires : goal.of_segments-requires
 of_segments-requires g c =
     let left = subst (All (λ fed. IsTrace (row_of fed))) c.in-Some.ensures.steps.0
     c.loop-fed.invariant.left in
-    record { trace = All-first (λ fed. IsTrace (row_of fed)) c.in-Some.fed c.next.new.self.rest.items
-    left }
+    record {
+      trace = All-first (λ fed. IsTrace (row_of fed)) c.in-Some.fed c.next.new.self.rest.items
+          left;
+    }
 
 pub loop-fed-init : goal.loop-fed-init
 loop-fed-init g c = record {
