@@ -26,7 +26,8 @@ common_fault nows alike fault told = λ k d below. sym (alike k d below).fault �
 pub common_none : (nows : List Reading) → All (λ now. now.fault ≡ None) nows
     → (common nows).fault ≡ None
 common_none [] none = refl
-common_none (now ∷ nows) none = All-first (λ (reading : Reading). reading.fault ≡ None) now nows none
+common_none (now ∷ nows) none = All-first
+    (λ (reading : Reading). reading.fault ≡ None) now nows none
 
 pub IsEndOfAll-one : (nows : List Reading) → AreAllAlike nows → (k : ℕ) (d : Reading)
     → k < length nows → (result : Result (Unit {0}) FeedFault)

@@ -32,7 +32,8 @@ module _ {R Terms : Type 0} (terms : R → Terms) (represents : R → List ℕ �
   TakesIn-all result found told = TakesIn-adds (map row_of xs) (map row_of ys) _ _ result found
       (AddsEach-took terms represents before now Then took bytes fed) told
 
-  pub AreLevel-all-took : AreAllAlike (map (λ all. before all bytes) (map (λ fed. terms fed.reader) xs))
+  pub AreLevel-all-took : AreAllAlike
+      (map (λ all. before all bytes) (map (λ fed. terms fed.reader) xs))
       → AreAllAlike (map (λ all. now all bytes) (map (λ fed. terms fed.reader) xs))
       → AreLevel (map row_of xs) → AreLevel (map row_of ys)
   AreLevel-all-took before_alike alike level = AreLevel-adds

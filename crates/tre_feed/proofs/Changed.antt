@@ -44,7 +44,8 @@ pub ChangedTo-more : {A : Type 0} {Change : A → A → Type 0} {olds news : Lis
 ChangedTo-more {A} {Change} {olds} {news} {count} so_far e new within change = record {
   length_is = length-set news count new ∙ so_far.length_is;
   done = done_at;
-  rest = λ k d after. get_or-set_other news count k new d (λ same. absurd (omega (arith, same, after)))
+  rest = λ k d after. get_or-set_other news count k new d
+      (λ same. absurd (omega (arith, same, after)))
       ∙ so_far.rest k d (omega (arith, after));
 }
   where
@@ -55,9 +56,11 @@ ChangedTo-more {A} {Change} {olds} {news} {count} so_far e new within change = r
         → Change (get_or olds k d) (get_or (set news count new) k d)
     done_at k d below inside = elim (earlier_or_here k count below) [
       | inl earlier ↦ subst (λ x. Change (get_or olds k d) x)
-          (sym (get_or-set_other news count k new d (λ same. absurd (omega (arith, same, earlier)))))
+          (sym (get_or-set_other news count k new d
+          (λ same. absurd (omega (arith, same, earlier)))))
           (so_far.done k d earlier inside)
-      | inr same ↦ subst (λ j. Change (get_or olds j d) (get_or (set news count new) j d)) (sym same)
+      | inr same ↦ subst (λ j. Change (get_or olds j d) (get_or (set news count new) j d))
+          (sym same)
           (subst (λ x. Change x (get_or (set news count new) count d)) (old_is d)
           (subst (λ x. Change (get_or news count e) x)
           (sym (get_or-set_same news count new d within)) change))

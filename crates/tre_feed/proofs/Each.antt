@@ -23,20 +23,15 @@ module _ {R Terms : Type 0} (terms : R → Terms) (represents : R → List ℕ �
 
   module _ (before now : Terms → List ℕ → Reading) (Then : Terms → Fed R → List ℕ → Type 0) where
     -- each put its segments behind those that waited
-    pub AddsEach-took : {xs ys : List (Fed R)} → Changed (Took terms represents before now Then) xs ys
+    pub AddsEach-took : {xs ys : List (Fed R)} → Changed
+        (Took terms represents before now Then) xs ys
         → (bytes : List ℕ) → All (WasFed bytes) xs
         → AddsEach (map row_of xs) (map row_of ys)
         (map (λ all. before all bytes) (all_terms xs)) (map (λ all. now all bytes) (all_terms xs))
     AddsEach-took changed_none bytes fed = adds_none
     AddsEach-took (changed_next {old = x} {olds = xs} took rest) bytes fed = adds_next
-        (took.adds bytes (All-first (WasFed bytes) x xs fed)) (AddsEach-took rest bytes (All-rest (WasFed bytes) x xs fed))
-
-    pub terms-took : {xs ys : List (Fed R)} → Changed (Took terms represents before now Then) xs ys
-        → all_terms ys ≡ all_terms xs
-    terms-took changed_none = refl
-    terms-took (changed_next {old = x} {new = y} {olds = xs} {news = ys} took rest) =
-        ap (λ first. first ∷ all_terms ys) took.same_terms
-        ∙ ap (λ others. terms x.reader ∷ others) (terms-took rest)
+        (took.adds bytes (All-first (WasFed bytes) x xs fed))
+        (AddsEach-took rest bytes (All-rest (WasFed bytes) x xs fed))
 
   -- each stands for the bytes with the piece
   pub fed-took : (reading : Terms → Bool → List ℕ → Reading) (piece : List ℕ)
@@ -49,7 +44,8 @@ module _ {R Terms : Type 0} (terms : R → Terms) (represents : R → List ℕ �
   fed-took reading piece (changed_next {old = x} {new = y} {olds = xs} {news = ys} took rest) bytes
       fed faultless = All-next (WasFed (bytes ++ piece)) y ys
       (took.goes_on bytes (All-first (WasFed bytes) x xs fed) (All-first HasNone _ _ faultless))
-      (fed-took reading piece rest bytes (All-rest (WasFed bytes) x xs fed) (All-rest HasNone _ _ faultless))
+      (fed-took reading piece rest bytes (All-rest (WasFed bytes) x xs fed)
+      (All-rest HasNone _ _ faultless))
 
   -- each tells its events at the end
   pub lasts-took : (reading : Terms → Bool → List ℕ → Reading)
@@ -64,7 +60,8 @@ module _ {R Terms : Type 0} (terms : R → Terms) (represents : R → List ℕ �
       ap (λ last. last ∷ map (λ (z : Fed R). z.last) ys)
       (took.goes_on bytes (All-first (WasFed bytes) x xs fed) (All-first HasNone _ _ faultless))
       ∙ ap (λ lasts. (reading (terms x.reader) true bytes).last ∷ lasts)
-      (lasts-took reading rest bytes (All-rest (WasFed bytes) x xs fed) (All-rest HasNone _ _ faultless))
+      (lasts-took reading rest bytes (All-rest (WasFed bytes) x xs fed)
+      (All-rest HasNone _ _ faultless))
 
   pub terms-kept : {xs ys : List (Fed R)} → Changed (Kept terms represents) xs ys
       → all_terms ys ≡ all_terms xs
@@ -89,7 +86,8 @@ module _ {R Terms : Type 0} (terms : R → Terms) (represents : R → List ℕ �
   rows-cut count (changed_next {old = x} {new = y} {olds = xs} kept rest)
       (changed_next {new = z} {news = zs} cut others) bytes fed level =
       let restored : row_of z ≡ row_of x = cut.front
-      ∙ (ap (λ n. take n (row_of y)) (sym (All-first (IsLong count) (row_of x) (map row_of xs) level))
+      ∙ (ap (λ n. take n (row_of y)) (sym
+      (All-first (IsLong count) (row_of x) (map row_of xs) level))
       ∙ kept.front bytes (All-first (WasFed bytes) x xs fed)) in
       ap (λ row. row ∷ map row_of zs) restored ∙ ap (λ rows. row_of x ∷ rows)
       (rows-cut count rest others bytes (All-rest (WasFed bytes) x xs fed)
@@ -101,7 +99,8 @@ module _ {R Terms : Type 0} (terms : R → Terms) (represents : R → List ℕ �
   fed-cut count changed_none bytes fed = All-none (WasFed bytes)
   fed-cut count (changed_next {old = x} {new = y} {olds = xs} {news = ys} cut rest) bytes fed =
       All-next (WasFed bytes) y ys (subst (λ reader. represents reader bytes) (sym cut.same_reader)
-      (All-first (WasFed bytes) x xs fed)) (fed-cut count rest bytes (All-rest (WasFed bytes) x xs fed))
+      (All-first (WasFed bytes) x xs fed))
+      (fed-cut count rest bytes (All-rest (WasFed bytes) x xs fed))
 
 pub lasts-cut : {R : Type 0} (count : ℕ) {xs ys : List (Fed R)} → Changed (IsCutTo count) xs ys
     → map (λ (fed : Fed R). fed.last) ys ≡ map (λ (fed : Fed R). fed.last) xs

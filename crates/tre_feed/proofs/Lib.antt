@@ -7,6 +7,5 @@ pub mod Each
 pub mod Outcomes
 pub mod Pieces
 pub mod Read
-pub mod Told
 pub mod Turns
 pub mod Wholes

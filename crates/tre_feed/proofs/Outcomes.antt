@@ -55,7 +55,8 @@ too_long reading e = rw e refl
 -- the outcome is that of what all have in common
 outcome_within : (readings : Bool → List ℕ → List Reading) (limit : ℕ) (bytes : List ℕ)
     → outcome_of (common_of readings) limit bytes
-    ≡ outcome_of_reading (nat_le (length bytes) limit) (common (readings_within readings limit bytes))
+    ≡ outcome_of_reading (nat_le (length bytes) limit)
+    (common (readings_within readings limit bytes))
 unfolding outcome_of
 outcome_within readings limit bytes = refl
 
@@ -107,7 +108,8 @@ refuses_here : (readings : Bool → List ℕ → List Reading) (limit : ℕ) (by
     → (common nows).fault ≡ Some fault
     → outcome_of (common_of readings) limit bytes ≡ refuses fault
 refuses_here readings limit bytes nows fault same told = outcome_within readings limit bytes
-    ∙ (ap (λ (all : List Reading). outcome_of_reading (nat_le (length bytes) limit) (common all)) same
+    ∙ (ap (λ (all : List Reading). outcome_of_reading (nat_le (length bytes) limit)
+    (common all)) same
     ∙ refused (nat_le (length bytes) limit) (common nows) fault told)
 
 -- no fault, and more bytes than the limit
@@ -116,7 +118,8 @@ exceeds_here : (readings : Bool → List ℕ → List Reading) (limit : ℕ) (by
     → (common nows).fault ≡ None → limit < length bytes
     → outcome_of (common_of readings) limit bytes ≡ exceeds
 exceeds_here readings limit bytes nows same none over = outcome_within readings limit bytes
-    ∙ (ap (λ (all : List Reading). outcome_of_reading (nat_le (length bytes) limit) (common all)) same
+    ∙ (ap (λ (all : List Reading). outcome_of_reading (nat_le (length bytes) limit)
+    (common all)) same
     ∙ (ap (λ closed. outcome_of_reading closed (common nows)) (beyond (length bytes) limit over)
     ∙ too_long (common nows) none))
 
@@ -182,7 +185,8 @@ TellsAll-end readings limit file left bytes old new fault front all inside adds 
     comes = refuses_here readings limit bytes _ fault (closed_within readings limit bytes inside)
         told;
     whole = Consumes-whole file left bytes _ front all
-        (refuses_here readings limit bytes _ fault (closed_within readings limit bytes inside) told);
+        (refuses_here readings limit bytes _ fault
+        (closed_within readings limit bytes inside) told);
     same = Consumes-whole file left bytes _ front all refl;
   };
   all = rw (within (length bytes) limit inside, take-over limit bytes inside) adds;

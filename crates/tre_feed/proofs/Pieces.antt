@@ -182,17 +182,21 @@ module _ {were_fed : List ℕ → Type 0} {limit : ℕ} {file left found : Optio
             (readings false (bytes ++ take (limit - count) piece))
             → HasRead readings limit file left' found' bytes old new (Ok more)
         HasRead-fed piece more front short level adds =
-            HasRead-piece piece (Ok more) front short level (adds_piece inside readings old new piece adds)
+            HasRead-piece piece (Ok more) front short level
+            (adds_piece inside readings old new piece adds)
 
         -- a turn whose piece was refused
         pub HasRead-stops : (fault : FeedFault) → AreLevel new
-            → length old ≡ length (readings false (take limit bytes)) → StopsPiece readings (limit - count) room bytes left left' old new fault
+            → length old ≡ length (readings false (take limit bytes)) → StopsPiece readings
+            (limit - count) room bytes left left' old new fault
             → HasRead readings limit file left' found' bytes old new (Err fault)
-        HasRead-stops (Trace fault) level counts stops = HasRead-piece stops.piece (Err (Trace fault))
+        HasRead-stops (Trace fault) level counts stops = HasRead-piece stops.piece
+            (Err (Trace fault))
             stops.front stops.short level (adds_piece inside readings old new stops.piece stops.all)
         HasRead-stops TooLong level counts stops = absurd stops
         HasRead-stops Read level counts stops = HasRead-failed old new (Err Read) stops.kept level
-            (rw (append-nil bytes) (subst (λ rows. AddsEach old rows (readings false (take limit bytes))
+            (rw (append-nil bytes) (subst (λ rows. AddsEach old rows
+            (readings false (take limit bytes))
             (readings false (take limit bytes))) (sym stops.same) (AddsEach-none old _ counts)))
         HasRead-stops Memory level counts stops = HasRead-piece stops.piece (Err Memory) stops.front
             stops.short level stops.same
@@ -206,10 +210,12 @@ module _ {were_fed : List ℕ → Type 0} {limit : ℕ} {file left found : Optio
             let told = subst (λ all. (common (readings false all)).fault ≡ Some fault)
             (IsFed-behind inside stops.piece) stops.told in (
               stops.kind,
-              TellsAll-fault readings grows limit file left' bytes (bytes ++ stops.piece) old new fault
+              TellsAll-fault readings grows limit file left' bytes
+                  (bytes ++ stops.piece) old new fault
                   (Consumes-trans file left left' bytes stops.piece so_far.front stops.front)
                   (adds_piece inside readings old new stops.piece stops.all)
-                  (common_fault _ (alike (take limit (bytes ++ stops.piece))) (Some fault) told) told,
+                  (common_fault _ (alike (take limit (bytes ++ stops.piece)))
+                  (Some fault) told) told,
             )
         StopsTurn-piece TooLong grows alike stops = absurd stops
         StopsTurn-piece Read grows alike stops = record {
@@ -270,7 +276,8 @@ IsAtEndOf-read {were_fed' = were_fed'} limit file left found left' found' taken 
           (rw piece at front));
       all_read = all;
       within = omega (arith, so_far.size, inside);
-      fed = subst were_fed' (ap (λ more. bytes ++ more) (nothing_of (limit - taken) count buffer none)
+      fed = subst were_fed' (ap (λ more. bytes ++ more)
+          (nothing_of (limit - taken) count buffer none)
           ∙ append-nil bytes) fed;
       behind = found_behind file left found' bytes so_far.front finds;
     }
@@ -312,7 +319,8 @@ module _ {were_fed : List ℕ → Type 0} (readings : Bool → List ℕ → List
   }
 
   adds_end : AddsEach mid new (readings false bytes) (readings true bytes)
-      → AddsEach old new (readings false (take limit bytes)) (readings true (take limit (bytes ++ [])))
+      → AddsEach old new (readings false (take limit bytes))
+      (readings true (take limit (bytes ++ [])))
   adds_end adds = subst (λ all. AddsEach old new (readings false (take limit bytes))
       (readings true (take limit all))) (sym (append-nil bytes))
       (subst (λ all. AddsEach old new (readings false all) (readings true all))
@@ -357,7 +365,8 @@ module _ {were_fed : List ℕ → Type 0} (readings : Bool → List ℕ → List
     takes.0,
     TellsAll-end readings limit file left bytes old new fault at_end.front at_end.all_read
         at_end.within
-        (subst (λ rows. AddsEach rows new (readings false bytes) (readings true bytes)) same takes.1)
+        (subst (λ rows. AddsEach rows new (readings false bytes)
+        (readings true bytes)) same takes.1)
         takes.2,
   )
   StopsTurn-end TooLong takes = absurd takes
@@ -379,7 +388,8 @@ StopsPiece-refused readings allowed room bytes piece fed before now old new (Tra
       short = short;
       all = subst (λ more. AddsEach old new (readings false bytes) (readings false (bytes ++ more)))
           is takes.1;
-      told = subst (λ more. (common (readings false (bytes ++ more))).fault ≡ Some fault) is takes.2;
+      told = subst (λ more. (common (readings false
+          (bytes ++ more))).fault ≡ Some fault) is takes.2;
     }
 StopsPiece-refused readings allowed room bytes piece fed before now old new TooLong front short is
     takes = absurd takes

@@ -26,7 +26,8 @@ module _ {R Terms : Type 0} (terms : R → Terms) where
   -- as many rows as readings
   pub same_length : (readers : Readers R) (reading : Terms → Bool → List ℕ → Reading)
       (closed : Bool) (bytes : List ℕ)
-      → length (rows_of readers) ≡ length (readings_by reading (terms_of terms readers) closed bytes)
+      → length (rows_of readers) ≡ length
+      (readings_by reading (terms_of terms readers) closed bytes)
   same_length readers reading closed bytes =
       length-map readers.each.items row_of
       ∙ (sym (length-map readers.each.items (λ (fed : Fed R). terms fed.reader))

@@ -14,7 +14,8 @@ use Rattle.tre_feed.proofs.Changed.{ChangedTo, ChangedTo-as, ChangedTo-more, Cha
 
 -- what was put behind segments leaves them in front
 front_kept : (old new added : List Segment) → new ≡ old ++ added → take (length old) new ≡ old
-front_kept old new added new_is = ap (take (length old)) new_is ∙ take_at old added (length old) refl
+front_kept old new added new_is = ap (take (length old)) new_is ∙ take_at old added
+    (length old) refl
 
 -- whatever the call told, the old segments stand in front
 TakesOne-front : (old new : List Segment) (before now : Reading)
@@ -106,7 +107,8 @@ module _ {R Terms : Type 0} (terms : R → Terms) (represents : R → List ℕ �
         pub Took-one : result ≢ Err Memory
             → ((bytes : List ℕ) → represents (get_or news count d).reader bytes
             → OnOk result (Then (terms (get_or news count d).reader) new bytes))
-            → ChangedTo (Took terms represents before now Then) olds (set news count new) (count + 1)
+            → ChangedTo (Took terms represents before now Then) olds (set news count new)
+            (count + 1)
         Took-one found then = ChangedTo-more so_far d new below
             (Took-call (get_or news count d) new result same takes found then)
 
@@ -117,12 +119,15 @@ module _ {R Terms : Type 0} (terms : R → Terms) (represents : R → List ℕ �
             → IsEndOfAll (map (λ all. now all bytes) (map (λ fed. terms fed.reader) olds)) result
         told-one found bytes fed alike =
             let inside : count < length olds = omega (arith, below, so_far.length_is) in
-            let here : get_or news count d ≡ get_or olds count d = so_far.rest count d (omega arith) in
-            let takes_here = takes bytes (subst (λ (x : Fed R). represents x.reader bytes) (sym here)
+            let here : get_or news count d ≡ get_or olds count d = so_far.rest count d
+            (omega arith) in
+            let takes_here = takes bytes (subst (λ (x : Fed R). represents x.reader bytes)
+            (sym here)
             (fed count d inside)) in
             IsEndOfAll-at (λ all. now all bytes) olds alike count d inside result
             (subst (λ (x : Fed R). IsToldBy result (now (terms x.reader) bytes)) here
-            (TakesOne-adds (row_of (get_or news count d)) (row_of new) _ _ result found takes_here).1)
+            (TakesOne-adds (row_of (get_or news count d))
+            (row_of new) _ _ result found takes_here).1)
           where
             IsEndOfAll-at : (says : Terms → Reading) (xs : List (Fed R))
                 → AreAllAlike (map says (map (λ fed. terms fed.reader) xs)) → (k : ℕ) (e : Fed R)

@@ -58,15 +58,6 @@ HasRead-bounded {bytes = bytes} has = record {
   front = has.front;
 }
 
--- of an input that was only opened nothing was taken
-pub TakesAtMost-none : {most : ℕ} (file left : Option (List ℕ)) → Keeps file left
-    → TakesAtMost most file left
-TakesAtMost-none file left kept = record {
-  taken = [];
-  few = omega arith;
-  front = Consumes-keeps file file left [] (Consumes-nil file) kept;
-}
-
 -- the bytes of an open input
 were_read : (input : InputTold) (bytes : List ℕ) → input.opened ≡ true
     → Consumes input.file input.left bytes → WereRead input bytes

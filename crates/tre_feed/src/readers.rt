@@ -13,8 +13,8 @@ use tre_trace::{Segment, Trace, TraceReader};
 
 /// Readers of one format, each with the segments that it has read and nobody has taken.
 ///
-/// All of them read the same bytes, each for its own names. As many segments wait of each, but where
-/// a reader has refused bytes and is fed again.
+/// All of them read the same bytes, each for its own names. As many segments wait of each, but
+/// where a reader has refused bytes and is fed again.
 #[derive(Drop)]
 pub struct Readers<R: Drop> {
     each: Vec<Fed<R>>,

@@ -96,7 +96,8 @@ returns-in_err-finish-clause-read g c =
     (c.in_ok-count.ensures.adds bytes fed) in
     let takes = subst (λ (all : List reader.Terms). TakesIn (rows_of c.feed_piece.new.readers)
     (rows_of c.finish.new.self) (readings_by reader.reading all false bytes)
-    (readings_by reader.reading all true bytes) (Err c.in_err-finish.field-0.0)) c.in_ok-count.ensures.terms
+    (readings_by reader.reading all true bytes)
+    (Err c.in_err-finish.field-0.0)) c.in_ok-count.ensures.terms
     (c.in_err-finish.ensures.takes bytes at_end.fed) in
     rw (p.1, p.2) (HasRead-refused readings at_end (rows_of readers)
     (rows_of c.feed_piece.new.readers) (rows_of c.finish.new.self) same c.in_err-finish.field-0.0
@@ -126,7 +127,8 @@ returns-in_err-finish-clause-ends g c =
     (c.in_ok-count.ensures.adds bytes fed) in
     let takes = subst (λ (all : List reader.Terms). TakesIn (rows_of c.feed_piece.new.readers)
     (rows_of c.finish.new.self) (readings_by reader.reading all false bytes)
-    (readings_by reader.reading all true bytes) (Err c.in_err-finish.field-0.0)) c.in_ok-count.ensures.terms
+    (readings_by reader.reading all true bytes)
+    (Err c.in_err-finish.field-0.0)) c.in_ok-count.ensures.terms
     (c.in_err-finish.ensures.takes bytes at_end.fed) in
     rw (p.1, p.2) (StopsTurn-end readings at_end (rows_of readers)
     (rows_of c.feed_piece.new.readers) (rows_of c.finish.new.self) same c.in_err-finish.field-0.0

@@ -13,7 +13,8 @@ returns-then-is_out_of_memory-clause-kept g c =
     (λ all bytes. reader.reading all false (bytes ++ piece))
     (λ all new bytes. reader.represents new.reader (bytes ++ piece))
     c.loop-fed.invariant.took (omega (arith, c.loop-fed-test.true, c.loop-fed.auto.fed-items))
-    c.fed-item.result c.feed-outcome.new.self c.feed-outcome.result c.feed-outcome.ensures.same_terms
+    c.fed-item.result c.feed-outcome.new.self c.feed-outcome.result
+    c.feed-outcome.ensures.same_terms
     c.feed-outcome.ensures.takes
 
 pub loop-fed-preserved : goal.loop-fed-preserved

@@ -12,7 +12,8 @@ returns-then-is_out_of_memory-clause-kept g c =
     (λ all bytes. reader.reading all true bytes)
     (λ all new bytes. new.last ≡ (reader.reading all true bytes).last)
     c.loop-fed.invariant.took (omega (arith, c.loop-fed-test.true, c.loop-fed.auto.fed-items))
-    c.fed-item.result c.finish-outcome.new.self c.finish-outcome.result c.finish-outcome.ensures.same_terms
+    c.fed-item.result c.finish-outcome.new.self c.finish-outcome.result
+    c.finish-outcome.ensures.same_terms
     c.finish-outcome.ensures.takes
 
 pub loop-fed-preserved : goal.loop-fed-preserved

@@ -70,7 +70,8 @@ returns-clause-goes_on g c =
     let found : c.feed_each-outcome.result ≢ Err Memory =
     λ is. (let out : c.is_out_of_memory.result ≡ true = c.is_out_of_memory.ensures.1 is in cc) in
     λ bytes so_far.
-    let told = (rw c.deref_mut.ensures.value at c.feed_each-outcome.ensures.told) bytes so_far.each in
+    let told = (rw c.deref_mut.ensures.value at c.feed_each-outcome.ensures.told) bytes so_far.each
+    in
     of_ok _ _ c.feed_each-outcome.result told (λ faultless. record {
       each = rw (with_items_is own fed same) (fed-took reader.terms reader.represents
           reader.reading piece
@@ -113,7 +114,8 @@ returns-clause-level g c =
     omega (arith, c.feed_each-outcome.auto.each, c.deref_mut.ensures.len) in
     let found : c.feed_each-outcome.result ≢ Err Memory =
     λ is. (let out : c.is_out_of_memory.result ≡ true = c.is_out_of_memory.ensures.1 is in cc) in
-    λ bytes so_far. rw (with_items_is own fed same) (AreLevel-all-took reader.terms reader.represents
+    λ bytes so_far. rw (with_items_is own fed same)
+    (AreLevel-all-took reader.terms reader.represents
     (λ all bytes. reader.reading all false bytes)
     (λ all bytes. reader.reading all false (bytes ++ piece))
     (λ all new bytes. reader.represents new.reader (bytes ++ piece))

@@ -103,7 +103,8 @@ returns-clause-level g c =
     omega (arith, c.finish_each-outcome.auto.each, c.deref_mut.ensures.len) in
     let found : c.finish_each-outcome.result ≢ Err Memory =
     λ is. (let out : c.is_out_of_memory.result ≡ true = c.is_out_of_memory.ensures.1 is in cc) in
-    λ bytes so_far. rw (with_items_is own fed same) (AreLevel-all-took reader.terms reader.represents
+    λ bytes so_far. rw (with_items_is own fed same)
+    (AreLevel-all-took reader.terms reader.represents
     (λ all bytes. reader.reading all false bytes)
     (λ all bytes. reader.reading all true bytes)
     (λ all new bytes. new.last ≡ (reader.reading all true bytes).last)
