@@ -8,4 +8,5 @@ pub mod Feeding
 pub mod Whole
 -- What the functions inside promise each other.
 pub mod Faults
+pub mod Fed
 pub mod Piece

@@ -1,12 +1,12 @@
 -- What the parts of a turn promise each other of one piece, of which `allowed` bytes may be fed and
 -- `room` may come. It is read where `before` was left of the input, and `now` is left behind it.
-use Rattle.std.specs.Prelude.{◌≡◌, ℕ, ◌≤◌, Bool, false, List, ◌++◌, length, take, All, Option, Some}
+use Rattle.std.specs.Prelude.{◌≡◌, ℕ, ◌≤◌, Bool, false, List, ◌++◌, length, take, Option, Some}
 use Rattle.std.specs.Io.KnownBytes.{Consumes, Keeps}
 use Rattle.tre_trace.specs.Reading.{Reading}
 use Rattle.tre_trace.specs.declared.segment.Segment.{Segment}
 use Rattle.tre_trace.specs.declared.fault.TraceFault.{TraceFault}
 use Rattle.tre_feed.specs.Outcome.{IsInputKind}
-use Rattle.tre_feed.specs.Readings.{AddsEach}
+use Rattle.tre_feed.specs.Readings.{AddsEach, common}
 use Rattle.tre_feed.specs.declared.fault.FeedFault.{FeedFault}
 use Rattle.tre_feed.specs.declared.fault.FeedFault.TheVariants.{Trace, TooLong, Read, Memory}
 
@@ -21,8 +21,7 @@ pub record HasFault (readings : Bool → List ℕ → List Reading) (allowed roo
   pub short : length piece ≤ room
   pub all : AddsEach old new
       (readings false bytes) (readings false (bytes ++ take allowed piece))
-  pub told : All (λ reading. reading.fault ≡ Some fault)
-      (readings false (bytes ++ take allowed piece))
+  pub told : (common (readings false (bytes ++ take allowed piece))).fault ≡ Some fault
 
 -- A piece was read, and there was no memory for what it says.
 pub record IsLost (room : ℕ) (before now : Option (List ℕ)) (old new : List (List Segment))

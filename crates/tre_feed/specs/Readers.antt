@@ -5,7 +5,7 @@ use Rattle.tre_trace.specs.Trace.{Timeline, timeline_of}
 use Rattle.tre_trace.specs.declared.segment.Segment.{Segment}
 use Rattle.tre_trace.specs.declared.reader.TheConstants.{FED_MAX}
 use Rattle.tre_feed.specs.Outcome.{IsInputKind}
-use Rattle.tre_feed.specs.Readings.{AddsEach, AreLevel}
+use Rattle.tre_feed.specs.Readings.{AddsEach, AreLevel, common}
 use Rattle.tre_feed.specs.declared.fault.FeedFault.{FeedFault}
 use Rattle.tre_feed.specs.declared.fault.FeedFault.TheVariants.{Trace, Memory}
 use Rattle.tre_feed.specs.declared.fed.Fed.{Fed}
@@ -65,13 +65,13 @@ pub record HaveRoom {R : Type 0} (fed_of : R → ℕ) (readers : Readers R) (cou
   pub each : All (λ fed. fed_of fed.reader + count ≤ FED_MAX) readers.each.items
 
 -- How a call ended that had all readers read on from some readings to others. Behind the old rows
--- stand the segments that these have beyond the earlier, and the fault is the first of each. Where
+-- stand the segments that these have beyond the earlier, and the fault is their first. Where
 -- memory was wanting, the rows are as they were.
 abbrev pub TakesIn : List (List Segment) → List (List Segment) → List Reading → List Reading →
     Result (Unit {0}) FeedFault → Type 0
 TakesIn old new before now (Ok done) =
     AddsEach old new before now × All (λ reading. reading.fault ≡ None) now
 TakesIn old new before now (Err (Trace fault)) = IsInputKind fault.kind
-    × AddsEach old new before now × All (λ reading. reading.fault ≡ Some fault) now
+    × AddsEach old new before now × ((common now).fault ≡ Some fault)
 TakesIn old new before now (Err Memory) = new ≡ old
 TakesIn old new before now (Err fault) = ⊥

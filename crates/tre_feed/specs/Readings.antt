@@ -1,5 +1,5 @@
 -- What the bytes of an input say for each of several readers.
-use Rattle.std.specs.Prelude.{◌≡◌, ℕ, nat_le, Bool, true, false, List, [], ◌∷◌, length, take, map, All, Option, None, IfSome}
+use Rattle.std.specs.Prelude.{◌≡◌, ℕ, nat_le, Bool, List, [], ◌∷◌, length, take, map, All, Option, None, IfSome}
 use Rattle.std.specs.Io.KnownBytes.{Consumes}
 use Rattle.tre_parts.specs.Alike.{AreAlike}
 use Rattle.tre_trace.specs.Reading.{Reading, Adds}

@@ -1,10 +1,11 @@
 // One reader, and what it has read.
-ghost use Rattle.std.specs.Prelude.{◌≡◌, ℕ, ◌+◌, ◌≤◌, List, ◌++◌, [], length, false, true, None, OnOk, IfOk, IfErr};
-ghost use Rattle.tre_trace.specs.Reading.{Adds, IsRefused};
+ghost use Rattle.std.specs.Prelude.{◌≡◌, ℕ, ◌+◌, ◌≤◌, List, ◌++◌, [], length, false, true, OnOk};
 ghost use Rattle.tre_trace.specs.declared.reader.TheConstants.{FED_MAX};
+ghost use Rattle.tre_feed.specs.Fed.{IsOfReader, TakesOne};
 
+use crate::fault::FeedFault;
 use std::alloc::Global;
-use tre_trace::{Segment, TraceFault, TraceReader};
+use tre_trace::{Segment, TraceReader};
 
 // A reader, the segments that it has read and nobody has taken, and the events at the end; 0 before
 // it was told the end.
@@ -30,38 +31,31 @@ impl<R: TraceReader + Drop> Fed<R> {
     }
 
     // Feeds a piece.
-    pub fn feed(&mut self, piece: &[u8]) -> Result<(), TraceFault>
+    pub fn feed(&mut self, piece: &[u8]) -> Result<(), FeedFault>
         requires room { R.fed_of self.old.reader + length piece.now ≤ FED_MAX }
         ensures goes_on { (bytes : List ℕ) → R.represents self.old.reader bytes →
             OnOk result (R.represents self.new.reader (bytes ++ piece.now)) }
-        ensures adds { (bytes : List ℕ) → R.represents self.old.reader bytes →
-            OnOk result (Adds self.old.segments.items self.new.segments.items
+        ensures takes { (bytes : List ℕ) → R.represents self.old.reader bytes →
+            TakesOne self.old.segments.items self.new.segments.items
             (R.reading (R.terms self.old.reader) false bytes)
-            (R.reading (R.terms self.old.reader) false (bytes ++ piece.now))) }
-        ensures refused { (bytes : List ℕ) → R.represents self.old.reader bytes →
-            IfErr result (IsRefused self.old.segments.items self.new.segments.items
-            (R.reading (R.terms self.old.reader) false bytes)
-            (R.reading (R.terms self.old.reader) false (bytes ++ piece.now))) }
-        ensures terms { R.terms self.new.reader ≡ R.terms self.old.reader }
+            (R.reading (R.terms self.old.reader) false (bytes ++ piece.now)) result }
+        ensures of_reader { IsOfReader result }
+        ensures same_terms { R.terms self.new.reader ≡ R.terms self.old.reader }
     {
-        self.reader.feed(piece, &mut self.segments)
+        self.reader.feed(piece, &mut self.segments)?;
+        Ok(())
     }
 
     // Tells the end.
-    pub fn finish(&mut self) -> Result<(), TraceFault>
-        ensures whole { (bytes : List ℕ) → R.represents self.old.reader bytes →
-            OnOk result ((R.reading (R.terms self.old.reader) true bytes).fault ≡ None) }
+    pub fn finish(&mut self) -> Result<(), FeedFault>
         ensures last { (bytes : List ℕ) → R.represents self.old.reader bytes →
             OnOk result (self.new.last ≡ (R.reading (R.terms self.old.reader) true bytes).last) }
-        ensures adds { (bytes : List ℕ) → R.represents self.old.reader bytes →
-            OnOk result (Adds self.old.segments.items self.new.segments.items
+        ensures takes { (bytes : List ℕ) → R.represents self.old.reader bytes →
+            TakesOne self.old.segments.items self.new.segments.items
             (R.reading (R.terms self.old.reader) false bytes)
-            (R.reading (R.terms self.old.reader) true bytes)) }
-        ensures refused { (bytes : List ℕ) → R.represents self.old.reader bytes →
-            IfErr result (IsRefused self.old.segments.items self.new.segments.items
-            (R.reading (R.terms self.old.reader) false bytes)
-            (R.reading (R.terms self.old.reader) true bytes)) }
-        ensures terms { R.terms self.new.reader ≡ R.terms self.old.reader }
+            (R.reading (R.terms self.old.reader) true bytes) result }
+        ensures of_reader { IsOfReader result }
+        ensures same_terms { R.terms self.new.reader ≡ R.terms self.old.reader }
     {
         self.last = self.reader.finish(&mut self.segments)?;
         Ok(())

@@ -1,18 +1,20 @@
 // Readers of one format that read the same bytes.
-ghost use Rattle.std.specs.Prelude.{◌≡◌, ℕ, ◌<◌, ◌++◌, ◌∷◌, [], List, All, map, length, false, true, OnOk, OnErr, IfOk};
+ghost use Rattle.std.specs.Prelude.{◌≡◌, ◌≢◌, ◌↔◌, ℕ, ◌+◌, ◌<◌, ◌≤◌, ◌++◌, ◌∷◌, [], List, All, map, length, false, true, Err, IsTrue, OnOk, OnErr, IfOk};
 ghost use Rattle.tre_trace.specs.Trace.{IsTrace};
+ghost use Rattle.tre_trace.specs.declared.reader.TheConstants.{FED_MAX};
+ghost use Rattle.tre_feed.specs.Fed.{Changed, IsCutTo, IsEndOfAll, IsOfReader, Kept, TookEnd, TookPiece};
 ghost use Rattle.tre_feed.specs.Readers.{AreFresh, HaveRoom, TakesIn, WereFed, column, lasts_of, rows_of, terms_of, traces_of};
 ghost use Rattle.tre_feed.specs.Readings.{AgreeAlways, AreLevel, count_of, readings_by};
 
 use crate::fault::FeedFault;
 use crate::fed::Fed;
 use std::alloc::{AllocError, Global};
-use tre_trace::{Segment, Trace, TraceFault, TraceKind, TraceReader};
+use tre_trace::{Segment, Trace, TraceReader};
 
 /// Readers of one format, each with the segments that it has read and nobody has taken.
 ///
-/// All of them read the same bytes, each for its own names. As many segments wait of each, but where
-/// a reader has refused bytes and is fed again.
+/// All of them read the same bytes, each for its own names. As many segments wait of each, but
+/// where a reader has refused bytes and is fed again.
 #[derive(Drop)]
 pub struct Readers<R: Drop> {
     each: Vec<Fed<R>>,
@@ -108,18 +110,16 @@ impl<R: TraceReader + Drop> Readers<R> {
             (readings_by R.reading (terms_of R.terms self.old) false (bytes ++ piece.now)) result }
         ensures level { (bytes : List ℕ) → WereFed R.represents self.old bytes →
             AreLevel (rows_of self.new) }
+        ensures of_reader { IsOfReader result }
         ensures terms { terms_of R.terms self.new ≡ terms_of R.terms self.old }
     {
         let waiting = self.waiting();
-        match feed_each(&mut self.each, piece) {
-            Ok(()) => Ok(()),
-            Err(fault) => {
-                if fault.kind == TraceKind::Memory {
-                    cut_each(&mut self.each, waiting);
-                }
-                Err(FeedFault::from(fault))
-            }
+        let outcome = feed_each(&mut self.each, piece);
+        if is_out_of_memory(&outcome) {
+            cut_each(&mut self.each, waiting);
+            return Err(FeedFault::Memory);
         }
+        outcome
     }
 
     /// Tells all of them the end, also behind one that has a fault, since all have the same. Where
@@ -135,18 +135,16 @@ impl<R: TraceReader + Drop> Readers<R> {
             (readings_by R.reading (terms_of R.terms self.old) true bytes)) }
         ensures level { (bytes : List ℕ) → WereFed R.represents self.old bytes →
             AreLevel (rows_of self.new) }
+        ensures of_reader { IsOfReader result }
         ensures terms { terms_of R.terms self.new ≡ terms_of R.terms self.old }
     {
         let waiting = self.waiting();
-        match finish_each(&mut self.each) {
-            Ok(()) => Ok(()),
-            Err(fault) => {
-                if fault.kind == TraceKind::Memory {
-                    cut_each(&mut self.each, waiting);
-                }
-                Err(FeedFault::from(fault))
-            }
+        let outcome = finish_each(&mut self.each);
+        if is_out_of_memory(&outcome) {
+            cut_each(&mut self.each, waiting);
+            return Err(FeedFault::Memory);
         }
+        outcome
     }
 
     /// The trace of each: the segments that wait, and the events at the end.
@@ -164,41 +162,64 @@ impl<R: TraceReader + Drop> Readers<R> {
     }
 }
 
-// Feeds a piece to each, but those behind one that wants memory.
-fn feed_each<R: TraceReader + Drop>(each: &mut [Fed<R>], piece: &[u8]) -> Result<(), TraceFault> {
+// Feeds a piece to each, but to none behind one that wants memory.
+fn feed_each<R: TraceReader + Drop>(each: &mut [Fed<R>], piece: &[u8]) -> Result<(), FeedFault>
+    requires room { All (λ fed. R.fed_of fed.reader + length piece.now ≤ FED_MAX) each.old }
+    requires alike { AgreeAlways (readings_by R.reading (map (λ fed. R.terms fed.reader)
+        each.old)) }
+    ensures of_reader { IsOfReader result }
+    ensures kept { Changed (Kept R.terms R.represents) each.old each.new }
+    ensures took { (result ≢ Err FeedFault.Memory) →
+        Changed (TookPiece R.terms R.represents R.reading piece.now) each.old each.new }
+    ensures told { (bytes : List ℕ) → All (λ fed. R.represents fed.reader bytes) each.old →
+        IsEndOfAll (readings_by R.reading (map (λ fed. R.terms fed.reader) each.old) false
+        (bytes ++ piece.now)) result }
+{
     let mut outcome = Ok(());
     for fed in each {
-        let told = fed.feed(piece);
-        if is_out_of_memory(&told) {
-            return told;
+        outcome = fed.feed(piece);
+        if is_out_of_memory(&outcome) {
+            return outcome;
         }
-        outcome = told;
     }
     outcome
 }
 
-// Tells each the end, but those behind one that wants memory.
-fn finish_each<R: TraceReader + Drop>(each: &mut [Fed<R>]) -> Result<(), TraceFault> {
+// Tells each the end, but none behind one that wants memory.
+fn finish_each<R: TraceReader + Drop>(each: &mut [Fed<R>]) -> Result<(), FeedFault>
+    requires alike { AgreeAlways (readings_by R.reading (map (λ fed. R.terms fed.reader)
+        each.old)) }
+    ensures of_reader { IsOfReader result }
+    ensures kept { Changed (Kept R.terms R.represents) each.old each.new }
+    ensures took { (result ≢ Err FeedFault.Memory) →
+        Changed (TookEnd R.terms R.represents R.reading) each.old each.new }
+    ensures told { (bytes : List ℕ) → All (λ fed. R.represents fed.reader bytes) each.old →
+        IsEndOfAll (readings_by R.reading (map (λ fed. R.terms fed.reader) each.old) true bytes)
+        result }
+{
     let mut outcome = Ok(());
     for fed in each {
-        let told = fed.finish();
-        if is_out_of_memory(&told) {
-            return told;
+        outcome = fed.finish();
+        if is_out_of_memory(&outcome) {
+            return outcome;
         }
-        outcome = told;
     }
     outcome
 }
 
-fn is_out_of_memory(told: &Result<(), TraceFault>) -> bool {
+fn is_out_of_memory(told: &Result<(), FeedFault>) -> bool
+    ensures { IsTrue result ↔ (told.now ≡ Err FeedFault.Memory) }
+{
     match told {
-        Ok(()) => false,
-        Err(fault) => fault.kind == TraceKind::Memory,
+        Err(FeedFault::Memory) => true,
+        _ => false,
     }
 }
 
 // Cuts each row to its first segments, as many as `count`.
-fn cut_each<R: Drop>(each: &mut [Fed<R>], count: usize) {
+fn cut_each<R: Drop>(each: &mut [Fed<R>], count: usize)
+    ensures { Changed (IsCutTo count) each.old each.new }
+{
     for fed in each {
         fed.segments.truncate(count);
     }
