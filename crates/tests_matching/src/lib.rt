@@ -31,4 +31,6 @@ mod steady;
 #[cfg(test)]
 mod twins;
 #[cfg(test)]
+mod watch;
+#[cfg(test)]
 mod whole_traces;

@@ -259,8 +259,8 @@ fn declarations(rt: HostRuntime) -> Result<(), Fail> {
 }
 
 // Behind a proposition `t.p`: more declarations in the scope t, what stands behind them, and what
-// that says for the proposition and the events `t.e` and `t.f`: with `@` and the events at its begin
-// behind a segment, and behind all the events at the end.
+// that says for the proposition and the events `t.e` and `t.f`: with `@` and the events at its
+// begin behind a segment, and behind all the events at the end.
 const EVENTS: [(&str, &str, &str); 26] = [
     // At a time, at 0, before any time, and at the last time.
     ("$var event 1 % e $end", "#4 1% #6", "4:0 2:0@1 "),

@@ -2,3 +2,5 @@ pub mod NewZones
 pub mod Standing
 pub mod AtTheEnd
 pub mod Nodes
+pub mod Watching
+pub mod InTurn

@@ -1,8 +1,11 @@
 -- What a reader must believe: what a session stands for (StandsFor), and what it tells of a segment
--- (TellsNew, WasTold) and of the end (TellsLast).
+-- (TellsNew, WasTold) and of the end (TellsLast); what a watch stands for (Watches), and that it
+-- tells of each pattern what a session tells (TellEach, TellLastEach).
 pub mod Session
 pub mod Told
--- What the functions inside promise each other: IsKeptNew, the words of Reading, and that a
--- session keeps a fact which can be so in one way only (Well).
+pub mod Watch
+-- What the functions inside promise each other: IsKeptNew, the words of Reading and Giving, and that
+-- a session keeps a fact which can be so in one way only (Well).
 pub mod Reading
+pub mod Giving
 pub mod Well

@@ -75,7 +75,8 @@ pub record TellsNew (tree : PatternTree) (segments : List Segment) (segment : Se
 -- What is told where these events happen at the end of these segments, where `earlier` was told
 -- last: a set of zones, none of which is included in another or in one that was told last. Its
 -- pairs end there, and are with the matches before just the matches of the trace with these events.
--- Where nothing happens it is empty; where no segment came and something happens, it is all matches.
+-- Where nothing happens it is empty; where no segment came and something happens, it is all
+-- matches.
 pub record TellsLast (tree : PatternTree) (segments : List Segment) (events : ℕ)
     (earlier told : List ZoneBounds) : Type 0 where
   pub none : events ≡ 0 → told ≡ []

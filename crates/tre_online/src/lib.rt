@@ -1,9 +1,11 @@
 //! Matching while the trace comes: a [`Session`] is given segments one by one, keeps none of them,
-//! and tells after each what has become a match.
+//! and tells after each what has become a match. A [`Watch`] has a session for each of several
+//! patterns, and is given a segment for each at a time.
 //!
 //! The layers above may rely on what a session stands for and on what it tells: with the matches
 //! so far, exactly the matches of the trace with the segment. Of an edge it tells only once the
-//! segment behind it has come, and of an event at the end of the trace when it is closed.
+//! segment behind it has come, and of an event at the end of the trace when it is closed. What a
+//! watch tells of a pattern is what the session of that pattern alone would tell.
 //!
 //! ```
 //! let mut session = Session::new(alloc, pattern)?;
@@ -13,6 +15,8 @@
 #![tactic(auto)]
 
 pub use session::Session;
+pub use watch::{Told, Watch};
 
 mod session;
 mod told;
+mod watch;

@@ -183,7 +183,7 @@ impl Session {
     }
 
     // What is told where the trace ends with these events.
-    fn last_told(&self, events: u64) -> Result<ZoneSet, AllocError>
+    pub(crate) fn last_told(&self, events: u64) -> Result<ZoneSet, AllocError>
         ensures { (segments : List Segment) → StandsFor self.now segments →
             IfOk result (λ told. TellsLast (pattern_tree (pattern_of self.now)) segments events
             (ended_of self.now) told) }

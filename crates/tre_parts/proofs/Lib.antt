@@ -1,4 +1,5 @@
 pub mod Alike
+pub mod Shared
 mod Cuts
 pub mod Walks
 mod Feeding

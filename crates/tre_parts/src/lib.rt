@@ -14,6 +14,7 @@
 #![tactic(auto)]
 
 mod byte_class;
+pub mod laws;
 mod names;
 mod part_reader;
 mod parts;

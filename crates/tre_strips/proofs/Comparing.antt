@@ -1,5 +1,5 @@
 -- Whether an end stands before another over some times, seen at one of them; and cut times.
-use Rattle.std.proofs.Common.{◌≡◌, ◌≢◌, ℕ, ◌+◌, ◌*◌, ◌<◌, ◌≤◌, Bool, true, false, MatchBool, nat_lt, refl, ap, arith, inl, inr, ⊎_elim, ltb-true, ltb-false, mul-le-mul_right}
+use Rattle.std.proofs.Common.{◌≡◌, ◌≢◌, ℕ, ◌+◌, ◌*◌, ◌<◌, ◌≤◌, ◌↔◌, Bool, true, false, cond, IsTrue, refl, sym, ap, arith, inl, inr, ⊎_elim, true≢false, mul-le-mul_right}
 use Rattle.std.proofs.lemmas.Bool.{cases_eq, cases_lt}
 use Rattle.tre_strips.specs.Bar.{place_of}
 use Rattle.tre_strips.specs.Times.{IsTime, Narrows, sample_of, IsSettled, Compares, IsLater, IsEarlier}
@@ -27,26 +27,25 @@ sample_is_time times rising =
     record { some = omega arith; inside = inr (omega arith, omega arith) })
     (cases_eq times.from times.until)
 
-by_test : (p q : ℕ) (P Q : Type 0) → (p < q → P) → (q ≤ p → Q) → MatchBool (nat_lt p q) P Q
-by_test p q P Q less above = by (nat_lt p q) refl
-  where
-    by : (b : Bool) → nat_lt p q ≡ b → MatchBool b P Q
-    by true e = less (ltb-true p q e)
-    by false e = above (ltb-false p q e)
-
 -- The places at one of the times tell the order over all.
-pub Compares-sample : (times : Times) (one other : BarEnd) (p q : ℕ)
-    → p ≡ place_of one (sample_of times) 2 → q ≡ place_of other (sample_of times) 2
-    → IsSettled times one other → Compares (nat_lt p q) times one other
-Compares-sample times one other p q is is' settled = record {
+pub Compares-test : (times : Times) (one other : BarEnd) (before : Bool)
+    → (IsTrue before ↔ (place_of one (sample_of times) 2 < place_of other (sample_of times) 2))
+    → IsSettled times one other → Compares before times one other
+Compares-test times one other true test settled = record {
   told = λ a n time.
-      let sample = sample_is_time times (times_rise times a n time) in
-      ⊎_elim (λ less.
-      let here = less (sample_of times) 2 sample in
-      by_test p q _ _ (λ lt. less a n time) (λ le. absurd (omega arith)))
+      ⊎_elim (λ less. less a n time)
       (λ above.
-      let here = above (sample_of times) 2 sample in
-      by_test p q _ _ (λ lt. absurd (omega arith)) (λ le. above a n time))
+      let here = above (sample_of times) 2 (sample_is_time times (times_rise times a n time)) in
+      let less = test.0 refl in
+      absurd (omega arith))
+      settled.order;
+}
+Compares-test times one other false test settled = record {
+  told = λ a n time.
+      ⊎_elim (λ less.
+      let here = less (sample_of times) 2 (sample_is_time times (times_rise times a n time)) in
+      absurd (true≢false (sym (test.1 here))))
+      (λ above. above a n time)
       settled.order;
 }
 
@@ -139,3 +138,13 @@ pub sample_many : (times : Times) → times.from < times.until
     → sample_of times ≡ 2 * times.from + 1
 unfolding sample_of
 sample_many times less = omega arith
+
+-- The sample stands at the first of the times, or half a tick behind it.
+pub sample_near : (times : Times)
+    → (2 * times.from ≤ sample_of times) × (sample_of times ≤ 2 * times.from + 1)
+unfolding sample_of
+sample_near times = (omega arith, omega arith)
+
+pub flag_small : (flag : Bool) → cond flag 1 0 ≤ 1
+flag_small true = omega arith
+flag_small false = omega arith

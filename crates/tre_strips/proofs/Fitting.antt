@@ -2,7 +2,7 @@
 use Rattle.std.proofs.Common.{◌≡◌, ℕ, zero, suc, ◌+◌, ◌*◌, ◌<◌, ◌≤◌, ◌↔◌, Bool, true, false, cond, List, [], ◌∷◌, length, get_or, take, refl, sym, ap, subst, ◌∙◌, arith, inl, inr, ⊎_elim, mul-le-mul_right}
 use Rattle.std.proofs.lemmas.Bool.{cases_lt}
 use Rattle.std.proofs.lemmas.List.{take_more, take_all, get_or_default}
-use Rattle.tre_strips.specs.Bar.{place_of, BarsHold, AreFilled}
+use Rattle.tre_strips.specs.Bar.{place_of, BarsHold, AreFilled, RiseFrom}
 use Rattle.tre_strips.specs.Found.{StandAlike, AreSamePlaces, Agree, RiseAt}
 use Rattle.tre_strips.specs.Profiles.{AreFilledOver, IsUnion}
 use Rattle.tre_strips.specs.Times.{IsTime}
@@ -10,6 +10,7 @@ use Rattle.tre_strips.specs.declared.bar.Bar.{Bar}
 use Rattle.tre_strips.specs.declared.bar.BarEnd.{BarEnd}
 use Rattle.tre_strips.specs.declared.times.Times.{Times}
 use Rattle.tre_strips.proofs.Lists.{AreFilled-push, AreFilled-at}
+use Rattle.tre_strips.proofs.Joining.{IsUnion-few}
 use Rattle.tre_strips.proofs.Unique.{covers_held, same_places}
 
 -- ---- one time in all units
@@ -186,6 +187,61 @@ same-Agree time times bars union there is is' union_is rise agree =
       (λ h. one.0 (held.1 (held'.1 (other.1 h)))),
     )))
 
+pub AreFilledOver-single : (time : ℕ) (bars : List Bar) (times : Times) → times.from ≡ time
+    → times.until ≡ time → AreFilled bars (2 * time) 2 → AreFilledOver times bars
+AreFilledOver-single time bars times is is' filled = record {
+  each = λ a n moment_of.
+      let at_it : a ≡ time * n = ⊎_elim
+      (λ one. one.1 ∙ ap (λ k. k * n) is)
+      (λ both.
+      let low = both.0 in
+      let high = both.1 in
+      let same = ap (λ k. k * n) (is ∙ sym is') in
+      absurd (omega arith)) moment_of.inside in
+      subst (λ (k : ℕ). AreFilled bars k n) (sym at_it)
+      (AreFilled-single bars time n moment_of.some filled);
+}
+
+-- What is filled at twice the unit is so at its half.
+pub Agree-filled : (time : ℕ) (bars there : List Bar) → Agree time bars there
+    → AreFilled bars (2 * time) 2
+Agree-filled time bars there agree =
+    let turned : time * 2 ≡ 2 * time = omega arith in
+    subst (λ (k : ℕ). AreFilled bars k 2) turned (agree.filled 2 (omega arith))
+
+-- What stands as a rising list does is filled.
+AreFilled-alike : (least : ℕ) (bars others : List Bar) (a n : ℕ) → RiseFrom least others a n
+    → AreSamePlaces bars others a n → AreFilled bars a n
+unfolding RiseFrom AreSamePlaces AreFilled
+AreFilled-alike least [] others a n rise same = tt
+AreFilled-alike least (bar ∷ bars) [] a n rise same = absurd same
+AreFilled-alike least (bar ∷ bars) (other ∷ others) a n rise same =
+    let low = same.0.low in
+    let high = same.0.high in
+    let less = rise.1 in
+    (omega arith, AreFilled-alike (place_of other.high a n + 1) bars others a n rise.2 same.1)
+
+-- What stands alike agrees.
+pub Agree-alike : (time : ℕ) (bars there : List Bar) → RiseAt time there
+    → AreSamePlaces bars there (2 * time) 2 → Agree time bars there
+Agree-alike time bars there rise same = record {
+  filled = λ n some.
+      AreFilled-alike 0 bars there (time * n) n (rise.rising n some)
+      (AreSamePlaces-single bars there time n same);
+  exact = λ b n some.
+      AreSamePlaces-held bars there (time * n) b n (AreSamePlaces-single bars there time n same);
+}
+
+-- Fewer than two bars are united as they stand, so they agree only where they stand alike.
+pub few-Agree : (time : ℕ) (bars there : List Bar) → length bars < 2 → RiseAt time there
+    → Agree time bars there → AreSamePlaces bars there (2 * time) 2
+few-Agree time bars there few rise agree =
+    let times : Times = record { from = time; until = time } in
+    same-Agree time times bars bars there refl refl
+    (IsUnion-few times bars few
+    (AreFilledOver-single time bars times refl refl (Agree-filled time bars there agree)))
+    rise agree
+
 -- ---- one bar after another
 
 pub AreFilled-none : (a n : ℕ) → AreFilled [] a n
@@ -244,25 +300,3 @@ unfolding AreSamePlaces
 AreSamePlaces-itself [] a n = tt
 AreSamePlaces-itself (bar ∷ bars) a n =
     (record { low = refl; high = refl }, AreSamePlaces-itself bars a n)
-
-pub AreFilledOver-single : (time : ℕ) (bars : List Bar) (times : Times) → times.from ≡ time
-    → times.until ≡ time → AreFilled bars (2 * time) 2 → AreFilledOver times bars
-AreFilledOver-single time bars times is is' filled = record {
-  each = λ a n moment_of.
-      let at_it : a ≡ time * n = ⊎_elim
-      (λ one. one.1 ∙ ap (λ k. k * n) is)
-      (λ both.
-      let low = both.0 in
-      let high = both.1 in
-      let same = ap (λ k. k * n) (is ∙ sym is') in
-      absurd (omega arith)) moment_of.inside in
-      subst (λ (k : ℕ). AreFilled bars k n) (sym at_it)
-      (AreFilled-single bars time n moment_of.some filled);
-}
-
--- What is filled at twice the unit is so at its half.
-pub Agree-filled : (time : ℕ) (bars there : List Bar) → Agree time bars there
-    → AreFilled bars (2 * time) 2
-Agree-filled time bars there agree =
-    let turned : time * 2 ≡ 2 * time = omega arith in
-    subst (λ (k : ℕ). AreFilled bars k 2) turned (agree.filled 2 (omega arith))

@@ -204,6 +204,17 @@ IsUnion-none times = record {
   exact = λ a n time b. ((λ h. h), (λ h. h));
 }
 
+-- Fewer than two bars are united as they stand.
+pub IsUnion-few : (times : Times) (bars : List Bar) → length bars < 2 → AreFilledOver times bars
+    → IsUnion times bars bars
+IsUnion-few times [] few filled = IsUnion-none times
+IsUnion-few times (bar ∷ []) few filled = record {
+  rising = λ a n time.
+      RiseFrom-one bar a n (AreFilled-at (bar ∷ []) 0 a n bar (filled.each a n time) (omega arith));
+  exact = λ a n time b. ((λ h. h), (λ h. h));
+}
+IsUnion-few times (bar ∷ other ∷ bars) few filled = absurd (omega arith)
+
 pub IsUnion-permutation : (times : Times) (bars others union : List Bar)
     → IsPermutation bars others → IsUnion times others union → IsUnion times bars union
 IsUnion-permutation times bars others union order is = record {

@@ -1,5 +1,5 @@
 -- Zones in the order of their lines, each once.
-use Rattle.std.proofs.Common.{◌≡◌, ℕ, zero, suc, ◌+◌, ◌<◌, ◌⊎◌, ◌↔◌, Bool, true, false, List, [], ◌∷◌, length, get_or, neg_ℤ, refl, sym, ap, subst, ◌∙◌, arith, inl, inr, ⊎_elim, true≢false}
+use Rattle.std.proofs.Common.{◌≡◌, ℕ, zero, suc, ◌+◌, ◌-◌, ◌<◌, ◌≤◌, ◌⊎◌, ◌↔◌, Bool, true, false, List, [], ◌∷◌, length, get_or, neg_ℤ, refl, sym, ap, subst, ◌∙◌, arith, inl, inr, ⊎_elim, true≢false}
 use Rattle.std.specs.Prelude.{Contains}
 use Rattle.std.specs.List.{dedup, AllByRecursion}
 use Rattle.std.specs.List.Sorted.{IsSortedByKey, IsPermutation}
@@ -10,7 +10,9 @@ use Rattle.std.specs.Ordering.{int_cmp, int_eq, eq_by_cmp, ordering_reverse, is_
 use Rattle.std.specs.declared.cmp.Ordering.{Ordering}
 use Rattle.std.specs.declared.cmp.Ordering.TheVariants.{Less, Equal, Greater}
 use Rattle.std.proofs.lemmas.Int.{ints}
+use Rattle.std.proofs.lemmas.Bool.{cases_lt}
 use Rattle.std.proofs.lemmas.Bool.Decides.{Decides-int_eq}
+use Rattle.std.proofs.lemmas.List.{get_or_default}
 use Rattle.std.proofs.lemmas.List.Elements.{All-from_recursion, All-get_or, All-contains}
 use Rattle.std.proofs.lemmas.List.Kept.{IsStrictlySortedBy-dedup, Contains-dedup, Contains-from_dedup}
 use Rattle.std.proofs.lemmas.List.Sorted.{Contains-permutation, IsPermutation-sym, ranks_by, sorted_far}
@@ -94,6 +96,55 @@ same_members_held one other same a b n = (
 )
 
 -- ---- strictly sorted
+
+less_all : (zone other : ZoneBounds) (zones : List ZoneBounds) → compare zone other ≡ Less
+    → AllByRecursion (λ (next : ZoneBounds). compare other next ≡ Less) zones
+    → AllByRecursion (λ (next : ZoneBounds). compare zone next ≡ Less) zones
+less_all zone other [] less all = tt
+less_all zone other (next ∷ zones) less all =
+    (compare_total.trans zone other next less all.0, less_all zone other zones less all.1)
+
+first_less : (zone : ZoneBounds) (zones : List ZoneBounds) → IsStrictlySortedBy compare zones
+    → ((d : ZoneBounds) → 0 < length zones → compare zone (get_or zones 0 d) ≡ Less)
+    → AllByRecursion (λ (next : ZoneBounds). compare zone next ≡ Less) zones
+unfolding IsStrictlySortedBy
+first_less zone [] sorted less = tt
+first_less zone (other ∷ zones) sorted less =
+    let first : compare zone other ≡ Less = less other (omega arith) in
+    (first, less_all zone other zones first sorted.0)
+
+-- The zones up to a place rise, and the next one comes behind.
+pub next_rising : (zones : List ZoneBounds) (place : ℕ) (one other : ZoneBounds)
+    → ((k : ℕ) (d : ZoneBounds) → suc k < place
+    → compare (get_or zones k d) (get_or zones (suc k) d) ≡ Less)
+    → place < length zones → one ≡ get_or zones (place - 1) one → other ≡ get_or zones place other
+    → compare one other ≡ Less
+    → (k : ℕ) (d : ZoneBounds) → suc k < place + 1
+    → compare (get_or zones k d) (get_or zones (suc k) d) ≡ Less
+next_rising zones place one other before within is is' less k d below =
+    ⊎_elim (λ (lt : suc k < place). before k d lt)
+    (λ (past : place ≤ suc k).
+    let at : k ≡ place - 1 = omega (arith, past, below) in
+    let at' : suc k ≡ place = omega (arith, past, below) in
+    let first : get_or zones k d ≡ one =
+    ap (λ i. get_or zones i d) at
+    ∙ (get_or_default zones (place - 1) d one (omega (arith, within)) ∙ sym is) in
+    let second : get_or zones (suc k) d ≡ other =
+    ap (λ i. get_or zones i d) at' ∙ (get_or_default zones place d other within ∙ sym is') in
+    subst (λ (z : ZoneBounds). compare z (get_or zones (suc k) d) ≡ Less) (sym first)
+    (subst (λ (z : ZoneBounds). compare one z ≡ Less) (sym second) less))
+    (cases_lt (suc k) place)
+
+-- What each is before the next of.
+pub rising_all : (zones : List ZoneBounds)
+    → ((k : ℕ) (d : ZoneBounds) → suc k < length zones
+    → compare (get_or zones k d) (get_or zones (suc k) d) ≡ Less)
+    → IsStrictlySortedBy compare zones
+unfolding IsStrictlySortedBy
+rising_all [] each = tt
+rising_all (zone ∷ zones) each =
+    let rest = rising_all zones (λ k d within. each (suc k) d (omega (arith, within))) in
+    (first_less zone zones rest (λ d within. each 0 d (omega (arith, within))), rest)
 
 not_less : (zone other : ZoneBounds) → compare zone other ≡ Less → zone ≡ other → ⊥
 not_less zone other less same =

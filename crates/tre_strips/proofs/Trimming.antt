@@ -6,18 +6,18 @@ use Rattle.std.proofs.lemmas.List.{take_all}
 use Rattle.tre_pairs.specs.Pairs.{Both}
 use Rattle.tre_pairs.specs.declared.TheConstants.{TIME_MAX}
 use Rattle.tre_zone.specs.Bound.{value_of, weakness_of, Meets, IsKeyWithin, IsValueWithin}
-use Rattle.tre_zone.specs.Zone.{ZoneHolds, IsCanonical, Includes, GivesZone, IsInFrame}
+use Rattle.tre_zone.specs.Zone.{ZoneHolds, Covers, IsCanonical, Includes, GivesZone, IsInFrame}
 use Rattle.tre_zone.specs.ZoneList.{SetHolds, HoldExactly, AreCanonical}
 use Rattle.tre_zone.specs.declared.zone_bounds.ZoneBounds.{ZoneBounds}
 use Rattle.tre_zone.proofs.Bounds.{split, split-unique, Splits, IsValueWithin-key}
 use Rattle.tre_zone.proofs.Given.{GivesZone-same}
-use Rattle.tre_zone.proofs.Paths.{Meets-min, add_times}
+use Rattle.tre_zone.proofs.Paths.{Meets-looser, Meets-min, add_times}
 use Rattle.tre_zone.proofs.Scaling.{canonical-frame}
 use Rattle.tre_zoneset.specs.ZoneSet.{FoundHolds}
 use Rattle.tre_zoneset.proofs.Members.{SetHolds-more}
 use Rattle.tre_zoneset.proofs.Unions.{FoundHolds-exact}
 use Rattle.tre_strips.specs.Spun.{HaveSamePairs}
-use Rattle.tre_strips.specs.Trim.{Trims, TrimsBehind, Early, Late, IsEarlyHeld}
+use Rattle.tre_strips.specs.Trim.{Trims, TrimsBehind, Early, Late, bounds_by, IsEarlyHeld}
 use Rattle.tre_strips.proofs.Spinning.{set_framed}
 
 -- ---- a bound and what is behind it
@@ -148,6 +148,22 @@ late_given zone last found low canonical is given =
     )) given
 
 -- ---- what is left of a zone
+
+-- Looser keys hold more.
+pub IsEarlyHeld-covered : (zone other : ZoneBounds) (last : ℤ)
+    → Covers other (bounds_by zone last) → IsEarlyHeld zone other last
+IsEarlyHeld-covered zone other last covers = record {
+  held = λ a b n some le e.
+      let z = e.held in
+      record {
+        begin_low = Meets-looser _ _ _ _ n some covers.begin_low z.begin_low;
+        begin_high = Meets-looser _ _ _ _ n some covers.begin_high e.begins;
+        end_low = Meets-looser _ _ _ _ n some covers.end_low z.end_low;
+        end_high = Meets-looser _ _ _ _ n some covers.end_high z.end_high;
+        dur_low = Meets-looser _ _ _ _ n some covers.dur_low z.dur_low;
+        dur_high = Meets-looser _ _ _ _ n some covers.dur_high z.dur_high;
+      };
+}
 
 pub IsEarlyHeld-some : (zone other early : ZoneBounds) (last : ℤ)
     → GivesZone (Some early) (Early zone last) → Includes other early

@@ -22,6 +22,17 @@ pub record Early (zone : ZoneBounds) (last : ℤ) (a b n : ℕ) : Type 0 where
   pub held : ZoneHolds zone a b n
   pub begins : Meets last a 0 n
 
+-- The bounds of the zone, but for that on the latest begins.
+abbrev pub bounds_by : ZoneBounds → ℤ → ZoneBounds
+bounds_by zone last = record {
+  begin_low = zone.begin_low;
+  begin_high = last;
+  end_low = zone.end_low;
+  end_high = zone.end_high;
+  dur_low = zone.dur_low;
+  dur_high = zone.dur_high;
+}
+
 -- Those that begin behind it.
 pub record Late (zone : ZoneBounds) (last : ℤ) (a b n : ℕ) : Type 0 where
   pub held : ZoneHolds zone a b n

@@ -1,6 +1,7 @@
 // The list of the strips.
-ghost use Rattle.std.specs.Prelude.{◌≡◌, ◌^◌, ◌↔◌, neg_ℤ, Contains, List, IfOk};
+ghost use Rattle.std.specs.Prelude.{◌≡◌, ◌^◌, ◌↔◌, neg_ℤ, Contains, List, IfOk, IsTrue};
 ghost use Rattle.std.specs.List.Sorted.{IsStrictlySortedBy};
+ghost use Rattle.std.specs.declared.cmp.Ordering.TheVariants.{Less};
 ghost use Rattle.tre_zone.specs.Bound.{IsKeyWithin};
 ghost use Rattle.tre_zone.specs.ZoneList.{SetHolds, AreCanonical, HoldExactly};
 ghost use Rattle.tre_zone.specs.declared.zone_bounds.ZoneBounds.{ZoneBounds};
@@ -9,10 +10,11 @@ ghost use Rattle.tre_strips.specs.Spun.{HaveSamePairs, AreFound};
 ghost use Rattle.tre_strips.specs.Sweep.{begin_of, AreInTurn};
 
 use crate::begins::first_begin;
-use crate::column::Sweep;
+use crate::column::{Column, Sweep};
 use crate::run::Run;
 use crate::trim::trimmed;
 use std::alloc::{AllocError, Global};
+use std::cmp::Ordering;
 use tre_pairs::TIME_MAX;
 use tre_zone::{Bound, Zone};
 use tre_zoneset::ZoneSet;
@@ -24,25 +26,24 @@ pub fn strips(alloc: Global, set: &ZoneSet) -> Result<Vec<Zone>, AllocError>
     ensures held { IfOk result (λ zones. HoldExactly zones.items (SetHolds set.now)) }
 {
     let fewer = trimmed(alloc, set.zones())?;
-    let zones = in_turn(alloc, &fewer)?;
+    let zones = in_turn(fewer);
     let found = strips_of(alloc, &zones)?;
     Ok(in_order(found))
 }
 
 // The zones in the order of their first begins.
-fn in_turn(alloc: Global, zones: &[Zone]) -> Result<Vec<Zone>, AllocError>
-    requires { AreCanonical zones.now }
-    ensures turn { IfOk result (λ sorted. AreInTurn sorted.items) }
-    ensures same { IfOk result (λ sorted. HaveSamePairs zones.now sorted.items) }
+fn in_turn(zones: Vec<Zone>) -> Vec<Zone>
+    requires { AreCanonical zones.items }
+    ensures turn { AreInTurn result.items }
+    ensures same { HaveSamePairs zones.items result.items }
 {
-    let mut sorted = Vec::new(alloc);
-    sorted.extend_from_slice(zones)?;
+    let mut sorted = zones;
     sorted.sort_unstable_by_key(
         |zone: &Zone| -> u64
             ensures { result ≡ begin_of zone.now }
         { first_begin(zone) },
     );
-    Ok(sorted)
+    sorted
 }
 
 // The strips of zones in the order of their first begins.
@@ -53,13 +54,13 @@ fn strips_of(alloc: Global, zones: &[Zone]) -> Result<Vec<Zone>, AllocError>
 {
     let mut found = Vec::new(alloc);
     let mut sweep = Sweep::new(alloc);
-    let first = sweep.next_column(alloc, zones)?;
-    let mut run = Run::first(alloc, &mut found, first)?;
+    let mut column = Column::new(alloc);
+    sweep.next_column(alloc, zones, &mut column)?;
+    let mut run = Run::first(alloc, &mut found, &mut column)?;
     while sweep.time <= TIME_MAX {
-        let column = sweep.next_column(alloc, zones)?;
-        run = run.next(alloc, &mut found, column)?;
+        sweep.next_column(alloc, zones, &mut column)?;
+        run.next(alloc, &mut found, &mut column)?;
     }
-    drop(run);
     Ok(found)
 }
 
@@ -68,6 +69,10 @@ fn in_order(found: Vec<Zone>) -> Vec<Zone>
     ensures order { IsStrictlySortedBy compare_lines result.items }
     ensures same { (zone : ZoneBounds) → Contains result.items zone ↔ Contains found.items zone }
 {
+    // Mostly they are found in this order.
+    if are_rising(&found) {
+        return found;
+    }
     let mut zones = found;
     zones.sort_unstable_by_key(
         |zone: &Zone| -> [i64; 6]
@@ -81,6 +86,27 @@ fn in_order(found: Vec<Zone>) -> Vec<Zone>
         { line_key(zone) },
     );
     zones
+}
+
+// Whether the line of each zone comes before that of the next.
+fn are_rising(zones: &[Zone]) -> bool
+    ensures { IsTrue result → IsStrictlySortedBy compare_lines zones.now }
+{
+    for place in 1..zones.len() {
+        if !comes_first(&zones[place - 1], &zones[place]) {
+            return false;
+        }
+    }
+    true
+}
+
+fn comes_first(one: &Zone, other: &Zone) -> bool
+    ensures { IsTrue result → compare_lines one.now other.now ≡ Less }
+{
+    match line_key(one).cmp(&line_key(other)) {
+        Ordering::Less => true,
+        Ordering::Equal | Ordering::Greater => false,
+    }
 }
 
 // The numbers by which lines are ordered, from the first.

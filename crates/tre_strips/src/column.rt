@@ -1,5 +1,5 @@
 // One pass over time, from column to column.
-ghost use Rattle.std.specs.Prelude.{◌≡◌, ◌≤◌, List, IfOk, OnOk};
+ghost use Rattle.std.specs.Prelude.{◌≡◌, ◌≤◌, ◌++◌, List, IfOk, OnOk};
 ghost use Rattle.tre_zone.specs.declared.zone_bounds.ZoneBounds.{ZoneBounds};
 ghost use Rattle.tre_zone.specs.ZoneList.{SetHolds};
 
@@ -18,6 +18,18 @@ pub(crate) struct Column {
     pub(crate) there: Vec<Bar>,
     pub(crate) behind: Vec<Bar>,
     pub(crate) until: u64,
+}
+
+impl Column {
+    /// No column yet: its lists are those that each column is written into.
+    pub(crate) fn new(alloc: Global) -> Column {
+        Column {
+            time: 0,
+            there: Vec::new(alloc),
+            behind: Vec::new(alloc),
+            until: 0,
+        }
+    }
 }
 
 /// Where a pass over zones in the order of their first begins stands: from `time` on pairs begin in
@@ -45,44 +57,51 @@ impl Sweep {
         }
     }
 
-    /// The column at the time, to whose end the pass moves on.
+    /// Writes the column at the time, to whose end the pass moves on.
     pub(crate) fn next_column(
         &mut self,
         alloc: Global,
         zones: &[Zone],
-    ) -> Result<Column, AllocError>
+        column: &mut Column,
+    ) -> Result<(), AllocError>
         requires turn { AreInTurn zones.now }
         requires limit { self.old.time ≤ TIME_MAX }
         requires swept { IsSwept zones.now self.old.open_zones.items self.old.waiting
             self.old.time }
-        ensures at { IfOk result (λ column. column.time ≡ self.old.time) }
-        ensures until { IfOk result (λ column. column.until ≡ self.new.time) }
-        ensures column { IfOk result (λ column. IsColumn (SetHolds zones.now) column) }
+        ensures at { OnOk result (column.new.time ≡ self.old.time) }
+        ensures until { OnOk result (column.new.until ≡ self.new.time) }
+        ensures column { OnOk result (IsColumn (SetHolds zones.now) column.new) }
         ensures swept { OnOk result (
             IsSwept zones.now self.new.open_zones.items self.new.waiting self.new.time) }
     {
         let time = self.time;
         let next = first_waiting(zones, self.waiting, time);
-        self.open_zones
-            .extend_from_slice(&zones[self.waiting..next])?;
+        add_all(&mut self.open_zones, &zones[self.waiting..next])?;
         self.waiting = next;
         let mut here = Times {
             from: time,
             until: time,
         };
-        let there = profile(alloc, &self.open_zones, &mut here)?;
+        profile(alloc, &self.open_zones, &mut here, &mut column.there)?;
         close_zones(&mut self.open_zones, time);
         let mut times = Times {
             from: time,
             until: next_begin(zones, next, time),
         };
-        let behind = profile(alloc, &self.open_zones, &mut times)?;
+        profile(alloc, &self.open_zones, &mut times, &mut column.behind)?;
         self.time = times.until;
-        Ok(Column {
-            time,
-            there,
-            behind,
-            until: times.until,
-        })
+        column.time = time;
+        column.until = times.until;
+        Ok(())
     }
+}
+
+// Adds the zones, of which there are mostly none or one.
+fn add_all(all: &mut Vec<Zone>, more: &[Zone]) -> Result<(), AllocError>
+    ensures { OnOk result (all.new.items ≡ all.old.items ++ more.now) }
+{
+    for zone in more {
+        all.push(*zone)?;
+    }
+    Ok(())
 }

@@ -11,22 +11,41 @@ ghost use Rattle.tre_strips.specs.Times.{Narrows, sample_of, IsLater, IsEarlier}
 use crate::bar::{Bar, BarEnd};
 use crate::times::Times;
 use std::alloc::{AllocError, Global};
+use std::mem::replace;
 use tre_zone::{Bound, Zone};
 
-/// The profile of what the zones hold over the times, which are cut to those over which it is one
-/// list.
+/// Writes the profile of what the zones hold over the times, which are cut to those over which it
+/// is one list.
+#[inline(always)]
 pub(crate) fn profile(
     alloc: Global,
     zones: &[Zone],
     times: &mut Times,
-) -> Result<Vec<Bar>, AllocError>
+    bars: &mut Vec<Bar>,
+) -> Result<(), AllocError>
     ensures narrowed { OnOk result (Narrows times.old times.new) }
-    ensures profile { IfOk result (λ bars.
-        IsProfile (SetHolds zones.now) bars.items times.new.from times.new.until) }
+    ensures profile { OnOk result (
+        IsProfile (SetHolds zones.now) bars.new.items times.new.from times.new.until) }
 {
-    let bars = bars_of(alloc, zones, times)?;
-    let profile = united(alloc, bars, times)?;
-    Ok(profile)
+    find_bars(zones, times, bars)?;
+    unite(alloc, bars, times)?;
+    Ok(())
+}
+
+// Unites the bars in the place where they stand.
+fn unite(alloc: Global, bars: &mut Vec<Bar>, times: &mut Times) -> Result<(), AllocError>
+    requires { AreFilledOver times.old bars.old.items }
+    ensures narrowed { OnOk result (Narrows times.old times.new) }
+    ensures union { OnOk result (IsUnion times.new bars.old.items bars.new.items) }
+{
+    // Mostly there is one bar, and no memory is asked for.
+    if bars.len() < 2 {
+        return Ok(());
+    }
+    let all = replace(bars, Vec::new(alloc));
+    let union = united(alloc, all, times)?;
+    *bars = union;
+    Ok(())
 }
 
 /// The separate bars of the times that are on some of these bars, none of which is empty.
@@ -122,16 +141,16 @@ fn join(one: &Bar, other: &Bar, times: &mut Times) -> Bar
     }
 }
 
-// The bars of the zones over the times.
-fn bars_of(alloc: Global, zones: &[Zone], times: &mut Times) -> Result<Vec<Bar>, AllocError>
+// Writes the bars of the zones over the times.
+fn find_bars(zones: &[Zone], times: &mut Times, bars: &mut Vec<Bar>) -> Result<(), AllocError>
     ensures narrowed { OnOk result (Narrows times.old times.new) }
-    ensures bars { IfOk result (λ bars. AreBarsOf times.new zones.now bars.items) }
+    ensures bars { OnOk result (AreBarsOf times.new zones.now bars.new.items) }
 {
-    let mut bars = Vec::new(alloc);
+    bars.clear();
     for zone in zones {
-        push_found(&mut bars, bar_of(zone, times))?;
+        push_found(bars, bar_of(zone, times))?;
     }
-    Ok(bars)
+    Ok(())
 }
 
 fn push_found(bars: &mut Vec<Bar>, found: Option<Bar>) -> Result<(), AllocError>

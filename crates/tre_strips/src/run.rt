@@ -12,8 +12,9 @@ use crate::bar::Bar;
 use crate::column::Column;
 use crate::profiles::united;
 use crate::strip_zone::{Begins, push_strip};
-use crate::times::{Times, place_at};
+use crate::times::Times;
 use std::alloc::{AllocError, Global};
+use std::mem::swap;
 use tre_zone::Zone;
 
 /// The run that the pass is in: its bars are the profile from its first time on.
@@ -25,44 +26,76 @@ pub(crate) struct Run {
 }
 
 impl Run {
-    /// The run behind the time of the first column.
+    /// The run behind the time of the first column, which it may take the bars of.
     pub(crate) fn first(
         alloc: Global,
         found: &mut Vec<Zone>,
-        column: Column,
+        column: &mut Column,
     ) -> Result<Run, AllocError>
-        requires start { column.time ≡ 0 }
-        requires rise { RiseAt column.time column.there.items }
+        requires start { column.old.time ≡ 0 }
+        requires rise { RiseAt column.old.time column.old.there.items }
         requires none { found.old.items ≡ [] }
         ensures { IfOk result (λ run. (zones : List ZoneBounds) → AreCanonical zones
-            → IsColumn (SetHolds zones) column
-            → IsSpun zones run.bars.items run.from run.takes_from found.new.items column.until) }
+            → IsColumn (SetHolds zones) column.old
+            → IsSpun zones run.bars.items run.from run.takes_from found.new.items
+            column.old.until) }
     {
-        let run = begin(alloc, found, column, false)?;
+        let mut run = Run {
+            bars: Vec::new(alloc),
+            from: 0,
+            takes_from: false,
+        };
+        run.begin(alloc, found, column, false)?;
         Ok(run)
     }
 
-    /// The run behind the time of the next column: this one goes on, or is closed and its strip
-    /// found.
+    /// Goes on behind the time of the next column, or closes the run, whose strip is found, and
+    /// begins another, which may take the bars of the column.
     pub(crate) fn next(
-        self,
+        &mut self,
         alloc: Global,
         found: &mut Vec<Zone>,
-        column: Column,
-    ) -> Result<Run, AllocError>
-        requires rising { column.time < column.until }
-        requires rise { RiseAt column.time column.there.items }
-        ensures { IfOk result (λ run. (zones : List ZoneBounds) → AreCanonical zones
-            → IsColumn (SetHolds zones) column
-            → IsSpun zones self.bars.items self.from self.takes_from found.old.items column.time
-            → IsSpun zones run.bars.items run.from run.takes_from found.new.items column.until) }
+        column: &mut Column,
+    ) -> Result<(), AllocError>
+        requires rising { column.old.time < column.old.until }
+        requires rise { RiseAt column.old.time column.old.there.items }
+        ensures { OnOk result ((zones : List ZoneBounds) → AreCanonical zones
+            → IsColumn (SetHolds zones) column.old
+            → IsSpun zones self.old.bars.items self.old.from self.old.takes_from found.old.items
+            column.old.time
+            → IsSpun zones self.new.bars.items self.new.from self.new.takes_from found.new.items
+            column.old.until) }
     {
-        if self.goes_on(&column) {
-            return Ok(self);
+        if self.goes_on(column) {
+            return Ok(());
         }
-        let taken = self.close(alloc, found, &column)?;
-        let run = begin(alloc, found, column, taken)?;
-        Ok(run)
+        let taken = self.close(alloc, found, column)?;
+        self.begin(alloc, found, column, taken)?;
+        Ok(())
+    }
+
+    // The run behind the time of the column, in place of one that was closed. Where neither takes
+    // the time, that is a strip by itself.
+    fn begin(
+        &mut self,
+        alloc: Global,
+        found: &mut Vec<Zone>,
+        column: &mut Column,
+        taken: bool,
+    ) -> Result<(), AllocError>
+        requires { RiseAt column.old.time column.old.there.items }
+        ensures bars { OnOk result (self.new.bars.items ≡ column.old.behind.items) }
+        ensures from { OnOk result (self.new.from ≡ column.old.time) }
+        ensures begun { OnOk result (
+            Begun column.old.there.items column.old.behind.items column.old.time taken
+            self.new.takes_from found.old.items found.new.items) }
+    {
+        let fits = fit(alloc, column.time, &column.behind, &column.there)?;
+        push_alone(found, column, taken, fits)?;
+        swap(&mut self.bars, &mut column.behind);
+        self.from = column.time;
+        self.takes_from = fits;
+        Ok(())
     }
 
     // Whether the bars are the profile at the time of the column and behind it too.
@@ -105,30 +138,6 @@ impl Run {
     }
 }
 
-// The run behind the time of the column. Where neither it nor the one before takes the time, that
-// is a strip by itself.
-fn begin(
-    alloc: Global,
-    found: &mut Vec<Zone>,
-    column: Column,
-    taken: bool,
-) -> Result<Run, AllocError>
-    requires { RiseAt column.time column.there.items }
-    ensures bars { IfOk result (λ run. run.bars.items ≡ column.behind.items) }
-    ensures from { IfOk result (λ run. run.from ≡ column.time) }
-    ensures begun { IfOk result (λ run.
-        Begun column.there.items column.behind.items column.time taken run.takes_from
-        found.old.items found.new.items) }
-{
-    let fits = fit(alloc, column.time, &column.behind, &column.there)?;
-    push_alone(found, &column, taken, fits)?;
-    Ok(Run {
-        bars: column.behind,
-        from: column.time,
-        takes_from: fits,
-    })
-}
-
 // Finds the strip of the time of the column, where no run takes it.
 fn push_alone(
     found: &mut Vec<Zone>,
@@ -160,6 +169,13 @@ fn fit(alloc: Global, time: u64, bars: &[Bar], there: &[Bar]) -> Result<bool, Al
     requires { RiseAt time there.now }
     ensures { IfOk result (λ fits. IsTrue fits ↔ Agree time bars.now there.now) }
 {
+    // Mostly this tells it, since what rises is not empty, and one bar has nothing to be joined to.
+    if are_same_at(time, bars, there) {
+        return Ok(true);
+    }
+    if bars.len() < 2 {
+        return Ok(false);
+    }
     if !are_filled(time, bars) {
         return Ok(false);
     }
@@ -189,7 +205,11 @@ fn is_filled(time: u64, bar: &Bar) -> bool
     ensures { IsTrue result
         ↔ (place_of bar.now.low (2 * time) 2 < place_of bar.now.high (2 * time) 2) }
 {
-    place_at(time, &bar.low) < place_at(time, &bar.high)
+    let times = Times {
+        from: time,
+        until: time,
+    };
+    times.stands_before(&bar.low, &bar.high)
 }
 
 // Whether the bars stand where the others do, one by one, over the time.
@@ -221,6 +241,5 @@ fn are_alike(times: &Times, bars: &[Bar], others: &[Bar]) -> bool
 fn stand_alike(times: &Times, bar: &Bar, other: &Bar) -> bool
     ensures { IsTrue result ↔ StandAlike (sample_of times.now) 2 bar.now other.now }
 {
-    times.place(&bar.low) == times.place(&other.low)
-        && times.place(&bar.high) == times.place(&other.high)
+    times.stand_together(&bar.low, &other.low) && times.stand_together(&bar.high, &other.high)
 }

@@ -1,5 +1,5 @@
 // Begins between which no end of a bar overtakes another.
-ghost use Rattle.std.specs.Prelude.{◌≡◌, ◌<◌, ◌*◌, ◌^◌};
+ghost use Rattle.std.specs.Prelude.{◌≡◌, ◌<◌, ◌≤◌, ◌+◌, ◌*◌, ◌^◌, ◌↔◌, cond, IsTrue};
 ghost use Rattle.tre_strips.specs.Bar.{place_of};
 ghost use Rattle.tre_strips.specs.Times.{Narrows, sample_of, IsSettled, Compares};
 
@@ -20,7 +20,82 @@ impl Times {
         ensures told { Compares result self.new one.now other.now }
     {
         self.settle(one, other);
-        self.place(one) < self.place(other)
+        self.stands_before(one, other)
+    }
+
+    /// Whether the one end stands before the other over the first of the times, or half a tick
+    /// later where they are many.
+    #[inline(always)]
+    pub(crate) fn stands_before(&self, one: &BarEnd, other: &BarEnd) -> bool
+        ensures { IsTrue result ↔ (place_of one.now (sample_of self.now) 2
+            < place_of other.now (sample_of self.now) 2) }
+    {
+        if one.moves == other.moves {
+            return is_in_order(one.ticks, part_of(one), other.ticks, part_of(other));
+        }
+        if one.moves {
+            self.is_moving_first(one, other)
+        } else {
+            self.is_fixed_first(one, other)
+        }
+    }
+
+    // Whether a moving end stands before a fixed one there. Mostly the time where they meet tells,
+    // and no quarters of a tick are looked at.
+    #[inline(always)]
+    fn is_moving_first(&self, moving: &BarEnd, fixed: &BarEnd) -> bool
+        ensures { IsTrue result
+            ↔ (4 * moving.now.ticks + (2 * sample_of self.now + cond moving.now.after 1 0)
+            < 4 * fixed.now.ticks + cond fixed.now.after 1 0) }
+    {
+        let meeting = fixed.ticks.saturating_sub(moving.ticks);
+        if self.from < meeting {
+            return true;
+        }
+        if meeting < self.from {
+            return false;
+        }
+        if fixed.ticks < moving.ticks {
+            return false;
+        }
+        is_less(part_of(moving) + self.late(), part_of(fixed))
+    }
+
+    // Whether a fixed end stands before a moving one there.
+    #[inline(always)]
+    fn is_fixed_first(&self, fixed: &BarEnd, moving: &BarEnd) -> bool
+        ensures { IsTrue result ↔ (4 * fixed.now.ticks + cond fixed.now.after 1 0
+            < 4 * moving.now.ticks + (2 * sample_of self.now + cond moving.now.after 1 0)) }
+    {
+        let meeting = fixed.ticks.saturating_sub(moving.ticks);
+        if meeting < self.from {
+            return true;
+        }
+        if self.from < meeting {
+            return false;
+        }
+        if fixed.ticks < moving.ticks {
+            return true;
+        }
+        is_less(part_of(fixed), part_of(moving) + self.late())
+    }
+
+    /// Whether the two ends stand alike there.
+    #[inline(always)]
+    pub(crate) fn stand_together(&self, one: &BarEnd, other: &BarEnd) -> bool
+        ensures { IsTrue result ↔ (place_of one.now (sample_of self.now) 2
+            ≡ place_of other.now (sample_of self.now) 2) }
+    {
+        !self.stands_before(one, other) && !self.stands_before(other, one)
+    }
+
+    // How many quarters of a tick behind the first of the times the sample stands.
+    #[tactic(auto, unfolding(crate::specs::Times::sample_of))]
+    fn late(&self) -> u64
+        ensures late { 4 * self.now.from + result ≡ 2 * sample_of self.now }
+        ensures small { result ≤ 2 }
+    {
+        if self.from < self.until { 2 } else { 0 }
     }
 
     /// Cuts the times where a moving end and a fixed one meet.
@@ -74,13 +149,28 @@ impl Times {
     }
 }
 
-/// Where the end stands over the one time, in quarters of a tick.
-pub(crate) fn place_at(time: u64, end: &BarEnd) -> u128
-    ensures { result ≡ place_of end.now (2 * time) 2 }
+// How many quarters of a tick behind its moment the end stands.
+fn part_of(end: &BarEnd) -> u64
+    ensures { result ≡ cond end.now.after 1 0 }
 {
-    let times = Times {
-        from: time,
-        until: time,
-    };
-    times.place(end)
+    if end.after { 1 } else { 0 }
+}
+
+fn is_less(one: u64, other: u64) -> bool
+    ensures { IsTrue result ↔ (one < other) }
+{
+    one < other
+}
+
+// Whether so many ticks and quarters are less than others.
+fn is_in_order(ticks: u64, part: u64, others: u64, other_part: u64) -> bool
+    requires part { part ≤ 3 }
+    requires other { other_part ≤ 3 }
+    ensures { IsTrue result ↔ (4 * ticks + part < 4 * others + other_part) }
+{
+    if ticks == others {
+        part < other_part
+    } else {
+        ticks < others
+    }
 }

@@ -1,11 +1,11 @@
 // Zones that begin together, each without what the one before it holds: where many over one begin
 // have ends that join to few bars, few of them are open at a time.
-ghost use Rattle.std.specs.Prelude.{◌≡◌, ℕ, ◌^◌, ◌⊎◌, ◌↔◌, ◌-ℤ◌, pos, IsTrue, IfOk, OnOk};
+ghost use Rattle.std.specs.Prelude.{◌≡◌, ℕ, ◌^◌, ◌⊎◌, ◌↔◌, ◌-ℤ◌, ◌≤ℤ◌, pos, IsTrue, IfOk, OnOk};
 ghost use Rattle.tre_zone.specs.Bound.{IsKeyWithin};
-ghost use Rattle.tre_zone.specs.Zone.{GivesZone};
+ghost use Rattle.tre_zone.specs.Zone.{GivesZone, Covers};
 ghost use Rattle.tre_zone.specs.ZoneList.{SetHolds, AreCanonical, HoldExactly};
 ghost use Rattle.tre_zoneset.specs.ZoneSet.{FoundHolds};
-ghost use Rattle.tre_strips.specs.Trim.{Trims, TrimsBehind, IsEarlyHeld, Early, Late};
+ghost use Rattle.tre_strips.specs.Trim.{Trims, TrimsBehind, IsEarlyHeld, Early, Late, bounds_by};
 
 use crate::begins::{first_begin, last_begin};
 use std::alloc::{AllocError, Global};
@@ -65,6 +65,10 @@ fn rest_of(zone: &Zone, before: &Option<Zone>) -> Option<Zone>
 fn rest_behind(zone: &Zone, other: &Zone) -> Option<Zone>
     ensures { TrimsBehind zone.now other.now result }
 {
+    // Zones that begin apart have nothing in common, and no other need be made.
+    if first_begin(zone) > last_begin(other) {
+        return Some(*zone);
+    }
     let last = other.bounds().begin_high;
     if is_early_held(zone, other, &last) {
         late(zone, &last)
@@ -78,10 +82,34 @@ fn is_early_held(zone: &Zone, other: &Zone, last: &Bound) -> bool
     requires { IsKeyWithin (2 ^ 42) last.now }
     ensures { IsTrue result → IsEarlyHeld zone.now other.now last.now }
 {
+    if covers_early(other, zone, last) {
+        return true;
+    }
     match early(zone, last) {
         Some(early) => other.includes(&early),
         None => true,
     }
+}
+
+// Whether the six keys alone tell that the other holds them: then no zone has to be made of them.
+fn covers_early(other: &Zone, zone: &Zone, last: &Bound) -> bool
+    ensures { IsTrue result ↔ Covers other.now (bounds_by zone.now last.now) }
+{
+    let outer = other.bounds();
+    let inner = zone.bounds();
+    is_looser(&outer.begin_low, &inner.begin_low)
+        && is_looser(&outer.begin_high, last)
+        && is_looser(&outer.end_low, &inner.end_low)
+        && is_looser(&outer.end_high, &inner.end_high)
+        && is_looser(&outer.dur_low, &inner.dur_low)
+        && is_looser(&outer.dur_high, &inner.dur_high)
+}
+
+// Whether what meets the second bound meets the first.
+fn is_looser(one: &Bound, other: &Bound) -> bool
+    ensures { IsTrue result ↔ (other.now ≤ℤ one.now) }
+{
+    other.key() <= one.key()
 }
 
 // The pairs of the zone that begin by the bound.

@@ -1,12 +1,14 @@
 -- How a line is cut into fields.
-use Rattle.std.proofs.Common.{◌≡◌, ◌≢◌, ℕ, suc, ◌+◌, ◌-◌, ◌<◌, ◌≤◌, true, false, ◌==◌, List, [], ◌∷◌, ◌++◌, append-nil, length, get_or, take, drop, refl, sym, ap, ◌∙◌, arith, drop-cons, take-append-drop, length-take}
+use Rattle.std.proofs.Common.{◌≡◌, ◌≢◌, ℕ, suc, ◌+◌, ◌-◌, ◌<◌, ◌≤◌, nat_lt, Bool, true, false, not, ◌&&◌, ◌==◌, List, [], ◌∷◌, ◌++◌, append-nil, length, get_or, take, drop, refl, sym, ap, subst, ◌∙◌, arith, drop-cons, take-append-drop, length-take}
 use Rattle.std.proofs.Math.Seq.{drop-length, take-length}
 use Rattle.std.specs.List.{slice_split, position_or_len}
+use Rattle.std.proofs.lemmas.Bool.{and_parts}
 use Rattle.std.proofs.lemmas.Bool.Decides.{nat_tests}
-use Rattle.std.proofs.lemmas.List.{length-drop}
+use Rattle.std.proofs.lemmas.List.{get_or-take, length-drop, take-take}
 use Rattle.std.proofs.lemmas.List.Elements.{All-from_get_or}
 use Rattle.std.proofs.lemmas.List.Splits.{slice_split-cons_yes, slice_split_none, slice_split_first}
 use Rattle.std.proofs.lemmas.List.Sums.{fails_before_first}
+use Rattle.tre_parts.specs.Walk.{IsInside, EndsAt}
 use Rattle.tre_parts.specs.Joins.{join_parts, HasFirst, slice_split-has, slice_split-append}
 use Rattle.tre_text.specs.TraceLines.{IsField}
 use Rattle.tre_text.specs.TextReading.{is_blank, without_return, with_bytes, fields_among}
@@ -87,6 +89,23 @@ fields-cut bytes k is some below =
     ∙ with_bytes-cons (take k bytes) (slice_split is_blank (drop (k + 1) bytes))
     (omega (arith, length-take k bytes))
 
+not_blank : (b : Bool) → not b ≡ true → b ≡ false
+not_blank true is = cc (is)
+not_blank false is = refl
+
+-- a byte with a blank behind it is the first field
+pub byte_field : (bytes : List ℕ)
+    → (nat_lt 1 (length bytes)
+    && (not (is_blank (get_or bytes 0 0)) && is_blank (get_or bytes 1 0))) ≡ true
+    → fields_among bytes ≡ take 1 bytes ∷ fields_among (drop 2 bytes)
+byte_field [] is = cc (is)
+byte_field (first ∷ []) is = cc (is)
+byte_field (first ∷ blank ∷ rest) is =
+    let both = and_parts (nat_lt 1 (length (first ∷ blank ∷ rest)))
+    (not (is_blank first) && is_blank blank) is in
+    let parts = and_parts (not (is_blank first)) (is_blank blank) both.1 in
+    rw (not_blank (is_blank first) parts.0, parts.1) refl
+
 pub first_blank-later : (bytes : List ℕ) → 0 < length bytes → is_blank (get_or bytes 0 0) ≡ false
     → 0 < position_or_len is_blank bytes
 first_blank-later [] some other = absurd (omega (arith, some))
@@ -130,3 +149,18 @@ fields-parted front back byte blank =
 pub fields-field : (bytes : List ℕ) → IsField bytes → fields_among bytes ≡ bytes ∷ []
 fields-field bytes field = ap with_bytes (slice_split_none is_blank bytes field.whole)
     ∙ with_bytes-cons bytes [] field.some
+
+-- the first separator among the first bytes is the first of all
+pub ends-in_front : (separates : ℕ → Bool) (bytes : List ℕ) (count place : ℕ) → count ≤ length bytes
+    → EndsAt separates (take count bytes) place → EndsAt separates bytes place
+ends-in_front separates bytes count place short ends =
+    let long = length-take count bytes in
+    let before : place < count = omega (arith, long, ends.within, short) in
+    record {
+      within = omega (arith, before, short);
+      inside =
+          subst (IsInside separates) (take-take place count bytes (omega (arith, before)))
+          ends.inside;
+      ends =
+          subst (λ byte. separates byte ≡ true) (get_or-take count bytes place 0 before) ends.ends;
+    }

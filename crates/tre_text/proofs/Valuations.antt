@@ -13,10 +13,10 @@ no_bit i set =
     let one : bit_at 0 i ≡ 1 = (bit_is 0 i).1 set in
     omega (arith, one, bit_at-zero i)
 
-set_same : (valuation i : ℕ) → bit_at (bit_or valuation (2 ^ i)) i ≡ 1
+pub set_same : (valuation i : ℕ) → bit_at (bit_or valuation (2 ^ i)) i ≡ 1
 set_same valuation i = omega (arith, bit_at_or valuation (2 ^ i) i, bit_at-pow_same i)
 
-set_other : (valuation place i : ℕ) → i ≢ place → bit_at (bit_or valuation (2 ^ place)) i
+pub set_other : (valuation place i : ℕ) → i ≢ place → bit_at (bit_or valuation (2 ^ place)) i
     ≡ bit_at valuation i
 set_other valuation place i apart = omega (
   arith,

@@ -242,6 +242,21 @@ module _ (bytes : List ℕ) (end : ℕ) (is : IsWordEnd bytes end) where
         rw (fields-one bytes some all, none) refl)
         (cases_lt k (length bytes))
 
+-- a blank parts nothing from what stands behind it
+pub blank_behind : (bytes : List ℕ) (end : ℕ) → ends_word bytes end ≡ true → end < length bytes
+    → fields_among (drop end bytes) ≡ fields_among (drop (end + 1) bytes)
+blank_behind bytes end ends below =
+    let parts = and_parts (nat_lt 0 end)
+    (end == length bytes || is_blank (get_or bytes end 0)) ends in
+    let one : end + 1 ≡ suc end = omega arith in
+    let rest = drop-cons bytes end 0 below in
+    rw one
+    (⊎_elim (λ last. absurd (grind (arith, nat_tests, last, below)))
+    (λ blank.
+    ap fields_among rest
+    ∙ fields-parted [] (drop (suc end) bytes) (get_or bytes end 0) blank)
+    (or_cases (end == length bytes) (is_blank (get_or bytes end 0)) parts.1))
+
 -- ---- a name up to the first byte that no name goes on with
 
 not_true : (b : Bool) → not b ≡ true → b ≡ false
@@ -285,6 +300,16 @@ word_until bytes (suc n) fits some starts within goes stops = record {
   stops = λ _ below. not_true (continues_name (get_or bytes (suc n) 0)) (stops below);
 }
 
+-- a name of one byte, with which the line ends
+pub word_alone : (bytes : List ℕ) → length bytes ≡ 1 → starts_name (get_or bytes 0 0) ≡ true
+    → IsWordEnd bytes 1
+word_alone bytes one starts = record {
+  within = omega (arith, one);
+  word = λ _. word_one bytes (omega (arith, one)) starts;
+  first = λ none. absurd (omega (arith, none));
+  stops = λ _ below. absurd (omega (arith, one, below));
+}
+
 -- a byte of the rest of a line
 in_rest : (line rest : List ℕ) (k : ℕ) → IsRest line rest
     → get_or rest k 0 ≡ get_or line (length line - length rest + k) 0
@@ -324,6 +349,12 @@ rest_from bytes k within =
     let long = length-drop k bytes in
     let at : length bytes - length (drop k bytes) ≡ k = omega (arith, long, within) in
     record { short = omega (arith, long); is = ap (λ n. drop n bytes) (sym at) }
+
+pub rest_none : (bytes : List ℕ) → IsRest bytes []
+rest_none bytes = record {
+  short = omega arith;
+  is = sym (drop_of_length-le bytes (omega arith));
+}
 
 pub rest_later : (line front back : List ℕ) → IsRest line front → IsRest front back
     → IsRest line back

@@ -1,10 +1,11 @@
 // The fields of a line.
-ghost use Rattle.std.specs.Prelude.{◌≡◌, ◌<◌, ◌≤◌, [], ◌∷◌, length, false, IfNone, IfSome, slice_index_or};
+ghost use Rattle.std.specs.Prelude.{◌≡◌, ◌<◌, ◌≤◌, nat_lt, not, ◌&&◌, [], ◌∷◌, length, true, false, IfNone, IfSome, slice_index, slice_index_or};
 ghost use Rattle.std.specs.List.{position_or_len};
 ghost use Rattle.tre_text.specs.TextReading.{is_blank, without_return, fields_among};
 ghost use Rattle.tre_text.specs.Words.{IsRest};
 
 /// Whether the byte parts fields.
+#[inline(always)]
 pub fn is_blank(byte: u8) -> bool
     ensures { result ≡ is_blank byte }
 {
@@ -12,6 +13,7 @@ pub fn is_blank(byte: u8) -> bool
 }
 
 /// The line without the one carriage return at its end, where there is one.
+#[inline(always)]
 pub fn without_return(line: &[u8]) -> &[u8]
     ensures { result.now ≡ without_return line.now }
 {
@@ -50,7 +52,18 @@ fn first_blank(bytes: &[u8]) -> usize
     bytes.len()
 }
 
+// Whether the first field is one byte, behind which a blank stands.
+#[inline(always)]
+fn has_byte_field(bytes: &[u8]) -> bool
+    ensures is { result ≡ (nat_lt 1 (length bytes.now)
+        && (not (is_blank (slice_index bytes.now 0)) && is_blank (slice_index bytes.now 1))) }
+    ensures long { result ≡ true → 2 ≤ length bytes.now }
+{
+    1 < bytes.len() && !is_blank(bytes[0]) && is_blank(bytes[1])
+}
+
 /// The first field of the bytes, and what stands behind the blank after it.
+#[inline(always)]
 pub fn next_field(bytes: &[u8]) -> Option<(&[u8], &[u8])>
     ensures none { IfNone result (fields_among bytes.now ≡ []) }
     ensures field { IfSome result (λ parts. fields_among bytes.now ≡ parts.0.now ∷ fields_among
@@ -58,6 +71,9 @@ pub fn next_field(bytes: &[u8]) -> Option<(&[u8], &[u8])>
     ensures some { IfSome result (λ parts. 0 < length parts.0.now) }
     ensures shorter { IfSome result (λ parts. length parts.1.now < length bytes.now) }
 {
+    if has_byte_field(bytes) {
+        return Some((&bytes[..1], &bytes[2..]));
+    }
     let bytes = skip_blanks(bytes);
     if bytes.is_empty() {
         return None;

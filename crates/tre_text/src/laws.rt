@@ -2,6 +2,7 @@
 
 ghost use Rattle.std.specs.Prelude.{◌≡◌, ◌↔◌, ℕ, ◌+◌, Bool, true, false, None, Some, List, [], ◌∷◌, ◌++◌, length, IsBitSet};
 ghost use Rattle.tre_parts.specs.Alike.{AreAlike};
+ghost use Rattle.tre_parts.specs.Shared.{AreAmong, AreDistinct, seen_reading};
 ghost use Rattle.tre_text.specs.TextReading.{Terms, is_blank, fields_among, fields_of, valuation_of, IsNamed, text_reading};
 ghost use Rattle.tre_text.specs.TraceLines.{IsLine, IsOverlong, AreLines, ended, IsField, Say, HasFault};
 ghost use Rattle.tre_trace.specs.Trace.{end_of, IsTrace};
@@ -77,4 +78,14 @@ pub fn naming()
 pub fn alike()
     ensures { (one other : Terms) (closed : Bool) (bytes : List ℕ) → one.scale ≡ other.scale →
         AreAlike (text_reading one closed bytes) (text_reading other closed bytes) }
+{}
+
+/// One reading for many names tells what each reading for some of them does: at one scale, what a
+/// text says of names is what it says of more, seen through the bits of those that are asked. (A
+/// name that is asked twice would have no bit at its second place.)
+pub fn shared()
+    ensures { (one all : Terms) (closed : Bool) (bytes : List ℕ) → one.scale ≡ all.scale →
+        AreAmong one.names all.names → AreDistinct one.names →
+        text_reading one closed bytes
+        ≡ seen_reading one.names all.names (text_reading all closed bytes) }
 {}

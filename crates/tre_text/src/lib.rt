@@ -19,6 +19,7 @@ mod found;
 mod known;
 pub mod laws;
 mod line;
+mod line_end;
 mod line_reader;
 mod word;
 

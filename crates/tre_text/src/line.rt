@@ -8,7 +8,7 @@ ghost use Rattle.tre_text.specs.Lines.{Finds, Heads, list_of, said_of};
 use crate::field::{next_field, skip_blanks, without_return};
 use crate::found::{Found, Head};
 use crate::known::Known;
-use crate::word::{ends_word, word_end};
+use crate::word::{behind_word, ends_word, word_end};
 use tre_decimal::{begins_with_a_digit, read_units};
 use tre_pairs::TIME_MAX;
 use tre_parts::find_name;
@@ -16,6 +16,7 @@ use tre_state::Names;
 use tre_trace::TraceKind;
 
 // The bits, with that of this name set besides.
+#[inline(always)]
 fn with_name(names: &Names, bits: u64, field: &[u8]) -> u64
     ensures { result ≡ with_name names.now bits field.now }
 {
@@ -28,6 +29,7 @@ fn with_name(names: &Names, bits: u64, field: &[u8]) -> u64
 }
 
 // The bits, with those of the fields set besides, where the fields are names.
+#[inline(always)]
 fn read_names(names: &Names, bits: u64, fields: &[u8]) -> Option<u64>
     ensures names { IfSome result (λ _. list_all spells_word (fields_among fields.now) ≡ true) }
     ensures value { IfSome result (λ valuation. valuation ≡ valuation_after names.now bits
@@ -41,13 +43,16 @@ fn read_names(names: &Names, bits: u64, fields: &[u8]) -> Option<u64>
         if !ends_word(rest, end) {
             return None;
         }
-        valuation = with_name(names, valuation, &rest[..end]);
-        rest = skip_blanks(&rest[end..]);
+        let name = &rest[..end];
+        // First of all, so that the end of the name need not be kept while it is looked for.
+        rest = behind_word(rest, end);
+        valuation = with_name(names, valuation, name);
     }
     Some(valuation)
 }
 
 // Whether a line of events begins with this field.
+#[inline(always)]
 fn is_events(first: &[u8]) -> bool
     ensures { result ≡ begins_events first.now }
 {
@@ -55,6 +60,7 @@ fn is_events(first: &[u8]) -> bool
 }
 
 // What the first field of a line says, where it is no comment.
+#[inline(always)]
 fn head_of(known: Known, first: &[u8], scale: u8) -> Result<Head, TraceKind>
     requires no_comment { begins_comment first.now ≡ false }
     requires scale { scale ≤ SCALE_MAX }
@@ -79,6 +85,7 @@ fn head_of(known: Known, first: &[u8], scale: u8) -> Result<Head, TraceKind>
 }
 
 // The names that may stand on such a line.
+#[inline(always)]
 fn list_of<'a>(head: Head, names: &'a Names, events: &'a Names) -> &'a Names
     ensures { result.now ≡ list_of head names.now events.now }
 {
@@ -89,6 +96,7 @@ fn list_of<'a>(head: Head, names: &'a Names, events: &'a Names) -> &'a Names
 }
 
 // What was said before: events are said besides those, and a segment begins anew.
+#[inline(always)]
 fn said_of(head: Head, known: Known) -> u64
     ensures { result ≡ said_of head known }
 {
@@ -100,6 +108,7 @@ fn said_of(head: Head, known: Known) -> u64
 
 /// What a line says behind what is known, for the propositions and the events of these names, where
 /// its duration has this scale.
+#[inline(always)]
 pub fn read_line(names: &Names, events: &Names, scale: u8, known: Known, line: &[u8]) -> Found
     requires { scale ≤ SCALE_MAX }
     ensures { Finds (line_says (record {

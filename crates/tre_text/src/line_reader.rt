@@ -8,7 +8,7 @@ ghost use Rattle.tre_text.specs.declared.known.Known.{Known};
 use crate::found::Found;
 use crate::known::Known;
 use crate::line::read_line;
-use memchr::memchr;
+use crate::line_end::line_end_in;
 use tre_parts::{PartReader, Said, Spot};
 use tre_state::Names;
 use tre_trace::{Segment, TraceKind};
@@ -60,10 +60,12 @@ impl PartReader for LineReader {
 
     ghost keeps_time = { text-keeps_time };
 
+    #[inline(always)]
     fn separator_in(&self, bytes: &[u8]) -> Option<usize> {
-        memchr(b'\n', bytes)
+        line_end_in(bytes)
     }
 
+    #[inline(always)]
     fn read(&mut self, part: &[u8]) -> Said {
         match read_line(&self.names, &self.events, self.scale, self.known, part) {
             Found::Nothing => Said::Nothing,

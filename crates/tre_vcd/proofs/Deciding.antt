@@ -420,7 +420,7 @@ module _ (identified : List ℕ → Option (List ℕ)) (test : List ℕ → Bool
       omega (arith, bit, rest)
 
   -- the first bit and twice the others
-  split-bits : (name : List ℕ) (names : List (List ℕ))
+  pub split-bits : (name : List ℕ) (names : List (List ℕ))
       → mask_from identified test 0 (name ∷ names)
       ≡ (if passes test (identified name) then 1 else 0) + mask_from identified test 0 names * 2
   split-bits name names = ap (λ n. (if passes test (identified name) then 1 else 0) + n)

@@ -12,6 +12,7 @@ mod Pasts
 mod Reading
 mod Rows
 mod Scoping
+mod Shared
 mod TokenRuns
 mod Tokens
 mod Valuing

@@ -1,4 +1,4 @@
--- A token says its segment in the order of time.
+-- A token that is no time says no segment, and one that is says its segment in the order of time.
 use Rattle.std.proofs.Common.{◌≡◌, ℕ, ◌*◌, ◌^◌, ◌<◌, ◌≤◌, nat_lt, ◌==◌, ◌||◌, ◌&&◌, not, Bool, true, false, List, [], ◌∷◌, ◌++◌, length, codes, Result, Ok, Err, refl, sym, arith, subst, if◌then◌else◌}
 use Rattle.std.proofs.lemmas.Bool.Decides.{nat_tests}
 use Rattle.std.specs.List.{list_all, list_any}
@@ -9,58 +9,128 @@ use Rattle.tre_parts.specs.Format.{Step, Leads, KeepsTime}
 use Rattle.tre_trace.specs.declared.fault.TraceKind.{TraceKind}
 use Rattle.tre_trace.specs.declared.fault.TraceKind.TheVariants.{TooLate, BadToken, UnknownName, TimeBack}
 use Rattle.tre_trace.specs.Reading.{Vocabulary}
-use Rattle.tre_vcd.specs.VcdReading.{is, is_command, is_dump, is_scalar, are_declared, is_defined, in_dump, scopes_at, Terms, scalar, wide, Statement, scope, upscope, var, definitions, time, change, dump, dump_end, Open, nothing, section, comment, vector, number, Place, time_at, segment_until, goes_to, is_end, scope_says, section_says, command_says, ticks_say, keyword_says, scalar_says, ends_true, vector_says, value_says, token_at, token_says, vcd_format}
+use Rattle.tre_trace.specs.declared.segment.Segment.{Segment}
+use Rattle.tre_vcd.specs.VcdReading.{is, is_command, is_dump, is_scalar, are_declared, is_defined, in_dump, scopes_at, Terms, scalar, wide, Statement, scope, upscope, var, definitions, time, change, dump, dump_end, Open, nothing, section, comment, vector, number, Place, time_at, segment_until, goes_to, is_end, is_whole, scope_says, section_says, command_says, ticks_say, keyword_says, scalar_says, ends_true, vector_says, value_says, token_at, token_says, vcd_format}
+
+-- No segment is said, and no other time is reached.
+pub record IsSilent (past : List Statement) (said : Result (Step Place) TraceKind) : Type 0 where
+  pub silent : (step : Step Place) → said ≡ Ok step → (step.segments ≡ []) × (time_at
+      step.state.past ≡ time_at past)
+
+silent-err : (past : List Statement) (kind : TraceKind) → IsSilent past (Err kind)
+silent-err past kind = record { silent = λ step is. cc (is) }
+
+silent-goes : (past now : List Statement) (inside : Open) → time_at now ≡ time_at past
+    → IsSilent past (goes_to now inside)
+silent-goes past now inside same = record {
+  silent = λ step is.
+      let e : record { segments = []; state = record { past = now; inside = inside } } ≡ step =
+      cc (is) in
+      subst (λ (s : Step Place). (s.segments ≡ []) × (time_at s.state.past ≡ time_at past)) e
+      (refl, same);
+}
+
+silent-if : (past : List Statement) (test : Bool) (one two : Result (Step Place) TraceKind)
+    → IsSilent past one → IsSilent past two → IsSilent past (if test then one else two)
+silent-if past true one two silent other = silent
+silent-if past false one two silent other = other
+
+silent-scope : (past : List Statement) (tokens : List (List ℕ)) → IsSilent past
+    (scope_says past tokens)
+silent-scope past [] = silent-err past BadToken
+silent-scope past (kind ∷ []) = silent-err past BadToken
+silent-scope past (kind ∷ name ∷ tokens) = silent-goes past (scope name ∷ past) nothing refl
+
+silent-section : (past : List Statement) (command : List ℕ) (tokens : List (List ℕ))
+    → IsSilent past (section_says past command tokens)
+silent-section past command tokens =
+    silent-if past (is command (codes "$scope")) _ _ (silent-scope past tokens)
+    (silent-if past (is command (codes "$upscope")) _ _ (silent-goes past (upscope ∷ past) nothing
+    refl)
+    (silent-if past (is command (codes "$var")) _ _ (silent-if past (nat_lt (length tokens) 4) _ _
+    (silent-err past BadToken) (silent-goes past (var tokens ∷ past) nothing refl))
+    (silent-if past (is command (codes "$enddefinitions")) _ _
+    (silent-goes past (definitions ∷ past) nothing refl) (silent-goes past past nothing refl))))
+
+pub silent-command : (terms : Terms) (past : List Statement) (token : List ℕ) → IsSilent past
+    (command_says terms past token)
+silent-command terms past token =
+    silent-if past (not (is_command token) || is_end token || is_dump token) _ _
+    (silent-err past BadToken)
+    (silent-if past (is token (codes "$upscope") && length (scopes_at past) == 0) _ _
+    (silent-err past BadToken)
+    (silent-if past
+    (is token (codes "$enddefinitions") && not (list_all (are_declared past) terms.declared)) _
+    _ (silent-err past UnknownName) (silent-goes past past (section token []) refl)))
+
+silent-keyword : (past : List Statement) (token : List ℕ) → IsSilent past (keyword_says past token)
+silent-keyword past token =
+    silent-if past (is_dump token) _ _ (silent-if past (in_dump past) _ _ (silent-err past BadToken)
+    (silent-goes past (dump ∷ past) nothing refl))
+    (silent-if past (is_end token) _ _ (silent-if past (in_dump past) _ _
+    (silent-goes past (dump_end ∷ past) nothing refl) (silent-err past BadToken))
+    (silent-if past (is token (codes "$comment")) _ _ (silent-goes past past comment refl)
+    (silent-err past BadToken)))
+
+silent-scalar : (past : List Statement) (letter : ℕ) (identifier : List ℕ) → IsSilent past
+    (scalar_says past letter identifier)
+silent-scalar past letter [] = silent-err past BadToken
+silent-scalar past letter (byte ∷ bytes) =
+    silent-goes past (change scalar (byte ∷ bytes) (letter == 49) ∷ past) nothing refl
+
+silent-vector : (past : List Statement) (value : List ℕ) → IsSilent past (vector_says past value)
+silent-vector past [] = silent-err past BadToken
+silent-vector past (byte ∷ bytes) = silent-goes past past (vector (ends_true (byte ∷ bytes))) refl
+
+-- a token where something is open
+pub silent-open : (terms : Terms) (past : List Statement) (inside : Open)
+    → is_whole inside ≡ false → (token : List ℕ)
+    → IsSilent past (token_at terms past inside token)
+silent-open terms past nothing is token = cc (is)
+silent-open terms past (section command tokens) is token =
+    silent-if past (is_end token) _ _ (silent-section past command tokens)
+    (silent-goes past past (section command (tokens ++ token ∷ [])) refl)
+silent-open terms past comment is token =
+    silent-goes past past (if is_end token then nothing else comment) refl
+silent-open terms past (vector value) is token =
+    silent-goes past (change wide token value ∷ past) nothing refl
+silent-open terms past number is token = silent-goes past past nothing refl
+
+-- a token among the values that is no time
+pub silent-value : (past : List Statement) (byte : ℕ) (bytes : List ℕ) → IsSilent past
+    (if byte == 36 then keyword_says past (byte ∷ bytes)
+    else (if byte == 98 || byte == 66 then vector_says past bytes
+    else (if list_any (λ letter. byte == letter) (codes "rRsS") then goes_to past number
+    else (if is_scalar byte then scalar_says past byte bytes else Err BadToken))))
+silent-value past byte bytes =
+    silent-if past (byte == 36) _ _ (silent-keyword past (byte ∷ bytes))
+    (silent-if past (byte == 98 || byte == 66) _ _ (silent-vector past bytes)
+    (silent-if past (list_any (λ letter. byte == letter) (codes "rRsS")) _ _
+    (silent-goes past past number refl)
+    (silent-if past (is_scalar byte) _ _ (silent-scalar past byte bytes)
+    (silent-err past BadToken))))
+
+-- ---- the order of time
 
 -- what is said leads from the time of the past to the one after it
 pub record KeepsOrder (past : List Statement) (said : Result (Step Place) TraceKind) : Type 0 where
   pub leads : (step : Step Place) → said ≡ Ok step → Leads (time_at past) step.segments
       (time_at step.state.past)
 
-keeps-err : (past : List Statement) (kind : TraceKind) → KeepsOrder past (Err kind)
-keeps-err past kind = record { leads = λ step is. cc (is) }
-
-keeps-goes : (past now : List Statement) (inside : Open) → time_at now ≡ time_at past → KeepsOrder
-    past (goes_to now inside)
-keeps-goes past now inside same = record {
+keeps-silent : (past : List Statement) (said : Result (Step Place) TraceKind) → IsSilent past said
+    → KeepsOrder past said
+keeps-silent past said silent = record {
   leads = λ step is.
-      let e : record { segments = []; state = record { past = now; inside = inside } } ≡ step =
-      cc (is) in
-      subst (λ (s : Step Place). Leads (time_at past) s.segments (time_at s.state.past)) e
-      (record { long = tt; ends = sym same; in_time = λ h. rw same h });
+      let none = silent.silent step is in
+      subst (λ (segments : List Segment). Leads (time_at past) segments
+      (time_at step.state.past)) (sym none.0)
+      (record { long = tt; ends = sym none.1; in_time = λ h. rw (none.1) h });
 }
 
 keeps-if : (past : List Statement) (test : Bool) (one two : Result (Step Place) TraceKind)
     → KeepsOrder past one → KeepsOrder past two → KeepsOrder past (if test then one else two)
 keeps-if past true one two keeps other = keeps
 keeps-if past false one two keeps other = other
-
-keeps-scope : (past : List Statement) (tokens : List (List ℕ)) → KeepsOrder past
-    (scope_says past tokens)
-keeps-scope past [] = keeps-err past BadToken
-keeps-scope past (kind ∷ []) = keeps-err past BadToken
-keeps-scope past (kind ∷ name ∷ tokens) = keeps-goes past (scope name ∷ past) nothing refl
-
-keeps-section : (past : List Statement) (command : List ℕ) (tokens : List (List ℕ)) → KeepsOrder
-    past (section_says past command tokens)
-keeps-section past command tokens =
-    keeps-if past (is command (codes "$scope")) _ _ (keeps-scope past tokens)
-    (keeps-if past (is command (codes "$upscope")) _ _ (keeps-goes past (upscope ∷ past) nothing
-    refl)
-    (keeps-if past (is command (codes "$var")) _ _ (keeps-if past (nat_lt (length tokens) 4) _ _
-    (keeps-err past BadToken) (keeps-goes past (var tokens ∷ past) nothing refl))
-    (keeps-if past (is command (codes "$enddefinitions")) _ _ (keeps-goes past (definitions ∷ past)
-    nothing refl) (keeps-goes past past nothing refl))))
-
-keeps-command : (terms : Terms) (past : List Statement) (token : List ℕ) → KeepsOrder past
-    (command_says terms past token)
-keeps-command terms past token =
-    keeps-if past (not (is_command token) || is_end token || is_dump token) _ _
-    (keeps-err past BadToken)
-    (keeps-if past (is token (codes "$upscope") && length (scopes_at past) == 0) _ _
-    (keeps-err past BadToken)
-    (keeps-if past
-    (is token (codes "$enddefinitions") && not (list_all (are_declared past) terms.declared)) _
-    _ (keeps-err past UnknownName) (keeps-goes past past (section token []) refl)))
 
 keeps-later : (asked : Vocabulary) (past : List Statement) (ticks : ℕ) → time_at past < ticks
     → ticks ≤ TIME_MAX
@@ -90,10 +160,11 @@ keeps-ticks : (asked : Vocabulary) (past : List Statement) (ticks : ℕ) (back l
       segments = segment_until asked past ticks ∷ [];
       state = record { past = time ticks ∷ past; inside = nothing };
     }))))
-keeps-ticks asked past ticks true late same e l s = keeps-err past TimeBack
-keeps-ticks asked past ticks false true same e l s = keeps-err past TooLate
-keeps-ticks asked past ticks false false true e l s = keeps-goes past (time ticks ∷ past) nothing
-    (grind (arith, nat_tests))
+keeps-ticks asked past ticks true late same e l s = keeps-silent past _ (silent-err past TimeBack)
+keeps-ticks asked past ticks false true same e l s = keeps-silent past _ (silent-err past TooLate)
+keeps-ticks asked past ticks false false true e l s =
+    let same : ticks ≡ time_at past = grind (arith, nat_tests) in
+    keeps-silent past _ (silent-goes past (time ticks ∷ past) nothing same)
 keeps-ticks asked past ticks false false false e l s =
     let not_before : time_at past ≤ ticks = grind (arith, nat_tests) in
     let other : ¬ (ticks ≡ time_at past) = grind (arith, nat_tests) in
@@ -105,55 +176,33 @@ keeps-number : (terms : Terms) (past : List Statement) (digits : List ℕ) → K
 keeps-number terms past digits =
     keeps-if past (is_numeral digits) _ _
     (keeps-ticks terms.names past (digits_value 10 digits * 10 ^ terms.scale) _ _ _ refl refl refl)
-    (keeps-err past BadToken)
-
-keeps-keyword : (past : List Statement) (token : List ℕ) → KeepsOrder past (keyword_says past token)
-keeps-keyword past token =
-    keeps-if past (is_dump token) _ _ (keeps-if past (in_dump past) _ _ (keeps-err past BadToken)
-    (keeps-goes past (dump ∷ past) nothing refl))
-    (keeps-if past (is_end token) _ _ (keeps-if past (in_dump past) _ _
-    (keeps-goes past (dump_end ∷ past) nothing refl) (keeps-err past BadToken))
-    (keeps-if past (is token (codes "$comment")) _ _ (keeps-goes past past comment refl)
-    (keeps-err past BadToken)))
-
-keeps-scalar : (past : List Statement) (letter : ℕ) (identifier : List ℕ) → KeepsOrder past
-    (scalar_says past letter identifier)
-keeps-scalar past letter [] = keeps-err past BadToken
-keeps-scalar past letter (byte ∷ bytes) =
-    keeps-goes past (change scalar (byte ∷ bytes) (letter == 49) ∷ past) nothing refl
-
-keeps-vector : (past : List Statement) (value : List ℕ) → KeepsOrder past (vector_says past value)
-keeps-vector past [] = keeps-err past BadToken
-keeps-vector past (byte ∷ bytes) = keeps-goes past past (vector (ends_true (byte ∷ bytes))) refl
+    (keeps-silent past _ (silent-err past BadToken))
 
 keeps-value : (terms : Terms) (past : List Statement) (token : List ℕ) → KeepsOrder past
     (value_says terms past token)
-keeps-value terms past [] = keeps-goes past past nothing refl
+keeps-value terms past [] = keeps-silent past _ (silent-goes past past nothing refl)
 keeps-value terms past (byte ∷ bytes) =
     keeps-if past (byte == 35) _ _ (keeps-number terms past bytes)
-    (keeps-if past (byte == 36) _ _ (keeps-keyword past (byte ∷ bytes))
-    (keeps-if past (byte == 98 || byte == 66) _ _ (keeps-vector past bytes)
-    (keeps-if past (list_any (λ letter. byte == letter) (codes "rRsS")) _ _
-    (keeps-goes past past number refl)
-    (keeps-if past (is_scalar byte) _ _ (keeps-scalar past byte bytes) (keeps-err past BadToken)))))
+    (keeps-silent past _ (silent-value past byte bytes))
 
 keeps-token : (terms : Terms) (past : List Statement) (inside : Open) (token : List ℕ)
     → KeepsOrder past (token_at terms past inside token)
 keeps-token terms past nothing token = keeps-if past (is_defined past) _ _
-    (keeps-value terms past token) (keeps-command terms past token)
+    (keeps-value terms past token) (keeps-silent past _ (silent-command terms past token))
 keeps-token terms past (section command tokens) token =
-    keeps-if past (is_end token) _ _ (keeps-section past command tokens)
-    (keeps-goes past past (section command (tokens ++ token ∷ [])) refl)
-keeps-token terms past comment token = keeps-goes past past (if is_end token then nothing else
-    comment) refl
+    keeps-silent past _ (silent-open terms past (section command tokens) refl token)
+keeps-token terms past comment token =
+    keeps-silent past _ (silent-open terms past comment refl token)
 keeps-token terms past (vector value) token =
-    keeps-goes past (change wide token value ∷ past) nothing refl
-keeps-token terms past number token = keeps-goes past past nothing refl
+    keeps-silent past _ (silent-open terms past (vector value) refl token)
+keeps-token terms past number token =
+    keeps-silent past _ (silent-open terms past number refl token)
 
 keeps-part : (terms : Terms) (place : Place) (part : List ℕ) → KeepsOrder place.past
     (token_says terms place part)
 unfolding token_says
-keeps-part terms place [] = keeps-goes place.past place.past place.inside refl
+keeps-part terms place [] =
+    keeps-silent place.past _ (silent-goes place.past place.past place.inside refl)
 keeps-part terms place (byte ∷ bytes) = keeps-token terms place.past place.inside (byte ∷ bytes)
 
 pub vcd-keeps_time : (terms : Terms) → KeepsTime (vcd_format terms)

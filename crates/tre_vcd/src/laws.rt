@@ -2,6 +2,7 @@
 
 ghost use Rattle.std.specs.Prelude.{◌≡◌, ◌↔◌, ℕ, ◌+◌, Bool, true, false, None, Some, List, [], ◌∷◌, ◌++◌, length, IsBitSet};
 ghost use Rattle.tre_parts.specs.Alike.{AreAlike};
+ghost use Rattle.tre_parts.specs.Shared.{AreAmong, seen_reading};
 ghost use Rattle.tre_trace.specs.Reading.{Grows};
 ghost use Rattle.tre_trace.specs.Trace.{IsTrace};
 ghost use Rattle.tre_trace.specs.declared.fault.TraceKind.{TraceKind};
@@ -104,10 +105,20 @@ pub fn white()
 {}
 
 /// What a dump says is the same whatever names are read of it, but for what is true: where the same
-/// names must be declared, readings of the same bytes at one scale have the same fault, and segments
-/// of the same lengths.
+/// names must be declared, readings of the same bytes at one scale have the same fault, and
+/// segments of the same lengths.
 pub fn alike()
     ensures { (one other : Terms) (closed : Bool) (bytes : List ℕ) →
         one.declared ≡ other.declared → one.scale ≡ other.scale →
         AreAlike (vcd_reading one closed bytes) (vcd_reading other closed bytes) }
+{}
+
+/// One reading for many names tells what each reading for some of them does: where the same names
+/// must be declared, and at one scale, what a dump says of names is what it says of more, seen
+/// through the bits of those that are asked.
+pub fn shared()
+    ensures { (one all : Terms) (closed : Bool) (bytes : List ℕ) →
+        one.declared ≡ all.declared → one.scale ≡ all.scale → AreAmong one.names all.names →
+        vcd_reading one closed bytes
+        ≡ seen_reading one.names all.names (vcd_reading all closed bytes) }
 {}

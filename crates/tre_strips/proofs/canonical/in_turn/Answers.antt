@@ -6,14 +6,10 @@ use Rattle.tre_strips.proofs.canonical.in_turn.Goals as goal
 
 pub returns-clause-turn : goal.returns-clause-turn
 returns-clause-turn c =
-    AreInTurn-sorted _ _ (rw (c.in_ok-extend_from_slice.ensures.items, c.new-sorted.ensures.items)
-    at c.sort_unstable_by_key.ensures.permutation) c.requires
+    AreInTurn-sorted _ _ c.sort_unstable_by_key.ensures.permutation c.requires
     (IsNonDecreasingBy-from_sort_by_key begin_of c.sort_unstable_by_key.new.self.items
     c.sort_unstable_by_key.ensures.sorted (λ a r f k. search rules))
 
 pub returns-clause-same : goal.returns-clause-same
 returns-clause-same c =
-    HaveSamePairs-permutation _ _ (rw (
-      c.in_ok-extend_from_slice.ensures.items,
-      c.new-sorted.ensures.items,
-    ) at c.sort_unstable_by_key.ensures.permutation)
+    HaveSamePairs-permutation _ _ c.sort_unstable_by_key.ensures.permutation

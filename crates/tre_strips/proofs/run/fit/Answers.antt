@@ -1,11 +1,26 @@
 use Rattle.std.proofs.Common.{refl, sym, true≢false}
-use Rattle.tre_strips.proofs.Fitting.{Agree-same, same-Agree, AreFilledOver-single, Agree-filled}
+use Rattle.tre_strips.proofs.Fitting.{Agree-same, same-Agree, Agree-alike, few-Agree, AreFilledOver-single, Agree-filled}
 use Rattle.tre_strips.proofs.run.fit.Goals as goal
 
 pub returns-then-not-are_filled : goal.returns-then-not-are_filled
 returns-then-not-are_filled c = (
   (λ e. absurd (true≢false (sym e))),
   (λ agree. absurd (true≢false (sym (c.if-not-are_filled.ensures.1 (Agree-filled _ _ _ agree))))),
+)
+
+pub returns-then-are_same_at : goal.returns-then-are_same_at
+returns-then-are_same_at c = (
+  (λ e. Agree-alike c.args.time c.args.bars.now c.args.there.now c.requires
+      (c.if-are_same_at.ensures.0 refl)),
+  (λ agree. refl),
+)
+
+pub returns-then-bars-lt2 : goal.returns-then-bars-lt2
+returns-then-bars-lt2 c = (
+  (λ e. absurd (true≢false (sym e))),
+  (λ agree. absurd (true≢false (sym (c.if-are_same_at.ensures.1
+      (few-Agree c.args.time c.args.bars.now c.args.there.now c.if-bars-lt2.true
+      c.requires agree))))),
 )
 
 pub united-requires : goal.united-requires
@@ -21,7 +36,7 @@ returns c =
     let until = narrowed.single refl in
     let all = rw (c.in_ok-extend_from_slice.ensures.items, c.new-all.ensures.items)
     at c.in_ok-united.ensures.union in
-    let same = rw c.deref.ensures.value at c.are_same_at.ensures in (
+    let same = rw c.deref.ensures.value at c.are_same_at-2.ensures in (
       (λ e. Agree-same c.args.time c.united.new.times c.args.bars.now _ c.args.there.now from until
           (c.if-not-are_filled.ensures.0 refl) all (same.0 e)),
       (λ agree. same.1 (same-Agree c.args.time c.united.new.times c.args.bars.now _

@@ -1,8 +1,13 @@
 use Rattle.std.proofs.Common.{◌≡◌, ◌<◌, length, get_or, true, sym, ◌∙◌, arith}
 use Rattle.std.proofs.lemmas.Bool.Decides.{nat_tests}
 use Rattle.tre_state.specs.Name.{starts_name}
-use Rattle.tre_text.proofs.Words.{word_to_stop, word_whole}
+use Rattle.tre_text.proofs.Words.{word_alone, word_to_stop, word_whole}
 use Rattle.tre_text.proofs.word.word_end.Goals as goal
+
+pub returns-then-len-eq1 : goal.returns-then-len-eq1
+returns-then-len-eq1 c =
+    word_alone c.args.rest.now c.if-len-eq1.true
+    (sym c.starts_name.ensures ∙ c.if-not-starts_name.false)
 
 pub returns-in-Some : goal.returns-in-Some
 returns-in-Some c =

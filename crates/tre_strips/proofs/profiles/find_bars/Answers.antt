@@ -1,11 +1,11 @@
 use Rattle.tre_strips.proofs.Comparing.{Narrows-itself, Narrows-trans}
 use Rattle.tre_strips.proofs.ZoneBars.{AreBarsOf-none, AreBarsOf-step, AreBarsOf-all}
-use Rattle.tre_strips.proofs.profiles.bars_of.Goals as goal
+use Rattle.tre_strips.proofs.profiles.find_bars.Goals as goal
 
 pub loop-zone-init : goal.loop-zone-init
 loop-zone-init c = record {
   narrowed = Narrows-itself _;
-  bars = rw c.new-bars.ensures.items (AreBarsOf-none _);
+  bars = rw c.clear.ensures.items (AreBarsOf-none _);
 }
 
 pub loop-zone-preserved : goal.loop-zone-preserved

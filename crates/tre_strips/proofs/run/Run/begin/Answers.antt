@@ -1,4 +1,4 @@
-use Rattle.tre_strips.proofs.run.begin.Goals as goal
+use Rattle.tre_strips.proofs.run.Run.begin.Goals as goal
 
 pub fit-requires : goal.fit-requires
 fit-requires c = rw c.deref-2.ensures.value c.requires

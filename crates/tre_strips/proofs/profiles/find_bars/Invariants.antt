@@ -1,7 +1,7 @@
 use Rattle.std.proofs.Common.{take}
 use Rattle.tre_strips.specs.Profiles.{AreBarsOf}
 use Rattle.tre_strips.specs.Times.{Narrows}
-use Rattle.tre_strips.proofs.profiles.bars_of.Given as goal
+use Rattle.tre_strips.proofs.profiles.find_bars.Given as goal
 
 abbrev pub invariant-loop-zone : goal.invariant-loop-zone
 invariant-loop-zone l = record {

@@ -1,0 +1,204 @@
+ghost use Rattle.std.specs.Prelude.{◌≡◌, ◌++◌, [], ◌∷◌, length, List, OnOk, IfOk, IfErr, slice_get};
+ghost use Rattle.std.specs.Option.{option_map};
+ghost use Rattle.tre_zone.specs.declared.zone_bounds.ZoneBounds.{ZoneBounds};
+ghost use Rattle.tre_online.specs.Giving.{IsNewFor, AreNewFor, Goes, GoEach, IsRefusedBy, IsRefusedByOne, TellEachAtEnd};
+
+use crate::session::Session;
+use std::alloc::{AllocError, Global};
+use tre_syntax::Pattern;
+use tre_trace::{PushFault, Segment};
+use tre_zoneset::ZoneSet;
+
+/// Sessions of several patterns, each over a trace of its own: the same input, as it is read with
+/// the names of that pattern. All the traces end at one time.
+#[derive(Debug, Drop)]
+pub struct Watch {
+    alloc: Global,
+    sessions: Vec<Session>,
+}
+
+impl Watch {
+    ghost use Rattle.std.specs.Prelude.{map};
+    ghost use Rattle.tre_syntax.specs.Pattern.{pattern_tree};
+    ghost use Rattle.tre_trace.specs.declared.segment.Segment.{Segment};
+    ghost use Rattle.tre_online.specs.Watch.{trees_of, ended_of_each, time_of, sets_of, Watches, AreAlike, pushed_each, FitEach, TellEach, TellLastEach, AreRefusedFor};
+
+    /// A session for a copy of each pattern; none of them has read a segment.
+    pub fn new(alloc: Global, patterns: &[Pattern]) -> Result<Watch, AllocError>
+        ensures stands { IfOk result (λ watch. Watches watch (map (λ _. []) patterns.now)) }
+        ensures ended { IfOk result (λ watch. ended_of_each watch ≡ map (λ _. []) patterns.now) }
+        ensures trees { IfOk result (λ watch. trees_of watch ≡ map pattern_tree patterns.now) }
+    {
+        let sessions = sessions_for(alloc, patterns)?;
+        Ok(Watch { alloc, sessions })
+    }
+
+    /// How many patterns there are.
+    pub fn len(&self) -> usize
+        ensures { result ≡ length (trees_of self.now) }
+    {
+        self.sessions.len()
+    }
+
+    /// When the traces end so far, in ticks: 0 where there is no pattern.
+    pub fn at(&self) -> u64
+        ensures { result ≡ time_of self.now }
+    {
+        match self.sessions.first() {
+            Some(session) => session.at(),
+            None => 0,
+        }
+    }
+
+    /// Reads a segment for each pattern, and gives the watch back with what each session tells.
+    /// After a refusal the watch is given up.
+    pub fn segment(self, segments: &[Segment]) -> Result<(Watch, Told), PushFault>
+        requires count { length segments.now ≡ length (trees_of self) }
+        requires alike { AreAlike segments.now }
+        // Whatever traces it stood for, it then stands for these, each with its segment.
+        ensures stands { (traces : List (List Segment)) → Watches self traces →
+            IfOk result (λ both. Watches both.0 (pushed_each traces segments.now)) }
+        ensures fits { (traces : List (List Segment)) → Watches self traces →
+            OnOk result (FitEach traces segments.now) }
+        ensures tells { (traces : List (List Segment)) → Watches self traces →
+            IfOk result (λ both. TellEach (trees_of self) traces segments.now (ended_of_each self)
+            (sets_of both.1)) }
+        ensures ended { IfOk result (λ both. ended_of_each both.0 ≡ sets_of both.1) }
+        ensures trees { IfOk result (λ both. trees_of both.0 ≡ trees_of self) }
+
+        // Each fault comes exactly where it says.
+        ensures refused { (traces : List (List Segment)) → Watches self traces →
+            IfErr result (AreRefusedFor traces segments.now) }
+    {
+        let mut sessions = self.sessions;
+        let sets = give_each(self.alloc, &mut sessions, segments)?;
+        let watch = Watch {
+            alloc: self.alloc,
+            sessions,
+        };
+        Ok((watch, Told { sets }))
+    }
+
+    /// The traces have ended, and these events happen at their ends, given for each pattern. Tells
+    /// what has become a match with them.
+    pub fn close(self, events: &[u64]) -> Result<Told, AllocError>
+        requires count { length events.now ≡ length (trees_of self) }
+        ensures { (traces : List (List Segment)) → Watches self traces →
+            IfOk result (λ told. TellLastEach (trees_of self) traces events.now
+            (ended_of_each self) (sets_of told)) }
+    {
+        let sets = close_each(self.alloc, &self.sessions, events)?;
+        Ok(Told { sets })
+    }
+}
+
+/// What the sessions of a watch tell: a set of zones for each pattern, in the order of the
+/// patterns.
+#[derive(Debug, Drop)]
+pub struct Told {
+    sets: Vec<ZoneSet>,
+}
+
+impl Told {
+    ghost use Rattle.tre_online.specs.Watch.{sets_of};
+
+    /// What is told of the pattern at this place: None exactly where there are fewer patterns.
+    pub fn of(&self, place: usize) -> Option<&ZoneSet>
+        ensures { option_map (λ zones. zones.now) result ≡ slice_get (sets_of self.now) place }
+    {
+        self.sets.get(place)
+    }
+
+    /// The sets, in the order of the patterns.
+    pub fn into_sets(self) -> Vec<ZoneSet>
+        ensures { result.items ≡ sets_of self }
+    {
+        self.sets
+    }
+}
+
+// A session for a copy of each pattern.
+fn sessions_for(alloc: Global, patterns: &[Pattern]) -> Result<Vec<Session>, AllocError>
+    ensures { IfOk result (λ sessions. AreNewFor patterns.now sessions.items) }
+{
+    let mut sessions = Vec::new(alloc);
+    for pattern in patterns {
+        let session = session_for(alloc, pattern)?;
+        sessions.push(session)?;
+    }
+    Ok(sessions)
+}
+
+fn session_for(alloc: Global, pattern: &Pattern) -> Result<Session, AllocError>
+    ensures { IfOk result (IsNewFor pattern.now) }
+{
+    let copy = pattern.try_clone(alloc)?;
+    let session = Session::new(alloc, copy)?;
+    Ok(session)
+}
+
+// Gives each session its segment, and collects what they tell.
+fn give_each(
+    alloc: Global,
+    sessions: &mut [Session],
+    segments: &[Segment],
+) -> Result<Vec<ZoneSet>, PushFault>
+    requires { length segments.now ≡ length sessions.old }
+    ensures ok { IfOk result (λ sets.
+        GoEach sessions.old segments.now sessions.new sets.items) }
+    ensures err { IfErr result (IsRefusedByOne sessions.old segments.now) }
+{
+    let mut sets = Vec::new(alloc);
+    for (place, session) in sessions.iter_mut().enumerate() {
+        give(session, segments[place], &mut sets, segments.len())?;
+    }
+    Ok(sets)
+}
+
+// Gives the session a segment, and puts what it tells behind the sets.
+fn give(
+    session: &mut Session,
+    segment: Segment,
+    sets: &mut Vec<ZoneSet>,
+    count: usize,
+) -> Result<(), PushFault>
+    ensures ok { OnOk result ((told : List ZoneBounds)
+        × (sets.new.items ≡ sets.old.items ++ told ∷ [])
+        × Goes session.old segment session.new told) }
+    ensures err { IfErr result (IsRefusedBy session.old segment) }
+{
+    let told = session.segment(segment)?;
+    match put(sets, told, count) {
+        Ok(()) => Ok(()),
+        Err(_) => Err(PushFault::Memory),
+    }
+}
+
+// Puts the set behind the others, of which there will be so many. Room for all is made with the
+// first.
+fn put(sets: &mut Vec<ZoneSet>, told: ZoneSet, count: usize) -> Result<(), AllocError>
+    ensures { OnOk result (sets.new.items ≡ sets.old.items ++ told ∷ []) }
+{
+    if sets.is_empty() {
+        sets.reserve_exact(count)?;
+    }
+    sets.push(told)?;
+    Ok(())
+}
+
+// What each session tells where its trace ends with these events.
+fn close_each(
+    alloc: Global,
+    sessions: &[Session],
+    events: &[u64],
+) -> Result<Vec<ZoneSet>, AllocError>
+    requires { length events.now ≡ length sessions.now }
+    ensures { IfOk result (λ sets. TellEachAtEnd sessions.now events.now sets.items) }
+{
+    let mut sets = Vec::new(alloc);
+    for (place, session) in sessions.iter().enumerate() {
+        let told = session.last_told(events[place])?;
+        sets.push(told)?;
+    }
+    Ok(sets)
+}

@@ -1,0 +1,146 @@
+-- Words as they are typed give a job where that is computed: what the values of the options say is
+-- compared with the parts of the job, and what may stand together is tested.
+use Rattle.std.proofs.Common.{◌≡◌, ℕ, Bool, true, false, not, List, Option, Some, None, codes, refl, sym, ap, subst}
+use Rattle.std.specs.Prelude.{option_and_then, option_map, is_some, is_none}
+use Rattle.clap.specs.Words.{Row, Text, first_of, matches_of}
+use Rattle.tre_decimal.specs.declared.TheConstants.{SCALE_MAX}
+use Rattle.tre_words.specs.CommandLine.{command_line}
+use Rattle.tre_words.specs.Job.{GivesJob, GivesWhere, HaveNoFault, SaysJob, StandsTogether, format_named, is_given, is_made_run, mode_in, number_written}
+use Rattle.tre_words.specs.declared.job.TheConstants.{LIMIT_MAX}
+use Rattle.tre_words.specs.declared.job.Format.{Format}
+use Rattle.tre_words.specs.declared.job.Format.TheVariants.{Text as TextFormat, Vcd, Csv}
+use Rattle.tre_words.specs.declared.job.Job.{Job}
+use Rattle.tre_words.specs.declared.job.Mode.{Mode}
+use Rattle.tre_words.specs.declared.job.Mode.TheVariants.{Offline, Online, Show, Generate}
+
+-- ---- what the values of the options say
+
+-- what they say of each part of a job
+pub record Values : Type 0 where
+  pub mode : Mode
+  pub format : Option Format
+  pub input : Option Text
+  pub max_bytes : Option ℕ
+  pub scale : Option ℕ
+  pub normal : Bool
+  pub max_zones : Option (Option ℕ)
+  pub minus : Option Text
+  pub lets : Option Text
+  pub expr : Option Text
+
+abbrev pub values_in : List Row → Values
+values_in rows = record {
+  mode = mode_in rows;
+  format = option_and_then format_named (first_of (codes "format") rows);
+  input = first_of (codes "input") rows;
+  max_bytes = option_and_then (number_written 1 LIMIT_MAX) (first_of (codes "max-bytes") rows);
+  scale = option_and_then (number_written 0 SCALE_MAX) (first_of (codes "scale") rows);
+  normal = is_given (codes "normal") rows;
+  max_zones = option_map (number_written 0 LIMIT_MAX) (first_of (codes "max-zones") rows);
+  minus = first_of (codes "minus") rows;
+  lets = first_of (codes "let") rows;
+  expr = first_of (codes "EXPR") rows;
+}
+
+abbrev pub values_of : Job → Values
+values_of job = record {
+  mode = job.mode;
+  format = Some job.format;
+  input = Some job.input;
+  max_bytes = Some job.max_bytes;
+  scale = Some job.scale;
+  normal = job.normal;
+  max_zones = option_map Some job.max_zones;
+  minus = job.minus;
+  lets = job.lets;
+  expr = Some job.expr;
+}
+
+said : (rows : List Row) (job : Job) → values_in rows ≡ values_of job → SaysJob rows job
+said rows job same = record {
+  mode = ap (λ (values : Values). values.mode) same;
+  format = ap (λ (values : Values). values.format) same;
+  input = ap (λ (values : Values). values.input) same;
+  max_bytes = ap (λ (values : Values). values.max_bytes) same;
+  scale = ap (λ (values : Values). values.scale) same;
+  normal = ap (λ (values : Values). values.normal) same;
+  max_zones = ap (λ (values : Values). values.max_zones) same;
+  minus = ap (λ (values : Values). values.minus) same;
+  lets = ap (λ (values : Values). values.lets) same;
+  expr = ap (λ (values : Values). values.expr) same;
+}
+
+-- ---- what may stand together
+
+-- the second test holds where the first does
+abbrev pub implies : Bool → Bool → Bool
+implies true second = second
+implies false second = true
+
+implied : {first second : Bool} → implies first second ≡ true → first ≡ true → second ≡ true
+implied {first = true} e is = e
+implied {first = false} e is = cc
+
+abbrev pub is_offline : Mode → Bool
+is_offline Offline = true
+is_offline Online = false
+is_offline Show = false
+is_offline (Generate count) = false
+
+offline_is : (mode : Mode) → is_offline mode ≡ true → mode ≡ Offline
+offline_is Offline e = refl
+offline_is Online e = cc
+offline_is Show e = cc
+offline_is (Generate count) e = cc
+
+abbrev pub is_csv : Format → Bool
+is_csv Csv = true
+is_csv TextFormat = false
+is_csv Vcd = false
+
+csv_is : (format : Format) → is_csv format ≡ true → format ≡ Csv
+csv_is Csv e = refl
+csv_is TextFormat e = cc
+csv_is Vcd e = cc
+
+none_is : {X : Type 0} (told : Option X) → is_none told ≡ true → told ≡ None
+none_is None e = refl
+none_is (Some value) e = cc
+
+never_is : (test : Bool) → not test ≡ true → test ≡ false
+never_is true e = cc
+never_is false e = refl
+
+-- the tests that a job and the values of its options pass
+abbrev pub Stands : List Row → Job → Type 0
+Stands rows job = (implies job.normal (is_offline job.mode) ≡ true)
+    × (implies (is_some job.max_zones) job.normal ≡ true)
+    × (implies (is_some job.minus) (is_offline job.mode) ≡ true)
+    × (implies (is_csv job.format) (is_none job.minus) ≡ true)
+    × (implies (is_some job.lets) (is_csv job.format) ≡ true)
+    × (implies (is_csv job.format) (not (is_given (codes "online") rows)) ≡ true)
+
+together : (rows : List Row) (job : Job) → Stands rows job → StandsTogether job
+together rows job stands = record {
+  normal = λ normal. offline_is job.mode (implied stands.0 normal);
+  max_zones = λ given. implied stands.1 given;
+  minus = λ given. offline_is job.mode (implied stands.2 given);
+  columns = λ csv. none_is job.minus (implied stands.3 (ap is_csv csv));
+  lets = λ given. csv_is job.format (implied stands.4 given);
+}
+
+-- ---- words
+
+-- words that pass the tests and say the job give it
+pub typed : (words : List Text) (job : Job) → is_made_run words ≡ false → HaveNoFault words
+    → values_in (matches_of command_line words) ≡ values_of job
+    → Stands (matches_of command_line words) job → GivesJob words job
+typed words job options faultless same stands = record {
+  faultless = faultless;
+  gives = subst (λ made. GivesWhere made words job) (sym options) (record {
+    says = said (matches_of command_line words) job same;
+    together = together (matches_of command_line words) job stands;
+    offline = λ csv. never_is (is_given (codes "online") (matches_of command_line words))
+        (implied stands.5 (ap is_csv csv));
+  });
+}
