@@ -31,6 +31,4 @@ mod steady;
 #[cfg(test)]
 mod twins;
 #[cfg(test)]
-mod watch;
-#[cfg(test)]
 mod whole_traces;

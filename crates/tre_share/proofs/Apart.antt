@@ -99,7 +99,8 @@ Exceed-more : (one wider other more : List (List ℕ)) → Extends one wider →
     → Exceed one other → Exceed wider more
 Exceed-more one wider other more first second exceed = record {
   each = λ all ones others.
-      exceed.each all (among-less one wider all first ones) (among-less other more all second others);
+      exceed.each all (among-less one wider all first ones)
+      (among-less other more all second others);
 }
 
 AreApart-more : (one wider other more : Vocabulary) → IsWider one wider → IsWider other more

@@ -174,8 +174,8 @@ place-own names i distinct within =
     (sym ((bytes_eq-Decides name (get_or names k [])).0 same))))
 
 -- the places of the first names, with one more
-pub places-next : (all asked : List (List ℕ)) (places more : List ℕ) (i place : ℕ) → i < length asked
-    → ArePlaces (take i asked) all places → place_of all (get_or asked i []) ≡ Some place
+pub places-next : (all asked : List (List ℕ)) (places more : List ℕ) (i place : ℕ)
+    → i < length asked → ArePlaces (take i asked) all places → place_of all (get_or asked i []) ≡ Some place
     → more ≡ places ++ place ∷ [] → ArePlaces (take (i + 1) asked) all more
 places-next all asked places more i place within are is new =
     rw (take_more asked i [] within, new)

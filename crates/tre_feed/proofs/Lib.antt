@@ -1,0 +1,11 @@
+-- Lemmas.
+pub mod Alike
+pub mod Calls
+pub mod Changed
+pub mod Cuts
+pub mod Each
+pub mod Outcomes
+pub mod Pieces
+pub mod Read
+pub mod Turns
+pub mod Wholes

@@ -1,0 +1,91 @@
+-- What was read of an input.
+use Rattle.std.specs.Prelude.{◌≡◌, ℕ, ◌≤◌, Bool, false, List, [], ◌++◌, length, Option, None, IfSome, IsTrue, Result, Ok, Err}
+use Rattle.std.specs.Io.KnownBytes.{Consumes, IsAtEnd}
+use Rattle.tre_io.specs.Faults.{counted}
+use Rattle.tre_trace.specs.Reading.{Reading}
+use Rattle.tre_feed.specs.declared.TheConstants.{PIECE}
+use Rattle.tre_feed.specs.declared.fault.FeedFault.{FeedFault}
+use Rattle.tre_feed.specs.declared.fault.FeedFault.TheVariants.{Read}
+
+-- How many bytes of an input may be fed, and how many were taken.
+pub record Progress : Type 0 where
+  pub limit : ℕ
+  pub taken : ℕ
+
+-- What a source tells and counts, before it is opened and at the end.
+pub record InputTold : Type 0 where
+  pub name : Option (List ℕ)
+  pub file : Option (List ℕ)
+  pub sound : Bool
+  pub opened : Bool
+  pub left : Option (List ℕ)
+  pub found : Option (List ℕ)
+  pub faults_before : ℕ
+  pub faults_now : ℕ
+
+-- what these meanings of a source tell of it as it was and as it is
+abbrev pub input_told : {S : Type 0} → (S → Option (List ℕ)) → (S → Option (List ℕ)) →
+    (S → Bool) → (S → Bool) → (S → Option (List ℕ)) → (S → Option (List ℕ)) → (S → ℕ) → S → S →
+    InputTold
+input_told name file sound opened left found faults before now = record {
+  name = name before;
+  file = file before;
+  sound = sound before;
+  opened = opened now;
+  left = left now;
+  found = found now;
+  faults_before = faults before;
+  faults_now = faults now;
+}
+
+-- no read failed
+abbrev pub AllReadsGood : InputTold → Type 0
+AllReadsGood input = input.faults_now ≡ input.faults_before
+
+-- These bytes were read: they and what is left are all that the input had, where it tells them. Of
+-- an input that isn't open nothing was read.
+pub record WereRead (input : InputTold) (bytes : List ℕ) : Type 0 where
+  pub of_open : IsTrue input.opened → Consumes input.file input.left bytes
+  pub of_closed : input.opened ≡ false → bytes ≡ []
+
+-- The input was read to its end, and these are all its bytes.
+pub record AreAllBytes (input : InputTold) (bytes : List ℕ) : Type 0 where
+  pub opened : IsTrue input.opened
+  pub read : WereRead input bytes
+  pub all_read : IsAtEnd input.left
+  pub whole : IfSome input.file (λ told. told ≡ bytes)
+
+-- The input was read to its end, and this is so of its bytes.
+pub record OfAllBytes (input : InputTold) (IsSo : List ℕ → Type 0) : Type 0 where
+  pub bytes : List ℕ
+  pub all : AreAllBytes input bytes
+  pub is_so : IsSo bytes
+
+-- What was read is what had been read when the last read began, and the piece that it gave.
+pub record HasLastPiece (input : InputTold) (bytes : List ℕ) : Type 0 where
+  pub earlier : List ℕ
+  pub piece : List ℕ
+  pub split : bytes ≡ earlier ++ piece
+  pub short : length piece ≤ PIECE
+  pub behind : IsTrue input.opened →
+      IfSome input.file (λ all. IfSome input.found (λ rest. all ≡ earlier ++ rest))
+
+-- Of the file's bytes at most this many were taken, from its front.
+pub record TakesAtMost (most : ℕ) (file left : Option (List ℕ)) : Type 0 where
+  pub taken : List ℕ
+  pub few : length taken ≤ most
+  pub front : Consumes file left taken
+
+-- The bytes that were read are within the limit and have no fault, so the input may go on.
+pub record MayGoOn (reading : Bool → List ℕ → Reading) (limit : ℕ) (input : InputTold)
+    : Type 0 where
+  pub bytes : List ℕ
+  pub read : WereRead input bytes
+  pub within : length bytes ≤ limit
+  pub faultless : (reading false bytes).fault ≡ None
+
+-- A failed read is one that was counted, and nothing else raises the count.
+abbrev pub HasReadCause : {T : Type 0} → ℕ → ℕ → Result T FeedFault → Type 0
+HasReadCause before now (Ok value) = now ≡ before
+HasReadCause before now (Err Read) = now ≡ counted before
+HasReadCause before now (Err _) = now ≡ before

@@ -1,0 +1,12 @@
+-- What a reader must believe: what bytes come to, what they say for each reader, what was read of
+-- an input, and how a turn and a whole reading end.
+pub mod Outcome
+pub mod Readings
+pub mod Input
+pub mod Readers
+pub mod Feeding
+pub mod Whole
+-- What the functions inside promise each other.
+pub mod Faults
+pub mod Fed
+pub mod Piece

@@ -1,0 +1,10 @@
+pub mod Accounts
+pub mod Closing
+pub mod Lists
+pub mod Loop
+pub mod Printing
+pub mod Rows
+pub mod Tellings
+pub mod Told
+pub mod Transcripts
+pub mod Turns

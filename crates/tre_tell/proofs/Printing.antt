@@ -1,0 +1,76 @@
+-- The lines of sets, put one behind the other.
+use Rattle.std.proofs.Common.{◌≡◌, ◌∙◌, ℕ, List, [], ◌∷◌, ◌++◌, length, map, refl, sym, ap, arith, append_assoc, append-nil}
+use Rattle.std.proofs.lemmas.List.{map-append, length-map}
+use Rattle.std.specs.List.{zip}
+use Rattle.std.proofs.lemmas.List.Elements.{AllZip-push, length_all_zip}
+use Rattle.tre_zone.specs.declared.zone_bounds.ZoneBounds.{ZoneBounds}
+use Rattle.tre_tell.specs.Blocks.{lines_with}
+use Rattle.tre_tell.specs.Printed.{IsPrinted, lines_behind, AreLinesPut}
+use Rattle.tre_tell.proofs.Lists.{map-map}
+
+module _ (scale : ℕ) where
+  lines_behind-more : (labels : List (List ℕ)) (printed : List (List ZoneBounds))
+      (label : List ℕ) (zones : List ZoneBounds) → length labels ≡ length printed
+      → lines_behind scale (labels ++ label ∷ []) (printed ++ zones ∷ [])
+      ≡ lines_behind scale labels printed ++ lines_with scale label zones
+  lines_behind-more [] [] label zones same = append-nil (lines_with scale label zones)
+  lines_behind-more [] (first ∷ printed) label zones same = absurd (omega (arith, same))
+  lines_behind-more (first ∷ labels) [] label zones same = absurd (omega (arith, same))
+  lines_behind-more (first ∷ labels) (others ∷ printed) label zones same =
+      rw (lines_behind-more labels printed label zones (omega (arith, same)))
+      (sym (append_assoc (lines_with scale first others) (lines_behind scale labels printed)
+      (lines_with scale label zones)))
+
+  -- one set more
+  pub AreLinesPut-more : {X : Type 0} (label_of : X → List ℕ) (set_of : X → List ZoneBounds)
+      (xs : List X) (x : X) (zones : List ZoneBounds) (old now new : List ℕ)
+      → AreLinesPut scale (map label_of xs) (map set_of xs) old now → IsPrinted (set_of x) zones
+      → new ≡ now ++ lines_with scale (label_of x) zones
+      → AreLinesPut scale (map label_of (xs ++ x ∷ [])) (map set_of (xs ++ x ∷ [])) old new
+  AreLinesPut-more label_of set_of xs x zones old now new so_far printed text =
+      let labels : map label_of (xs ++ x ∷ []) ≡ map label_of xs ++ label_of x ∷ [] =
+      map-append label_of xs (x ∷ []) in
+      let sets : map set_of (xs ++ x ∷ []) ≡ map set_of xs ++ set_of x ∷ [] =
+      map-append set_of xs (x ∷ []) in
+      let count : length (map label_of xs) ≡ length so_far.printed =
+      length-map xs label_of ∙ (sym (length-map xs set_of)
+      ∙ length_all_zip IsPrinted (map set_of xs) so_far.printed so_far.are) in
+      rw (labels, sets) (record {
+        printed = so_far.printed ++ zones ∷ [];
+        are = AllZip-push IsPrinted (map set_of xs) so_far.printed (set_of x) zones so_far.are
+            printed;
+        text = text ∙ (ap (λ bytes. bytes ++ lines_with scale (label_of x) zones) so_far.text
+            ∙ (append_assoc old _ (lines_with scale (label_of x) zones)
+            ∙ ap (λ bytes. old ++ bytes) (sym (lines_behind-more (map label_of xs) so_far.printed
+            (label_of x) zones count))));
+      })
+
+-- the parts of pairs of two lists
+zip_first : {A B C : Type 0} (f : A → C) (xs : List A) (ys : List B) → length xs ≡ length ys
+    → map (λ (both : A × B). f both.0) (zip xs ys) ≡ map f xs
+zip_first f [] ys same = refl
+zip_first f (x ∷ xs) [] same = absurd (omega (arith, same))
+zip_first f (x ∷ xs) (y ∷ ys) same =
+    ap (λ rest. f x ∷ rest) (zip_first f xs ys (omega (arith, same)))
+
+zip_second : {A B : Type 0} (xs : List A) (ys : List B) → length xs ≡ length ys
+    → map (λ (both : A × B). both.1) (zip xs ys) ≡ ys
+zip_second [] [] same = refl
+zip_second [] (y ∷ ys) same = absurd (omega (arith, same))
+zip_second (x ∷ xs) [] same = absurd (omega (arith, same))
+zip_second (x ∷ xs) (y ∷ ys) same = ap (λ rest. y ∷ rest) (zip_second xs ys (omega (arith, same)))
+
+-- the parts of what a loop over two lists has yielded at its end
+pub firsts_of : {A B C D : Type 0} (v : A → C) (f : C → D) (yielded : List (A × B))
+    (xs : List C) (ys : List B) → map (λ both. (v both.0, both.1)) yielded ≡ zip xs ys
+    → length xs ≡ length ys → map (λ both. f (v both.0)) yielded ≡ map f xs
+firsts_of {A} {B} {C} v f yielded xs ys all same =
+    sym (map-map (λ (both : A × B). (v both.0, both.1)) (λ (both : C × B). f both.0) yielded)
+    ∙ (ap (map (λ (both : C × B). f both.0)) all ∙ zip_first f xs ys same)
+
+pub seconds_of : {A B C : Type 0} (v : A → C) (yielded : List (A × B)) (xs : List C) (ys : List B)
+    → map (λ both. (v both.0, both.1)) yielded ≡ zip xs ys → length xs ≡ length ys
+    → map (λ both. both.1) yielded ≡ ys
+seconds_of {A} {B} {C} v yielded xs ys all same =
+    sym (map-map (λ (both : A × B). (v both.0, both.1)) (λ (both : C × B). both.1) yielded)
+    ∙ (ap (map (λ (both : C × B). both.1)) all ∙ zip_second xs ys same)

@@ -1,0 +1,256 @@
+-- A transcript with one block more, and what closes one.
+use Rattle.std.proofs.Common.{◌≡◌, ◌∙◌, ◌⊎◌, ◌≢◌, ℕ, zero, suc, ◌<◌, ◌≤◌, List, Contains, [], ◌∷◌, ◌++◌, length, take, get_or, refl, sym, ap, inl, inr, ⊎_elim, arith, length-append, append-nil}
+use Rattle.std.specs.List.{Any}
+use Rattle.std.specs.List.Sorted.{IsPermutation}
+use Rattle.std.proofs.Math.Seq.{get_or-append_seam, take-append_seam}
+use Rattle.std.proofs.lemmas.List.{take-append-le, get_or_append_left}
+use Rattle.std.proofs.lemmas.List.Concat.{flat_map-append}
+use Rattle.std.proofs.lemmas.List.Sorted.{IsPermutation-sym, length_permutation, Contains-permutation}
+use Rattle.tre_online.specs.Told.{WasTold}
+use Rattle.tre_online.specs.Session.{TellsNew, TellsLast}
+use Rattle.tre_syntax.specs.Meaning.{Matches}
+use Rattle.tre_syntax.specs.PatternTree.{PatternTree}
+use Rattle.tre_syntax.specs.Rest.{whole}
+use Rattle.tre_syntax.proofs.CutMeaning.{IsBounded-rest}
+use Rattle.tre_trace.specs.Trace.{timeline_of, quiet, end_of}
+use Rattle.tre_trace.specs.declared.segment.Segment.{Segment}
+use Rattle.tre_zone.specs.Zone.{Includes}
+use Rattle.tre_zone.specs.ZoneList.{HoldExactly}
+use Rattle.tre_zone.specs.declared.zone_bounds.ZoneBounds.{ZoneBounds}
+use Rattle.tre_zone.proofs.ZoneListLemmas.{SetHolds-append}
+use Rattle.tre_tell.specs.Printed.{IsPrinted}
+use Rattle.tre_tell.specs.Transcript.{zones_of, block_before, EndBetween, NoneIsIn, IsBlock, IsTranscript, IsClosing}
+use Rattle.tre_tell.proofs.Lists.{take-over}
+
+zones_of-more : (blocks : List (List ZoneBounds)) (zones : List ZoneBounds)
+    → zones_of (blocks ++ zones ∷ []) ≡ zones_of blocks ++ zones
+zones_of-more blocks zones =
+    flat_map-append (λ block. block) blocks (zones ∷ [])
+    ∙ ap (λ rest. zones_of blocks ++ rest) (append-nil zones)
+
+block_before-append : (i : ℕ) (blocks more : List (List ZoneBounds)) → i ≤ length blocks
+    → block_before i (blocks ++ more) ≡ block_before i blocks
+block_before-append zero blocks more inside = refl
+block_before-append (suc i) blocks more inside =
+    get_or_append_left blocks more [] i (omega (arith, inside))
+
+-- a block stays as it is where more come
+IsBlock-append : (blocks more : List (List ZoneBounds)) (tree : PatternTree)
+    (trace rest : List Segment) (i : ℕ) → length blocks ≡ length trace → i < length trace
+    → IsBlock blocks tree trace i → IsBlock (blocks ++ more) tree (trace ++ rest) i
+IsBlock-append blocks more tree trace rest i count below block =
+    let blocks_front : take (suc i) (blocks ++ more) ≡ take (suc i) blocks =
+    take-append-le (suc i) blocks more (omega (arith, count, below)) in
+    let front : take (suc i) (trace ++ rest) ≡ take (suc i) trace =
+    take-append-le (suc i) trace rest (omega (arith, below)) in
+    let front_before : take i (trace ++ rest) ≡ take i trace =
+    take-append-le i trace rest (omega (arith, below)) in
+    let here : get_or (blocks ++ more) i [] ≡ get_or blocks i [] =
+    get_or_append_left blocks more [] i (omega (arith, count, below)) in
+    let before : block_before i (blocks ++ more) ≡ block_before i blocks =
+    block_before-append i blocks more (omega (arith, count, below)) in
+    record {
+      so_far = rw (blocks_front, front) block.so_far;
+      apart = rw here block.apart;
+      tight = rw here block.tight;
+      rising = rw here block.rising;
+      within = rw (front_before, front, here) block.within;
+      new = rw (before, here) block.new;
+    }
+
+-- a transcript tells exactly the matches over its trace, where that has a segment
+exact_of : (blocks : List (List ZoneBounds)) (tree : PatternTree) (first : Segment)
+    (rest : List Segment) → IsTranscript blocks tree (first ∷ rest)
+    → HoldExactly (zones_of blocks) (Matches tree (quiet (first ∷ rest)))
+exact_of blocks tree first rest transcript =
+    let last = transcript.each (length rest) (omega arith) in
+    let all : take (suc (length rest)) blocks ≡ blocks = take-over (suc (length rest)) blocks
+    (omega (arith, transcript.count)) in
+    let trace : take (suc (length rest)) (first ∷ rest) ≡ first ∷ rest =
+    take-over (suc (length rest)) (first ∷ rest) (omega arith) in
+    rw (all, trace) at last.so_far
+
+-- with the block of one segment more they are exactly the matches over the trace with it
+exact_with : (blocks : List (List ZoneBounds)) (tree : PatternTree) (trace : List Segment)
+    (segment : Segment) (earlier told zones : List ZoneBounds)
+    → IsTranscript blocks tree trace → TellsNew tree trace segment earlier told
+    → IsPrinted told zones
+    → HoldExactly (zones_of (blocks ++ zones ∷ [])) (Matches tree (quiet (trace ++ segment ∷ [])))
+exact_with [] tree [] segment earlier told zones transcript tells printed = record {
+  exact = λ a b n positive rising.
+      let first = (tells.first refl).exact a b n positive rising in
+      let held = printed.held a b n in
+      rw (append-nil zones) ((λ h. first.0 (held.0 h)), (λ h. held.1 (first.1 h)));
+}
+exact_with (block ∷ blocks) tree [] segment earlier told zones transcript tells printed =
+    absurd (omega (arith, transcript.count))
+exact_with blocks tree (first ∷ rest) segment earlier told zones transcript tells printed = record {
+  exact = λ a b n positive rising.
+      let so_far = (exact_of blocks tree first rest transcript).exact a b n positive rising in
+      let now = tells.all a b n positive rising in
+      let held = printed.held a b n in
+      let parts = SetHolds-append (zones_of blocks) zones a b n in
+      rw (zones_of-more blocks zones) (
+        (λ h. ⊎_elim (λ x. now.0 (inr (so_far.0 x))) (λ x. now.0 (inl (held.0 x))) (parts.0 h)),
+        (λ h. ⊎_elim (λ x. parts.1 (inr (held.1 x))) (λ x. parts.1 (inl (so_far.1 x)))
+            (now.1 h)),
+      );
+}
+
+-- what was told ends within its segment
+ends_within : (tree : PatternTree) (trace : List Segment) (segment : Segment)
+    (earlier told zones : List ZoneBounds) → TellsNew tree trace segment earlier told
+    → IsPrinted told zones
+    → EndBetween (end_of 0 trace) (end_of 0 (trace ++ segment ∷ [])) zones
+ends_within tree trace segment earlier told zones tells printed = record {
+  ends = λ a b n positive rising held.
+      let was_told = (printed.held a b n).0 held in (
+        tells.late a b n positive rising was_told,
+        (IsBounded-rest tree (whole (quiet (trace ++ segment ∷ [])))).end a b n
+            ((tells.all a b n positive rising).0 (inl was_told)),
+      );
+}
+
+any_in : (P : ZoneBounds → Type 0) (zones others : List ZoneBounds) → IsPermutation zones others
+    → Any P zones → Any P others
+any_in P zones others order any =
+    let place = Contains-permutation zones others any.1 order (any.0, any.2, any.3) in
+    (place.0, any.1, place.1, place.2, any.4)
+
+-- no zone of the block is in one that was told before
+none_again : (earlier told zones block : List ZoneBounds)
+    → ((zone : ZoneBounds) → Contains told zone → WasTold earlier zone → ⊥)
+    → IsPrinted told zones → IsPermutation earlier block → NoneIsIn block zones
+none_again earlier told zones block new printed order = λ zone member any.
+    new zone
+    (Contains-permutation zones told zone (IsPermutation-sym told zones printed.same) member)
+    (record {
+      included = any_in (λ other. Includes other zone) block earlier
+          (IsPermutation-sym earlier block order) any;
+    })
+
+-- the block of the segment behind the trace
+IsBlock-last : (blocks : List (List ZoneBounds)) (tree : PatternTree) (trace : List Segment)
+    (segment : Segment) (earlier told zones : List ZoneBounds)
+    → IsTranscript blocks tree trace → TellsNew tree trace segment earlier told
+    → IsPrinted told zones → IsPermutation earlier (block_before (length blocks) blocks)
+    → IsBlock (blocks ++ zones ∷ []) tree (trace ++ segment ∷ []) (length trace)
+IsBlock-last blocks tree trace segment earlier told zones transcript tells printed order =
+    let all_blocks : take (suc (length trace)) (blocks ++ zones ∷ []) ≡ blocks ++ zones ∷ [] =
+    take-over (suc (length trace)) (blocks ++ zones ∷ [])
+    (omega (arith, transcript.count, length-append blocks (zones ∷ []))) in
+    let all : take (suc (length trace)) (trace ++ segment ∷ []) ≡ trace ++ segment ∷ [] =
+    take-over (suc (length trace)) (trace ++ segment ∷ [])
+    (omega (arith, length-append trace (segment ∷ []))) in
+    let front : take (length trace) (trace ++ segment ∷ []) ≡ trace =
+    take-append_seam trace (segment ∷ []) in
+    let here : get_or (blocks ++ zones ∷ []) (length trace) [] ≡ zones =
+    rw (sym transcript.count) (get_or-append_seam blocks zones [] []) in
+    let before : block_before (length trace) (blocks ++ zones ∷ [])
+    ≡ block_before (length blocks) blocks =
+    rw (sym transcript.count) (block_before-append (length blocks) blocks (zones ∷ [])
+    (omega arith)) in
+    record {
+      so_far = rw (all_blocks, all)
+          (exact_with blocks tree trace segment earlier told zones transcript tells printed);
+      apart = rw here printed.apart;
+      tight = rw here printed.tight;
+      rising = rw here printed.rising;
+      within = rw (front, all, here)
+          (ends_within tree trace segment earlier told zones tells printed);
+      new = rw (before, here)
+          (none_again earlier told zones _ tells.new printed order);
+    }
+
+last_or_before : (i count : ℕ) → i < suc count → (i < count) ⊎ (i ≡ count)
+last_or_before zero zero below = inr refl
+last_or_before zero (suc count) below = inl (omega arith)
+last_or_before (suc i) zero below = absurd (omega (arith, below))
+last_or_before (suc i) (suc count) below =
+    ⊎_elim (λ less. inl (omega (arith, less))) (λ same. inr (ap suc same))
+    (last_or_before i count (omega (arith, below)))
+
+pub IsTranscript-more : (blocks : List (List ZoneBounds)) (tree : PatternTree)
+    (trace : List Segment) (segment : Segment) (earlier told zones : List ZoneBounds)
+    → IsTranscript blocks tree trace → TellsNew tree trace segment earlier told
+    → IsPrinted told zones → IsPermutation earlier (block_before (length blocks) blocks)
+    → IsTranscript (blocks ++ zones ∷ []) tree (trace ++ segment ∷ [])
+IsTranscript-more blocks tree trace segment earlier told zones transcript tells printed order =
+    record {
+      count = omega (
+        arith,
+        transcript.count,
+        length-append blocks (zones ∷ []),
+        length-append trace (segment ∷ []),
+      );
+      each = λ i below.
+          let inside : i < suc (length trace) = omega
+          (arith, below, length-append trace (segment ∷ [])) in
+          ⊎_elim
+          (λ earlier_one. IsBlock-append blocks (zones ∷ []) tree trace (segment ∷ []) i
+          transcript.count earlier_one (transcript.each i earlier_one))
+          (λ last. rw last
+          (IsBlock-last blocks tree trace segment earlier told zones transcript tells printed
+          order))
+          (last_or_before i (length trace) inside);
+    }
+
+-- no block, of no segment
+pub IsTranscript-none : (tree : PatternTree) → IsTranscript [] tree []
+IsTranscript-none tree = record { count = refl; each = λ i below. absurd (omega (arith, below)) }
+
+-- no zone in another order
+none_of : (told zones : List ZoneBounds) → IsPermutation told zones → told ≡ [] → zones ≡ []
+none_of told [] same none = refl
+none_of told (zone ∷ zones) same none =
+    absurd (omega (arith, length_permutation told (zone ∷ zones) same, ap length none))
+
+-- all that was told with the end is exactly the matches over the trace, where events happen there
+all_with : (blocks : List (List ZoneBounds)) (tree : PatternTree) (segments : List Segment)
+    (events : ℕ) (earlier told zones : List ZoneBounds) → events ≢ 0
+    → IsTranscript blocks tree segments → TellsLast tree segments events earlier told
+    → IsPrinted told zones
+    → HoldExactly (zones_of blocks ++ zones) (Matches tree (timeline_of segments events))
+all_with [] tree [] events earlier told zones happens transcript tells printed = record {
+  exact = λ a b n positive rising.
+      let first = (tells.first refl happens).exact a b n positive rising in
+      let held = printed.held a b n in
+      ((λ h. first.0 (held.0 h)), (λ h. held.1 (first.1 h)));
+}
+all_with (block ∷ blocks) tree [] events earlier told zones happens transcript tells printed =
+    absurd (omega (arith, transcript.count))
+all_with blocks tree (first ∷ rest) events earlier told zones happens transcript tells printed =
+    record {
+      exact = λ a b n positive rising.
+          let so_far = (exact_of blocks tree first rest transcript).exact a b n positive rising in
+          let now = tells.all a b n positive rising in
+          let held = printed.held a b n in
+          let parts = SetHolds-append (zones_of blocks) zones a b n in (
+            (λ h. ⊎_elim (λ x. now.0 (inr (so_far.0 x))) (λ x. now.0 (inl (held.0 x)))
+                (parts.0 h)),
+            (λ h. ⊎_elim (λ x. parts.1 (inr (held.1 x))) (λ x. parts.1 (inl (so_far.1 x)))
+                (now.1 h)),
+          );
+    }
+
+-- what the end completes closes the blocks of a trace
+pub IsClosing-told : (blocks : List (List ZoneBounds)) (tree : PatternTree)
+    (segments : List Segment) (events : ℕ) (earlier told zones : List ZoneBounds)
+    → IsTranscript blocks tree segments → TellsLast tree segments events earlier told
+    → IsPrinted told zones → IsPermutation earlier (block_before (length blocks) blocks)
+    → IsClosing blocks zones tree (timeline_of segments events)
+IsClosing-told blocks tree segments events earlier told zones transcript tells printed order =
+    record {
+      none = λ silent. none_of told zones printed.same (tells.none silent);
+      all = λ happens. all_with blocks tree segments events earlier told zones happens transcript
+          tells printed;
+      apart = printed.apart;
+      tight = printed.tight;
+      rising = printed.rising;
+      at_end = record {
+        ends = λ a b n positive rising held.
+            let there = tells.ends a b n positive rising ((printed.held a b n).0 held) in
+            (omega (arith, there), omega (arith, there));
+      };
+      new = none_again earlier told zones _ tells.new printed order;
+    }

@@ -1,0 +1,13 @@
+-- What a reader must believe: what is looked for and over which readings, what is told of it, what
+-- stands in the output, and how that ends.
+pub mod Sought
+pub mod Watched
+pub mod Transcript
+pub mod Blocks
+pub mod Outputs
+pub mod Standing
+pub mod Ends
+pub mod Faults
+-- What the functions inside promise each other.
+pub mod Printed
+pub mod Telling

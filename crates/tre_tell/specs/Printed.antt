@@ -1,0 +1,40 @@
+-- Zones as they are printed, and the texts of what is told of several patterns at once.
+use Rattle.std.specs.Prelude.{◌≡◌, ◌↔◌, ℕ, List, [], ◌∷◌, ◌++◌, codes, IsPermutation}
+use Rattle.std.specs.List.{AllZip}
+use Rattle.tre_decimal.specs.Decimal.{number_text}
+use Rattle.tre_show.specs.Order.{IsRising}
+use Rattle.tre_zone.specs.ZoneList.{SetHolds, IsApart, AreTight}
+use Rattle.tre_zone.specs.declared.zone_bounds.ZoneBounds.{ZoneBounds}
+use Rattle.tre_tell.specs.Blocks.{lines_with}
+
+-- The zones that were told, in the order in which they are printed.
+pub record IsPrinted (told zones : List ZoneBounds) : Type 0 where
+  pub same : IsPermutation told zones
+  pub held : (a b n : ℕ) → SetHolds zones a b n ↔ SetHolds told a b n
+  pub apart : IsApart zones
+  pub tight : AreTight zones
+  pub rising : IsRising zones
+
+-- the lines of lists of zones, those of each behind the label at its place
+abbrev pub lines_behind : ℕ → List (List ℕ) → List (List ZoneBounds) → List ℕ
+lines_behind scale (label ∷ labels) (zones ∷ lists) =
+    lines_with scale label zones ++ lines_behind scale labels lists
+lines_behind scale labels lists = []
+
+-- the line of a time behind a word
+abbrev pub time_line : ℕ → List ℕ → ℕ → List ℕ
+time_line scale word time = word ++ number_text scale time ++ codes "\n"
+
+-- Behind the old text stand the lines of what was told of each pattern.
+pub record AreLinesPut (scale : ℕ) (labels : List (List ℕ)) (told : List (List ZoneBounds))
+    (old new : List ℕ) : Type 0 where
+  pub printed : List (List ZoneBounds)
+  pub are : AllZip IsPrinted told printed
+  pub text : new ≡ old ++ lines_behind scale labels printed
+
+-- The text is the lines of what was told of each pattern, and then the line of a time.
+pub record IsTextOf (scale : ℕ) (labels : List (List ℕ)) (told : List (List ZoneBounds))
+    (line text : List ℕ) : Type 0 where
+  pub printed : List (List ZoneBounds)
+  pub are : AllZip IsPrinted told printed
+  pub is_text : text ≡ lines_behind scale labels printed ++ line

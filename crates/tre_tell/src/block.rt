@@ -1,0 +1,105 @@
+// The block of a column, and what stands behind all blocks, given to the output as one text each.
+ghost use Rattle.std.specs.Prelude.{◌≡◌, ◌≤◌, ℕ, List, Option, IfOk, IfErr, OnOk, length, map, string_bytes};
+ghost use Rattle.tre_decimal.specs.declared.TheConstants.{SCALE_MAX};
+ghost use Rattle.tre_online.specs.Watch.{trees_of, ended_of_each, sets_of, Watches, pushed_each, TellEach};
+ghost use Rattle.tre_tell.specs.Sought.{Sought};
+ghost use Rattle.tre_tell.specs.Telling.{timelines, CanTell, HasRows, HasTold, StopsAtColumn, HasWriteCause, HasClosed, StopsAtEnd};
+ghost use Rattle.tre_trace.specs.declared.segment.Segment.{Segment};
+
+use crate::fault::TellFault;
+use crate::output::write_text;
+use crate::text::write_sets;
+use tre_io::Sink;
+use tre_online::{Told, Watch};
+use tre_trace::{PushFault, Segment};
+
+// The end of a telling at the refusal of segments that fit.
+fn want_of_memory(fault: PushFault) -> TellFault
+    requires { fault ≡ PushFault.Memory }
+    ensures { result ≡ TellFault.Memory }
+{
+    match fault {
+        PushFault::Memory => TellFault::Memory,
+        PushFault::Zero | PushFault::TooLate { .. } => unreachable!(),
+    }
+}
+
+// What the watch tells of the next column, which only want of memory can refuse.
+fn told_of(column: &[Segment], watch: Watch) -> Result<(Watch, Told), TellFault>
+    requires { CanTell watch column.now }
+    ensures stands { (rows : List (List Segment)) → Watches watch rows →
+        IfOk result (λ both. Watches both.0 (pushed_each rows column.now)) }
+    ensures tells { (rows : List (List Segment)) → Watches watch rows →
+        IfOk result (λ both. TellEach (trees_of watch) rows column.now (ended_of_each watch)
+        (sets_of both.1)) }
+    ensures ended { IfOk result (λ both. ended_of_each both.0 ≡ sets_of both.1) }
+    ensures trees { IfOk result (λ both. trees_of both.0 ≡ trees_of watch) }
+    ensures failed { IfErr result (λ fault. fault ≡ TellFault.Memory) }
+{
+    match watch.segment(column) {
+        Ok(both) => Ok(both),
+        Err(fault) => Err(want_of_memory(fault)),
+    }
+}
+
+/// Gives the column to the watch, and writes its block. The text is room to make it in.
+pub fn tell_block<O: Sink>(
+    column: &[Segment],
+    labels: &[String],
+    scale: u8,
+    watch: Watch,
+    text: &mut String,
+    out: &mut O,
+) -> Result<Watch, TellFault>
+    requires comes { CanTell watch column.now }
+    requires labels { length labels.now ≡ length (trees_of watch) }
+    requires scale { scale ≤ SCALE_MAX }
+    ensures stands { (rows : List (List Segment)) → Watches watch rows →
+        IfOk result (λ then. Watches then (pushed_each rows column.now)) }
+    ensures trees { IfOk result (λ then. trees_of then ≡ trees_of watch) }
+    ensures told { (patterns : List Sought) (rows : List (List Segment)) (before : Option (List ℕ)) →
+        HasTold watch (map string_bytes labels.now) scale patterns rows before (O.written out.old) →
+        IfOk result (λ then. HasTold then (map string_bytes labels.now) scale patterns
+        (pushed_each rows column.now) before (O.written out.new)) }
+    ensures stops { (patterns : List Sought) (rows : List (List Segment))
+        (before : Option (List ℕ)) →
+        HasTold watch (map string_bytes labels.now) scale patterns rows before (O.written out.old) →
+        IfErr result (StopsAtColumn scale patterns rows column.now before (O.written out.new)) }
+    ensures cause { HasWriteCause (O.faults out.old) (O.faults out.new) result }
+{
+    let (watch, told) = told_of(column, watch)?;
+    write_sets(labels, told.into_sets(), "at ", watch.at(), scale, text)?;
+    write_text(text.as_str(), out)?;
+    Ok(watch)
+}
+
+/// Writes what the ends of the traces complete, and then where they are, as one text.
+pub fn tell_end<O: Sink>(
+    lasts: &[u64],
+    labels: &[String],
+    scale: u8,
+    watch: Watch,
+    text: &mut String,
+    out: &mut O,
+) -> Result<(), TellFault>
+    requires reads { HasRows watch }
+    requires count { length lasts.now ≡ length (trees_of watch) }
+    requires labels { length labels.now ≡ length (trees_of watch) }
+    requires scale { scale ≤ SCALE_MAX }
+    ensures told { (patterns : List Sought) (rows : List (List Segment)) (before : Option (List ℕ)) →
+        HasTold watch (map string_bytes labels.now) scale patterns rows before (O.written out.old) →
+        OnOk result (HasClosed scale patterns rows (timelines rows lasts.now) before
+        (O.written out.new)) }
+    ensures stops { (patterns : List Sought) (rows : List (List Segment))
+        (before : Option (List ℕ)) →
+        HasTold watch (map string_bytes labels.now) scale patterns rows before (O.written out.old) →
+        IfErr result (StopsAtEnd scale patterns rows (timelines rows lasts.now) before
+        (O.written out.new)) }
+    ensures cause { HasWriteCause (O.faults out.old) (O.faults out.new) result }
+{
+    let end = watch.at();
+    let told = watch.close(lasts)?;
+    write_sets(labels, told.into_sets(), "end ", end, scale, text)?;
+    write_text(text.as_str(), out)?;
+    Ok(())
+}
