@@ -175,8 +175,9 @@ place-own names i distinct within =
 
 -- the places of the first names, with one more
 pub places-next : (all asked : List (List ℕ)) (places more : List ℕ) (i place : ℕ)
-    → i < length asked → ArePlaces (take i asked) all places → place_of all (get_or asked i []) ≡ Some place
-    → more ≡ places ++ place ∷ [] → ArePlaces (take (i + 1) asked) all more
+    → i < length asked → ArePlaces (take i asked) all places
+    → place_of all (get_or asked i []) ≡ Some place → more ≡ places ++ place ∷ []
+    → ArePlaces (take (i + 1) asked) all more
 places-next all asked places more i place within are is new =
     rw (take_more asked i [] within, new)
     (places-push all (take i asked) places (get_or asked i []) place are is)
