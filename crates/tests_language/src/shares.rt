@@ -66,6 +66,24 @@ fn text_of(alloc: Global, kind: NameKind, from: u8, count: u8) -> Result<String,
     Ok(text)
 }
 
+// How many names a pattern has, the values of a segment, and what the pattern alone sees of them.
+const ALONE: [(u8, u64, u64); 4] = [
+    (0, 0b1, 0),
+    (1, 0b11, 0b1),
+    (63, u64::MAX, u64::MAX >> 1),
+    (64, u64::MAX - 1, u64::MAX - 1),
+];
+
+#[test]
+fn a_pattern_alone_sees_its_names(rt: HostRuntime) -> Result<(), Fail> {
+    for (count, wide, want) in &ALONE {
+        let text = text_of(rt.alloc(), NameKind::Proposition, 0, *count)?;
+        let shares = shared(rt.alloc(), &[&text])?;
+        assert!(rt; sees(&shares, (*wide, 0), &[(*want, 0)]), "{count}");
+    }
+    Ok(())
+}
+
 // Of three patterns with names of one kind, the first and how many there are, and the group of
 // each. The last has the name of number 0.
 const GROUPS: [(NameKind, (u8, u8), (u8, u8), [usize; 3]); 6] = [
@@ -95,7 +113,10 @@ fn names_of_a_group_are_at_most_64(rt: HostRuntime) -> Result<(), Fail> {
         let one = text_of(alloc, *kind, first.0, first.1)?;
         let other = text_of(alloc, *kind, second.0, second.1)?;
         let last = text_of(alloc, *kind, 0, 1)?;
-        assert!(rt; are_in(alloc, &[&one, &other, &last], groups)?, "{first:?} {second:?}");
+        assert!(rt;
+            are_in(alloc, &[&one, &other, &last], groups)?,
+            "{first:?} {second:?}"
+        );
     }
     Ok(())
 }

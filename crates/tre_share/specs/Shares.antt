@@ -16,6 +16,10 @@ groups_of shares = shares.groups.items
 abbrev pub views_of : Shares → List View
 views_of shares = shares.views.items
 
+-- Which of the groups a view is of.
+abbrev pub group_of : View → ℕ
+group_of view = view.group
+
 -- The view shows what is read for all names as it is for the asked ones.
 pub record Shows (asked all : Vocabulary) (view : View) : Type 0 where
   pub among : AreAmong asked all
@@ -26,7 +30,7 @@ pub record Shows (asked all : Vocabulary) (view : View) : Type 0 where
 -- The view is of one of the groups, and shows what is read for it as it is for the asked names.
 pub record IsViewOf (groups : List Vocabulary) (asked : Vocabulary) (view : View) : Type 0 where
   pub all : Vocabulary
-  pub group : slice_get groups view.group ≡ Some all
+  pub group : slice_get groups (group_of view) ≡ Some all
   pub shows : Shows asked all view
 
 -- No reader has room for both lists: whatever names these are among, they are too many.

@@ -14,11 +14,11 @@ pub struct View {
 }
 
 impl View {
-    ghost use Rattle.tre_share.specs.Shares.{Shows};
+    ghost use Rattle.tre_share.specs.Shares.{Shows, group_of};
 
     /// Which group it is, counted from 0.
     pub fn group(&self) -> usize
-        ensures { result ≡ self.now.group }
+        ensures { result ≡ group_of self.now }
     {
         self.group
     }
