@@ -1,5 +1,5 @@
-//! Tests of the language of patterns: tre_decimal, tre_state, tre_syntax, tre_share, tre_parse,
-//! tre_watch and tre_show, by their public calls.
+//! Tests of the language of patterns: tre_decimal, tre_state, tre_syntax, tre_parse, tre_watch and
+//! tre_show, by their public calls.
 //!
 //! What the contracts of these crates say holds of every pattern. The tests say whether that is
 //! what was meant: names, the outcomes of texts, and printed texts are compared with what an
@@ -15,8 +15,6 @@ mod decimal;
 mod meaning;
 #[cfg(test)]
 mod parser;
-#[cfg(test)]
-mod shares;
 #[cfg(test)]
 mod states;
 #[cfg(test)]
