@@ -7,8 +7,8 @@ use Rattle.tre_trace.specs.Reading.{Reading}
 use Rattle.tre_trace.specs.Trace.{Timeline, IsTrace, quiet}
 use Rattle.tre_tell.specs.Sought.{Sought, sought_by}
 
--- The patterns, what bytes say for each of them where they are closed or not yet, how many bytes the
--- input may have, and the scale at which texts are written.
+-- The patterns, what bytes say for each of them where they are closed or not yet, how many bytes
+-- the input may have, and the scale at which texts are written.
 pub record Watched : Type 0 where
   pub patterns : List Sought
   pub readings : Bool → List ℕ → List Reading

@@ -57,7 +57,8 @@ pub fn tell_block<O: Sink>(
     ensures stands { (rows : List (List Segment)) → Watches watch rows →
         IfOk result (λ then. Watches then (pushed_each rows column.now)) }
     ensures trees { IfOk result (λ then. trees_of then ≡ trees_of watch) }
-    ensures told { (patterns : List Sought) (rows : List (List Segment)) (before : Option (List ℕ)) →
+    ensures told { (patterns : List Sought) (rows : List (List Segment))
+        (before : Option (List ℕ)) →
         HasTold watch (map string_bytes labels.now) scale patterns rows before (O.written out.old) →
         IfOk result (λ then. HasTold then (map string_bytes labels.now) scale patterns
         (pushed_each rows column.now) before (O.written out.new)) }
@@ -86,7 +87,8 @@ pub fn tell_end<O: Sink>(
     requires count { length lasts.now ≡ length (trees_of watch) }
     requires labels { length labels.now ≡ length (trees_of watch) }
     requires scale { scale ≤ SCALE_MAX }
-    ensures told { (patterns : List Sought) (rows : List (List Segment)) (before : Option (List ℕ)) →
+    ensures told { (patterns : List Sought) (rows : List (List Segment))
+        (before : Option (List ℕ)) →
         HasTold watch (map string_bytes labels.now) scale patterns rows before (O.written out.old) →
         OnOk result (HasClosed scale patterns rows (timelines rows lasts.now) before
         (O.written out.new)) }

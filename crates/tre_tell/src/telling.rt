@@ -38,8 +38,8 @@ impl Room {
     }
 }
 
-// Gives the segments that wait to the watch, column by column, and writes each block before the next
-// is taken.
+// Gives the segments that wait to the watch, column by column, and writes each block before the
+// next is taken.
 fn tell_blocks<R: TraceReader + Drop, O: Sink>(
     labels: &[String],
     scale: u8,
@@ -52,7 +52,8 @@ fn tell_blocks<R: TraceReader + Drop, O: Sink>(
     requires labels { length labels.now ≡ length (trees_of watch) }
     requires scale { scale ≤ SCALE_MAX }
     ensures trees { IfOk result (λ then. trees_of then ≡ trees_of watch) }
-    ensures told { (patterns : List Sought) (rows : List (List Segment)) (before : Option (List ℕ)) →
+    ensures told { (patterns : List Sought) (rows : List (List Segment))
+        (before : Option (List ℕ)) →
         HasTold watch (map string_bytes labels.now) scale patterns rows before (O.written out.old) →
         IfOk result (λ then. HasTold then (map string_bytes labels.now) scale patterns
         (joined rows (rows_of readers.now)) before (O.written out.new)) }

@@ -50,8 +50,8 @@ fn push_sets(
     Ok(())
 }
 
-/// Makes the text of sets of zones, one for each label, and of a time behind a word, in place of the
-/// text that was there.
+/// Makes the text of sets of zones, one for each label, and of a time behind a word, in place of
+/// the text that was there.
 pub fn write_sets(
     labels: &[String],
     sets: Vec<ZoneSet>,
