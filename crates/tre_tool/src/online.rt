@@ -28,17 +28,17 @@ use tre_words::Job;
 use tre_zone::Zone;
 use tre_zoneset::ZoneSet;
 
-// Puts the text of the block of a segment that ends at `at` in the place of what the buffer has.
-fn put_block(zones: &[Zone], at: u64, scale: u8, text: &mut String) -> Result<(), AllocError>
+// The text of the block of a segment that ends at `at`.
+fn block_text(alloc: Global, zones: &[Zone], at: u64, scale: u8) -> Result<String, AllocError>
     requires { scale ≤ SCALE_MAX }
-    ensures { OnOk result (string_bytes text.new ≡ block_text scale zones.now at) }
+    ensures { IfOk result (λ text. string_bytes text ≡ block_text scale zones.now at) }
 {
-    text.clear();
-    zone_lines(zones, scale, text)?;
+    let mut text = String::new(alloc);
+    zone_lines(zones, scale, &mut text)?;
     text.push_str("at ")?;
-    push_units(text, at, scale)?;
+    push_units(&mut text, at, scale)?;
     text.push_str("\n")?;
-    Ok(())
+    Ok(text)
 }
 
 // The end of a run at the refusal of a segment that fits.
@@ -71,12 +71,12 @@ fn told_of(segment: Segment, session: &mut Session) -> Result<ZoneSet, Status>
     }
 }
 
-// Gives the segment to the session, and writes its block. The buffer is for its text.
+// Gives the segment to the session, and writes its block.
 fn tell_block<O: Sink>(
+    alloc: Global,
     segment: Segment,
     scale: u8,
     session: &mut Session,
-    text: &mut String,
     out: &mut O,
 ) -> Result<(), Status>
     requires comes { CanTell session.old (segment ∷ []) }
@@ -94,17 +94,17 @@ fn tell_block<O: Sink>(
 {
     let told = told_of(segment, session)?;
     let zones = in_printed_order(told.into_zones());
-    put_block(&zones, session.at(), scale, text)?;
+    let text = block_text(alloc, &zones, session.at(), scale)?;
     write_text(text.as_str(), out)?;
     Ok(())
 }
 
 // Gives the segments to the session one by one, and writes each block before the next is taken.
 fn tell_blocks<O: Sink>(
+    alloc: Global,
     segments: &[Segment],
     scale: u8,
     session: &mut Session,
-    text: &mut String,
     out: &mut O,
 ) -> Result<(), Status>
     requires comes { CanTell session.old segments.now }
@@ -119,7 +119,7 @@ fn tell_blocks<O: Sink>(
     ensures cause { HasWriteCause (O.faults out.old) (O.faults out.new) result }
 {
     for segment in segments {
-        tell_block(*segment, scale, session, text, out)?;
+        tell_block(alloc, *segment, scale, session, out)?;
     }
     Ok(())
 }
@@ -177,10 +177,9 @@ fn tell_input<S: Source, R: TraceReader, O: Sink>(
     let kept = Kept::new(alloc, false);
     let mut feed = Feed::open(alloc, job.input.text(), job.max_bytes as usize, kept, input)?;
     let mut segments = Vec::new(alloc);
-    let mut text = String::new(alloc);
     loop {
         let fed = feed.next(reader, input, &mut segments);
-        tell_blocks(&segments, job.scale, &mut session, &mut text, out)?;
+        tell_blocks(alloc, &segments, job.scale, &mut session, out)?;
         segments.clear();
         if !fed? {
             break;

@@ -2,7 +2,6 @@ use Rattle.std.proofs.Common.{◌∙◌, ◌∷◌, [], false, None, Some, refl,
 use Rattle.std.proofs.lemmas.Result.{err_from_is_err_and}
 use Rattle.tre_syntax.specs.Pattern.{names_of}
 use Rattle.tre_vcd.specs.VcdReading.{vcd_reading}
-use Rattle.tre_tool.specs.Devices.{input_told, output_told}
 use Rattle.tre_tool.proofs.Answering.{EndsOver-early, dump_terms_of, dump_reads}
 use Rattle.tre_tool.proofs.Readings.{vcd_reading-nothing}
 use Rattle.tre_tool.proofs.answer.answer_dump.Goals as goal
@@ -10,12 +9,8 @@ use Rattle.tre_tool.proofs.answer.answer_dump.Goals as goal
 pub returns-in_err-reader-in-None-clause-ends : goal.returns-in_err-reader-in-None-clause-ends
 returns-in_err-reader-in-None-clause-ends g c =
     let p = err_from_is_err_and c.from_residual.result c.from_residual.ensures.1 in
-    let input = input_told g.S.Source.file_name g.S.Source.file g.S.Source.sound
-    g.S.Source.opened g.S.Source.left g.S.Source.found g.S.Source.faults c.args.input.now
-    c.args.input.now in
-    let output = output_told g.O.Sink.written g.O.Sink.faults c.args.out.now c.args.out.now in
     rw (p.1, p.2) (EndsOver-early c.args.job.now c.args.asked.definitions.items
-    c.args.asked.pattern c.args.asked.taken input output c.requires.job c.requires.taken
+    c.args.asked.pattern c.args.asked.taken _ _ c.requires.job c.requires.taken
     c.requires.closed refl (record { unwritten = refl; writes = refl }))
 
 pub answer_by-requires-clause-fresh : goal.answer_by-requires-clause-fresh
@@ -30,42 +25,32 @@ pub returns-in_err-answer_by-in-None-clause-ends : goal.returns-in_err-answer_by
 returns-in_err-answer_by-in-None-clause-ends g c =
     let p = err_from_is_err_and c.from_residual-in_err-answer_by-in-None.result
     c.from_residual-in_err-answer_by-in-None.ensures.1 in
-    let reads = dump_reads c.args.job.now c.args.asked.definitions.items
-    c.args.asked.pattern None c.args.asked.pattern _ c.requires.format
-    c.in_ok-reader-in-None.ensures.terms in
     rw (p.1, p.2, c.in-None.is) (c.in_err-answer_by-in-None.ensures.ends
-    c.args.asked.definitions.items reads tt)
+    c.args.asked.definitions.items (dump_reads c.args.job.now c.args.asked.definitions.items
+    c.args.asked.pattern None c.args.asked.pattern _ c.requires.format
+    c.in_ok-reader-in-None.ensures.terms) tt)
 
 pub returns-in-None-clause-ends : goal.returns-in-None-clause-ends
 returns-in-None-clause-ends g c =
-    let reads = dump_reads c.args.job.now c.args.asked.definitions.items
-    c.args.asked.pattern None c.args.asked.pattern _ c.requires.format
-    c.in_ok-reader-in-None.ensures.terms in
     rw c.in-None.is (c.in_ok-answer_by-in-None.ensures.ends
-    c.args.asked.definitions.items reads tt)
+    c.args.asked.definitions.items (dump_reads c.args.job.now c.args.asked.definitions.items
+    c.args.asked.pattern None c.args.asked.pattern _ c.requires.format
+    c.in_ok-reader-in-None.ensures.terms) tt)
 
 pub returns-in_err-reader-in-Some-clause-ends : goal.returns-in_err-reader-in-Some-clause-ends
 returns-in_err-reader-in-Some-clause-ends g c =
     let p = err_from_is_err_and c.from_residual-in_err-reader-in-Some.result
     c.from_residual-in_err-reader-in-Some.ensures.1 in
-    let input = input_told g.S.Source.file_name g.S.Source.file g.S.Source.sound
-    g.S.Source.opened g.S.Source.left g.S.Source.found g.S.Source.faults c.args.input.now
-    c.args.input.now in
-    let output = output_told g.O.Sink.written g.O.Sink.faults c.args.out.now c.args.out.now in
     rw (p.1, p.2) (EndsOver-early c.args.job.now c.args.asked.definitions.items
-    c.args.asked.pattern c.args.asked.taken input output c.requires.job c.requires.taken
+    c.args.asked.pattern c.args.asked.taken _ _ c.requires.job c.requires.taken
     c.requires.closed refl (record { unwritten = refl; writes = refl }))
 
 pub returns-in_err-second-in-Some-clause-ends : goal.returns-in_err-second-in-Some-clause-ends
 returns-in_err-second-in-Some-clause-ends g c =
     let p = err_from_is_err_and c.from_residual-in_err-second-in-Some.result
     c.from_residual-in_err-second-in-Some.ensures.1 in
-    let input = input_told g.S.Source.file_name g.S.Source.file g.S.Source.sound
-    g.S.Source.opened g.S.Source.left g.S.Source.found g.S.Source.faults c.args.input.now
-    c.args.input.now in
-    let output = output_told g.O.Sink.written g.O.Sink.faults c.args.out.now c.args.out.now in
     rw (p.1, p.2) (EndsOver-early c.args.job.now c.args.asked.definitions.items
-    c.args.asked.pattern c.args.asked.taken input output c.requires.job c.requires.taken
+    c.args.asked.pattern c.args.asked.taken _ _ c.requires.job c.requires.taken
     c.requires.closed refl (record { unwritten = refl; writes = refl }))
 
 pub answer_by-requires-in-Some-clause-taken : goal.answer_by-requires-in-Some-clause-taken
@@ -95,22 +80,20 @@ pub returns-in_err-answer_by-in-Some-clause-ends : goal.returns-in_err-answer_by
 returns-in_err-answer_by-in-Some-clause-ends g c =
     let p = err_from_is_err_and c.from_residual-in_err-answer_by-in-Some.result
     c.from_residual-in_err-answer_by-in-Some.ensures.1 in
-    let one = dump_reads c.args.job.now c.args.asked.definitions.items
-    c.args.asked.pattern (Some c.in-Some.other) c.args.asked.pattern _ c.requires.format
-    c.in_ok-reader-in-Some.ensures.terms in
-    let other = dump_reads c.args.job.now c.args.asked.definitions.items
-    c.args.asked.pattern (Some c.in-Some.other) c.in-Some.other _ c.requires.format
-    c.in_ok-second-in-Some.ensures.terms in
     rw (p.1, p.2, c.in-Some.is) (c.in_err-answer_by-in-Some.ensures.ends
-    c.args.asked.definitions.items one other)
+    c.args.asked.definitions.items (dump_reads c.args.job.now c.args.asked.definitions.items
+    c.args.asked.pattern (Some c.in-Some.other) c.args.asked.pattern _ c.requires.format
+    c.in_ok-reader-in-Some.ensures.terms) (dump_reads c.args.job.now
+    c.args.asked.definitions.items
+    c.args.asked.pattern (Some c.in-Some.other) c.in-Some.other _ c.requires.format
+    c.in_ok-second-in-Some.ensures.terms))
 
 pub returns-clause-ends : goal.returns-clause-ends
 returns-clause-ends g c =
-    let one = dump_reads c.args.job.now c.args.asked.definitions.items
-    c.args.asked.pattern (Some c.in-Some.other) c.args.asked.pattern _ c.requires.format
-    c.in_ok-reader-in-Some.ensures.terms in
-    let other = dump_reads c.args.job.now c.args.asked.definitions.items
-    c.args.asked.pattern (Some c.in-Some.other) c.in-Some.other _ c.requires.format
-    c.in_ok-second-in-Some.ensures.terms in
     rw c.in-Some.is (c.in_ok-answer_by-in-Some.ensures.ends
-    c.args.asked.definitions.items one other)
+    c.args.asked.definitions.items (dump_reads c.args.job.now c.args.asked.definitions.items
+    c.args.asked.pattern (Some c.in-Some.other) c.args.asked.pattern _ c.requires.format
+    c.in_ok-reader-in-Some.ensures.terms) (dump_reads c.args.job.now
+    c.args.asked.definitions.items
+    c.args.asked.pattern (Some c.in-Some.other) c.in-Some.other _ c.requires.format
+    c.in_ok-second-in-Some.ensures.terms))

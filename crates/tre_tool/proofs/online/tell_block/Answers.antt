@@ -19,7 +19,7 @@ returns-in_err-write_text-clause-stops g c =
       tight = c.in_printed_order-zones.ensures.tight c.into_zones.ensures.set;
       rising = c.in_printed_order-zones.ensures.rising;
     })
-    (rw (c.as_str.ensures.value, c.in_ok-put_block.ensures, c.deref.ensures.value, c.at.ensures) at
+    (rw (c.as_str.ensures.value, c.in_ok-text.ensures, c.deref.ensures.value, c.at.ensures) at
     c.in_err-write_text.ensures.part))
 
 pub returns-clause-told : goal.returns-clause-told
@@ -37,5 +37,5 @@ returns-clause-told g c = λ tree segments before so_far. HasTold-more c.args.sc
       tight = c.in_printed_order-zones.ensures.tight c.into_zones.ensures.set;
       rising = c.in_printed_order-zones.ensures.rising;
     })
-    (rw (c.as_str.ensures.value, c.in_ok-put_block.ensures, c.deref.ensures.value, c.at.ensures) at
+    (rw (c.as_str.ensures.value, c.in_ok-text.ensures, c.deref.ensures.value, c.at.ensures) at
     c.in_ok-write_text.ensures.all)

@@ -1,6 +1,6 @@
 use Rattle.std.proofs.Common.{append_assoc}
 use Rattle.tre_tool.specs.Transcript.{block_text}
-use Rattle.tre_tool.proofs.online.put_block.Goals as goal
+use Rattle.tre_tool.proofs.online.block_text.Goals as goal
 
 pub returns : goal.returns
 unfolding block_text
@@ -10,5 +10,5 @@ returns c =
       c.in_ok-push_units.ensures,
       c.in_ok-push_str.ensures.bytes,
       c.in_ok-zone_lines.ensures,
-      c.clear.ensures.bytes,
+      c.new-text.ensures.bytes,
     ) (simp append_assoc)
