@@ -73,7 +73,11 @@ def main():
             print_rows(cell(pattern), [montre, "--normal", pattern], [montre, pattern], folder, sizes)
         pattern, size = MANY
         print_rows(cell(pattern), [montre, "--normal", pattern], [montre, pattern], folder, [size])
-        print("")
+        trace, output = write_trace(folder, size), os.path.join(folder, "output")
+        normal, plain = (measure([montre] + words + [pattern], trace, output).seconds
+                         for words in (["--normal"], []))
+        print("\n%s: %.1f ms of processor time, %s times without\n"
+              % (pattern, 1000 * normal, ratio(normal, plain)))
         print_head(["pattern less another", "segments", "zones", "zones left",
                     "millions of instructions", "times the first alone", "growth", "bytes", "MB"])
         for pattern, other in DIFFERENCES:
