@@ -1,4 +1,5 @@
-ghost use Rattle.std.specs.Prelude.{◌≡◌, ◌<◌, ◌↔◌, [], ◌∷◌, ◌++◌, length, map, slice_get, true, Some, IsTrue, IsSome, IsOk, IfOk, OnOk, OnErr};
+ghost use Rattle.std.specs.Prelude.{ℕ, ◌≡◌, ◌<◌, ◌↔◌, [], ◌∷◌, ◌++◌, length, map, slice_get, true, Some, IsTrue, IsSome, IsOk, IfOk, OnOk, OnErr};
+ghost use Rattle.std.specs.Int.{bit_at};
 ghost use Rattle.std.specs.String.{string_bytes};
 ghost use Rattle.std.specs.Option.{option_map};
 ghost use Rattle.tre_state.specs.Name.{IsName};
@@ -90,11 +91,27 @@ impl Names {
     }
 
     /// The number of the name that has these bytes, if it is held. They need not be text.
+    #[inline(always)]
     pub fn find_bytes(&self, bytes: &[u8]) -> Option<u8>
         ensures place { result ≡ place_of self.now bytes.now }
         ensures list { IsNameList self.now }
     {
-        let mut left = self.sieve.numbers(bytes);
+        let numbers = self.sieve.numbers(bytes);
+        if numbers == 0 {
+            return None;
+        }
+        self.find_among(numbers, bytes)
+    }
+
+    // The number of the name that has these bytes, which is among `numbers` if it is held. Not
+    // inlined: most words that are looked for are the value of a line, and no name's.
+    #[inline(never)]
+    fn find_among(&self, numbers: u64, bytes: &[u8]) -> Option<u8>
+        requires among { (k : ℕ) → slice_get self.now k ≡ Some bytes.now → bit_at numbers k ≡ 1 }
+        requires list { IsNameList self.now }
+        ensures { result ≡ place_of self.now bytes.now }
+    {
+        let mut left = numbers;
         while left != 0 {
             let number = lowest(left);
             if self.has_bytes(number, bytes) {

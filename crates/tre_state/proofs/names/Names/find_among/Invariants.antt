@@ -1,7 +1,7 @@
 use Rattle.std.proofs.Common.{◌≡◌, ℕ, Some}
 use Rattle.std.specs.Prelude.{slice_get}
 use Rattle.std.specs.Int.{bit_at}
-use Rattle.tre_state.proofs.names.Names.find_bytes.Given as goal
+use Rattle.tre_state.proofs.names.Names.find_among.Given as goal
 
 -- the name that has the bytes is among those that are left
 abbrev pub invariant-loop-left : goal.invariant-loop-left
