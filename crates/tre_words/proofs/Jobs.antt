@@ -7,7 +7,7 @@ use Rattle.clap.specs.Words.{Row, Text, first_of, matches_of}
 use Rattle.tre_decimal.specs.Decimal.{is_numeral}
 use Rattle.tre_decimal.specs.declared.TheConstants.{SCALE_MAX}
 use Rattle.tre_words.specs.CommandLine.{command_line}
-use Rattle.tre_words.specs.Job.{GivesFrom, GivesJob, GivesWatch, GivesWhere, HaveNoFault, IsBare, IsCount, IsJob, MayWatch, SaysJob, format_named, is_given, is_made_run, is_watch, made_count, made_job, mode_for, mode_in, number_written, watch_job}
+use Rattle.tre_words.specs.Job.{GivesFrom, GivesJob, GivesWatch, GivesWhere, HaveNoFault, IsCount, IsJob, MayWatch, SaysJob, format_named, is_given, is_made_run, is_watch, made_count, made_job, mode_for, mode_in, number_written, watch_job}
 use Rattle.tre_words.specs.declared.job.TheConstants.{COUNT_MAX, LIMIT_MAX}
 use Rattle.tre_words.specs.declared.job.Format.{Format}
 use Rattle.tre_words.specs.declared.job.Format.TheVariants.{Csv}
