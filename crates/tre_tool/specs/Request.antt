@@ -1,5 +1,7 @@
 -- What words ask for: a job, the patterns that it looks for, and the definitions of their names.
-use Rattle.std.specs.Prelude.{◌≡◌, ◌≢◌, ◌⊎◌, ℕ, List, [], ◌∷◌, map, Option, None, Some}
+-- `Gives` is the job that the words give, and `Says` what the file of checks comes to, which the
+-- words of a watch name.
+use Rattle.std.specs.Prelude.{◌≡◌, ◌≢◌, ◌⊎◌, ℕ, List, [], ◌∷◌, Option, None, Some}
 use Rattle.tre_generate.specs.FixedPattern.{fixed_tree, fixed_vocabulary}
 use Rattle.tre_num.specs.Defined.{Defined}
 use Rattle.tre_num.specs.Definitions.{Define, parts_of, IsRefused as IsRefusedAt}
@@ -8,28 +10,18 @@ use Rattle.tre_parse.specs.Outcome.{IsOutcome, spelt, refused}
 use Rattle.tre_parse.specs.declared.fault.ParseFault.{ParseFault}
 use Rattle.tre_parse.specs.declared.fault.ParseFault.TheVariants.{Memory as ParseMemory}
 use Rattle.tre_syntax.specs.PatternTree.{PatternTree}
+use Rattle.tre_tell.specs.Sought.{Sought}
 use Rattle.tre_trace.specs.Reading.{Vocabulary}
+use Rattle.tre_watch.specs.Outcome.{Outcome, faulty}
+use Rattle.tre_watch.specs.declared.fault.WatchFault.{WatchFault}
+use Rattle.tre_watch.specs.declared.fault.WatchFault.TheVariants.{Pattern, Memory as WatchMemory}
 use Rattle.tre_words.specs.declared.job.Job.{Job}
 use Rattle.tre_words.specs.declared.job.Mode.{Mode}
-use Rattle.tre_words.specs.declared.job.Mode.TheVariants.{Offline, Generate}
+use Rattle.tre_words.specs.declared.job.Mode.TheVariants.{Offline, Generate, Watch}
+use Rattle.tre_answer.specs.Request.{Request}
+use Rattle.tre_tool.specs.Checks.{SayPatterns}
 use Rattle.tre_tool.specs.declared.status.Status.{Status}
-use Rattle.tre_tool.specs.declared.status.Status.TheVariants.{Expression, Minus, Definitions}
-
--- A pattern that is looked for, and the label that stands before each line on it.
-pub record Sought : Type 0 where
-  pub label : List ℕ
-  pub tree : PatternTree
-  pub names : Vocabulary
-
--- A job, its patterns, and what the names of columns mean in them.
-pub record Request : Type 0 where
-  pub job : Job
-  pub patterns : List Sought
-  pub lets : List Defined
-
--- the names of each of the patterns
-abbrev pub all_names : List Sought → List Vocabulary
-all_names patterns = map (λ pattern. pattern.names) patterns
+use Rattle.tre_tool.specs.declared.status.Status.TheVariants.{Expression, Minus, Definitions, Watch as WatchStatus}
 
 -- a pattern without a label
 abbrev pub unlabelled : PatternTree → Vocabulary → Sought
@@ -53,11 +45,12 @@ abbrev pub texts_with : List ℕ → Option (List ℕ) → List (List ℕ)
 texts_with text None = text ∷ []
 texts_with text (Some taken) = text ∷ taken ∷ []
 
--- The patterns of a job in this mode: those of its texts. A made run has one of its own, whatever
--- the text is.
-abbrev pub ArePatterns : Mode → Job → List Sought → Type 0
-ArePatterns (Generate count) job patterns = patterns ≡ alone fixed_tree fixed_vocabulary
-ArePatterns mode job patterns = Spell job.scale (texts_with job.expr job.minus) patterns
+-- The patterns of a job in this mode: those of its texts, or of the file of checks that a watch
+-- names. A made run has one of its own, whatever the text is.
+abbrev pub ArePatterns : Mode → (ℕ → Outcome → Type 0) → Job → List Sought → Type 0
+ArePatterns (Generate count) Says job patterns = patterns ≡ alone fixed_tree fixed_vocabulary
+ArePatterns (Watch file) Says job patterns = SayPatterns Says job.scale patterns
+ArePatterns mode Says job patterns = Spell job.scale (texts_with job.expr job.minus) patterns
 
 -- A text of definitions is these, and where there is none there are none.
 abbrev pub AreDefinedBy : Option (List ℕ) → List Defined → Type 0
@@ -98,33 +91,55 @@ IsRefusalOf job (Minus fault) = IsRefusedMinus job fault
 IsRefusalOf job (Definitions fault) = AreRefusedDefinitions job fault
 IsRefusalOf job refusal = ⊥
 
--- A job in this mode is. Of a made run nothing is refused.
-abbrev pub IsRefusalIn : Mode → Job → Status → Type 0
-IsRefusalIn (Generate count) job refusal = ⊥
-IsRefusalIn mode job refusal = IsRefusalOf job refusal
+-- The fault carries no want of memory.
+abbrev pub CarriesNoMemory : WatchFault → Type 0
+CarriesNoMemory WatchMemory = ⊥
+CarriesNoMemory (Pattern line fault) = fault ≢ ParseMemory
+CarriesNoMemory fault = Unit {0}
 
--- The words give this job, and these are its patterns and definitions. `Gives` is what they give.
-pub record AsksFor (Gives : Job → Type 0) (request : Request) : Type 0 where
+-- A file of checks is refused with this fault.
+pub record IsRefusedFile (Says : ℕ → Outcome → Type 0) (scale : ℕ) (fault : WatchFault) : Type 0
+  where
+    pub refuses : Says scale (faulty fault)
+    pub never_memory : CarriesNoMemory fault
+
+-- A watch at this scale is refused so: its file of checks is.
+abbrev pub IsRefusalOfFile : (ℕ → Outcome → Type 0) → ℕ → Status → Type 0
+IsRefusalOfFile Says scale (WatchStatus fault) = IsRefusedFile Says scale fault
+IsRefusalOfFile Says scale refusal = ⊥
+
+-- A job in this mode is. Of a made run nothing is refused.
+abbrev pub IsRefusalIn : Mode → (ℕ → Outcome → Type 0) → Job → Status → Type 0
+IsRefusalIn (Generate count) Says job refusal = ⊥
+IsRefusalIn (Watch file) Says job refusal = IsRefusalOfFile Says job.scale refusal
+IsRefusalIn mode Says job refusal = IsRefusalOf job refusal
+
+-- The words give this job, and these are its patterns and definitions.
+pub record AsksFor (Gives : Job → Type 0) (Says : ℕ → Outcome → Type 0) (request : Request)
+    : Type 0 where
   pub gives : Gives request.job
-  pub patterns : ArePatterns request.job.mode request.job request.patterns
+  pub patterns : ArePatterns request.job.mode Says request.job request.patterns
   pub definitions : AreDefinitions request.job.mode request.job request.lets
 
 -- They ask for something of which this is true.
-pub record Asks (Gives : Job → Type 0) (IsSo : Request → Type 0) : Type 0 where
+pub record Asks (Gives : Job → Type 0) (Says : ℕ → Outcome → Type 0) (IsSo : Request → Type 0)
+    : Type 0 where
   pub request : Request
-  pub asks : AsksFor Gives request
+  pub asks : AsksFor Gives Says request
   pub is_so : IsSo request
 
 -- They give a job that is refused so.
-pub record IsRefused (Gives : Job → Type 0) (refusal : Status) : Type 0 where
+pub record IsRefused (Gives : Job → Type 0) (Says : ℕ → Outcome → Type 0) (refusal : Status)
+    : Type 0 where
   pub job : Job
   pub gives : Gives job
-  pub refuses : IsRefusalIn job.mode job refusal
+  pub refuses : IsRefusalIn job.mode Says job refusal
 
 -- They give no job.
 abbrev pub GiveNone : (Job → Type 0) → Type 0
 GiveNone Gives = (job : Job) → Gives job → ⊥
 
 -- They ask for nothing: they give no job, or one that is refused.
-abbrev pub AsksForNothing : (Job → Type 0) → Type 0
-AsksForNothing Gives = GiveNone Gives ⊎ ((refusal : Status) × IsRefused Gives refusal)
+abbrev pub AsksForNothing : (Job → Type 0) → (ℕ → Outcome → Type 0) → Type 0
+AsksForNothing Gives Says =
+    GiveNone Gives ⊎ ((refusal : Status) × IsRefused Gives Says refusal)

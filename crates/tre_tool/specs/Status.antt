@@ -7,10 +7,14 @@ use Rattle.tre_parse.specs.declared.fault.ParseFault.TheVariants.{TooLong, BadBy
 use Rattle.tre_num.specs.declared.let_fault.LetFault.{LetFault}
 use Rattle.tre_num.specs.declared.let_fault.LetFault.TheVariants.{BadLet, Twice, Memory as LetMemory}
 use Rattle.tre_trace.specs.declared.fault.TraceFault.{TraceFault}
+use Rattle.tre_answer.specs.declared.fault.AnswerFault.{AnswerFault}
+use Rattle.tre_answer.specs.declared.fault.AnswerFault.TheVariants.{Trace as AnswerTrace, TooLong as AnswerTooLong, TooManyZones as AnswerTooMany, Read as AnswerRead, Write as AnswerWrite, Memory as AnswerMemory}
+use Rattle.tre_watch.specs.declared.fault.WatchFault.{WatchFault}
+use Rattle.tre_watch.specs.declared.fault.WatchFault.TheVariants.{TooLarge as FileTooLarge, BadLine, TooMany, Twice as NameTwice, Pattern, Empty, Memory as WatchMemory}
 use Rattle.tre_words.specs.declared.job.WordsFault.{WordsFault}
 use Rattle.tre_words.specs.declared.job.WordsFault.TheVariants.{Usage as WordsUsage, Memory as WordsMemory}
 use Rattle.tre_tool.specs.declared.status.Status.{Status}
-use Rattle.tre_tool.specs.declared.status.Status.TheVariants.{Done, Usage, Expression, Minus, Definitions, Trace, InputTooLong, TooManyZones, ReadFault, WriteFault, Memory}
+use Rattle.tre_tool.specs.declared.status.Status.TheVariants.{Done, Usage, Expression, Minus, Definitions, Watch, Trace, InputTooLong, TooManyZones, ReadFault, WriteFault, Memory}
 
 -- how a run ends over words that give no job, or that memory was wanting to read
 abbrev pub words_status : WordsFault → Status
@@ -32,10 +36,19 @@ abbrev pub let_status : LetFault → Status
 let_status LetMemory = Memory
 let_status fault = Definitions fault
 
--- how a run ends over an input with a fault of this kind
-abbrev pub trace_status : TraceKind → TraceFault → Status
-trace_status KindMemory fault = Memory
-trace_status kind fault = Trace fault
+-- how it ends over a file of checks that is refused
+abbrev pub watch_status : WatchFault → Status
+watch_status WatchMemory = Memory
+watch_status fault = Watch fault
+
+-- how it ends where its answer does with this fault
+abbrev pub answer_status : AnswerFault → Status
+answer_status (AnswerTrace fault) = Trace fault
+answer_status AnswerTooLong = InputTooLong
+answer_status (AnswerTooMany zones) = TooManyZones zones
+answer_status AnswerRead = ReadFault
+answer_status AnswerWrite = WriteFault
+answer_status AnswerMemory = Memory
 
 -- the program's exit status
 abbrev pub code_of : Status → ℕ
@@ -50,6 +63,7 @@ code_of Memory = 8
 code_of (TooManyZones zones) = 9
 code_of (Minus fault) = 10
 code_of (Definitions fault) = 11
+code_of (Watch fault) = 12
 
 abbrev pub kind_name : TraceKind → List ℕ
 kind_name LineTooLong = codes "LineTooLong"
@@ -97,6 +111,17 @@ digits_of (Some n) = decimal n
 abbrev pub refusal_words : ParseFault → List ℕ
 refusal_words fault = fault_words fault ++ (digits_of (fault_number fault) ++ codes "\n")
 
+-- the words on a refused file of checks, up to the line's end
+abbrev pub watch_words : WatchFault → List ℕ
+watch_words FileTooLarge = codes "TooLarge\n"
+watch_words (BadLine line) = codes "BadLine at " ++ (decimal line ++ codes "\n")
+watch_words (TooMany line) = codes "TooMany at " ++ (decimal line ++ codes "\n")
+watch_words (NameTwice line) = codes "Twice at " ++ (decimal line ++ codes "\n")
+watch_words (Pattern line fault) =
+    codes "Pattern at " ++ (decimal line ++ (codes ": " ++ refusal_words fault))
+watch_words Empty = codes "Empty\n"
+watch_words WatchMemory = codes "Memory\n"
+
 -- what standard error is told
 abbrev pub error_line : Status → List ℕ
 error_line Done = []
@@ -108,6 +133,7 @@ error_line (Definitions (BadLet at)) =
 error_line (Definitions (Twice at)) =
     codes "montre: definitions: Twice at " ++ (decimal at ++ codes "\n")
 error_line (Definitions LetMemory) = codes "montre: definitions: Memory\n"
+error_line (Watch fault) = codes "montre: watch: " ++ watch_words fault
 error_line (Trace fault) =
     codes "montre: trace: " ++ kind_name fault.kind ++ codes " at " ++ decimal fault.place
     ++ codes "\n"

@@ -1,15 +1,27 @@
-// What a job asks for, as its texts say it.
-ghost use Rattle.std.specs.Prelude.{◌≡◌, ◌≢◌, ◌≤◌, ◌∷◌, [], List, None, IfOk, IfErr};
+// What a job asks for, as its texts or its file of checks say it.
+ghost use Rattle.std.specs.Prelude.{◌≡◌, ◌≢◌, ◌≤◌, ◌+◌, ◌∷◌, [], List, None, IfOk, IfErr, IfSome, IsTrue, OnOk, false, length, ℕ};
+ghost use Rattle.tre_answer.specs.Ends.{ReadsInput};
+ghost use Rattle.tre_answer.specs.Request.{FitsJob, sought_in};
 ghost use Rattle.tre_decimal.specs.declared.TheConstants.{SCALE_MAX};
-ghost use Rattle.tre_syntax.specs.declared.pattern.Pattern.{Pattern};
-ghost use Rattle.tre_tool.specs.Answer.{sought_by, patterns_with};
+ghost use Rattle.tre_feed.specs.Input.{AllReadsGood, TakesAtMost, input_told};
 ghost use Rattle.tre_generate.specs.FixedPattern.{fixed_tree, fixed_vocabulary};
-ghost use Rattle.tre_tool.specs.Request.{Sought, Spell, alone, texts_with, ArePatterns, AreDefinitions, IsRefusalOf, IsRefusalIn};
+ghost use Rattle.tre_syntax.specs.declared.pattern.Pattern.{Pattern};
+ghost use Rattle.tre_tell.specs.Sought.{Sought};
+ghost use Rattle.tre_tool.specs.Checks.{ChecksWereRead};
+ghost use Rattle.tre_tool.specs.Parts.{IsUnread, plain_sought, patterns_with};
+ghost use Rattle.tre_tool.specs.Request.{Spell, alone, texts_with, ArePatterns, AreDefinitions, IsRefusalOf, IsRefusalIn};
+ghost use Rattle.tre_tool.specs.Run.{ReadsChecks};
 ghost use Rattle.tre_tool.specs.Status.{minus_status};
+ghost use Rattle.tre_watch.specs.declared.reader.TheConstants.{FILE_MAX};
+ghost use Rattle.tre_words.specs.Job.{IsJob};
+ghost use Rattle.tre_words.specs.declared.job.Mode.TheVariants.{Watch};
 
+use crate::checks::asked_of_checks;
 use crate::status::Status;
-use std::alloc::Global;
+use std::alloc::{AllocError, Global};
+use tre_answer::Asked;
 use tre_generate::fixed_pattern;
+use tre_io::Source;
 use tre_num::{Definition, read_definitions};
 use tre_parse::{ParseFault, parse};
 use tre_syntax::Pattern;
@@ -17,11 +29,8 @@ use tre_words::{Job, Mode};
 
 /// What a job asks for.
 #[derive(Debug, Drop)]
-pub struct Asked {
-    /// The pattern that is looked for.
-    pub pattern: Pattern,
-    /// The pattern whose matches are taken away.
-    pub taken: Option<Pattern>,
+pub struct Question {
+    pub asked: Asked,
     /// What the names of columns mean.
     pub definitions: Vec<Definition>,
 }
@@ -40,7 +49,7 @@ fn minus_status(fault: ParseFault) -> Status
 fn taken_by(alloc: Global, job: &Job) -> Result<Option<Pattern>, Status>
     requires { job.now.scale ≤ SCALE_MAX }
     ensures spells { IfOk result (λ taken. (pattern : Pattern) →
-        Spell job.now.scale (job.now.expr ∷ []) (sought_by pattern ∷ []) →
+        Spell job.now.scale (job.now.expr ∷ []) (plain_sought pattern ∷ []) →
         Spell job.now.scale (texts_with job.now.expr job.now.minus)
         (patterns_with pattern taken)) }
     ensures none { IfOk result (λ taken. job.now.minus ≡ None → taken ≡ None) }
@@ -76,62 +85,119 @@ fn definitions_by(alloc: Global, job: &Job) -> Result<Vec<Definition>, Status>
     }
 }
 
+// A pattern without a label, and the one whose matches are taken away, if there is one.
+fn plainly_asked(
+    alloc: Global,
+    pattern: Pattern,
+    taken: Option<Pattern>,
+) -> Result<Asked, AllocError>
+    ensures sought { IfOk result (λ asked. sought_in asked ≡ patterns_with pattern taken) }
+    ensures labels { IfOk result (λ asked.
+        length asked.labels.items ≡ length asked.patterns.items) }
+    ensures some { IfOk result (λ asked. 1 ≤ length asked.patterns.items) }
+    ensures alone { taken ≡ None → IfOk result (λ asked. length asked.patterns.items ≡ 1) }
+{
+    let mut patterns = Vec::new(alloc);
+    let mut labels = Vec::new(alloc);
+    patterns.push(pattern)?;
+    labels.push(String::new(alloc))?;
+    if let Some(other) = taken {
+        patterns.push(other)?;
+        labels.push(String::new(alloc))?;
+    }
+    Ok(Asked { patterns, labels })
+}
+
 // What the texts of a job ask for.
-fn asked_by_texts(alloc: Global, job: &Job) -> Result<Asked, Status>
-    requires { job.now.scale ≤ SCALE_MAX }
-    ensures spells { IfOk result (λ asked. Spell job.now.scale
-        (texts_with job.now.expr job.now.minus) (patterns_with asked.pattern asked.taken)) }
-    ensures none { IfOk result (λ asked. job.now.minus ≡ None → asked.taken ≡ None) }
-    ensures defines { IfOk result (λ asked.
-        AreDefinitions job.now.mode job.now asked.definitions.items) }
+fn asked_by_texts(alloc: Global, job: &Job) -> Result<Question, Status>
+    requires job { IsJob job.now }
+    ensures spells { IfOk result (λ question. Spell job.now.scale
+        (texts_with job.now.expr job.now.minus) (sought_in question.asked)) }
+    ensures fits { IfOk result (λ question. FitsJob job.now question.asked) }
+    ensures alone { IfOk result (λ question. job.now.minus ≡ None →
+        length question.asked.patterns.items ≡ 1) }
+    ensures defines { IfOk result (λ question.
+        AreDefinitions job.now.mode job.now question.definitions.items) }
     ensures refuses { IfErr result (λ status. status ≢ Status.Memory →
         IsRefusalOf job.now status) }
+    ensures never_unread { IfErr result (λ status. status ≢ Status.ReadFault) }
 {
     let pattern = parse(alloc, job.expr.text(), job.scale)?;
     let taken = taken_by(alloc, job)?;
     let definitions = definitions_by(alloc, job)?;
-    Ok(Asked {
-        pattern,
-        taken,
-        definitions,
-    })
+    let asked = plainly_asked(alloc, pattern, taken)?;
+    Ok(Question { asked, definitions })
 }
 
 // A made run has a pattern of its own, and no definitions.
-fn asked_of_made_run(alloc: Global) -> Result<Asked, Status>
-    ensures pattern { IfOk result (λ asked. patterns_with asked.pattern asked.taken
+fn asked_of_made_run(alloc: Global) -> Result<Question, Status>
+    ensures pattern { IfOk result (λ question. sought_in question.asked
         ≡ alone fixed_tree fixed_vocabulary) }
-    ensures none { IfOk result (λ asked. asked.taken ≡ None) }
-    ensures definitions { IfOk result (λ asked. asked.definitions.items ≡ []) }
+    ensures labels { IfOk result (λ question. length question.asked.labels.items ≡ 1) }
+    ensures alone { IfOk result (λ question. length question.asked.patterns.items ≡ 1) }
+    ensures definitions { IfOk result (λ question. question.definitions.items ≡ []) }
     ensures failed { IfErr result (λ status. status ≡ Status.Memory) }
 {
     let pattern = fixed_pattern(alloc)?;
-    Ok(Asked {
-        pattern,
-        taken: None,
+    let asked = plainly_asked(alloc, pattern, None)?;
+    Ok(Question {
+        asked,
         definitions: Vec::new(alloc),
     })
 }
 
-/// What a job asks for: the first of its texts that is refused ends the run.
-pub fn asked_by(alloc: Global, job: &Job) -> Result<Asked, Status>
-    requires { job.now.scale ≤ SCALE_MAX }
-    ensures patterns { IfOk result (λ asked. ArePatterns job.now.mode job.now
-        (patterns_with asked.pattern asked.taken)) }
-    ensures none { IfOk result (λ asked. job.now.minus ≡ None → asked.taken ≡ None) }
-    ensures defines { IfOk result (λ asked.
-        AreDefinitions job.now.mode job.now asked.definitions.items) }
+/// What a job asks for: the first of its texts that is refused ends the run. A watch reads its file
+/// of checks from `checks`; no other job looks at that.
+pub fn asked_by<P: Source>(
+    alloc: Global,
+    job: &Job,
+    checks: &mut P,
+) -> Result<Question, Status>
+    requires closed { P.opened checks.old ≡ false }
+    requires job { IsJob job.now }
+    ensures patterns { IfOk result (λ question. ArePatterns job.now.mode (ChecksWereRead
+        (input_told P.file_name P.file P.sound P.opened P.left P.found P.faults checks.old
+        checks.new)) job.now (sought_in question.asked)) }
+    ensures fits { IfOk result (λ question. FitsJob job.now question.asked) }
+    ensures alone { IfOk result (λ question. (ReadsInput job.now.mode → ⊥) →
+        length question.asked.patterns.items ≡ 1) }
+    ensures defines { IfOk result (λ question.
+        AreDefinitions job.now.mode job.now question.definitions.items) }
+    ensures good { OnOk result (AllReadsGood
+        (input_told P.file_name P.file P.sound P.opened P.left P.found P.faults checks.old
+        checks.new)) }
+    ensures wanting { IfErr result (λ status. status ≢ Status.ReadFault → AllReadsGood
+        (input_told P.file_name P.file P.sound P.opened P.left P.found P.faults checks.old
+        checks.new)) }
     ensures refuses { IfErr result (λ status. status ≢ Status.Memory →
-        IsRefusalIn job.now.mode job.now status) }
+        status ≢ Status.ReadFault → IsRefusalIn job.now.mode (ChecksWereRead
+        (input_told P.file_name P.file P.sound P.opened P.left P.found P.faults checks.old
+        checks.new)) job.now status) }
+    ensures unread { IfErr result (λ status. status ≡ Status.ReadFault →
+        (file : List ℕ) × (job.now.mode ≡ Watch file) × IsUnread file
+        (input_told P.file_name P.file P.sound P.opened P.left P.found P.faults checks.old
+        checks.new)) }
+    ensures untouched { (ReadsChecks job.now.mode → ⊥) → checks.new ≡ checks.old }
+    ensures bounded { IsTrue (P.opened checks.new) →
+        TakesAtMost (FILE_MAX + 1) (P.file checks.old) (P.left checks.new) }
+    ensures by_name { IsTrue (P.opened checks.new) → (file : List ℕ) →
+        job.now.mode ≡ Watch file → IfSome (P.file_name checks.old) (λ told. told ≡ file) }
 {
-    match job.mode {
+    match &job.mode {
         Mode::Generate { .. } => {
-            let asked = asked_of_made_run(alloc)?;
-            Ok(asked)
+            let question = asked_of_made_run(alloc)?;
+            Ok(question)
+        }
+        Mode::Watch { file } => {
+            let asked = asked_of_checks(alloc, file.text(), job.scale, checks)?;
+            Ok(Question {
+                asked,
+                definitions: Vec::new(alloc),
+            })
         }
         _ => {
-            let asked = asked_by_texts(alloc, job)?;
-            Ok(asked)
+            let question = asked_by_texts(alloc, job)?;
+            Ok(question)
         }
     }
 }

@@ -2,7 +2,7 @@ ghost use Rattle.std.specs.Prelude.{◌≡◌, ◌++◌, codes, decimal, flat_ma
 ghost use Rattle.std.specs.Io.KnownBytes.{Appends};
 ghost use Rattle.tre_io.specs.Faults.{HasCause};
 ghost use Rattle.tre_io.specs.Written.{AppendsPart};
-ghost use Rattle.tre_tool.specs.Status.{kind_name, fault_words, fault_number, refusal_words, error_line};
+ghost use Rattle.tre_tool.specs.Status.{kind_name, fault_words, fault_number, refusal_words, watch_words, error_line};
 
 use crate::Status;
 use itoa::Buffer;
@@ -10,6 +10,7 @@ use tre_io::{Failed, Sink, put_all};
 use tre_num::LetFault;
 use tre_parse::ParseFault;
 use tre_trace::TraceKind;
+use tre_watch::WatchFault;
 
 fn kind_name(kind: TraceKind) -> &'static str
     ensures { result.now ≡ kind_name kind }
@@ -120,6 +121,47 @@ fn tell_number<E: Sink>(err: &mut E, front: &'static str, number: u64) -> Result
     put_pieces(err, &[front, digits, "\n"])
 }
 
+// Tells of a refused check, behind the number of its line.
+fn tell_check<E: Sink>(line: u64, fault: &ParseFault, err: &mut E) -> Result<(), Failed>
+    ensures line { OnOk result (Appends (E.written err.old) (E.written err.new)
+        (error_line (Status.Watch (WatchFault.Pattern line fault.now)))) }
+    ensures part { OnErr result (AppendsPart (E.written err.old) (E.written err.new)
+        (error_line (Status.Watch (WatchFault.Pattern line fault.now)))) }
+    ensures cause { HasCause (E.faults err.old) (E.faults err.new) result }
+{
+    let words = fault_words(fault);
+    let mut line_buffer = Buffer::new();
+    let place = line_buffer.format(line);
+    let front = "montre: watch: Pattern at ";
+    match fault_number(fault) {
+        None => put_pieces(err, &[front, place, ": ", words, "\n"]),
+        Some(number) => {
+            let mut buffer = Buffer::new();
+            let digits = buffer.format(number);
+            put_pieces(err, &[front, place, ": ", words, digits, "\n"])
+        }
+    }
+}
+
+// Tells of a refused file of checks.
+fn tell_watch<E: Sink>(fault: &WatchFault, err: &mut E) -> Result<(), Failed>
+    ensures line { OnOk result (Appends (E.written err.old) (E.written err.new)
+        (error_line (Status.Watch fault.now))) }
+    ensures part { OnErr result (AppendsPart (E.written err.old) (E.written err.new)
+        (error_line (Status.Watch fault.now))) }
+    ensures cause { HasCause (E.faults err.old) (E.faults err.new) result }
+{
+    match fault {
+        WatchFault::TooLarge => put_pieces(err, &["montre: watch: TooLarge\n"]),
+        WatchFault::BadLine { line } => tell_number(err, "montre: watch: BadLine at ", *line),
+        WatchFault::TooMany { line } => tell_number(err, "montre: watch: TooMany at ", *line),
+        WatchFault::Twice { line } => tell_number(err, "montre: watch: Twice at ", *line),
+        WatchFault::Pattern { line, fault } => tell_check(*line, fault, err),
+        WatchFault::Empty => put_pieces(err, &["montre: watch: Empty\n"]),
+        WatchFault::Memory => put_pieces(err, &["montre: watch: Memory\n"]),
+    }
+}
+
 /// Tells standard error how the run ended. It takes no memory: the line goes out piece by piece.
 ///
 /// At `Failed` a first part of the line was taken, which may be empty and isn't the whole.
@@ -136,6 +178,7 @@ pub fn tell_status<E: Sink>(status: &Status, err: &mut E) -> Result<(), Failed>
         Status::Expression(fault) => tell_fault("montre: expression: ", fault, err),
         Status::Minus(fault) => tell_fault("montre: minus expression: ", fault, err),
         Status::Definitions(fault) => tell_definitions(fault, err),
+        Status::Watch(fault) => tell_watch(fault, err),
         Status::Trace(fault) => {
             let mut buffer = Buffer::new();
             let place = buffer.format(fault.place);

@@ -1,10 +1,12 @@
 ghost use Rattle.std.specs.Prelude.{◌≡◌};
 
 use std::alloc::AllocError;
-use tre_io::Failed;
+use tre_answer::AnswerFault;
+use tre_feed::FeedFault;
 use tre_num::LetFault;
 use tre_parse::ParseFault;
-use tre_trace::{TraceFault, TraceKind};
+use tre_trace::TraceFault;
+use tre_watch::WatchFault;
 use tre_words::WordsFault;
 
 /// How a run ended.
@@ -20,13 +22,15 @@ pub enum Status {
     Minus(ParseFault),
     /// The definitions were refused.
     Definitions(LetFault),
+    /// The file of checks was refused.
+    Watch(WatchFault),
     /// The first fault of the input.
     Trace(TraceFault),
     /// The input has more bytes than it may have.
     InputTooLong,
     /// There are so many zones, which are more than there may be.
     TooManyZones { zones: u64 },
-    /// The input couldn't be opened or read.
+    /// The file of checks, or the input, couldn't be opened or read.
     ReadFault,
     /// The output couldn't be written.
     WriteFault,
@@ -53,6 +57,7 @@ impl Status {
             Status::TooManyZones { .. } => 9,
             Status::Minus(_) => 10,
             Status::Definitions(_) => 11,
+            Status::Watch(_) => 12,
         }
     }
 }
@@ -110,28 +115,51 @@ impl From<LetFault> for Status {
     }
 }
 
-/// A source that couldn't be opened or read. A failed write is told by `write_text`.
-impl From<Failed> for Status {
+impl From<WatchFault> for Status {
     ghost use Rattle.std.specs.Prelude.{◌≡◌};
-    ghost use Rattle.tre_tool.specs.declared.status.Status.TheVariants.{ReadFault};
+    ghost use Rattle.tre_tool.specs.Status.{watch_status};
 
-    ghost from_gives = { λ _ status. status ≡ ReadFault };
+    ghost from_gives = { λ fault status. status ≡ watch_status fault };
 
-    fn from(_: Failed) -> Self {
-        Status::ReadFault
+    fn from(fault: WatchFault) -> Self {
+        match fault {
+            WatchFault::Memory => Status::Memory,
+            _ => Status::Watch(fault),
+        }
     }
 }
 
-impl From<TraceFault> for Status {
+/// A file that couldn't be read whole.
+impl From<FeedFault> for Status {
     ghost use Rattle.std.specs.Prelude.{◌≡◌};
-    ghost use Rattle.tre_tool.specs.Status.{trace_status};
+    ghost use Rattle.tre_tool.specs.Parts.{feed_status};
 
-    ghost from_gives = { λ fault status. status ≡ trace_status fault.kind fault };
+    ghost from_gives = { λ fault status. status ≡ feed_status fault };
 
-    fn from(fault: TraceFault) -> Self {
-        match fault.kind {
-            TraceKind::Memory => Status::Memory,
-            _ => Status::Trace(fault),
+    fn from(fault: FeedFault) -> Self {
+        match fault {
+            FeedFault::Trace(fault) => Status::Trace(fault),
+            FeedFault::TooLong => Status::InputTooLong,
+            FeedFault::Read => Status::ReadFault,
+            FeedFault::Memory => Status::Memory,
+        }
+    }
+}
+
+impl From<AnswerFault> for Status {
+    ghost use Rattle.std.specs.Prelude.{◌≡◌};
+    ghost use Rattle.tre_tool.specs.Status.{answer_status};
+
+    ghost from_gives = { λ fault status. status ≡ answer_status fault };
+
+    fn from(fault: AnswerFault) -> Self {
+        match fault {
+            AnswerFault::Trace(fault) => Status::Trace(fault),
+            AnswerFault::TooLong => Status::InputTooLong,
+            AnswerFault::TooManyZones { zones } => Status::TooManyZones { zones },
+            AnswerFault::Read => Status::ReadFault,
+            AnswerFault::Write => Status::WriteFault,
+            AnswerFault::Memory => Status::Memory,
         }
     }
 }

@@ -1,51 +1,68 @@
-ghost use Rattle.std.specs.Prelude.{◌≡◌, ◌≢◌, ◌+◌, ℕ, IsTrue, IfSome, false, map, string_bytes};
+ghost use Rattle.std.specs.Prelude.{◌≡◌, ◌≢◌, ◌+◌, ℕ, IsTrue, IfSome, List, false, map, string_bytes};
 ghost use Rattle.std.specs.Io.KnownBytes.{Appends};
+ghost use Rattle.tre_answer.specs.Ends.{ReadsInput};
+ghost use Rattle.tre_feed.specs.Input.{InputTold, TakesAtMost, input_told};
 ghost use Rattle.tre_io.specs.Faults.{Rises};
-ghost use Rattle.tre_tool.specs.Answer.{status_of};
-ghost use Rattle.tre_tool.specs.Input.{TakesAtMost};
-ghost use Rattle.tre_tool.specs.Devices.{input_told, output_told};
+ghost use Rattle.tre_tell.specs.Outputs.{output_told};
+ghost use Rattle.tre_tool.specs.Checks.{ChecksAreTold};
+ghost use Rattle.tre_tool.specs.Parts.{status_of};
 ghost use Rattle.tre_tool.specs.Request.{AsksForNothing};
-ghost use Rattle.tre_tool.specs.Run.{AsksForMadeRun, ReadsInput, EndsAs, EndsMadeRun, IsComplete, IsLineTold};
+ghost use Rattle.tre_tool.specs.Run.{AsksForMadeRun, ReadsChecks, EndsAs, EndsMadeRun, IsComplete, IsLineTold};
 ghost use Rattle.tre_tool.specs.Status.{error_line};
+ghost use Rattle.tre_watch.specs.declared.reader.TheConstants.{FILE_MAX};
 ghost use Rattle.tre_words.specs.Job.{GivesJob, HaveNoFault};
 ghost use Rattle.tre_words.specs.declared.job.Job.{Job};
+ghost use Rattle.tre_words.specs.declared.job.Mode.TheVariants.{Watch};
 
-use crate::answer::answer;
-use crate::asked::asked_by;
+use crate::asked::{Question, asked_by};
 use crate::report::tell_status;
 use crate::status::Status;
 use std::alloc::Global;
+use tre_answer::answer;
 use tre_io::{Sink, Source};
 use tre_words::read_words;
 
 // Runs, and leaves it to the caller to tell how the run ended.
-fn run_words<S: Source, O: Sink>(
+fn run_words<P: Source, S: Source, O: Sink>(
     alloc: Global,
     words: &[String],
+    checks: &mut P,
     input: &mut S,
     out: &mut O,
 ) -> Result<(), Status>
-    requires { S.opened input.old ≡ false }
+    requires checks { P.opened checks.old ≡ false }
+    requires input { S.opened input.old ≡ false }
     ensures ends { EndsAs (GivesJob (map string_bytes words.now))
+        (input_told P.file_name P.file P.sound P.opened P.left P.found P.faults checks.old checks.new)
         (input_told S.file_name S.file S.sound S.opened S.left S.found S.faults input.old input.new)
         (output_told O.written O.faults out.old out.new)
         (status_of result) }
-    ensures untouched { AsksForNothing (GivesJob (map string_bytes words.now)) →
-        (input.new ≡ input.old) × (out.new ≡ out.old) }
+    ensures untouched { AsksForNothing (GivesJob (map string_bytes words.now)) (ChecksAreTold
+        (input_told P.file_name P.file P.sound P.opened P.left P.found P.faults checks.old
+        checks.new)) → (input.new ≡ input.old) × (out.new ≡ out.old) }
     ensures source_untouched { (job : Job) → GivesJob (map string_bytes words.now) job →
         (ReadsInput job.mode → ⊥) → input.new ≡ input.old }
+    ensures checks_untouched {
+        ((job : Job) → GivesJob (map string_bytes words.now) job → ReadsChecks job.mode → ⊥) →
+        checks.new ≡ checks.old }
     ensures by_name { (job : Job) → GivesJob (map string_bytes words.now) job →
         IsTrue (S.opened input.new) →
         IfSome (S.file_name input.old) (λ told. told ≡ job.input) }
     ensures reads_at_most { (job : Job) → GivesJob (map string_bytes words.now) job →
         IsTrue (S.opened input.new) →
         TakesAtMost (job.max_bytes + 1) (S.file input.old) (S.left input.new) }
+    ensures checks_by_name { (job : Job) (file : List ℕ) →
+        GivesJob (map string_bytes words.now) job → job.mode ≡ Watch file →
+        IsTrue (P.opened checks.new) →
+        IfSome (P.file_name checks.old) (λ told. told ≡ file) }
+    ensures checks_at_most { IsTrue (P.opened checks.new) →
+        TakesAtMost (FILE_MAX + 1) (P.file checks.old) (P.left checks.new) }
     ensures faultless { status_of result ≢ Status.Usage → status_of result ≢ Status.Memory →
         HaveNoFault (map string_bytes words.now) }
 {
     let job = read_words(alloc, words)?;
-    let asked = asked_by(alloc, &job)?;
-    answer(alloc, asked, &job, input, out)?;
+    let Question { asked, definitions } = asked_by(alloc, &job, checks)?;
+    answer(alloc, &asked, definitions, &job, input, out)?;
     Ok(())
 }
 
@@ -63,28 +80,35 @@ fn ending(ended: Result<(), Status>) -> Status
 /// to `out`, and tells `err` how the run ended. With `--minus` those of another pattern are taken
 /// away, and with `--normal` the zones are the one list that their pairs have. With `--online` it
 /// writes a block of zones for each segment as soon as that is complete, and at the end those that
-/// events there complete; with `--show` the pattern's text instead. With `--generate` as the first
-/// word it reads no input, and writes the summary of a made trace.
+/// events there complete; with `--watch` as the first word it does so for all patterns of a file
+/// of checks, which it reads from `checks` before the input is opened; with `--show` it writes the
+/// pattern's text instead. With `--generate` as the first word it reads no input, and writes the
+/// summary of a made trace.
 ///
-/// The words are those after the program's name. What `ends` says of bytes holds where the source
+/// The words are those after the program's name. What `ends` says of bytes holds where the sources
 /// and the sinks tell their bytes; what it says of counts holds for every source and sink. A count
 /// that stands at 2^64 - 1 can't rise, and counts as one that rose.
-pub fn run<S: Source, O: Sink, E: Sink>(
+pub fn run_all<P: Source, S: Source, O: Sink, E: Sink>(
     alloc: Global,
     words: &[String],
+    checks: &mut P,
     input: &mut S,
     out: &mut O,
     err: &mut E,
 ) -> Status
-    requires { S.opened input.old ≡ false }
+    requires checks { P.opened checks.old ≡ false }
+    requires input { S.opened input.old ≡ false }
 
     // What the status means, what was written, and why the run ended so.
     ensures ends { EndsAs (GivesJob (map string_bytes words.now))
+        (input_told P.file_name P.file P.sound P.opened P.left P.found P.faults checks.old checks.new)
         (input_told S.file_name S.file S.sound S.opened S.left S.found S.faults input.old input.new)
         (output_told O.written O.faults out.old out.new) result }
 
-    // Where no fault was counted, what the words ask for and the input comes to decides the status.
+    // Where no fault was counted, what the words and the file of checks ask for and the input comes
+    // to decides the status.
     ensures complete { IsComplete (GivesJob (map string_bytes words.now))
+        (input_told P.file_name P.file P.sound P.opened P.left P.found P.faults checks.old checks.new)
         (input_told S.file_name S.file S.sound S.opened S.left S.found S.faults input.old input.new)
         (output_told O.written O.faults out.old out.new) result }
 
@@ -92,13 +116,20 @@ pub fn run<S: Source, O: Sink, E: Sink>(
     ensures faultless { result ≢ Status.Usage → result ≢ Status.Memory →
         HaveNoFault (map string_bytes words.now) }
 
-    // Words that ask for nothing leave the source and the output as they were.
-    ensures untouched { AsksForNothing (GivesJob (map string_bytes words.now)) →
-        (input.new ≡ input.old) × (out.new ≡ out.old) }
+    // Words that ask for nothing, also by their file of checks, leave the input and the output as
+    // they were.
+    ensures untouched { AsksForNothing (GivesJob (map string_bytes words.now)) (ChecksAreTold
+        (input_told P.file_name P.file P.sound P.opened P.left P.found P.faults checks.old
+        checks.new)) → (input.new ≡ input.old) × (out.new ≡ out.old) }
 
     // A run that shows the pattern's text, or makes its trace, reads no input.
     ensures source_untouched { (job : Job) → GivesJob (map string_bytes words.now) job →
         (ReadsInput job.mode → ⊥) → input.new ≡ input.old }
+
+    // Only a watch reads a file of checks.
+    ensures checks_untouched {
+        ((job : Job) → GivesJob (map string_bytes words.now) job → ReadsChecks job.mode → ⊥) →
+        checks.new ≡ checks.old }
 
     // A made run writes the summary of its segments, or a first part of it, and reads nothing.
     ensures generated { (count : ℕ) → AsksForMadeRun (map string_bytes words.now) count →
@@ -113,15 +144,21 @@ pub fn run<S: Source, O: Sink, E: Sink>(
         (error_line result) }
 
     // An input that was opened is the one that the words name, and it is read to its end, or to one
-    // byte past the limit.
+    // byte past the limit. So is the file of checks.
     ensures reads_at_most { (job : Job) → GivesJob (map string_bytes words.now) job →
         IsTrue (S.opened input.new) →
         TakesAtMost (job.max_bytes + 1) (S.file input.old) (S.left input.new) }
     ensures by_name { (job : Job) → GivesJob (map string_bytes words.now) job →
         IsTrue (S.opened input.new) →
         IfSome (S.file_name input.old) (λ told. told ≡ job.input) }
+    ensures checks_at_most { IsTrue (P.opened checks.new) →
+        TakesAtMost (FILE_MAX + 1) (P.file checks.old) (P.left checks.new) }
+    ensures checks_by_name { (job : Job) (file : List ℕ) →
+        GivesJob (map string_bytes words.now) job → job.mode ≡ Watch file →
+        IsTrue (P.opened checks.new) →
+        IfSome (P.file_name checks.old) (λ told. told ≡ file) }
 {
-    let status = ending(run_words(alloc, words, input, out));
+    let status = ending(run_words(alloc, words, checks, input, out));
     let _ = tell_status(&status, err);
     status
 }

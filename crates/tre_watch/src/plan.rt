@@ -37,4 +37,11 @@ impl Plan {
     {
         &self.patterns
     }
+
+    /// The patterns alone, in the order of the names.
+    pub fn into_patterns(self) -> Vec<Pattern>
+        ensures { result ≡ self.patterns }
+    {
+        self.patterns
+    }
 }

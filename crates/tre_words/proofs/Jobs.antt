@@ -1,5 +1,5 @@
 -- Words give one job at most, and what is true of it.
-use Rattle.std.proofs.Common.{◌≡◌, ◌≢◌, ◌∙◌, ℕ, ◌≤◌, Bool, true, false, ◌&&◌, List, [], ◌∷◌, Option, Some, None, IfSome, if◌then◌else◌, codes, ap, refl, sym, subst, arith}
+use Rattle.std.proofs.Common.{◌≡◌, ◌≢◌, ◌∙◌, ℕ, ◌≤◌, Bool, true, false, ◌&&◌, List, [], ◌∷◌, Option, Some, None, IfSome, if◌then◌else◌, codes, drop, ap, refl, sym, subst, arith}
 use Rattle.std.specs.Prelude.{option_and_then, option_map, is_some, nat_le}
 use Rattle.std.specs.Str.Parse.{digits_value}
 use Rattle.std.proofs.lemmas.Bool.Decides.{nat_tests}
@@ -7,13 +7,13 @@ use Rattle.clap.specs.Words.{Row, Text, first_of, matches_of}
 use Rattle.tre_decimal.specs.Decimal.{is_numeral}
 use Rattle.tre_decimal.specs.declared.TheConstants.{SCALE_MAX}
 use Rattle.tre_words.specs.CommandLine.{command_line}
-use Rattle.tre_words.specs.Job.{GivesFrom, GivesJob, GivesWhere, IsCount, IsJob, SaysJob, is_given, is_made_run, made_count, made_job, mode_for, mode_in, number_written}
+use Rattle.tre_words.specs.Job.{GivesFrom, GivesJob, GivesWatch, GivesWhere, IsBare, IsCount, IsJob, MayWatch, SaysJob, is_given, is_made_run, is_watch, made_count, made_job, mode_for, mode_in, number_written, watch_job}
 use Rattle.tre_words.specs.declared.job.TheConstants.{COUNT_MAX, LIMIT_MAX}
 use Rattle.tre_words.specs.declared.job.Format.{Format}
 use Rattle.tre_words.specs.declared.job.Format.TheVariants.{Csv}
 use Rattle.tre_words.specs.declared.job.Job.{Job}
 use Rattle.tre_words.specs.declared.job.Mode.{Mode}
-use Rattle.tre_words.specs.declared.job.Mode.TheVariants.{Offline, Online, Generate}
+use Rattle.tre_words.specs.declared.job.Mode.TheVariants.{Offline, Online, Generate, Watch}
 
 one_value : {X : Type 0} {x y : X} → Some x ≡ Some y → x ≡ y
 one_value e = cc
@@ -66,16 +66,25 @@ said_once rows job other says says' =
     let parts' = job_parts other in
     cc
 
-given_once : (made : Bool) (words : List Text) (job other : Job) → GivesWhere made words job
-    → GivesWhere made words other → job ≡ other
-given_once true words job other gives gives' = one_value (sym gives ∙ gives')
-given_once false words job other gives gives' =
+watched_once : (rows : List Row) (job other : Job) → GivesWatch rows job → GivesWatch rows other
+    → job ≡ other
+watched_once rows job other gives gives' =
+    gives.watched
+    ∙ (ap watch_job (said_once rows gives.plain gives'.plain gives.gives.says gives'.gives.says)
+    ∙ sym gives'.watched)
+
+given_once : (made watched : Bool) (words : List Text) (job other : Job)
+    → GivesWhere made watched words job → GivesWhere made watched words other → job ≡ other
+given_once true watched words job other gives gives' = one_value (sym gives ∙ gives')
+given_once false true words job other gives gives' =
+    watched_once (matches_of command_line (drop 1 words)) job other gives gives'
+given_once false false words job other gives gives' =
     said_once (matches_of command_line words) job other gives.says gives'.says
 
 pub job_unique : (words : List Text) (job other : Job) → GivesJob words job
     → GivesJob words other → job ≡ other
 job_unique words job other gives gives' =
-    given_once (is_made_run words) words job other gives.gives gives'.gives
+    given_once (is_made_run words) (is_watch words) words job other gives.gives gives'.gives
 
 -- ---- numbers within their limits
 
@@ -125,6 +134,11 @@ flags_offline true online without e = cc
 flags_offline false true without e = cc
 flags_offline false false without e = cc
 
+flags_never_watch : (show online : Bool) (file : List ℕ) → mode_for show online ≡ Watch file → ⊥
+flags_never_watch true online file e = cc
+flags_never_watch false true file e = cc
+flags_never_watch false false file e = cc
+
 pub from_options : (rows : List Row) (job : Job) → GivesFrom rows job → IsJob job
 from_options rows job gives =
     let says = gives.says in
@@ -140,6 +154,7 @@ from_options rows job gives =
           absurd (flags_never_generate show online count (says.mode ∙ mode));
       together = gives.together;
       offline = λ mode csv. flags_offline show online (gives.offline csv) (says.mode ∙ mode);
+      watched = λ file mode. absurd (flags_never_watch show online file (says.mode ∙ mode));
     }
 
 -- ---- jobs of made runs
@@ -169,6 +184,7 @@ made_is_job count is = record {
     lets = λ e. cc;
   };
   offline = λ mode csv. cc;
+  watched = λ file mode. cc;
 }
 
 from_made : (words : List Text) (told : Option ℕ) (job : Job) → made_count words ≡ told
@@ -177,13 +193,56 @@ from_made words (Some count) job is e =
     subst IsJob (one_value e) (made_is_job count (made_within words count is))
 from_made words None job is e = cc
 
-from_words : (made : Bool) (words : List Text) (job : Job) → GivesWhere made words job → IsJob job
-from_words true words job gives = from_made words (made_count words) job refl gives
-from_words false words job gives = from_options (matches_of command_line words) job gives
+-- ---- jobs of watches
+
+watch_is_job : (plain : Job) → IsJob plain → MayWatch plain → IsJob (watch_job plain)
+watch_is_job plain is may = record {
+  small = is.small;
+  scale = is.scale;
+  zones = is.zones;
+  counted = λ count mode. cc;
+  together = record {
+    normal = λ given. let false_true : true ≡ false = sym given ∙ may.bare.normal in cc;
+    max_zones = is.together.max_zones;
+    minus = λ given.
+        let false_true : true ≡ false = sym given ∙ ap is_some may.bare.minus in cc;
+    columns = is.together.columns;
+    lets = is.together.lets;
+  };
+  offline = λ mode csv. cc;
+  watched = λ file mode. record {
+    format = may.bare.format;
+    normal = may.bare.normal;
+    max_zones = may.bare.max_zones;
+    minus = may.bare.minus;
+    lets = may.bare.lets;
+  };
+}
+
+pub from_watch : (rows : List Row) (job : Job) → GivesWatch rows job → IsJob job
+from_watch rows job gives =
+    subst IsJob (sym gives.watched)
+    (watch_is_job gives.plain (from_options rows gives.plain gives.gives) gives.may)
+
+-- values that say a job that may be no watch give none
+pub no_watch : (rows : List Row) (plain : Job) → GivesFrom rows plain → (MayWatch plain → ⊥)
+    → (job : Job) → GivesWatch rows job → ⊥
+no_watch rows plain says none job gives =
+    none (subst MayWatch (said_once rows gives.plain plain gives.gives.says says.says) gives.may)
+
+-- ---- jobs of words
+
+from_words : (made watched : Bool) (words : List Text) (job : Job)
+    → GivesWhere made watched words job → IsJob job
+from_words true watched words job gives = from_made words (made_count words) job refl gives
+from_words false true words job gives =
+    from_watch (matches_of command_line (drop 1 words)) job gives
+from_words false false words job gives = from_options (matches_of command_line words) job gives
 
 -- what is true of each job that words give
 pub IsJob-given : (words : List Text) (job : Job) → GivesJob words job → IsJob job
-IsJob-given words job gives = from_words (is_made_run words) words job gives.gives
+IsJob-given words job gives =
+    from_words (is_made_run words) (is_watch words) words job gives.gives
 
 -- ---- options that stand apart
 

@@ -14,7 +14,7 @@ pub const LIMIT_DEFAULT: u64 = 1 << 30;
 pub const COUNT_MAX: u64 = 10_000;
 
 /// What a run does.
-#[derive(Clone, Copy, Debug, PartialEq, Eq)]
+#[derive(Debug, Drop)]
 pub enum Mode {
     /// It tells the matches over the whole input.
     Offline,
@@ -24,7 +24,14 @@ pub enum Mode {
     Show,
     /// It makes the first `count` segments of a trace, matches a pattern of its own over them both
     /// ways, and writes what it found. It reads no input.
-    Generate { count: u64 },
+    Generate {
+        count: u64,
+    },
+    /// It tells the matches of each pattern of a file as the input comes.
+    Watch {
+        /// The name of the file; `-` is standard input.
+        file: Word,
+    },
 }
 
 /// How the input tells a trace.
@@ -87,7 +94,7 @@ pub struct Job {
     pub minus: Option<Word>,
     /// The text of the definitions of names by columns.
     pub lets: Option<Word>,
-    /// The pattern's text; empty where the run has a pattern of its own.
+    /// The pattern's text; empty where the run has patterns of its own or of a file.
     pub expr: Word,
 }
 

@@ -1,8 +1,8 @@
 //! Laws of the words of a command line, each as a function whose contract it is.
 
 ghost use Rattle.std.specs.Prelude.{◌≡◌, ◌∷◌, ℕ, true, List, [], None, Some, codes};
-ghost use Rattle.tre_words.specs.Job.{IsJob, GivesJob, GivesNoJob, HaveNoFault, plain_job};
-ghost use Rattle.tre_words.specs.declared.job.Format.TheVariants.{Csv};
+ghost use Rattle.tre_words.specs.Job.{IsJob, GivesJob, GivesNoJob, HaveNoFault, plain_job, watch_job};
+ghost use Rattle.tre_words.specs.declared.job.Format.TheVariants.{Csv, Vcd};
 ghost use Rattle.tre_words.specs.declared.job.Job.{Job};
 ghost use Rattle.tre_words.specs.declared.job.Mode.TheVariants.{Offline, Online, Show};
 
@@ -54,4 +54,27 @@ pub fn options_apart()
     ensures lets { GivesNoJob (codes "--let" ∷ codes "" ∷ codes "p" ∷ []) }
     ensures columns { GivesNoJob
         (codes "--format=csv" ∷ codes "--online" ∷ codes "--show" ∷ codes "p" ∷ []) }
+{}
+
+/// Watches as they are typed.
+pub fn typed_watches()
+    ensures file { GivesJob (codes "--watch" ∷ codes "f" ∷ [])
+        (watch_job (plain_job Offline (codes "-") (codes "f"))) }
+    ensures dump { GivesJob
+        (codes "--watch" ∷ codes "--format" ∷ codes "vcd" ∷ codes "--input" ∷ codes "x"
+        ∷ codes "f" ∷ [])
+        (watch_job (record (plain_job Offline (codes "x") (codes "f")) { format = Vcd })) }
+{}
+
+/// Words behind `--watch` that give no job.
+pub fn watches_refused()
+    ensures no_file { GivesNoJob (codes "--watch" ∷ []) }
+    ensures online { GivesNoJob (codes "--watch" ∷ codes "--online" ∷ codes "f" ∷ []) }
+    ensures twice { GivesNoJob (codes "--watch" ∷ codes "--watch" ∷ codes "f" ∷ []) }
+    ensures pattern { GivesNoJob (codes "--watch" ∷ codes "f" ∷ codes "p" ∷ []) }
+    ensures normal { GivesNoJob (codes "--watch" ∷ codes "--normal" ∷ codes "f" ∷ []) }
+    ensures columns { GivesNoJob
+        (codes "--watch" ∷ codes "--format" ∷ codes "csv" ∷ codes "f" ∷ []) }
+    ensures both_standard_input { GivesNoJob (codes "--watch" ∷ codes "-" ∷ []) }
+    ensures made_run { GivesNoJob (codes "--watch" ∷ codes "--generate" ∷ codes "5" ∷ []) }
 {}

@@ -1,8 +1,8 @@
 // The words of the command line.
-ghost use Rattle.std.specs.Prelude.{◌≡◌, ◌↔◌, map, string_bytes, IfOk, OnOk, IsErrOf, Some, None, [], true, false, codes, option_map};
+ghost use Rattle.std.specs.Prelude.{◌≡◌, ◌↔◌, drop, map, string_bytes, IfOk, OnOk, IsErrOf, Some, None, [], true, false, codes, option_map};
 ghost use Rattle.clap.specs.Words.{found_of, rows_of, matches_of, fault_of};
 ghost use Rattle.tre_words.specs.CommandLine.{command_line};
-ghost use Rattle.tre_words.specs.Job.{is_made_run, made_count, made_job, SaysJob, StandsTogether, IsJob, GivesFrom, GivesJob, GivesNoJob};
+ghost use Rattle.tre_words.specs.Job.{begins_with, made_count, made_job, watch_job, SaysJob, StandsTogether, IsBare, IsJob, MayWatch, GivesFrom, GivesWatch, GivesJob, GivesNoJob};
 ghost use Rattle.tre_words.specs.declared.job.Job.{Job};
 
 use crate::command_line::{is_given, parse_words};
@@ -15,7 +15,7 @@ use std::alloc::{AllocError, Global};
 fn stands_together(job: &Job) -> bool
     ensures { result ≡ true ↔ StandsTogether job.now }
 {
-    let offline = job.mode == Mode::Offline;
+    let offline = matches!(job.mode, Mode::Offline);
     let columns = job.format == Format::Csv;
     if (job.normal || job.minus.is_some()) && !offline {
         return false;
@@ -57,12 +57,59 @@ fn read_options(alloc: Global, words: &[String]) -> Result<Job, WordsFault>
     Ok(job)
 }
 
-// Whether the first word is `--generate`.
-fn is_made_run(words: &[String]) -> bool
-    ensures { result ≡ is_made_run (map string_bytes words.now) }
+// Whether the job has none of what a watch never has.
+fn is_bare(job: &Job) -> bool
+    ensures { result ≡ true ↔ IsBare job.now }
+{
+    if job.format == Format::Csv || job.normal || job.max_zones.is_some() {
+        return false;
+    }
+    job.minus.is_none() && job.lets.is_none()
+}
+
+// Whether the job of the words behind `--watch` may be that of a watch.
+fn may_watch(plain: &Job) -> bool
+    ensures { result ≡ true ↔ MayWatch plain.now }
+{
+    if plain.expr.text() == "-" && plain.input.text() == "-" {
+        return false;
+    }
+    matches!(plain.mode, Mode::Offline) && is_bare(plain)
+}
+
+fn watch_job(alloc: Global, plain: Job) -> Result<Job, AllocError>
+    ensures { IfOk result (λ job. job ≡ watch_job plain) }
+{
+    Ok(Job {
+        mode: Mode::Watch { file: plain.expr },
+        expr: Word::new(alloc, "")?,
+        ..plain
+    })
+}
+
+// Reads the words behind `--watch`.
+fn read_watch(alloc: Global, words: &[String]) -> Result<Job, WordsFault>
+    ensures ok { IfOk result (GivesWatch (matches_of command_line (map string_bytes words.now))) }
+    ensures is_job { IfOk result IsJob }
+    ensures usage { IsErrOf result WordsFault.Usage →
+        fault_of command_line (map string_bytes words.now) ≡ [] → (job : Job) →
+        GivesWatch (matches_of command_line (map string_bytes words.now)) job → ⊥ }
+    ensures faultless { OnOk result (fault_of command_line (map string_bytes words.now) ≡ []) }
+{
+    let plain = read_options(alloc, words)?;
+    if !may_watch(&plain) {
+        return Err(WordsFault::Usage);
+    }
+    let job = watch_job(alloc, plain)?;
+    Ok(job)
+}
+
+// Whether the first word is this.
+fn begins_with(words: &[String], word: &str) -> bool
+    ensures { result ≡ begins_with word.now (map string_bytes words.now) }
 {
     match words.first() {
-        Some(word) => word.as_str() == "--generate",
+        Some(first) => first.as_str() == word,
         None => false,
     }
 }
@@ -110,14 +157,19 @@ fn read_made_run(alloc: Global, words: &[String]) -> Result<Job, WordsFault>
 
 /// Reads the words after the program's name, which are
 /// `[--online] [--show] [--format text|vcd|csv] [--input NAME] [--max-bytes N] [--scale K]
-/// [--normal] [--max-zones L] [--minus EXPR2] [--let TEXT] EXPR` or `--generate K`.
+/// [--normal] [--max-zones L] [--minus EXPR2] [--let TEXT] EXPR`, or `--generate K`, or
+/// `--watch [--format text|vcd] [--input NAME] [--max-bytes N] [--scale K] FILE`.
 pub fn read_words(alloc: Global, words: &[String]) -> Result<Job, WordsFault>
     ensures ok { IfOk result (GivesJob (map string_bytes words.now)) }
     ensures is_job { IfOk result IsJob }
     ensures usage { IsErrOf result WordsFault.Usage → GivesNoJob (map string_bytes words.now) }
 {
-    if is_made_run(words) {
+    if begins_with(words, "--generate") {
         let job = read_made_run(alloc, words)?;
+        return Ok(job);
+    }
+    if begins_with(words, "--watch") {
+        let job = read_watch(alloc, &words[1..])?;
         return Ok(job);
     }
     let job = read_options(alloc, words)?;

@@ -1,0 +1,34 @@
+-- What is asked of an input: a job, the patterns that it looks for, and what the names of columns
+-- mean in them.
+use Rattle.std.specs.Prelude.{◌≡◌, ◌<◌, List, length, map, string_bytes}
+use Rattle.tre_num.specs.Defined.{Defined}
+use Rattle.tre_tell.specs.Sought.{Sought, sought_by}
+use Rattle.tre_trace.specs.Reading.{Vocabulary}
+use Rattle.tre_words.specs.declared.job.Format.TheVariants.{Csv}
+use Rattle.tre_words.specs.declared.job.Job.{Job}
+use Rattle.tre_answer.specs.declared.asked.Asked.{Asked}
+
+-- A job, its patterns, and what the names of columns mean in them.
+pub record Request : Type 0 where
+  pub job : Job
+  pub patterns : List Sought
+  pub lets : List Defined
+
+-- the names of each of the patterns
+abbrev pub all_names : List Sought → List Vocabulary
+all_names patterns = map (λ pattern. pattern.names) patterns
+
+-- the patterns that are looked for, each behind its label
+abbrev pub sought_in : Asked → List Sought
+sought_in asked = sought_by (map string_bytes asked.labels.items) asked.patterns.items
+
+-- the request for this job, these definitions and these patterns
+abbrev pub request_for : Job → List Defined → Asked → Request
+request_for job lets asked = record { job = job; patterns = sought_in asked; lets = lets }
+
+-- The patterns may be asked by the job: each has a label, there is one at least, and over columns
+-- there is just one.
+pub record FitsJob (job : Job) (asked : Asked) : Type 0 where
+  pub labels : length asked.labels.items ≡ length asked.patterns.items
+  pub some : 0 < length asked.patterns.items
+  pub columns : job.format ≡ Csv → length asked.patterns.items ≡ 1

@@ -1,0 +1,166 @@
+// From a request to the text that answers it.
+ghost use Rattle.std.specs.Prelude.{◌≡◌, ◌≤◌, ◌<◌, ◌+◌, ◌++◌, List, codes, false, IsTrue, IfOk, IfSome, length, string_bytes};
+ghost use Rattle.tre_answer.specs.Ends.{EndsOver, ReadsInput};
+ghost use Rattle.tre_answer.specs.Readings.{readings_of};
+ghost use Rattle.tre_answer.specs.Request.{FitsJob, request_for};
+ghost use Rattle.tre_decimal.specs.declared.TheConstants.{SCALE_MAX};
+ghost use Rattle.tre_feed.specs.Input.{TakesAtMost, input_told};
+ghost use Rattle.tre_feed.specs.Readers.{AreFresh, readings_in};
+ghost use Rattle.tre_feed.specs.Readings.{AgreeAlways};
+ghost use Rattle.tre_num.specs.Defined.{Defined};
+ghost use Rattle.tre_show.specs.PatternText.{expression_text};
+ghost use Rattle.tre_syntax.specs.Pattern.{pattern_tree, names_of};
+ghost use Rattle.tre_tell.specs.Outputs.{output_told};
+ghost use Rattle.tre_tell.specs.Watched.{SayNothing};
+ghost use Rattle.tre_words.specs.Job.{IsJob};
+
+use crate::asked::Asked;
+use crate::fault::AnswerFault;
+use crate::offline::matches_text;
+use crate::output::write_text;
+use crate::readers::{column_readers, dump_readers, text_readers};
+use std::alloc::{AllocError, Global};
+use tre_feed::Readers;
+use tre_generate::summary;
+use tre_io::{Sink, Source};
+use tre_num::Definition;
+use tre_show::pattern_text;
+use tre_syntax::Pattern;
+use tre_tell::tell_matches;
+use tre_trace::TraceReader;
+use tre_words::{Format, Job, Mode};
+
+// Writes what answers a job of which the readers read the input, one for each pattern.
+fn answer_by<S: Source, R: TraceReader + Drop, O: Sink>(
+    alloc: Global,
+    asked: &Asked,
+    job: &Job,
+    readers: Readers<R>,
+    input: &mut S,
+    out: &mut O,
+) -> Result<(), AnswerFault>
+    requires closed { S.opened input.old ≡ false }
+    requires job { IsJob job.now }
+    requires reads { ReadsInput job.now.mode }
+    requires fits { FitsJob job.now asked.now }
+    requires fresh { AreFresh R.represents readers }
+    requires alike { AgreeAlways (readings_in R.reading R.terms readers) }
+    requires nothing { SayNothing (readings_in R.reading R.terms readers) }
+    ensures ends { (lets : List Defined) →
+        readings_in R.reading R.terms readers
+        ≡ readings_of (request_for job.now lets asked.now) →
+        EndsOver (request_for job.now lets asked.now)
+        (input_told S.file_name S.file S.sound S.opened S.left S.found S.faults input.old input.new)
+        (output_told O.written O.faults out.old out.new) result }
+    ensures bounded { IsTrue (S.opened input.new) →
+        TakesAtMost (job.now.max_bytes + 1) (S.file input.old) (S.left input.new) }
+    ensures by_name { IsTrue (S.opened input.new) →
+        IfSome (S.file_name input.old) (λ told. told ≡ job.now.input) }
+{
+    if let Mode::Offline = &job.mode {
+        let text = matches_text(alloc, asked, job, readers, input)?;
+        write_text(text.as_str(), out)?;
+        return Ok(());
+    }
+    let mut readers = readers;
+    tell_matches(
+        alloc,
+        job.input.text(),
+        job.max_bytes as usize,
+        &asked.patterns,
+        &asked.labels,
+        job.scale,
+        &mut readers,
+        input,
+        out,
+    )?;
+    Ok(())
+}
+
+// Writes what answers a job that reads its input, by readers of its format.
+fn answer_input<S: Source, O: Sink>(
+    alloc: Global,
+    asked: &Asked,
+    definitions: Vec<Definition>,
+    job: &Job,
+    input: &mut S,
+    out: &mut O,
+) -> Result<(), AnswerFault>
+    requires closed { S.opened input.old ≡ false }
+    requires job { IsJob job.now }
+    requires reads { ReadsInput job.now.mode }
+    requires fits { FitsJob job.now asked.now }
+    ensures ends { EndsOver (request_for job.now definitions.items asked.now)
+        (input_told S.file_name S.file S.sound S.opened S.left S.found S.faults input.old input.new)
+        (output_told O.written O.faults out.old out.new) result }
+    ensures bounded { IsTrue (S.opened input.new) →
+        TakesAtMost (job.now.max_bytes + 1) (S.file input.old) (S.left input.new) }
+    ensures by_name { IsTrue (S.opened input.new) →
+        IfSome (S.file_name input.old) (λ told. told ≡ job.now.input) }
+{
+    match job.format {
+        Format::Text => {
+            let readers = text_readers(alloc, &asked.patterns, job.scale)?;
+            answer_by(alloc, asked, job, readers, input, out)
+        }
+        Format::Vcd => {
+            let readers = dump_readers(alloc, &asked.patterns, job.scale)?;
+            answer_by(alloc, asked, job, readers, input, out)
+        }
+        Format::Csv => {
+            let readers = column_readers(alloc, &asked.patterns[0], definitions, job.scale)?;
+            answer_by(alloc, asked, job, readers, input, out)
+        }
+    }
+}
+
+// The text of the pattern, and a line end.
+fn shown_text(alloc: Global, pattern: &Pattern, scale: u8) -> Result<String, AllocError>
+    requires { scale ≤ SCALE_MAX }
+    ensures { IfOk result (λ text. string_bytes text
+        ≡ expression_text scale (names_of pattern.now) (pattern_tree pattern.now)
+        ++ codes "\n") }
+{
+    let mut text = pattern_text(alloc, pattern, scale)?;
+    text.push_str("\n")?;
+    Ok(text)
+}
+
+/// Writes what answers a job with these patterns, for which the definitions say what names of
+/// columns mean: at once where all is known, or as the input comes.
+///
+/// A job that shows a pattern, or makes a trace of its own, has one pattern, and reads no input.
+pub fn answer<S: Source, O: Sink>(
+    alloc: Global,
+    asked: &Asked,
+    definitions: Vec<Definition>,
+    job: &Job,
+    input: &mut S,
+    out: &mut O,
+) -> Result<(), AnswerFault>
+    requires closed { S.opened input.old ≡ false }
+    requires job { IsJob job.now }
+    requires fits { FitsJob job.now asked.now }
+    requires alone { (ReadsInput job.now.mode → ⊥) → length asked.now.patterns.items ≡ 1 }
+    ensures ends { EndsOver (request_for job.now definitions.items asked.now)
+        (input_told S.file_name S.file S.sound S.opened S.left S.found S.faults input.old input.new)
+        (output_told O.written O.faults out.old out.new) result }
+    ensures bounded { IsTrue (S.opened input.new) →
+        TakesAtMost (job.now.max_bytes + 1) (S.file input.old) (S.left input.new) }
+    ensures by_name { IsTrue (S.opened input.new) →
+        IfSome (S.file_name input.old) (λ told. told ≡ job.now.input) }
+    ensures untouched { (ReadsInput job.now.mode → ⊥) → input.new ≡ input.old }
+{
+    match &job.mode {
+        Mode::Show => {
+            let text = shown_text(alloc, &asked.patterns[0], job.scale)?;
+            write_text(text.as_str(), out)
+        }
+        Mode::Generate { count } => {
+            let pattern = asked.patterns[0].try_clone(alloc)?;
+            let text = summary(alloc, pattern, *count)?;
+            write_text(text.as_str(), out)
+        }
+        _ => answer_input(alloc, asked, definitions, job, input, out),
+    }
+}

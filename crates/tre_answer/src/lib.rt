@@ -1,0 +1,26 @@
+//! What answers a request over an input: the zones of all matches at once, or a block of them for
+//! each segment as the input comes.
+//!
+//! The central call is [`answer`]. It makes a reader of the job's format for each pattern, and
+//! writes what the job asks for; how that ends and what then stands in the output is said in
+//! specs/Ends.antt, over a request, which is a job with its patterns (specs/Request.antt). Which
+//! pairs are wanted stands in specs/Wanted.antt. The layer above makes requests of the words of a
+//! command line, and knows no reader and no zone.
+//!
+//! ```text
+//! let asked = Asked { patterns, labels }; // a label for each pattern, `job` from `read_words`
+//! answer(alloc, asked, definitions, &job, &mut input, &mut out)?;
+//! ```
+#![tactic(auto)]
+
+mod answering;
+mod asked;
+mod fault;
+pub mod laws;
+mod offline;
+mod output;
+mod readers;
+
+pub use answering::answer;
+pub use asked::Asked;
+pub use fault::AnswerFault;

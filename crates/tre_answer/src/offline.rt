@@ -1,0 +1,170 @@
+// The matches over a whole input, told at once.
+ghost use Rattle.std.specs.Prelude.{◌≡◌, ◌≤◌, ◌<◌, ◌+◌, ℕ, All, List, false, IsTrue, IfOk, IfErr, IfSome, OnOk, length, string_bytes};
+ghost use Rattle.tre_answer.specs.Parts.{IsFoundFor, IsFound, AreOver, StopsAs};
+ghost use Rattle.tre_answer.specs.Readings.{readings_of};
+ghost use Rattle.tre_answer.specs.Request.{FitsJob, request_for};
+ghost use Rattle.tre_answer.specs.Wanted.{AreZonesOf, IsWanted};
+ghost use Rattle.tre_feed.specs.Input.{TakesAtMost, input_told};
+ghost use Rattle.tre_feed.specs.Readers.{AreFresh, readings_in};
+ghost use Rattle.tre_feed.specs.Readings.{AgreeAlways};
+ghost use Rattle.tre_num.specs.Defined.{Defined};
+ghost use Rattle.tre_tell.specs.Sought.{sought_by};
+ghost use Rattle.tre_tell.specs.Watched.{SayNothing};
+ghost use Rattle.tre_trace.specs.Trace.{IsTrace};
+ghost use Rattle.tre_words.specs.Job.{IsJob};
+ghost use Rattle.tre_zone.specs.ZoneList.{HoldExactly, SetHolds};
+ghost use Rattle.tre_zoneset.specs.ZoneSet.{IsZoneSet};
+
+use crate::asked::Asked;
+use crate::fault::AnswerFault;
+use std::alloc::{AllocError, Global};
+use tre_feed::{Readers, read_traces};
+use tre_io::Source;
+use tre_minus::minus;
+use tre_offline::matches;
+use tre_show::{in_printed_order, offline_text};
+use tre_strips::strips;
+use tre_syntax::Pattern;
+use tre_trace::{Trace, TraceReader};
+use tre_words::{Job, Mode};
+use tre_zone::Zone;
+use tre_zoneset::ZoneSet;
+
+// The matches that are wanted of an input, and where it ends.
+#[derive(Debug, Drop)]
+struct Found {
+    set: ZoneSet,
+    end: u64,
+}
+
+// The matches of the first pattern that are matches of none of the others, each over its trace.
+fn wanted_matches(
+    alloc: Global,
+    patterns: &[Pattern],
+    traces: &[Trace],
+) -> Result<ZoneSet, AllocError>
+    requires some { 0 < length patterns.now }
+    requires count { length traces.now ≡ length patterns.now }
+    requires are_traces { All (λ trace. IsTrace trace.segments) traces.now }
+    ensures { IfOk result (λ set. (labels : List (List ℕ)) →
+        length labels ≡ length patterns.now →
+        HoldExactly set (IsWanted (sought_by labels patterns.now) traces.now)) }
+{
+    let mut set = matches(alloc, &patterns[0], &traces[0])?;
+    for place in 1..patterns.len() {
+        let others = matches(alloc, &patterns[place], &traces[place])?;
+        set = minus(alloc, &set, &others)?;
+    }
+    Ok(set)
+}
+
+// The matches that are wanted over the job's input.
+fn find<S: Source, R: TraceReader + Drop>(
+    alloc: Global,
+    asked: &Asked,
+    job: &Job,
+    readers: Readers<R>,
+    input: &mut S,
+) -> Result<Found, AnswerFault>
+    requires closed { S.opened input.old ≡ false }
+    requires job { IsJob job.now }
+    requires offline { job.now.mode ≡ Mode.Offline }
+    requires fits { FitsJob job.now asked.now }
+    requires fresh { AreFresh R.represents readers }
+    requires alike { AgreeAlways (readings_in R.reading R.terms readers) }
+    requires nothing { SayNothing (readings_in R.reading R.terms readers) }
+    ensures found { (lets : List Defined) →
+        readings_in R.reading R.terms readers
+        ≡ readings_of (request_for job.now lets asked.now) →
+        IfOk result (λ found. IsFound (request_for job.now lets asked.now)
+        (input_told S.file_name S.file S.sound S.opened S.left S.found S.faults input.old input.new)
+        found.set found.end) }
+    ensures stops { (lets : List Defined) →
+        readings_in R.reading R.terms readers
+        ≡ readings_of (request_for job.now lets asked.now) →
+        IfErr result (StopsAs (request_for job.now lets asked.now)
+        (input_told S.file_name S.file S.sound S.opened S.left S.found S.faults input.old
+        input.new)) }
+    ensures bounded { IsTrue (S.opened input.new) →
+        TakesAtMost (job.now.max_bytes + 1) (S.file input.old) (S.left input.new) }
+    ensures by_name { IsTrue (S.opened input.new) →
+        IfSome (S.file_name input.old) (λ told. told ≡ job.now.input) }
+{
+    let limit = job.max_bytes as usize;
+    let traces = read_traces(alloc, job.input.text(), limit, readers, input)?;
+    let end = traces[0].end();
+    let set = wanted_matches(alloc, &asked.patterns, &traces)?;
+    Ok(Found { set, end })
+}
+
+// The zones that a job asks for of a set: the canonical ones, or those of the set as they are.
+fn zones_for(alloc: Global, set: ZoneSet, normal: bool) -> Result<Vec<Zone>, AllocError>
+    ensures zones { IfOk result (λ zones. AreZonesOf normal (SetHolds set) zones.items) }
+    ensures set { OnOk result (IsZoneSet set) }
+{
+    if normal {
+        // For the proof: the call says what a set is.
+        let _zones = set.zones();
+        let zones = strips(alloc, &set)?;
+        return Ok(zones);
+    }
+    Ok(in_printed_order(set.into_zones()))
+}
+
+// Refuses more zones than there may be.
+fn check_count(zones: &[Zone], most: Option<u64>) -> Result<(), AnswerFault>
+    ensures few { OnOk result (IfSome most (λ most. length zones.now ≤ most)) }
+    ensures fault { IfErr result (λ fault.
+        fault ≡ AnswerFault.TooManyZones (length zones.now)) }
+    ensures over { IfErr result (λ _. AreOver most (length zones.now)) }
+{
+    match most {
+        None => Ok(()),
+        Some(most) => {
+            let zones = zones.len() as u64;
+            if zones > most {
+                return Err(AnswerFault::TooManyZones { zones });
+            }
+            Ok(())
+        }
+    }
+}
+
+/// The text of all matches that are wanted over the job's input.
+pub fn matches_text<S: Source, R: TraceReader + Drop>(
+    alloc: Global,
+    asked: &Asked,
+    job: &Job,
+    readers: Readers<R>,
+    input: &mut S,
+) -> Result<String, AnswerFault>
+    requires closed { S.opened input.old ≡ false }
+    requires job { IsJob job.now }
+    requires offline { job.now.mode ≡ Mode.Offline }
+    requires fits { FitsJob job.now asked.now }
+    requires fresh { AreFresh R.represents readers }
+    requires alike { AgreeAlways (readings_in R.reading R.terms readers) }
+    requires nothing { SayNothing (readings_in R.reading R.terms readers) }
+    ensures found { (lets : List Defined) →
+        readings_in R.reading R.terms readers
+        ≡ readings_of (request_for job.now lets asked.now) →
+        IfOk result (λ text. IsFoundFor (request_for job.now lets asked.now)
+        (input_told S.file_name S.file S.sound S.opened S.left S.found S.faults input.old input.new)
+        (string_bytes text)) }
+    ensures stops { (lets : List Defined) →
+        readings_in R.reading R.terms readers
+        ≡ readings_of (request_for job.now lets asked.now) →
+        IfErr result (StopsAs (request_for job.now lets asked.now)
+        (input_told S.file_name S.file S.sound S.opened S.left S.found S.faults input.old
+        input.new)) }
+    ensures bounded { IsTrue (S.opened input.new) →
+        TakesAtMost (job.now.max_bytes + 1) (S.file input.old) (S.left input.new) }
+    ensures by_name { IsTrue (S.opened input.new) →
+        IfSome (S.file_name input.old) (λ told. told ≡ job.now.input) }
+{
+    let found = find(alloc, asked, job, readers, input)?;
+    let zones = zones_for(alloc, found.set, job.normal)?;
+    check_count(&zones, job.max_zones)?;
+    let text = offline_text(alloc, &zones, found.end, job.scale)?;
+    Ok(text)
+}

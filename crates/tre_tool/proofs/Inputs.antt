@@ -1,1 +1,0 @@
--- What was taken from a source, one read after the other.

@@ -1,0 +1,38 @@
+-- What the parts of a run promise each other.
+use Rattle.std.specs.Prelude.{◌≡◌, ◌≢◌, ℕ, List, [], ◌∷◌, Option, None, Some, IsTrue, Result, Ok, Err}
+use Rattle.tre_feed.specs.Input.{InputTold}
+use Rattle.tre_feed.specs.declared.fault.FeedFault.{FeedFault}
+use Rattle.tre_feed.specs.declared.fault.FeedFault.TheVariants.{Trace as FeedTrace, TooLong as FeedTooLong, Read as FeedRead, Memory as FeedMemory}
+use Rattle.tre_io.specs.Faults.{counted}
+use Rattle.tre_syntax.specs.Pattern.{pattern_tree, names_of}
+use Rattle.tre_syntax.specs.declared.pattern.Pattern.{Pattern}
+use Rattle.tre_tell.specs.Sought.{Sought}
+use Rattle.tre_tool.specs.Request.{unlabelled}
+use Rattle.tre_tool.specs.declared.status.Status.{Status}
+use Rattle.tre_tool.specs.declared.status.Status.TheVariants.{Done, Trace, InputTooLong, ReadFault, Memory}
+
+-- how a run ended that went on as `?` does
+abbrev pub status_of : {T : Type 0} → Result T Status → Status
+status_of (Ok value) = Done
+status_of (Err status) = status
+
+-- how a run ends where a file couldn't be read
+abbrev pub feed_status : FeedFault → Status
+feed_status (FeedTrace fault) = Trace fault
+feed_status FeedTooLong = InputTooLong
+feed_status FeedRead = ReadFault
+feed_status FeedMemory = Memory
+
+-- what is looked for by a pattern that has no label
+abbrev pub plain_sought : Pattern → Sought
+plain_sought pattern = unlabelled (pattern_tree pattern) (names_of pattern)
+
+-- a pattern, and another that is taken away from it, if there is one
+abbrev pub patterns_with : Pattern → Option Pattern → List Sought
+patterns_with pattern None = plain_sought pattern ∷ []
+patterns_with pattern (Some taken) = plain_sought pattern ∷ plain_sought taken ∷ []
+
+-- The file of checks of this name couldn't be opened or read.
+pub record IsUnread (file : List ℕ) (checks : InputTold) : Type 0 where
+  pub cause : checks.faults_now ≡ counted checks.faults_before
+  pub unsound : IsTrue checks.sound → checks.name ≢ Some file

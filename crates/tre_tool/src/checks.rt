@@ -1,0 +1,94 @@
+// What a file of checks asks for.
+ghost use Rattle.std.specs.Prelude.{◌≡◌, ◌≢◌, ◌≤◌, ◌<◌, ◌+◌, ◌++◌, IfOk, IfErr, IfSome, IsTrue, OnOk, codes, false, length, map, string_bytes};
+ghost use Rattle.tre_answer.specs.Request.{sought_in};
+ghost use Rattle.tre_decimal.specs.declared.TheConstants.{SCALE_MAX};
+ghost use Rattle.tre_feed.specs.Input.{AllReadsGood, TakesAtMost, input_told};
+ghost use Rattle.tre_tool.specs.Checks.{ChecksWereRead, SayPatterns, labelled};
+ghost use Rattle.tre_tool.specs.Parts.{IsUnread};
+ghost use Rattle.tre_tool.specs.Request.{IsRefusalOfFile};
+ghost use Rattle.tre_watch.specs.Steps.{spelt_in};
+ghost use Rattle.tre_watch.specs.declared.reader.TheConstants.{FILE_MAX};
+
+use crate::status::Status;
+use std::alloc::{AllocError, Global};
+use tre_answer::Asked;
+use tre_feed::read_front;
+use tre_io::Source;
+use tre_watch::{FILE_MAX, Plan, read_plan};
+
+// The label of a check: its name and a space.
+fn label_of(alloc: Global, name: &str) -> Result<String, AllocError>
+    ensures { IfOk result (λ label. string_bytes label ≡ name.now ++ codes " ") }
+{
+    let mut label = String::from_str(alloc, name)?;
+    label.push_str(" ")?;
+    Ok(label)
+}
+
+// The label of each check.
+fn labels_of(alloc: Global, plan: &Plan) -> Result<Vec<String>, AllocError>
+    ensures { IfOk result (λ labels. map string_bytes labels.items
+        ≡ map (λ name. name ++ codes " ") plan.now.names) }
+{
+    let mut labels = Vec::new(alloc);
+    for place in 0..plan.len() {
+        if let Some(name) = plan.name(place) {
+            labels.push(label_of(alloc, name)?)?;
+        }
+    }
+    Ok(labels)
+}
+
+// What a plan asks for.
+fn asked_of_plan(alloc: Global, plan: Plan) -> Result<Asked, AllocError>
+    ensures sought { IfOk result (λ asked. sought_in asked
+        ≡ labelled plan.names (spelt_in plan.patterns.items)) }
+    ensures labels { IfOk result (λ asked.
+        length asked.labels.items ≡ length asked.patterns.items) }
+    ensures patterns { IfOk result (λ asked. asked.patterns ≡ plan.patterns) }
+{
+    let labels = labels_of(alloc, &plan)?;
+    Ok(Asked {
+        patterns: plan.into_patterns(),
+        labels,
+    })
+}
+
+/// What the file of checks of this name asks for, which `checks` has.
+pub fn asked_of_checks<P: Source>(
+    alloc: Global,
+    file: &str,
+    scale: u8,
+    checks: &mut P,
+) -> Result<Asked, Status>
+    requires closed { P.opened checks.old ≡ false }
+    requires scale { scale ≤ SCALE_MAX }
+    ensures patterns { IfOk result (λ asked. SayPatterns (ChecksWereRead
+        (input_told P.file_name P.file P.sound P.opened P.left P.found P.faults checks.old
+        checks.new)) scale (sought_in asked)) }
+    ensures labels { IfOk result (λ asked.
+        length asked.labels.items ≡ length asked.patterns.items) }
+    ensures some { IfOk result (λ asked. 0 < length asked.patterns.items) }
+    ensures good { OnOk result (AllReadsGood
+        (input_told P.file_name P.file P.sound P.opened P.left P.found P.faults checks.old
+        checks.new)) }
+    ensures wanting { IfErr result (λ status. status ≢ Status.ReadFault → AllReadsGood
+        (input_told P.file_name P.file P.sound P.opened P.left P.found P.faults checks.old
+        checks.new)) }
+    ensures refuses { IfErr result (λ status. status ≢ Status.Memory →
+        status ≢ Status.ReadFault → IsRefusalOfFile (ChecksWereRead
+        (input_told P.file_name P.file P.sound P.opened P.left P.found P.faults checks.old
+        checks.new)) scale status) }
+    ensures unread { IfErr result (λ status. status ≡ Status.ReadFault → IsUnread file.now
+        (input_told P.file_name P.file P.sound P.opened P.left P.found P.faults checks.old
+        checks.new)) }
+    ensures bounded { IsTrue (P.opened checks.new) →
+        TakesAtMost (FILE_MAX + 1) (P.file checks.old) (P.left checks.new) }
+    ensures by_name { IsTrue (P.opened checks.new) →
+        IfSome (P.file_name checks.old) (λ told. told ≡ file.now) }
+{
+    let bytes = read_front(alloc, file, FILE_MAX + 1, checks)?;
+    let plan = read_plan(alloc, &bytes, scale)?;
+    let asked = asked_of_plan(alloc, plan)?;
+    Ok(asked)
+}
