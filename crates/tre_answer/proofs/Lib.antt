@@ -3,9 +3,7 @@ pub mod Answering
 pub mod Canonical
 pub mod Differences
 pub mod Found
-pub mod Lists
 pub mod OnlineRuns
-pub mod Outcomes
 pub mod Readings
 pub mod SameReadings
 pub mod Stops
