@@ -1,2 +1,4 @@
 pub mod MadeRuns
+pub mod Pieces
+pub mod Plans
 pub mod Promise
