@@ -23,9 +23,9 @@ use Rattle.tre_trace.specs.Trace.{IsTrace}
 use Rattle.tre_trace.specs.declared.segment.Segment.{Segment}
 use Rattle.tre_tell.specs.Ends.{EndsTelling}
 use Rattle.tre_tell.specs.Faults.{told_fault}
-use Rattle.tre_tell.specs.Outputs.{OutputTold, AllWritesGood}
+use Rattle.tre_tell.specs.Outputs.{OutputTold, AllWritesGood, NothingWritten}
 use Rattle.tre_tell.specs.Sought.{Sought, sought_by}
-use Rattle.tre_tell.specs.Standing.{BlocksStand}
+use Rattle.tre_tell.specs.Standing.{BlocksStand, FirstBlocksStand}
 use Rattle.tre_tell.specs.Telling.{first_row, joined, CanTellAll, HasTold, HasWriteCause}
 use Rattle.tre_tell.specs.Watched.{Watched, watched_by, SayNothing}
 use Rattle.tre_tell.specs.declared.fault.TellFault.{TellFault}
@@ -335,6 +335,47 @@ module _ (labels : List (List ℕ)) (patterns : List Pattern)
     of_closed = λ closed. refl;
   }
 
+  -- no block stands there
+  pub FirstBlocksStand-unread : (input : InputTold) (output : OutputTold)
+      → (IsTrue input.opened → Keeps input.file input.left)
+      → (IsTrue input.opened → Keeps input.found input.file)
+      → output.written_now ≡ output.written_before → AllWritesGood output
+      → FirstBlocksStand (watched_by labels patterns readings limit scale) input output
+  FirstBlocksStand-unread input output kept finds unwritten writes =
+      let none : (common (readings false [])).segments ≡ [] =
+      common_nothing (readings false []) nothing_each in
+      record {
+        readings = readings false [];
+        count = 0;
+        prompt = record {
+          bytes = [];
+          read = none_read input kept;
+          closed = false;
+          all_read = λ e. cc;
+          within = λ e. cc;
+          known = rw none_taken refl;
+          last = record {
+            earlier = [];
+            piece = [];
+            split = refl;
+            short = omega arith;
+            behind = λ is_open. found_behind input.file input.file input.found []
+                (Consumes-nil input.file) (finds is_open);
+          };
+          prompt = rw (none_taken, none) (omega arith);
+        };
+        few = omega arith;
+        stand = none_stands 0 output unwritten writes;
+      }
+
+  -- nor of one that wasn't opened
+  pub FirstBlocksStand-unopened : (input : InputTold) (output : OutputTold)
+      → input.opened ≡ false → NothingWritten output
+      → FirstBlocksStand (watched_by labels patterns readings limit scale) input output
+  FirstBlocksStand-unopened input output closed none =
+      FirstBlocksStand-unread input output (λ is_open. cc) (λ is_open. cc) none.unwritten
+      none.writes
+
   -- it couldn't be opened, or memory was wanting then
   pub EndsTelling-unread : (name : List ℕ) (input : InputTold) (output : OutputTold)
       (fault : FeedFault) → (common (readings false [])).fault ≡ None
@@ -363,34 +404,9 @@ module _ (labels : List (List ℕ)) (patterns : List Pattern)
         };
       }
   EndsTelling-unread name input output FeedMemory faultless kept finds read only sound unwritten
-      writes =
-      let none : (common (readings false [])).segments ≡ [] =
-      common_nothing (readings false []) nothing_each in
-      record {
+      writes = record {
         reads = read;
-        stands = record {
-          readings = readings false [];
-          count = 0;
-          prompt = record {
-            bytes = [];
-            read = none_read input kept;
-            closed = false;
-            all_read = λ e. cc;
-            within = λ e. cc;
-            known = rw none_taken refl;
-            last = record {
-              earlier = [];
-              piece = [];
-              split = refl;
-              short = omega arith;
-              behind = λ is_open. found_behind input.file input.file input.found []
-                  (Consumes-nil input.file) (finds is_open);
-            };
-            prompt = rw (none_taken, none) (omega arith);
-          };
-          few = omega arith;
-          stand = none_stands 0 output unwritten writes;
-        };
+        stands = FirstBlocksStand-unread input output kept finds unwritten writes;
       }
   EndsTelling-unread name input output (FeedTrace fault) faultless kept finds read only sound
       unwritten writes = absurd (only (λ e. cc) (λ e. cc))

@@ -174,8 +174,8 @@ module _ (watched : Watched) (grows : GrowEach watched.readings)
         watched.readings turn.has.closed (take watched.limit (bytes ++ turn.has.piece))
 
     pub known : KnowRows (before_turn bytes) readings_now waiting
-    known = known_by input.file input.left input.found bytes turn.old waiting fed turn.has turn.empty
-        turn.count fed turn.has.adds
+    known = known_by input.file input.left input.found bytes turn.old waiting fed turn.has
+        turn.empty turn.count fed turn.has.adds
 
     -- no segment was complete when the last read began that wasn't told before the turn
     prompt_with : (count : ℕ) → count_before bytes ≤ count
