@@ -1,11 +1,11 @@
 -- Readers of one format, with the segments that each has read and nobody has taken.
-use Rattle.std.specs.Prelude.{◌≡◌, ℕ, ◌+◌, ◌≤◌, List, [], map, slice_index_or, All, None, Some, Result, Ok, Err}
+use Rattle.std.specs.Prelude.{◌≡◌, ℕ, ◌+◌, ◌≤◌, Bool, List, [], length, map, slice_index_or, All, None, Some, Result, Ok, Err}
 use Rattle.tre_trace.specs.Reading.{Reading}
 use Rattle.tre_trace.specs.Trace.{Timeline, timeline_of}
 use Rattle.tre_trace.specs.declared.segment.Segment.{Segment}
 use Rattle.tre_trace.specs.declared.reader.TheConstants.{FED_MAX}
 use Rattle.tre_feed.specs.Outcome.{IsInputKind}
-use Rattle.tre_feed.specs.Readings.{AddsEach, AreLevel, common}
+use Rattle.tre_feed.specs.Readings.{AddsEach, AreLevel, common, readings_by}
 use Rattle.tre_feed.specs.declared.fault.FeedFault.{FeedFault}
 use Rattle.tre_feed.specs.declared.fault.FeedFault.TheVariants.{Trace, Memory}
 use Rattle.tre_feed.specs.declared.fed.Fed.{Fed}
@@ -19,9 +19,18 @@ row_of fed = fed.segments.items
 abbrev pub trace_of : {R : Type 0} → Fed R → Timeline
 trace_of fed = timeline_of fed.segments.items fed.last
 
--- The terms that each reads by.
+-- the terms that each reads by
 abbrev pub terms_of : {R Terms : Type 0} → (R → Terms) → Readers R → List Terms
 terms_of terms readers = map (λ fed. terms fed.reader) readers.each.items
+
+-- How many readers there are.
+abbrev pub how_many : {R : Type 0} → Readers R → ℕ
+how_many readers = length readers.each.items
+
+-- What the bytes say for each of the readers, closed or not yet.
+abbrev pub readings_in : {R Terms : Type 0} → (Terms → Bool → List ℕ → Reading) → (R → Terms) →
+    Readers R → Bool → List ℕ → List Reading
+readings_in reading terms readers = readings_by reading (terms_of terms readers)
 
 -- The segments of each that nobody has taken.
 abbrev pub rows_of : {R : Type 0} → Readers R → List (List Segment)

@@ -7,6 +7,7 @@
 //! specs/Readings.antt, and how a turn ends in specs/Feeding.antt. The layers above rely on this:
 //! however a turn ends, as many segments wait of each reader, and they are just those that its
 //! reading has beyond the earlier. [`read_traces`] takes all turns and gives the traces.
+//! [`read_front`] gives the bytes of a file that is read for its own sake, up to a limit.
 //!
 //! ```text
 //! let mut readers = Readers::new(alloc);
@@ -22,11 +23,13 @@
 mod fault;
 mod fed;
 mod feed;
+mod front;
 mod readers;
 mod whole;
 
 pub use fault::FeedFault;
 pub use feed::Feed;
+pub use front::read_front;
 pub use readers::Readers;
 pub use whole::read_traces;
 

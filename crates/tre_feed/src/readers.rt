@@ -1,9 +1,9 @@
 // Readers of one format that read the same bytes.
-ghost use Rattle.std.specs.Prelude.{◌≡◌, ◌≢◌, ◌↔◌, ℕ, ◌+◌, ◌<◌, ◌≤◌, ◌++◌, ◌∷◌, [], List, All, map, length, false, true, Err, IsTrue, OnOk, OnErr, IfOk};
+ghost use Rattle.std.specs.Prelude.{◌≡◌, ◌≢◌, ◌↔◌, ℕ, Bool, ◌+◌, ◌<◌, ◌≤◌, ◌++◌, ◌∷◌, [], List, All, map, length, false, true, Err, IsTrue, OnOk, OnErr, IfOk};
 ghost use Rattle.tre_trace.specs.Trace.{IsTrace};
 ghost use Rattle.tre_trace.specs.declared.reader.TheConstants.{FED_MAX};
 ghost use Rattle.tre_feed.specs.Fed.{Changed, IsCutTo, IsEndOfAll, IsOfReader, Kept, TookEnd, TookPiece};
-ghost use Rattle.tre_feed.specs.Readers.{AreFresh, HaveRoom, TakesIn, WereFed, column, lasts_of, rows_of, terms_of, traces_of};
+ghost use Rattle.tre_feed.specs.Readers.{AreFresh, HaveRoom, TakesIn, WereFed, column, how_many, lasts_of, readings_in, rows_of, traces_of};
 ghost use Rattle.tre_feed.specs.Readings.{AgreeAlways, AreLevel, count_of, readings_by};
 
 use crate::fault::FeedFault;
@@ -24,7 +24,9 @@ impl<R: TraceReader + Drop> Readers<R> {
     /// No reader yet.
     pub fn new(alloc: Global) -> Readers<R>
         ensures fresh { AreFresh R.represents result }
-        ensures terms { terms_of R.terms result ≡ [] }
+        ensures readings { (closed : Bool) (bytes : List ℕ) →
+            readings_in R.reading R.terms result closed bytes ≡ [] }
+        ensures count { how_many result ≡ 0 }
     {
         Readers {
             each: Vec::new(alloc),
@@ -36,10 +38,14 @@ impl<R: TraceReader + Drop> Readers<R> {
         requires others { AreFresh R.represents self.old }
         requires fresh { R.represents reader [] }
         ensures fresh { AreFresh R.represents self.new }
-        ensures terms { OnOk result (terms_of R.terms self.new
-            ≡ terms_of R.terms self.old ++ R.terms reader ∷ []) }
-        ensures same_terms { OnErr result (terms_of R.terms self.new
-            ≡ terms_of R.terms self.old) }
+        ensures readings { OnOk result ((closed : Bool) (bytes : List ℕ) →
+            readings_in R.reading R.terms self.new closed bytes
+            ≡ readings_in R.reading R.terms self.old closed bytes
+            ++ R.reading (R.terms reader) closed bytes ∷ []) }
+        ensures count { OnOk result (how_many self.new ≡ how_many self.old + 1) }
+        ensures same { OnErr result (readings_in R.reading R.terms self.new
+            ≡ readings_in R.reading R.terms self.old) }
+        ensures same_count { OnErr result (how_many self.new ≡ how_many self.old) }
     {
         self.each.push(Fed::new(alloc, reader))?;
         Ok(())
@@ -47,7 +53,7 @@ impl<R: TraceReader + Drop> Readers<R> {
 
     /// How many readers there are.
     pub fn len(&self) -> usize
-        ensures { result ≡ length (terms_of R.terms self.now) }
+        ensures { result ≡ how_many self.now }
     {
         self.each.len()
     }
@@ -92,7 +98,8 @@ impl<R: TraceReader + Drop> Readers<R> {
         ensures fed { (bytes : List ℕ) → WereFed R.represents self.old bytes →
             WereFed R.represents self.new bytes }
         ensures lasts { lasts_of self.new ≡ lasts_of self.old }
-        ensures terms { terms_of R.terms self.new ≡ terms_of R.terms self.old }
+        ensures same { readings_in R.reading R.terms self.new
+            ≡ readings_in R.reading R.terms self.old }
     {
         cut_each(&mut self.each, 0);
     }
@@ -101,17 +108,18 @@ impl<R: TraceReader + Drop> Readers<R> {
     /// Where there is no memory for one, no segment is put behind those that wait.
     pub fn feed(&mut self, piece: &[u8]) -> Result<(), FeedFault>
         requires room { HaveRoom R.fed_of self.old (length piece.now) }
-        requires alike { AgreeAlways (readings_by R.reading (terms_of R.terms self.old)) }
+        requires alike { AgreeAlways (readings_in R.reading R.terms self.old) }
         ensures goes_on { (bytes : List ℕ) → WereFed R.represents self.old bytes →
             OnOk result (WereFed R.represents self.new (bytes ++ piece.now)) }
         ensures takes { (bytes : List ℕ) → WereFed R.represents self.old bytes →
             TakesIn (rows_of self.old) (rows_of self.new)
-            (readings_by R.reading (terms_of R.terms self.old) false bytes)
-            (readings_by R.reading (terms_of R.terms self.old) false (bytes ++ piece.now)) result }
+            (readings_in R.reading R.terms self.old false bytes)
+            (readings_in R.reading R.terms self.old false (bytes ++ piece.now)) result }
         ensures level { (bytes : List ℕ) → WereFed R.represents self.old bytes →
             AreLevel (rows_of self.new) }
         ensures of_reader { IsOfReader result }
-        ensures terms { terms_of R.terms self.new ≡ terms_of R.terms self.old }
+        ensures same { readings_in R.reading R.terms self.new
+            ≡ readings_in R.reading R.terms self.old }
     {
         let waiting = self.waiting();
         let outcome = feed_each(&mut self.each, piece);
@@ -125,18 +133,19 @@ impl<R: TraceReader + Drop> Readers<R> {
     /// Tells all of them the end, also behind one that has a fault, since all have the same. Where
     /// there is no memory for one, no segment is put behind those that wait.
     pub fn finish(&mut self) -> Result<(), FeedFault>
-        requires alike { AgreeAlways (readings_by R.reading (terms_of R.terms self.old)) }
+        requires alike { AgreeAlways (readings_in R.reading R.terms self.old) }
         ensures takes { (bytes : List ℕ) → WereFed R.represents self.old bytes →
             TakesIn (rows_of self.old) (rows_of self.new)
-            (readings_by R.reading (terms_of R.terms self.old) false bytes)
-            (readings_by R.reading (terms_of R.terms self.old) true bytes) result }
+            (readings_in R.reading R.terms self.old false bytes)
+            (readings_in R.reading R.terms self.old true bytes) result }
         ensures lasts { (bytes : List ℕ) → WereFed R.represents self.old bytes →
             OnOk result (lasts_of self.new ≡ map (λ reading. reading.last)
-            (readings_by R.reading (terms_of R.terms self.old) true bytes)) }
+            (readings_in R.reading R.terms self.old true bytes)) }
         ensures level { (bytes : List ℕ) → WereFed R.represents self.old bytes →
             AreLevel (rows_of self.new) }
         ensures of_reader { IsOfReader result }
-        ensures terms { terms_of R.terms self.new ≡ terms_of R.terms self.old }
+        ensures same { readings_in R.reading R.terms self.new
+            ≡ readings_in R.reading R.terms self.old }
     {
         let waiting = self.waiting();
         let outcome = finish_each(&mut self.each);

@@ -7,12 +7,13 @@ use Rattle.std.proofs.lemmas.List.{length-map}
 use Rattle.std.proofs.lemmas.List.Elements.{All-head, All-weaker, recursion_from_All}
 use Rattle.tre_feed.specs.Feeding.{IsFed, HasRead, GoesOn, StopsTurn, EndsTurn}
 use Rattle.tre_feed.specs.Input.{InputTold, WereRead, TakesAtMost, HasReadCause}
-use Rattle.tre_feed.specs.Readers.{row_of, terms_of, rows_of, lasts_of, WereFed, WereFedAtMost}
-use Rattle.tre_feed.specs.Readings.{readings_by, common, AgreeAlways, rows_in, AddsEach}
+use Rattle.tre_feed.specs.Readers.{readings_in, rows_of, WereFed, WereFedAtMost}
+use Rattle.tre_feed.specs.Readings.{common, AgreeAlways, rows_in, AddsEach}
 use Rattle.tre_feed.specs.declared.fault.FeedFault.{FeedFault}
 use Rattle.tre_feed.specs.declared.fault.FeedFault.TheVariants.{Trace as FeedTrace, TooLong as FeedTooLong, Read as FeedRead, Memory as FeedMemory}
 use Rattle.tre_feed.specs.declared.fed.Fed.{Fed}
 use Rattle.tre_feed.specs.declared.readers.Readers.{Readers}
+use Rattle.tre_feed.proofs.Read.{fed_at_most, same_length}
 use Rattle.tre_online.specs.Watch.{trees_of, ended_of_each, Watches}
 use Rattle.tre_online.specs.declared.watch.Watch.{Watch}
 use Rattle.tre_parts.specs.Alike.{lengths_of}
@@ -215,50 +216,24 @@ module _ (watched : Watched) (grows : GrowEach watched.readings)
   CanTell-turn (Err FeedRead) turn = can_by (Err FeedRead) turn turn.has.adds
   CanTell-turn (Err FeedMemory) turn = can_none (Err FeedMemory) turn turn.has.adds
 
--- what is so of readers that were fed
-module _ {R Terms : Type 0} (represents : R → List ℕ → Type 0) (terms : R → Terms)
-    (reading : Terms → Bool → List ℕ → Reading) (fed_of : R → ℕ) where
-  -- they were fed no more than was taken
-  pub WereFedAtMost-taken : ((reader : R) (bytes : List ℕ) → represents reader bytes
-      → fed_of reader ≡ length bytes) → (readers : Readers R) (limit count : ℕ) (bytes : List ℕ)
-      → length bytes ≡ count → WereFed represents readers (take limit bytes)
-      → WereFedAtMost fed_of readers count
-  WereFedAtMost-taken counts readers limit count bytes size fed = record {
-    each = All-weaker (λ (one : Fed R). represents one.reader (take limit bytes))
-        (λ one. fed_of one.reader ≤ count)
-        (λ one so. omega (
-          arith,
-          counts one.reader (take limit bytes) so,
-          size,
-          length-take {A = ℕ} limit bytes,
-        )) readers.each.items fed.each;
-  }
+-- they were fed no more than was taken
+pub WereFedAtMost-taken : {R : Type 0} (represents : R → List ℕ → Type 0) (fed_of : R → ℕ)
+    → ((reader : R) (bytes : List ℕ) → represents reader bytes → fed_of reader ≡ length bytes)
+    → (readers : Readers R) (limit count : ℕ) (bytes : List ℕ) → length bytes ≡ count
+    → WereFed represents readers (take limit bytes) → WereFedAtMost fed_of readers count
+WereFedAtMost-taken represents fed_of counts readers limit count bytes size fed =
+    fed_at_most represents fed_of counts readers (take limit bytes) count fed
+    (omega (arith, size, length-take {A = ℕ} limit bytes))
 
-  -- what they were fed has no fault
-  pub faultless_by : ((reader : R) (bytes : List ℕ) → represents reader bytes
-      → (reading (terms reader) false bytes).fault ≡ None) → (readers : Readers R)
-      (bytes : List ℕ) → WereFed represents readers bytes
-      → (common (readings_by reading (terms_of terms readers) false bytes)).fault ≡ None
-  faultless_by faultless readers bytes fed = first_of readers.each.items fed.each
-    where
-      first_of : (each : List (Fed R)) → All (λ one. represents one.reader bytes) each
-          → (common (readings_by reading (map (λ one. terms one.reader) each) false bytes)).fault
-          ≡ None
-      first_of [] all = refl
-      first_of (one ∷ each) all = faultless one.reader bytes
-          (All-head (λ (one : Fed R). represents one.reader bytes) one each all)
-
-  -- each has one row and one reading
-  pub count_readers : (readers : Readers R) (closed : Bool) (bytes : List ℕ)
-      → length (rows_of readers)
-      ≡ length (rows_in (readings_by reading (terms_of terms readers) closed bytes))
-  count_readers readers closed bytes = by_each readers.each.items
-    where
-      by_each : (each : List (Fed R)) → length (map row_of each)
-          ≡ length (rows_in (readings_by reading (map (λ one. terms one.reader) each) closed
-          bytes))
-      by_each [] = refl
-      by_each (one ∷ each) = ap suc (by_each each)
+-- each has one row and one reading
+pub count_readers : {R Terms : Type 0} (terms : R → Terms)
+    (reading : Terms → Bool → List ℕ → Reading) (readers : Readers R) (closed : Bool)
+    (bytes : List ℕ) → length (rows_of readers)
+    ≡ length (rows_in (readings_in reading terms readers closed bytes))
+count_readers terms reading readers closed bytes =
+    same_length terms readers reading closed bytes
+    ∙ sym (length-map (readings_in reading terms readers closed bytes)
+    (λ (reading : Reading). reading.segments))
 
 rows_nothing : (readings : List Reading) (patterns : List Pattern)
     → AllByRecursion (λ reading. reading.segments ≡ []) readings
@@ -286,13 +261,6 @@ common_nothing : (readings : List Reading)
     → AllByRecursion (λ reading. reading.segments ≡ []) readings → (common readings).segments ≡ []
 common_nothing [] nothing = refl
 common_nothing (reading ∷ readings) nothing = nothing.0
-
--- each has told its last events
-pub lasts_count : {R : Type 0} (readers : Readers R)
-    → length (lasts_of readers) ≡ length (rows_of readers)
-lasts_count {R} readers =
-    length-map readers.each.items (λ (one : Fed R). one.last)
-    ∙ sym (length-map readers.each.items row_of)
 
 -- an input of which nothing was read
 module _ (labels : List (List ℕ)) (patterns : List Pattern)

@@ -4,7 +4,11 @@ use Rattle.std.specs.List.{AllByRecursion, AllZip}
 use Rattle.std.proofs.Math.Seq.{take-append-add, take-append_seam}
 use Rattle.std.proofs.lemmas.List.{length-map, map-append, drop_at}
 use Rattle.std.proofs.lemmas.List.Elements.{recursion_from_All}
-use Rattle.tre_feed.specs.Readings.{readings_by, common, AreAllAlike, rows_in, AddsEach, adds_none, adds_next, count_of}
+use Rattle.tre_feed.specs.Readers.{readings_in}
+use Rattle.tre_feed.specs.Readings.{common, AreAllAlike, rows_in, AddsEach, adds_none, adds_next, count_of}
+use Rattle.tre_feed.specs.declared.readers.Readers.{Readers}
+use Rattle.tre_feed.proofs.Outcomes.{AllGrow, GrowEach as GrowsBy, grow_none, grow_next}
+use Rattle.tre_feed.proofs.Read.{all_traces}
 use Rattle.tre_parts.specs.Alike.{lengths_of, AreAlike}
 use Rattle.tre_trace.specs.Reading.{Reading, Adds, Grows}
 use Rattle.tre_trace.specs.Trace.{IsTrace, quiet}
@@ -170,19 +174,23 @@ alike_added {befores = befores} {nows = nows} adds empty alike alike' =
           each_one rest empty.1 ones.1 others.1,
         )
 
--- what is so of the readings of each reader
-module _ {Terms : Type 0} (reading : Terms → Bool → List ℕ → Reading) where
-  pub GrowEach-by : ((terms : Terms) (closed : Bool) (first more : List ℕ)
-      → Grows (reading terms false first) (reading terms closed (first ++ more)))
-      → (all : List Terms) → GrowEach (readings_by reading all)
-  GrowEach-by grows [] closed first more = tt
-  GrowEach-by grows (terms ∷ all) closed first more =
-      (grows terms closed first more, GrowEach-by grows all closed first more)
+-- nothing is taken back by any
+zip_of : {befores nows : List Reading} → GrowsBy befores nows → AllZip Grows befores nows
+zip_of grow_none = tt
+zip_of (grow_next grows rest) = (grows, zip_of rest)
 
-  pub traces_by : ((terms : Terms) (closed : Bool) (bytes : List ℕ)
-      → IsTrace (reading terms closed bytes).segments)
-      → (all : List Terms) (closed : Bool) (bytes : List ℕ)
-      → AllByRecursion (λ one. IsTrace one.segments) (readings_by reading all closed bytes)
-  traces_by is_trace [] closed bytes = tt
-  traces_by is_trace (terms ∷ all) closed bytes =
-      (is_trace terms closed bytes, traces_by is_trace all closed bytes)
+pub GrowEach-by : (readings : Bool → List ℕ → List Reading) → AllGrow readings
+    → GrowEach readings
+GrowEach-by readings grow closed first more = zip_of (grow closed first more)
+
+-- each reading is a trace
+pub traces_by : {R Terms : Type 0} (terms : R → Terms)
+    (reading : Terms → Bool → List ℕ → Reading)
+    → ((terms : Terms) (closed : Bool) (bytes : List ℕ)
+    → IsTrace (reading terms closed bytes).segments)
+    → (readers : Readers R) (closed : Bool) (bytes : List ℕ)
+    → AllByRecursion (λ one. IsTrace one.segments) (readings_in reading terms readers closed bytes)
+traces_by terms reading is_trace readers closed bytes =
+    recursion_from_All (λ (one : Reading). IsTrace one.segments)
+    (readings_in reading terms readers closed bytes)
+    (all_traces terms reading is_trace readers closed bytes)

@@ -1,7 +1,7 @@
-use Rattle.std.proofs.Common.{◌≡◌, ◌+◌, ◌-◌, ◌≤◌, ℕ, List, false, true, Ok, Err, length, map, take, arith, subst, length-take}
+use Rattle.std.proofs.Common.{◌≡◌, ◌+◌, ◌-◌, ◌≤◌, ℕ, Bool, List, false, true, Ok, Err, length, map, take, arith, subst, length-take}
 use Rattle.std.proofs.lemmas.Result.{err_from_is_err_and}
-use Rattle.tre_feed.specs.Readers.{TakesIn, WereFed, lasts_of, rows_of, terms_of}
-use Rattle.tre_feed.specs.Readings.{readings_by}
+use Rattle.tre_trace.specs.Reading.{Reading}
+use Rattle.tre_feed.specs.Readers.{TakesIn, WereFed, lasts_of, readings_in, rows_of}
 use Rattle.tre_feed.specs.declared.TheConstants.{PIECE}
 use Rattle.tre_feed.proofs.Outcomes.{TellsAll-exceeds}
 use Rattle.tre_feed.proofs.Pieces.{AddsEach-end, AddsEach-none, GoesOn-fed, HasRead-end, HasRead-fed, HasRead-nothing, HasRead-refused, HasRead-stops, IsAtEndOf-read, IsEnded-end, IsFed-all, StopsTurn-end, StopsTurn-piece}
@@ -12,7 +12,7 @@ pub returns-then-taken-limit-clause-read : goal.returns-then-taken-limit-clause-
 returns-then-taken-limit-clause-read g c =
     let reader = g.R.TraceReader in
     let readers = c.args.readers.now in
-    let readings = readings_by reader.reading (terms_of reader.terms readers) in
+    let readings = readings_in reader.reading reader.terms readers in
     λ file bytes so_far. HasRead-nothing so_far readings (rows_of readers) so_far.fed.level
     (AddsEach-none (rows_of readers) _ (same_length reader.terms readers reader.reading false
     (take c.args.limit bytes)))
@@ -21,7 +21,7 @@ pub returns-then-taken-limit-clause-ends : goal.returns-then-taken-limit-clause-
 returns-then-taken-limit-clause-ends g c =
     let reader = g.R.TraceReader in
     let readers = c.args.readers.now in
-    let readings = readings_by reader.reading (terms_of reader.terms readers) in
+    let readings = readings_in reader.reading reader.terms readers in
     λ file bytes so_far. TellsAll-exceeds readings c.args.limit file _ bytes (rows_of readers)
     so_far.front (omega (arith, so_far.size, c.if-taken-limit.true))
     (faultless_now reader.terms reader.represents reader.reading g.met.R.TraceReader.faultless
@@ -33,7 +33,7 @@ pub returns-in_err-count-clause-read : goal.returns-in_err-count-clause-read
 returns-in_err-count-clause-read g c =
     let reader = g.R.TraceReader in
     let readers = c.args.readers.now in
-    let readings = readings_by reader.reading (terms_of reader.terms readers) in
+    let readings = readings_in reader.reading reader.terms readers in
     let inside = c.if-taken-limit.false in
     let piece_room = take c.min-room.result c.args.buffer.now in
     let some : length piece_room ≤ c.args.limit - c.args.taken.now + 1
@@ -53,7 +53,7 @@ pub returns-in_err-count-clause-ends : goal.returns-in_err-count-clause-ends
 returns-in_err-count-clause-ends g c =
     let reader = g.R.TraceReader in
     let readers = c.args.readers.now in
-    let readings = readings_by reader.reading (terms_of reader.terms readers) in
+    let readings = readings_in reader.reading reader.terms readers in
     let inside = c.if-taken-limit.false in
     let piece_room = take c.min-room.result c.args.buffer.now in
     let some : length piece_room ≤ c.args.limit - c.args.taken.now + 1
@@ -65,18 +65,18 @@ returns-in_err-count-clause-ends g c =
     (g.S.Source.left c.feed_piece.new.input) (g.S.Source.found c.feed_piece.new.input)
     c.feed_piece.ensures.finds inside (length piece_room) some fits (rows_of readers)
     (rows_of c.feed_piece.new.readers) c.in_err-count.field-0.0
-    (all_grow reader.reading g.met.R.TraceReader.grows (terms_of reader.terms readers))
+    (all_grow reader.terms reader.reading g.met.R.TraceReader.grows readers)
     (c.requires.alike false)
     (c.in_err-count.ensures.stops bytes (IsFed-all so_far inside)))
 
 pub finish-requires : goal.finish-requires
-finish-requires g c = record { alike = rw c.in_ok-count.ensures.terms c.requires.alike }
+finish-requires g c = record { alike = rw c.in_ok-count.ensures.same c.requires.alike }
 
 pub returns-in_err-finish-clause-read : goal.returns-in_err-finish-clause-read
 returns-in_err-finish-clause-read g c =
     let reader = g.R.TraceReader in
     let readers = c.args.readers.now in
-    let readings = readings_by reader.reading (terms_of reader.terms readers) in
+    let readings = readings_in reader.reading reader.terms readers in
     let inside = c.if-taken-limit.false in
     let count = c.in_ok-count.count in
     let buffer = c.feed_piece.new.buffer in
@@ -94,10 +94,10 @@ returns-in_err-finish-clause-read g c =
     let same = AddsEach-end readings (c.args.limit - c.args.taken.now) count bytes buffer
     (rows_of readers) (rows_of c.feed_piece.new.readers) none
     (c.in_ok-count.ensures.adds bytes fed) in
-    let takes = subst (λ (all : List reader.Terms). TakesIn (rows_of c.feed_piece.new.readers)
-    (rows_of c.finish.new.self) (readings_by reader.reading all false bytes)
-    (readings_by reader.reading all true bytes)
-    (Err c.in_err-finish.field-0.0)) c.in_ok-count.ensures.terms
+    let takes = subst (λ (all : Bool → List ℕ → List Reading). TakesIn (rows_of c.feed_piece.new.readers)
+    (rows_of c.finish.new.self) (all false bytes)
+    (all true bytes)
+    (Err c.in_err-finish.field-0.0)) c.in_ok-count.ensures.same
     (c.in_err-finish.ensures.takes bytes at_end.fed) in
     rw (p.1, p.2) (HasRead-refused readings at_end (rows_of readers)
     (rows_of c.feed_piece.new.readers) (rows_of c.finish.new.self) same c.in_err-finish.field-0.0
@@ -107,7 +107,7 @@ pub returns-in_err-finish-clause-ends : goal.returns-in_err-finish-clause-ends
 returns-in_err-finish-clause-ends g c =
     let reader = g.R.TraceReader in
     let readers = c.args.readers.now in
-    let readings = readings_by reader.reading (terms_of reader.terms readers) in
+    let readings = readings_in reader.reading reader.terms readers in
     let inside = c.if-taken-limit.false in
     let count = c.in_ok-count.count in
     let buffer = c.feed_piece.new.buffer in
@@ -125,10 +125,10 @@ returns-in_err-finish-clause-ends g c =
     let same = AddsEach-end readings (c.args.limit - c.args.taken.now) count bytes buffer
     (rows_of readers) (rows_of c.feed_piece.new.readers) none
     (c.in_ok-count.ensures.adds bytes fed) in
-    let takes = subst (λ (all : List reader.Terms). TakesIn (rows_of c.feed_piece.new.readers)
-    (rows_of c.finish.new.self) (readings_by reader.reading all false bytes)
-    (readings_by reader.reading all true bytes)
-    (Err c.in_err-finish.field-0.0)) c.in_ok-count.ensures.terms
+    let takes = subst (λ (all : Bool → List ℕ → List Reading). TakesIn (rows_of c.feed_piece.new.readers)
+    (rows_of c.finish.new.self) (all false bytes)
+    (all true bytes)
+    (Err c.in_err-finish.field-0.0)) c.in_ok-count.ensures.same
     (c.in_err-finish.ensures.takes bytes at_end.fed) in
     rw (p.1, p.2) (StopsTurn-end readings at_end (rows_of readers)
     (rows_of c.feed_piece.new.readers) (rows_of c.finish.new.self) same c.in_err-finish.field-0.0
@@ -138,7 +138,7 @@ pub returns-then-count-eq0-clause-read : goal.returns-then-count-eq0-clause-read
 returns-then-count-eq0-clause-read g c =
     let reader = g.R.TraceReader in
     let readers = c.args.readers.now in
-    let readings = readings_by reader.reading (terms_of reader.terms readers) in
+    let readings = readings_in reader.reading reader.terms readers in
     let inside = c.if-taken-limit.false in
     let count = c.in_ok-count.count in
     let buffer = c.feed_piece.new.buffer in
@@ -154,9 +154,9 @@ returns-then-count-eq0-clause-read g c =
     let same = AddsEach-end readings (c.args.limit - c.args.taken.now) count bytes buffer
     (rows_of readers) (rows_of c.feed_piece.new.readers) none
     (c.in_ok-count.ensures.adds bytes fed) in
-    let takes = subst (λ (all : List reader.Terms). TakesIn (rows_of c.feed_piece.new.readers)
-    (rows_of c.finish.new.self) (readings_by reader.reading all false bytes)
-    (readings_by reader.reading all true bytes) (Ok tt)) c.in_ok-count.ensures.terms
+    let takes = subst (λ (all : Bool → List ℕ → List Reading). TakesIn (rows_of c.feed_piece.new.readers)
+    (rows_of c.finish.new.self) (all false bytes)
+    (all true bytes) (Ok tt)) c.in_ok-count.ensures.same
     (c.in_ok-finish.ensures.takes bytes at_end.fed) in
     HasRead-end readings at_end (rows_of readers) (rows_of c.feed_piece.new.readers)
     (rows_of c.finish.new.self) same false (c.in_ok-finish.ensures.level bytes at_end.fed) takes.0
@@ -165,7 +165,7 @@ pub returns-then-count-eq0-clause-ends : goal.returns-then-count-eq0-clause-ends
 returns-then-count-eq0-clause-ends g c =
     let reader = g.R.TraceReader in
     let readers = c.args.readers.now in
-    let readings = readings_by reader.reading (terms_of reader.terms readers) in
+    let readings = readings_in reader.reading reader.terms readers in
     let inside = c.if-taken-limit.false in
     let count = c.in_ok-count.count in
     let buffer = c.feed_piece.new.buffer in
@@ -181,21 +181,21 @@ returns-then-count-eq0-clause-ends g c =
     let same = AddsEach-end readings (c.args.limit - c.args.taken.now) count bytes buffer
     (rows_of readers) (rows_of c.feed_piece.new.readers) none
     (c.in_ok-count.ensures.adds bytes fed) in
-    let takes = subst (λ (all : List reader.Terms). TakesIn (rows_of c.feed_piece.new.readers)
-    (rows_of c.finish.new.self) (readings_by reader.reading all false bytes)
-    (readings_by reader.reading all true bytes) (Ok tt)) c.in_ok-count.ensures.terms
+    let takes = subst (λ (all : Bool → List ℕ → List Reading). TakesIn (rows_of c.feed_piece.new.readers)
+    (rows_of c.finish.new.self) (all false bytes)
+    (all true bytes) (Ok tt)) c.in_ok-count.ensures.same
     (c.in_ok-finish.ensures.takes bytes at_end.fed) in
     IsEnded-end readings at_end (rows_of readers) (rows_of c.feed_piece.new.readers)
     (rows_of c.finish.new.self) same (lasts_of c.finish.new.self) takes.0 takes.1
-    (subst (λ (all : List reader.Terms). lasts_of c.finish.new.self
-    ≡ map (λ reading. reading.last) (readings_by reader.reading all true bytes))
-    c.in_ok-count.ensures.terms (c.in_ok-finish.ensures.lasts bytes at_end.fed))
+    (subst (λ (all : Bool → List ℕ → List Reading). lasts_of c.finish.new.self
+    ≡ map (λ reading. reading.last) (all true bytes))
+    c.in_ok-count.ensures.same (c.in_ok-finish.ensures.lasts bytes at_end.fed))
 
 pub returns-clause-read : goal.returns-clause-read
 returns-clause-read g c =
     let reader = g.R.TraceReader in
     let readers = c.args.readers.now in
-    let readings = readings_by reader.reading (terms_of reader.terms readers) in
+    let readings = readings_in reader.reading reader.terms readers in
     let inside = c.if-taken-limit.false in
     let piece_room = take c.min-room.result c.args.buffer.now in
     let some : length piece_room ≤ c.args.limit - c.args.taken.now + 1
@@ -216,7 +216,7 @@ pub returns-clause-ends : goal.returns-clause-ends
 returns-clause-ends g c =
     let reader = g.R.TraceReader in
     let readers = c.args.readers.now in
-    let readings = readings_by reader.reading (terms_of reader.terms readers) in
+    let readings = readings_in reader.reading reader.terms readers in
     let inside = c.if-taken-limit.false in
     let piece_room = take c.min-room.result c.args.buffer.now in
     let some : length piece_room ≤ c.args.limit - c.args.taken.now + 1

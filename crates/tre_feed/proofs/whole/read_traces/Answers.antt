@@ -1,14 +1,12 @@
 use Rattle.std.proofs.Common.{◌≡◌, ◌∙◌, ℕ, Bool, true, false, [], List, Err, None, take, refl, sym, ap, subst, arith}
 use Rattle.std.proofs.lemmas.Result.{err_from_is_err_and}
-use Rattle.std.proofs.lemmas.List.Elements.{All-map}
 use Rattle.tre_trace.specs.Reading.{Reading}
-use Rattle.tre_trace.specs.Trace.{IsTrace}
 use Rattle.tre_feed.specs.Input.{HasReadCause, Progress, input_told}
-use Rattle.tre_feed.specs.Readers.{rows_of, terms_of}
-use Rattle.tre_feed.specs.Readings.{common, readings_by, rows_in}
+use Rattle.tre_feed.specs.Readers.{readings_in, rows_of}
+use Rattle.tre_feed.specs.Readings.{common, rows_in}
 use Rattle.tre_feed.proofs.Alike.{AddsEach-now}
 use Rattle.tre_feed.proofs.Cuts.{take-over}
-use Rattle.tre_feed.proofs.Read.{faultless_now, same_length}
+use Rattle.tre_feed.proofs.Read.{all_traces, faultless_now, same_length}
 use Rattle.tre_feed.proofs.Wholes.{HasRead-bounded, IsCollected-more, IsFed-start, IsWhole-ended, StopsReading-turn, StopsReading-unread, rows_are_traces, rows_fresh}
 use Rattle.tre_feed.proofs.whole.read_traces.Goals as goal
 
@@ -16,7 +14,7 @@ pub returns-in_err-feed-clause-stops : goal.returns-in_err-feed-clause-stops
 returns-in_err-feed-clause-stops g c =
     let p = err_from_is_err_and c.from_residual.result c.from_residual.ensures.1 in
     let reader = g.R.TraceReader in
-    let readings = readings_by reader.reading (terms_of reader.terms c.args.readers) in
+    let readings = readings_in reader.reading reader.terms c.args.readers in
     let input = input_told g.S.Source.file_name g.S.Source.file g.S.Source.sound g.S.Source.opened
     g.S.Source.left g.S.Source.found g.S.Source.faults c.args.input.now
     c.open.new.input in
@@ -30,7 +28,7 @@ returns-in_err-feed-clause-stops g c =
 pub loop-feed-init : goal.loop-feed-init
 loop-feed-init g c =
     let reader = g.R.TraceReader in
-    let readings = readings_by reader.reading (terms_of reader.terms c.args.readers) in
+    let readings = readings_in reader.reading reader.terms c.args.readers in
     let start = c.in_ok-feed.ensures.start in
     record {
       collected = record {
@@ -46,7 +44,7 @@ loop-feed-init g c =
             (same_length reader.terms c.args.readers reader.reading false [])
             c.requires.fresh.none c.requires.nothing);
       };
-      terms = refl;
+      same = refl;
       opened = c.in_ok-feed.ensures.opened;
       sound = c.in_ok-feed.ensures.same_sound;
       no_fault = c.in_ok-feed.ensures.cause;
@@ -58,7 +56,7 @@ returns-in_err-next-clause-stops g c =
     let p = err_from_is_err_and c.from_residual-in_err-next.result
     c.from_residual-in_err-next.ensures.1 in
     let reader = g.R.TraceReader in
-    let readings = readings_by reader.reading (terms_of reader.terms c.args.readers) in
+    let readings = readings_in reader.reading reader.terms c.args.readers in
     let inv = c.loop-feed.invariant in
     let so_far = inv.collected in
     let file = g.S.Source.file c.args.input.now in
@@ -71,12 +69,12 @@ returns-in_err-next-clause-stops g c =
     (subst (λ n. HasReadCause {T = Bool} n input.faults_now (Err c.in_err-next.field-0.0))
     inv.no_fault c.in_err-next.ensures.cause)
     (λ good is. c.in_err-next.ensures.sound (rw inv.sound good) (ap Err is))
-    (subst (λ (all : List reader.Terms).
-    (common (readings_by reader.reading all false (take c.args.limit so_far.bytes))).fault ≡ None)
-    inv.terms (faultless_now reader.terms reader.represents reader.reading
+    (subst (λ (all : Bool → List ℕ → List Reading).
+    (common (all false (take c.args.limit so_far.bytes))).fault ≡ None)
+    inv.same (faultless_now reader.terms reader.represents reader.reading
     g.met.R.TraceReader.faultless c.loop-feed.readers (take c.args.limit so_far.bytes)
     so_far.fed.fed))
-    (rw (inv.terms, inv.limit) at
+    (rw (inv.same, inv.limit) at
     c.in_err-next.ensures.ends file so_far.bytes so_far.fed))
 
 pub returns-in_err-next-clause-bounded : goal.returns-in_err-next-clause-bounded
@@ -93,15 +91,15 @@ loop-feed-preserved g c =
     let inv = c.loop-feed.invariant in
     let so_far = inv.collected in
     let file = g.S.Source.file c.args.input.now in
-    let readings = readings_by reader.reading (terms_of reader.terms c.next.new.readers) in
+    let readings = readings_in reader.reading reader.terms c.next.new.readers in
     record {
       collected = IsCollected-more readings c.args.limit file (g.S.Source.left c.next.new.input)
           (g.S.Source.found c.next.new.input) c.next.new.self.taken so_far.bytes
           (rows_of c.loop-feed.readers) (rows_of c.next.new.readers)
-          (rw (← c.next.ensures.terms, inv.limit, c.if-not-branch.false) at
+          (rw (← c.next.ensures.same, inv.limit, c.if-not-branch.false) at
           c.in_ok-next.ensures.ends file so_far.bytes so_far.fed)
-          (rw (← c.next.ensures.terms) at so_far.told);
-      terms = c.next.ensures.terms ∙ inv.terms;
+          (rw (← c.next.ensures.same) at so_far.told);
+      same = c.next.ensures.same ∙ inv.same;
       opened = c.next.ensures.same_opened ∙ inv.opened;
       sound = c.next.ensures.same_sound ∙ inv.sound;
       no_fault = c.in_ok-next.ensures.cause ∙ inv.no_fault;
@@ -111,37 +109,35 @@ loop-feed-preserved g c =
 pub into_traces-requires : goal.into_traces-requires
 into_traces-requires g c =
     let reader = g.R.TraceReader in
-    let readings = readings_by reader.reading (terms_of reader.terms c.args.readers) in
+    let readings = readings_in reader.reading reader.terms c.args.readers in
     let inv = c.loop-feed.invariant in
     let so_far = inv.collected in
     let file = g.S.Source.file c.args.input.now in
     let bytes = so_far.bytes in
-    let ended = rw (inv.terms, inv.limit, c.if-not-branch.true) at
+    let ended = rw (inv.same, inv.limit, c.if-not-branch.true) at
     c.in_ok-next.ensures.ends file bytes so_far.fed in
-    let told = rw inv.terms at so_far.told in
+    let told = rw inv.same at so_far.told in
     let rows = AddsEach-now ended.all told in
     let traces = rows_are_traces (rows_of c.next.new.readers) (readings true bytes) rows
-    (All-map (λ (now : Reading). IsTrace now.segments) (λ all. reader.reading all true bytes)
-    (terms_of reader.terms c.args.readers)
-    (λ k d below. g.met.R.TraceReader.is_trace _ true bytes)) in
+    (all_traces reader.terms reader.reading g.met.R.TraceReader.is_trace c.args.readers true
+    bytes) in
     traces
 
 pub returns-clause-read : goal.returns-clause-read
 returns-clause-read g c =
     let reader = g.R.TraceReader in
-    let readings = readings_by reader.reading (terms_of reader.terms c.args.readers) in
+    let readings = readings_in reader.reading reader.terms c.args.readers in
     let inv = c.loop-feed.invariant in
     let so_far = inv.collected in
     let file = g.S.Source.file c.args.input.now in
     let bytes = so_far.bytes in
-    let ended = rw (inv.terms, inv.limit, c.if-not-branch.true) at
+    let ended = rw (inv.same, inv.limit, c.if-not-branch.true) at
     c.in_ok-next.ensures.ends file bytes so_far.fed in
-    let told = rw inv.terms at so_far.told in
+    let told = rw inv.same at so_far.told in
     let rows = AddsEach-now ended.all told in
     let traces = rows_are_traces (rows_of c.next.new.readers) (readings true bytes) rows
-    (All-map (λ (now : Reading). IsTrace now.segments) (λ all. reader.reading all true bytes)
-    (terms_of reader.terms c.args.readers)
-    (λ k d below. g.met.R.TraceReader.is_trace _ true bytes)) in
+    (all_traces reader.terms reader.reading g.met.R.TraceReader.is_trace c.args.readers true
+    bytes) in
     let input = input_told g.S.Source.file_name g.S.Source.file g.S.Source.sound g.S.Source.opened
     g.S.Source.left g.S.Source.found g.S.Source.faults c.args.input.now
     c.next.new.input in

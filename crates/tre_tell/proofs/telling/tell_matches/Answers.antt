@@ -3,16 +3,17 @@ use Rattle.std.proofs.lemmas.List.{length-map}
 use Rattle.std.proofs.lemmas.List.Elements.{recursion_from_All}
 use Rattle.std.proofs.lemmas.Result.{err_from_is_err_and}
 use Rattle.tre_feed.specs.Input.{input_told}
-use Rattle.tre_feed.specs.Readers.{rows_of, terms_of, lasts_of, WereFed}
-use Rattle.tre_feed.specs.Readings.{readings_by, common, rows_in}
+use Rattle.tre_feed.specs.Readers.{readings_in, rows_of, lasts_of, WereFed}
+use Rattle.tre_feed.specs.Readings.{common, rows_in}
 use Rattle.tre_feed.specs.declared.fault.FeedFault.TheVariants.{Memory as FeedMemory}
+use Rattle.tre_feed.proofs.Read.{all_grow, as_many, faultless_now, lasts_count}
 use Rattle.tre_online.specs.Watch.{trees_of}
 use Rattle.tre_online.specs.declared.watch.Watch.{Watch}
 use Rattle.tre_trace.specs.declared.segment.Segment.{Segment}
 use Rattle.tre_tell.specs.Outputs.{output_told}
 use Rattle.tre_tell.specs.Watched.{watched_by}
 use Rattle.tre_tell.specs.declared.fault.TellFault.TheVariants.{Memory}
-use Rattle.tre_tell.proofs.Loop.{TakesAtMost-none, HasRead-bounded, turn_stops, HasReadCause-from, HasWriteCause-from, IsTelling-more, labels_count, CanTell-turn, WereFedAtMost-taken, faultless_by, count_readers, lasts_count, HasTold-nothing, EndsTelling-unread, IsFed-start}
+use Rattle.tre_tell.proofs.Loop.{TakesAtMost-none, HasRead-bounded, turn_stops, HasReadCause-from, HasWriteCause-from, IsTelling-more, labels_count, CanTell-turn, WereFedAtMost-taken, count_readers, HasTold-nothing, EndsTelling-unread, IsFed-start}
 use Rattle.tre_tell.proofs.Rows.{count_rows}
 use Rattle.tre_tell.proofs.Tellings.{IsTurn, EndsTelling-within, EndsTelling-stopped, EndsTelling-done, EndsTelling-cut}
 use Rattle.tre_tell.proofs.Turns.{GrowEach, GrowEach-by, traces_by}
@@ -22,16 +23,14 @@ pub returns-in_err-watch-clause-ends : goal.returns-in_err-watch-clause-ends
 returns-in_err-watch-clause-ends g c =
     let p = err_from_is_err_and c.from_residual.result c.from_residual.ensures.1 in
     let reader = g.R.TraceReader in
-    let readings = readings_by reader.reading (terms_of reader.terms c.args.readers.now) in
+    let readings = readings_in reader.reading reader.terms c.args.readers.now in
     let labels = map string_bytes c.args.labels.now in
     let same : length labels ≡ length c.args.patterns.now =
     length-map c.args.labels.now string_bytes ∙ c.requires.labels in
     let many : length (readings false []) ≡ length c.args.patterns.now =
-    length-map (terms_of reader.terms c.args.readers.now)
-    (λ terms. reader.reading terms false []) ∙ c.requires.readers in
+    as_many reader.terms c.args.readers.now reader.reading false [] ∙ c.requires.readers in
     let faultless : (common (readings false [])).fault ≡ None =
-    faultless_by reader.represents reader.terms reader.reading reader.fed_of
-    (λ one bytes. g.met.R.TraceReader.faultless one bytes) c.args.readers.now []
+    faultless_now reader.terms reader.represents reader.reading g.met.R.TraceReader.faultless c.args.readers.now []
     c.requires.fresh.fed in
     rw (p.1, p.2) (EndsTelling-unread labels c.args.patterns.now readings c.args.limit c.args.scale
     same many c.requires.nothing c.args.name.now (input_told g.S.Source.file_name g.S.Source.file
@@ -46,16 +45,14 @@ returns-in_err-feed-clause-ends g c =
     let p = err_from_is_err_and c.from_residual-in_err-feed.result
     c.from_residual-in_err-feed.ensures.1 in
     let reader = g.R.TraceReader in
-    let readings = readings_by reader.reading (terms_of reader.terms c.args.readers.now) in
+    let readings = readings_in reader.reading reader.terms c.args.readers.now in
     let labels = map string_bytes c.args.labels.now in
     let same : length labels ≡ length c.args.patterns.now =
     length-map c.args.labels.now string_bytes ∙ c.requires.labels in
     let many : length (readings false []) ≡ length c.args.patterns.now =
-    length-map (terms_of reader.terms c.args.readers.now)
-    (λ terms. reader.reading terms false []) ∙ c.requires.readers in
+    as_many reader.terms c.args.readers.now reader.reading false [] ∙ c.requires.readers in
     let faultless : (common (readings false [])).fault ≡ None =
-    faultless_by reader.represents reader.terms reader.reading reader.fed_of
-    (λ one bytes. g.met.R.TraceReader.faultless one bytes) c.args.readers.now []
+    faultless_now reader.terms reader.represents reader.reading g.met.R.TraceReader.faultless c.args.readers.now []
     c.requires.fresh.fed in
     rw (p.1, p.2) (EndsTelling-unread labels c.args.patterns.now readings c.args.limit c.args.scale
     same many c.requires.nothing c.args.name.now (input_told g.S.Source.file_name g.S.Source.file
@@ -75,13 +72,12 @@ returns-in_err-feed-clause-bounded g c = λ opened. TakesAtMost-none (c.args.lim
 pub loop-feed-init : goal.loop-feed-init
 loop-feed-init g c =
     let reader = g.R.TraceReader in
-    let readings = readings_by reader.reading (terms_of reader.terms c.args.readers.now) in
+    let readings = readings_in reader.reading reader.terms c.args.readers.now in
     let labels = map string_bytes c.args.labels.now in
     let same : length labels ≡ length c.args.patterns.now =
     length-map c.args.labels.now string_bytes ∙ c.requires.labels in
     let many : length (readings false []) ≡ length c.args.patterns.now =
-    length-map (terms_of reader.terms c.args.readers.now)
-    (λ terms. reader.reading terms false []) ∙ c.requires.readers in
+    as_many reader.terms c.args.readers.now reader.reading false [] ∙ c.requires.readers in
     record {
       telling = record {
         bytes = [];
@@ -96,7 +92,7 @@ loop-feed-init g c =
       };
       empty = recursion_from_All (λ (row : List Segment). row ≡ []) (rows_of c.args.readers.now)
           c.requires.fresh.none;
-      terms = refl;
+      same = refl;
       opened = c.in_ok-feed.ensures.opened;
       sound = c.in_ok-feed.ensures.same_sound;
       no_fault = c.in_ok-feed.ensures.cause;
@@ -111,12 +107,12 @@ pub next-fed-requires-clause-fed : goal.next-fed-requires-clause-fed
 next-fed-requires-clause-fed g c =
     let tel = c.loop-feed.invariant.telling in
     let reader = g.R.TraceReader in
-    WereFedAtMost-taken reader.represents reader.terms reader.reading reader.fed_of
+    WereFedAtMost-taken reader.represents reader.fed_of
     (λ one bytes so. (g.met.R.TraceReader.counts one bytes so).0) c.loop-feed.readers c.args.limit
     c.loop-feed.feed.taken tel.bytes tel.fed.size tel.fed.fed
 
 pub next-fed-requires-clause-alike : goal.next-fed-requires-clause-alike
-next-fed-requires-clause-alike g c = rw c.loop-feed.invariant.terms c.requires.alike
+next-fed-requires-clause-alike g c = rw c.loop-feed.invariant.same c.requires.alike
 
 pub tell_blocks-requires-clause-comes : goal.tell_blocks-requires-clause-comes
 tell_blocks-requires-clause-comes g c =
@@ -124,30 +120,28 @@ tell_blocks-requires-clause-comes g c =
     let tel = inv.telling in
     let source = g.S.Source in
     let reader = g.R.TraceReader in
-    let readings = readings_by reader.reading (terms_of reader.terms c.args.readers.now) in
+    let readings = readings_in reader.reading reader.terms c.args.readers.now in
     let labels = map string_bytes c.args.labels.now in
     let watched = watched_by labels c.args.patterns.now readings c.args.limit c.args.scale in
     let file = source.file c.args.input.now in
     let waiting = rows_of c.next-fed.new.readers in
     let input = input_told source.file_name source.file source.sound source.opened source.left
     source.found source.faults c.args.input.now c.next-fed.new.input in
-    let grows : GrowEach readings = GrowEach-by reader.reading
-    (λ terms closed first more. g.met.R.TraceReader.grows terms closed first more)
-    (terms_of reader.terms c.args.readers.now) in
-    let same_terms = c.next-fed.ensures.terms ∙ inv.terms in
+    let grows : GrowEach readings = GrowEach-by readings (all_grow reader.terms reader.reading
+    g.met.R.TraceReader.grows c.args.readers.now) in
+    let same_readings = c.next-fed.ensures.same ∙ inv.same in
     let turn : IsTurn watched grows c.requires.alike input tel.bytes waiting c.next-fed.result = record {
       old = rows_of c.loop-feed.readers;
-      has = rw (inv.terms, inv.limit) at c.next-fed.ensures.read file tel.bytes tel.fed;
+      has = rw (inv.same, inv.limit) at c.next-fed.ensures.read file tel.bytes tel.fed;
       empty = inv.empty;
-      count = subst (λ all. length waiting ≡ length (rows_in (readings_by reader.reading all false
-          (take c.args.limit tel.bytes)))) same_terms (count_readers reader.represents reader.terms
-          reader.reading reader.fed_of c.next-fed.new.readers false (take c.args.limit tel.bytes));
+      count = subst (λ all. length waiting ≡ length (rows_in (all false
+          (take c.args.limit tel.bytes)))) same_readings (count_readers reader.terms reader.reading
+          c.next-fed.new.readers false (take c.args.limit tel.bytes));
       opened = c.next-fed.ensures.same_opened ∙ inv.opened;
     } in
     CanTell-turn watched grows c.requires.alike
-    (λ closed bytes. traces_by reader.reading
-    (λ terms closed bytes. g.met.R.TraceReader.is_trace terms closed bytes)
-    (terms_of reader.terms c.args.readers.now) closed bytes) input tel.bytes waiting
+    (λ closed bytes. traces_by reader.terms reader.reading g.met.R.TraceReader.is_trace
+    c.args.readers.now closed bytes) input tel.bytes waiting
     c.loop-feed.watch tel.told.stands c.next-fed.result turn
 
 pub tell_blocks-requires-clause-labels : goal.tell_blocks-requires-clause-labels
@@ -163,7 +157,7 @@ returns-in_err-watch-2-clause-ends g c =
     let tel = inv.telling in
     let source = g.S.Source in
     let reader = g.R.TraceReader in
-    let readings = readings_by reader.reading (terms_of reader.terms c.args.readers.now) in
+    let readings = readings_in reader.reading reader.terms c.args.readers.now in
     let labels = map string_bytes c.args.labels.now in
     let watched = watched_by labels c.args.patterns.now readings c.args.limit c.args.scale in
     let file = source.file c.args.input.now in
@@ -171,24 +165,23 @@ returns-in_err-watch-2-clause-ends g c =
     let input = input_told source.file_name source.file source.sound source.opened source.left
     source.found source.faults c.args.input.now c.next-fed.new.input in
     let output = output_told g.O.Sink.written g.O.Sink.faults c.args.out.now c.tell_blocks.new.out in
-    let grows : GrowEach readings = GrowEach-by reader.reading
-    (λ terms closed first more. g.met.R.TraceReader.grows terms closed first more)
-    (terms_of reader.terms c.args.readers.now) in
-    let same_terms = c.next-fed.ensures.terms ∙ inv.terms in
+    let grows : GrowEach readings = GrowEach-by readings (all_grow reader.terms reader.reading
+    g.met.R.TraceReader.grows c.args.readers.now) in
+    let same_readings = c.next-fed.ensures.same ∙ inv.same in
     let turn : IsTurn watched grows c.requires.alike input tel.bytes waiting c.next-fed.result = record {
       old = rows_of c.loop-feed.readers;
-      has = rw (inv.terms, inv.limit) at c.next-fed.ensures.read file tel.bytes tel.fed;
+      has = rw (inv.same, inv.limit) at c.next-fed.ensures.read file tel.bytes tel.fed;
       empty = inv.empty;
-      count = subst (λ all. length waiting ≡ length (rows_in (readings_by reader.reading all false
-          (take c.args.limit tel.bytes)))) same_terms (count_readers reader.represents reader.terms
-          reader.reading reader.fed_of c.next-fed.new.readers false (take c.args.limit tel.bytes));
+      count = subst (λ all. length waiting ≡ length (rows_in (all false
+          (take c.args.limit tel.bytes)))) same_readings (count_readers reader.terms reader.reading
+          c.next-fed.new.readers false (take c.args.limit tel.bytes));
       opened = c.next-fed.ensures.same_opened ∙ inv.opened;
     } in
     let stops = turn_stops (WereFed reader.represents c.next-fed.new.readers) readings c.args.limit
     file (source.left c.next-fed.new.input) (source.found c.next-fed.new.input)
     c.next-fed.new.self.taken tel.bytes (rows_of c.loop-feed.readers) waiting
     (lasts_of c.next-fed.new.readers) c.next-fed.result
-    (rw (inv.terms, inv.limit) at c.next-fed.ensures.ends file tel.bytes tel.fed) in
+    (rw (inv.same, inv.limit) at c.next-fed.ensures.ends file tel.bytes tel.fed) in
     rw (p.1, p.2) (EndsTelling-within watched grows c.requires.alike input tel.bytes waiting
     c.next-fed.result turn c.args.name.now output c.in_err-watch-2.field-0.0
     (HasReadCause-from _ _ input.faults_now c.next-fed.result inv.no_fault
@@ -214,7 +207,7 @@ returns-in_err-fed-clause-ends g c =
     let tel = inv.telling in
     let source = g.S.Source in
     let reader = g.R.TraceReader in
-    let readings = readings_by reader.reading (terms_of reader.terms c.args.readers.now) in
+    let readings = readings_in reader.reading reader.terms c.args.readers.now in
     let labels = map string_bytes c.args.labels.now in
     let watched = watched_by labels c.args.patterns.now readings c.args.limit c.args.scale in
     let file = source.file c.args.input.now in
@@ -222,33 +215,30 @@ returns-in_err-fed-clause-ends g c =
     let input = input_told source.file_name source.file source.sound source.opened source.left
     source.found source.faults c.args.input.now c.next-fed.new.input in
     let output = output_told g.O.Sink.written g.O.Sink.faults c.args.out.now c.tell_blocks.new.out in
-    let grows : GrowEach readings = GrowEach-by reader.reading
-    (λ terms closed first more. g.met.R.TraceReader.grows terms closed first more)
-    (terms_of reader.terms c.args.readers.now) in
-    let same_terms = c.next-fed.ensures.terms ∙ inv.terms in
+    let grows : GrowEach readings = GrowEach-by readings (all_grow reader.terms reader.reading
+    g.met.R.TraceReader.grows c.args.readers.now) in
+    let same_readings = c.next-fed.ensures.same ∙ inv.same in
     let turn : IsTurn watched grows c.requires.alike input tel.bytes waiting (Err c.in_err-fed.field-0.0) = record {
       old = rows_of c.loop-feed.readers;
-      has = rw (inv.terms, inv.limit) at c.in_err-fed.ensures.read file tel.bytes tel.fed;
+      has = rw (inv.same, inv.limit) at c.in_err-fed.ensures.read file tel.bytes tel.fed;
       empty = inv.empty;
-      count = subst (λ all. length waiting ≡ length (rows_in (readings_by reader.reading all false
-          (take c.args.limit tel.bytes)))) same_terms (count_readers reader.represents reader.terms
-          reader.reading reader.fed_of c.next-fed.new.readers false (take c.args.limit tel.bytes));
+      count = subst (λ all. length waiting ≡ length (rows_in (all false
+          (take c.args.limit tel.bytes)))) same_readings (count_readers reader.terms reader.reading
+          c.next-fed.new.readers false (take c.args.limit tel.bytes));
       opened = c.next-fed.ensures.same_opened ∙ inv.opened;
     } in
     let told = c.in_ok-watch-2.ensures.told watched.patterns
     (rows_in (readings false (take c.args.limit tel.bytes))) (g.O.Sink.written c.args.out.now) tel.told in
     let none : (common (readings false (take c.args.limit tel.bytes))).fault ≡ None =
-    subst (λ all. (common (readings_by reader.reading all false
-    (take c.args.limit tel.bytes))).fault ≡ None) inv.terms
-    (faultless_by reader.represents reader.terms reader.reading reader.fed_of
-    (λ one bytes. g.met.R.TraceReader.faultless one bytes) c.loop-feed.readers
+    subst (λ all. (common (all false (take c.args.limit tel.bytes))).fault ≡ None) inv.same
+    (faultless_now reader.terms reader.represents reader.reading g.met.R.TraceReader.faultless c.loop-feed.readers
     (take c.args.limit tel.bytes) tel.fed.fed) in
     rw (p.1, p.2) (EndsTelling-stopped watched grows c.requires.alike input tel.bytes waiting
     c.in_err-fed.field-0.0 c.args.name.now output turn
     (HasReadCause-from {T = Bool} _ _ input.faults_now (Err c.in_err-fed.field-0.0) inv.no_fault
     c.in_err-fed.ensures.cause)
     (λ good is. c.in_err-fed.ensures.sound (rw inv.sound good) (ap Err is))
-    (rw (inv.terms, inv.limit) at c.in_err-fed.ensures.ends file tel.bytes tel.fed) none
+    (rw (inv.same, inv.limit) at c.in_err-fed.ensures.ends file tel.bytes tel.fed) none
     (c.in_ok-watch-2.ensures.cause ∙ inv.good) told.told)
 
 pub returns-in_err-fed-clause-bounded : goal.returns-in_err-fed-clause-bounded
@@ -264,14 +254,14 @@ loop-feed-preserved g c =
     let tel = inv.telling in
     let source = g.S.Source in
     let reader = g.R.TraceReader in
-    let readings = readings_by reader.reading (terms_of reader.terms c.args.readers.now) in
+    let readings = readings_in reader.reading reader.terms c.args.readers.now in
     let labels = map string_bytes c.args.labels.now in
     let watched = watched_by labels c.args.patterns.now readings c.args.limit c.args.scale in
     let file = source.file c.args.input.now in
     let waiting = rows_of c.next-fed.new.readers in
     let told = c.in_ok-watch-2.ensures.told watched.patterns
     (rows_in (readings false (take c.args.limit tel.bytes))) (g.O.Sink.written c.args.out.now) tel.told in
-    let more = rw (inv.terms, inv.limit, c.if-not-branch.false) at
+    let more = rw (inv.same, inv.limit, c.if-not-branch.false) at
     c.in_ok-fed.ensures.ends file tel.bytes tel.fed in
     record {
       telling = IsTelling-more watched (WereFed reader.represents c.next-fed.new.readers)
@@ -281,7 +271,7 @@ loop-feed-preserved g c =
           (g.O.Sink.written c.tell_blocks.new.out) c.clear.ensures.fed more inv.empty told;
       empty = recursion_from_All (λ (row : List Segment). row ≡ []) (rows_of c.clear.new.self)
           c.clear.ensures.none;
-      terms = c.clear.ensures.terms ∙ (c.next-fed.ensures.terms ∙ inv.terms);
+      same = c.clear.ensures.same ∙ (c.next-fed.ensures.same ∙ inv.same);
       opened = c.next-fed.ensures.same_opened ∙ inv.opened;
       sound = c.next-fed.ensures.same_sound ∙ inv.sound;
       no_fault = c.in_ok-fed.ensures.cause ∙ inv.no_fault;
@@ -297,7 +287,7 @@ returns-in_err-lasts-clause-ends g c =
     let tel = inv.telling in
     let source = g.S.Source in
     let reader = g.R.TraceReader in
-    let readings = readings_by reader.reading (terms_of reader.terms c.args.readers.now) in
+    let readings = readings_in reader.reading reader.terms c.args.readers.now in
     let labels = map string_bytes c.args.labels.now in
     let watched = watched_by labels c.args.patterns.now readings c.args.limit c.args.scale in
     let file = source.file c.args.input.now in
@@ -305,29 +295,27 @@ returns-in_err-lasts-clause-ends g c =
     let input = input_told source.file_name source.file source.sound source.opened source.left
     source.found source.faults c.args.input.now c.next-fed.new.input in
     let output = output_told g.O.Sink.written g.O.Sink.faults c.args.out.now c.tell_blocks.new.out in
-    let grows : GrowEach readings = GrowEach-by reader.reading
-    (λ terms closed first more. g.met.R.TraceReader.grows terms closed first more)
-    (terms_of reader.terms c.args.readers.now) in
-    let same_terms = c.next-fed.ensures.terms ∙ inv.terms in
+    let grows : GrowEach readings = GrowEach-by readings (all_grow reader.terms reader.reading
+    g.met.R.TraceReader.grows c.args.readers.now) in
+    let same_readings = c.next-fed.ensures.same ∙ inv.same in
     let turn : IsTurn watched grows c.requires.alike input tel.bytes waiting c.next-fed.result = record {
       old = rows_of c.loop-feed.readers;
-      has = rw (inv.terms, inv.limit) at c.next-fed.ensures.read file tel.bytes tel.fed;
+      has = rw (inv.same, inv.limit) at c.next-fed.ensures.read file tel.bytes tel.fed;
       empty = inv.empty;
-      count = subst (λ all. length waiting ≡ length (rows_in (readings_by reader.reading all false
-          (take c.args.limit tel.bytes)))) same_terms (count_readers reader.represents reader.terms
-          reader.reading reader.fed_of c.next-fed.new.readers false (take c.args.limit tel.bytes));
+      count = subst (λ all. length waiting ≡ length (rows_in (all false
+          (take c.args.limit tel.bytes)))) same_readings (count_readers reader.terms reader.reading
+          c.next-fed.new.readers false (take c.args.limit tel.bytes));
       opened = c.next-fed.ensures.same_opened ∙ inv.opened;
     } in
     let told = c.in_ok-watch-2.ensures.told watched.patterns
     (rows_in (readings false (take c.args.limit tel.bytes))) (g.O.Sink.written c.args.out.now) tel.told in
-    let ended = rw (inv.terms, inv.limit, c.if-not-branch.true) at
+    let ended = rw (inv.same, inv.limit, c.if-not-branch.true) at
     c.in_ok-fed.ensures.ends file tel.bytes tel.fed in
     rw (p.1, p.2) (EndsTelling-cut watched input c.args.name.now tel.bytes
     (rows_of c.loop-feed.readers) waiting (lasts_of c.next-fed.new.readers) ended inv.empty
     (c.next-fed.ensures.same_opened ∙ inv.opened)
-    (traces_by reader.reading
-    (λ terms closed bytes. g.met.R.TraceReader.is_trace terms closed bytes)
-    (terms_of reader.terms c.args.readers.now) true tel.bytes)
+    (traces_by reader.terms reader.reading g.met.R.TraceReader.is_trace c.args.readers.now true
+    tel.bytes)
     grows c.requires.alike c.next-fed.result turn output Memory
     (c.in_ok-fed.ensures.cause ∙ inv.no_fault) (c.in_ok-watch-2.ensures.cause ∙ inv.good)
     told.told)
@@ -345,7 +333,7 @@ tell_end-requires-clause-reads g c =
     let tel = inv.telling in
     let source = g.S.Source in
     let reader = g.R.TraceReader in
-    let readings = readings_by reader.reading (terms_of reader.terms c.args.readers.now) in
+    let readings = readings_in reader.reading reader.terms c.args.readers.now in
     let labels = map string_bytes c.args.labels.now in
     let watched = watched_by labels c.args.patterns.now readings c.args.limit c.args.scale in
     let file = source.file c.args.input.now in
@@ -360,7 +348,7 @@ tell_end-requires-clause-count g c =
     let tel = inv.telling in
     let source = g.S.Source in
     let reader = g.R.TraceReader in
-    let readings = readings_by reader.reading (terms_of reader.terms c.args.readers.now) in
+    let readings = readings_in reader.reading reader.terms c.args.readers.now in
     let labels = map string_bytes c.args.labels.now in
     let watched = watched_by labels c.args.patterns.now readings c.args.limit c.args.scale in
     let file = source.file c.args.input.now in
@@ -369,17 +357,16 @@ tell_end-requires-clause-count g c =
     (rows_in (readings false (take c.args.limit tel.bytes))) (g.O.Sink.written c.args.out.now) tel.told in
     let input = input_told source.file_name source.file source.sound source.opened source.left
     source.found source.faults c.args.input.now c.next-fed.new.input in
-    let grows : GrowEach readings = GrowEach-by reader.reading
-    (λ terms closed first more. g.met.R.TraceReader.grows terms closed first more)
-    (terms_of reader.terms c.args.readers.now) in
-    let same_terms = c.next-fed.ensures.terms ∙ inv.terms in
+    let grows : GrowEach readings = GrowEach-by readings (all_grow reader.terms reader.reading
+    g.met.R.TraceReader.grows c.args.readers.now) in
+    let same_readings = c.next-fed.ensures.same ∙ inv.same in
     let turn : IsTurn watched grows c.requires.alike input tel.bytes waiting c.next-fed.result = record {
       old = rows_of c.loop-feed.readers;
-      has = rw (inv.terms, inv.limit) at c.next-fed.ensures.read file tel.bytes tel.fed;
+      has = rw (inv.same, inv.limit) at c.next-fed.ensures.read file tel.bytes tel.fed;
       empty = inv.empty;
-      count = subst (λ all. length waiting ≡ length (rows_in (readings_by reader.reading all false
-          (take c.args.limit tel.bytes)))) same_terms (count_readers reader.represents reader.terms
-          reader.reading reader.fed_of c.next-fed.new.readers false (take c.args.limit tel.bytes));
+      count = subst (λ all. length waiting ≡ length (rows_in (all false
+          (take c.args.limit tel.bytes)))) same_readings (count_readers reader.terms reader.reading
+          c.next-fed.new.readers false (take c.args.limit tel.bytes));
       opened = c.next-fed.ensures.same_opened ∙ inv.opened;
     } in
     let many : length (lasts_of c.next-fed.new.readers) ≡ length (trees_of c.loop-feed.watch) =
@@ -398,7 +385,7 @@ tell_end-requires-clause-labels g c =
     let tel = inv.telling in
     let source = g.S.Source in
     let reader = g.R.TraceReader in
-    let readings = readings_by reader.reading (terms_of reader.terms c.args.readers.now) in
+    let readings = readings_in reader.reading reader.terms c.args.readers.now in
     let labels = map string_bytes c.args.labels.now in
     let watched = watched_by labels c.args.patterns.now readings c.args.limit c.args.scale in
     let file = source.file c.args.input.now in
@@ -415,7 +402,7 @@ returns-in_err-tell_end-clause-ends g c =
     let tel = inv.telling in
     let source = g.S.Source in
     let reader = g.R.TraceReader in
-    let readings = readings_by reader.reading (terms_of reader.terms c.args.readers.now) in
+    let readings = readings_in reader.reading reader.terms c.args.readers.now in
     let labels = map string_bytes c.args.labels.now in
     let watched = watched_by labels c.args.patterns.now readings c.args.limit c.args.scale in
     let file = source.file c.args.input.now in
@@ -423,29 +410,27 @@ returns-in_err-tell_end-clause-ends g c =
     let input = input_told source.file_name source.file source.sound source.opened source.left
     source.found source.faults c.args.input.now c.next-fed.new.input in
     let output = output_told g.O.Sink.written g.O.Sink.faults c.args.out.now c.tell_end.new.out in
-    let grows : GrowEach readings = GrowEach-by reader.reading
-    (λ terms closed first more. g.met.R.TraceReader.grows terms closed first more)
-    (terms_of reader.terms c.args.readers.now) in
-    let same_terms = c.next-fed.ensures.terms ∙ inv.terms in
+    let grows : GrowEach readings = GrowEach-by readings (all_grow reader.terms reader.reading
+    g.met.R.TraceReader.grows c.args.readers.now) in
+    let same_readings = c.next-fed.ensures.same ∙ inv.same in
     let turn : IsTurn watched grows c.requires.alike input tel.bytes waiting c.next-fed.result = record {
       old = rows_of c.loop-feed.readers;
-      has = rw (inv.terms, inv.limit) at c.next-fed.ensures.read file tel.bytes tel.fed;
+      has = rw (inv.same, inv.limit) at c.next-fed.ensures.read file tel.bytes tel.fed;
       empty = inv.empty;
-      count = subst (λ all. length waiting ≡ length (rows_in (readings_by reader.reading all false
-          (take c.args.limit tel.bytes)))) same_terms (count_readers reader.represents reader.terms
-          reader.reading reader.fed_of c.next-fed.new.readers false (take c.args.limit tel.bytes));
+      count = subst (λ all. length waiting ≡ length (rows_in (all false
+          (take c.args.limit tel.bytes)))) same_readings (count_readers reader.terms reader.reading
+          c.next-fed.new.readers false (take c.args.limit tel.bytes));
       opened = c.next-fed.ensures.same_opened ∙ inv.opened;
     } in
     let told = c.in_ok-watch-2.ensures.told watched.patterns
     (rows_in (readings false (take c.args.limit tel.bytes))) (g.O.Sink.written c.args.out.now) tel.told in
-    let ended = rw (inv.terms, inv.limit, c.if-not-branch.true) at
+    let ended = rw (inv.same, inv.limit, c.if-not-branch.true) at
     c.in_ok-fed.ensures.ends file tel.bytes tel.fed in
     rw (p.1, p.2) (EndsTelling-cut watched input c.args.name.now tel.bytes
     (rows_of c.loop-feed.readers) waiting (lasts_of c.next-fed.new.readers) ended inv.empty
     (c.next-fed.ensures.same_opened ∙ inv.opened)
-    (traces_by reader.reading
-    (λ terms closed bytes. g.met.R.TraceReader.is_trace terms closed bytes)
-    (terms_of reader.terms c.args.readers.now) true tel.bytes)
+    (traces_by reader.terms reader.reading g.met.R.TraceReader.is_trace c.args.readers.now true
+    tel.bytes)
     grows c.requires.alike c.next-fed.result turn output c.in_err-tell_end.field-0.0
     (c.in_ok-fed.ensures.cause ∙ inv.no_fault)
     (HasWriteCause-from {T = Unit {0}} _ _ output.faults_now
@@ -467,7 +452,7 @@ returns-clause-ends g c =
     let tel = inv.telling in
     let source = g.S.Source in
     let reader = g.R.TraceReader in
-    let readings = readings_by reader.reading (terms_of reader.terms c.args.readers.now) in
+    let readings = readings_in reader.reading reader.terms c.args.readers.now in
     let labels = map string_bytes c.args.labels.now in
     let watched = watched_by labels c.args.patterns.now readings c.args.limit c.args.scale in
     let file = source.file c.args.input.now in
@@ -477,14 +462,13 @@ returns-clause-ends g c =
     let output = output_told g.O.Sink.written g.O.Sink.faults c.args.out.now c.tell_end.new.out in
     let told = c.in_ok-watch-2.ensures.told watched.patterns
     (rows_in (readings false (take c.args.limit tel.bytes))) (g.O.Sink.written c.args.out.now) tel.told in
-    let ended = rw (inv.terms, inv.limit, c.if-not-branch.true) at
+    let ended = rw (inv.same, inv.limit, c.if-not-branch.true) at
     c.in_ok-fed.ensures.ends file tel.bytes tel.fed in
     EndsTelling-done watched input c.args.name.now tel.bytes
     (rows_of c.loop-feed.readers) waiting (lasts_of c.next-fed.new.readers) ended inv.empty
     (c.next-fed.ensures.same_opened ∙ inv.opened)
-    (traces_by reader.reading
-    (λ terms closed bytes. g.met.R.TraceReader.is_trace terms closed bytes)
-    (terms_of reader.terms c.args.readers.now) true tel.bytes) output
+    (traces_by reader.terms reader.reading g.met.R.TraceReader.is_trace c.args.readers.now true
+    tel.bytes) output
     (c.in_ok-fed.ensures.cause ∙ inv.no_fault)
     (c.in_ok-tell_end.ensures.cause ∙ (c.in_ok-watch-2.ensures.cause ∙ inv.good))
     (rw (c.deref.ensures.value, c.in_ok-lasts.ensures, c.clear.ensures.lasts) at

@@ -1,6 +1,7 @@
-use Rattle.std.proofs.Common.{◌≡◌, length, arith}
+use Rattle.std.proofs.Common.{◌≡◌, length, ap, arith}
 use Rattle.std.proofs.lemmas.List.{with_items_is}
 use Rattle.tre_feed.proofs.Alike.{AreLevel-none}
+use Rattle.tre_feed.specs.Readings.{readings_by}
 use Rattle.tre_feed.proofs.Each.{fed-cut, lasts-cut, rows-none, terms-cut}
 use Rattle.tre_feed.proofs.readers.Readers.clear.Goals as goal
 
@@ -35,12 +36,13 @@ returns-clause-lasts g c =
     rw (with_items_is own cut same)
     (lasts-cut 0 (rw c.deref_mut.ensures.value at c.cut_each.ensures))
 
-pub returns-clause-terms : goal.returns-clause-terms
-returns-clause-terms g c =
+pub returns-clause-same : goal.returns-clause-same
+returns-clause-same g c =
     let own = c.args.self.now.each in
     let cut = c.cut_each.new.each in
     let same : length cut ≡ own.len =
     omega (arith, c.cut_each.auto.each, c.deref_mut.ensures.len) in
     rw (with_items_is own cut same)
+    (ap (readings_by g.R.TraceReader.reading)
     (terms-cut g.R.TraceReader.terms g.R.TraceReader.represents 0
-    (rw c.deref_mut.ensures.value at c.cut_each.ensures))
+    (rw c.deref_mut.ensures.value at c.cut_each.ensures)))

@@ -1,8 +1,9 @@
-use Rattle.std.proofs.Common.{◌≡◌, ◌≢◌, ◌∙◌, length, true, false, Err, arith}
+use Rattle.std.proofs.Common.{◌≡◌, ◌≢◌, ◌∙◌, length, true, false, Err, ap, arith}
 use Rattle.std.proofs.lemmas.List.{with_items_is}
 use Rattle.std.specs.Vec.{with_items}
 use Rattle.tre_feed.specs.declared.fault.FeedFault.TheVariants.{Memory}
 use Rattle.tre_feed.proofs.Calls.{TakesIn-all, AreLevel-all-took, of_ok}
+use Rattle.tre_feed.specs.Readings.{readings_by}
 use Rattle.tre_feed.proofs.Each.{lasts-took, terms-kept, terms-cut, rows-cut}
 use Rattle.tre_feed.proofs.readers.Readers.finish.Goals as goal
 
@@ -44,8 +45,8 @@ returns-then-is_out_of_memory-clause-level g c =
           (rw c.waiting-waiting.ensures so_far.level)),
     ) so_far.level
 
-pub returns-then-is_out_of_memory-clause-terms : goal.returns-then-is_out_of_memory-clause-terms
-returns-then-is_out_of_memory-clause-terms g c =
+pub returns-then-is_out_of_memory-clause-same : goal.returns-then-is_out_of_memory-clause-same
+returns-then-is_out_of_memory-clause-same g c =
     let own = c.args.self.now.each in
     let fed = c.finish_each-outcome.new.each in
     let same : length fed ≡ own.len =
@@ -55,10 +56,11 @@ returns-then-is_out_of_memory-clause-terms g c =
     omega (arith, c.cut_each.auto.each, c.deref_mut-then-is_out_of_memory.ensures.len) in
     let second = c.deref_mut-then-is_out_of_memory.ensures.value ∙ with_items_is own fed same in
     rw (with_items_is (with_items own fed) cut same_cut)
+    (ap (readings_by g.R.TraceReader.reading)
     (terms-cut g.R.TraceReader.terms g.R.TraceReader.represents c.waiting-waiting.result
     (rw second at c.cut_each.ensures)
     ∙ terms-kept g.R.TraceReader.terms g.R.TraceReader.represents
-    (rw c.deref_mut.ensures.value at c.finish_each-outcome.ensures.kept))
+    (rw c.deref_mut.ensures.value at c.finish_each-outcome.ensures.kept)))
 
 pub returns-clause-lasts : goal.returns-clause-lasts
 returns-clause-lasts g c =
@@ -111,12 +113,13 @@ returns-clause-level g c =
     (rw c.deref_mut.ensures.value at (c.finish_each-outcome.ensures.took found)) bytes so_far.each
     (c.requires.alike false bytes) (c.requires.alike true bytes) so_far.level)
 
-pub returns-clause-terms : goal.returns-clause-terms
-returns-clause-terms g c =
+pub returns-clause-same : goal.returns-clause-same
+returns-clause-same g c =
     let own = c.args.self.now.each in
     let fed = c.finish_each-outcome.new.each in
     let same : length fed ≡ own.len =
     omega (arith, c.finish_each-outcome.auto.each, c.deref_mut.ensures.len) in
     rw (with_items_is own fed same)
+    (ap (readings_by g.R.TraceReader.reading)
     (terms-kept g.R.TraceReader.terms g.R.TraceReader.represents
-    (rw c.deref_mut.ensures.value at c.finish_each-outcome.ensures.kept))
+    (rw c.deref_mut.ensures.value at c.finish_each-outcome.ensures.kept)))

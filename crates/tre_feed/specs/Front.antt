@@ -1,0 +1,35 @@
+-- How an input is read whole, or as far as it may be.
+use Rattle.std.specs.Prelude.{◌≡◌, ◌≢◌, ℕ, ◌<◌, ◌≤◌, Bool, List, ◌++◌, length, Option, Some, IsTrue, OnOk, Result}
+use Rattle.std.specs.Io.KnownBytes.{Consumes, IsAtEnd}
+use Rattle.tre_io.specs.Faults.{counted}
+use Rattle.tre_feed.specs.Input.{InputTold, AllReadsGood}
+use Rattle.tre_feed.specs.declared.fault.FeedFault.{FeedFault}
+use Rattle.tre_feed.specs.declared.fault.FeedFault.TheVariants.{Read, Memory}
+
+-- The input was read from its first byte on, and these are its bytes: all of them, or as many as it
+-- may have.
+pub record IsFront (most : ℕ) (input : InputTold) (bytes : List ℕ) : Type 0 where
+  pub opened : IsTrue input.opened
+  pub reads : AllReadsGood input
+  pub front : Consumes input.file input.left bytes
+  pub few : length bytes ≤ most
+  pub all : length bytes < most → IsAtEnd input.left
+
+-- The input of this name couldn't be opened or read.
+pub record IsUnreadable (name : List ℕ) (input : InputTold) : Type 0 where
+  pub cause : input.faults_now ≡ counted input.faults_before
+  pub unsound : IsTrue input.sound → input.name ≢ Some name
+
+-- Why it wasn't read.
+abbrev pub StopsFront : List ℕ → InputTold → FeedFault → Type 0
+StopsFront name input Read = IsUnreadable name input
+StopsFront name input Memory = AllReadsGood input
+StopsFront name input fault = ⊥
+
+-- A piece was read behind these bytes, of which there may be at most so many, and was put there.
+pub record IsReadOn (most : ℕ) (old new : List ℕ) (before now : Option (List ℕ))
+    (result : Result Bool FeedFault) : Type 0 where
+  pub piece : List ℕ
+  pub front : Consumes before now piece
+  pub few : length (old ++ piece) ≤ most
+  pub added : OnOk result (new ≡ old ++ piece)

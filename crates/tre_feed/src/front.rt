@@ -1,0 +1,75 @@
+// The front of an input, read whole.
+ghost use Rattle.std.specs.Prelude.{◌≡◌, ◌≢◌, ◌<◌, ◌≤◌, false, length, IsTrue, IsErrOf, IfOk, IfErr, IfSome};
+ghost use Rattle.std.specs.Io.KnownBytes.{IsAtEnd};
+ghost use Rattle.tre_feed.specs.Front.{IsFront, IsReadOn, StopsFront};
+ghost use Rattle.tre_feed.specs.Input.{HasReadCause, TakesAtMost, input_told};
+
+use crate::PIECE;
+use crate::fault::FeedFault;
+use crate::feed::{buffer_of, read_piece};
+use std::alloc::Global;
+use tre_io::Source;
+
+/// Reads the input of this name from its first byte: all of it, or its first `most` bytes where it
+/// has more.
+pub fn read_front<S: Source>(
+    alloc: Global,
+    name: &str,
+    most: usize,
+    input: &mut S,
+) -> Result<Vec<u8>, FeedFault>
+    requires closed { S.opened input.old ≡ false }
+    ensures read { IfOk result (λ bytes. IsFront most
+        (input_told S.file_name S.file S.sound S.opened S.left S.found S.faults input.old
+        input.new) bytes.items) }
+    ensures stops { IfErr result (StopsFront name.now
+        (input_told S.file_name S.file S.sound S.opened S.left S.found S.faults input.old
+        input.new)) }
+    ensures bounded { IsTrue (S.opened input.new) →
+        TakesAtMost most (S.file input.old) (S.left input.new) }
+    ensures by_name { IsTrue (S.opened input.new) →
+        IfSome (S.file_name input.old) (λ told. told ≡ name.now) }
+{
+    input.open(name)?;
+    let mut bytes = Vec::new(alloc);
+    let mut buffer = buffer_of(alloc, PIECE)?;
+    loop {
+        if !read_more(most, &mut bytes, &mut buffer, input)? {
+            break;
+        }
+    }
+    Ok(bytes)
+}
+
+// Reads a piece behind the bytes, as far as there may be more of them. Says whether there may be.
+fn read_more<S: Source>(
+    most: usize,
+    bytes: &mut Vec<u8>,
+    buffer: &mut [u8],
+    input: &mut S,
+) -> Result<bool, FeedFault>
+    requires opened { IsTrue (S.opened input.old) }
+    requires room { 0 < length buffer.old }
+    requires few { length bytes.old.items ≤ most }
+    ensures read { IsReadOn most bytes.old.items bytes.new.items (S.left input.old)
+        (S.left input.new) result }
+    ensures end { IfOk result (λ more. more ≡ false → length bytes.new.items < most →
+        IsAtEnd (S.left input.new)) }
+    ensures rises { IfOk result (λ more. IsTrue more →
+        length bytes.old.items < length bytes.new.items) }
+    ensures length { length buffer.new ≡ length buffer.old }
+    ensures cause { HasReadCause (S.faults input.old) (S.faults input.new) result }
+    ensures sound { IsTrue (S.sound input.old) → IsErrOf result FeedFault.Read → ⊥ }
+    ensures named { IfErr result (λ fault. fault ≢ FeedFault.Read → fault ≢ FeedFault.Memory →
+        ⊥) }
+    ensures same_opened { S.opened input.new ≡ S.opened input.old }
+    ensures same_sound { S.sound input.new ≡ S.sound input.old }
+{
+    let room = buffer.len().min(most - bytes.len());
+    if room == 0 {
+        return Ok(false);
+    }
+    let count = read_piece(input, &mut buffer[..room])?;
+    bytes.extend_from_slice(&buffer[..count])?;
+    Ok(count > 0)
+}
