@@ -3,7 +3,7 @@ use Rattle.std.proofs.Common.{◌≡◌, ◌≢◌, ◌∙◌, ℕ, suc, ◌+◌
 use Rattle.std.specs.List.{AllByRecursion}
 use Rattle.std.specs.Io.KnownBytes.{Consumes, Keeps}
 use Rattle.std.proofs.KnownBytes.{Consumes-nil}
-use Rattle.std.proofs.lemmas.List.{length-map}
+use Rattle.std.proofs.lemmas.List.{length-map, take_all}
 use Rattle.std.proofs.lemmas.List.Elements.{All-head, All-weaker, recursion_from_All}
 use Rattle.tre_feed.specs.Feeding.{IsFed, HasRead, GoesOn, StopsTurn, EndsTurn}
 use Rattle.tre_feed.specs.Input.{InputTold, WereRead, TakesAtMost, HasReadCause}
@@ -13,6 +13,7 @@ use Rattle.tre_feed.specs.declared.fault.FeedFault.{FeedFault}
 use Rattle.tre_feed.specs.declared.fault.FeedFault.TheVariants.{Trace as FeedTrace, TooLong as FeedTooLong, Read as FeedRead, Memory as FeedMemory}
 use Rattle.tre_feed.specs.declared.fed.Fed.{Fed}
 use Rattle.tre_feed.specs.declared.readers.Readers.{Readers}
+use Rattle.tre_feed.proofs.Pieces.{Consumes-keeps, found_behind}
 use Rattle.tre_feed.proofs.Read.{fed_at_most, same_length}
 use Rattle.tre_online.specs.Watch.{trees_of, ended_of_each, Watches}
 use Rattle.tre_online.specs.declared.watch.Watch.{Watch}
@@ -31,26 +32,9 @@ use Rattle.tre_tell.specs.Telling.{first_row, joined, CanTellAll, HasTold, HasWr
 use Rattle.tre_tell.specs.Watched.{Watched, watched_by, SayNothing}
 use Rattle.tre_tell.specs.declared.fault.TellFault.{TellFault}
 use Rattle.tre_tell.proofs.Closing.{nones, BlocksWritten-start, HasTold-start}
-use Rattle.tre_tell.proofs.Lists.{take-over}
 use Rattle.tre_tell.proofs.Rows.{AreEmpty, count_rows}
 use Rattle.tre_tell.proofs.Tellings.{IsTurn, stand_by}
 use Rattle.tre_tell.proofs.Turns.{tops, take_none, GrowEach, joined_adds, first_common, alike_added}
-
-Consumes-keeps : (a b c : Option (List ℕ)) (bytes : List ℕ) → Consumes a b bytes → Keeps b c
-    → Consumes a c bytes
-Consumes-keeps None b c bytes first kept = tt
-Consumes-keeps (Some xs) None c bytes first kept = absurd first
-Consumes-keeps (Some xs) (Some ys) None bytes first kept = absurd kept
-Consumes-keeps (Some xs) (Some ys) (Some zs) bytes first kept = rw kept first
-
--- what a read finds left is what is left of what was read
-found_behind : (file left found : Option (List ℕ)) (bytes : List ℕ) → Consumes file left bytes
-    → Keeps found left → IfSome file (λ all. IfSome found (λ rest. all ≡ bytes ++ rest))
-found_behind None left found bytes front kept = tt
-found_behind (Some all) left None bytes front kept = tt
-found_behind (Some all) None (Some rest) bytes front kept = absurd front
-found_behind (Some all) (Some xs) (Some rest) bytes front kept =
-    front ∙ ap (λ ys. bytes ++ ys) kept
 
 -- of an input of which nothing was read, nothing was taken
 pub TakesAtMost-none : (most : ℕ) (file left : Option (List ℕ)) → Keeps file left
@@ -59,18 +43,6 @@ TakesAtMost-none most file left kept = record {
   taken = [];
   few = omega arith;
   front = Consumes-keeps file file left [] (Consumes-nil file) kept;
-}
-
--- however a turn ended, what was taken is at most one byte past the limit
-pub HasRead-bounded : {readings : Bool → List ℕ → List Reading} {limit : ℕ}
-    {file left found : Option (List ℕ)} {bytes : List ℕ} {old new : List (List Segment)}
-    {fed : Result Bool FeedFault}
-    → HasRead readings limit file left found bytes old new fed
-    → TakesAtMost (limit + 1) file left
-HasRead-bounded {bytes = bytes} has = record {
-  taken = bytes ++ has.piece;
-  few = has.few;
-  front = has.front;
 }
 
 -- how a turn stopped that did
@@ -269,7 +241,7 @@ module _ (labels : List (List ℕ)) (patterns : List Pattern)
     (many : length (readings false []) ≡ length patterns)
     (nothing : SayNothing readings) where
   none_taken : take {A = ℕ} limit [] ≡ []
-  none_taken = take-over {X = ℕ} limit [] (omega arith)
+  none_taken = take_all {A = ℕ} limit [] (omega arith)
 
   nothing_each : AllByRecursion (λ reading. reading.segments ≡ []) (readings false [])
   nothing_each = recursion_from_All (λ (reading : Reading). reading.segments ≡ [])
@@ -380,21 +352,3 @@ module _ (labels : List (List ℕ)) (patterns : List Pattern)
       unwritten writes = absurd (only (λ e. cc) (λ e. cc))
   EndsTelling-unread name input output FeedTooLong faultless kept finds read only sound unwritten
       writes = absurd (only (λ e. cc) (λ e. cc))
-
--- no byte was read of an input that was opened
-pub IsFed-start : {were_fed : List ℕ → Type 0} (limit : ℕ) (file left found : Option (List ℕ))
-    (count : ℕ) → were_fed [] → Keeps file left → Keeps found file → count ≡ 0
-    → IsFed were_fed limit file left found count []
-IsFed-start limit file left found count fresh kept finds none = record {
-  front = Consumes-keeps file file left [] (Consumes-nil file) kept;
-  last = record {
-    earlier = [];
-    piece = [];
-    split = refl;
-    short = omega arith;
-    behind = found_behind file file found [] (Consumes-nil file) finds;
-  };
-  size = sym none;
-  few = omega (arith, none);
-  fed = rw (take-over {X = ℕ} limit [] (omega arith)) fresh;
-}
