@@ -1,7 +1,8 @@
-use Rattle.std.proofs.Common.{◌≡◌, ◌+◌, ◌-◌, ◌≤◌, ℕ, Bool, List, false, true, Ok, Err, length, map, take, arith, subst, length-take}
+use Rattle.std.proofs.Common.{◌≡◌, ◌+◌, ◌-◌, ◌≤◌, ℕ, Bool, List, false, true, Ok, Err, length, map, take, arith, sym, subst, length-take}
 use Rattle.std.proofs.lemmas.Result.{err_from_is_err_and}
 use Rattle.tre_trace.specs.Reading.{Reading}
 use Rattle.tre_feed.specs.Readers.{TakesIn, WereFed, lasts_of, readings_in, rows_of}
+use Rattle.tre_feed.specs.Readings.{AgreeAlways}
 use Rattle.tre_feed.specs.declared.TheConstants.{PIECE}
 use Rattle.tre_feed.proofs.Outcomes.{TellsAll-exceeds}
 use Rattle.tre_feed.proofs.Pieces.{AddsEach-end, AddsEach-none, GoesOn-fed, HasRead-end, HasRead-fed, HasRead-nothing, HasRead-refused, HasRead-stops, IsAtEndOf-read, IsEnded-end, IsFed-all, StopsTurn-end, StopsTurn-piece}
@@ -70,7 +71,8 @@ returns-in_err-count-clause-ends g c =
     (c.in_err-count.ensures.stops bytes (IsFed-all so_far inside)))
 
 pub finish-requires : goal.finish-requires
-finish-requires g c = record { alike = rw c.in_ok-count.ensures.same c.requires.alike }
+finish-requires g c =
+    record { alike = subst AgreeAlways (sym c.in_ok-count.ensures.same) c.requires.alike }
 
 pub returns-in_err-finish-clause-read : goal.returns-in_err-finish-clause-read
 returns-in_err-finish-clause-read g c =

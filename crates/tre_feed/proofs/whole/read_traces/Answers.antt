@@ -3,7 +3,7 @@ use Rattle.std.proofs.lemmas.Result.{err_from_is_err_and}
 use Rattle.tre_trace.specs.Reading.{Reading}
 use Rattle.tre_feed.specs.Input.{HasReadCause, Progress, input_told}
 use Rattle.tre_feed.specs.Readers.{readings_in, rows_of}
-use Rattle.tre_feed.specs.Readings.{common, rows_in}
+use Rattle.tre_feed.specs.Readings.{AgreeAlways, common, rows_in}
 use Rattle.tre_feed.proofs.Alike.{AddsEach-now}
 use Rattle.tre_feed.proofs.Cuts.{take-over}
 use Rattle.tre_feed.proofs.Read.{all_traces, faultless_now, same_length}
@@ -50,6 +50,9 @@ loop-feed-init g c =
       no_fault = c.in_ok-feed.ensures.cause;
       limit = ap (λ (progress : Progress). progress.limit) start;
     }
+
+pub next-requires-clause-alike : goal.next-requires-clause-alike
+next-requires-clause-alike g c = subst AgreeAlways (sym c.loop-feed.invariant.same) c.requires.alike
 
 pub returns-in_err-next-clause-stops : goal.returns-in_err-next-clause-stops
 returns-in_err-next-clause-stops g c =
@@ -98,7 +101,9 @@ loop-feed-preserved g c =
           (rows_of c.loop-feed.readers) (rows_of c.next.new.readers)
           (rw (← c.next.ensures.same, inv.limit, c.if-not-branch.false) at
           c.in_ok-next.ensures.ends file so_far.bytes so_far.fed)
-          (rw (← c.next.ensures.same) at so_far.told);
+          (subst (λ (all : Bool → List ℕ → List Reading). rows_of c.loop-feed.readers
+          ≡ rows_in (all false (take c.args.limit so_far.bytes))) (sym c.next.ensures.same)
+          so_far.told);
       same = c.next.ensures.same ∙ inv.same;
       opened = c.next.ensures.same_opened ∙ inv.opened;
       sound = c.next.ensures.same_sound ∙ inv.sound;
@@ -116,7 +121,8 @@ into_traces-requires g c =
     let bytes = so_far.bytes in
     let ended = rw (inv.same, inv.limit, c.if-not-branch.true) at
     c.in_ok-next.ensures.ends file bytes so_far.fed in
-    let told = rw inv.same at so_far.told in
+    let told = subst (λ (all : Bool → List ℕ → List Reading). rows_of c.loop-feed.readers
+    ≡ rows_in (all false (take c.args.limit bytes))) inv.same so_far.told in
     let rows = AddsEach-now ended.all told in
     let traces = rows_are_traces (rows_of c.next.new.readers) (readings true bytes) rows
     (all_traces reader.terms reader.reading g.met.R.TraceReader.is_trace c.args.readers true
@@ -133,7 +139,8 @@ returns-clause-read g c =
     let bytes = so_far.bytes in
     let ended = rw (inv.same, inv.limit, c.if-not-branch.true) at
     c.in_ok-next.ensures.ends file bytes so_far.fed in
-    let told = rw inv.same at so_far.told in
+    let told = subst (λ (all : Bool → List ℕ → List Reading). rows_of c.loop-feed.readers
+    ≡ rows_in (all false (take c.args.limit bytes))) inv.same so_far.told in
     let rows = AddsEach-now ended.all told in
     let traces = rows_are_traces (rows_of c.next.new.readers) (readings true bytes) rows
     (all_traces reader.terms reader.reading g.met.R.TraceReader.is_trace c.args.readers true

@@ -4,7 +4,7 @@ use Rattle.std.proofs.lemmas.List.Elements.{recursion_from_All}
 use Rattle.std.proofs.lemmas.Result.{err_from_is_err_and}
 use Rattle.tre_feed.specs.Input.{input_told}
 use Rattle.tre_feed.specs.Readers.{readings_in, rows_of, lasts_of, WereFed}
-use Rattle.tre_feed.specs.Readings.{common, rows_in}
+use Rattle.tre_feed.specs.Readings.{AgreeAlways, common, rows_in}
 use Rattle.tre_feed.specs.declared.fault.FeedFault.TheVariants.{Memory as FeedMemory}
 use Rattle.tre_feed.proofs.Read.{all_grow, as_many, faultless_now, lasts_count}
 use Rattle.tre_feed.proofs.Wholes.{HasRead-bounded, IsFed-start}
@@ -113,7 +113,8 @@ next-fed-requires-clause-fed g c =
     c.loop-feed.feed.taken tel.bytes tel.fed.size tel.fed.fed
 
 pub next-fed-requires-clause-alike : goal.next-fed-requires-clause-alike
-next-fed-requires-clause-alike g c = rw c.loop-feed.invariant.same c.requires.alike
+next-fed-requires-clause-alike g c =
+    subst AgreeAlways (sym c.loop-feed.invariant.same) c.requires.alike
 
 pub tell_blocks-requires-clause-comes : goal.tell_blocks-requires-clause-comes
 tell_blocks-requires-clause-comes g c =
