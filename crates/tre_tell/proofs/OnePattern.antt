@@ -1,5 +1,5 @@
 -- The text that is told of one pattern without a label.
-use Rattle.std.proofs.Common.{◌≡◌, ℕ, zero, suc, ◌+◌, List, [], ◌∷◌, ◌++◌, length, drop, get_or, None, Some, refl, sym, ap, ◌∙◌, arith, append-nil}
+use Rattle.std.proofs.Common.{◌≡◌, ℕ, zero, suc, ◌+◌, List, [], ◌∷◌, ◌++◌, length, length-drop, drop, get_or, None, Some, refl, sym, ap, ◌∙◌, arith, append-nil}
 use Rattle.tre_show.specs.Line.{lines_of, offline_text}
 use Rattle.tre_trace.specs.Trace.{end_of}
 use Rattle.tre_trace.specs.declared.segment.Segment.{Segment}
@@ -10,7 +10,8 @@ use Rattle.tre_tell.specs.OnlineText.{block_text, block_texts, online_text}
 -- what stands at a place, and behind it, of a list that goes on with that from there
 at_front : {X : Type 0} (xs : List X) (i : ℕ) (x : X) (rest : List X) (d : X)
     → drop i xs ≡ x ∷ rest → (get_or xs i d ≡ x) × (drop (suc i) xs ≡ rest)
-at_front [] i x rest d goes_on = cc
+at_front {X} [] i x rest d goes_on =
+    absurd (omega (arith, ap length goes_on, length-drop {A = X} i []))
 at_front (first ∷ xs) zero x rest d goes_on = (cc, cc)
 at_front (first ∷ xs) (suc i) x rest d goes_on = at_front xs i x rest d goes_on
 
