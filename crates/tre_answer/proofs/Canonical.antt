@@ -5,10 +5,10 @@ use Rattle.tre_strips.specs.Strips.{AreStrips}
 use Rattle.tre_trace.specs.Reading.{Reading}
 use Rattle.tre_trace.specs.Trace.{Timeline, timeline_of}
 use Rattle.tre_zone.specs.declared.zone_bounds.ZoneBounds.{ZoneBounds}
-use Rattle.tre_tool.specs.Outcome.{whole_reading}
-use Rattle.tre_tool.specs.Request.{Request}
-use Rattle.tre_tool.specs.Wanted.{IsWanted, AreAsAsked, AreZonesFor, IsOfflineAnswer, AreTooMany}
-use Rattle.tre_tool.proofs.Strips.{strips_once}
+use Rattle.tre_feed.specs.Outcome.{whole_reading}
+use Rattle.tre_answer.specs.Request.{Request}
+use Rattle.tre_answer.specs.Wanted.{IsWanted, AreAsAsked, AreZonesFor, IsOfflineAnswer, AreTooMany}
+use Rattle.tre_answer.proofs.Strips.{strips_once}
 
 one_value : {X : Type 0} {x y : X} → Some x ≡ Some y → x ≡ y
 one_value e = cc

@@ -5,8 +5,8 @@ use Rattle.tre_syntax.specs.Meaning.{Matches}
 use Rattle.tre_trace.specs.Trace.{Timeline}
 use Rattle.tre_zone.specs.ZoneList.{SetHolds, HoldExactly}
 use Rattle.tre_zone.specs.declared.zone_bounds.ZoneBounds.{ZoneBounds}
-use Rattle.tre_tool.specs.Request.{Sought}
-use Rattle.tre_tool.specs.Wanted.{IsWanted}
+use Rattle.tre_tell.specs.Sought.{Sought}
+use Rattle.tre_answer.specs.Wanted.{IsWanted}
 
 -- what is left of a pattern, and what both match, make up what it matches
 pub parts_of_first : (pattern other : Sought) (trace second : Timeline)

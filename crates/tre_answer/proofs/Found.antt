@@ -1,103 +1,78 @@
 -- What was found over a whole input, and the text that tells it.
-use Rattle.std.proofs.Common.{◌≡◌, ◌∙◌, ℕ, ◌≤◌, Bool, true, List, [], ◌∷◌, All, length, Option, None, Some, IfSome, IsTrue, zero, suc, refl, sym, ap, subst, arith}
-use Rattle.tre_num.specs.Defined.{Defined}
-use Rattle.tre_offline.specs.MatchSet.{IsMatchSet}
-use Rattle.tre_pairs.specs.Except.{Except}
+use Rattle.std.proofs.Common.{◌≡◌, ◌∙◌, ℕ, ◌≤◌, ◌<◌, Bool, true, List, [], ◌∷◌, length, get_or, map, Some, IfSome, is_some, refl, sym, ap, subst, arith}
+use Rattle.std.proofs.lemmas.List.{length-map}
+use Rattle.tre_feed.specs.Input.{InputTold, AllReadsGood}
+use Rattle.tre_feed.specs.Outcome.{Outcome, whole_reading, refuses, exceeds}
+use Rattle.tre_feed.specs.Readers.{how_many, readings_in}
+use Rattle.tre_feed.specs.Readings.{common}
+use Rattle.tre_feed.specs.Whole.{IsWhole, IsDecided, StopsReading}
+use Rattle.tre_feed.specs.declared.fault.FeedFault.{FeedFault}
+use Rattle.tre_feed.specs.declared.fault.FeedFault.TheVariants.{Trace as FeedTrace, TooLong as FeedTooLong, Read as FeedRead, Memory as FeedMemory}
+use Rattle.tre_feed.specs.declared.readers.Readers.{Readers}
+use Rattle.tre_feed.proofs.Read.{as_many}
 use Rattle.tre_show.specs.Line.{offline_text}
-use Rattle.tre_syntax.specs.Pattern.{pattern_tree, names_of}
-use Rattle.tre_syntax.specs.declared.pattern.Pattern.{Pattern}
 use Rattle.tre_trace.specs.Reading.{Reading}
-use Rattle.tre_trace.specs.Trace.{Timeline, end_of, IsTrace}
+use Rattle.tre_trace.specs.Trace.{Timeline, end_of}
+use Rattle.tre_words.specs.Job.{IsJob}
+use Rattle.tre_words.specs.declared.job.Job.{Job}
+use Rattle.tre_words.specs.declared.job.Mode.TheVariants.{Offline}
 use Rattle.tre_zone.specs.ZoneList.{SetHolds, HoldExactly}
 use Rattle.tre_zone.specs.declared.zone_bounds.ZoneBounds.{ZoneBounds}
 use Rattle.tre_zoneset.specs.ZoneSet.{IsZoneSet}
-use Rattle.tre_tool.specs.Answer.{sought_by, request_for, AreMatchesOver, AreOver, IsFound, IsFoundFor, StopsAs}
-use Rattle.tre_tool.specs.Devices.{InputTold, AllReadsGood}
-use Rattle.tre_tool.specs.Feeding.{IsWhole, StopsReading}
-use Rattle.tre_tool.specs.Outcome.{IsReadingOf, whole_reading}
-use Rattle.tre_tool.specs.Readings.{reading_of, reading_for}
-use Rattle.tre_tool.specs.Request.{Request}
-use Rattle.tre_tool.specs.Run.{IsAnswerIn}
-use Rattle.tre_tool.specs.Wanted.{AreZonesOf, AreZonesFor}
-use Rattle.tre_tool.specs.declared.kept.Kept.{Kept}
-use Rattle.tre_tool.specs.declared.status.Status.{Status}
-use Rattle.tre_tool.specs.declared.status.Status.TheVariants.{TooManyZones, Memory}
-use Rattle.tre_words.specs.declared.job.Job.{Job}
-use Rattle.tre_words.specs.declared.job.Mode.TheVariants.{Offline}
-use Rattle.tre_tool.proofs.Alone.{All-alone}
-use Rattle.tre_tool.proofs.Stops.{once, StopsAs-reading, StopsAs-memory}
-use Rattle.tre_tool.proofs.Wanted.{AreZonesOf-wanted, wanted_alone, wanted_without}
+use Rattle.tre_tell.specs.Outputs.{OutputTold, NothingWritten}
+use Rattle.tre_answer.specs.Ends.{IsAnswerIn, ReadsInput, StandsSoFar, EndsAtInput, way_of}
+use Rattle.tre_answer.specs.Parts.{AreOver, IsFound, IsFoundFor, StopsAs, feed_fault}
+use Rattle.tre_answer.specs.Readings.{readings_of}
+use Rattle.tre_answer.specs.Request.{Request}
+use Rattle.tre_answer.specs.Wanted.{IsWanted, AreZonesOf, AreZonesFor}
+use Rattle.tre_answer.specs.declared.fault.AnswerFault.TheVariants.{TooManyZones, Memory}
+use Rattle.tre_answer.proofs.Wanted.{AreZonesOf-wanted}
 
--- what the readings of a request have in common is the first of them
-pub reading_for-first : (job : Job) (lets : List Defined) (pattern : Pattern)
-    (taken : Option Pattern) → reading_for (request_for job lets pattern taken)
-    ≡ reading_of (request_for job lets pattern taken) (names_of pattern)
-reading_for-first job lets pattern None = refl
-reading_for-first job lets pattern (Some taken) = refl
+-- a limit of zones is one of canonical ones
+pub normal_limit : (job : Job) → IsJob job → (most : ℕ) → job.max_zones ≡ Some most
+    → job.normal ≡ true
+normal_limit job is most limited = is.together.max_zones (ap is_some limited)
 
--- what is so of the two members of a list
-All-both : {X : Type 0} (P : X → Type 0) (x y : X) → P x → P y → All P (x ∷ y ∷ [])
-All-both P x y so so' zero d below = so
-All-both P x y so so' (suc zero) d below = so'
-All-both P x y so so' (suc (suc k)) d below = absurd (omega (arith, below))
+-- there is a trace for each reader
+pub a_trace_each : {R Terms : Type 0} (terms : R → Terms)
+    (reading : Terms → Bool → List ℕ → Reading) (readers : Readers R) (limit : ℕ)
+    (input : InputTold) (traces : List Timeline)
+    → IsWhole (readings_in reading terms readers) limit input traces
+    → length traces ≡ how_many readers
+a_trace_each terms reading readers limit input traces whole =
+    sym (length-map traces whole_reading)
+    ∙ (sym (ap length whole.reads_as) ∙ as_many terms readers reading true whole.bytes)
 
-module _ (job : Job) (lets : List Defined) (pattern : Pattern) (input : InputTold) where
-  -- of a pattern alone
-  pub IsFound-alone : (kept : Kept) (trace : Timeline) (set : List ZoneBounds) (end : ℕ)
-      → IsWhole (reading_of (request_for job lets pattern None) (names_of pattern)) job.max_bytes
-      input kept trace
-      → IsMatchSet set (pattern_tree pattern) trace → end ≡ end_of 0 trace.segments
-      → IsFound (request_for job lets pattern None) input set end
-  IsFound-alone kept trace set end read matches ends = record {
-    reads = read.reads;
-    bytes = read.bytes;
-    all = read.all;
-    traces = trace ∷ [];
-    are = record {
-      within = read.within;
-      read = ap (λ (r : Reading). r ∷ []) read.reads_as;
-      are_traces = All-alone (λ (trace : Timeline). IsTrace trace.segments) trace read.is_trace;
-    };
-    exact = wanted_alone (sought_by pattern) trace set matches;
-    ends = ends ∙ ap (λ (r : Reading). end_of 0 r.segments) (sym read.reads_as);
-  }
+-- what the readings have in common ends where the first trace does
+first_ends : (readings : List Reading) (traces : List Timeline) (d : Timeline)
+    → readings ≡ map whole_reading traces → 0 < length traces
+    → end_of 0 (get_or traces 0 d).segments ≡ end_of 0 (common readings).segments
+first_ends readings [] d e some = absurd (omega (arith, some))
+first_ends readings (trace ∷ traces) d e some = rw e refl
 
-  -- of a pattern without another, over the same bytes
-  pub IsFound-without : (taken : Pattern) (kept : Kept) (trace : Timeline)
-      (set others left : List ZoneBounds) (end : ℕ) (bytes : List ℕ)
-      → IsTrue kept.asked → bytes ≡ kept.bytes.items
-      → IsWhole (reading_of (request_for job lets pattern (Some taken)) (names_of pattern))
-      job.max_bytes input kept trace
-      → IsMatchSet set (pattern_tree pattern) trace
-      → AreMatchesOver taken
-      (reading_of (request_for job lets pattern (Some taken)) (names_of taken)) bytes others
-      → HoldExactly left (Except (SetHolds set) (SetHolds others))
-      → end ≡ end_of 0 trace.segments
-      → IsFound (request_for job lets pattern (Some taken)) input left end
-  IsFound-without taken kept trace set others left end bytes asked same read matches over differs
-      ends =
-      let request = request_for job lets pattern (Some taken) in
-      let all : bytes ≡ read.bytes = same ∙ read.is_kept.all asked in
-      let second : IsReadingOf over.trace (reading_of request (names_of taken) true read.bytes) =
-      subst (λ xs. IsReadingOf over.trace (reading_of request (names_of taken) true xs)) all
-      over.reads in
-      record {
-        reads = read.reads;
-        bytes = read.bytes;
-        all = read.all;
-        traces = trace ∷ over.trace ∷ [];
-        are = record {
-          within = read.within;
-          read = ap (λ (r : Reading). r ∷ reading_of request (names_of taken) true read.bytes
-              ∷ []) read.reads_as
-              ∙ ap (λ (r : Reading). whole_reading trace ∷ r ∷ []) second;
-          are_traces = All-both (λ (trace : Timeline). IsTrace trace.segments) trace over.trace
-              read.is_trace over.is_trace;
-        };
-        exact = wanted_without (sought_by pattern) (sought_by taken) trace over.trace set others
-            left matches over.exact differs;
-        ends = ends ∙ ap (λ (r : Reading). end_of 0 r.segments) (sym read.reads_as);
-      }
+-- what is wanted over the traces that a whole input is
+pub IsFound-whole : (request : Request) (input : InputTold)
+    (readings : Bool → List ℕ → List Reading) (traces : List Timeline) (d : Timeline)
+    (set : List ZoneBounds) (end : ℕ) → readings ≡ readings_of request
+    → IsWhole readings request.job.max_bytes input traces → 0 < length traces
+    → HoldExactly set (IsWanted request.patterns traces)
+    → end ≡ end_of 0 (get_or traces 0 d).segments → IsFound request input set end
+IsFound-whole request input readings traces d set end same read some exact ends =
+    let whole : IsWhole (readings_of request) request.job.max_bytes input traces =
+    subst (λ rs. IsWhole rs request.job.max_bytes input traces) same read in
+    record {
+      reads = whole.reads;
+      bytes = whole.bytes;
+      all = whole.all;
+      traces = traces;
+      are = record {
+        within = whole.within;
+        read = whole.reads_as;
+        are_traces = whole.are_traces;
+      };
+      exact = exact;
+      ends = ends ∙ first_ends (readings_of request true whole.bytes) traces d whole.reads_as some;
+    }
 
 module _ (request : Request) (input : InputTold) (set zones : List ZoneBounds) (end : ℕ)
     (found : IsFound request input set end) (is_set : IsZoneSet set)
@@ -151,70 +126,52 @@ module _ (request : Request) (input : InputTold) (set zones : List ZoneBounds) (
     nothing = unwritten;
   }
 
--- memory was wanting for an answer that is written at once
-pub StopsAs-wanting : (request : Request) (input : InputTold) → request.job.mode ≡ Offline
-    → AllReadsGood input → StopsAs request input Memory
-StopsAs-wanting request input offline reads =
-    StopsAs-memory request input (once request input offline) reads
+module _ (request : Request) (input : InputTold) (offline : request.job.mode ≡ Offline) where
+  reads_here : ReadsInput request.job.mode
+  reads_here = rw offline tt
 
--- the first reader read no trace
-pub StopsAs-first : (job : Job) (lets : List Defined) (pattern : Pattern) (taken : Option Pattern)
-    (input : InputTold) (reading : Bool → List ℕ → Reading) (name : List ℕ) (status : Status)
-    → job.mode ≡ Offline
-    → reading ≡ reading_of (request_for job lets pattern taken) (names_of pattern)
-    → name ≡ job.input → StopsReading reading job.max_bytes name input status
-    → StopsAs (request_for job lets pattern taken) input status
-StopsAs-first job lets pattern taken input reading name status offline same named stops =
-    let request = request_for job lets pattern taken in
-    let common : reading ≡ reading_for request =
-    same ∙ sym (reading_for-first job lets pattern taken) in
-    StopsAs-reading request input offline status
-    (subst (λ n. StopsReading (reading_for request) job.max_bytes n input status) named
-    (subst (λ r. StopsReading r job.max_bytes name input status) common stops))
+  nothing_so_far : (output : OutputTold) (blocks : Type 0) → NothingWritten output
+      → StandsSoFar (way_of request.job.mode) output blocks
+  nothing_so_far output blocks unwritten = rw offline unwritten
 
--- what was found of a pattern alone, read by a reader of its names
-pub IsFound-none : (job : Job) (lets : List Defined) (pattern : Pattern) (taken : Option Pattern)
-    (input : InputTold) (reading : Bool → List ℕ → Reading) (kept : Kept) (trace : Timeline)
-    (set : List ZoneBounds) (end : ℕ) → taken ≡ None
-    → reading ≡ reading_of (request_for job lets pattern taken) (names_of pattern)
-    → IsWhole reading job.max_bytes input kept trace
-    → IsMatchSet set (pattern_tree pattern) trace → end ≡ end_of 0 trace.segments
-    → IsFound (request_for job lets pattern taken) input set end
-IsFound-none job lets pattern taken input reading kept trace set end none same read matches ends =
-    let own : reading ≡ reading_of (request_for job lets pattern None) (names_of pattern) =
-    subst (λ t. reading ≡ reading_of (request_for job lets pattern t) (names_of pattern)) none same
-    in
-    subst (λ t. IsFound (request_for job lets pattern t) input set end) (sym none)
-    (IsFound-alone job lets pattern input kept trace set end
-    (subst (λ r. IsWhole r job.max_bytes input kept trace) own read) matches ends)
+  -- memory was wanting
+  pub StopsAs-wanting : AllReadsGood input → StopsAs request input Memory
+  StopsAs-wanting reads = λ output unwritten. (reads, nothing_so_far output _ unwritten)
 
--- and of a pattern without another
-pub IsFound-some : (job : Job) (lets : List Defined) (pattern other : Pattern)
-    (taken : Option Pattern) (input : InputTold) (reading second : Bool → List ℕ → Reading)
-    (kept : Kept) (trace : Timeline) (set others left : List ZoneBounds) (end : ℕ)
-    (bytes : List ℕ) → taken ≡ Some other
-    → reading ≡ reading_of (request_for job lets pattern taken) (names_of pattern)
-    → second ≡ reading_of (request_for job lets pattern taken) (names_of other)
-    → IsTrue kept.asked → bytes ≡ kept.bytes.items
-    → IsWhole reading job.max_bytes input kept trace
-    → IsMatchSet set (pattern_tree pattern) trace → AreMatchesOver other second bytes others
-    → HoldExactly left (Except (SetHolds set) (SetHolds others))
-    → end ≡ end_of 0 trace.segments
-    → IsFound (request_for job lets pattern taken) input left end
-IsFound-some job lets pattern other taken input reading second kept trace set others left end bytes
-    some same same' asked all read matches over differs ends =
-    let own : reading ≡ reading_of (request_for job lets pattern (Some other)) (names_of pattern) =
-    subst (λ t. reading ≡ reading_of (request_for job lets pattern t) (names_of pattern)) some same
-    in
-    let own' : second ≡ reading_of (request_for job lets pattern (Some other)) (names_of other) =
-    subst (λ t. second ≡ reading_of (request_for job lets pattern t) (names_of other)) some same'
-    in
-    subst (λ t. IsFound (request_for job lets pattern t) input left end) (sym some)
-    (IsFound-without job lets pattern input other kept trace set others left end bytes asked all
-    (subst (λ r. IsWhole r job.max_bytes input kept trace) own read) matches
-    (subst (λ r. AreMatchesOver other r bytes others) own' over) differs ends)
+  stops_decided : (outcome : Outcome) (output : OutputTold)
+      → IsDecided (readings_of request) request.job.max_bytes input outcome
+      → NothingWritten output → EndsAtInput outcome request input output
+  stops_decided outcome output decided unwritten = record {
+    reads_input = reads_here;
+    opened = decided.opened;
+    cause = decided.cause;
+    reads = decided.reads;
+    stands = nothing_so_far output _ unwritten;
+  }
 
--- what is so of each of an option is so of the one that it is
-pub at_some : {X : Type 0} (o : Option X) (x : X) → o ≡ Some x → (P : X → Type 0) → IfSome o P
-    → P x
-at_some {X} o x is P each = subst (λ (one : Option X). IfSome one P) is each
+  -- the input couldn't be read as traces
+  StopsAs-unread : (fault : FeedFault)
+      → StopsReading (readings_of request) request.job.max_bytes request.job.input input fault
+      → StopsAs request input (feed_fault fault)
+  StopsAs-unread (FeedTrace fault) stops = λ output unwritten.
+      (stops.0, stops_decided (refuses fault) output stops.1 unwritten)
+  StopsAs-unread FeedTooLong stops = λ output unwritten.
+      stops_decided exceeds output stops unwritten
+  StopsAs-unread FeedRead stops = λ output unwritten. record {
+    reads_input = reads_here;
+    cause = stops.cause;
+    unsound = stops.unsound;
+    goes_on = stops.goes_on;
+    stands = nothing_so_far output _ unwritten;
+  }
+  StopsAs-unread FeedMemory stops = StopsAs-wanting stops
+
+  -- nor by readers of its readings
+  pub StopsAs-readers : (readings : Bool → List ℕ → List Reading) (name : List ℕ)
+      (fault : FeedFault) → readings ≡ readings_of request → name ≡ request.job.input
+      → StopsReading readings request.job.max_bytes name input fault
+      → StopsAs request input (feed_fault fault)
+  StopsAs-readers readings name fault same named stops =
+      StopsAs-unread fault
+      (subst (λ n. StopsReading (readings_of request) request.job.max_bytes n input fault) named
+      (subst (λ rs. StopsReading rs request.job.max_bytes name input fault) same stops))

@@ -1,17 +1,22 @@
 -- What is wanted of patterns over their traces, and the zones that hold it.
-use Rattle.std.proofs.Common.{◌↔◌, ◌⊎◌, ⊎_elim, inl, ℕ, ◌<◌, ◌≤◌, Bool, true, false, List, [], ◌∷◌}
+use Rattle.std.proofs.Common.{◌≡◌, ◌↔◌, ◌⊎◌, ⊎_elim, inl, inr, ℕ, ◌<◌, ◌≤◌, ◌+◌, Bool, true, false, List, [], ◌∷◌, length, drop, get_or, sym, arith}
+use Rattle.std.proofs.lemmas.List.{drop_more}
+use Rattle.std.proofs.Math.ListN.{drop_of_length-le}
 use Rattle.tre_offline.specs.MatchSet.{IsMatchSet}
 use Rattle.tre_pairs.specs.Except.{Except}
+use Rattle.tre_pairs.specs.Pairs.{Pairs}
 use Rattle.tre_syntax.specs.Meaning.{Matches}
+use Rattle.tre_syntax.specs.Pattern.{pattern_tree}
 use Rattle.tre_syntax.specs.Rest.{whole}
+use Rattle.tre_syntax.specs.declared.pattern.Pattern.{Pattern}
 use Rattle.tre_syntax.proofs.CutMeaning.{IsOrdered-rest}
+use Rattle.tre_tell.specs.Sought.{Sought, sought_by}
 use Rattle.tre_trace.specs.Trace.{Timeline}
 use Rattle.tre_zone.specs.ZoneList.{SetHolds, AreCanonical, HoldExactly}
 use Rattle.tre_zone.specs.declared.zone_bounds.ZoneBounds.{ZoneBounds}
 use Rattle.tre_zone.proofs.Scaling.{SetHolds-rising}
-use Rattle.tre_tool.specs.Request.{Sought}
-use Rattle.tre_tool.specs.Wanted.{IsWanted, AreAsAsked, AreZonesOf}
-use Rattle.tre_tool.proofs.Strips.{AreStrips-pairs}
+use Rattle.tre_answer.specs.Wanted.{MatchesSome, IsWanted, AreAsAsked, AreZonesOf}
+use Rattle.tre_answer.proofs.Strips.{AreStrips-pairs}
 
 -- the first time of a pair that is wanted isn't after the second
 pub wanted_rises : (patterns : List Sought) (traces : List Timeline) (a b n : ℕ)
@@ -51,33 +56,99 @@ AreZonesOf-wanted normal patterns traces set zones canonical held of = record {
         (wanted_same patterns traces set canonical held) zones strips
     as_asked_of false tidy = tidy
 
--- the matches of one pattern are what is wanted of it alone
-pub wanted_alone : (pattern : Sought) (trace : Timeline) (set : List ZoneBounds)
-    → IsMatchSet set pattern.tree trace → HoldExactly set (IsWanted (pattern ∷ []) (trace ∷ []))
-wanted_alone pattern trace set matches = record {
-  exact = λ a b n positive rises.
-      let found = matches.exact.exact a b n positive rises in
-      ((λ h. (found.0 h, λ none. none)), (λ h. found.1 h.0));
-}
+-- a match of one of the patterns from this place on, behind these labels
+abbrev IsStill : List (List ℕ) → List Pattern → List Timeline → ℕ → Pairs
+IsStill labels patterns traces place = MatchesSome
+    (sought_by (drop place labels) (drop place patterns)) (drop place traces)
 
--- and without the matches of another, what is wanted of both
-pub wanted_without : (pattern other : Sought) (trace second : Timeline)
-    (set others left : List ZoneBounds) → IsMatchSet set pattern.tree trace
-    → HoldExactly others (Matches other.tree second)
+-- The zones hold what is wanted of the patterns, and what the matches from this place on still take
+-- away.
+pub record AreLeft (patterns : List Pattern) (traces : List Timeline) (place : ℕ)
+    (zones : List ZoneBounds) : Type 0 where
+  pub exact : (labels : List (List ℕ)) → length labels ≡ length patterns → (a b n : ℕ) → 0 < n
+      → a ≤ b → IsWanted (sought_by labels patterns) traces a b n
+      ↔ (SetHolds zones a b n × ¬ IsStill labels patterns traces place a b n)
+
+-- the matches of the first
+pub AreLeft-first : (patterns : List Pattern) (traces : List Timeline) (pattern : Pattern)
+    (trace : Timeline) (set : List ZoneBounds) → 0 < length patterns
+    → length traces ≡ length patterns → pattern ≡ get_or patterns 0 pattern
+    → trace ≡ get_or traces 0 trace → IsMatchSet set (pattern_tree pattern) trace
+    → AreLeft patterns traces 1 set
+AreLeft-first [] traces pattern trace set some count is is' matches =
+    absurd (omega (arith, some))
+AreLeft-first (first ∷ patterns) [] pattern trace set some count is is' matches =
+    absurd (omega (arith, count))
+AreLeft-first (first ∷ patterns) (own ∷ traces) pattern trace set some count is is' matches =
+    record { exact = begun }
+  where
+    begun : (labels : List (List ℕ)) → length labels ≡ length (first ∷ patterns)
+        → (a b n : ℕ) → 0 < n → a ≤ b
+        → IsWanted (sought_by labels (first ∷ patterns)) (own ∷ traces) a b n
+        ↔ (SetHolds set a b n × ¬ IsStill labels (first ∷ patterns) (own ∷ traces) 1 a b n)
+    begun [] labelled a b n positive rises = absurd (omega (arith, labelled))
+    begun (label ∷ labels) labelled a b n positive rises =
+        let same : pattern ≡ first = is in
+        let same' : trace ≡ own = is' in
+        let found = rw (same, same') at matches.exact.exact a b n positive rises in
+        ((λ h. (found.1 h.0, h.1)), (λ h. (found.0 h.0, h.1)))
+
+-- and less the matches of the next
+pub AreLeft-next : (patterns : List Pattern) (traces : List Timeline) (place : ℕ)
+    (pattern : Pattern) (trace : Timeline) (set others left : List ZoneBounds)
+    → AreLeft patterns traces place set → place < length patterns
+    → length traces ≡ length patterns → pattern ≡ get_or patterns place pattern
+    → trace ≡ get_or traces place trace → IsMatchSet others (pattern_tree pattern) trace
     → HoldExactly left (Except (SetHolds set) (SetHolds others))
-    → HoldExactly left (IsWanted (pattern ∷ other ∷ []) (trace ∷ second ∷ []))
-wanted_without pattern other trace second set others left matches held differs = record {
+    → AreLeft patterns traces (place + 1) left
+AreLeft-next patterns traces place pattern trace set others left before inside count is is' matches
+    differs = record {
+      exact = λ labels labelled a b n positive rises.
+          let own = before.exact labels labelled a b n positive rises in
+          let taken = matches.exact.exact a b n positive rises in
+          let both = differs.exact a b n positive rises in
+          let next = still labels labelled a b n in (
+            (λ h.
+                let was = own.0 h in (
+                  both.1 (record {
+                    related = was.0;
+                    never = λ m. was.1 (next.1 (inl (taken.0 m)));
+                  }),
+                  λ more. was.1 (next.1 (inr more)),
+                )),
+            (λ h.
+                let was = both.0 h.0 in
+                own.1 (was.related, λ more. ⊎_elim (λ m. was.never (taken.1 m)) h.1 (next.0 more))),
+          );
+    }
+  where
+    still : (labels : List (List ℕ)) → length labels ≡ length patterns → (a b n : ℕ)
+        → IsStill labels patterns traces place a b n
+        ↔ (Matches (pattern_tree pattern) trace a b n
+        ⊎ IsStill labels patterns traces (place + 1) a b n)
+    still labels labelled a b n = rw (
+      drop_more labels place [] (omega (arith, inside, labelled)),
+      drop_more patterns place pattern inside,
+      drop_more traces place trace (omega (arith, inside, count)),
+      sym is,
+      sym is',
+    ) ((λ h. h), (λ h. h))
+
+-- at the end nothing is still to be taken away
+pub AreLeft-all : (patterns : List Pattern) (traces : List Timeline) (place : ℕ)
+    (zones : List ZoneBounds) → AreLeft patterns traces place zones → length patterns ≤ place
+    → (labels : List (List ℕ)) → length labels ≡ length patterns
+    → HoldExactly zones (IsWanted (sought_by labels patterns) traces)
+AreLeft-all patterns traces place zones left past labels labelled = record {
   exact = λ a b n positive rises.
-      let found = matches.exact.exact a b n positive rises in
-      let taken = held.exact a b n positive rises in
-      let both = differs.exact a b n positive rises in (
-        (λ h. (
-          found.0 (both.0 h).related,
-          λ some. ⊎_elim (λ m. (both.0 h).never (taken.1 m)) (λ none. none) some,
-        )),
-        (λ h. both.1 (record {
-          related = found.1 h.0;
-          never = λ m. h.1 (inl (taken.0 m));
-        })),
+      let own = left.exact labels labelled a b n positive rises in (
+        (λ h. own.1 (h, λ more. none a b n more)),
+        (λ h. (own.0 h).0),
       );
 }
+  where
+    short : length labels ≤ place
+    short = omega (arith, past, labelled)
+
+    none : (a b n : ℕ) → IsStill labels patterns traces place a b n → ⊥
+    none a b n = rw (drop_of_length-le labels short) (λ h. h)

@@ -5,7 +5,7 @@ ghost use Rattle.tre_answer.specs.Readings.{readings_of};
 ghost use Rattle.tre_answer.specs.Request.{FitsJob, request_for};
 ghost use Rattle.tre_answer.specs.Wanted.{AreZonesOf, IsWanted};
 ghost use Rattle.tre_feed.specs.Input.{TakesAtMost, input_told};
-ghost use Rattle.tre_feed.specs.Readers.{AreFresh, readings_in};
+ghost use Rattle.tre_feed.specs.Readers.{AreFresh, how_many, readings_in};
 ghost use Rattle.tre_feed.specs.Readings.{AgreeAlways};
 ghost use Rattle.tre_num.specs.Defined.{Defined};
 ghost use Rattle.tre_tell.specs.Sought.{sought_by};
@@ -70,6 +70,7 @@ fn find<S: Source, R: TraceReader + Drop>(
     requires job { IsJob job.now }
     requires offline { job.now.mode ≡ Mode.Offline }
     requires fits { FitsJob job.now asked.now }
+    requires count { how_many readers ≡ length asked.now.patterns.items }
     requires fresh { AreFresh R.represents readers }
     requires alike { AgreeAlways (readings_in R.reading R.terms readers) }
     requires nothing { SayNothing (readings_in R.reading R.terms readers) }
@@ -142,6 +143,7 @@ pub fn matches_text<S: Source, R: TraceReader + Drop>(
     requires job { IsJob job.now }
     requires offline { job.now.mode ≡ Mode.Offline }
     requires fits { FitsJob job.now asked.now }
+    requires count { how_many readers ≡ length asked.now.patterns.items }
     requires fresh { AreFresh R.represents readers }
     requires alike { AgreeAlways (readings_in R.reading R.terms readers) }
     requires nothing { SayNothing (readings_in R.reading R.terms readers) }

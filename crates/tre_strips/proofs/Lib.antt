@@ -1,5 +1,6 @@
 pub mod Order
 pub mod Comparing
+pub mod Ends
 pub mod Lists
 pub mod Joining
 pub mod ZoneBars

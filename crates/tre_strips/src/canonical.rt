@@ -52,7 +52,7 @@ fn strips_of(alloc: Global, zones: &[Zone]) -> Result<Vec<Zone>, AllocError>
     ensures { IfOk result (λ found. (set : List ZoneBounds) → AreCanonical set
         → HaveSamePairs set zones.now → AreFound set found.items) }
 {
-    let mut found = Vec::new(alloc);
+    let mut found = Vec::with_capacity(alloc, zones.len())?;
     let mut sweep = Sweep::new(alloc);
     let mut column = Column::new(alloc);
     sweep.next_column(alloc, zones, &mut column)?;

@@ -165,6 +165,7 @@ fn push_alone(
 }
 
 // Whether over the time none of the bars is empty, and together they are what the profile there is.
+#[inline(always)]
 fn fit(alloc: Global, time: u64, bars: &[Bar], there: &[Bar]) -> Result<bool, AllocError>
     requires { RiseAt time there.now }
     ensures { IfOk result (λ fits. IsTrue fits ↔ Agree time bars.now there.now) }
@@ -176,6 +177,20 @@ fn fit(alloc: Global, time: u64, bars: &[Bar], there: &[Bar]) -> Result<bool, Al
     if bars.len() < 2 {
         return Ok(false);
     }
+    let fits = fit_when_united(alloc, time, bars, there)?;
+    Ok(fits)
+}
+
+// The same, told by their union.
+fn fit_when_united(
+    alloc: Global,
+    time: u64,
+    bars: &[Bar],
+    there: &[Bar],
+) -> Result<bool, AllocError>
+    requires { RiseAt time there.now }
+    ensures { IfOk result (λ fits. IsTrue fits ↔ Agree time bars.now there.now) }
+{
     if !are_filled(time, bars) {
         return Ok(false);
     }
@@ -213,6 +228,7 @@ fn is_filled(time: u64, bar: &Bar) -> bool
 }
 
 // Whether the bars stand where the others do, one by one, over the time.
+#[inline(always)]
 fn are_same_at(time: u64, bars: &[Bar], others: &[Bar]) -> bool
     ensures { IsTrue result ↔ AreSamePlaces bars.now others.now (2 * time) 2 }
 {
@@ -224,6 +240,7 @@ fn are_same_at(time: u64, bars: &[Bar], others: &[Bar]) -> bool
 }
 
 // Whether the bars stand where the others do, one by one, over one of the times.
+#[inline(always)]
 fn are_alike(times: &Times, bars: &[Bar], others: &[Bar]) -> bool
     ensures { IsTrue result ↔ AreSamePlaces bars.now others.now (sample_of times.now) 2 }
 {

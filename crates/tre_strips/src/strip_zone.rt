@@ -20,6 +20,7 @@ pub(crate) struct Begins {
 }
 
 /// Adds the zone of each of the bars.
+#[inline(always)]
 pub(crate) fn push_strip(
     found: &mut Vec<Zone>,
     begins: &Begins,

@@ -86,7 +86,33 @@ impl Times {
         ensures { IsTrue result ↔ (place_of one.now (sample_of self.now) 2
             ≡ place_of other.now (sample_of self.now) 2) }
     {
-        !self.stands_before(one, other) && !self.stands_before(other, one)
+        if one.after != other.after {
+            return false;
+        }
+        if one.moves == other.moves {
+            return is_same(one.ticks, other.ticks);
+        }
+        if one.moves {
+            self.meet(one, other)
+        } else {
+            self.meet(other, one)
+        }
+    }
+
+    // Whether the moments of a moving end and of a fixed one are the same there.
+    #[inline(always)]
+    #[tactic(auto, unfolding(crate::specs::Times::sample_of))]
+    fn meet(&self, moving: &BarEnd, fixed: &BarEnd) -> bool
+        ensures { IsTrue result
+            ↔ (2 * moving.now.ticks + sample_of self.now ≡ 2 * fixed.now.ticks) }
+    {
+        if self.from < self.until {
+            return false;
+        }
+        if fixed.ticks < moving.ticks {
+            return false;
+        }
+        is_same(fixed.ticks - moving.ticks, self.from)
     }
 
     // How many quarters of a tick behind the first of the times the sample stands.
@@ -154,6 +180,12 @@ fn part_of(end: &BarEnd) -> u64
     ensures { result ≡ cond end.now.after 1 0 }
 {
     if end.after { 1 } else { 0 }
+}
+
+fn is_same(one: u64, other: u64) -> bool
+    ensures { IsTrue result ↔ (one ≡ other) }
+{
+    one == other
 }
 
 fn is_less(one: u64, other: u64) -> bool

@@ -1,5 +1,5 @@
-use Rattle.tre_tool.proofs.Canonical.{canonical_text, canonical_count, never_both}
-use Rattle.tre_tool.proofs.laws.one_canonical_answer.Goals as goal
+use Rattle.tre_answer.proofs.Canonical.{canonical_text, canonical_count, never_both}
+use Rattle.tre_answer.proofs.laws.one_canonical_answer.Goals as goal
 
 pub returns : goal.returns
 returns c = record { text = canonical_text; count = canonical_count; apart = never_both }

@@ -1,5 +1,5 @@
-use Rattle.tre_tool.proofs.Differences.{parts_of_first}
-use Rattle.tre_tool.proofs.laws.parts_of_a_difference.Goals as goal
+use Rattle.tre_answer.proofs.Differences.{parts_of_first}
+use Rattle.tre_answer.proofs.laws.parts_of_a_difference.Goals as goal
 
 pub returns : goal.returns
 returns c = parts_of_first

@@ -1,4 +1,4 @@
-use Rattle.tre_tool.proofs.offline.zones_for.Goals as goal
+use Rattle.tre_answer.proofs.offline.zones_for.Goals as goal
 
 pub returns-then-normal-clause-zones : goal.returns-then-normal-clause-zones
 returns-then-normal-clause-zones c = rw c.if-normal.true (record {

@@ -2,7 +2,7 @@ use Rattle.tre_strips.proofs.Trimming.{IsTrimmed-none, IsTrimmed-more, IsTrimmed
 use Rattle.tre_strips.proofs.trim.each_trimmed.Goals as goal
 
 pub loop-zone-init : goal.loop-zone-init
-loop-zone-init c = rw c.new-kept.ensures.items IsTrimmed-none
+loop-zone-init c = rw c.in_ok-kept.ensures.items IsTrimmed-none
 
 pub loop-zone-preserved : goal.loop-zone-preserved
 loop-zone-preserved c =

@@ -1,49 +1,7 @@
-use mathlib.Core.Bool.{beq}
-use Rattle.std.proofs.Common.{◌≡◌, ℕ, ◌+◌, ◌*◌, ◌<◌, ◌↔◌, Bool, true, false, cond, refl, sym, ap, arith, true≢false}
-use Rattle.tre_strips.specs.Bar.{place_of}
+use Rattle.std.proofs.Common.{arith}
 use Rattle.tre_strips.specs.Times.{sample_of}
-use Rattle.tre_strips.specs.declared.bar.BarEnd.{BarEnd}
+use Rattle.tre_strips.proofs.Ends.{alike, fixed, moving, place_moving, place_fixed, place_alike}
 use Rattle.tre_strips.proofs.times.Times.stands_before.Goals as goal
-
-abbrev bit : Bool → ℕ
-bit flag = cond flag 1 0
-
-alike : (m k : Bool) → beq m k ≡ true → m ≡ k
-alike true true e = refl
-alike true false e = absurd (true≢false (sym e))
-alike false true e = absurd (true≢false (sym e))
-alike false false e = refl
-
-fixed : (m k : Bool) → beq m k ≡ false → m ≡ true → k ≡ false
-fixed true true e p = absurd (true≢false e)
-fixed m false e p = refl
-fixed false true e p = absurd (true≢false (sym p))
-
-moving : (m k : Bool) → beq m k ≡ false → m ≡ false → k ≡ true
-moving m true e p = refl
-moving false false e p = absurd (true≢false e)
-moving true false e p = absurd (true≢false p)
-
--- Where the ends stand, in quarters of a tick.
-place_moving : (end : BarEnd) (s : ℕ) → end.moves ≡ true
-    → place_of end s 2 ≡ 4 * end.ticks + (2 * s + bit end.after)
-unfolding place_of
-place_moving end s e =
-    let m : cond end.moves s 0 ≡ s = ap (λ (b : Bool). cond b s 0) e in omega arith
-
-place_fixed : (end : BarEnd) (s : ℕ) → end.moves ≡ false
-    → place_of end s 2 ≡ 4 * end.ticks + bit end.after
-unfolding place_of
-place_fixed end s e =
-    let m : cond end.moves s 0 ≡ 0 = ap (λ (b : Bool). cond b s 0) e in omega arith
-
-place_alike : (one other : BarEnd) (s : ℕ) → one.moves ≡ other.moves
-    → (4 * one.ticks + bit one.after < 4 * other.ticks + bit other.after)
-    ↔ (place_of one s 2 < place_of other s 2)
-unfolding place_of
-place_alike one other s e =
-    let m : cond one.moves s 0 ≡ cond other.moves s 0 = ap (λ (b : Bool). cond b s 0) e in
-    ((λ lt. omega arith), (λ lt. omega arith))
 
 pub returns-then-one-other : goal.returns-then-one-other
 returns-then-one-other c =
