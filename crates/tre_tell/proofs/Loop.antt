@@ -1,17 +1,16 @@
 -- An input that is told, from before it is opened to its end.
-use Rattle.std.proofs.Common.{◌≡◌, ◌≢◌, ◌∙◌, ℕ, suc, ◌+◌, ◌≤◌, All, Bool, false, List, [], ◌∷◌, ◌++◌, length, take, drop, map, Option, None, Some, IfSome, IfErr, IsTrue, Result, Ok, Err, refl, sym, ap, subst, arith, length-take, append-nil}
+use Rattle.std.proofs.Common.{◌≡◌, ◌≢◌, ◌∙◌, ℕ, Bool, false, List, [], ◌∷◌, ◌++◌, length, take, drop, map, Option, None, Some, IfErr, IsTrue, Result, Ok, Err, refl, sym, ap, subst, arith, length-take, append-nil}
 use Rattle.std.specs.List.{AllByRecursion}
-use Rattle.std.specs.Io.KnownBytes.{Consumes, Keeps}
+use Rattle.std.specs.Io.KnownBytes.{Keeps}
 use Rattle.std.proofs.KnownBytes.{Consumes-nil}
 use Rattle.std.proofs.lemmas.List.{length-map, take_all}
-use Rattle.std.proofs.lemmas.List.Elements.{All-head, All-weaker, recursion_from_All}
-use Rattle.tre_feed.specs.Feeding.{IsFed, HasRead, GoesOn, StopsTurn, EndsTurn}
+use Rattle.std.proofs.lemmas.List.Elements.{recursion_from_All}
+use Rattle.tre_feed.specs.Feeding.{IsFed, GoesOn, StopsTurn, EndsTurn}
 use Rattle.tre_feed.specs.Input.{InputTold, WereRead, TakesAtMost, HasReadCause}
 use Rattle.tre_feed.specs.Readers.{readings_in, rows_of, WereFed, WereFedAtMost}
 use Rattle.tre_feed.specs.Readings.{common, AgreeAlways, rows_in, AddsEach}
 use Rattle.tre_feed.specs.declared.fault.FeedFault.{FeedFault}
 use Rattle.tre_feed.specs.declared.fault.FeedFault.TheVariants.{Trace as FeedTrace, TooLong as FeedTooLong, Read as FeedRead, Memory as FeedMemory}
-use Rattle.tre_feed.specs.declared.fed.Fed.{Fed}
 use Rattle.tre_feed.specs.declared.readers.Readers.{Readers}
 use Rattle.tre_feed.proofs.Pieces.{Consumes-keeps, found_behind}
 use Rattle.tre_feed.proofs.Read.{fed_at_most, same_length}
