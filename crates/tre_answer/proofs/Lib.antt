@@ -1,11 +1,11 @@
-pub mod Alone
-pub mod Answering
 pub mod Canonical
 pub mod Differences
 pub mod Found
+pub mod Makers
 pub mod OnlineRuns
 pub mod Readings
 pub mod SameReadings
 pub mod Stops
 pub mod Strips
+pub mod Unread
 pub mod Wanted

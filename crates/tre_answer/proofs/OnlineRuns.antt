@@ -1,110 +1,135 @@
--- The end of a run that tells as its input comes.
-use Rattle.std.proofs.Common.{◌≡◌, ◌⊎◌, List, false, inl, inr, ⊎_elim, subst, sym}
+-- The end of an answer that is told as its input comes.
+use Rattle.std.proofs.Common.{◌≡◌, ◌⊎◌, ℕ, Bool, List, map, string_bytes, Ok, Err, refl, ◌∙◌, ap, subst}
+use Rattle.tre_feed.specs.Input.{InputTold, OfAllBytes}
+use Rattle.tre_feed.specs.Outcome.{Outcome, refuses, exceeds}
+use Rattle.tre_syntax.specs.declared.pattern.Pattern.{Pattern}
+use Rattle.tre_tell.specs.Ends.{EndsTelling, IsTold, IsToldToFault}
+use Rattle.tre_tell.specs.Outputs.{OutputTold}
+use Rattle.tre_tell.specs.Watched.{watched_by}
+use Rattle.tre_tell.specs.Standing.{BlockIsCut, EndIsCut, IsOnlineAnswer}
+use Rattle.tre_tell.specs.declared.fault.TellFault.{TellFault}
+use Rattle.tre_tell.specs.declared.fault.TellFault.TheVariants.{Trace as TellTrace, TooLong as TellTooLong, Read as TellRead, Write as TellWrite, Memory as TellMemory}
 use Rattle.tre_num.specs.Defined.{Defined}
-use Rattle.tre_syntax.specs.PatternTree.{PatternTree}
-use Rattle.tre_trace.specs.Reading.{Vocabulary}
-use Rattle.tre_tool.specs.Answer.{EndsOver}
-use Rattle.tre_tool.specs.Devices.{InputTold, OutputTold, AllReadsGood, NothingWritten}
-use Rattle.tre_tool.specs.Outcome.{refuses, exceeds}
-use Rattle.tre_tool.specs.Readings.{reading_for}
-use Rattle.tre_tool.specs.Request.{alone, all_names}
-use Rattle.tre_tool.specs.Run.{Way, at_once, as_it_comes, way_of, ReadsInput, IsAnswerIn, StandsSoFar, IsCut}
-use Rattle.tre_tool.specs.Standing.{FirstBlocksStand, BlockIsCut, EndIsCut}
-use Rattle.tre_tool.specs.Telling.{EndsTelling}
+use Rattle.tre_trace.specs.Reading.{Reading}
 use Rattle.tre_words.specs.declared.job.Job.{Job}
 use Rattle.tre_words.specs.declared.job.Mode.{Mode}
-use Rattle.tre_words.specs.declared.job.Mode.TheVariants.{Online}
-use Rattle.tre_tool.specs.declared.status.Status.{Status}
-use Rattle.tre_tool.specs.declared.status.Status.TheVariants.{Done, Usage, Expression, Minus, Definitions, Trace, InputTooLong, TooManyZones, ReadFault, WriteFault, Memory}
-use Rattle.tre_tool.proofs.Alone.{AllStand-fault, BlocksSoFarStand-alone, FirstBlocksStand-alone, BlockIsCut-alone, IsOnlineAnswer-alone, EndIsCut-alone, EndsAtInput-decided, request_alone}
-use Rattle.tre_tool.proofs.Readings.{reading_in-nothing, reading_in-faultless}
-use Rattle.tre_tool.proofs.Tellings.{EndsTelling-unopened}
+use Rattle.tre_words.specs.declared.job.Mode.TheVariants.{Offline, Online, Show, Generate, Watch}
+use Rattle.tre_answer.specs.Ends.{ReadsInput, Way, at_once, as_it_comes, way_of, IsAnswerIn, StandsSoFar, IsCut, EndsAtInput, EndsOver}
+use Rattle.tre_answer.specs.Parts.{tell_fault}
+use Rattle.tre_answer.specs.Readings.{readings_of, watched_of}
+use Rattle.tre_answer.specs.Request.{Request, request_for}
+use Rattle.tre_answer.specs.declared.asked.Asked.{Asked}
 
-module _ (job : Job) (lets : List Defined) (tree : PatternTree) (names : Vocabulary) (input :
-    InputTold) (output : OutputTold) where
-  reads_here : job.mode ≡ Online → ReadsInput job.mode
-  reads_here online = rw online tt
+-- a mode that reads its input, and not as a whole
+pub told_way : (mode : Mode) → ReadsInput mode → (mode ≡ Offline → ⊥) → way_of mode ≡ as_it_comes
+told_way Offline reads other = absurd (other refl)
+told_way Online reads other = refl
+told_way Show reads other = absurd reads
+told_way (Generate count) reads other = absurd reads
+told_way (Watch file) reads other = refl
 
-  blocks_so_far : (mode : Mode) (blocks : Type 0) → mode ≡ Online → blocks
-      → StandsSoFar (way_of mode) output blocks
-  blocks_so_far mode blocks online stands = rw online stands
+-- it reads its input
+told_reads : (mode : Mode) → way_of mode ≡ as_it_comes → ReadsInput mode
+told_reads Offline comes = tt
+told_reads Online comes = tt
+told_reads Show comes = absurd (cc)
+told_reads (Generate count) comes = absurd (cc)
+told_reads (Watch file) comes = tt
 
-  cut_so_far : (mode : Mode) → mode ≡ Online
-      → BlockIsCut (request_alone job lets tree names) input output
-      ⊎ EndIsCut (request_alone job lets tree names) input output
-      → IsCut (way_of mode) (request_alone job lets tree names) input output
-  cut_so_far mode online cut = rw online cut
+module _ (request : Request) (input : InputTold) (output : OutputTold) where
+  told_answer : (mode : Mode) (text : List ℕ) → way_of mode ≡ as_it_comes
+      → OfAllBytes input (λ bytes. IsOnlineAnswer (watched_of request) bytes text)
+      → IsAnswerIn mode request input text
+  told_answer Offline text comes right = absurd (cc)
+  told_answer Online text comes right = right
+  told_answer Show text comes right = absurd (cc)
+  told_answer (Generate count) text comes right = absurd (cc)
+  told_answer (Watch file) text comes right = right
 
-  -- the telling of the input is the run over the request
-  pub EndsOver-telling : (status : Status) → job.mode ≡ Online
-      → EndsTelling (reading_for (request_alone job lets tree names)) job.max_bytes job.scale tree
-      job.input input output status
-      → EndsOver (request_alone job lets tree names) input output status
-  EndsOver-telling Done online ends = record {
-    reads = ends.reads;
-    text = ends.text;
-    right = subst (λ mode. IsAnswerIn mode (request_alone job lets tree names) input ends.text)
-        (sym online) (record {
-          bytes = ends.right.bytes;
-          all = ends.right.all;
-          is_so = IsOnlineAnswer-alone job lets tree names ends.right.bytes ends.text
-              ends.right.is_so;
-        });
-    writes = ends.writes;
-    written = ends.written;
-  }
-  EndsOver-telling (Trace fault) online ends = (
-    ends.0,
-    EndsAtInput-decided (request_alone job lets tree names) input output (refuses fault) (reads_here
-        online) ends.1.decided (blocks_so_far job.mode _ online (AllStand-fault job lets tree names
-        ends.1.decided.cause.bytes output ends.1.stands)),
-  )
-  EndsOver-telling InputTooLong online ends =
-      EndsAtInput-decided (request_alone job lets tree names) input output exceeds (reads_here
-      online) ends.decided
-      (blocks_so_far job.mode _ online
-      (AllStand-fault job lets tree names ends.decided.cause.bytes output ends.stands))
-  EndsOver-telling ReadFault online ends = record {
-    reads_input = reads_here online;
-    cause = ends.unread.cause;
-    unsound = ends.unread.unsound;
-    goes_on = ends.unread.goes_on;
-    stands = blocks_so_far job.mode _ online
-        (BlocksSoFarStand-alone job lets tree names input output ends.stands);
-  }
-  EndsOver-telling WriteFault online ends = record {
-    cause = ends.cause;
-    reads = ends.reads;
-    stands = cut_so_far job.mode online
-        (⊎_elim (λ block. inl (BlockIsCut-alone job lets tree names input output block))
-        (λ end. inr (EndIsCut-alone job lets tree names input output end)) ends.stands);
-  }
-  EndsOver-telling Memory online ends = (
-    ends.reads,
-    blocks_so_far job.mode _ online
-        (FirstBlocksStand-alone job lets tree names input output ends.stands),
-  )
-  EndsOver-telling Usage online ends = absurd ends
-  EndsOver-telling (Expression fault) online ends = absurd ends
-  EndsOver-telling (Minus fault) online ends = absurd ends
-  EndsOver-telling (Definitions fault) online ends = absurd ends
-  EndsOver-telling (TooManyZones zones) online ends = absurd ends
+  blocks_so_far : (way : Way) (blocks : Type 0) → way ≡ as_it_comes → blocks
+      → StandsSoFar way output blocks
+  blocks_so_far way blocks comes stands = rw comes stands
 
-  unopened_by : (way : Way) → input.opened ≡ false → AllReadsGood input → NothingWritten output
-      → StandsSoFar way output (FirstBlocksStand (request_alone job lets tree names) input output)
-  unopened_by at_once closed reads unwritten = unwritten
-  unopened_by as_it_comes closed reads unwritten =
-      FirstBlocksStand-alone job lets tree names input output
-      (EndsTelling-unopened job.scale (reading_for (request_alone job lets tree names))
-      job.max_bytes tree job.input
-      input output (reading_in-nothing job lets (all_names (alone tree names)) names job.format)
-      (reading_in-faultless job lets (all_names (alone tree names)) names job.format) closed reads
-      unwritten.unwritten unwritten.writes).stands
+  cut_so_far : (way : Way) → way ≡ as_it_comes
+      → BlockIsCut (watched_of request) input output ⊎ EndIsCut (watched_of request) input output
+      → IsCut way request input output
+  cut_so_far way comes cut = rw comes cut
 
-  -- memory was wanting before the input was opened
-  pub EndsOver-unopened : input.opened ≡ false → AllReadsGood input → NothingWritten output
-      → EndsOver (request_alone job lets tree names) input output Memory
-  EndsOver-unopened closed reads unwritten = (
-    reads,
-    unopened_by (way_of job.mode) closed reads unwritten,
-  )
+  module _ (comes : way_of request.job.mode ≡ as_it_comes) where
+    at_fault : (outcome : Outcome)
+        → IsToldToFault (watched_of request) input output outcome
+        → EndsAtInput outcome request input output
+    at_fault outcome told = record {
+      reads_input = told_reads request.job.mode comes;
+      opened = told.opened;
+      cause = told.cause;
+      reads = told.reads;
+      stands = blocks_so_far (way_of request.job.mode) _ comes told.stands;
+    }
+
+    -- the input was told to its end
+    EndsOver-told : (value : Unit {0}) → IsTold (watched_of request) input output
+        → EndsOver request input output (Ok value)
+    EndsOver-told value told = record {
+      reads = told.reads;
+      text = told.text;
+      right = told_answer request.job.mode told.text comes told.right;
+      writes = told.writes;
+      written = told.written;
+    }
+
+    -- the telling stopped
+    EndsOver-stopped : (fault : TellFault)
+        → EndsTelling {T = Unit {0}} (watched_of request) request.job.input input output (Err fault)
+        → EndsOver {T = Unit {0}} request input output (Err (tell_fault fault))
+    EndsOver-stopped (TellTrace fault) told = (told.0, at_fault (refuses fault) told.1)
+    EndsOver-stopped TellTooLong told = at_fault exceeds told
+    EndsOver-stopped TellRead told = record {
+      reads_input = told_reads request.job.mode comes;
+      cause = told.cause;
+      unsound = told.unsound;
+      goes_on = told.goes_on;
+      stands = blocks_so_far (way_of request.job.mode) _ comes told.stands;
+    }
+    EndsOver-stopped TellWrite told = record {
+      cause = told.cause;
+      reads = told.reads;
+      stands = cut_so_far (way_of request.job.mode) comes told.stands;
+    }
+    EndsOver-stopped TellMemory told =
+        (told.reads, blocks_so_far (way_of request.job.mode) _ comes told.stands)
+
+-- What was told of these patterns by their readers is what was asked for.
+module _ (job : Job) (lets : List Defined) (asked : Asked) (texts : List (List ℕ))
+    (patterns : List Pattern) (name : List ℕ)
+    (same_texts : texts ≡ map string_bytes asked.labels.items)
+    (same_patterns : patterns ≡ asked.patterns.items) (same_name : name ≡ job.input)
+    (readings : Bool → List ℕ → List Reading)
+    (same : readings ≡ readings_of (request_for job lets asked)) (reads : ReadsInput job.mode)
+    (other : job.mode ≡ Offline → ⊥) (input : InputTold) (output : OutputTold) where
+  -- all of it is as was asked for
+  as_asked : watched_by texts patterns readings job.max_bytes job.scale
+      ≡ watched_of (request_for job lets asked)
+  as_asked = ap (λ all. watched_by all patterns readings job.max_bytes job.scale) same_texts
+      ∙ (ap (λ each. watched_by (map string_bytes asked.labels.items) each readings job.max_bytes
+      job.scale) same_patterns
+      ∙ ap (λ said. watched_by (map string_bytes asked.labels.items) asked.patterns.items said
+      job.max_bytes job.scale) same)
+
+  pub EndsOver-done : (value : Unit {0})
+      → IsTold (watched_by texts patterns readings job.max_bytes job.scale) input output
+      → EndsOver (request_for job lets asked) input output (Ok value)
+  EndsOver-done value told = EndsOver-told (request_for job lets asked) input output
+      (told_way job.mode reads other) value
+      (subst (λ watched. IsTold watched input output) as_asked told)
+
+  pub EndsOver-fault : (fault : TellFault)
+      → EndsTelling {T = Unit {0}} (watched_by texts patterns readings job.max_bytes job.scale) name
+      input output (Err fault)
+      → EndsOver {T = Unit {0}} (request_for job lets asked) input output (Err (tell_fault fault))
+  EndsOver-fault fault told = EndsOver-stopped (request_for job lets asked) input output
+      (told_way job.mode reads other) fault
+      (subst (λ n. EndsTelling {T = Unit {0}} (watched_of (request_for job lets asked)) n input
+      output (Err fault)) same_name
+      (subst (λ watched. EndsTelling {T = Unit {0}} watched name input output (Err fault)) as_asked
+      told))

@@ -1,274 +1,63 @@
--- What was read of an input, from no bytes to its end.
-use Rattle.std.proofs.Common.{◌≡◌, ◌≢◌, ◌∙◌, ◌+◌, ◌≤◌, ℕ, Bool, true, false, List, [], ◌++◌, length, take, Option, None, Some, IsTrue, IfErr, Result, Ok, Err, refl, sym, ap, subst, arith, length-take}
-use Rattle.std.specs.Io.KnownBytes.{Consumes, Keeps, IsAtEnd}
-use Rattle.std.proofs.KnownBytes.{Consumes-nil, Consumes-whole}
-use Rattle.tre_parts.specs.Format.{reading_from}
+-- What readers of the patterns of a request read, and what no bytes say.
+use Rattle.std.proofs.Common.{◌≡◌, ◌∙◌, ℕ, zero, suc, Bool, false, List, [], ◌∷◌, ◌++◌, All, length, get_or, map, None, string_bytes, refl, sym, ap, subst, arith}
+use Rattle.std.proofs.Math.Path.{fun_ext}
+use Rattle.std.proofs.lemmas.List.{length-map}
+use Rattle.tre_feed.specs.Readings.{common}
+use Rattle.tre_feed.specs.Readers.{how_many, readings_in}
+use Rattle.tre_feed.specs.Readings.{common}
+use Rattle.tre_feed.specs.declared.readers.Readers.{Readers}
+use Rattle.tre_feed.proofs.Read.{as_many}
 use Rattle.tre_num.specs.Defined.{Defined}
 use Rattle.tre_num.specs.Rows.{Terms as RowTerms, rows_reading}
+use Rattle.tre_parts.specs.Format.{reading_from}
+use Rattle.tre_syntax.specs.Pattern.{names_of}
+use Rattle.tre_syntax.specs.declared.pattern.Pattern.{Pattern}
+use Rattle.tre_tell.specs.Sought.{Sought, sought_by}
+use Rattle.tre_tell.specs.Watched.{SayNothing}
 use Rattle.tre_text.specs.TextReading.{Terms as TextTerms, text_reading}
-use Rattle.tre_trace.specs.Reading.{Reading, Vocabulary, Adds}
-use Rattle.tre_trace.specs.Trace.{IsTrace, timeline_of}
-use Rattle.tre_trace.specs.declared.segment.Segment.{Segment}
-use Rattle.tre_vcd.specs.VcdReading.{Terms, vcd_reading}
-use Rattle.tre_tool.specs.Feeding.{IsFed, IsKept, HasRead, HasFailed, GoesOn, IsEnded, IsWhole, StopsTurn, StopsReading, EndsTurn}
-use Rattle.tre_tool.specs.Devices.{InputTold, WereRead, AllReadsGood, AreAllBytes}
-use Rattle.tre_tool.specs.Input.{TakesAtMost, MayGoOn, HasReadCause}
-use Rattle.tre_tool.specs.Outcome.{reading_in}
+use Rattle.tre_trace.specs.Reading.{Reading, Vocabulary}
+use Rattle.tre_vcd.specs.VcdReading.{Terms as DumpTerms, requiring, vcd_reading}
 use Rattle.tre_words.specs.declared.job.Format.{Format}
 use Rattle.tre_words.specs.declared.job.Format.TheVariants.{Text, Vcd, Csv}
 use Rattle.tre_words.specs.declared.job.Job.{Job}
-use Rattle.tre_tool.specs.declared.kept.Kept.{Kept}
-use Rattle.tre_tool.specs.declared.status.Status.{Status}
-use Rattle.tre_tool.specs.declared.status.Status.TheVariants.{Done, Usage, Expression, Minus, Definitions, Trace, InputTooLong, TooManyZones, ReadFault, WriteFault, Memory}
-use Rattle.tre_tool.proofs.Lists.{take-over}
-use Rattle.tre_tool.proofs.Feeding.{Adds-now, same_reading}
-use Rattle.tre_tool.proofs.Turns.{Consumes-keeps, found_behind}
+use Rattle.tre_answer.specs.Readings.{reading_in, readings_of}
+use Rattle.tre_answer.specs.Request.{Request, FitsJob, all_names, request_for}
+use Rattle.tre_answer.specs.declared.asked.Asked.{Asked}
 
-pub text_reading-nothing : (terms : TextTerms) → (text_reading terms false []).segments ≡ []
+-- ---- what no bytes say
+
+text_reading-nothing : (terms : TextTerms) → (text_reading terms false []).segments ≡ []
 unfolding reading_from
 text_reading-nothing terms = refl
 
-pub vcd_reading-nothing : (terms : Terms) → (vcd_reading terms false []).segments ≡ []
+vcd_reading-nothing : (terms : DumpTerms) → (vcd_reading terms false []).segments ≡ []
 unfolding reading_from
 vcd_reading-nothing terms = refl
 
--- These segments were read of the bytes that were fed.
-pub record IsCollected (represents : List ℕ → Type 0) (reading : Bool → List ℕ → Reading)
-    (most limit : ℕ) (file left found : Option (List ℕ)) (count : ℕ) (segments : List Segment)
-    : Type 0 where
-  pub bytes : List ℕ
-  pub fed : IsFed represents most limit file left found count bytes
-  pub told : segments ≡ (reading false (take limit bytes)).segments
+rows_reading-nothing : (terms : RowTerms) → (rows_reading terms false []).segments ≡ []
+rows_reading-nothing terms = refl
 
--- no byte was read of an input that was opened
-pub IsFed-start : {represents : List ℕ → Type 0} (most limit : ℕ)
-    (file left found : Option (List ℕ)) (count : ℕ) → represents [] → Keeps file left
-    → Keeps found file → count ≡ 0 → IsFed represents most limit file left found count []
-IsFed-start most limit file left found count fresh kept finds none = record {
-  front = Consumes-keeps file file left [] (Consumes-nil file) kept;
-  last = record {
-    earlier = [];
-    piece = [];
-    split = refl;
-    short = omega arith;
-    behind = found_behind file file found [] (Consumes-nil file) finds;
-  };
-  size = sym none;
-  few = omega (arith, none);
-  fed = rw (take-over {X = ℕ} limit [] (omega arith)) fresh;
-}
-
--- a reader was fed no more than was taken
-pub fed_within : (represents : List ℕ → Type 0) (most limit : ℕ)
-    (file left found : Option (List ℕ)) (count fed : ℕ) (bytes : List ℕ)
-    → IsFed represents most limit file left found count bytes
-    → fed ≡ length (take limit bytes) → fed ≤ count
-fed_within represents most limit file left found count fed bytes so_far counts = omega
-    (arith, counts, so_far.size, length-take {A = ℕ} limit bytes)
-
--- however a turn ended, what was taken is at most one byte past the limit
-pub HasRead-bounded : {reading : Bool → List ℕ → Reading} {most limit : ℕ}
-    {file left found : Option (List ℕ)} {bytes : List ℕ} {old new : List Segment}
-    → HasRead reading most limit file left found bytes old new
-    → TakesAtMost (limit + 1) file left
-HasRead-bounded {bytes = bytes} has = record {
-  taken = bytes ++ has.piece;
-  few = has.few;
-  front = has.front;
-}
-
--- the bytes of an open input
-pub were_read : (input : InputTold) (bytes : List ℕ) → input.opened ≡ true
-    → Consumes input.file input.left bytes → WereRead input bytes
-were_read input bytes opened front = record {
-  of_open = λ is_open. front;
-  of_closed = λ closed. cc;
-}
-
--- of one that was read to its end
-pub AreAllBytes-read : (input : InputTold) (bytes : List ℕ) → input.opened ≡ true
-    → Consumes input.file input.left bytes → IsAtEnd input.left → AreAllBytes input bytes
-AreAllBytes-read input bytes opened front all = record {
-  opened = opened;
-  read = were_read input bytes opened front;
-  all_read = all;
-  whole = Consumes-whole input.file input.left bytes _ front all refl;
-}
-
-pub none_read : (input : InputTold) → (IsTrue input.opened → Keeps input.file input.left)
-    → WereRead input []
-none_read input kept = record {
-  of_open = λ is_open. Consumes-keeps input.file input.file input.left [] (Consumes-nil input.file)
-      (kept is_open);
-  of_closed = λ closed. refl;
-}
-
--- a read failed behind bytes that were all fed
-pub MayGoOn-stopped : (reading : Bool → List ℕ → Reading) (limit : ℕ) (input : InputTold)
-    (bytes : List ℕ) (old new : List Segment)
-    → HasFailed limit input.file input.left bytes old new
-    → input.opened ≡ true → (reading false (take limit bytes)).fault ≡ None
-    → MayGoOn reading limit input
-MayGoOn-stopped reading limit input bytes old new failed opened none = record {
-  bytes = bytes;
-  read = were_read input bytes opened failed.front;
-  within = failed.within;
-  faultless = rw (take-over limit bytes failed.within) at none;
-}
-
--- a turn stopped
-pub StopsReading-turn : (reading : Bool → List ℕ → Reading) (limit : ℕ) (name : List ℕ)
-    (input : InputTold) (bytes : List ℕ) (old new : List Segment) (status : Status)
-    → input.opened ≡ true
-    → HasReadCause {T = Bool} input.faults_before input.faults_now (Err status)
-    → (IsTrue input.sound → status ≢ ReadFault)
-    → (reading false (take limit bytes)).fault ≡ None
-    → StopsTurn reading limit input.file input.left bytes old new status
-    → StopsReading reading limit name input status
-StopsReading-turn reading limit name input bytes old new (Trace fault) opened cause sound none
-    stops = (stops.0, record { opened = opened; cause = stops.1.cause; reads = cause })
-StopsReading-turn reading limit name input bytes old new InputTooLong opened cause sound none
-    stops = record { opened = opened; cause = stops.cause; reads = cause }
-StopsReading-turn reading limit name input bytes old new ReadFault opened cause sound none stops =
-    record {
-      cause = cause;
-      unsound = λ good. absurd (sound good refl);
-      goes_on = MayGoOn-stopped reading limit input bytes old new stops opened none;
-    }
-StopsReading-turn reading limit name input bytes old new Memory opened cause sound none stops =
-    cause
-StopsReading-turn reading limit name input bytes old new Done opened cause sound none stops =
-    absurd stops
-StopsReading-turn reading limit name input bytes old new Usage opened cause sound none stops =
-    absurd stops
-StopsReading-turn reading limit name input bytes old new (Minus refusal) opened cause sound none
-    stops = absurd stops
-StopsReading-turn reading limit name input bytes old new (Definitions refusal) opened cause sound
-    none stops = absurd stops
-StopsReading-turn reading limit name input bytes old new (TooManyZones many) opened cause sound none
-    stops = absurd stops
-StopsReading-turn reading limit name input bytes old new (Expression fault) opened cause sound none
-    stops = absurd stops
-StopsReading-turn reading limit name input bytes old new WriteFault opened cause sound none stops =
-    absurd stops
-
--- the input couldn't be opened
-pub MayGoOn-unread : (reading : Bool → List ℕ → Reading) (limit : ℕ) (input : InputTold)
-    → (reading false []).fault ≡ None → (IsTrue input.opened → Keeps input.file input.left)
-    → MayGoOn reading limit input
-MayGoOn-unread reading limit input none kept = record {
-  bytes = [];
-  read = none_read input kept;
-  within = omega arith;
-  faultless = none;
-}
-
--- the input couldn't be opened, or memory was wanting then
-pub StopsReading-unread : (reading : Bool → List ℕ → Reading) (limit : ℕ) (name : List ℕ)
-    (input : InputTold) (status : Status) → (reading false []).fault ≡ None
-    → (IsTrue input.opened → Keeps input.file input.left)
-    → HasReadCause {T = Bool} input.faults_before input.faults_now (Err status)
-    → (status ≢ ReadFault → status ≢ Memory → ⊥)
-    → (IsTrue input.sound → input.name ≡ Some name → status ≢ ReadFault)
-    → StopsReading reading limit name input status
-StopsReading-unread reading limit name input ReadFault none kept cause only sound = record {
-  cause = cause;
-  unsound = λ good named. sound good named refl;
-  goes_on = MayGoOn-unread reading limit input none kept;
-}
-StopsReading-unread reading limit name input Memory none kept cause only sound = cause
-StopsReading-unread reading limit name input Done none kept cause only sound = absurd
-    (only (λ e. cc) (λ e. cc))
-StopsReading-unread reading limit name input Usage none kept cause only sound = absurd
-    (only (λ e. cc) (λ e. cc))
-StopsReading-unread reading limit name input (Minus refusal) none kept cause only sound = absurd
-    (only (λ e. cc) (λ e. cc))
-StopsReading-unread reading limit name input (Definitions refusal) none kept cause only sound =
-    absurd (only (λ e. cc) (λ e. cc))
-StopsReading-unread reading limit name input (TooManyZones many) none kept cause only sound = absurd
-    (only (λ e. cc) (λ e. cc))
-StopsReading-unread reading limit name input (Expression fault) none kept cause only sound = absurd
-    (only (λ e. cc) (λ e. cc))
-StopsReading-unread reading limit name input (Trace fault) none kept cause only sound = absurd
-    (only (λ e. cc) (λ e. cc))
-StopsReading-unread reading limit name input InputTooLong none kept cause only sound = absurd
-    (only (λ e. cc) (λ e. cc))
-StopsReading-unread reading limit name input WriteFault none kept cause only sound = absurd
-    (only (λ e. cc) (λ e. cc))
-
--- the whole input was read, and its segments are all those of its bytes
-pub IsWhole-ended : (reading : Bool → List ℕ → Reading) (limit : ℕ) (input : InputTold)
-    (kept : Kept) (bytes : List ℕ) (old new : List Segment) (last : ℕ) → input.opened ≡ true
-    → AllReadsGood input → IsKept kept (take limit bytes)
-    → IsEnded reading limit input.file input.left bytes old new last
-    → old ≡ (reading false (take limit bytes)).segments
-    → IsTrace (reading true bytes).segments
-    → IsWhole reading limit input kept (timeline_of new last)
-IsWhole-ended reading limit input kept bytes old new last opened reads keeps ended told trace =
-    let same : new ≡ (reading true bytes).segments =
-    Adds-now old new (reading false (take limit bytes)) (reading true bytes) told ended.all in
-    record {
-      reads = reads;
-      bytes = bytes;
-      is_kept = rw (take-over limit bytes ended.within) at keeps;
-      all = AreAllBytes-read input bytes opened ended.front ended.all_read;
-      within = ended.within;
-      reads_as = same_reading (reading true bytes) new last same ended.last_is ended.whole;
-      is_trace = subst IsTrace (sym same) trace;
-    }
-
--- the segments of bytes that were fed at once to a reader that had read nothing
-pub fed_whole : (reading : Bool → List ℕ → Reading) (bytes : List ℕ)
-    (none fed all : List Segment) → (reading false []).segments ≡ [] → none ≡ []
-    → Adds none fed (reading false []) (reading false bytes)
-    → Adds fed all (reading false bytes) (reading true bytes)
-    → all ≡ (reading true bytes).segments
-fed_whole reading bytes none fed all nothing empty first rest =
-    Adds-now fed all (reading false bytes) (reading true bytes)
-    (Adds-now none fed (reading false []) (reading false bytes) (empty ∙ sym nothing) first) rest
-
--- a turn went on
-pub IsCollected-more : {represents : List ℕ → Type 0} (reading : Bool → List ℕ → Reading)
-    (most limit : ℕ) (file left found : Option (List ℕ)) (count : ℕ) (bytes : List ℕ)
-    (old new : List Segment)
-    → GoesOn represents reading most limit file left found count bytes old new
-    → old ≡ (reading false (take limit bytes)).segments
-    → IsCollected represents reading most limit file left found count new
-IsCollected-more reading most limit file left found count bytes old new more told = record {
-  bytes = bytes ++ more.piece;
-  fed = more.fed;
-  told = Adds-now old new (reading false (take limit bytes))
-      (reading false (take limit (bytes ++ more.piece))) told more.all;
-}
-
--- how a turn stopped that did
-pub turn_stops : (represents : List ℕ → Type 0) (reading : Bool → List ℕ → Reading)
-    (most limit : ℕ) (file left found : Option (List ℕ)) (count : ℕ) (bytes : List ℕ)
-    (old new : List Segment) (last : ℕ) (result : Result Bool Status)
-    → EndsTurn represents reading most limit file left found count bytes old new last result
-    → IfErr result (StopsTurn reading limit file left bytes old new)
-turn_stops represents reading most limit file left found count bytes old new last (Ok more) ends =
-    tt
-turn_stops represents reading most limit file left found count bytes old new last (Err status)
-    ends = ends
-
--- no bytes have no fault
-pub text_reading-faultless : (terms : TextTerms) → (text_reading terms false []).fault ≡ None
+text_reading-faultless : (terms : TextTerms) → (text_reading terms false []).fault ≡ None
 unfolding reading_from
 text_reading-faultless terms = refl
 
-pub vcd_reading-faultless : (terms : Terms) → (vcd_reading terms false []).fault ≡ None
+vcd_reading-faultless : (terms : DumpTerms) → (vcd_reading terms false []).fault ≡ None
 unfolding reading_from
 vcd_reading-faultless terms = refl
 
 rows_reading-faultless : (terms : RowTerms) → (rows_reading terms false []).fault ≡ None
 rows_reading-faultless terms = refl
 
-pub rows_reading-nothing : (terms : RowTerms) → (rows_reading terms false []).segments ≡ []
-rows_reading-nothing terms = refl
+-- what is so of each value of a function
+pub All-mapped : {X Y : Type 0} (P : Y → Type 0) (f : X → Y) (xs : List X) → ((x : X) → P (f x))
+    → All P (map f xs)
+All-mapped P f [] each k d below = absurd (omega (arith, below))
+All-mapped P f (x ∷ xs) each zero d below = each x
+All-mapped P f (x ∷ xs) each (suc k) d below =
+    All-mapped P f xs each k d (omega (arith, below))
 
 module _ (job : Job) (lets : List Defined) (declared : List Vocabulary) (names : Vocabulary) where
-  pub reading_in-faultless : (format : Format)
+  reading_in-faultless : (format : Format)
       → (reading_in format job lets declared names false []).fault ≡ None
   reading_in-faultless Text =
       text_reading-faultless (record { names = names; scale = job.scale })
@@ -277,13 +66,31 @@ module _ (job : Job) (lets : List Defined) (declared : List Vocabulary) (names :
   reading_in-faultless Csv = rows_reading-faultless
       (record { definitions = lets; names = names; scale = job.scale })
 
-  pub reading_in-nothing : (format : Format)
+  reading_in-nothing : (format : Format)
       → (reading_in format job lets declared names false []).segments ≡ []
   reading_in-nothing Text = text_reading-nothing (record { names = names; scale = job.scale })
   reading_in-nothing Vcd =
       vcd_reading-nothing (record { names = names; declared = declared; scale = job.scale })
   reading_in-nothing Csv =
       rows_reading-nothing (record { definitions = lets; names = names; scale = job.scale })
+
+pub nothing_said : (request : Request) → SayNothing (readings_of request)
+nothing_said request = All-mapped (λ reading. reading.segments ≡ []) _ request.patterns
+    (λ pattern. reading_in-nothing request.job request.lets (all_names request.patterns)
+    pattern.names request.job.format)
+
+-- a reading that they have in common has no fault, where none has
+common_faultless : {X : Type 0} (f : X → Reading) (xs : List X) → ((x : X) → (f x).fault ≡ None)
+    → (common (map f xs)).fault ≡ None
+common_faultless f [] each = refl
+common_faultless f (x ∷ xs) each = each x
+
+pub faultless_at_first : (request : Request) → (common (readings_of request false [])).fault ≡ None
+faultless_at_first request = common_faultless _ request.patterns
+    (λ pattern. reading_in-faultless request.job request.lets (all_names request.patterns)
+    pattern.names request.job.format)
+
+-- ---- what readers read
 
 -- two lists of names are a vocabulary
 pub vocabulary_same : (names events : List (List ℕ)) (other : Vocabulary) → names ≡ other.names
@@ -294,11 +101,141 @@ vocabulary_same names events other same same' =
     vocabulary_of : List (List ℕ) → List (List ℕ) → Vocabulary
     vocabulary_of all more = record { names = all; events = more }
 
--- of an input that was only opened nothing was taken
-pub TakesAtMost-none : {most : ℕ} (file left : Option (List ℕ)) → Keeps file left
-    → TakesAtMost most file left
-TakesAtMost-none file left kept = record {
-  taken = [];
-  few = omega arith;
-  front = Consumes-keeps file file left [] (Consumes-nil file) kept;
+-- the terms of readers
+
+abbrev pub text_terms_of : Vocabulary → ℕ → TextTerms
+text_terms_of names scale = record { names = names; scale = scale }
+
+pub text_terms : (scale : ℕ) {names other : Vocabulary} → names ≡ other
+    → text_terms_of names scale ≡ text_terms_of other scale
+text_terms scale same = ap (λ names. text_terms_of names scale) same
+
+abbrev pub dump_terms_of : Vocabulary → List Vocabulary → ℕ → DumpTerms
+dump_terms_of names declared scale = record {
+  names = names;
+  declared = declared;
+  scale = scale;
 }
+
+pub dump_terms : (scale : ℕ) (declared : List Vocabulary) {names other : Vocabulary}
+    → names ≡ other → dump_terms_of names declared scale ≡ dump_terms_of other declared scale
+dump_terms scale declared same = ap (λ names. dump_terms_of names declared scale) same
+
+-- the names that must be declared besides
+pub declaring : {terms told : DumpTerms} {names other : Vocabulary} → terms ≡ told → names ≡ other
+    → requiring terms names ≡ requiring told other
+declaring {terms} {told} {names} {other} same own =
+    ap (λ t. requiring t names) same ∙ ap (requiring told) own
+
+abbrev pub rows_terms_of : List Defined → Vocabulary → ℕ → RowTerms
+rows_terms_of lets names scale = record { definitions = lets; names = names; scale = scale }
+
+pub rows_terms : (lets : List Defined) (scale : ℕ) {names other : Vocabulary} → names ≡ other
+    → rows_terms_of lets names scale ≡ rows_terms_of lets other scale
+rows_terms lets scale same = ap (λ names. rows_terms_of lets names scale) same
+
+-- what is looked for has the names of the patterns
+map_sought : {X : Type 0} (f : Vocabulary → X) (labels : List (List ℕ)) (patterns : List Pattern)
+    → length labels ≡ length patterns
+    → map (λ (sought : Sought). f sought.names) (sought_by labels patterns)
+    ≡ map (λ pattern. f (names_of pattern)) patterns
+map_sought f [] [] count = refl
+map_sought f (label ∷ labels) (pattern ∷ patterns) count =
+    ap (λ rest. f (names_of pattern) ∷ rest)
+    (map_sought f labels patterns (omega (arith, count)))
+map_sought f [] (pattern ∷ patterns) count = absurd (omega (arith, count))
+map_sought f (label ∷ labels) [] count = absurd (omega (arith, count))
+
+pub sought_count : (labels : List (List ℕ)) (patterns : List Pattern)
+    → length labels ≡ length patterns → length (sought_by labels patterns) ≡ length patterns
+sought_count [] [] count = refl
+sought_count (label ∷ labels) (pattern ∷ patterns) count =
+    ap suc (sought_count labels patterns (omega (arith, count)))
+sought_count [] (pattern ∷ patterns) count = absurd (omega (arith, count))
+sought_count (label ∷ labels) [] count = absurd (omega (arith, count))
+
+-- What bytes in this format say for each of the patterns of what is asked.
+abbrev pub readings_for : Format → Job → List Defined → Asked → Bool → List ℕ → List Reading
+readings_for format job lets asked closed bytes = map (λ pattern. reading_in format job lets
+    (map names_of asked.patterns.items) (names_of pattern) closed bytes) asked.patterns.items
+
+module _ (job : Job) (lets : List Defined) (asked : Asked) (fits : FitsJob job asked) where
+  pub labels_fit : length (map string_bytes asked.labels.items) ≡ length asked.patterns.items
+  labels_fit = length-map asked.labels.items string_bytes ∙ fits.labels
+
+  names_sought : all_names (request_for job lets asked).patterns
+      ≡ map names_of asked.patterns.items
+  names_sought = map_sought (λ names. names) (map string_bytes asked.labels.items)
+      asked.patterns.items labels_fit
+
+  -- readers of all patterns read what is asked for
+  pub readings_are : (format : Format) (readings : Bool → List ℕ → List Reading)
+      → job.format ≡ format
+      → ((closed : Bool) (bytes : List ℕ)
+      → readings closed bytes ≡ readings_for format job lets asked closed bytes)
+      → readings ≡ readings_of (request_for job lets asked)
+  readings_are format readings is reads = fun_ext (λ closed. fun_ext (λ bytes.
+      reads closed bytes
+      ∙ (ap (λ f. readings_for f job lets asked closed bytes) (sym is)
+      ∙ (ap (λ declared. map (λ pattern. reading_in job.format job lets declared
+      (names_of pattern) closed bytes) asked.patterns.items) (sym names_sought)
+      ∙ sym (map_sought (λ names. reading_in job.format job lets
+      (all_names (request_for job lets asked).patterns) names closed bytes)
+      (map string_bytes asked.labels.items) asked.patterns.items labels_fit)))))
+
+  pub readings_many : length (readings_of (request_for job lets asked) false [])
+      ≡ length asked.patterns.items
+  readings_many = length-map (request_for job lets asked).patterns _
+      ∙ sought_count (map string_bytes asked.labels.items) asked.patterns.items labels_fit
+
+  -- there is one for each pattern
+  pub readers_count : {R Terms : Type 0} (reading : Terms → Bool → List ℕ → Reading)
+      (terms : R → Terms) (readers : Readers R)
+      → readings_in reading terms readers ≡ readings_of (request_for job lets asked)
+      → how_many readers ≡ length asked.patterns.items
+  readers_count reading terms readers same =
+      sym (as_many terms readers reading false [])
+      ∙ (ap (λ readings. length (readings false [])) same ∙ readings_many)
+
+-- the reading of the only pattern
+pub alone_read : {X : Type 0} (f : Pattern → X) (patterns : List Pattern) (pattern : Pattern)
+    → length patterns ≡ 1 → pattern ≡ get_or patterns 0 pattern
+    → f pattern ∷ [] ≡ map f patterns
+alone_read f (first ∷ []) pattern one is = ap (λ p. f p ∷ []) is
+alone_read f [] pattern one is = absurd (omega (arith, one))
+alone_read f (first ∷ second ∷ patterns) pattern one is = absurd (omega (arith, one))
+
+-- ---- the readers of each format
+
+module _ (job : Job) (lets : List Defined) (asked : Asked) (fits : FitsJob job asked)
+    (readings : Bool → List ℕ → List Reading) where
+  pub text_same : (patterns : List Pattern) → patterns ≡ asked.patterns.items
+      → job.format ≡ Text
+      → ((closed : Bool) (bytes : List ℕ) → readings closed bytes ≡ map (λ pattern.
+      text_reading (text_terms_of (names_of pattern) job.scale) closed bytes) patterns)
+      → readings ≡ readings_of (request_for job lets asked)
+  text_same patterns all is reads = readings_are job lets asked fits Text readings is
+      (λ closed bytes. subst (λ each. readings closed bytes ≡ map (λ pattern.
+      text_reading (text_terms_of (names_of pattern) job.scale) closed bytes) each) all
+      (reads closed bytes))
+
+  pub dump_same : (patterns : List Pattern) → patterns ≡ asked.patterns.items
+      → job.format ≡ Vcd
+      → ((closed : Bool) (bytes : List ℕ) → readings closed bytes ≡ map (λ pattern.
+      vcd_reading (dump_terms_of (names_of pattern) (map names_of patterns) job.scale) closed
+      bytes) patterns)
+      → readings ≡ readings_of (request_for job lets asked)
+  dump_same patterns all is reads = readings_are job lets asked fits Vcd readings is
+      (λ closed bytes. subst (λ each. readings closed bytes ≡ map (λ pattern.
+      vcd_reading (dump_terms_of (names_of pattern) (map names_of each) job.scale) closed bytes)
+      each) all (reads closed bytes))
+
+  pub rows_same : (pattern : Pattern) → pattern ≡ get_or asked.patterns.items 0 pattern
+      → job.format ≡ Csv
+      → ((closed : Bool) (bytes : List ℕ) → readings closed bytes
+      ≡ rows_reading (rows_terms_of lets (names_of pattern) job.scale) closed bytes ∷ [])
+      → readings ≡ readings_of (request_for job lets asked)
+  rows_same pattern first is reads = readings_are job lets asked fits Csv readings is
+      (λ closed bytes. reads closed bytes
+      ∙ alone_read (λ p. rows_reading (rows_terms_of lets (names_of p) job.scale) closed bytes)
+      asked.patterns.items pattern (fits.columns is) first)

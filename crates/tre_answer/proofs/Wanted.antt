@@ -110,7 +110,10 @@ AreLeft-next patterns traces place pattern trace set others left before inside c
           let next = still labels labelled a b n in (
             (λ h.
                 let was = own.0 h in (
-                  both.1 (record { related = was.0; never = λ m. was.1 (next.1 (inl (taken.0 m))) }),
+                  both.1 (record {
+                    related = was.0;
+                    never = λ m. was.1 (next.1 (inl (taken.0 m)));
+                  }),
                   λ more. was.1 (next.1 (inr more)),
                 )),
             (λ h.

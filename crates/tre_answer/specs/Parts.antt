@@ -1,5 +1,5 @@
 -- What the parts of an answer promise each other.
-use Rattle.std.specs.Prelude.{◌≡◌, ℕ, ◌<◌, Bool, List, All, Option, Some, Err}
+use Rattle.std.specs.Prelude.{◌≡◌, ℕ, ◌<◌, true, List, Option, Some, Err}
 use Rattle.tre_feed.specs.Input.{InputTold, AllReadsGood, AreAllBytes}
 use Rattle.tre_feed.specs.declared.fault.FeedFault.{FeedFault}
 use Rattle.tre_feed.specs.declared.fault.FeedFault.TheVariants.{Trace as FeedTrace, TooLong as FeedTooLong, Read as FeedRead, Memory as FeedMemory}
@@ -35,7 +35,7 @@ tell_fault TellMemory = Memory
 -- What was done with the input is as at an end with this fault that wrote nothing.
 abbrev pub StopsAs : Request → InputTold → AnswerFault → Type 0
 StopsAs request input fault = (output : OutputTold) → NothingWritten output →
-    EndsOver {Unit {0}} request input output (Err fault)
+    EndsOver {T = Unit {0}} request input output (Err fault)
 
 -- The text is the answer to the request, and nothing of the input is left.
 pub record IsFoundFor (request : Request) (input : InputTold) (text : List ℕ) : Type 0 where

@@ -5,7 +5,7 @@ ghost use Rattle.tre_answer.specs.Readings.{readings_of};
 ghost use Rattle.tre_answer.specs.Request.{FitsJob, request_for};
 ghost use Rattle.tre_decimal.specs.declared.TheConstants.{SCALE_MAX};
 ghost use Rattle.tre_feed.specs.Input.{TakesAtMost, input_told};
-ghost use Rattle.tre_feed.specs.Readers.{AreFresh, readings_in};
+ghost use Rattle.tre_feed.specs.Readers.{AreFresh, how_many, readings_in};
 ghost use Rattle.tre_feed.specs.Readings.{AgreeAlways};
 ghost use Rattle.tre_num.specs.Defined.{Defined};
 ghost use Rattle.tre_show.specs.PatternText.{expression_text};
@@ -35,7 +35,7 @@ fn answer_by<S: Source, R: TraceReader + Drop, O: Sink>(
     alloc: Global,
     asked: &Asked,
     job: &Job,
-    readers: Readers<R>,
+    mut readers: Readers<R>,
     input: &mut S,
     out: &mut O,
 ) -> Result<(), AnswerFault>
@@ -43,6 +43,7 @@ fn answer_by<S: Source, R: TraceReader + Drop, O: Sink>(
     requires job { IsJob job.now }
     requires reads { ReadsInput job.now.mode }
     requires fits { FitsJob job.now asked.now }
+    requires count { how_many readers ≡ length asked.now.patterns.items }
     requires fresh { AreFresh R.represents readers }
     requires alike { AgreeAlways (readings_in R.reading R.terms readers) }
     requires nothing { SayNothing (readings_in R.reading R.terms readers) }
@@ -57,24 +58,26 @@ fn answer_by<S: Source, R: TraceReader + Drop, O: Sink>(
     ensures by_name { IsTrue (S.opened input.new) →
         IfSome (S.file_name input.old) (λ told. told ≡ job.now.input) }
 {
-    if let Mode::Offline = &job.mode {
-        let text = matches_text(alloc, asked, job, readers, input)?;
-        write_text(text.as_str(), out)?;
-        return Ok(());
+    match &job.mode {
+        Mode::Offline => {
+            let text = matches_text(alloc, asked, job, readers, input)?;
+            write_text(text.as_str(), out)
+        }
+        _ => {
+            tell_matches(
+                alloc,
+                job.input.text(),
+                job.max_bytes as usize,
+                &asked.patterns,
+                &asked.labels,
+                job.scale,
+                &mut readers,
+                input,
+                out,
+            )?;
+            Ok(())
+        }
     }
-    let mut readers = readers;
-    tell_matches(
-        alloc,
-        job.input.text(),
-        job.max_bytes as usize,
-        &asked.patterns,
-        &asked.labels,
-        job.scale,
-        &mut readers,
-        input,
-        out,
-    )?;
-    Ok(())
 }
 
 // Writes what answers a job that reads its input, by readers of its format.

@@ -142,7 +142,6 @@ fn join(one: &Bar, other: &Bar, times: &mut Times) -> Bar
 }
 
 // Writes the bars of the zones over the times.
-#[inline(always)]
 fn find_bars(zones: &[Zone], times: &mut Times, bars: &mut Vec<Bar>) -> Result<(), AllocError>
     ensures narrowed { OnOk result (Narrows times.old times.new) }
     ensures bars { OnOk result (AreBarsOf times.new zones.now bars.new.items) }

@@ -7,7 +7,7 @@ use Rattle.clap.specs.Words.{Row, Text, first_of, matches_of}
 use Rattle.tre_decimal.specs.Decimal.{is_numeral}
 use Rattle.tre_decimal.specs.declared.TheConstants.{SCALE_MAX}
 use Rattle.tre_words.specs.CommandLine.{command_line}
-use Rattle.tre_words.specs.Job.{GivesFrom, GivesJob, GivesWatch, GivesWhere, IsBare, IsCount, IsJob, MayWatch, SaysJob, is_given, is_made_run, is_watch, made_count, made_job, mode_for, mode_in, number_written, watch_job}
+use Rattle.tre_words.specs.Job.{GivesFrom, GivesJob, GivesWatch, GivesWhere, HaveNoFault, IsCount, IsJob, MayWatch, SaysJob, format_named, is_given, is_made_run, is_watch, made_count, made_job, mode_for, mode_in, number_written, watch_job}
 use Rattle.tre_words.specs.declared.job.TheConstants.{COUNT_MAX, LIMIT_MAX}
 use Rattle.tre_words.specs.declared.job.Format.{Format}
 use Rattle.tre_words.specs.declared.job.Format.TheVariants.{Csv}
@@ -187,7 +187,7 @@ made_is_job count is = record {
   watched = λ file mode. cc;
 }
 
-from_made : (words : List Text) (told : Option ℕ) (job : Job) → made_count words ≡ told
+pub from_made : (words : List Text) (told : Option ℕ) (job : Job) → made_count words ≡ told
     → option_map made_job told ≡ Some job → IsJob job
 from_made words (Some count) job is e =
     subst IsJob (one_value e) (made_is_job count (made_within words count is))
@@ -219,16 +219,10 @@ watch_is_job plain is may = record {
   };
 }
 
-pub from_watch : (rows : List Row) (job : Job) → GivesWatch rows job → IsJob job
+from_watch : (rows : List Row) (job : Job) → GivesWatch rows job → IsJob job
 from_watch rows job gives =
     subst IsJob (sym gives.watched)
     (watch_is_job gives.plain (from_options rows gives.plain gives.gives) gives.may)
-
--- values that say a job that may be no watch give none
-pub no_watch : (rows : List Row) (plain : Job) → GivesFrom rows plain → (MayWatch plain → ⊥)
-    → (job : Job) → GivesWatch rows job → ⊥
-no_watch rows plain says none job gives =
-    none (subst MayWatch (said_once rows gives.plain plain gives.gives.says says.says) gives.may)
 
 -- ---- jobs of words
 
@@ -282,3 +276,27 @@ pub apart-columns : (rows : List Row) (job : Job) → GivesFrom rows job
 apart-columns rows job gives given told =
     let false_true : true ≡ false = sym given ∙ gives.offline (sym (one_value told)) in
     cc
+
+-- ---- what stands behind `--watch`
+
+pub watch-mode : (rows : List Row) (job : Job) → GivesWatch rows job → mode_in rows ≡ Offline
+watch-mode rows job gives = gives.gives.says.mode ∙ gives.may.offline
+
+pub watch-normal : (rows : List Row) (job : Job) → GivesWatch rows job
+    → is_given (codes "normal") rows ≡ false
+watch-normal rows job gives = gives.gives.says.normal ∙ gives.may.bare.normal
+
+pub watch-format : (rows : List Row) (job : Job) → GivesWatch rows job
+    → option_and_then format_named (first_of (codes "format") rows) ≢ Some Csv
+watch-format rows job gives told =
+    gives.may.bare.format (one_value (sym gives.gives.says.format ∙ told))
+
+pub watch-apart : (rows : List Row) (job : Job) → GivesWatch rows job
+    → first_of (codes "EXPR") rows ≡ Some (codes "-")
+    → first_of (codes "input") rows ≢ Some (codes "-")
+watch-apart rows job gives file input =
+    gives.may.apart (one_value (sym gives.gives.says.expr ∙ file))
+    (one_value (sym gives.gives.says.input ∙ input))
+
+pub faulty : {words : List Text} {job : Job} → (HaveNoFault words → ⊥) → GivesJob words job → ⊥
+faulty fault gives = fault gives.faultless

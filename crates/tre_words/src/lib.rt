@@ -3,14 +3,19 @@
 //! [`read_words`] reads the words after the program's name into a [`Job`]: what a run does, how its
 //! input tells a trace, and the limits and texts of its options. Which words give which job is
 //! `GivesJob` of specs/Job.antt, and what is true of each job, `IsJob` there; the crate `clap`
-//! matches the options. Words give one job at most ([`laws::one_job`]), and all others are
-//! `Usage`. The texts of a job are taken as they stand: no pattern and no definition is read
-//! here.
+//! matches the options. The first word decides: `--generate` asks for a made run, and `--watch` for
+//! a watch of the patterns of a file, whose options are those behind it; all other words are the
+//! options of one pattern. Words give one job at most ([`laws::one_job`]), and all others are
+//! `Usage`. The texts of a job are taken as they stand: no pattern, no definition and no file of
+//! patterns is read here.
 //!
 //! ```text
 //! let job = read_words(alloc, &words)?;    // --scale 3 --normal "p;q"
 //! job.scale                                // 3
 //! job.mode                                 // Mode::Offline
+//!
+//! let job = read_words(alloc, &words)?;    // --watch --format vcd alarms.txt
+//! job.mode                                 // Mode::Watch { file }, with the file `alarms.txt`
 //! ```
 #![tactic(auto)]
 

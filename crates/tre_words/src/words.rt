@@ -145,6 +145,7 @@ fn made_job(alloc: Global, count: u64) -> Result<Job, AllocError>
 fn read_made_run(alloc: Global, words: &[String]) -> Result<Job, WordsFault>
     ensures ok { IfOk result (λ job.
         option_map made_job (made_count (map string_bytes words.now)) ≡ Some job) }
+    ensures is_job { IfOk result IsJob }
     ensures usage { IsErrOf result WordsFault.Usage →
         made_count (map string_bytes words.now) ≡ None }
 {

@@ -1,5 +1,5 @@
-use Rattle.tre_tool.proofs.SameReadings.{each_alike, common_alike}
-use Rattle.tre_tool.proofs.laws.readings_alike.Goals as goal
+use Rattle.tre_answer.proofs.SameReadings.{agree_always}
+use Rattle.tre_answer.proofs.laws.readings_alike.Goals as goal
 
 pub returns : goal.returns
-returns c = record { each = each_alike; shared = common_alike }
+returns c = agree_always

@@ -1,8 +1,7 @@
 use Rattle.std.proofs.Common.{◌∙◌}
 use Rattle.tre_syntax.specs.Pattern.{names_of}
-use Rattle.tre_tool.proofs.Answering.{text_terms}
-use Rattle.tre_tool.proofs.Readings.{vocabulary_same}
-use Rattle.tre_tool.proofs.answer.text_reader.Goals as goal
+use Rattle.tre_answer.proofs.Readings.{text_terms, vocabulary_same}
+use Rattle.tre_answer.proofs.readers.text_reader.Goals as goal
 
 pub returns-clause-terms : goal.returns-clause-terms
 returns-clause-terms c =
