@@ -1,7 +1,8 @@
 -- The end of an answer that is told as its input comes.
-use Rattle.std.proofs.Common.{◌≡◌, ◌⊎◌, ℕ, Bool, List, map, string_bytes, Ok, Err, refl, subst}
+use Rattle.std.proofs.Common.{◌≡◌, ◌⊎◌, ℕ, Bool, List, map, string_bytes, Ok, Err, refl, ◌∙◌, ap, subst}
 use Rattle.tre_feed.specs.Input.{InputTold, OfAllBytes}
 use Rattle.tre_feed.specs.Outcome.{Outcome, refuses, exceeds}
+use Rattle.tre_syntax.specs.declared.pattern.Pattern.{Pattern}
 use Rattle.tre_tell.specs.Ends.{EndsTelling, IsTold, IsToldToFault}
 use Rattle.tre_tell.specs.Outputs.{OutputTold}
 use Rattle.tre_tell.specs.Watched.{watched_by}
@@ -98,26 +99,37 @@ module _ (request : Request) (input : InputTold) (output : OutputTold) where
     EndsOver-stopped TellMemory told =
         (told.reads, blocks_so_far (way_of request.job.mode) _ comes told.stands)
 
--- What readers of all patterns tell is what was asked for.
-module _ (job : Job) (lets : List Defined) (asked : Asked)
+-- What was told of these patterns by their readers is what was asked for.
+module _ (job : Job) (lets : List Defined) (asked : Asked) (texts : List (List ℕ))
+    (patterns : List Pattern) (name : List ℕ)
+    (same_texts : texts ≡ map string_bytes asked.labels.items)
+    (same_patterns : patterns ≡ asked.patterns.items) (same_name : name ≡ job.input)
     (readings : Bool → List ℕ → List Reading)
     (same : readings ≡ readings_of (request_for job lets asked)) (reads : ReadsInput job.mode)
     (other : job.mode ≡ Offline → ⊥) (input : InputTold) (output : OutputTold) where
+  -- all of it is as was asked for
+  as_asked : watched_by texts patterns readings job.max_bytes job.scale
+      ≡ watched_of (request_for job lets asked)
+  as_asked = ap (λ all. watched_by all patterns readings job.max_bytes job.scale) same_texts
+      ∙ (ap (λ each. watched_by (map string_bytes asked.labels.items) each readings job.max_bytes
+      job.scale) same_patterns
+      ∙ ap (λ said. watched_by (map string_bytes asked.labels.items) asked.patterns.items said
+      job.max_bytes job.scale) same)
+
   pub EndsOver-done : (value : Unit {0})
-      → IsTold (watched_by (map string_bytes asked.labels.items) asked.patterns.items readings
-      job.max_bytes job.scale) input output
+      → IsTold (watched_by texts patterns readings job.max_bytes job.scale) input output
       → EndsOver (request_for job lets asked) input output (Ok value)
   EndsOver-done value told = EndsOver-told (request_for job lets asked) input output
       (told_way job.mode reads other) value
-      (subst (λ all. IsTold (watched_by (map string_bytes asked.labels.items)
-      asked.patterns.items all job.max_bytes job.scale) input output) same told)
+      (subst (λ watched. IsTold watched input output) as_asked told)
 
   pub EndsOver-fault : (fault : TellFault)
-      → EndsTelling {T = Unit {0}} (watched_by (map string_bytes asked.labels.items)
-      asked.patterns.items readings job.max_bytes job.scale) job.input input output (Err fault)
+      → EndsTelling {T = Unit {0}} (watched_by texts patterns readings job.max_bytes job.scale) name
+      input output (Err fault)
       → EndsOver {T = Unit {0}} (request_for job lets asked) input output (Err (tell_fault fault))
   EndsOver-fault fault told = EndsOver-stopped (request_for job lets asked) input output
       (told_way job.mode reads other) fault
-      (subst (λ all. EndsTelling {T = Unit {0}} (watched_by (map string_bytes asked.labels.items)
-      asked.patterns.items all job.max_bytes job.scale) job.input input output (Err fault)) same
-      told)
+      (subst (λ n. EndsTelling {T = Unit {0}} (watched_of (request_for job lets asked)) n input
+      output (Err fault)) same_name
+      (subst (λ watched. EndsTelling {T = Unit {0}} watched name input output (Err fault)) as_asked
+      told))

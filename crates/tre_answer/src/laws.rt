@@ -1,7 +1,7 @@
 //! Laws of what is asked of an input and of the zones that answer it, each as a function whose
 //! contract it is.
 
-ghost use Rattle.std.specs.Prelude.{◌≡◌, ◌≢◌, ◌∷◌, ◌<◌, ◌≤◌, ◌⊎◌, ◌↔◌, ℕ, Bool, true, List, []};
+ghost use Rattle.std.specs.Prelude.{◌≡◌, ◌≢◌, ◌∷◌, ◌<◌, ◌≤◌, ◌⊎◌, ◌↔◌, ℕ, true, List, []};
 ghost use Rattle.tre_answer.specs.Readings.{readings_of};
 ghost use Rattle.tre_answer.specs.Request.{Request};
 ghost use Rattle.tre_answer.specs.Wanted.{IsWanted, IsOfflineAnswer, AreTooMany};

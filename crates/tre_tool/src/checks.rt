@@ -27,8 +27,10 @@ fn label_of(alloc: Global, name: &str) -> Result<String, AllocError>
 
 // The label of each check.
 fn labels_of(alloc: Global, plan: &Plan) -> Result<Vec<String>, AllocError>
-    ensures { IfOk result (λ labels. map string_bytes labels.items
+    ensures labels { IfOk result (λ labels. map string_bytes labels.items
         ≡ map (λ name. name ++ codes " ") plan.now.names) }
+    ensures count { IfOk result (λ labels.
+        length labels.items ≡ length plan.now.patterns.items) }
 {
     let mut labels = Vec::new(alloc);
     for place in 0..plan.len() {
@@ -46,6 +48,7 @@ fn asked_of_plan(alloc: Global, plan: Plan) -> Result<Asked, AllocError>
     ensures labels { IfOk result (λ asked.
         length asked.labels.items ≡ length asked.patterns.items) }
     ensures patterns { IfOk result (λ asked. asked.patterns ≡ plan.patterns) }
+    ensures count { IfOk result (λ asked. length asked.patterns.items ≡ length plan.names) }
 {
     let labels = labels_of(alloc, &plan)?;
     Ok(Asked {

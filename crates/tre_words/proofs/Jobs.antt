@@ -219,16 +219,10 @@ watch_is_job plain is may = record {
   };
 }
 
-pub from_watch : (rows : List Row) (job : Job) → GivesWatch rows job → IsJob job
+from_watch : (rows : List Row) (job : Job) → GivesWatch rows job → IsJob job
 from_watch rows job gives =
     subst IsJob (sym gives.watched)
     (watch_is_job gives.plain (from_options rows gives.plain gives.gives) gives.may)
-
--- values that say a job that may be no watch give none
-pub no_watch : (rows : List Row) (plain : Job) → GivesFrom rows plain → (MayWatch plain → ⊥)
-    → (job : Job) → GivesWatch rows job → ⊥
-no_watch rows plain says none job gives =
-    none (subst MayWatch (said_once rows gives.plain plain gives.gives.says says.says) gives.may)
 
 -- ---- jobs of words
 

@@ -29,7 +29,8 @@ pub record StandsTogether (job : Job) : Type 0 where
   pub columns : job.format ≡ Csv → job.minus ≡ None
   pub lets : is_some job.lets ≡ true → job.format ≡ Csv
 
--- What a watch never has: columns, strips, and a pattern whose matches are taken away.
+-- It has none of what a watch never has: columns, strips, and a pattern whose matches are taken
+-- away.
 pub record IsBare (job : Job) : Type 0 where
   pub format : job.format ≢ Csv
   pub normal : job.normal ≡ false

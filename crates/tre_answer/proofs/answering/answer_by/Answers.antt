@@ -1,4 +1,4 @@
-use Rattle.std.proofs.Common.{refl}
+use Rattle.std.proofs.Common.{map, string_bytes, refl, ap}
 use Rattle.std.proofs.lemmas.Result.{err_from_is_err_and}
 use Rattle.tre_answer.specs.Request.{request_for}
 use Rattle.tre_answer.proofs.OnlineRuns.{EndsOver-done, EndsOver-fault}
@@ -15,28 +15,28 @@ returns-in_err-text-in-Offline g c =
       by_name = c.in_err-text-in-Offline.ensures.by_name;
     })
 
-pub returns-in-Offline : goal.returns-in-Offline
-returns-in-Offline g c = record {
-  ends = λ lets same. EndsOver-written (request_for c.args.job.now lets c.args.asked.now) _ _ _ _
-      c.as_str.ensures.value (offline_once c.args.job.now.mode c.in-Offline.is)
-      (c.in_ok-text-in-Offline.ensures.found lets same) c.write_text.result
-      c.write_text.ensures.all c.write_text.ensures.good c.write_text.ensures.part
-      c.write_text.ensures.cause c.write_text.ensures.fault;
-  bounded = c.in_ok-text-in-Offline.ensures.bounded;
-  by_name = c.in_ok-text-in-Offline.ensures.by_name;
-}
+pub returns-in_ok-text-in-Offline-clause-ends : goal.returns-in_ok-text-in-Offline-clause-ends
+returns-in_ok-text-in-Offline-clause-ends g c = λ lets same.
+    EndsOver-written (request_for c.args.job.now lets c.args.asked.now) _ _ _ _
+    c.as_str.ensures.value (offline_once c.args.job.now.mode c.in-Offline.is)
+    (c.in_ok-text-in-Offline.ensures.found lets same) c.write_text.result
+    c.write_text.ensures.all c.write_text.ensures.good c.write_text.ensures.part
+    c.write_text.ensures.cause c.write_text.ensures.fault
 
 pub returns-in_err-tell_matches-in_default-clause-ends :
     goal.returns-in_err-tell_matches-in_default-clause-ends
 returns-in_err-tell_matches-in_default-clause-ends g c =
     let p = err_from_is_err_and c.from_residual-in_err-tell_matches-in_default.result
     c.from_residual-in_err-tell_matches-in_default.ensures.1 in
-    λ lets same. rw (p.1, p.2) (EndsOver-fault c.args.job.now lets c.args.asked.now _ same
-    c.requires.reads c.in_default.not-Offline _ _
-    c.in_err-tell_matches-in_default.field-0.0 ?)
+    λ lets same. rw (p.1, p.2) (EndsOver-fault c.args.job.now lets c.args.asked.now _ _ _
+    (ap (map string_bytes) c.deref-in_default.ensures.value) c.deref.ensures.value c.text.ensures _
+    same c.requires.reads c.in_default.not-Offline _ _
+    c.in_err-tell_matches-in_default.field-0.0 c.in_err-tell_matches-in_default.ensures.ends)
 
 pub returns-in_ok-tell_matches-in_default-clause-ends :
     goal.returns-in_ok-tell_matches-in_default-clause-ends
 returns-in_ok-tell_matches-in_default-clause-ends g c = λ lets same.
-    EndsOver-done c.args.job.now lets c.args.asked.now _ same
-    c.requires.reads c.in_default.not-Offline _ _ _ ?
+    EndsOver-done c.args.job.now lets c.args.asked.now _ _ _
+    (ap (map string_bytes) c.deref-in_default.ensures.value) c.deref.ensures.value c.text.ensures _
+    same c.requires.reads c.in_default.not-Offline _ _ _
+    c.in_ok-tell_matches-in_default.ensures.ends

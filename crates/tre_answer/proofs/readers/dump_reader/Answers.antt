@@ -1,4 +1,4 @@
-use Rattle.std.proofs.Common.{◌≡◌, ◌∙◌, [], map, take, ap, sym}
+use Rattle.std.proofs.Common.{◌∙◌, [], map, ap, sym}
 use Rattle.std.proofs.lemmas.List.{map_more, take_all}
 use Rattle.tre_syntax.specs.Pattern.{names_of}
 use Rattle.tre_answer.proofs.Readings.{dump_terms, dump_terms_of, declaring, vocabulary_same}
