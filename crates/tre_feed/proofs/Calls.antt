@@ -3,7 +3,8 @@ use Rattle.std.proofs.Common.{◌≡◌, ◌≢◌, ℕ, List, All, map, None, O
 use Rattle.tre_trace.specs.Reading.{Reading}
 use Rattle.tre_trace.specs.declared.segment.Segment.{Segment}
 use Rattle.tre_feed.specs.Fed.{Changed, IsEndOfAll, Took}
-use Rattle.tre_feed.specs.Readers.{TakesIn, row_of}
+use Rattle.tre_feed.specs.Leaders.{row_of}
+use Rattle.tre_feed.specs.Readers.{TakesIn}
 use Rattle.tre_feed.specs.Readings.{AddsEach, AreAllAlike, AreLevel}
 use Rattle.tre_feed.specs.declared.fault.FeedFault.{FeedFault}
 use Rattle.tre_feed.specs.declared.fault.FeedFault.TheVariants.{Trace, TooLong, Read, Memory}

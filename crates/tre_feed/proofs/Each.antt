@@ -3,7 +3,7 @@ use Rattle.std.proofs.Common.{◌≡◌, ◌∙◌, ℕ, false, true, Bool, List
 use Rattle.tre_trace.specs.Reading.{Reading}
 use Rattle.tre_trace.specs.declared.segment.Segment.{Segment}
 use Rattle.tre_feed.specs.Fed.{Changed, changed_none, changed_next, IsCutTo, Kept, Took, TookEnd, TookPiece}
-use Rattle.tre_feed.specs.Readers.{row_of}
+use Rattle.tre_feed.specs.Leaders.{row_of}
 use Rattle.tre_feed.specs.Readings.{AddsEach, adds_none, adds_next}
 use Rattle.tre_feed.specs.declared.fed.Fed.{Fed}
 use Rattle.tre_feed.proofs.Changed.{All-first, All-rest, All-none, All-next}

@@ -4,6 +4,8 @@ pub mod Calls
 pub mod Changed
 pub mod Cuts
 pub mod Each
+pub mod Groups
+pub mod Members
 pub mod Outcomes
 pub mod Pieces
 pub mod Read

@@ -4,7 +4,7 @@ use Rattle.std.proofs.lemmas.List.{take_at, get_or-map, length-map}
 use Rattle.tre_trace.specs.Reading.{Reading, Adds}
 use Rattle.tre_trace.specs.declared.segment.Segment.{Segment}
 use Rattle.tre_feed.specs.Fed.{Changed, IsEndOfAll, IsToldBy, Kept, TakesOne, Took}
-use Rattle.tre_feed.specs.Readers.{row_of}
+use Rattle.tre_feed.specs.Leaders.{row_of}
 use Rattle.tre_feed.specs.Readings.{AreAllAlike}
 use Rattle.tre_feed.specs.declared.fed.Fed.{Fed}
 use Rattle.tre_feed.specs.declared.fault.FeedFault.{FeedFault}

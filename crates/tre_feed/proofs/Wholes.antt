@@ -9,12 +9,10 @@ use Rattle.tre_trace.specs.declared.fault.TraceFault.{TraceFault}
 use Rattle.tre_feed.specs.Feeding.{IsFed, HasRead, GoesOn, IsEnded, StopsTurn}
 use Rattle.tre_feed.specs.Input.{InputTold, WereRead, AllReadsGood, AreAllBytes, TakesAtMost, HasReadCause}
 use Rattle.tre_feed.specs.Outcome.{whole_reading}
-use Rattle.tre_feed.specs.Readers.{row_of, trace_of}
 use Rattle.tre_feed.specs.Readings.{common, rows_in}
 use Rattle.tre_feed.specs.Whole.{IsWhole, StopsReading}
 use Rattle.tre_feed.specs.declared.fault.FeedFault.{FeedFault}
 use Rattle.tre_feed.specs.declared.fault.FeedFault.TheVariants.{Trace, TooLong, Read, Memory}
-use Rattle.tre_feed.specs.declared.fed.Fed.{Fed}
 use Rattle.tre_feed.proofs.Alike.{AddsEach-now}
 use Rattle.tre_feed.proofs.Changed.{All-first, All-rest, All-none, All-next}
 use Rattle.tre_feed.proofs.Cuts.{take-over}
@@ -157,26 +155,6 @@ is_whole now segments last same same_last none =
     ∙ (ap (λ l. reading_for segments l now.fault) (sym same_last)
     ∙ ap (λ f. reading_for segments last f) none)
 
--- the trace of each reader is its reading
-traces_are : {R : Type 0} (all : List (Fed R)) (nows : List Reading)
-    → map row_of all ≡ rows_in nows
-    → map (λ (fed : Fed R). fed.last) all ≡ map (λ reading. reading.last) nows
-    → All (λ reading. reading.fault ≡ None) nows
-    → nows ≡ map whole_reading (map trace_of all)
-traces_are [] [] rows lasts whole = refl
-traces_are [] (now ∷ nows) rows lasts whole = cc rows
-traces_are (fed ∷ all) [] rows lasts whole = cc rows
-traces_are {R} (fed ∷ all) (now ∷ nows) rows lasts whole =
-    let row : row_of fed ≡ now.segments = cc rows in
-    let others : map row_of all ≡ rows_in nows = cc rows in
-    let last : fed.last ≡ now.last = cc lasts in
-    let other_lasts : map (λ (x : Fed R). x.last) all ≡ map (λ reading. reading.last) nows =
-    cc lasts in
-    ap (λ first. first ∷ nows) (is_whole now (row_of fed) fed.last row last
-    (All-first (λ (reading : Reading). reading.fault ≡ None) now nows whole))
-    ∙ ap (λ rest. whole_reading (trace_of fed) ∷ rest) (traces_are all nows others other_lasts
-    (All-rest (λ (reading : Reading). reading.fault ≡ None) now nows whole))
-
 pub rows_are_traces : (rows : List (List Segment)) (nows : List Reading) → rows ≡ rows_in nows
     → All (λ reading. IsTrace reading.segments) nows → All IsTrace rows
 rows_are_traces rows [] same traces = subst (All IsTrace) (sym same) (All-none IsTrace)
@@ -189,31 +167,53 @@ rows_are_traces (row ∷ rows) (now ∷ nows) same traces =
     (rows_are_traces rows nows others
     (All-rest (λ (reading : Reading). IsTrace reading.segments) now nows traces))
 
-traces_of_rows : {R : Type 0} (all : List (Fed R)) → All IsTrace (map row_of all)
-    → All (λ (trace : Timeline). IsTrace trace.segments) (map trace_of all)
-traces_of_rows [] traces = All-none (λ (trace : Timeline). IsTrace trace.segments)
-traces_of_rows (fed ∷ all) traces =
-    All-next (λ (trace : Timeline). IsTrace trace.segments) (trace_of fed) (map trace_of all)
-    (All-first IsTrace (row_of fed) (map row_of all) traces)
-    (traces_of_rows all (All-rest IsTrace (row_of fed) (map row_of all) traces))
+-- traces of which each has a row and last events
+module _ {A : Type 0} (row : A → List Segment) (last : A → ℕ) where
+  abbrev trace : A → Timeline
+  trace one = timeline_of (row one) (last one)
 
--- the whole input was read, and the rows are those of all its bytes
-pub IsWhole-ended : {R : Type 0} (readings : Bool → List ℕ → List Reading) (limit : ℕ)
-    (input : InputTold) (bytes : List ℕ) (old : List (List Segment)) (all : List (Fed R))
-    → input.opened ≡ true → AllReadsGood input
-    → IsEnded readings limit input.file input.left bytes old (map row_of all)
-    (map (λ (fed : Fed R). fed.last) all)
-    → old ≡ rows_in (readings false (take limit bytes)) → All IsTrace (map row_of all)
-    → IsWhole readings limit input (map trace_of all)
-IsWhole-ended readings limit input bytes old all opened reads ended told traces = record {
-  reads = reads;
-  bytes = bytes;
-  all = AreAllBytes-read input bytes opened ended.front ended.all_read;
-  within = ended.within;
-  reads_as = traces_are all (readings true bytes) (AddsEach-now ended.all told) ended.lasts_are
-      ended.whole;
-  are_traces = traces_of_rows all traces;
-}
+  -- the trace of each reader is its reading
+  traces_are : (all : List A) (nows : List Reading) → map row all ≡ rows_in nows
+      → map last all ≡ map (λ reading. reading.last) nows
+      → All (λ reading. reading.fault ≡ None) nows
+      → nows ≡ map whole_reading (map trace all)
+  traces_are [] [] rows lasts whole = refl
+  traces_are [] (now ∷ nows) rows lasts whole = cc rows
+  traces_are (one ∷ all) [] rows lasts whole = cc rows
+  traces_are (one ∷ all) (now ∷ nows) rows lasts whole =
+      let first : row one ≡ now.segments = cc rows in
+      let others : map row all ≡ rows_in nows = cc rows in
+      let first_last : last one ≡ now.last = cc lasts in
+      let other_lasts : map last all ≡ map (λ reading. reading.last) nows = cc lasts in
+      ap (λ first. first ∷ nows) (is_whole now (row one) (last one) first first_last
+      (All-first (λ (reading : Reading). reading.fault ≡ None) now nows whole))
+      ∙ ap (λ rest. whole_reading (trace one) ∷ rest) (traces_are all nows others other_lasts
+      (All-rest (λ (reading : Reading). reading.fault ≡ None) now nows whole))
+
+  traces_of_rows : (all : List A) → All IsTrace (map row all)
+      → All (λ (each : Timeline). IsTrace each.segments) (map trace all)
+  traces_of_rows [] traces = All-none (λ (each : Timeline). IsTrace each.segments)
+  traces_of_rows (one ∷ all) traces =
+      All-next (λ (each : Timeline). IsTrace each.segments) (trace one) (map trace all)
+      (All-first IsTrace (row one) (map row all) traces)
+      (traces_of_rows all (All-rest IsTrace (row one) (map row all) traces))
+
+  -- the whole input was read, and the rows are those of all its bytes
+  pub IsWhole-ended : (readings : Bool → List ℕ → List Reading) (limit : ℕ)
+      (input : InputTold) (bytes : List ℕ) (old : List (List Segment)) (all : List A)
+      → input.opened ≡ true → AllReadsGood input
+      → IsEnded readings limit input.file input.left bytes old (map row all) (map last all)
+      → old ≡ rows_in (readings false (take limit bytes)) → All IsTrace (map row all)
+      → IsWhole readings limit input (map trace all)
+  IsWhole-ended readings limit input bytes old all opened reads ended told traces = record {
+    reads = reads;
+    bytes = bytes;
+    all = AreAllBytes-read input bytes opened ended.front ended.all_read;
+    within = ended.within;
+    reads_as = traces_are all (readings true bytes) (AddsEach-now ended.all told) ended.lasts_are
+        ended.whole;
+    are_traces = traces_of_rows all traces;
+  }
 
 -- rows of readers that have read nothing
 pub rows_fresh : (rows : List (List Segment)) (nows : List Reading)

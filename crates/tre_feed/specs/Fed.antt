@@ -3,7 +3,7 @@ use Rattle.std.specs.Prelude.{◌≡◌, ℕ, false, true, Bool, All, List, [], 
 use Rattle.tre_trace.specs.Reading.{Reading, Adds, AddsSome}
 use Rattle.tre_trace.specs.declared.segment.Segment.{Segment}
 use Rattle.tre_feed.specs.Outcome.{IsInputKind}
-use Rattle.tre_feed.specs.Readers.{row_of}
+use Rattle.tre_feed.specs.Leaders.{row_of}
 use Rattle.tre_feed.specs.Readings.{common}
 use Rattle.tre_feed.specs.declared.fed.Fed.{Fed}
 use Rattle.tre_feed.specs.declared.fault.FeedFault.{FeedFault}

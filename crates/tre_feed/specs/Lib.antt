@@ -3,6 +3,8 @@
 pub mod Outcome
 pub mod Readings
 pub mod Input
+pub mod Leaders
+pub mod Members
 pub mod Readers
 pub mod Feeding
 pub mod Whole
@@ -11,3 +13,4 @@ pub mod Front
 pub mod Faults
 pub mod Fed
 pub mod Piece
+pub mod Rows

@@ -6,8 +6,10 @@
 //! tells all of them the end. What all bytes of the input come to stands in specs/Outcome.antt and
 //! specs/Readings.antt, and how a turn ends in specs/Feeding.antt. The layers above rely on this:
 //! however a turn ends, as many segments wait of each reader, and they are just those that its
-//! reading has beyond the earlier. [`read_traces`] takes all turns and gives the traces.
-//! [`read_front`] gives the bytes of a file that is read for its own sake, up to a limit.
+//! reading has beyond the earlier. [`read_traces`] takes all turns and gives the traces. Patterns
+//! of one group share a reader, each by its view of what that reads: see [`Readers::push_group`]
+//! and [`Readers::push_view`]. [`read_front`] gives the bytes of a file that is read for its own
+//! sake, up to a limit.
 //!
 //! ```text
 //! let mut readers = Readers::new(alloc);
@@ -24,7 +26,10 @@ mod fault;
 mod fed;
 mod feed;
 mod front;
+mod leaders;
+mod member;
 mod readers;
+mod rows;
 mod whole;
 
 pub use fault::FeedFault;

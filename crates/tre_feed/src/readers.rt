@@ -1,39 +1,52 @@
 // Readers of one format that read the same bytes.
-ghost use Rattle.std.specs.Prelude.{◌≡◌, ◌≢◌, ◌↔◌, ℕ, Bool, ◌+◌, ◌<◌, ◌≤◌, ◌++◌, ◌∷◌, [], List, All, map, length, false, true, Err, IsTrue, OnOk, OnErr, IfOk};
-ghost use Rattle.tre_trace.specs.Trace.{IsTrace};
-ghost use Rattle.tre_trace.specs.declared.reader.TheConstants.{FED_MAX};
-ghost use Rattle.tre_feed.specs.Fed.{Changed, IsCutTo, IsEndOfAll, IsOfReader, Kept, TookEnd, TookPiece};
-ghost use Rattle.tre_feed.specs.Readers.{AreFresh, HaveRoom, TakesIn, WereFed, column, how_many, lasts_of, readings_in, rows_of, traces_of};
-ghost use Rattle.tre_feed.specs.Readings.{AgreeAlways, AreLevel, count_of, readings_by};
+ghost use Rattle.std.specs.Prelude.{length};
+ghost use Rattle.tre_feed.specs.Members.{AllLead, AreWithin};
 
 use crate::fault::FeedFault;
-use crate::fed::Fed;
+use crate::leaders::Leaders;
+use crate::member::Member;
+use crate::rows::trace_of_member;
 use std::alloc::{AllocError, Global};
+use tre_share::View;
 use tre_trace::{Segment, Trace, TraceReader};
 
 /// Readers of one format, each with the segments that it has read and nobody has taken.
 ///
-/// All of them read the same bytes, each for its own names. As many segments wait of each, but
-/// where a reader has refused bytes and is fed again.
+/// All of them read the same bytes, each for its own names. Those of one group share what one
+/// leader reads, each by its view, and the bytes are fed to each leader once. As many segments wait
+/// of each, but where a reader has refused bytes and is fed again.
 #[derive(Drop)]
 pub struct Readers<R: Drop> {
-    each: Vec<Fed<R>>,
+    leaders: Leaders<R>,
+    members: Vec<Member>,
+    ghost within: { AreWithin (length leaders.each.items) members.items },
+    ghost led: { AllLead (length leaders.each.items) members.items },
 }
 
 impl<R: TraceReader + Drop> Readers<R> {
+    ghost use Rattle.std.specs.Prelude.{◌≡◌, ◌∷◌, ◌++◌, ◌+◌, ◌<◌, ℕ, Bool, List, [], All, map, slice_get, false, true, IfOk, IfSome, OnOk, OnErr};
+    ghost use Rattle.tre_share.specs.Shown.{shown_reading};
+    ghost use Rattle.tre_trace.specs.Trace.{IsTrace};
+    ghost use Rattle.tre_feed.specs.Fed.{IsOfReader};
+    ghost use Rattle.tre_feed.specs.Readers.{AreFresh, HaveRoom, TakesIn, WereFed, column, groups_in, how_many, lasts_of, readings_in, rows_of, traces_of};
+    ghost use Rattle.tre_feed.specs.Readings.{AgreeAlways, AreLevel, count_of};
+
     /// No reader yet.
     pub fn new(alloc: Global) -> Readers<R>
         ensures fresh { AreFresh R.represents result }
         ensures readings { (closed : Bool) (bytes : List ℕ) →
             readings_in R.reading R.terms result closed bytes ≡ [] }
         ensures count { how_many result ≡ 0 }
+        ensures groups { groups_in R.terms result ≡ [] }
     {
         Readers {
-            each: Vec::new(alloc),
+            leaders: Leaders::new(alloc),
+            members: Vec::new(alloc),
         }
     }
 
-    /// Puts a reader behind the others. None of them has read anything.
+    /// Puts a reader behind the others, which is a group of its own. None of them has read
+    /// anything.
     pub fn push(&mut self, alloc: Global, reader: R) -> Result<(), AllocError>
         requires others { AreFresh R.represents self.old }
         requires fresh { R.represents reader [] }
@@ -43,28 +56,114 @@ impl<R: TraceReader + Drop> Readers<R> {
             ≡ readings_in R.reading R.terms self.old closed bytes
             ++ R.reading (R.terms reader) closed bytes ∷ []) }
         ensures count { OnOk result (how_many self.new ≡ how_many self.old + 1) }
+        ensures groups { OnOk result (groups_in R.terms self.new
+            ≡ groups_in R.terms self.old ++ R.terms reader ∷ []) }
+        ensures same_groups { OnErr result (groups_in R.terms self.new
+            ≡ groups_in R.terms self.old) }
         ensures same { OnErr result (readings_in R.reading R.terms self.new
             ≡ readings_in R.reading R.terms self.old) }
         ensures same_count { OnErr result (how_many self.new ≡ how_many self.old) }
     {
-        self.each.push(Fed::new(alloc, reader))?;
+        self.push_leader(alloc, reader, None)
+    }
+
+    /// Puts a group behind the others, for which this reader reads. The view is that of the first
+    /// who shares it. None of them has read anything.
+    pub fn push_group(&mut self, alloc: Global, reader: R, view: View) -> Result<(), AllocError>
+        requires others { AreFresh R.represents self.old }
+        requires fresh { R.represents reader [] }
+        ensures fresh { AreFresh R.represents self.new }
+        ensures readings { OnOk result ((closed : Bool) (bytes : List ℕ) →
+            readings_in R.reading R.terms self.new closed bytes
+            ≡ readings_in R.reading R.terms self.old closed bytes
+            ++ shown_reading view (R.reading (R.terms reader) closed bytes) ∷ []) }
+        ensures count { OnOk result (how_many self.new ≡ how_many self.old + 1) }
+        ensures groups { OnOk result (groups_in R.terms self.new
+            ≡ groups_in R.terms self.old ++ R.terms reader ∷ []) }
+        ensures same_groups { OnErr result (groups_in R.terms self.new
+            ≡ groups_in R.terms self.old) }
+        ensures same { OnErr result (readings_in R.reading R.terms self.new
+            ≡ readings_in R.reading R.terms self.old) }
+        ensures same_count { OnErr result (how_many self.new ≡ how_many self.old) }
+    {
+        self.push_leader(alloc, reader, Some(view))
+    }
+
+    /// Puts one behind the others who shares the reader of this group, counted from 0, and has this
+    /// view of it.
+    pub fn push_view(&mut self, group: usize, view: View) -> Result<(), AllocError>
+        requires others { AreFresh R.represents self.old }
+        requires group { group < length (groups_in R.terms self.old) }
+        ensures fresh { AreFresh R.represents self.new }
+        ensures readings { OnOk result (IfSome (slice_get (groups_in R.terms self.old) group)
+            (λ terms. (closed : Bool) (bytes : List ℕ) →
+            readings_in R.reading R.terms self.new closed bytes
+            ≡ readings_in R.reading R.terms self.old closed bytes
+            ++ shown_reading view (R.reading terms closed bytes) ∷ [])) }
+        ensures count { OnOk result (how_many self.new ≡ how_many self.old + 1) }
+        ensures same_groups { groups_in R.terms self.new ≡ groups_in R.terms self.old }
+        ensures same { OnErr result (readings_in R.reading R.terms self.new
+            ≡ readings_in R.reading R.terms self.old) }
+        ensures same_count { OnErr result (how_many self.new ≡ how_many self.old) }
+    {
+        self.members.push(Member {
+            leader: group,
+            view: Some(view),
+        })?;
         Ok(())
+    }
+
+    // Puts a reader behind the leaders, and the first that it reads for behind the members.
+    fn push_leader(
+        &mut self,
+        alloc: Global,
+        reader: R,
+        view: Option<View>,
+    ) -> Result<(), AllocError>
+        requires others { AreFresh R.represents self.old }
+        requires fresh { R.represents reader [] }
+        ensures fresh { AreFresh R.represents self.new }
+        ensures groups { OnOk result (groups_in R.terms self.new
+            ≡ groups_in R.terms self.old ++ R.terms reader ∷ []) }
+        ensures members { OnOk result (self.new.members.items ≡ self.old.members.items
+            ++ record { leader = length self.old.leaders.each.items; view = view } ∷ []) }
+        ensures same_groups { OnErr result (groups_in R.terms self.new
+            ≡ groups_in R.terms self.old) }
+        ensures same_members { OnErr result (self.new.members.items
+            ≡ self.old.members.items) }
+    {
+        let leader = self.leaders.len();
+        self.members.push(Member { leader, view })?;
+        match self.leaders.push(alloc, reader) {
+            Ok(()) => return Ok(()),
+            Err(fault) => {
+                let _ = self.members.pop();
+                return Err(fault);
+            }
+        }
     }
 
     /// How many readers there are.
     pub fn len(&self) -> usize
         ensures { result ≡ how_many self.now }
     {
-        self.each.len()
+        self.members.len()
+    }
+
+    /// How many groups there are, for each of which the bytes are read once.
+    pub fn groups(&self) -> usize
+        ensures { result ≡ length (groups_in R.terms self.now) }
+    {
+        self.leaders.len()
     }
 
     /// How many segments wait: of all readers alike.
     pub fn waiting(&self) -> usize
         ensures { result ≡ count_of (rows_of self.now) }
     {
-        match self.each.first() {
+        match self.members.first() {
             None => 0,
-            Some(fed) => fed.segments.len(),
+            Some(member) => self.leaders.waiting_of(member.leader),
         }
     }
 
@@ -75,8 +174,9 @@ impl<R: TraceReader + Drop> Readers<R> {
         ensures { OnOk result (segments.new.items ≡ column place (rows_of self.now)) }
     {
         segments.clear();
-        for fed in &self.each {
-            segments.push(fed.segments[place])?;
+        for member in &self.members {
+            let wide = self.leaders.segment(member.leader, place);
+            segments.push(member.segment(wide))?;
         }
         Ok(())
     }
@@ -86,8 +186,8 @@ impl<R: TraceReader + Drop> Readers<R> {
         ensures { IfOk result (λ events. events.items ≡ lasts_of self.now) }
     {
         let mut events = Vec::new(alloc);
-        for fed in &self.each {
-            events.push(fed.last)?;
+        for member in &self.members {
+            events.push(member.events(self.leaders.last(member.leader)))?;
         }
         Ok(events)
     }
@@ -101,7 +201,7 @@ impl<R: TraceReader + Drop> Readers<R> {
         ensures same { readings_in R.reading R.terms self.new
             ≡ readings_in R.reading R.terms self.old }
     {
-        cut_each(&mut self.each, 0);
+        self.leaders.clear();
     }
 
     /// Feeds a piece to all of them, also behind one that has a fault, since all have the same.
@@ -121,13 +221,7 @@ impl<R: TraceReader + Drop> Readers<R> {
         ensures same { readings_in R.reading R.terms self.new
             ≡ readings_in R.reading R.terms self.old }
     {
-        let waiting = self.waiting();
-        let outcome = feed_each(&mut self.each, piece);
-        if is_out_of_memory(&outcome) {
-            cut_each(&mut self.each, waiting);
-            return Err(FeedFault::Memory);
-        }
-        outcome
+        self.leaders.feed(piece)
     }
 
     /// Tells all of them the end, also behind one that has a fault, since all have the same. Where
@@ -147,13 +241,7 @@ impl<R: TraceReader + Drop> Readers<R> {
         ensures same { readings_in R.reading R.terms self.new
             ≡ readings_in R.reading R.terms self.old }
     {
-        let waiting = self.waiting();
-        let outcome = finish_each(&mut self.each);
-        if is_out_of_memory(&outcome) {
-            cut_each(&mut self.each, waiting);
-            return Err(FeedFault::Memory);
-        }
-        outcome
+        self.leaders.finish()
     }
 
     /// The trace of each: the segments that wait, and the events at the end.
@@ -161,75 +249,16 @@ impl<R: TraceReader + Drop> Readers<R> {
         requires { All IsTrace (rows_of self) }
         ensures { IfOk result (λ traces. traces.items ≡ traces_of self) }
     {
+        let Readers {
+            mut leaders,
+            members,
+        } = self;
         let mut traces = Vec::new(alloc);
-        for fed in self.each {
-            let mut trace = Trace::of_segments(alloc, fed.segments)?;
-            trace.set_last(fed.last);
+        for place in 0..members.len() {
+            let later = &members[place + 1..];
+            let trace = trace_of_member(alloc, &mut leaders, &members[place], later)?;
             traces.push(trace)?;
         }
         Ok(traces)
-    }
-}
-
-// Feeds a piece to each, but to none behind one that wants memory.
-fn feed_each<R: TraceReader + Drop>(each: &mut [Fed<R>], piece: &[u8]) -> Result<(), FeedFault>
-    requires room { All (λ fed. R.fed_of fed.reader + length piece.now ≤ FED_MAX) each.old }
-    requires alike { AgreeAlways (readings_by R.reading (map (λ fed. R.terms fed.reader)
-        each.old)) }
-    ensures of_reader { IsOfReader result }
-    ensures kept { Changed (Kept R.terms R.represents) each.old each.new }
-    ensures took { (result ≢ Err FeedFault.Memory) →
-        Changed (TookPiece R.terms R.represents R.reading piece.now) each.old each.new }
-    ensures told { (bytes : List ℕ) → All (λ fed. R.represents fed.reader bytes) each.old →
-        IsEndOfAll (readings_by R.reading (map (λ fed. R.terms fed.reader) each.old) false
-        (bytes ++ piece.now)) result }
-{
-    let mut outcome = Ok(());
-    for fed in each {
-        outcome = fed.feed(piece);
-        if is_out_of_memory(&outcome) {
-            return outcome;
-        }
-    }
-    outcome
-}
-
-// Tells each the end, but none behind one that wants memory.
-fn finish_each<R: TraceReader + Drop>(each: &mut [Fed<R>]) -> Result<(), FeedFault>
-    requires alike { AgreeAlways (readings_by R.reading (map (λ fed. R.terms fed.reader)
-        each.old)) }
-    ensures of_reader { IsOfReader result }
-    ensures kept { Changed (Kept R.terms R.represents) each.old each.new }
-    ensures took { (result ≢ Err FeedFault.Memory) →
-        Changed (TookEnd R.terms R.represents R.reading) each.old each.new }
-    ensures told { (bytes : List ℕ) → All (λ fed. R.represents fed.reader bytes) each.old →
-        IsEndOfAll (readings_by R.reading (map (λ fed. R.terms fed.reader) each.old) true bytes)
-        result }
-{
-    let mut outcome = Ok(());
-    for fed in each {
-        outcome = fed.finish();
-        if is_out_of_memory(&outcome) {
-            return outcome;
-        }
-    }
-    outcome
-}
-
-fn is_out_of_memory(told: &Result<(), FeedFault>) -> bool
-    ensures { IsTrue result ↔ (told.now ≡ Err FeedFault.Memory) }
-{
-    match told {
-        Err(FeedFault::Memory) => true,
-        _ => false,
-    }
-}
-
-// Cuts each row to its first segments, as many as `count`.
-fn cut_each<R: Drop>(each: &mut [Fed<R>], count: usize)
-    ensures { Changed (IsCutTo count) each.old each.new }
-{
-    for fed in each {
-        fed.segments.truncate(count);
     }
 }

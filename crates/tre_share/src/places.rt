@@ -1,7 +1,7 @@
 ghost use Rattle.std.specs.Prelude.{◌≡◌, ◌≢◌, ◌%◌, ◌^◌, ◌<◌, ◌≤◌, ◌⊎◌, true, [], ◌∷◌, ◌++◌, length, IsSomeAnd, All, AllPairs, IfOk, OnOk};
 ghost use Rattle.std.specs.Int.{bit_at};
 ghost use Rattle.tre_share.specs.Growth.{Extends, HasNoRoom};
-ghost use Rattle.tre_share.specs.Taking.{AreInOrder};
+ghost use Rattle.tre_share.specs.Taking.{AreInOrder, bits_at};
 ghost use Rattle.tre_state.specs.Name.{IsName};
 ghost use Rattle.tre_state.specs.Names.{place_of};
 ghost use Rattle.tre_state.specs.declared.names.TheConstants.{NAMES_MAX};
@@ -69,7 +69,8 @@ impl Places {
 
     /// The bits of the asked names, where these are those of all names.
     pub fn seen(&self, bits: u64) -> u64
-        ensures { (asked all : List (List ℕ)) → ArePlaces asked all (places_of self.now) →
+        ensures at { result ≡ bits_at (places_of self.now) bits }
+        ensures seen { (asked all : List (List ℕ)) → ArePlaces asked all (places_of self.now) →
             result ≡ seen asked all bits }
     {
         if self.in_order {

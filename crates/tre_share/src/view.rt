@@ -15,6 +15,7 @@ pub struct View {
 
 impl View {
     ghost use Rattle.tre_share.specs.Shares.{Shows, group_of};
+    ghost use Rattle.tre_share.specs.Shown.{shown_events, shown_segment};
 
     /// Which group it is, counted from 0.
     pub fn group(&self) -> usize
@@ -25,7 +26,8 @@ impl View {
 
     /// What a segment that was read for the group is for the pattern.
     pub fn segment(&self, wide: Segment) -> Segment
-        ensures { (asked all : Vocabulary) → Shows asked all self.now →
+        ensures shown { result ≡ shown_segment self.now wide }
+        ensures seen { (asked all : Vocabulary) → Shows asked all self.now →
             result ≡ seen_segment asked all wide }
     {
         Segment {
@@ -37,7 +39,8 @@ impl View {
 
     /// Which events of the pattern happen where those of the group do.
     pub fn events(&self, wide: u64) -> u64
-        ensures { (asked all : Vocabulary) → Shows asked all self.now →
+        ensures shown { result ≡ shown_events self.now wide }
+        ensures seen { (asked all : Vocabulary) → Shows asked all self.now →
             result ≡ seen asked.events all.events wide }
     {
         self.events.seen(wide)

@@ -60,8 +60,9 @@ module _ (scale : ℕ) where
       accounts
 
   -- the blocks before the last stay as they are
-  lines_before : (accounts : List Account) (column : List Segment) (printed : List (List ZoneBounds))
-      (n i : ℕ) → i < n → HaveBlocks n accounts → length column ≡ length accounts
+  lines_before : (accounts : List Account) (column : List Segment)
+      (printed : List (List ZoneBounds)) (n i : ℕ) → i < n → HaveBlocks n accounts
+      → length column ≡ length accounts
       → length printed ≡ length accounts
       → lines_at (accounts_more accounts column printed) i ≡ lines_at accounts i
   lines_before [] column printed n i below have columns prints = refl
@@ -69,7 +70,8 @@ module _ (scale : ℕ) where
       absurd (omega (arith, columns))
   lines_before (account ∷ accounts) (segment ∷ column) [] n i below have columns prints =
       absurd (omega (arith, prints))
-  lines_before (account ∷ accounts) (segment ∷ column) (zones ∷ printed) n i below have columns prints =
+  lines_before (account ∷ accounts) (segment ∷ column) (zones ∷ printed) n i below have columns
+      prints =
       let here : get_or (account.blocks ++ zones ∷ []) i [] ≡ get_or account.blocks i [] =
       get_or_append_left account.blocks (zones ∷ []) [] i (omega (arith, below, have.0)) in
       let rest = lines_before accounts column printed n i below have.1 (omega (arith, columns))

@@ -2,6 +2,8 @@ pub mod Accounts
 pub mod Closing
 pub mod Lists
 pub mod Loop
+pub mod OnePattern
+pub mod OnlineTexts
 pub mod Printing
 pub mod Rows
 pub mod Tellings

@@ -1,18 +1,18 @@
 -- An input that is told, from before it is opened to its end.
-use Rattle.std.proofs.Common.{◌≡◌, ◌≢◌, ◌∙◌, ℕ, suc, ◌+◌, ◌≤◌, All, Bool, false, List, [], ◌∷◌, ◌++◌, length, take, drop, map, Option, None, Some, IfSome, IfErr, IsTrue, Result, Ok, Err, refl, sym, ap, subst, arith, length-take, append-nil}
+use Rattle.std.proofs.Common.{◌≡◌, ◌≢◌, ◌∙◌, ℕ, Bool, false, List, [], ◌∷◌, ◌++◌, length, take, drop, map, Option, None, Some, IfErr, IsTrue, Result, Ok, Err, refl, sym, ap, subst, arith, length-take, append-nil}
 use Rattle.std.specs.List.{AllByRecursion}
-use Rattle.std.specs.Io.KnownBytes.{Consumes, Keeps}
+use Rattle.std.specs.Io.KnownBytes.{Keeps}
 use Rattle.std.proofs.KnownBytes.{Consumes-nil}
-use Rattle.std.proofs.lemmas.List.{length-map}
-use Rattle.std.proofs.lemmas.List.Elements.{All-head, All-weaker, recursion_from_All}
-use Rattle.tre_feed.specs.Feeding.{IsFed, HasRead, GoesOn, StopsTurn, EndsTurn}
+use Rattle.std.proofs.lemmas.List.{length-map, take_all}
+use Rattle.std.proofs.lemmas.List.Elements.{recursion_from_All}
+use Rattle.tre_feed.specs.Feeding.{IsFed, GoesOn, StopsTurn, EndsTurn}
 use Rattle.tre_feed.specs.Input.{InputTold, WereRead, TakesAtMost, HasReadCause}
 use Rattle.tre_feed.specs.Readers.{readings_in, rows_of, WereFed, WereFedAtMost}
 use Rattle.tre_feed.specs.Readings.{common, AgreeAlways, rows_in, AddsEach}
 use Rattle.tre_feed.specs.declared.fault.FeedFault.{FeedFault}
 use Rattle.tre_feed.specs.declared.fault.FeedFault.TheVariants.{Trace as FeedTrace, TooLong as FeedTooLong, Read as FeedRead, Memory as FeedMemory}
-use Rattle.tre_feed.specs.declared.fed.Fed.{Fed}
 use Rattle.tre_feed.specs.declared.readers.Readers.{Readers}
+use Rattle.tre_feed.proofs.Pieces.{Consumes-keeps, found_behind}
 use Rattle.tre_feed.proofs.Read.{fed_at_most, same_length}
 use Rattle.tre_online.specs.Watch.{trees_of, ended_of_each, Watches}
 use Rattle.tre_online.specs.declared.watch.Watch.{Watch}
@@ -24,33 +24,16 @@ use Rattle.tre_trace.specs.Trace.{IsTrace}
 use Rattle.tre_trace.specs.declared.segment.Segment.{Segment}
 use Rattle.tre_tell.specs.Ends.{EndsTelling}
 use Rattle.tre_tell.specs.Faults.{told_fault}
-use Rattle.tre_tell.specs.Outputs.{OutputTold, AllWritesGood}
+use Rattle.tre_tell.specs.Outputs.{OutputTold, AllWritesGood, NothingWritten}
 use Rattle.tre_tell.specs.Sought.{Sought, sought_by}
-use Rattle.tre_tell.specs.Standing.{BlocksStand}
+use Rattle.tre_tell.specs.Standing.{BlocksStand, FirstBlocksStand}
 use Rattle.tre_tell.specs.Telling.{first_row, joined, CanTellAll, HasTold, HasWriteCause}
 use Rattle.tre_tell.specs.Watched.{Watched, watched_by, SayNothing}
 use Rattle.tre_tell.specs.declared.fault.TellFault.{TellFault}
 use Rattle.tre_tell.proofs.Closing.{nones, BlocksWritten-start, HasTold-start}
-use Rattle.tre_tell.proofs.Lists.{take-over}
 use Rattle.tre_tell.proofs.Rows.{AreEmpty, count_rows}
 use Rattle.tre_tell.proofs.Tellings.{IsTurn, stand_by}
 use Rattle.tre_tell.proofs.Turns.{tops, take_none, GrowEach, joined_adds, first_common, alike_added}
-
-Consumes-keeps : (a b c : Option (List ℕ)) (bytes : List ℕ) → Consumes a b bytes → Keeps b c
-    → Consumes a c bytes
-Consumes-keeps None b c bytes first kept = tt
-Consumes-keeps (Some xs) None c bytes first kept = absurd first
-Consumes-keeps (Some xs) (Some ys) None bytes first kept = absurd kept
-Consumes-keeps (Some xs) (Some ys) (Some zs) bytes first kept = rw kept first
-
--- what a read finds left is what is left of what was read
-found_behind : (file left found : Option (List ℕ)) (bytes : List ℕ) → Consumes file left bytes
-    → Keeps found left → IfSome file (λ all. IfSome found (λ rest. all ≡ bytes ++ rest))
-found_behind None left found bytes front kept = tt
-found_behind (Some all) left None bytes front kept = tt
-found_behind (Some all) None (Some rest) bytes front kept = absurd front
-found_behind (Some all) (Some xs) (Some rest) bytes front kept =
-    front ∙ ap (λ ys. bytes ++ ys) kept
 
 -- of an input of which nothing was read, nothing was taken
 pub TakesAtMost-none : (most : ℕ) (file left : Option (List ℕ)) → Keeps file left
@@ -59,18 +42,6 @@ TakesAtMost-none most file left kept = record {
   taken = [];
   few = omega arith;
   front = Consumes-keeps file file left [] (Consumes-nil file) kept;
-}
-
--- however a turn ended, what was taken is at most one byte past the limit
-pub HasRead-bounded : {readings : Bool → List ℕ → List Reading} {limit : ℕ}
-    {file left found : Option (List ℕ)} {bytes : List ℕ} {old new : List (List Segment)}
-    {fed : Result Bool FeedFault}
-    → HasRead readings limit file left found bytes old new fed
-    → TakesAtMost (limit + 1) file left
-HasRead-bounded {bytes = bytes} has = record {
-  taken = bytes ++ has.piece;
-  few = has.few;
-  front = has.front;
 }
 
 -- how a turn stopped that did
@@ -269,7 +240,7 @@ module _ (labels : List (List ℕ)) (patterns : List Pattern)
     (many : length (readings false []) ≡ length patterns)
     (nothing : SayNothing readings) where
   none_taken : take {A = ℕ} limit [] ≡ []
-  none_taken = take-over {X = ℕ} limit [] (omega arith)
+  none_taken = take_all {A = ℕ} limit [] (omega arith)
 
   nothing_each : AllByRecursion (λ reading. reading.segments ≡ []) (readings false [])
   nothing_each = recursion_from_All (λ (reading : Reading). reading.segments ≡ [])
@@ -303,6 +274,47 @@ module _ (labels : List (List ℕ)) (patterns : List Pattern)
     of_closed = λ closed. refl;
   }
 
+  -- no block stands there
+  pub FirstBlocksStand-unread : (input : InputTold) (output : OutputTold)
+      → (IsTrue input.opened → Keeps input.file input.left)
+      → (IsTrue input.opened → Keeps input.found input.file)
+      → output.written_now ≡ output.written_before → AllWritesGood output
+      → FirstBlocksStand (watched_by labels patterns readings limit scale) input output
+  FirstBlocksStand-unread input output kept finds unwritten writes =
+      let none : (common (readings false [])).segments ≡ [] =
+      common_nothing (readings false []) nothing_each in
+      record {
+        readings = readings false [];
+        count = 0;
+        prompt = record {
+          bytes = [];
+          read = none_read input kept;
+          closed = false;
+          all_read = λ e. cc;
+          within = λ e. cc;
+          known = rw none_taken refl;
+          last = record {
+            earlier = [];
+            piece = [];
+            split = refl;
+            short = omega arith;
+            behind = λ is_open. found_behind input.file input.file input.found []
+                (Consumes-nil input.file) (finds is_open);
+          };
+          prompt = rw (none_taken, none) (omega arith);
+        };
+        few = omega arith;
+        stand = none_stands 0 output unwritten writes;
+      }
+
+  -- nor of one that wasn't opened
+  pub FirstBlocksStand-unopened : (input : InputTold) (output : OutputTold)
+      → input.opened ≡ false → NothingWritten output
+      → FirstBlocksStand (watched_by labels patterns readings limit scale) input output
+  FirstBlocksStand-unopened input output closed none =
+      FirstBlocksStand-unread input output (λ is_open. cc) (λ is_open. cc) none.unwritten
+      none.writes
+
   -- it couldn't be opened, or memory was wanting then
   pub EndsTelling-unread : (name : List ℕ) (input : InputTold) (output : OutputTold)
       (fault : FeedFault) → (common (readings false [])).fault ≡ None
@@ -331,54 +343,11 @@ module _ (labels : List (List ℕ)) (patterns : List Pattern)
         };
       }
   EndsTelling-unread name input output FeedMemory faultless kept finds read only sound unwritten
-      writes =
-      let none : (common (readings false [])).segments ≡ [] =
-      common_nothing (readings false []) nothing_each in
-      record {
+      writes = record {
         reads = read;
-        stands = record {
-          readings = readings false [];
-          count = 0;
-          prompt = record {
-            bytes = [];
-            read = none_read input kept;
-            closed = false;
-            all_read = λ e. cc;
-            within = λ e. cc;
-            known = rw none_taken refl;
-            last = record {
-              earlier = [];
-              piece = [];
-              split = refl;
-              short = omega arith;
-              behind = λ is_open. found_behind input.file input.file input.found []
-                  (Consumes-nil input.file) (finds is_open);
-            };
-            prompt = rw (none_taken, none) (omega arith);
-          };
-          few = omega arith;
-          stand = none_stands 0 output unwritten writes;
-        };
+        stands = FirstBlocksStand-unread input output kept finds unwritten writes;
       }
   EndsTelling-unread name input output (FeedTrace fault) faultless kept finds read only sound
       unwritten writes = absurd (only (λ e. cc) (λ e. cc))
   EndsTelling-unread name input output FeedTooLong faultless kept finds read only sound unwritten
       writes = absurd (only (λ e. cc) (λ e. cc))
-
--- no byte was read of an input that was opened
-pub IsFed-start : {were_fed : List ℕ → Type 0} (limit : ℕ) (file left found : Option (List ℕ))
-    (count : ℕ) → were_fed [] → Keeps file left → Keeps found file → count ≡ 0
-    → IsFed were_fed limit file left found count []
-IsFed-start limit file left found count fresh kept finds none = record {
-  front = Consumes-keeps file file left [] (Consumes-nil file) kept;
-  last = record {
-    earlier = [];
-    piece = [];
-    split = refl;
-    short = omega arith;
-    behind = found_behind file file found [] (Consumes-nil file) finds;
-  };
-  size = sym none;
-  few = omega (arith, none);
-  fed = rw (take-over {X = ℕ} limit [] (omega arith)) fresh;
-}

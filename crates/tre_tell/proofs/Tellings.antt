@@ -4,7 +4,7 @@ use Rattle.std.specs.List.{AllByRecursion}
 use Rattle.std.specs.Io.KnownBytes.{Consumes, IsAtEnd}
 use Rattle.std.proofs.KnownBytes.{Consumes-whole}
 use Rattle.std.proofs.Math.Seq.{take-append_seam}
-use Rattle.std.proofs.lemmas.List.{take-append-le}
+use Rattle.std.proofs.lemmas.List.{take-append-le, take_all}
 use Rattle.std.proofs.lemmas.List.Elements.{All-from_recursion, recursion_from_All}
 use Rattle.tre_feed.specs.Feeding.{AddsRead, HasRead, IsEnded, StopsTurn}
 use Rattle.tre_feed.specs.Input.{InputTold, AllReadsGood, WereRead, AreAllBytes, HasReadCause}
@@ -13,6 +13,7 @@ use Rattle.tre_feed.specs.Readings.{common, AreAllAlike, AgreeAlways, rows_in, A
 use Rattle.tre_feed.specs.Readers.{column}
 use Rattle.tre_feed.specs.declared.fault.FeedFault.{FeedFault}
 use Rattle.tre_feed.specs.declared.fault.FeedFault.TheVariants.{Trace as FeedTrace, TooLong as FeedTooLong, Read as FeedRead, Memory as FeedMemory}
+use Rattle.tre_feed.proofs.Cuts.{take_split}
 use Rattle.tre_online.specs.Watch.{pushed_each}
 use Rattle.tre_online.specs.declared.watch.Watch.{Watch}
 use Rattle.tre_trace.specs.Reading.{Reading}
@@ -28,7 +29,6 @@ use Rattle.tre_tell.specs.Telling.{first_row, joined, heads, timelines, BlocksWr
 use Rattle.tre_tell.specs.Watched.{Watched, fronts}
 use Rattle.tre_tell.specs.declared.fault.TellFault.{TellFault}
 use Rattle.tre_tell.specs.declared.fault.TellFault.TheVariants.{Trace, TooLong, Read, Write, Memory}
-use Rattle.tre_tell.proofs.Lists.{take-over, take_split}
 use Rattle.tre_tell.proofs.Rows.{AreEmpty, heads_all, counts_in, count_empty, joined_none, joined_empty, pushed_heads, below_each}
 use Rattle.tre_tell.proofs.Turns.{tops, GrowEach, joined_adds, tops_adds, count_adds, tops_grow, count_grows, first_common, first_tops, fronts_tops, level_common, tops_all}
 
@@ -174,8 +174,8 @@ module _ (watched : Watched) (grows : GrowEach watched.readings)
         watched.readings turn.has.closed (take watched.limit (bytes ++ turn.has.piece))
 
     pub known : KnowRows (before_turn bytes) readings_now waiting
-    known = known_by input.file input.left input.found bytes turn.old waiting fed turn.has turn.empty
-        turn.count fed turn.has.adds
+    known = known_by input.file input.left input.found bytes turn.old waiting fed turn.has
+        turn.empty turn.count fed turn.has.adds
 
     -- no segment was complete when the last read began that wasn't told before the turn
     prompt_with : (count : ℕ) → count_before bytes ≤ count
@@ -354,7 +354,7 @@ module _ (watched : Watched) (grows : GrowEach watched.readings)
           read = were_read input bytes turn.opened stops.front;
           within = stops.within;
           faultless = subst (λ all. (common (watched.readings false all)).fault ≡ None)
-              (take-over watched.limit bytes stops.within) none;
+              (take_all watched.limit bytes stops.within) none;
         };
         stands = record {
           bytes = bytes;

@@ -3,7 +3,7 @@ use Rattle.std.proofs.Common.{◌≡◌, ◌∙◌, ◌⊎◌, ◌≢◌, ℕ, z
 use Rattle.std.specs.List.{Any}
 use Rattle.std.specs.List.Sorted.{IsPermutation}
 use Rattle.std.proofs.Math.Seq.{get_or-append_seam, take-append_seam}
-use Rattle.std.proofs.lemmas.List.{take-append-le, get_or_append_left}
+use Rattle.std.proofs.lemmas.List.{take-append-le, take_all, get_or_append_left}
 use Rattle.std.proofs.lemmas.List.Concat.{flat_map-append}
 use Rattle.std.proofs.lemmas.List.Sorted.{IsPermutation-sym, length_permutation, Contains-permutation}
 use Rattle.tre_online.specs.Told.{WasTold}
@@ -20,7 +20,6 @@ use Rattle.tre_zone.specs.declared.zone_bounds.ZoneBounds.{ZoneBounds}
 use Rattle.tre_zone.proofs.ZoneListLemmas.{SetHolds-append}
 use Rattle.tre_tell.specs.Printed.{IsPrinted}
 use Rattle.tre_tell.specs.Transcript.{zones_of, block_before, EndBetween, NoneIsIn, IsBlock, IsTranscript, IsClosing}
-use Rattle.tre_tell.proofs.Lists.{take-over}
 
 zones_of-more : (blocks : List (List ZoneBounds)) (zones : List ZoneBounds)
     → zones_of (blocks ++ zones ∷ []) ≡ zones_of blocks ++ zones
@@ -64,10 +63,10 @@ exact_of : (blocks : List (List ZoneBounds)) (tree : PatternTree) (first : Segme
     → HoldExactly (zones_of blocks) (Matches tree (quiet (first ∷ rest)))
 exact_of blocks tree first rest transcript =
     let last = transcript.each (length rest) (omega arith) in
-    let all : take (suc (length rest)) blocks ≡ blocks = take-over (suc (length rest)) blocks
+    let all : take (suc (length rest)) blocks ≡ blocks = take_all (suc (length rest)) blocks
     (omega (arith, transcript.count)) in
     let trace : take (suc (length rest)) (first ∷ rest) ≡ first ∷ rest =
-    take-over (suc (length rest)) (first ∷ rest) (omega arith) in
+    take_all (suc (length rest)) (first ∷ rest) (omega arith) in
     rw (all, trace) at last.so_far
 
 -- with the block of one segment more they are exactly the matches over the trace with it
@@ -137,10 +136,10 @@ IsBlock-last : (blocks : List (List ZoneBounds)) (tree : PatternTree) (trace : L
     → IsBlock (blocks ++ zones ∷ []) tree (trace ++ segment ∷ []) (length trace)
 IsBlock-last blocks tree trace segment earlier told zones transcript tells printed order =
     let all_blocks : take (suc (length trace)) (blocks ++ zones ∷ []) ≡ blocks ++ zones ∷ [] =
-    take-over (suc (length trace)) (blocks ++ zones ∷ [])
+    take_all (suc (length trace)) (blocks ++ zones ∷ [])
     (omega (arith, transcript.count, length-append blocks (zones ∷ []))) in
     let all : take (suc (length trace)) (trace ++ segment ∷ []) ≡ trace ++ segment ∷ [] =
-    take-over (suc (length trace)) (trace ++ segment ∷ [])
+    take_all (suc (length trace)) (trace ++ segment ∷ [])
     (omega (arith, length-append trace (segment ∷ []))) in
     let front : take (length trace) (trace ++ segment ∷ []) ≡ trace =
     take-append_seam trace (segment ∷ []) in

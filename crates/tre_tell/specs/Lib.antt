@@ -4,6 +4,7 @@ pub mod Sought
 pub mod Watched
 pub mod Transcript
 pub mod Blocks
+pub mod OnlineText
 pub mod Outputs
 pub mod Standing
 pub mod Ends

@@ -16,6 +16,7 @@
 
 mod block;
 mod fault;
+pub mod laws;
 mod output;
 mod telling;
 mod text;

@@ -1,4 +1,6 @@
+pub mod Asking
 pub mod MadeRuns
 pub mod Pieces
 pub mod Plans
 pub mod Promise
+pub mod Texts

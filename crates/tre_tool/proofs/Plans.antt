@@ -228,9 +228,10 @@ module _ (file : List ℕ) (checks : InputTold) where
   good_unless_unread (FeedTrace fault) stops other = absurd stops
   good_unless_unread FeedTooLong stops other = absurd stops
 
-  pub never_refused : (fault : FeedFault) → StopsFront file checks fault
-      → feed_status fault ≢ Memory → feed_status fault ≢ ReadFault → ⊥
-  never_refused FeedRead stops memory unread = unread refl
-  never_refused FeedMemory stops memory unread = memory refl
-  never_refused (FeedTrace fault) stops memory unread = stops
-  never_refused FeedTooLong stops memory unread = stops
+  pub IsRefusalOfFile-unread : (Says : ℕ → Outcome → Type 0) (scale : ℕ) (fault : FeedFault)
+      → StopsFront file checks fault → feed_status fault ≢ Memory → feed_status fault ≢ ReadFault
+      → IsRefusalOfFile Says scale (feed_status fault)
+  IsRefusalOfFile-unread Says scale FeedRead stops memory unread = absurd (unread refl)
+  IsRefusalOfFile-unread Says scale FeedMemory stops memory unread = absurd (memory refl)
+  IsRefusalOfFile-unread Says scale (FeedTrace fault) stops memory unread = absurd stops
+  IsRefusalOfFile-unread Says scale FeedTooLong stops memory unread = absurd stops

@@ -148,11 +148,7 @@ fn asked_of_made_run(alloc: Global) -> Result<Question, Status>
 
 /// What a job asks for: the first of its texts that is refused ends the run. A watch reads its file
 /// of checks from `checks`; no other job looks at that.
-pub fn asked_by<P: Source>(
-    alloc: Global,
-    job: &Job,
-    checks: &mut P,
-) -> Result<Question, Status>
+pub fn asked_by<P: Source>(alloc: Global, job: &Job, checks: &mut P) -> Result<Question, Status>
     requires closed { P.opened checks.old ≡ false }
     requires job { IsJob job.now }
     ensures patterns { IfOk result (λ question. ArePatterns job.now.mode (ChecksWereRead

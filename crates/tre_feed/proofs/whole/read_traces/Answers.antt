@@ -2,6 +2,8 @@ use Rattle.std.proofs.Common.{◌≡◌, ◌∙◌, ℕ, Bool, true, false, [], 
 use Rattle.std.proofs.lemmas.Result.{err_from_is_err_and}
 use Rattle.tre_trace.specs.Reading.{Reading}
 use Rattle.tre_feed.specs.Input.{HasReadCause, Progress, input_told}
+use Rattle.tre_feed.specs.Leaders.{lasts_led, rows_led}
+use Rattle.tre_feed.specs.Members.{last_for, row_for}
 use Rattle.tre_feed.specs.Readers.{readings_in, rows_of}
 use Rattle.tre_feed.specs.Readings.{AgreeAlways, common, rows_in}
 use Rattle.tre_feed.proofs.Alike.{AddsEach-now}
@@ -88,6 +90,22 @@ returns-in_err-next-clause-bounded g c =
     λ opened. HasRead-bounded (rw inv.limit at c.in_err-next.ensures.read file so_far.bytes
     so_far.fed)
 
+pub returns-in_err-traces-clause-bounded : goal.returns-in_err-traces-clause-bounded
+returns-in_err-traces-clause-bounded g c =
+    let inv = c.loop-feed.invariant in
+    let so_far = inv.collected in
+    let file = g.S.Source.file c.args.input.now in
+    λ opened. HasRead-bounded (rw inv.limit at c.in_ok-next.ensures.read file so_far.bytes
+    so_far.fed)
+
+pub returns-clause-bounded : goal.returns-clause-bounded
+returns-clause-bounded g c =
+    let inv = c.loop-feed.invariant in
+    let so_far = inv.collected in
+    let file = g.S.Source.file c.args.input.now in
+    λ opened. HasRead-bounded (rw inv.limit at c.in_ok-next.ensures.read file so_far.bytes
+    so_far.fed)
+
 pub loop-feed-preserved : goal.loop-feed-preserved
 loop-feed-preserved g c =
     let reader = g.R.TraceReader in
@@ -148,7 +166,8 @@ returns-clause-read g c =
     let input = input_told g.S.Source.file_name g.S.Source.file g.S.Source.sound g.S.Source.opened
     g.S.Source.left g.S.Source.found g.S.Source.faults c.args.input.now
     c.next.new.input in
-    rw c.in_ok-traces.ensures (IsWhole-ended readings c.args.limit input bytes
-    (rows_of c.loop-feed.readers) c.next.new.readers.each.items
+    rw c.in_ok-traces.ensures (IsWhole-ended (row_for (rows_led c.next.new.readers.leaders))
+    (last_for (lasts_led c.next.new.readers.leaders)) readings c.args.limit input bytes
+    (rows_of c.loop-feed.readers) c.next.new.readers.members.items
     (c.next.ensures.same_opened ∙ inv.opened) (c.in_ok-next.ensures.cause ∙ inv.no_fault)
     ended told traces)

@@ -7,13 +7,14 @@ use Rattle.tre_feed.specs.Readers.{readings_in, rows_of, lasts_of, WereFed}
 use Rattle.tre_feed.specs.Readings.{AgreeAlways, common, rows_in}
 use Rattle.tre_feed.specs.declared.fault.FeedFault.TheVariants.{Memory as FeedMemory}
 use Rattle.tre_feed.proofs.Read.{all_grow, as_many, faultless_now, lasts_count}
+use Rattle.tre_feed.proofs.Wholes.{HasRead-bounded, IsFed-start}
 use Rattle.tre_online.specs.Watch.{trees_of}
 use Rattle.tre_online.specs.declared.watch.Watch.{Watch}
 use Rattle.tre_trace.specs.declared.segment.Segment.{Segment}
 use Rattle.tre_tell.specs.Outputs.{output_told}
 use Rattle.tre_tell.specs.Watched.{watched_by}
 use Rattle.tre_tell.specs.declared.fault.TellFault.TheVariants.{Memory}
-use Rattle.tre_tell.proofs.Loop.{TakesAtMost-none, HasRead-bounded, turn_stops, HasReadCause-from, HasWriteCause-from, IsTelling-more, labels_count, CanTell-turn, WereFedAtMost-taken, count_readers, HasTold-nothing, EndsTelling-unread, IsFed-start}
+use Rattle.tre_tell.proofs.Loop.{TakesAtMost-none, turn_stops, HasReadCause-from, HasWriteCause-from, IsTelling-more, labels_count, CanTell-turn, WereFedAtMost-taken, count_readers, HasTold-nothing, EndsTelling-unread}
 use Rattle.tre_tell.proofs.Rows.{count_rows}
 use Rattle.tre_tell.proofs.Tellings.{IsTurn, EndsTelling-within, EndsTelling-stopped, EndsTelling-done, EndsTelling-cut}
 use Rattle.tre_tell.proofs.Turns.{GrowEach, GrowEach-by, traces_by}

@@ -15,9 +15,10 @@ loop-label-preserved c =
 
 pub returns : goal.returns
 returns c =
-    let all = YieldsList-end (YieldsList-from_zip
-    (YieldsList-from_slice c.args.labels.now (cc)) (YieldsList-from_vec c.args.sets.items (cc) (cc)))
-    c.loop-label.yielded _ c.loop-label.yielded_by _ c.next.new.self c.in-None.is c.next.ensures.steps in
+    let both = YieldsList-from_zip (YieldsList-from_slice c.args.labels.now (cc))
+    (YieldsList-from_vec c.args.sets.items (cc) (cc)) in
+    let all = YieldsList-end both c.loop-label.yielded _ c.loop-label.yielded_by _ c.next.new.self
+    c.in-None.is c.next.ensures.steps in
     let same : length c.args.labels.now ≡ length c.args.sets.items = sym c.requires.count in
     rw (
       sym (firsts_of (λ label. label.now) string_bytes c.loop-label.yielded c.args.labels.now

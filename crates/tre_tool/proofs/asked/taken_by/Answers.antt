@@ -1,4 +1,4 @@
-use Rattle.tre_tool.proofs.Promise.{Spell-taken, IsRefusalOf-taken}
+use Rattle.tre_tool.proofs.Texts.{Spell-taken, IsRefusalOf-taken}
 use Rattle.tre_tool.proofs.asked.taken_by.Goals as goal
 
 pub returns-in-Ok-clause-spells : goal.returns-in-Ok-clause-spells

@@ -1,55 +1,71 @@
-use Rattle.std.proofs.Common.{◌≡◌, ◌<◌, ◌∙◌, ◌++◌, ℕ, List, [], ◌∷◌, length, get_or, map, take, refl, arith, ap, sym, subst}
-use Rattle.std.proofs.lemmas.List.{get_or_read, map_more, take_all}
+use Rattle.std.proofs.Common.{◌≡◌, ◌<◌, ◌∙◌, ◌++◌, ℕ, List, [], ◌∷◌, All, length, get_or, map, take, refl, sym, ap, subst, arith}
+use Rattle.std.proofs.lemmas.List.{length-map, map_more, take_all}
 use Rattle.tre_trace.specs.declared.segment.Segment.{Segment}
-use Rattle.tre_feed.specs.Readers.{column, no_segment, row_of}
-use Rattle.tre_feed.specs.declared.fed.Fed.{Fed}
+use Rattle.tre_feed.specs.Leaders.{rows_led}
+use Rattle.tre_feed.specs.Members.{leader_of, row_for, segment_by}
+use Rattle.tre_feed.specs.Readers.{column, no_segment}
+use Rattle.tre_feed.specs.declared.member.Member.{Member}
 use Rattle.tre_feed.proofs.Changed.{All-unmap}
+use Rattle.tre_feed.proofs.Members.{get_or-mapped}
 use Rattle.tre_feed.proofs.readers.Readers.at.Goals as goal
 
--- the segment of one reader at the place
-abbrev segment_at : {R : Type 0} → ℕ → Fed R → Segment
-segment_at place fed = get_or (row_of fed) place no_segment
+-- the segment that a member sees at the place
+abbrev seen_at : ℕ → List (List Segment) → Member → Segment
+seen_at place rows member = get_or (row_for rows member) place no_segment
 
-column_is : {R : Type 0} (place : ℕ) (all : List (Fed R))
-    → map (segment_at place) all ≡ column place (map row_of all)
-column_is place [] = refl
-column_is place (fed ∷ all) =
-    ap (λ others. segment_at place fed ∷ others) (column_is place all)
+column_is : (place : ℕ) (rows : List (List Segment)) (all : List Member)
+    → map (seen_at place rows) all ≡ column place (map (row_for rows) all)
+column_is place rows [] = refl
+column_is place rows (member ∷ all) =
+    ap (λ others. seen_at place rows member ∷ others) (column_is place rows all)
 
-pub index-requires : goal.index-requires
-index-requires g c =
+-- where each member sees a segment at the place, its leader has one there
+there : (place : ℕ) (rows : List (List Segment)) (all : List Member)
+    → All (λ row. place < length row) (map (row_for rows) all)
+    → (k : ℕ) (member : Member) → k < length all → member ≡ get_or all k member
+    → place < length (get_or rows (leader_of member) [])
+there place rows all long k member below is =
+    let here : place < length (row_for rows (get_or all k member)) =
+    All-unmap (λ (row : List Segment). place < length row) (row_for rows) all long k member below in
+    let this : place < length (row_for rows member) =
+    subst (λ (one : Member). place < length (row_for rows one)) (sym is) here in
+    omega (arith, this, length-map (get_or rows (leader_of member) []) (segment_by member.view))
+
+pub segment-wide-requires-clause-place : goal.segment-wide-requires-clause-place
+segment-wide-requires-clause-place g c = there c.args.place
+    (rows_led c.args.self.now.leaders) c.deref-member-items.result.now
+    (rw c.deref-member-items.ensures.value c.requires) c.loop-member.member-index
+    c.member-item.result c.loop-member-test.true c.member-item.is
+
+pub loop-member-preserved : goal.loop-member-preserved
+loop-member-preserved g c =
     let place = c.args.place in
-    let fed = c.fed-item.result in
-    let all = c.deref-fed-items.result.now in
-    let long = All-unmap (λ (row : List Segment). place < length row) row_of all
-    (rw c.deref-fed-items.ensures.value c.requires) c.loop-fed.fed-index fed c.loop-fed-test.true in
-    let here : place < length (row_of fed) =
-    subst (λ (x : Fed g.row.R.Denot). place < length (row_of x)) (sym c.fed-item.is) long in
-    omega (arith, here, fed.segments.ok)
-
-pub loop-fed-preserved : goal.loop-fed-preserved
-loop-fed-preserved g c =
-    let place = c.args.place in
-    let fed = c.fed-item.result in
-    let all = c.deref-fed-items.result.now in
-    let long = All-unmap (λ (row : List Segment). place < length row) row_of all
-    (rw c.deref-fed-items.ensures.value c.requires) c.loop-fed.fed-index fed c.loop-fed-test.true in
-    let here : place < length (row_of fed) =
-    subst (λ (x : Fed g.row.R.Denot). place < length (row_of x)) (sym c.fed-item.is) long in
-    let read : c.index.result.now ≡ segment_at place (get_or all c.loop-fed.fed-index fed) =
-    get_or_read (row_of fed) place c.index.result.now here c.index.ensures no_segment
-    ∙ ap (segment_at place) c.fed-item.is in
+    let rows = rows_led c.args.self.now.leaders in
+    let all = c.deref-member-items.result.now in
+    let member = c.member-item.result in
+    let at = c.loop-member.member-index in
+    let row = get_or rows (leader_of member) [] in
+    let below : place < length row = there place rows all
+    (rw c.deref-member-items.ensures.value c.requires) at member c.loop-member-test.true
+    c.member-item.is in
+    let read : c.segment.result ≡ seen_at place rows (get_or all at member) =
+    c.segment.ensures
+    ∙ (ap (segment_by member.view) c.segment-wide.ensures
+    ∙ (sym (get_or-mapped (segment_by member.view) row place no_segment no_segment below)
+    ∙ ap (seen_at place rows) c.member-item.is)) in
     c.in_ok-push.ensures.items
-    ∙ (ap (λ front. front ++ c.index.result.now ∷ []) c.loop-fed.invariant
-    ∙ (ap (λ segment. map (segment_at place) (take c.loop-fed.fed-index all) ++ segment ∷ []) read
-    ∙ sym (map_more (segment_at place) all c.loop-fed.fed-index fed c.loop-fed-test.true)))
+    ∙ (ap (λ front. front ++ c.segment.result ∷ []) c.loop-member.invariant
+    ∙ (ap (λ segment. map (seen_at place rows) (take at all) ++ segment ∷ []) read
+    ∙ sym (map_more (seen_at place rows) all at member c.loop-member-test.true)))
 
 pub returns : goal.returns
 returns g c =
     let place = c.args.place in
-    let all = c.deref-fed-items.result.now in
-    c.loop-fed.invariant
-    ∙ (ap (map (segment_at place)) (take_all c.loop-fed.fed-index all c.loop-fed-test.false)
-    ∙ (column_is place all
-    ∙ ap (λ (xs : List (Fed g.row.R.Denot)). column place (map row_of xs))
-    c.deref-fed-items.ensures.value))
+    let rows = rows_led c.args.self.now.leaders in
+    let all = c.deref-member-items.result.now in
+    c.loop-member.invariant
+    ∙ (ap (map (seen_at place rows)) (take_all c.loop-member.member-index all
+    c.loop-member-test.false)
+    ∙ (column_is place rows all
+    ∙ ap (λ (xs : List Member). column place (map (row_for rows) xs))
+    c.deref-member-items.ensures.value))

@@ -1,48 +1,35 @@
-use Rattle.std.proofs.Common.{◌≡◌, length, ap, arith}
-use Rattle.std.proofs.lemmas.List.{with_items_is}
-use Rattle.tre_feed.proofs.Alike.{AreLevel-none}
-use Rattle.tre_feed.specs.Readings.{readings_by}
-use Rattle.tre_feed.proofs.Each.{fed-cut, lasts-cut, rows-none, terms-cut}
+use Rattle.std.proofs.Common.{ap, map}
+use Rattle.tre_feed.specs.Members.{last_for}
+use Rattle.tre_feed.proofs.Groups.{led_fed, lead_new, level_new, none_new, same_new, within_new}
 use Rattle.tre_feed.proofs.readers.Readers.clear.Goals as goal
 
+pub invariant_of-self : goal.invariant_of-self
+invariant_of-self g c = record {
+  within = within_new g.R.TraceReader.terms c.args.self.now c.clear.new.self
+      c.clear.ensures.terms;
+  led = lead_new g.R.TraceReader.terms c.args.self.now c.clear.new.self c.clear.ensures.terms;
+}
+
 pub returns-clause-none : goal.returns-clause-none
-returns-clause-none g c =
-    let own = c.args.self.now.each in
-    let cut = c.cut_each.new.each in
-    let same : length cut ≡ own.len =
-    omega (arith, c.cut_each.auto.each, c.deref_mut.ensures.len) in
-    rw (with_items_is own cut same) (rows-none (rw c.deref_mut.ensures.value at c.cut_each.ensures))
+returns-clause-none g c = none_new g.R.TraceReader.terms c.args.self.now c.clear.new.self
+    c.clear.ensures.terms c.clear.ensures.none
 
 pub returns-clause-fed : goal.returns-clause-fed
 returns-clause-fed g c =
-    let own = c.args.self.now.each in
-    let cut = c.cut_each.new.each in
-    let same : length cut ≡ own.len =
-    omega (arith, c.cut_each.auto.each, c.deref_mut.ensures.len) in
-    λ bytes so_far. record {
-      each = rw (with_items_is own cut same) (fed-cut g.R.TraceReader.terms
-          g.R.TraceReader.represents 0 (rw c.deref_mut.ensures.value at c.cut_each.ensures) bytes
-          so_far.each);
-      level = rw (with_items_is own cut same) (AreLevel-none _
-          (rows-none (rw c.deref_mut.ensures.value at c.cut_each.ensures)));
+    let readers = c.args.self.now in
+    λ bytes so_far.
+    let fed = c.clear.ensures.fed bytes (led_fed readers so_far) in
+    record {
+      each = fed.each;
+      level = level_new g.R.TraceReader.terms readers c.clear.new.self c.clear.ensures.terms
+          fed.level;
     }
 
 pub returns-clause-lasts : goal.returns-clause-lasts
 returns-clause-lasts g c =
-    let own = c.args.self.now.each in
-    let cut = c.cut_each.new.each in
-    let same : length cut ≡ own.len =
-    omega (arith, c.cut_each.auto.each, c.deref_mut.ensures.len) in
-    rw (with_items_is own cut same)
-    (lasts-cut 0 (rw c.deref_mut.ensures.value at c.cut_each.ensures))
+    ap (λ lasts. map (last_for lasts) c.args.self.now.members.items) c.clear.ensures.lasts
 
 pub returns-clause-same : goal.returns-clause-same
 returns-clause-same g c =
-    let own = c.args.self.now.each in
-    let cut = c.cut_each.new.each in
-    let same : length cut ≡ own.len =
-    omega (arith, c.cut_each.auto.each, c.deref_mut.ensures.len) in
-    rw (with_items_is own cut same)
-    (ap (readings_by g.R.TraceReader.reading)
-    (terms-cut g.R.TraceReader.terms g.R.TraceReader.represents 0
-    (rw c.deref_mut.ensures.value at c.cut_each.ensures)))
+    same_new g.R.TraceReader.terms c.args.self.now c.clear.new.self c.clear.ensures.terms
+    g.R.TraceReader.reading _ c.clear.ensures.terms

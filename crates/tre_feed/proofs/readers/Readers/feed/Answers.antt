@@ -1,136 +1,42 @@
-use Rattle.std.proofs.Common.{◌≡◌, ◌≢◌, ◌∙◌, ◌++◌, length, true, false, Err, ap, arith}
-use Rattle.std.proofs.lemmas.List.{with_items_is}
-use Rattle.std.specs.Vec.{with_items}
-use Rattle.tre_feed.specs.declared.fault.FeedFault.TheVariants.{Memory}
-use Rattle.tre_feed.proofs.Calls.{TakesIn-all, AreLevel-all-took, of_ok}
-use Rattle.tre_feed.specs.Readings.{readings_by}
-use Rattle.tre_feed.proofs.Each.{fed-took, terms-kept, terms-cut, rows-cut}
+use Rattle.std.proofs.Common.{◌++◌, false}
+use Rattle.std.proofs.lemmas.Result.{on_ok_weaker}
+use Rattle.tre_feed.proofs.Groups.{led_alike, led_fed, lead_new, level_new, same_new, takes_new, within_new}
 use Rattle.tre_feed.proofs.readers.Readers.feed.Goals as goal
 
-pub feed_each-outcome-requires-clause-alike : goal.feed_each-outcome-requires-clause-alike
-feed_each-outcome-requires-clause-alike g c = rw c.deref_mut.ensures.value c.requires.alike
+pub feed-requires-clause-alike : goal.feed-requires-clause-alike
+feed-requires-clause-alike g c =
+    led_alike g.R.TraceReader.terms g.R.TraceReader.reading c.args.self.now c.requires.alike
 
-pub returns-then-is_out_of_memory-clause-takes : goal.returns-then-is_out_of_memory-clause-takes
-returns-then-is_out_of_memory-clause-takes g c =
-    let own = c.args.self.now.each in
-    let fed = c.feed_each-outcome.new.each in
-    let same : length fed ≡ own.len =
-    omega (arith, c.feed_each-outcome.auto.each, c.deref_mut.ensures.len) in
-    let cut = c.cut_each.new.each in
-    let same_cut : length cut ≡ own.len =
-    omega (arith, c.cut_each.auto.each, c.deref_mut-then-is_out_of_memory.ensures.len) in
-    let second = c.deref_mut-then-is_out_of_memory.ensures.value ∙ with_items_is own fed same in
-    λ bytes so_far. rw (with_items_is (with_items own fed) cut same_cut)
-    (rows-cut g.R.TraceReader.terms g.R.TraceReader.represents c.waiting-waiting.result
-    (rw c.deref_mut.ensures.value at c.feed_each-outcome.ensures.kept)
-    (rw second at c.cut_each.ensures) bytes so_far.each
-    (rw c.waiting-waiting.ensures so_far.level))
-
-pub returns-then-is_out_of_memory-clause-level : goal.returns-then-is_out_of_memory-clause-level
-returns-then-is_out_of_memory-clause-level g c =
-    let own = c.args.self.now.each in
-    let fed = c.feed_each-outcome.new.each in
-    let same : length fed ≡ own.len =
-    omega (arith, c.feed_each-outcome.auto.each, c.deref_mut.ensures.len) in
-    let cut = c.cut_each.new.each in
-    let same_cut : length cut ≡ own.len =
-    omega (arith, c.cut_each.auto.each, c.deref_mut-then-is_out_of_memory.ensures.len) in
-    let second = c.deref_mut-then-is_out_of_memory.ensures.value ∙ with_items_is own fed same in
-    λ bytes so_far. rw (
-      with_items_is (with_items own fed) cut same_cut,
-      (rows-cut g.R.TraceReader.terms g.R.TraceReader.represents c.waiting-waiting.result
-          (rw c.deref_mut.ensures.value at c.feed_each-outcome.ensures.kept)
-          (rw second at c.cut_each.ensures) bytes so_far.each
-          (rw c.waiting-waiting.ensures so_far.level)),
-    ) so_far.level
-
-pub returns-then-is_out_of_memory-clause-same : goal.returns-then-is_out_of_memory-clause-same
-returns-then-is_out_of_memory-clause-same g c =
-    let own = c.args.self.now.each in
-    let fed = c.feed_each-outcome.new.each in
-    let same : length fed ≡ own.len =
-    omega (arith, c.feed_each-outcome.auto.each, c.deref_mut.ensures.len) in
-    let cut = c.cut_each.new.each in
-    let same_cut : length cut ≡ own.len =
-    omega (arith, c.cut_each.auto.each, c.deref_mut-then-is_out_of_memory.ensures.len) in
-    let second = c.deref_mut-then-is_out_of_memory.ensures.value ∙ with_items_is own fed same in
-    rw (with_items_is (with_items own fed) cut same_cut)
-    (ap (readings_by g.R.TraceReader.reading)
-    (terms-cut g.R.TraceReader.terms g.R.TraceReader.represents c.waiting-waiting.result
-    (rw second at c.cut_each.ensures)
-    ∙ terms-kept g.R.TraceReader.terms g.R.TraceReader.represents
-    (rw c.deref_mut.ensures.value at c.feed_each-outcome.ensures.kept)))
+pub invariant_of-self : goal.invariant_of-self
+invariant_of-self g c = record {
+  within = within_new g.R.TraceReader.terms c.args.self.now c.feed.new.self c.feed.ensures.terms;
+  led = lead_new g.R.TraceReader.terms c.args.self.now c.feed.new.self c.feed.ensures.terms;
+}
 
 pub returns-clause-goes_on : goal.returns-clause-goes_on
 returns-clause-goes_on g c =
-    let reader = g.R.TraceReader in
-    let piece = c.args.piece.now in
-    let own = c.args.self.now.each in
-    let fed = c.feed_each-outcome.new.each in
-    let same : length fed ≡ own.len =
-    omega (arith, c.feed_each-outcome.auto.each, c.deref_mut.ensures.len) in
-    let found : c.feed_each-outcome.result ≢ Err Memory =
-    λ is. (let out : c.is_out_of_memory.result ≡ true = c.is_out_of_memory.ensures.1 is in cc) in
-    λ bytes so_far.
-    let told = (rw c.deref_mut.ensures.value at c.feed_each-outcome.ensures.told) bytes so_far.each
-    in
-    of_ok _ _ c.feed_each-outcome.result told (λ faultless. record {
-      each = rw (with_items_is own fed same) (fed-took reader.terms reader.represents
-          reader.reading piece
-          (rw c.deref_mut.ensures.value at (c.feed_each-outcome.ensures.took found)) bytes
-          so_far.each faultless);
-      level = rw (with_items_is own fed same) (AreLevel-all-took reader.terms reader.represents
-          (λ all bytes. reader.reading all false bytes)
-          (λ all bytes. reader.reading all false (bytes ++ piece))
-          (λ all new bytes. reader.represents new.reader (bytes ++ piece))
-          (rw c.deref_mut.ensures.value at (c.feed_each-outcome.ensures.took found)) bytes
-          so_far.each (c.requires.alike false bytes) (c.requires.alike false (bytes ++ piece))
-          so_far.level);
-    })
+    let readers = c.args.self.now in
+    λ bytes so_far. on_ok_weaker c.feed.result (λ fed. record {
+      each = fed.each;
+      level = level_new g.R.TraceReader.terms readers c.feed.new.self c.feed.ensures.terms
+          fed.level;
+    }) (c.feed.ensures.goes_on bytes (led_fed readers so_far))
 
 pub returns-clause-takes : goal.returns-clause-takes
 returns-clause-takes g c =
+    let readers = c.args.self.now in
     let reader = g.R.TraceReader in
-    let piece = c.args.piece.now in
-    let own = c.args.self.now.each in
-    let fed = c.feed_each-outcome.new.each in
-    let same : length fed ≡ own.len =
-    omega (arith, c.feed_each-outcome.auto.each, c.deref_mut.ensures.len) in
-    let found : c.feed_each-outcome.result ≢ Err Memory =
-    λ is. (let out : c.is_out_of_memory.result ≡ true = c.is_out_of_memory.ensures.1 is in cc) in
-    λ bytes so_far. rw (with_items_is own fed same) (TakesIn-all reader.terms reader.represents
-    (λ all bytes. reader.reading all false bytes)
-    (λ all bytes. reader.reading all false (bytes ++ piece))
-    (λ all new bytes. reader.represents new.reader (bytes ++ piece))
-    (rw c.deref_mut.ensures.value at (c.feed_each-outcome.ensures.took found)) bytes so_far.each
-    c.feed_each-outcome.result found
-    ((rw c.deref_mut.ensures.value at c.feed_each-outcome.ensures.told) bytes so_far.each))
+    λ bytes so_far. takes_new reader.terms readers c.feed.new.self c.feed.ensures.terms
+    reader.reading false bytes (bytes ++ c.args.piece.now) c.requires.alike c.feed.result
+    (c.feed.ensures.takes bytes (led_fed readers so_far))
 
 pub returns-clause-level : goal.returns-clause-level
 returns-clause-level g c =
-    let reader = g.R.TraceReader in
-    let piece = c.args.piece.now in
-    let own = c.args.self.now.each in
-    let fed = c.feed_each-outcome.new.each in
-    let same : length fed ≡ own.len =
-    omega (arith, c.feed_each-outcome.auto.each, c.deref_mut.ensures.len) in
-    let found : c.feed_each-outcome.result ≢ Err Memory =
-    λ is. (let out : c.is_out_of_memory.result ≡ true = c.is_out_of_memory.ensures.1 is in cc) in
-    λ bytes so_far. rw (with_items_is own fed same)
-    (AreLevel-all-took reader.terms reader.represents
-    (λ all bytes. reader.reading all false bytes)
-    (λ all bytes. reader.reading all false (bytes ++ piece))
-    (λ all new bytes. reader.represents new.reader (bytes ++ piece))
-    (rw c.deref_mut.ensures.value at (c.feed_each-outcome.ensures.took found)) bytes so_far.each
-    (c.requires.alike false bytes) (c.requires.alike false (bytes ++ piece)) so_far.level)
+    let readers = c.args.self.now in
+    λ bytes so_far. level_new g.R.TraceReader.terms readers c.feed.new.self c.feed.ensures.terms
+    (c.feed.ensures.level bytes (led_fed readers so_far))
 
 pub returns-clause-same : goal.returns-clause-same
 returns-clause-same g c =
-    let own = c.args.self.now.each in
-    let fed = c.feed_each-outcome.new.each in
-    let same : length fed ≡ own.len =
-    omega (arith, c.feed_each-outcome.auto.each, c.deref_mut.ensures.len) in
-    rw (with_items_is own fed same)
-    (ap (readings_by g.R.TraceReader.reading)
-    (terms-kept g.R.TraceReader.terms g.R.TraceReader.represents
-    (rw c.deref_mut.ensures.value at c.feed_each-outcome.ensures.kept)))
+    same_new g.R.TraceReader.terms c.args.self.now c.feed.new.self c.feed.ensures.terms
+    g.R.TraceReader.reading _ c.feed.ensures.terms

@@ -1,24 +1,28 @@
-use Rattle.std.proofs.Common.{◌≡◌, ◌++◌, ◌∷◌, [], List, All, map}
-use Rattle.std.proofs.lemmas.List.{map-append}
-use Rattle.std.proofs.lemmas.List.Elements.{All-push}
-use Rattle.tre_trace.specs.declared.segment.Segment.{Segment}
-use Rattle.tre_feed.specs.Readers.{row_of}
-use Rattle.tre_feed.proofs.Alike.{AreLevel-none}
+use Rattle.std.proofs.Common.{◌∙◌, ◌++◌, ◌∷◌, [], None, ap}
+use Rattle.std.proofs.lemmas.Result.{on_ok_weaker, on_err_weaker}
+use Rattle.tre_trace.specs.Reading.{Reading}
+use Rattle.tre_feed.specs.Readers.{readings_in}
+use Rattle.tre_feed.proofs.Groups.{group_pushed, none_pushed, on_err_both, on_ok_both}
+use Rattle.tre_feed.proofs.Members.{reading_by-all}
 use Rattle.tre_feed.proofs.readers.Readers.push.Goals as goal
 
-pub returns-clause-fresh : goal.returns-clause-fresh
-returns-clause-fresh g c =
-    let olds = c.args.self.now.each.items in
-    let fed = c.new.result in
-    let none : All (λ (row : List Segment). row ≡ []) (map row_of (olds ++ fed ∷ [])) =
-    rw map-append (All-push (λ (row : List Segment). row ≡ []) (map row_of olds) (row_of fed)
-    c.requires.others.none c.new.ensures.none) in
-    record {
-      fed = record {
-        each = rw c.in_ok-push.ensures.items (All-push
-            (λ fed. g.R.TraceReader.represents fed.reader []) olds fed c.requires.others.fed.each
-            (rw c.new.ensures.reader c.requires.fresh));
-        level = rw c.in_ok-push.ensures.items (AreLevel-none _ none);
-      };
-      none = rw c.in_ok-push.ensures.items none;
-    }
+pub returns-clause-readings : goal.returns-clause-readings
+returns-clause-readings g c =
+    let reader = g.R.TraceReader in
+    let old = c.args.self.now in
+    on_ok_weaker c.push_leader.result (λ both closed bytes.
+    group_pushed reader.terms reader.reading old c.push_leader.new.self.leaders
+    c.push_leader.new.self.members.items (reader.terms c.args.reader) None both.0 both.1 closed
+    bytes
+    ∙ ap (λ (now : Reading). readings_in reader.reading reader.terms old closed bytes ++ now ∷ [])
+    (reading_by-all (reader.reading (reader.terms c.args.reader) closed bytes)))
+    (on_ok_both _ _ c.push_leader.result c.push_leader.ensures.groups c.push_leader.ensures.members)
+
+pub returns-clause-same : goal.returns-clause-same
+returns-clause-same g c =
+    let reader = g.R.TraceReader in
+    on_err_weaker c.push_leader.result (λ both.
+    none_pushed reader.terms reader.reading c.args.self.now c.push_leader.new.self.leaders
+    c.push_leader.new.self.members.items both.0 both.1)
+    (on_err_both _ _ c.push_leader.result c.push_leader.ensures.same_groups
+    c.push_leader.ensures.same_members)

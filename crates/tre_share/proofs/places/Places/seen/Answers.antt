@@ -26,16 +26,30 @@ overflow_add-seen c =
           c.loop-left.invariant.within,
     )
 
-pub returns : goal.returns
-returns c asked all are =
+pub returns-clause-at : goal.returns-clause-at
+returns-clause-at c =
+    let places = c.args.self.now.places.items in
+    let none : c.loop-left.left ≡ 0 = omega (arith, c.loop-left-test.false) in
+    c.loop-left.invariant.seen ∙ ap (λ left. bits_at (drop left places) c.args.bits) none
+
+pub returns-clause-seen : goal.returns-clause-seen
+returns-clause-seen c asked all are =
     let places = c.args.self.now.places.items in
     let none : c.loop-left.left ≡ 0 = omega (arith, c.loop-left-test.false) in
     c.loop-left.invariant.seen
     ∙ ap (λ left. bits_at (drop left places) c.args.bits) none
     ∙ seen-places asked all places c.args.bits are
 
-pub returns-then-self : goal.returns-then-self
-returns-then-self c asked all are =
+pub returns-then-self-clause-at : goal.returns-then-self-clause-at
+returns-then-self-clause-at c =
+    let places = c.args.self.now.places in
+    let count : c.len.result ≡ length places.items = omega (arith, c.len.ensures, places.ok.0) in
+    c.bits_below.ensures
+    ∙ ap (λ place. c.args.bits % 2 ^ place) count
+    ∙ sym (bits_at-order places.items c.args.bits (c.args.self.now.order c.if-self.true))
+
+pub returns-then-self-clause-seen : goal.returns-then-self-clause-seen
+returns-then-self-clause-seen c asked all are =
     let places = c.args.self.now.places in
     let count : c.len.result ≡ length places.items = omega (arith, c.len.ensures, places.ok.0) in
     c.bits_below.ensures

@@ -3,7 +3,7 @@ use Rattle.tre_feed.specs.Fed.{IsEndOfAll, IsOfReader, TookPiece}
 use Rattle.tre_feed.specs.Readings.{readings_by}
 use Rattle.tre_feed.specs.declared.fault.FeedFault.TheVariants.{Memory}
 use Rattle.tre_feed.proofs.Changed.{ChangedTo}
-use Rattle.tre_feed.proofs.readers.feed_each.Given as goal
+use Rattle.tre_feed.proofs.leaders.feed_each.Given as goal
 
 -- those before the index took the piece, and the last of them told what all readings have
 abbrev pub invariant-loop-fed : goal.invariant-loop-fed

@@ -1,7 +1,7 @@
 use Rattle.std.proofs.Common.{refl, arith}
 use Rattle.tre_feed.specs.Fed.{IsCutTo}
 use Rattle.tre_feed.proofs.Changed.{ChangedTo-none, ChangedTo-more, Changed-all}
-use Rattle.tre_feed.proofs.readers.cut_each.Goals as goal
+use Rattle.tre_feed.proofs.leaders.cut_each.Goals as goal
 
 pub loop-fed-init : goal.loop-fed-init
 loop-fed-init g c = ChangedTo-none (IsCutTo c.args.count) c.args.each.now

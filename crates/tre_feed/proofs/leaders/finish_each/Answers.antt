@@ -1,55 +1,52 @@
-use Rattle.std.proofs.Common.{◌≡◌, ◌≢◌, ◌++◌, ◌<◌, length, false, true, Err, inr, arith, ◌∙◌}
+use Rattle.std.proofs.Common.{◌≡◌, ◌≢◌, ◌<◌, length, false, true, Err, inr, arith, ◌∙◌}
 use Rattle.std.proofs.lemmas.List.{length-map}
 use Rattle.tre_feed.specs.declared.fault.FeedFault.TheVariants.{Memory}
 use Rattle.tre_feed.proofs.Changed.{Changed-all}
 use Rattle.tre_feed.proofs.Turns.{Kept-all, Kept-one, Took-one, told-one, told-all}
-use Rattle.tre_feed.proofs.readers.feed_each.Goals as goal
+use Rattle.tre_feed.proofs.leaders.finish_each.Goals as goal
 
 pub returns-then-is_out_of_memory-clause-kept : goal.returns-then-is_out_of_memory-clause-kept
 returns-then-is_out_of_memory-clause-kept g c =
     let reader = g.R.TraceReader in
-    let piece = c.args.piece.now in
     Kept-one reader.terms reader.represents (λ all bytes. reader.reading all false bytes)
-    (λ all bytes. reader.reading all false (bytes ++ piece))
-    (λ all new bytes. reader.represents new.reader (bytes ++ piece))
+    (λ all bytes. reader.reading all true bytes)
+    (λ all new bytes. new.last ≡ (reader.reading all true bytes).last)
     c.loop-fed.invariant.took (omega (arith, c.loop-fed-test.true, c.loop-fed.auto.fed-items))
-    c.fed-item.result c.feed-outcome.new.self c.feed-outcome.result
-    c.feed-outcome.ensures.same_terms
-    c.feed-outcome.ensures.takes
+    c.fed-item.result c.finish-outcome.new.self c.finish-outcome.result
+    c.finish-outcome.ensures.same_terms
+    c.finish-outcome.ensures.takes
 
 pub loop-fed-preserved : goal.loop-fed-preserved
 loop-fed-preserved g c =
     let reader = g.R.TraceReader in
-    let piece = c.args.piece.now in
     let below : c.loop-fed.fed-index < length c.loop-fed.fed-items =
     omega (arith, c.loop-fed-test.true, c.loop-fed.auto.fed-items) in
-    let found : c.feed-outcome.result ≢ Err Memory =
+    let found : c.finish-outcome.result ≢ Err Memory =
     λ is. (let out : c.is_out_of_memory.result ≡ true = c.is_out_of_memory.ensures.1 is in cc) in
     record {
       took = Took-one reader.terms reader.represents (λ all bytes. reader.reading all false bytes)
-          (λ all bytes. reader.reading all false (bytes ++ piece))
-          (λ all new bytes. reader.represents new.reader (bytes ++ piece))
-          c.loop-fed.invariant.took below c.fed-item.result c.feed-outcome.new.self
-          c.feed-outcome.result c.feed-outcome.ensures.same_terms c.feed-outcome.ensures.takes
-          found c.feed-outcome.ensures.goes_on;
-      of_reader = c.feed-outcome.ensures.of_reader;
+          (λ all bytes. reader.reading all true bytes)
+          (λ all new bytes. new.last ≡ (reader.reading all true bytes).last)
+          c.loop-fed.invariant.took below c.fed-item.result c.finish-outcome.new.self
+          c.finish-outcome.result c.finish-outcome.ensures.same_terms c.finish-outcome.ensures.takes
+          found c.finish-outcome.ensures.last;
+      of_reader = c.finish-outcome.ensures.of_reader;
       found = found;
       told = λ bytes fed. inr (told-one reader.terms reader.represents
           (λ all bytes. reader.reading all false bytes)
-          (λ all bytes. reader.reading all false (bytes ++ piece))
-          (λ all new bytes. reader.represents new.reader (bytes ++ piece))
-          c.loop-fed.invariant.took below c.fed-item.result c.feed-outcome.new.self
-          c.feed-outcome.result c.feed-outcome.ensures.same_terms c.feed-outcome.ensures.takes
-          found bytes fed (c.requires.alike false (bytes ++ piece)));
+          (λ all bytes. reader.reading all true bytes)
+          (λ all new bytes. new.last ≡ (reader.reading all true bytes).last)
+          c.loop-fed.invariant.took below c.fed-item.result c.finish-outcome.new.self
+          c.finish-outcome.result c.finish-outcome.ensures.same_terms c.finish-outcome.ensures.takes
+          found bytes fed (c.requires.alike true bytes));
     }
 
 pub returns-clause-kept : goal.returns-clause-kept
 returns-clause-kept g c =
     let reader = g.R.TraceReader in
-    let piece = c.args.piece.now in
     Kept-all reader.terms reader.represents (λ all bytes. reader.reading all false bytes)
-    (λ all bytes. reader.reading all false (bytes ++ piece))
-    (λ all new bytes. reader.represents new.reader (bytes ++ piece))
+    (λ all bytes. reader.reading all true bytes)
+    (λ all new bytes. new.last ≡ (reader.reading all true bytes).last)
     c.loop-fed.invariant.took c.loop-fed-test.false
 
 pub returns-clause-took : goal.returns-clause-took
@@ -59,6 +56,6 @@ pub returns-clause-told : goal.returns-clause-told
 returns-clause-told g c =
     let reader = g.R.TraceReader in
     λ bytes fed. told-all _ c.args.each.now c.loop-fed.fed-index c.loop-fed.outcome
-    (length-map _ (λ all. reader.reading all false (bytes ++ c.args.piece.now))
+    (length-map _ (λ all. reader.reading all true bytes)
     ∙ length-map c.args.each.now (λ fed. reader.terms fed.reader))
     (c.loop-fed.invariant.told bytes fed) c.loop-fed-test.false

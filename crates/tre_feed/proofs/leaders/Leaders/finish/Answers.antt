@@ -1,0 +1,122 @@
+use Rattle.std.proofs.Common.{◌≡◌, ◌≢◌, ◌∙◌, length, true, false, Err, arith}
+use Rattle.std.proofs.lemmas.List.{with_items_is}
+use Rattle.std.specs.Vec.{with_items}
+use Rattle.tre_feed.specs.declared.fault.FeedFault.TheVariants.{Memory}
+use Rattle.tre_feed.proofs.Calls.{TakesIn-all, AreLevel-all-took, of_ok}
+use Rattle.tre_feed.proofs.Each.{lasts-took, terms-kept, terms-cut, rows-cut}
+use Rattle.tre_feed.proofs.leaders.Leaders.finish.Goals as goal
+
+pub finish_each-outcome-requires : goal.finish_each-outcome-requires
+finish_each-outcome-requires g c =
+    record { alike = rw c.deref_mut.ensures.value c.requires.alike }
+
+pub returns-then-is_out_of_memory-clause-takes : goal.returns-then-is_out_of_memory-clause-takes
+returns-then-is_out_of_memory-clause-takes g c =
+    let own = c.args.self.now.each in
+    let fed = c.finish_each-outcome.new.each in
+    let same : length fed ≡ own.len =
+    omega (arith, c.finish_each-outcome.auto.each, c.deref_mut.ensures.len) in
+    let cut = c.cut_each.new.each in
+    let same_cut : length cut ≡ own.len =
+    omega (arith, c.cut_each.auto.each, c.deref_mut-then-is_out_of_memory.ensures.len) in
+    let second = c.deref_mut-then-is_out_of_memory.ensures.value ∙ with_items_is own fed same in
+    λ bytes so_far. rw (with_items_is (with_items own fed) cut same_cut)
+    (rows-cut g.R.TraceReader.terms g.R.TraceReader.represents c.waiting-waiting.result
+    (rw c.deref_mut.ensures.value at c.finish_each-outcome.ensures.kept)
+    (rw second at c.cut_each.ensures) bytes so_far.each
+    (rw c.waiting-waiting.ensures so_far.level))
+
+pub returns-then-is_out_of_memory-clause-level : goal.returns-then-is_out_of_memory-clause-level
+returns-then-is_out_of_memory-clause-level g c =
+    let own = c.args.self.now.each in
+    let fed = c.finish_each-outcome.new.each in
+    let same : length fed ≡ own.len =
+    omega (arith, c.finish_each-outcome.auto.each, c.deref_mut.ensures.len) in
+    let cut = c.cut_each.new.each in
+    let same_cut : length cut ≡ own.len =
+    omega (arith, c.cut_each.auto.each, c.deref_mut-then-is_out_of_memory.ensures.len) in
+    let second = c.deref_mut-then-is_out_of_memory.ensures.value ∙ with_items_is own fed same in
+    λ bytes so_far. rw (
+      with_items_is (with_items own fed) cut same_cut,
+      (rows-cut g.R.TraceReader.terms g.R.TraceReader.represents c.waiting-waiting.result
+          (rw c.deref_mut.ensures.value at c.finish_each-outcome.ensures.kept)
+          (rw second at c.cut_each.ensures) bytes so_far.each
+          (rw c.waiting-waiting.ensures so_far.level)),
+    ) so_far.level
+
+pub returns-then-is_out_of_memory-clause-terms : goal.returns-then-is_out_of_memory-clause-terms
+returns-then-is_out_of_memory-clause-terms g c =
+    let own = c.args.self.now.each in
+    let fed = c.finish_each-outcome.new.each in
+    let same : length fed ≡ own.len =
+    omega (arith, c.finish_each-outcome.auto.each, c.deref_mut.ensures.len) in
+    let cut = c.cut_each.new.each in
+    let same_cut : length cut ≡ own.len =
+    omega (arith, c.cut_each.auto.each, c.deref_mut-then-is_out_of_memory.ensures.len) in
+    let second = c.deref_mut-then-is_out_of_memory.ensures.value ∙ with_items_is own fed same in
+    rw (with_items_is (with_items own fed) cut same_cut)
+    (terms-cut g.R.TraceReader.terms g.R.TraceReader.represents c.waiting-waiting.result
+    (rw second at c.cut_each.ensures)
+    ∙ terms-kept g.R.TraceReader.terms g.R.TraceReader.represents
+    (rw c.deref_mut.ensures.value at c.finish_each-outcome.ensures.kept))
+
+pub returns-clause-lasts : goal.returns-clause-lasts
+returns-clause-lasts g c =
+    let reader = g.R.TraceReader in
+    let own = c.args.self.now.each in
+    let fed = c.finish_each-outcome.new.each in
+    let same : length fed ≡ own.len =
+    omega (arith, c.finish_each-outcome.auto.each, c.deref_mut.ensures.len) in
+    let found : c.finish_each-outcome.result ≢ Err Memory =
+    λ is. (let out : c.is_out_of_memory.result ≡ true = c.is_out_of_memory.ensures.1 is in cc) in
+    λ bytes so_far.
+    let told = (rw c.deref_mut.ensures.value at c.finish_each-outcome.ensures.told) bytes
+    so_far.each in
+    rw (with_items_is own fed same) (of_ok _ _ c.finish_each-outcome.result told (λ faultless.
+    lasts-took reader.terms reader.represents reader.reading
+    (rw c.deref_mut.ensures.value at (c.finish_each-outcome.ensures.took found)) bytes so_far.each
+    faultless))
+
+pub returns-clause-takes : goal.returns-clause-takes
+returns-clause-takes g c =
+    let reader = g.R.TraceReader in
+    let own = c.args.self.now.each in
+    let fed = c.finish_each-outcome.new.each in
+    let same : length fed ≡ own.len =
+    omega (arith, c.finish_each-outcome.auto.each, c.deref_mut.ensures.len) in
+    let found : c.finish_each-outcome.result ≢ Err Memory =
+    λ is. (let out : c.is_out_of_memory.result ≡ true = c.is_out_of_memory.ensures.1 is in cc) in
+    λ bytes so_far. rw (with_items_is own fed same) (TakesIn-all reader.terms reader.represents
+    (λ all bytes. reader.reading all false bytes)
+    (λ all bytes. reader.reading all true bytes)
+    (λ all new bytes. new.last ≡ (reader.reading all true bytes).last)
+    (rw c.deref_mut.ensures.value at (c.finish_each-outcome.ensures.took found)) bytes so_far.each
+    c.finish_each-outcome.result found
+    ((rw c.deref_mut.ensures.value at c.finish_each-outcome.ensures.told) bytes so_far.each))
+
+pub returns-clause-level : goal.returns-clause-level
+returns-clause-level g c =
+    let reader = g.R.TraceReader in
+    let own = c.args.self.now.each in
+    let fed = c.finish_each-outcome.new.each in
+    let same : length fed ≡ own.len =
+    omega (arith, c.finish_each-outcome.auto.each, c.deref_mut.ensures.len) in
+    let found : c.finish_each-outcome.result ≢ Err Memory =
+    λ is. (let out : c.is_out_of_memory.result ≡ true = c.is_out_of_memory.ensures.1 is in cc) in
+    λ bytes so_far. rw (with_items_is own fed same)
+    (AreLevel-all-took reader.terms reader.represents
+    (λ all bytes. reader.reading all false bytes)
+    (λ all bytes. reader.reading all true bytes)
+    (λ all new bytes. new.last ≡ (reader.reading all true bytes).last)
+    (rw c.deref_mut.ensures.value at (c.finish_each-outcome.ensures.took found)) bytes so_far.each
+    (c.requires.alike false bytes) (c.requires.alike true bytes) so_far.level)
+
+pub returns-clause-terms : goal.returns-clause-terms
+returns-clause-terms g c =
+    let own = c.args.self.now.each in
+    let fed = c.finish_each-outcome.new.each in
+    let same : length fed ≡ own.len =
+    omega (arith, c.finish_each-outcome.auto.each, c.deref_mut.ensures.len) in
+    rw (with_items_is own fed same)
+    (terms-kept g.R.TraceReader.terms g.R.TraceReader.represents
+    (rw c.deref_mut.ensures.value at c.finish_each-outcome.ensures.kept))

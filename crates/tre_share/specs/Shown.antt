@@ -1,0 +1,26 @@
+-- What a view shows of what was read for its group.
+use Rattle.std.specs.Prelude.{ℕ, map}
+use Rattle.tre_trace.specs.Reading.{Reading}
+use Rattle.tre_trace.specs.Segments.{segment_with}
+use Rattle.tre_trace.specs.declared.segment.Segment.{Segment}
+use Rattle.tre_share.specs.Places.{places_of}
+use Rattle.tre_share.specs.Taking.{bits_at}
+use Rattle.tre_share.specs.declared.view.View.{View}
+
+-- The events of the pattern that happen where these of the group do.
+abbrev pub shown_events : View → ℕ → ℕ
+shown_events view bits = bits_at (places_of view.events) bits
+
+-- What a segment of the group is for the pattern.
+abbrev pub shown_segment : View → Segment → Segment
+shown_segment view segment =
+    segment_with segment.len (bits_at (places_of view.names) segment.val)
+    (shown_events view segment.ev)
+
+-- What a reading for the group says for the pattern.
+abbrev pub shown_reading : View → Reading → Reading
+shown_reading view reading = record {
+  segments = map (shown_segment view) reading.segments;
+  last = shown_events view reading.last;
+  fault = reading.fault;
+}

@@ -1,0 +1,56 @@
+-- What a job asks for, by its mode.
+use Rattle.std.proofs.Common.{◌≡◌, ◌≢◌, ℕ, List, true, Option, None, Some, IfSome, refl, sym, subst}
+use Rattle.std.specs.Prelude.{is_some}
+use Rattle.tre_answer.specs.Ends.{ReadsInput}
+use Rattle.tre_tell.specs.Sought.{Sought}
+use Rattle.tre_tool.specs.Request.{Spell, texts_with, ArePatterns, IsRefusalOf, IsRefusalIn}
+use Rattle.tre_tool.specs.declared.status.Status.{Status}
+use Rattle.tre_tool.specs.declared.status.Status.TheVariants.{ReadFault, Memory}
+use Rattle.tre_watch.specs.Outcome.{Outcome}
+use Rattle.tre_words.specs.Job.{IsJob}
+use Rattle.tre_words.specs.declared.job.Job.{Job}
+use Rattle.tre_words.specs.declared.job.Mode.{Mode}
+use Rattle.tre_words.specs.declared.job.Mode.TheVariants.{Offline, Online, Show, Generate, Watch}
+
+none_of : {X : Type 0} (o : Option X) → (is_some o ≡ true → ⊥) → o ≡ None
+none_of None never = refl
+none_of (Some x) never = absurd (never refl)
+
+-- a run that reads no input takes nothing away
+pub nothing_taken : (job : Job) → IsJob job → (ReadsInput job.mode → ⊥) → job.minus ≡ None
+nothing_taken job is unread =
+    none_of job.minus (λ some. unread (subst ReadsInput (sym (is.together.minus some)) tt))
+
+-- a refusal isn't that a file couldn't be read
+pub never_unread : (job : Job) (status : Status) → (status ≢ Memory → IsRefusalOf job status)
+    → status ≢ ReadFault
+never_unread job status refuses is =
+    subst (λ (s : Status). IsRefusalOf job s) is (refuses (λ memory. cc))
+
+-- the name of the file of checks is the one that the job has
+pub named_so : (mode : Mode) (file read name : List ℕ) (told : Option (List ℕ))
+    → mode ≡ Watch file → read ≡ file → IfSome told (λ t. t ≡ read) → mode ≡ Watch name
+    → IfSome told (λ t. t ≡ name)
+named_so mode file read name told is same by watches =
+    let here : read ≡ name = cc in
+    subst (λ n. IfSome told (λ t. t ≡ n)) here by
+
+-- neither a made run nor a watch: its texts say what it asks for
+pub patterns_of_texts : (mode : Mode) (Says : ℕ → Outcome → Type 0) (job : Job)
+    (patterns : List Sought)
+    → ((count : ℕ) → mode ≡ Generate count → ⊥) → ((file : List ℕ) → mode ≡ Watch file → ⊥)
+    → Spell job.scale (texts_with job.expr job.minus) patterns → ArePatterns mode Says job patterns
+patterns_of_texts Offline Says job patterns made watched so = so
+patterns_of_texts Online Says job patterns made watched so = so
+patterns_of_texts Show Says job patterns made watched so = so
+patterns_of_texts (Generate count) Says job patterns made watched so = absurd (made count refl)
+patterns_of_texts (Watch file) Says job patterns made watched so = absurd (watched file refl)
+
+pub refusal_of_texts : (mode : Mode) (Says : ℕ → Outcome → Type 0) (job : Job) (refusal : Status)
+    → ((count : ℕ) → mode ≡ Generate count → ⊥) → ((file : List ℕ) → mode ≡ Watch file → ⊥)
+    → IsRefusalOf job refusal → IsRefusalIn mode Says job refusal
+refusal_of_texts Offline Says job refusal made watched is = is
+refusal_of_texts Online Says job refusal made watched is = is
+refusal_of_texts Show Says job refusal made watched is = is
+refusal_of_texts (Generate count) Says job refusal made watched is = absurd (made count refl)
+refusal_of_texts (Watch file) Says job refusal made watched is = absurd (watched file refl)
