@@ -1,18 +1,25 @@
 -- What words of a made run give, and how such a run ends.
-use Rattle.std.proofs.Common.{◌≡◌, ◌∙◌, ℕ, Bool, true, List, [], All, Some, ap, sym, subst, ⊎_elim, arith}
+use Rattle.std.proofs.Common.{◌≡◌, ◌∙◌, ℕ, Bool, true, List, [], All, Some, Ok, Err, ap, sym, subst, ⊎_elim, arith}
 use Rattle.std.specs.Prelude.{option_map}
+use Rattle.tre_answer.specs.Ends.{ReadsInput, at_once, way_of, IsAnswerIn, StandsSoFar, IsCut, EndsOver, StandsAtMemory}
+use Rattle.tre_answer.specs.Readings.{watched_of}
+use Rattle.tre_answer.specs.Request.{Request}
+use Rattle.tre_answer.specs.declared.fault.AnswerFault.TheVariants.{Trace as AnswerTrace, TooLong as AnswerTooLong, TooManyZones as AnswerTooMany, Read as AnswerRead, Write as AnswerWrite, Memory as AnswerMemory}
+use Rattle.tre_feed.specs.Input.{InputTold}
 use Rattle.tre_generate.specs.FixedPattern.{fixed_tree, fixed_vocabulary}
 use Rattle.tre_generate.specs.Summary.{IsSummary}
-use Rattle.tre_tool.specs.Devices.{InputTold, OutputTold}
-use Rattle.tre_words.specs.Job.{GivesWhere, GivesJob, HaveNoFaultWhere, HaveNoFault, made_job}
-use Rattle.tre_tool.specs.Request.{Request, alone, ArePatterns, IsRefusalIn, AsksFor, IsRefused}
-use Rattle.tre_tool.specs.Run.{ReadsInput, at_once, way_of, IsAnswerIn, StandsSoFar, IsCut, AsksForMadeRun, EndsAs, EndsMadeRun}
-use Rattle.tre_tool.specs.Standing.{FirstBlocksStand}
+use Rattle.tre_tell.specs.Outputs.{OutputTold, NothingWritten}
+use Rattle.tre_tell.specs.Standing.{FirstBlocksStand}
+use Rattle.tre_watch.specs.Outcome.{Outcome}
+use Rattle.tre_words.specs.Job.{GivesWhere, GivesJob, HaveNoFaultWhere, HaveNoFault, is_watch, made_job}
 use Rattle.tre_words.specs.declared.job.Job.{Job}
 use Rattle.tre_words.specs.declared.job.Mode.{Mode}
-use Rattle.tre_words.specs.declared.job.Mode.TheVariants.{Offline, Generate}
+use Rattle.tre_words.specs.declared.job.Mode.TheVariants.{Offline, Generate, Watch as WatchMode}
+use Rattle.tre_tool.specs.Checks.{ChecksWereRead}
+use Rattle.tre_tool.specs.Request.{alone, ArePatterns, IsRefusalIn, AsksFor, IsRefused}
+use Rattle.tre_tool.specs.Run.{AsksForMadeRun, EndsAs, EndsMadeRun}
 use Rattle.tre_tool.specs.declared.status.Status.{Status}
-use Rattle.tre_tool.specs.declared.status.Status.TheVariants.{Done, Usage, Expression, Minus, Definitions, Trace, InputTooLong, TooManyZones, ReadFault, WriteFault, Memory}
+use Rattle.tre_tool.proofs.Ended.{Answer, answered_status, Ended, by_usage, by_refusal, by_unread, by_memory, by_answer, ended_of}
 
 one_value : {X : Type 0} {x y : X} → Some x ≡ Some y → x ≡ y
 one_value e = cc
@@ -20,87 +27,116 @@ one_value e = cc
 module _ (words : List (List ℕ)) (count : ℕ) (asks : AsksForMadeRun words count) where
   job_given : (job : Job) → GivesJob words job → job ≡ made_job count
   job_given job gives =
-      let here : GivesWhere true words job =
-      subst (λ (made : Bool). GivesWhere made words job) asks.first gives.gives in
+      let here : GivesWhere true (is_watch words) words job =
+      subst (λ (made : Bool). GivesWhere made (is_watch words) words job) asks.first
+      gives.gives in
       one_value (sym here ∙ ap (option_map made_job) asks.second)
 
   have_no_fault : HaveNoFault words
   have_no_fault =
-      let here : HaveNoFaultWhere true words = tt in
-      subst (λ (made : Bool). HaveNoFaultWhere made words) (sym asks.first) here
+      let here : HaveNoFaultWhere true (is_watch words) words = tt in
+      subst (λ (made : Bool). HaveNoFaultWhere made (is_watch words) words) (sym asks.first) here
 
   pub gives_one : GivesJob words (made_job count)
   gives_one =
-      let here : GivesWhere true words (made_job count) =
+      let here : GivesWhere true (is_watch words) words (made_job count) =
       ap (option_map made_job) asks.second in
       record {
         faultless = have_no_fault;
-        gives = subst (λ (made : Bool). GivesWhere made words (made_job count)) (sym asks.first)
-            here;
+        gives = subst (λ (made : Bool). GivesWhere made (is_watch words) words (made_job count))
+            (sym asks.first) here;
       }
 
   mode_given : (job : Job) → GivesJob words job → job.mode ≡ Generate count
   mode_given job gives = ap (λ (j : Job). j.mode) (job_given job gives)
 
-  summary_asked : (request : Request) (input : InputTold) (text : List ℕ)
-      → AsksFor (GivesJob words) request → IsAnswerIn request.job.mode request input text
-      → IsSummary fixed_tree count text
-  summary_asked request input text asked right =
-      let here : IsAnswerIn (Generate count) request input text =
-      subst (λ (mode : Mode). IsAnswerIn mode request input text)
-      (mode_given request.job asked.gives) right in
-      let one : request.patterns ≡ alone fixed_tree fixed_vocabulary =
-      subst (λ (mode : Mode). ArePatterns mode request.job request.patterns)
-      (mode_given request.job asked.gives) asked.patterns in
-      let all = subst (All (λ pattern. IsSummary pattern.tree count text)) one here in
-      all 0 (record { label = []; tree = fixed_tree; names = fixed_vocabulary }) (omega arith)
+  module _ (Says : ℕ → Outcome → Type 0) where
+    summary_asked : (request : Request) (input : InputTold) (text : List ℕ)
+        → AsksFor (GivesJob words) Says request
+        → IsAnswerIn request.job.mode request input text → IsSummary fixed_tree count text
+    summary_asked request input text asked right =
+        let here : IsAnswerIn (Generate count) request input text =
+        subst (λ (mode : Mode). IsAnswerIn mode request input text)
+        (mode_given request.job asked.gives) right in
+        let one : request.patterns ≡ alone fixed_tree fixed_vocabulary =
+        subst (λ (mode : Mode). ArePatterns mode Says request.job request.patterns)
+        (mode_given request.job asked.gives) asked.patterns in
+        let all = subst (All (λ pattern. IsSummary pattern.tree count text)) one here in
+        all 0 (record { label = []; tree = fixed_tree; names = fixed_vocabulary })
+        (omega arith)
 
-  never_refused : (refusal : Status) → IsRefused (GivesJob words) refusal → ⊥
-  never_refused refusal told =
-      subst (λ (mode : Mode). IsRefusalIn mode told.job refusal) (mode_given told.job told.gives)
-      told.refuses
+    never_refused : (refusal : Status) → IsRefused (GivesJob words) Says refusal → ⊥
+    never_refused refusal told =
+        subst (λ (mode : Mode). IsRefusalIn mode Says told.job refusal)
+        (mode_given told.job told.gives) told.refuses
 
-  reads_nothing : (request : Request) → AsksFor (GivesJob words) request
-      → ReadsInput request.job.mode → ⊥
-  reads_nothing request asked reads = subst ReadsInput (mode_given request.job asked.gives) reads
+    reads_nothing : (request : Request) → AsksFor (GivesJob words) Says request
+        → ReadsInput request.job.mode → ⊥
+    reads_nothing request asked reads =
+        subst ReadsInput (mode_given request.job asked.gives) reads
 
-  -- how it ends, of a run over words that ask for it
-  pub EndsMadeRun-ends : (input : InputTold) (output : OutputTold) (status : Status)
-      → EndsAs (GivesJob words) input output status → EndsMadeRun count output status
-  EndsMadeRun-ends input output Done ends = record {
-    text = ends.is_so.text;
-    right = summary_asked ends.request input ends.is_so.text ends.asks ends.is_so.right;
-    writes = ends.is_so.writes;
-    written = ends.is_so.written;
-  }
-  EndsMadeRun-ends input output Usage ends = ends.no_job (made_job count) gives_one
-  EndsMadeRun-ends input output (Expression fault) ends =
-      never_refused (Expression fault) ends.refused
-  EndsMadeRun-ends input output (Minus fault) ends = never_refused (Minus fault) ends.refused
-  EndsMadeRun-ends input output (Definitions fault) ends =
-      never_refused (Definitions fault) ends.refused
-  EndsMadeRun-ends input output (TooManyZones zones) ends =
-      let modes : Generate count ≡ Offline =
-      sym (mode_given ends.request.job ends.asks.gives) ∙ ends.is_so.offline in
-      cc
-  EndsMadeRun-ends input output (Trace fault) ends =
-      reads_nothing ends.1.request ends.1.asks ends.1.is_so.reads_input
-  EndsMadeRun-ends input output InputTooLong ends =
-      reads_nothing ends.request ends.asks ends.is_so.reads_input
-  EndsMadeRun-ends input output ReadFault ends =
-      reads_nothing ends.request ends.asks ends.is_so.reads_input
-  EndsMadeRun-ends input output WriteFault ends =
-      let here : IsCut at_once ends.request input output =
-      subst (λ (mode : Mode). IsCut (way_of mode) ends.request input output)
-      (mode_given ends.request.job ends.asks.gives) ends.is_so.stands in
-      record {
-        text = here.text;
-        right = summary_asked ends.request input here.text ends.asks here.right;
-        cause = ends.is_so.cause;
-        written = here.written;
-      }
-  EndsMadeRun-ends input output Memory ends =
-      ⊎_elim (λ none. none.unwritten)
-      (λ some. subst (λ (mode : Mode). StandsSoFar (way_of mode) output
-      (FirstBlocksStand some.request input output)) (mode_given some.request.job some.asks.gives)
-      some.is_so) ends.stands
+    stands_nothing : (request : Request) (input : InputTold) (output : OutputTold)
+        → AsksFor (GivesJob words) Says request → StandsAtMemory request input output
+        → NothingWritten output
+    stands_nothing request input output asked stands =
+        subst (λ (mode : Mode). StandsSoFar (way_of mode) output
+        (FirstBlocksStand (watched_of request) input output))
+        (mode_given request.job asked.gives) stands
+
+    -- how it ends, of an answer to what they ask for
+    answered_made : (request : Request) (input : InputTold) (output : OutputTold)
+        (answer : Answer) → AsksFor (GivesJob words) Says request
+        → EndsOver request input output answer
+        → EndsMadeRun count output (answered_status answer)
+    answered_made request input output (Ok value) asked done = record {
+      text = done.text;
+      right = summary_asked request input done.text asked done.right;
+      writes = done.writes;
+      written = done.written;
+    }
+    answered_made request input output (Err (AnswerTrace fault)) asked found =
+        reads_nothing request asked found.1.reads_input
+    answered_made request input output (Err AnswerTooLong) asked found =
+        reads_nothing request asked found.reads_input
+    answered_made request input output (Err (AnswerTooMany zones)) asked many =
+        let modes : Generate count ≡ Offline =
+        sym (mode_given request.job asked.gives) ∙ many.offline in
+        cc
+    answered_made request input output (Err AnswerRead) asked found =
+        reads_nothing request asked found.reads_input
+    answered_made request input output (Err AnswerWrite) asked found =
+        let here : IsCut at_once request input output =
+        subst (λ (mode : Mode). IsCut (way_of mode) request input output)
+        (mode_given request.job asked.gives) found.stands in
+        record {
+          text = here.text;
+          right = summary_asked request input here.text asked here.right;
+          cause = found.cause;
+          written = here.written;
+        }
+    answered_made request input output (Err AnswerMemory) asked found =
+        stands_nothing request input output asked found.1
+
+  module _ (checks input : InputTold) (output : OutputTold) where
+    made_by : (status : Status) → Ended (GivesJob words) checks input output status
+        → EndsMadeRun count output status
+    made_by status (by_usage is ends) = absurd (ends.no_job (made_job count) gives_one)
+    made_by status (by_refusal ends) =
+        absurd (never_refused (ChecksWereRead checks) status ends.refused)
+    made_by status (by_unread is ends) =
+        let modes : Generate count ≡ WatchMode ends.file =
+        sym (mode_given ends.job ends.gives) ∙ ends.watches in
+        absurd (cc)
+    made_by status (by_memory is ends) =
+        rw is (⊎_elim (λ none. none.unwritten)
+        (λ some. stands_nothing (ChecksWereRead checks) some.request input output some.asks
+        some.is_so) ends.stands)
+    made_by status (by_answer answer is some) =
+        rw is (answered_made (ChecksWereRead checks) some.request input output answer some.asks
+        some.is_so)
+
+    -- how it ends, of a run over words that ask for it
+    pub EndsMadeRun-ends : (status : Status)
+        → EndsAs (GivesJob words) checks input output status → EndsMadeRun count output status
+    EndsMadeRun-ends status ends =
+        made_by status (ended_of (GivesJob words) checks input output status ends)

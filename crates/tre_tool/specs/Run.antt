@@ -20,12 +20,26 @@ use Rattle.tre_words.specs.declared.job.Mode.TheVariants.{Watch}
 use Rattle.tre_tool.specs.Checks.{ChecksWereRead, ChecksAreTold}
 use Rattle.tre_tool.specs.Request.{AsksFor, Asks, IsRefused, GiveNone}
 use Rattle.tre_tool.specs.declared.status.Status.{Status}
-use Rattle.tre_tool.specs.declared.status.Status.TheVariants.{Done, Usage, Trace, InputTooLong, TooManyZones, ReadFault, WriteFault, Memory}
+use Rattle.tre_tool.specs.declared.status.Status.TheVariants.{Done, Usage, Expression, Minus, Definitions, Watch as WatchStatus, Trace, InputTooLong, TooManyZones, ReadFault, WriteFault, Memory}
 
 -- The modes of a run that reads a file of checks.
 abbrev pub ReadsChecks : Mode → Type 0
 ReadsChecks (Watch file) = Unit {0}
 ReadsChecks mode = ⊥
+
+-- One failure to read the file of checks was counted, where one is read.
+abbrev pub ChecksFailed : Mode → InputTold → Type 0
+ChecksFailed (Watch file) checks = Rises checks.faults_before checks.faults_now
+ChecksFailed mode checks = ⊥
+
+-- The statuses of words that give no job, and of those whose job is refused.
+abbrev pub ComesFirst : Status → Type 0
+ComesFirst Usage = Unit {0}
+ComesFirst (Expression fault) = Unit {0}
+ComesFirst (Minus fault) = Unit {0}
+ComesFirst (Definitions fault) = Unit {0}
+ComesFirst (WatchStatus fault) = Unit {0}
+ComesFirst status = ⊥
 
 -- The input wasn't opened, no failure was counted, and nothing was written.
 pub record NothingDone (input : InputTold) (output : OutputTold) : Type 0 where
@@ -118,10 +132,10 @@ IsStatusFor exceeds status = IsUnlessMemory InputTooLong status
 pub record IsComplete (Gives : Job → Type 0) (checks input : InputTold) (output : OutputTold)
     (status : Status) : Type 0 where
   pub no_job : GiveNone Gives → IsUnlessMemory Usage status
-  pub refused : (refusal : Status) → IsRefused Gives (ChecksAreTold checks) refusal →
-      ¬ Rises checks.faults_before checks.faults_now → IsUnlessMemory refusal status
+  pub refused : (refusal : Status) (told : IsRefused Gives (ChecksAreTold checks) refusal) →
+      ¬ ChecksFailed told.job.mode checks → IsUnlessMemory refusal status
   pub read : (request : Request) → AsksFor Gives (ChecksAreTold checks) request →
-      ReadsInput request.job.mode → ¬ Rises checks.faults_before checks.faults_now →
+      ReadsInput request.job.mode → ¬ ChecksFailed request.job.mode checks →
       ¬ Rises input.faults_before input.faults_now →
       ¬ Rises output.faults_before output.faults_now →
       IfSome input.file (λ bytes. IsStatusFor (outcome_for request bytes) status)

@@ -7,7 +7,7 @@ ghost use Rattle.tre_tell.specs.Outputs.{output_told};
 ghost use Rattle.tre_tool.specs.Checks.{ChecksAreTold};
 ghost use Rattle.tre_tool.specs.Parts.{status_of};
 ghost use Rattle.tre_tool.specs.Request.{AsksForNothing};
-ghost use Rattle.tre_tool.specs.Run.{AsksForMadeRun, ReadsChecks, EndsAs, EndsMadeRun, IsComplete, IsLineTold};
+ghost use Rattle.tre_tool.specs.Run.{AsksForMadeRun, ReadsChecks, ComesFirst, EndsAs, EndsMadeRun, IsComplete, IsLineTold};
 ghost use Rattle.tre_tool.specs.Status.{error_line};
 ghost use Rattle.tre_watch.specs.declared.reader.TheConstants.{FILE_MAX};
 ghost use Rattle.tre_words.specs.Job.{GivesJob, HaveNoFault};
@@ -40,10 +40,11 @@ fn run_words<P: Source, S: Source, O: Sink>(
     ensures untouched { AsksForNothing (GivesJob (map string_bytes words.now)) (ChecksAreTold
         (input_told P.file_name P.file P.sound P.opened P.left P.found P.faults checks.old
         checks.new)) → (input.new ≡ input.old) × (out.new ≡ out.old) }
+    ensures nothing_first { ComesFirst (status_of result) →
+        (input.new ≡ input.old) × (out.new ≡ out.old) }
     ensures source_untouched { (job : Job) → GivesJob (map string_bytes words.now) job →
         (ReadsInput job.mode → ⊥) → input.new ≡ input.old }
-    ensures checks_untouched {
-        ((job : Job) → GivesJob (map string_bytes words.now) job → ReadsChecks job.mode → ⊥) →
+    ensures checks_untouched { ((job : Job) → GivesJob (map string_bytes words.now) job → ReadsChecks job.mode → ⊥) →
         checks.new ≡ checks.old }
     ensures by_name { (job : Job) → GivesJob (map string_bytes words.now) job →
         IsTrue (S.opened input.new) →
@@ -61,7 +62,8 @@ fn run_words<P: Source, S: Source, O: Sink>(
         HaveNoFault (map string_bytes words.now) }
 {
     let job = read_words(alloc, words)?;
-    let Question { asked, definitions } = asked_by(alloc, &job, checks)?;
+    let question = asked_by(alloc, &job, checks)?;
+    let Question { asked, definitions } = question;
     answer(alloc, &asked, definitions, &job, input, out)?;
     Ok(())
 }
@@ -117,18 +119,19 @@ pub fn run_all<P: Source, S: Source, O: Sink, E: Sink>(
         HaveNoFault (map string_bytes words.now) }
 
     // Words that ask for nothing, also by their file of checks, leave the input and the output as
-    // they were.
+    // they were. So does every run that says that they do.
     ensures untouched { AsksForNothing (GivesJob (map string_bytes words.now)) (ChecksAreTold
         (input_told P.file_name P.file P.sound P.opened P.left P.found P.faults checks.old
         checks.new)) → (input.new ≡ input.old) × (out.new ≡ out.old) }
+
+    ensures nothing_first { ComesFirst result → (input.new ≡ input.old) × (out.new ≡ out.old) }
 
     // A run that shows the pattern's text, or makes its trace, reads no input.
     ensures source_untouched { (job : Job) → GivesJob (map string_bytes words.now) job →
         (ReadsInput job.mode → ⊥) → input.new ≡ input.old }
 
     // Only a watch reads a file of checks.
-    ensures checks_untouched {
-        ((job : Job) → GivesJob (map string_bytes words.now) job → ReadsChecks job.mode → ⊥) →
+    ensures checks_untouched { ((job : Job) → GivesJob (map string_bytes words.now) job → ReadsChecks job.mode → ⊥) →
         checks.new ≡ checks.old }
 
     // A made run writes the summary of its segments, or a first part of it, and reads nothing.

@@ -1,7 +1,10 @@
 use Rattle.tre_words.specs.Job.{GivesJob}
 use Rattle.tre_words.proofs.Jobs.{job_unique}
-use Rattle.tre_tool.proofs.Promise.{request_unique}
+use Rattle.tre_tool.specs.Checks.{ChecksAreTold}
+use Rattle.tre_tool.proofs.Once.{request_once}
+use Rattle.tre_tool.proofs.Promise.{told_once}
 use Rattle.tre_tool.proofs.laws.one_request.Goals as goal
 
 pub returns : goal.returns
-returns c = λ words. request_unique (GivesJob words) (job_unique words)
+returns c = λ words checks. request_once (GivesJob words) (job_unique words)
+    (ChecksAreTold checks) (ChecksAreTold checks) (told_once checks)

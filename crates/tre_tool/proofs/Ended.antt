@@ -1,0 +1,51 @@
+-- How a run ended: the words ask for nothing, the file of checks couldn't be read, memory was
+-- wanting, or what they ask for was answered.
+use Rattle.std.proofs.Common.{◌≡◌, Result, Ok, Err, refl, inl, inr}
+use Rattle.tre_answer.specs.Ends.{EndsOver}
+use Rattle.tre_answer.specs.declared.fault.AnswerFault.{AnswerFault}
+use Rattle.tre_answer.specs.declared.fault.AnswerFault.TheVariants.{Trace as AnswerTrace, TooLong as AnswerTooLong, TooManyZones as AnswerTooMany, Read as AnswerRead, Write as AnswerWrite, Memory as AnswerMemory}
+use Rattle.tre_feed.specs.Input.{InputTold}
+use Rattle.tre_tell.specs.Outputs.{OutputTold}
+use Rattle.tre_words.specs.declared.job.Job.{Job}
+use Rattle.tre_tool.specs.Checks.{ChecksWereRead}
+use Rattle.tre_tool.specs.Run.{EndsUsage, EndsRefused, EndsUnread, EndsMemory, AsksAs, EndsAs}
+use Rattle.tre_tool.specs.Status.{answer_status}
+use Rattle.tre_tool.specs.declared.status.Status.{Status}
+use Rattle.tre_tool.specs.declared.status.Status.TheVariants.{Done, Usage, Expression, Minus, Definitions, Watch, Trace, InputTooLong, TooManyZones, ReadFault, WriteFault, Memory}
+
+-- An answer, or what ended it.
+abbrev pub Answer : Type 0
+Answer = Result (Unit {0}) AnswerFault
+
+-- how a run ends that was answered so
+abbrev pub answered_status : Answer → Status
+answered_status (Ok value) = Done
+answered_status (Err fault) = answer_status fault
+
+module _ (Gives : Job → Type 0) (checks input : InputTold) (output : OutputTold) where
+  pub data Ended (status : Status) : Type 0 where
+    by_usage : status ≡ Usage → EndsUsage Gives input output → Ended status
+    by_refusal : EndsRefused Gives (ChecksWereRead checks) status input output → Ended status
+    by_unread : status ≡ ReadFault → EndsUnread Gives checks input output → Ended status
+    by_memory : status ≡ Memory → EndsMemory Gives checks input output → Ended status
+    by_answer : (answer : Answer) → status ≡ answered_status answer
+        → AsksAs Gives checks (λ request. EndsOver request input output answer) → Ended status
+
+  pub ended_of : (status : Status) → EndsAs Gives checks input output status → Ended status
+  ended_of Done ends = by_answer (Ok tt) refl ends
+  ended_of Usage ends = by_usage refl ends
+  ended_of (Expression fault) ends = by_refusal ends
+  ended_of (Minus fault) ends = by_refusal ends
+  ended_of (Definitions fault) ends = by_refusal ends
+  ended_of (Watch fault) ends = by_refusal ends
+  ended_of (Trace fault) ends = by_answer (Err (AnswerTrace fault)) refl (record {
+    request = ends.1.request;
+    asks = ends.1.asks;
+    is_so = (ends.0, ends.1.is_so);
+  })
+  ended_of InputTooLong ends = by_answer (Err AnswerTooLong) refl ends
+  ended_of (TooManyZones zones) ends = by_answer (Err (AnswerTooMany zones)) refl ends
+  ended_of ReadFault (inl ends) = by_unread refl ends
+  ended_of ReadFault (inr ends) = by_answer (Err AnswerRead) refl ends
+  ended_of WriteFault ends = by_answer (Err AnswerWrite) refl ends
+  ended_of Memory ends = by_memory refl ends

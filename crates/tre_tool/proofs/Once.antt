@@ -1,0 +1,170 @@
+-- What words and a file of checks ask for is one thing. `Says` and `Tells` are two ways to say what
+-- the file comes to, and `same` that they agree on it.
+use Rattle.std.proofs.Common.{◌≡◌, ℕ, List, refl, sym, ◌∙◌, subst, ⊎_elim, ap}
+use Rattle.tre_answer.specs.Request.{Request}
+use Rattle.tre_num.specs.Defined.{Defined}
+use Rattle.tre_tell.specs.Sought.{Sought}
+use Rattle.tre_watch.specs.Outcome.{Outcome, planned, faulty}
+use Rattle.tre_watch.specs.declared.fault.WatchFault.{WatchFault}
+use Rattle.tre_words.specs.declared.job.Job.{Job}
+use Rattle.tre_words.specs.declared.job.Mode.{Mode}
+use Rattle.tre_words.specs.declared.job.Mode.TheVariants.{Offline, Online, Show, Generate, Watch as WatchMode}
+use Rattle.tre_tool.specs.Checks.{SayPatterns, labelled}
+use Rattle.tre_tool.specs.Request.{texts_with, ArePatterns, AreDefinitions, IsRefusedFile, IsRefusalOfFile, IsRefusalIn, AsksFor, Asks, IsRefused, AsksForNothing}
+use Rattle.tre_tool.specs.declared.status.Status.{Status}
+use Rattle.tre_tool.specs.declared.status.Status.TheVariants.{Done, Usage, Expression, Minus, Definitions, Watch, Trace, InputTooLong, TooManyZones, ReadFault, WriteFault, Memory}
+use Rattle.tre_tool.proofs.Texts.{spell_once, definitions_once, texts_or_refused, text_refusal_once}
+
+-- ---- files of checks
+
+-- What a file of checks comes to.
+abbrev pub Meaning : Type 1
+Meaning = ℕ → Outcome → Type 0
+
+-- Two of them agree.
+abbrev pub Agree : Meaning → Meaning → Type 0
+Agree Says Tells =
+    (scale : ℕ) (one other : Outcome) → Says scale one → Tells scale other → one ≡ other
+
+-- a file is refused
+data RefusesFile (Says : Meaning) (scale : ℕ) (refusal : Status) : Type 0 where
+  of_file : (fault : WatchFault) → refusal ≡ Watch fault → IsRefusedFile Says scale fault
+      → RefusesFile Says scale refusal
+
+refuses_file_of : (Says : Meaning) (scale : ℕ) (refusal : Status)
+    → IsRefusalOfFile Says scale refusal → RefusesFile Says scale refusal
+refuses_file_of Says scale (Watch fault) is = of_file fault refl is
+refuses_file_of Says scale (Expression fault) is = absurd is
+refuses_file_of Says scale (Minus fault) is = absurd is
+refuses_file_of Says scale (Definitions fault) is = absurd is
+refuses_file_of Says scale Done is = absurd is
+refuses_file_of Says scale Usage is = absurd is
+refuses_file_of Says scale (Trace fault) is = absurd is
+refuses_file_of Says scale InputTooLong is = absurd is
+refuses_file_of Says scale (TooManyZones zones) is = absurd is
+refuses_file_of Says scale ReadFault is = absurd is
+refuses_file_of Says scale WriteFault is = absurd is
+refuses_file_of Says scale Memory is = absurd is
+
+module _ (Says Tells : Meaning) (same : Agree Says Tells) where
+  -- a file says one list of patterns
+  say_once : (scale : ℕ) (some others : List Sought) → SayPatterns Says scale some
+      → SayPatterns Tells scale others → some ≡ others
+  say_once scale some others so so' =
+      let one = same scale (planned so.names so.spelt) (planned so'.names so'.spelt) so.says
+      so'.says in
+      let names : so.names ≡ so'.names = cc in
+      let spelt : so.spelt ≡ so'.spelt = cc in
+      so.are ∙ (ap (λ n. labelled n so.spelt) names
+      ∙ (ap (λ s. labelled so'.names s) spelt ∙ sym so'.are))
+
+  -- or it is refused
+  say_or_refused : (scale : ℕ) (refusal : Status) (patterns : List Sought)
+      → SayPatterns Says scale patterns → RefusesFile Tells scale refusal → ⊥
+  say_or_refused scale refusal patterns so (of_file fault is told) =
+      let one = same scale (planned so.names so.spelt) (faulty fault) so.says told.refuses in
+      cc
+
+  -- in one way
+  file_refusal_once : (scale : ℕ) (one other : Status) → RefusesFile Says scale one
+      → RefusesFile Tells scale other → one ≡ other
+  file_refusal_once scale one other (of_file fault is told) (of_file fault' is' told') =
+      let both = same scale (faulty fault) (faulty fault') told.refuses told'.refuses in
+      let faults : fault ≡ fault' = cc in
+      is ∙ (ap Watch faults ∙ sym is')
+
+  -- ---- jobs
+
+  patterns_once : (mode : Mode) (job : Job) (some others : List Sought)
+      → ArePatterns mode Says job some → ArePatterns mode Tells job others → some ≡ others
+  patterns_once Offline job some others so so' =
+      spell_once job.scale (texts_with job.expr job.minus) some others so so'
+  patterns_once Online job some others so so' =
+      spell_once job.scale (texts_with job.expr job.minus) some others so so'
+  patterns_once Show job some others so so' =
+      spell_once job.scale (texts_with job.expr job.minus) some others so so'
+  patterns_once (Generate count) job some others so so' = so ∙ sym so'
+  patterns_once (WatchMode file) job some others so so' = say_once job.scale some others so so'
+
+  patterns_or_refused : (mode : Mode) (job : Job) (refusal : Status) (patterns : List Sought)
+      (lets : List Defined) → ArePatterns mode Says job patterns
+      → AreDefinitions job.mode job lets → IsRefusalIn mode Tells job refusal → ⊥
+  patterns_or_refused Offline job refusal patterns lets so defined is =
+      texts_or_refused job refusal patterns lets is so defined
+  patterns_or_refused Online job refusal patterns lets so defined is =
+      texts_or_refused job refusal patterns lets is so defined
+  patterns_or_refused Show job refusal patterns lets so defined is =
+      texts_or_refused job refusal patterns lets is so defined
+  patterns_or_refused (Generate count) job refusal patterns lets so defined is = absurd is
+  patterns_or_refused (WatchMode file) job refusal patterns lets so defined is =
+      say_or_refused job.scale refusal patterns so (refuses_file_of Tells job.scale refusal is)
+
+  refusal_once : (mode : Mode) (job : Job) (one other : Status) → IsRefusalIn mode Says job one
+      → IsRefusalIn mode Tells job other → one ≡ other
+  refusal_once Offline job one other is is' = text_refusal_once job one other is is'
+  refusal_once Online job one other is is' = text_refusal_once job one other is is'
+  refusal_once Show job one other is is' = text_refusal_once job one other is is'
+  refusal_once (Generate count) job one other is is' = absurd is
+  refusal_once (WatchMode file) job one other is is' =
+      file_refusal_once job.scale one other (refuses_file_of Says job.scale one is)
+      (refuses_file_of Tells job.scale other is')
+
+-- ---- words
+
+-- a request by its parts
+request_of : Job → List Sought → List Defined → Request
+request_of job patterns lets = record { job = job; patterns = patterns; lets = lets }
+
+-- They give one job.
+abbrev pub GiveOne : (Job → Type 0) → Type 0
+GiveOne Gives = (job other : Job) → Gives job → Gives other → job ≡ other
+
+module _ (Gives : Job → Type 0) (once : GiveOne Gives) (Says Tells : Meaning)
+    (same : Agree Says Tells) where
+  -- they ask for one thing
+  pub request_once : (one other : Request) → AsksFor Gives Says one → AsksFor Gives Tells other
+      → one ≡ other
+  unfolding request_of
+  request_once one other asks asks' =
+      let same_job = once one.job other.job asks.gives asks'.gives in
+      let patterns = subst (λ (j : Job). ArePatterns j.mode Says j one.patterns) same_job
+      asks.patterns in
+      let same_patterns = patterns_once Says Tells same other.job.mode other.job one.patterns
+      other.patterns patterns asks'.patterns in
+      let definitions = subst (λ (j : Job). AreDefinitions j.mode j one.lets) same_job
+      asks.definitions in
+      let same_lets = definitions_once other.job.mode other.job one.lets other.lets definitions
+      asks'.definitions in
+      ap (λ j. request_of j one.patterns one.lets) same_job
+      ∙ (ap (λ p. request_of other.job p one.lets) same_patterns
+      ∙ ap (λ l. request_of other.job other.patterns l) same_lets)
+
+  -- what is so of it
+  pub the_request : (request : Request) (IsSo : Request → Type 0) → AsksFor Gives Tells request
+      → Asks Gives Says IsSo → IsSo request
+  the_request request IsSo asks some = subst IsSo
+      (request_once some.request request some.asks asks) some.is_so
+
+  -- it isn't refused
+  pub asked_or_refused : (request : Request) (refusal : Status) → AsksFor Gives Says request
+      → IsRefused Gives Tells refusal → ⊥
+  asked_or_refused request refusal asks told =
+      let same_job = once told.job request.job told.gives asks.gives in
+      patterns_or_refused Says Tells same request.job.mode request.job refusal request.patterns
+      request.lets asks.patterns asks.definitions
+      (subst (λ (j : Job). IsRefusalIn j.mode Tells j refusal) same_job told.refuses)
+
+  -- they are refused in one way
+  pub refused_once : (refusal other : Status) → IsRefused Gives Says refusal
+      → IsRefused Gives Tells other → refusal ≡ other
+  refused_once refusal other told told' =
+      let same_job = once told.job told'.job told.gives told'.gives in
+      refusal_once Says Tells same told'.job.mode told'.job refusal other
+      (subst (λ (j : Job). IsRefusalIn j.mode Says j refusal) same_job told.refuses) told'.refuses
+
+  -- they don't ask for nothing
+  pub nothing_asked : (request : Request) → AsksFor Gives Says request
+      → AsksForNothing Gives Tells → ⊥
+  nothing_asked request asks nothing =
+      ⊎_elim (λ none. none request.job asks.gives)
+      (λ some. asked_or_refused request some.0 asks some.1) nothing

@@ -1,0 +1,210 @@
+-- The end of a run by the parts that it is made of.
+use Rattle.std.proofs.Common.{◌≡◌, ◌≢◌, List, ℕ, Option, IfSome, Result, Ok, Err, OnOk, OnErr, refl, sym, subst, inl, inr}
+use Rattle.std.specs.Io.KnownBytes.{Appends}
+use Rattle.tre_answer.specs.Ends.{ReadsInput, EndsOver, EndsDone}
+use Rattle.tre_answer.specs.Request.{Request, request_for, sought_in}
+use Rattle.tre_answer.specs.declared.asked.Asked.{Asked}
+use Rattle.tre_answer.specs.declared.fault.AnswerFault.{AnswerFault}
+use Rattle.tre_answer.specs.declared.fault.AnswerFault.TheVariants.{Trace as AnswerTrace, TooLong as AnswerTooLong, TooManyZones as AnswerTooMany, Read as AnswerRead, Write as AnswerWrite, Memory as AnswerMemory}
+use Rattle.tre_feed.specs.Input.{InputTold, AllReadsGood}
+use Rattle.tre_io.specs.Faults.{HasCause}
+use Rattle.tre_io.specs.Written.{AppendsPart}
+use Rattle.tre_io.specs.declared.faults.Failed.{Failed}
+use Rattle.tre_num.specs.Defined.{Defined}
+use Rattle.tre_tell.specs.Outputs.{OutputTold}
+use Rattle.tre_watch.specs.Outcome.{Outcome}
+use Rattle.tre_words.specs.Job.{GivesJob}
+use Rattle.tre_words.specs.declared.job.Job.{Job}
+use Rattle.tre_words.specs.declared.job.Mode.{Mode}
+use Rattle.tre_words.specs.declared.job.Mode.TheVariants.{Offline, Online, Show, Generate, Watch as WatchMode}
+use Rattle.tre_words.specs.declared.job.WordsFault.{WordsFault}
+use Rattle.tre_words.specs.declared.job.WordsFault.TheVariants.{Usage as WordsUsage, Memory as WordsMemory}
+use Rattle.tre_words.proofs.Jobs.{job_unique}
+use Rattle.tre_tool.specs.Checks.{ChecksWereRead}
+use Rattle.tre_tool.specs.Parts.{IsUnread}
+use Rattle.tre_tool.specs.Request.{ArePatterns, AreDefinitions, IsRefusalOf, IsRefusalOfFile, IsRefusalIn, AsksFor, IsRefused, GiveNone}
+use Rattle.tre_tool.specs.Run.{ReadsChecks, ComesFirst, NothingDone, EndsRefused, EndsAs, IsLineTold}
+use Rattle.tre_tool.specs.Status.{words_status, answer_status}
+use Rattle.tre_tool.specs.declared.status.Status.{Status}
+use Rattle.tre_tool.specs.declared.status.Status.TheVariants.{Done, Usage, Expression, Minus, Definitions, Watch, Trace, InputTooLong, TooManyZones, ReadFault, WriteFault, Memory}
+
+-- ---- words
+
+-- words that give no job, or that memory was wanting to read
+pub EndsAs-words : (Gives : Job → Type 0) (checks input : InputTold) (output : OutputTold)
+    (fault : WordsFault) → (fault ≡ WordsUsage → GiveNone Gives) → AllReadsGood checks
+    → NothingDone input output → EndsAs Gives checks input output (words_status fault)
+EndsAs-words Gives checks input output WordsUsage none good nothing =
+    record { no_job = none refl; nothing = nothing }
+EndsAs-words Gives checks input output WordsMemory none good nothing =
+    record { checks_read = good; reads = nothing.reads; stands = inl nothing }
+
+-- words give no job where memory was wanting, or else are told as such
+pub told_as_such : (fault : WordsFault) → words_status fault ≢ Usage
+    → words_status fault ≢ Memory → ⊥
+told_as_such WordsUsage usage memory = usage refl
+told_as_such WordsMemory usage memory = memory refl
+
+-- what they ask for, from what is found of a job
+pub AsksFor-of : (Gives : Job → Type 0) (Says : ℕ → Outcome → Type 0) (job : Job)
+    (lets : List Defined) (asked : Asked) → Gives job
+    → ArePatterns job.mode Says job (sought_in asked) → AreDefinitions job.mode job lets
+    → AsksFor Gives Says (request_for job lets asked)
+AsksFor-of Gives Says job lets asked gives patterns definitions = record {
+  gives = gives;
+  patterns = patterns;
+  definitions = definitions;
+}
+
+-- ---- before the input is looked at
+
+-- a status that is no refusal
+never_refused : (Says : ℕ → Outcome → Type 0) (mode : Mode) (job : Job) (status : Status)
+    → (IsRefusalOf job status → ⊥) → (IsRefusalOfFile Says job.scale status → ⊥)
+    → IsRefusalIn mode Says job status → ⊥
+never_refused Says Offline job status text file is = text is
+never_refused Says Online job status text file is = text is
+never_refused Says Show job status text file is = text is
+never_refused Says (Generate count) job status text file is = is
+never_refused Says (WatchMode name) job status text file is = file is
+
+-- The file of checks that the job names couldn't be read.
+abbrev pub IsUnreadIn : Job → InputTold → Type 0
+IsUnreadIn job checks = (file : List ℕ) × (job.mode ≡ WatchMode file) × IsUnread file checks
+
+module _ (Gives : Job → Type 0) (checks input : InputTold) (output : OutputTold) (job : Job)
+    (gives : Gives job) (nothing : NothingDone input output) where
+  refused_by : (refusal : Status) → IsRefusalIn job.mode (ChecksWereRead checks) job refusal
+      → EndsRefused Gives (ChecksWereRead checks) refusal input output
+  refused_by refusal is = record {
+    refused = record { job = job; gives = gives; refuses = is };
+    nothing = nothing;
+  }
+
+  -- what a job asks for wasn't found
+  pub EndsAs-stopped : (status : Status)
+      → (status ≢ Memory → status ≢ ReadFault
+      → IsRefusalIn job.mode (ChecksWereRead checks) job status)
+      → (status ≡ ReadFault → IsUnreadIn job checks)
+      → (status ≢ ReadFault → AllReadsGood checks)
+      → EndsAs Gives checks input output status
+  EndsAs-stopped Memory refuses unread good =
+      record { checks_read = good (λ e. cc); reads = nothing.reads; stands = inl nothing }
+  EndsAs-stopped ReadFault refuses unread good =
+      let is = unread refl in
+      inl (record {
+        job = job;
+        gives = gives;
+        file = is.0;
+        watches = is.1;
+        cause = is.2.cause;
+        unsound = is.2.unsound;
+        nothing = nothing;
+      })
+  EndsAs-stopped (Expression fault) refuses unread good =
+      refused_by (Expression fault) (refuses (λ e. cc) (λ e. cc))
+  EndsAs-stopped (Minus fault) refuses unread good =
+      refused_by (Minus fault) (refuses (λ e. cc) (λ e. cc))
+  EndsAs-stopped (Definitions fault) refuses unread good =
+      refused_by (Definitions fault) (refuses (λ e. cc) (λ e. cc))
+  EndsAs-stopped (Watch fault) refuses unread good =
+      refused_by (Watch fault) (refuses (λ e. cc) (λ e. cc))
+  EndsAs-stopped Done refuses unread good = absurd
+      (never_refused (ChecksWereRead checks) job.mode job Done (λ is. is) (λ is. is)
+      (refuses (λ e. cc) (λ e. cc)))
+  EndsAs-stopped Usage refuses unread good = absurd
+      (never_refused (ChecksWereRead checks) job.mode job Usage (λ is. is) (λ is. is)
+      (refuses (λ e. cc) (λ e. cc)))
+  EndsAs-stopped (Trace fault) refuses unread good = absurd
+      (never_refused (ChecksWereRead checks) job.mode job (Trace fault) (λ is. is) (λ is. is)
+      (refuses (λ e. cc) (λ e. cc)))
+  EndsAs-stopped InputTooLong refuses unread good = absurd
+      (never_refused (ChecksWereRead checks) job.mode job InputTooLong (λ is. is) (λ is. is)
+      (refuses (λ e. cc) (λ e. cc)))
+  EndsAs-stopped (TooManyZones zones) refuses unread good = absurd
+      (never_refused (ChecksWereRead checks) job.mode job (TooManyZones zones) (λ is. is)
+      (λ is. is) (refuses (λ e. cc) (λ e. cc)))
+  EndsAs-stopped WriteFault refuses unread good = absurd
+      (never_refused (ChecksWereRead checks) job.mode job WriteFault (λ is. is) (λ is. is)
+      (refuses (λ e. cc) (λ e. cc)))
+
+-- ---- the answer
+
+-- it ended so, before its end
+pub EndsAs-answered : (Gives : Job → Type 0) (checks input : InputTold)
+    (output : OutputTold) (request : Request) (fault : AnswerFault)
+    → AsksFor Gives (ChecksWereRead checks) request → AllReadsGood checks
+    → EndsOver {T = Unit {0}} request input output (Err fault)
+    → EndsAs Gives checks input output (answer_status fault)
+EndsAs-answered Gives checks input output request (AnswerTrace fault) asks good over = (
+  over.0,
+  record { request = request; asks = asks; is_so = over.1 },
+)
+EndsAs-answered Gives checks input output request AnswerTooLong asks good over =
+    record { request = request; asks = asks; is_so = over }
+EndsAs-answered Gives checks input output request (AnswerTooMany zones) asks good over =
+    record { request = request; asks = asks; is_so = over }
+EndsAs-answered Gives checks input output request AnswerRead asks good over =
+    inr (record { request = request; asks = asks; is_so = over })
+EndsAs-answered Gives checks input output request AnswerWrite asks good over =
+    record { request = request; asks = asks; is_so = over }
+EndsAs-answered Gives checks input output request AnswerMemory asks good over = record {
+  checks_read = good;
+  reads = over.0;
+  stands = inr (record { request = request; asks = asks; is_so = over.1 });
+}
+
+-- it was written
+pub EndsAs-done : (Gives : Job → Type 0) (checks input : InputTold) (output : OutputTold)
+    (request : Request) → AsksFor Gives (ChecksWereRead checks) request
+    → EndsDone request input output → EndsAs Gives checks input output Done
+EndsAs-done Gives checks input output request asks done =
+    record { request = request; asks = asks; is_so = done }
+
+-- its end comes behind a look at the input
+pub never_first : (fault : AnswerFault) → ComesFirst (answer_status fault) → ⊥
+never_first (AnswerTrace fault) first = first
+never_first AnswerTooLong first = first
+never_first (AnswerTooMany zones) first = first
+never_first AnswerRead first = first
+never_first AnswerWrite first = first
+never_first AnswerMemory first = first
+
+-- a call that tells a line, or fails
+pub IsLineTold-of : {T : Type 0} (output : OutputTold) (line : List ℕ) (result : Result T Failed)
+    → HasCause output.faults_before output.faults_now result
+    → OnOk result (Appends output.written_before output.written_now line)
+    → OnErr result (AppendsPart output.written_before output.written_now line)
+    → IsLineTold output line
+IsLineTold-of output line (Ok value) cause all part = inl (cause.ok, all)
+IsLineTold-of output line (Err fault) cause all part = inr (cause.failed, part)
+
+-- ---- the job that words give
+
+-- what is so of the one is so of the other
+pub of_job : (words : List (List ℕ)) (job other : Job) (IsSo : Job → Type 0) → GivesJob words job
+    → GivesJob words other → IsSo job → IsSo other
+of_job words job other IsSo gives gives' so =
+    subst IsSo (job_unique words job other gives gives') so
+
+-- what is so where its mode reads no input
+pub kept_as : (words : List (List ℕ)) (job other : Job) (Kept : Type 0) → GivesJob words job
+    → GivesJob words other → ((ReadsInput job.mode → ⊥) → Kept)
+    → (ReadsInput other.mode → ⊥) → Kept
+kept_as words job other Kept gives gives' kept = subst (λ (j : Job). (ReadsInput j.mode → ⊥)
+    → Kept) (job_unique words job other gives gives') kept
+
+-- what is so of its file of checks, if it has one
+pub of_file : (words : List (List ℕ)) (job other : Job) (file : List ℕ)
+    (IsSo : List ℕ → Type 0) → GivesJob words job → GivesJob words other
+    → other.mode ≡ WatchMode file
+    → ((name : List ℕ) → job.mode ≡ WatchMode name → IsSo name) → IsSo file
+of_file words job other file IsSo gives gives' watches so =
+    so file (subst (λ (j : Job). j.mode ≡ WatchMode file)
+    (sym (job_unique words job other gives gives')) watches)
+
+-- only a watch reads a file of checks
+pub kept_by : (words : List (List ℕ)) (job : Job) (Kept : Type 0) → GivesJob words job
+    → ((ReadsChecks job.mode → ⊥) → Kept)
+    → ((other : Job) → GivesJob words other → ReadsChecks other.mode → ⊥) → Kept
+kept_by words job Kept gives kept never = kept (never job gives)
