@@ -1,7 +1,7 @@
 //! The program `montre`: one run over the system's streams.
 //!
-//! `main` hands the words, two sources and the two outputs to `tre_tool::run_all`, and ends with the
-//! run's code. Nothing is decided here.
+//! `main` hands the words, two sources and the two outputs to `tre_tool::run_all`, and ends with
+//! the run's code. Nothing is decided here.
 #![tactic(auto)]
 
 use std::env;

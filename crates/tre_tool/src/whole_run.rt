@@ -33,7 +33,8 @@ fn run_words<P: Source, S: Source, O: Sink>(
     requires checks { P.opened checks.old ≡ false }
     requires input { S.opened input.old ≡ false }
     ensures ends { EndsAs (GivesJob (map string_bytes words.now))
-        (input_told P.file_name P.file P.sound P.opened P.left P.found P.faults checks.old checks.new)
+        (input_told P.file_name P.file P.sound P.opened P.left P.found P.faults checks.old
+        checks.new)
         (input_told S.file_name S.file S.sound S.opened S.left S.found S.faults input.old input.new)
         (output_told O.written O.faults out.old out.new)
         (status_of result) }
@@ -44,7 +45,8 @@ fn run_words<P: Source, S: Source, O: Sink>(
         (input.new ≡ input.old) × (out.new ≡ out.old) }
     ensures source_untouched { (job : Job) → GivesJob (map string_bytes words.now) job →
         (ReadsInput job.mode → ⊥) → input.new ≡ input.old }
-    ensures checks_untouched { ((job : Job) → GivesJob (map string_bytes words.now) job → ReadsChecks job.mode → ⊥) →
+    ensures checks_untouched { ((job : Job) → GivesJob (map string_bytes words.now) job →
+        ReadsChecks job.mode → ⊥) →
         checks.new ≡ checks.old }
     ensures by_name { (job : Job) → GivesJob (map string_bytes words.now) job →
         IsTrue (S.opened input.new) →
@@ -103,14 +105,16 @@ pub fn run_all<P: Source, S: Source, O: Sink, E: Sink>(
 
     // What the status means, what was written, and why the run ended so.
     ensures ends { EndsAs (GivesJob (map string_bytes words.now))
-        (input_told P.file_name P.file P.sound P.opened P.left P.found P.faults checks.old checks.new)
+        (input_told P.file_name P.file P.sound P.opened P.left P.found P.faults checks.old
+        checks.new)
         (input_told S.file_name S.file S.sound S.opened S.left S.found S.faults input.old input.new)
         (output_told O.written O.faults out.old out.new) result }
 
     // Where no fault was counted, what the words and the file of checks ask for and the input comes
     // to decides the status.
     ensures complete { IsComplete (GivesJob (map string_bytes words.now))
-        (input_told P.file_name P.file P.sound P.opened P.left P.found P.faults checks.old checks.new)
+        (input_told P.file_name P.file P.sound P.opened P.left P.found P.faults checks.old
+        checks.new)
         (input_told S.file_name S.file S.sound S.opened S.left S.found S.faults input.old input.new)
         (output_told O.written O.faults out.old out.new) result }
 
@@ -131,7 +135,8 @@ pub fn run_all<P: Source, S: Source, O: Sink, E: Sink>(
         (ReadsInput job.mode → ⊥) → input.new ≡ input.old }
 
     // Only a watch reads a file of checks.
-    ensures checks_untouched { ((job : Job) → GivesJob (map string_bytes words.now) job → ReadsChecks job.mode → ⊥) →
+    ensures checks_untouched { ((job : Job) → GivesJob (map string_bytes words.now) job →
+        ReadsChecks job.mode → ⊥) →
         checks.new ≡ checks.old }
 
     // A made run writes the summary of its segments, or a first part of it, and reads nothing.
