@@ -3,7 +3,7 @@
 
     python3 bench/statement.py [--words] [PAGE]
 
-It begins with the contract of `run` (tre_tool, src/whole_run.rt) and with what a source
+It begins with the contract of `run_all` (tre_tool, src/whole_run.rt) and with what a source
 and a sink are (tre_io), and follows each word to its definition, through the
 imports of the file that it stands in: to specs/ of the project's crates, and to
 the types that src/ declares. A line counts where it belongs to a definition that is reached,
@@ -17,7 +17,7 @@ import re
 import sys
 
 CRATES = os.path.join(os.path.dirname(os.path.abspath(__file__)), "..", "crates")
-FIRST = [("tre_tool/src/whole_run.rt", "fn run"), ("tre_io/src/source.rt", "trait Source"),
+FIRST = [("tre_tool/src/whole_run.rt", "fn run_all"), ("tre_io/src/source.rt", "trait Source"),
          ("tre_io/src/sink.rt", "trait Sink")]
 IMPORT = re.compile(r"^(?:ghost )?use Rattle\.(\w+)\.specs\.([\w.]+)\.\{(.*?)\}", re.MULTILINE)
 HEAD = re.compile(r"^(?:abbrev |unfoldable )?pub (?:record |data )?([^\s:(]+)")

@@ -1,11 +1,11 @@
 // Runs over devices whose counts of faults stand at their last value.
 ghost use Rattle.std.specs.Prelude.{◌-◌, ◌^◌};
 
-use crate::memory::{Device, FIRST_FAILS, SOUND, sink_of, source_of, words_of};
+use crate::memory::{Device, FIRST_FAILS, SOUND, no_checks, sink_of, source_of, words_of};
 use std::alloc::{AllocError, Global};
 use std::test::Fail;
 use tre_io::{Failed, MemSink, MemSource, Sink, Source};
-use tre_tool::{Status, run};
+use tre_tool::{Status, run_all};
 
 /// A source or a sink whose count of faults stands at its last value.
 #[derive(Drop)]
@@ -56,6 +56,7 @@ impl<K: Sink> Sink for AtLastCount<K> {
 /// Runs `p` over such devices.
 fn ended_at_last_count(alloc: Global, read: Device, write: Device) -> Result<Status, AllocError> {
     let words = words_of(alloc, &["p"])?;
+    let mut checks = no_checks(alloc)?;
     let mut input = AtLastCount {
         inner: source_of(alloc, "-", b"3 p\n", read)?,
     };
@@ -65,7 +66,7 @@ fn ended_at_last_count(alloc: Global, read: Device, write: Device) -> Result<Sta
     let mut err = AtLastCount {
         inner: sink_of(alloc, SOUND)?,
     };
-    Ok(run(alloc, &words, &mut input, &mut out, &mut err))
+    Ok(run_all(alloc, &words, &mut checks, &mut input, &mut out, &mut err))
 }
 
 #[test]

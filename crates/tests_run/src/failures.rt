@@ -2,13 +2,13 @@
 ghost use Rattle.std.specs.Prelude.{◌<◌};
 
 use crate::memory::{
-    Device, FIRST_FAILS, Ran, SOUND, ran_over, ran_with, sink_of, source_of, words_of,
+    Device, FIRST_FAILS, Ran, SOUND, no_checks, ran_over, ran_with, sink_of, source_of, words_of,
 };
 use std::alloc::{AllocError, Global};
 use std::io::Cursor;
 use std::test::Fail;
 use tre_io::StdSink;
-use tre_tool::{Status, run};
+use tre_tool::{Status, run_all};
 
 /// How many calls take `len` bytes, at most `most` of them a call.
 fn calls_for(len: u64, most: usize) -> u64
@@ -102,10 +102,11 @@ fn standard_error_fails(rt: HostRuntime) -> Result<(), Fail> {
 /// How a run ends of which both outputs take some bytes and then none.
 fn ended_full(alloc: Global) -> Result<Status, AllocError> {
     let words = words_of(alloc, &["p"])?;
+    let mut checks = no_checks(alloc)?;
     let mut input = source_of(alloc, "-", b"3 p\n", SOUND)?;
     let mut out = StdSink::over(Cursor::new([0u8; 8]));
     let mut err = StdSink::over(Cursor::new([0u8; 4]));
-    Ok(run(alloc, &words, &mut input, &mut out, &mut err))
+    Ok(run_all(alloc, &words, &mut checks, &mut input, &mut out, &mut err))
 }
 
 #[test]

@@ -26,7 +26,7 @@ fn says(word: &Option<Word>, text: &str) -> bool {
 }
 
 /// Words that give a job.
-const GIVEN: [&[&str]; 24] = [
+const GIVEN: [&[&str]; 27] = [
     &["--scale", "0", "p"],
     &["--scale", "9", "p"],
     &["--scale", "09", "p"],
@@ -51,6 +51,9 @@ const GIVEN: [&[&str]; 24] = [
     &["--generate", "1"],
     &["--generate", "010000"],
     &["--online", "--show", "p"],
+    &["--watch", "p"],
+    &["--watch", "--format", "vcd", "-", "--input", "x"],
+    &["--watch", "--", "--watch"],
 ];
 
 #[test]
@@ -65,7 +68,7 @@ fn words_that_give_a_job(rt: HostRuntime) -> Result<(), Fail> {
 }
 
 /// Values that are no scale or no limit, and options given twice or to no pattern.
-const WRONG_VALUES: [&[&str]; 20] = [
+const WRONG_VALUES: [&[&str]; 19] = [
     &["--scale", "10", "p"],
     &["--scale", "1.0", "p"],
     &["--scale", "", "p"],
@@ -85,12 +88,38 @@ const WRONG_VALUES: [&[&str]; 20] = [
     &["--minus", "p", "--minus", "p", "q"],
     &["--format", "CSV", "p"],
     &["--format", "csv", "--let", "p"],
-    &["--watch", "p"],
 ];
 
 #[test]
 fn words_with_wrong_values(rt: HostRuntime) -> Result<(), Fail> {
     for words in &WRONG_VALUES {
+        assert!(rt; are_refused(rt.alloc(), *words)?, "{words:?}");
+    }
+    Ok(())
+}
+
+/// Words that give no watch.
+const NO_WATCH: [&[&str]; 15] = [
+    &["--watch"],
+    &["--watch", "f", "p"],
+    &["--watch", "--watch", "f"],
+    &["f", "--watch"],
+    &["--scale", "1", "--watch", "f"],
+    &["--watch", "--online", "f"],
+    &["--watch", "--show", "f"],
+    &["--watch", "--generate", "5"],
+    &["--watch", "--normal", "f"],
+    &["--watch", "--max-zones", "3", "f"],
+    &["--watch", "--minus", "p", "f"],
+    &["--watch", "--format", "csv", "f"],
+    &["--watch", "--format", "csv", "--let", "", "f"],
+    &["--watch", "-"],
+    &["--watch", "--input", "-", "-"],
+];
+
+#[test]
+fn words_that_give_no_watch(rt: HostRuntime) -> Result<(), Fail> {
+    for words in &NO_WATCH {
         assert!(rt; are_refused(rt.alloc(), *words)?, "{words:?}");
     }
     Ok(())
@@ -129,7 +158,7 @@ fn words_that_stand_apart(rt: HostRuntime) -> Result<(), Fail> {
 #[test]
 fn a_pattern_alone(rt: HostRuntime) -> Result<(), Fail> {
     let job = job(rt.alloc(), &["p"])?;
-    assert!(rt; job.mode == Mode::Offline);
+    assert!(rt; matches!(job.mode, Mode::Offline));
     assert!(rt; job.format == Format::Text);
     assert!(rt; job.input.text() == "-");
     assert!(rt; job.max_bytes == 1_073_741_824);
@@ -155,7 +184,7 @@ fn strips_of_a_difference(rt: HostRuntime) -> Result<(), Fail> {
         "p",
     ];
     let job = job(rt.alloc(), words.as_slice())?;
-    assert!(rt; job.mode == Mode::Offline);
+    assert!(rt; matches!(job.mode, Mode::Offline));
     assert!(rt; job.scale == 9);
     assert!(rt; job.normal);
     assert!(rt; job.max_zones == Some(7));
@@ -175,7 +204,7 @@ fn columns_with_definitions(rt: HostRuntime) -> Result<(), Fail> {
         "hot",
     ];
     let job = job(rt.alloc(), words.as_slice())?;
-    assert!(rt; job.mode == Mode::Show);
+    assert!(rt; matches!(job.mode, Mode::Show));
     assert!(rt; job.format == Format::Csv);
     assert!(rt; says(&job.lets, "hot = temp >= 80"));
     assert!(rt; job.minus.is_none());
@@ -185,12 +214,29 @@ fn columns_with_definitions(rt: HostRuntime) -> Result<(), Fail> {
 #[test]
 fn a_made_run(rt: HostRuntime) -> Result<(), Fail> {
     let job = job(rt.alloc(), &["--generate", "10000"])?;
-    assert!(rt; job.mode == Mode::Generate { count: 10_000 });
+    assert!(rt; matches!(job.mode, Mode::Generate { count: 10_000 }));
     assert!(rt; job.scale == 0);
     assert!(rt; !job.normal);
     assert!(rt; job.max_zones.is_none());
     assert!(rt; job.minus.is_none());
     assert!(rt; job.lets.is_none());
+    assert!(rt; job.expr.text() == "");
+    Ok(())
+}
+
+#[test]
+fn a_watch(rt: HostRuntime) -> Result<(), Fail> {
+    let words: [&str; 6] = ["--watch", "--scale", "3", "bus.checks", "--input", "bus"];
+    let job = job(rt.alloc(), words.as_slice())?;
+    let file = match &job.mode {
+        Mode::Watch { file } => file.text(),
+        _ => "",
+    };
+    assert!(rt; file == "bus.checks");
+    assert!(rt; job.input.text() == "bus");
+    assert!(rt; job.format == Format::Text);
+    assert!(rt; job.scale == 3);
+    assert!(rt; !job.normal);
     assert!(rt; job.expr.text() == "");
     Ok(())
 }

@@ -30,4 +30,6 @@ mod options;
 #[cfg(test)]
 mod refusals;
 #[cfg(test)]
+mod watch;
+#[cfg(test)]
 mod words;

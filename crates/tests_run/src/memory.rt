@@ -3,7 +3,7 @@ ghost use Rattle.std.specs.Prelude.{◌≡◌, ◌<◌, IfOk, false};
 
 use std::alloc::{AllocError, Global};
 use tre_io::{MemSink, MemSource};
-use tre_tool::run;
+use tre_tool::run_all;
 
 /// How a run over memory ended, and what it wrote.
 #[derive(Drop)]
@@ -77,16 +77,26 @@ pub(crate) fn sink_of(alloc: Global, device: Device) -> Result<MemSink, AllocErr
     Ok(MemSink::new(alloc, device.most, failing(alloc, device)?))
 }
 
+/// A file of checks that no run without a watch looks at: a call of it would fail.
+pub(crate) fn no_checks(alloc: Global) -> Result<MemSource, AllocError>
+    ensures { IfOk result (λ source. source.opened ≡ false) }
+{
+    source_of(alloc, "none", b"", FIRST_FAILS)
+}
+
 fn ran_from(
     alloc: Global,
     words: &[String],
+    mut checks: MemSource,
     mut input: MemSource,
     mut out: MemSink,
     mut err: MemSink,
 ) -> Result<Ran, AllocError>
-    requires { input.opened ≡ false }
+    requires checks { checks.opened ≡ false }
+    requires input { input.opened ≡ false }
 {
-    let code = run(alloc, words, &mut input, &mut out, &mut err).code();
+    let status = run_all(alloc, words, &mut checks, &mut input, &mut out, &mut err);
+    let code = status.code();
     Ok(Ran {
         code,
         out: out.bytes().to_vec(alloc)?,
@@ -105,10 +115,29 @@ pub(crate) fn ran_over(
     let (name, bytes) = file;
     let [read, write, tell] = devices;
     let words = words_of(alloc, words)?;
+    let checks = no_checks(alloc)?;
     let input = source_of(alloc, name, bytes, read)?;
     let out = sink_of(alloc, write)?;
     let err = sink_of(alloc, tell)?;
-    ran_from(alloc, &words, input, out, err)
+    ran_from(alloc, &words, checks, input, out, err)
+}
+
+/// Watches the checks of a file over another file: these two, the output and standard error do what
+/// the devices say.
+pub(crate) fn watched_over(
+    alloc: Global,
+    words: &[&str],
+    checks: (&str, &[u8]),
+    input: (&str, &[u8]),
+    devices: [Device; 4],
+) -> Result<Ran, AllocError> {
+    let [ask, read, write, tell] = devices;
+    let words = words_of(alloc, words)?;
+    let checks = source_of(alloc, checks.0, checks.1, ask)?;
+    let input = source_of(alloc, input.0, input.1, read)?;
+    let out = sink_of(alloc, write)?;
+    let err = sink_of(alloc, tell)?;
+    ran_from(alloc, &words, checks, input, out, err)
 }
 
 /// Runs over standard input with this text.

@@ -9,7 +9,7 @@ ghost use Rattle.tre_star.specs.Limits.{AreLimits, ChainsWithin};
 
 use crate::limits::Limits;
 use crate::parts::{last_begins, part_end};
-use crate::power_limit::{has_own_limit, steps_of};
+use crate::power_limit::steps_of;
 use std::alloc::{AllocError, Global};
 use tre_compose::compose;
 use tre_index::{ZoneIndex, key_before};
@@ -42,32 +42,9 @@ pub fn closure_up_to(
     ensures { IfOk result (λ set. HoldExactly set (Lasting (LastsUpTo longest)
         (Chain (SetHolds steps.now) (IsInstantBetween from to)))) }
 {
-    let zones = steps.zones();
-    // Mostly there is no power limit that is one more step: then the steps are not copied.
-    if !zones.iter().any(|zone| has_own_limit(zone)) {
-        return closure_of(alloc, zones, from, to, longest);
-    }
-    let steps = steps_of(alloc, zones)?;
-    closure_of(alloc, &steps, from, to, longest)
-}
-
-// The same of these steps, as they are.
-fn closure_of(
-    alloc: Global,
-    steps: &[Zone],
-    from: u64,
-    to: u64,
-    longest: Option<u64>,
-) -> Result<ZoneSet, AllocError>
-    requires steps { AreCanonical steps.now }
-    requires rising { from ≤ to }
-    requires limit { to ≤ TIME_MAX }
-    requires longest { IsLongest longest }
-    ensures { IfOk result (λ set. HoldExactly set (Lasting (LastsUpTo longest)
-        (Chain (SetHolds steps.now) (IsInstantBetween from to)))) }
-{
+    let steps = steps_of(alloc, steps.zones())?;
     let limits = Limits { from, to, longest };
-    let mut chains = chains_in_parts(alloc, steps, &limits)?;
+    let mut chains = chains_in_parts(alloc, &steps, &limits)?;
     chains.add(Zone::instants(from, to))?;
     Ok(chains)
 }

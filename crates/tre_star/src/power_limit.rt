@@ -131,26 +131,12 @@ fn add_step(steps: &mut Vec<Zone>, zone: &Zone) -> Result<(), AllocError>
     // For the proof: the call says that the zone is canonical.
     let _bounds = zone.bounds();
     steps.push(*zone)?;
-    if let Some(limit) = own_limit(zone) {
-        // For the proof, as above.
-        let _bounds = limit.bounds();
-        steps.push(limit)?;
+    if let Some(limit) = power_limit(zone) {
+        if !zone.includes(&limit) {
+            // For the proof, as above.
+            let _bounds = limit.bounds();
+            steps.push(limit)?;
+        }
     }
     Ok(())
-}
-
-/// Whether the zone has a power limit that it does not include.
-pub(crate) fn has_own_limit(zone: &Zone) -> bool {
-    own_limit(zone).is_some()
-}
-
-// The power limit of the zone, where the zone does not include it.
-fn own_limit(zone: &Zone) -> Option<Zone>
-    ensures { IfSome result (λ limit. AreChainsOf limit zone.now) }
-{
-    let limit = power_limit(zone)?;
-    if zone.includes(&limit) {
-        return None;
-    }
-    Some(limit)
 }

@@ -14,7 +14,7 @@ ghost use Rattle.tre_words.specs.Job.{GivesJob, HaveNoFault};
 ghost use Rattle.tre_words.specs.declared.job.Job.{Job};
 ghost use Rattle.tre_words.specs.declared.job.Mode.TheVariants.{Watch};
 
-use crate::asked::asked_by;
+use crate::asked::{Question, asked_by};
 use crate::report::tell_status;
 use crate::status::Status;
 use std::alloc::Global;
@@ -61,8 +61,8 @@ fn run_words<P: Source, S: Source, O: Sink>(
         HaveNoFault (map string_bytes words.now) }
 {
     let job = read_words(alloc, words)?;
-    let question = asked_by(alloc, &job, checks)?;
-    answer(alloc, &question.asked, question.definitions, &job, input, out)?;
+    let Question { asked, definitions } = asked_by(alloc, &job, checks)?;
+    answer(alloc, &asked, definitions, &job, input, out)?;
     Ok(())
 }
 
