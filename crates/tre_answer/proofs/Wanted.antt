@@ -1,7 +1,9 @@
 -- What is wanted of patterns over their traces, and the zones that hold it.
-use Rattle.std.proofs.Common.{◌≡◌, ◌↔◌, ◌⊎◌, ⊎_elim, inl, inr, ℕ, ◌<◌, ◌≤◌, ◌+◌, Bool, true, false, List, [], ◌∷◌, length, drop, get_or, sym, arith}
-use Rattle.std.proofs.lemmas.List.{drop_more}
+use Rattle.std.proofs.Common.{◌≡◌, ◌↔◌, ◌⊎◌, ⊎_elim, inl, inr, ℕ, ◌<◌, ◌≤◌, ◌+◌, Bool, true, false, List, [], ◌∷◌, length, take, drop, get_or, sym, ap, subst, arith}
+use Rattle.std.proofs.lemmas.List.{drop_more, length-drop}
 use Rattle.std.proofs.Math.ListN.{drop_of_length-le}
+use Rattle.std.proofs.Math.Seq.{take-length}
+use Rattle.std.specs.List.{remove, slice_range}
 use Rattle.tre_offline.specs.MatchSet.{IsMatchSet}
 use Rattle.tre_pairs.specs.Except.{Except}
 use Rattle.tre_pairs.specs.Pairs.{Pairs}
@@ -61,48 +63,32 @@ abbrev IsStill : List (List ℕ) → List Pattern → List Timeline → ℕ → 
 IsStill labels patterns traces place = MatchesSome
     (sought_by (drop place labels) (drop place patterns)) (drop place traces)
 
--- The zones hold what is wanted of the patterns, and what the matches from this place on still take
--- away.
-pub record AreLeft (patterns : List Pattern) (traces : List Timeline) (place : ℕ)
-    (zones : List ZoneBounds) : Type 0 where
+-- The zones hold what is left of the set without the matches of the patterns, and what the matches
+-- from this place on still take away.
+pub record AreLeft (set : List ZoneBounds) (patterns : List Pattern) (traces : List Timeline)
+    (place : ℕ) (zones : List ZoneBounds) : Type 0 where
   pub exact : (labels : List (List ℕ)) → length labels ≡ length patterns → (a b n : ℕ) → 0 < n
-      → a ≤ b → IsWanted (sought_by labels patterns) traces a b n
+      → a ≤ b → Except (SetHolds set) (MatchesSome (sought_by labels patterns) traces) a b n
       ↔ (SetHolds zones a b n × ¬ IsStill labels patterns traces place a b n)
 
--- the matches of the first
-pub AreLeft-first : (patterns : List Pattern) (traces : List Timeline) (pattern : Pattern)
-    (trace : Timeline) (set : List ZoneBounds) → 0 < length patterns
-    → length traces ≡ length patterns → pattern ≡ get_or patterns 0 pattern
-    → trace ≡ get_or traces 0 trace → IsMatchSet set (pattern_tree pattern) trace
-    → AreLeft patterns traces 1 set
-AreLeft-first [] traces pattern trace set some count is is' matches =
-    absurd (omega (arith, some))
-AreLeft-first (first ∷ patterns) [] pattern trace set some count is is' matches =
-    absurd (omega (arith, count))
-AreLeft-first (first ∷ patterns) (own ∷ traces) pattern trace set some count is is' matches =
-    record { exact = begun }
-  where
-    begun : (labels : List (List ℕ)) → length labels ≡ length (first ∷ patterns)
-        → (a b n : ℕ) → 0 < n → a ≤ b
-        → IsWanted (sought_by labels (first ∷ patterns)) (own ∷ traces) a b n
-        ↔ (SetHolds set a b n × ¬ IsStill labels (first ∷ patterns) (own ∷ traces) 1 a b n)
-    begun [] labelled a b n positive rises = absurd (omega (arith, labelled))
-    begun (label ∷ labels) labelled a b n positive rises =
-        let same : pattern ≡ first = is in
-        let same' : trace ≡ own = is' in
-        let found = rw (same, same') at matches.exact.exact a b n positive rises in
-        ((λ h. (found.1 h.0, h.1)), (λ h. (found.0 h.0, h.1)))
+-- before the first nothing is taken away
+pub AreLeft-first : (set : List ZoneBounds) (patterns : List Pattern) (traces : List Timeline)
+    → AreLeft set patterns traces 0 set
+AreLeft-first set patterns traces = record {
+  exact = λ labels labelled a b n positive rises.
+      ((λ h. (h.related, h.never)), (λ h. record { related = h.0; never = h.1 }));
+}
 
 -- and less the matches of the next
-pub AreLeft-next : (patterns : List Pattern) (traces : List Timeline) (place : ℕ)
-    (pattern : Pattern) (trace : Timeline) (set others left : List ZoneBounds)
-    → AreLeft patterns traces place set → place < length patterns
+pub AreLeft-next : (start : List ZoneBounds) (patterns : List Pattern) (traces : List Timeline)
+    (place : ℕ) (pattern : Pattern) (trace : Timeline) (set others left : List ZoneBounds)
+    → AreLeft start patterns traces place set → place < length patterns
     → length traces ≡ length patterns → pattern ≡ get_or patterns place pattern
     → trace ≡ get_or traces place trace → IsMatchSet others (pattern_tree pattern) trace
     → HoldExactly left (Except (SetHolds set) (SetHolds others))
-    → AreLeft patterns traces (place + 1) left
-AreLeft-next patterns traces place pattern trace set others left before inside count is is' matches
-    differs = record {
+    → AreLeft start patterns traces (place + 1) left
+AreLeft-next start patterns traces place pattern trace set others left before inside count is is'
+    matches differs = record {
       exact = λ labels labelled a b n positive rises.
           let own = before.exact labels labelled a b n positive rises in
           let taken = matches.exact.exact a b n positive rises in
@@ -135,11 +121,11 @@ AreLeft-next patterns traces place pattern trace set others left before inside c
     ) ((λ h. h), (λ h. h))
 
 -- at the end nothing is still to be taken away
-pub AreLeft-all : (patterns : List Pattern) (traces : List Timeline) (place : ℕ)
-    (zones : List ZoneBounds) → AreLeft patterns traces place zones → length patterns ≤ place
-    → (labels : List (List ℕ)) → length labels ≡ length patterns
-    → HoldExactly zones (IsWanted (sought_by labels patterns) traces)
-AreLeft-all patterns traces place zones left past labels labelled = record {
+pub AreLeft-all : (set : List ZoneBounds) (patterns : List Pattern) (traces : List Timeline)
+    (place : ℕ) (zones : List ZoneBounds) → AreLeft set patterns traces place zones
+    → length patterns ≤ place → (labels : List (List ℕ)) → length labels ≡ length patterns
+    → HoldExactly zones (Except (SetHolds set) (MatchesSome (sought_by labels patterns) traces))
+AreLeft-all set patterns traces place zones left past labels labelled = record {
   exact = λ a b n positive rises.
       let own = left.exact labels labelled a b n positive rises in (
         (λ h. own.1 (h, λ more. none a b n more)),
@@ -152,3 +138,40 @@ AreLeft-all patterns traces place zones left past labels labelled = record {
 
     none : (a b n : ℕ) → IsStill labels patterns traces place a b n → ⊥
     none a b n = rw (drop_of_length-le labels short) (λ h. h)
+
+-- what is behind the first
+pub behind_first : (patterns : List Pattern)
+    → slice_range patterns 1 (length patterns) ≡ drop 1 patterns
+behind_first patterns = subst (λ count. take count (drop 1 patterns) ≡ drop 1 patterns)
+    (length-drop 1 patterns) (take-length (drop 1 patterns))
+
+-- what is left of the matches of the first without those of the others is what is wanted
+pub wanted-left : (patterns others : List Pattern) (traces later : List Timeline)
+    (pattern : Pattern) (trace : Timeline) (set left : List ZoneBounds) → 0 < length patterns
+    → length traces ≡ length patterns → pattern ≡ get_or patterns 0 pattern
+    → others ≡ drop 1 patterns → trace ≡ get_or traces 0 trace → later ≡ remove traces 0
+    → IsMatchSet set (pattern_tree pattern) trace
+    → ((labels : List (List ℕ)) → length labels ≡ length others
+    → HoldExactly left (Except (SetHolds set) (MatchesSome (sought_by labels others) later)))
+    → (labels : List (List ℕ)) → length labels ≡ length patterns
+    → HoldExactly left (IsWanted (sought_by labels patterns) traces)
+wanted-left [] others traces later pattern trace set left some count is behind is' behind' matches
+    less labels labelled = absurd (omega (arith, some))
+wanted-left (first ∷ patterns) others [] later pattern trace set left some count is behind is'
+    behind' matches less labels labelled = absurd (omega (arith, count))
+wanted-left (first ∷ patterns) others (own ∷ traces) later pattern trace set left some count is
+    behind is' behind' matches less [] labelled = absurd (omega (arith, labelled))
+wanted-left (first ∷ patterns) others (own ∷ traces) later pattern trace set left some count is
+    behind is' behind' matches less (label ∷ labels) labelled = record {
+      exact = λ a b n positive rises.
+          let same : pattern ≡ first = is in
+          let same' : trace ≡ own = is' in
+          let rest : others ≡ patterns = behind in
+          let rest' : later ≡ traces = behind' in
+          let found = rw (same, same') at matches.exact.exact a b n positive rises in
+          let taken = rw (rest, rest') at
+          (less labels (omega (arith, labelled, ap length rest))).exact a b n positive rises in (
+            (λ h. let was = taken.0 h in (found.0 was.related, was.never)),
+            (λ h. taken.1 (record { related = found.1 h.0; never = h.1 })),
+          );
+    }

@@ -3,11 +3,12 @@ ghost use Rattle.std.specs.Prelude.{◌≡◌, ◌≤◌, ◌<◌, ◌+◌, ℕ,
 ghost use Rattle.tre_answer.specs.Parts.{IsFoundFor, IsFound, AreOver, StopsAs};
 ghost use Rattle.tre_answer.specs.Readings.{readings_of};
 ghost use Rattle.tre_answer.specs.Request.{FitsJob, request_for};
-ghost use Rattle.tre_answer.specs.Wanted.{AreZonesOf, IsWanted};
+ghost use Rattle.tre_answer.specs.Wanted.{AreZonesOf, IsWanted, MatchesSome};
 ghost use Rattle.tre_feed.specs.Input.{TakesAtMost, input_told};
 ghost use Rattle.tre_feed.specs.Readers.{AreFresh, how_many, readings_in};
 ghost use Rattle.tre_feed.specs.Readings.{AgreeAlways};
 ghost use Rattle.tre_num.specs.Defined.{Defined};
+ghost use Rattle.tre_pairs.specs.Except.{Except};
 ghost use Rattle.tre_tell.specs.Sought.{sought_by};
 ghost use Rattle.tre_tell.specs.Watched.{SayNothing};
 ghost use Rattle.tre_trace.specs.Trace.{IsTrace};
@@ -21,7 +22,7 @@ use std::alloc::{AllocError, Global};
 use tre_feed::{Readers, read_traces};
 use tre_io::Source;
 use tre_minus::minus;
-use tre_offline::matches;
+use tre_offline::{into_matches, matches};
 use tre_show::{in_printed_order, offline_text};
 use tre_strips::strips;
 use tre_syntax::Pattern;
@@ -37,25 +38,46 @@ struct Found {
     end: u64,
 }
 
-// The matches of the first pattern that are matches of none of the others, each over its trace.
+// The matches of the first pattern that are matches of none of the others, each over its trace. The
+// first trace goes as soon as its matches need it no more.
 fn wanted_matches(
     alloc: Global,
     patterns: &[Pattern],
-    traces: &[Trace],
+    traces: Vec<Trace>,
 ) -> Result<ZoneSet, AllocError>
     requires some { 0 < length patterns.now }
-    requires count { length traces.now ≡ length patterns.now }
-    requires are_traces { All (λ trace. IsTrace trace.segments) traces.now }
+    requires count { length traces.items ≡ length patterns.now }
+    requires are_traces { All (λ trace. IsTrace trace.segments) traces.items }
     ensures { IfOk result (λ set. (labels : List (List ℕ)) →
         length labels ≡ length patterns.now →
-        HoldExactly set (IsWanted (sought_by labels patterns.now) traces.now)) }
+        HoldExactly set (IsWanted (sought_by labels patterns.now) traces.items)) }
 {
-    let mut set = matches(alloc, &patterns[0], &traces[0])?;
-    for place in 1..patterns.len() {
+    let mut traces = traces;
+    let first = traces.remove(0);
+    let set = into_matches(alloc, &patterns[0], first)?;
+    let left = without_others(alloc, set, &patterns[1..], &traces)?;
+    Ok(left)
+}
+
+// What is left of a set without the matches of these patterns, each over its trace.
+fn without_others(
+    alloc: Global,
+    set: ZoneSet,
+    patterns: &[Pattern],
+    traces: &[Trace],
+) -> Result<ZoneSet, AllocError>
+    requires count { length traces.now ≡ length patterns.now }
+    ensures { IfOk result (λ left. (labels : List (List ℕ)) →
+        length labels ≡ length patterns.now →
+        HoldExactly left
+        (Except (SetHolds set) (MatchesSome (sought_by labels patterns.now) traces.now))) }
+{
+    let mut left = set;
+    for place in 0..patterns.len() {
         let others = matches(alloc, &patterns[place], &traces[place])?;
-        set = minus(alloc, &set, &others)?;
+        left = minus(alloc, &left, &others)?;
     }
-    Ok(set)
+    Ok(left)
 }
 
 // The matches that are wanted over the job's input.
@@ -94,7 +116,7 @@ fn find<S: Source, R: TraceReader + Drop>(
     let limit = job.max_bytes as usize;
     let traces = read_traces(alloc, job.input.text(), limit, readers, input)?;
     let end = traces[0].end();
-    let set = wanted_matches(alloc, &asked.patterns, &traces)?;
+    let set = wanted_matches(alloc, &asked.patterns, traces)?;
     Ok(Found { set, end })
 }
 

@@ -5,6 +5,7 @@ ghost use Rattle.tre_syntax.specs.Expr.{tree_of};
 ghost use Rattle.tre_syntax.specs.Meaning.{MatchesRest};
 ghost use Rattle.tre_syntax.specs.Pattern.{pattern_tree};
 ghost use Rattle.tre_syntax.specs.PatternTree.{NumbersBelow};
+ghost use Rattle.tre_syntax.specs.Rest.{whole};
 ghost use Rattle.tre_zone.specs.Longest.{LastsUpTo, IsLongest};
 ghost use Rattle.tre_zone.specs.ZoneList.{HoldExactly};
 ghost use Rattle.tre_edges.specs.Piece.{rest_of_piece};
@@ -26,6 +27,19 @@ pub fn matches(alloc: Global, pattern: &Pattern, trace: &Trace) -> Result<ZoneSe
     ensures { IfOk result (λ zones. IsMatchSet zones (pattern_tree pattern.now) trace.now) }
 {
     let zones = matches_of(alloc, pattern.expr(), trace, None)?;
+    // For the proof: the call says that no zone includes another, and that their bounds are tight.
+    let _zones = zones.zones();
+    Ok(zones)
+}
+
+/// The same of a trace that is not needed any more: it goes as soon as the last atom was found in
+/// it, so it doesn't stand beside what the operators make then.
+///
+/// It goes as deep as the expression does.
+pub fn into_matches(alloc: Global, pattern: &Pattern, trace: Trace) -> Result<ZoneSet, AllocError>
+    ensures { IfOk result (λ zones. IsMatchSet zones (pattern_tree pattern.now) trace) }
+{
+    let zones = last_matches_of(alloc, pattern.expr(), trace, None)?;
     // For the proof: the call says that no zone includes another, and that their bounds are tight.
     let _zones = zones.zones();
     Ok(zones)
@@ -102,5 +116,49 @@ fn matches_of<A: Atoms>(
             let all = matches_of(alloc, all, atoms, inner)?;
             restricted(all, interval)
         }
+    }
+}
+
+// The same over a whole trace that is not needed any more. Of an operator's two parts the second is
+// the last that looks at it.
+fn last_matches_of(
+    alloc: Global,
+    expr: &Expr,
+    trace: Trace,
+    longest: Option<u64>,
+) -> Result<ZoneSet, AllocError>
+    requires names { NumbersBelow NAMES_MAX (tree_of expr.now) }
+    requires longest { IsLongest longest }
+    ensures { IfOk result (λ zones. HoldExactly zones
+        (Lasting (LastsUpTo longest) (MatchesRest (tree_of expr.now) (whole trace)))) }
+{
+    match expr {
+        Expr::Seq(left, right) => {
+            let first = matches_of(alloc, left, &trace, longest)?;
+            let second = last_matches_of(alloc, right, trace, longest)?;
+            followed(alloc, &first, &second, longest)
+        }
+        Expr::Alt(left, right) => {
+            let one = matches_of(alloc, left, &trace, longest)?;
+            let other = last_matches_of(alloc, right, trace, longest)?;
+            joined(one, &other)
+        }
+        Expr::Meet(left, right) => {
+            let one = matches_of(alloc, left, &trace, longest)?;
+            let other = last_matches_of(alloc, right, trace, longest)?;
+            met(&one, &other)
+        }
+        Expr::Star(step) => {
+            let begin = Atoms::begin(&trace);
+            let end = Atoms::end(&trace);
+            let step = last_matches_of(alloc, step, trace, longest)?;
+            repeated(alloc, &step, begin, end, longest)
+        }
+        Expr::Within(all, interval) => {
+            let inner = interval.up_to(longest);
+            let all = last_matches_of(alloc, all, trace, inner)?;
+            restricted(all, interval)
+        }
+        _ => matches_of(alloc, expr, &trace, longest),
     }
 }

@@ -29,7 +29,7 @@ pub wanted_matches-requires-clause-count : goal.wanted_matches-requires-clause-c
 wanted_matches-requires-clause-count g c =
     let count = a_trace_each g.R.TraceReader.terms g.R.TraceReader.reading c.args.readers _ _ _
     c.in_ok-traces.ensures.read in
-    rw (c.deref.ensures.value, c.deref-2.ensures.value) (count ∙ c.requires.count)
+    rw c.deref.ensures.value (count ∙ c.requires.count)
 
 pub returns-clause-found : goal.returns-clause-found
 returns-clause-found g c =
@@ -39,7 +39,7 @@ returns-clause-found g c =
     omega (arith, count, c.requires.count, c.requires.fits.some) in
     λ lets same. IsFound-whole _ _ _ c.in_ok-traces.traces.items c.index.result.now _ _ same
     c.in_ok-traces.ensures.read some
-    (rw (c.deref.ensures.value, c.deref-2.ensures.value) at
+    (rw c.deref.ensures.value at
     c.in_ok-set.ensures (map string_bytes c.args.asked.now.labels.items)
     (length-map c.args.asked.now.labels.items string_bytes ∙ c.requires.fits.labels))
     (c.end-end.ensures.end ∙ ap (λ (trace : Timeline). end_of 0 trace.segments)

@@ -1,19 +1,10 @@
-use Rattle.std.proofs.Common.{arith}
-use Rattle.tre_answer.proofs.Wanted.{AreLeft-first, AreLeft-next, AreLeft-all}
+use Rattle.std.proofs.Common.{◌∙◌}
+use Rattle.tre_answer.proofs.Wanted.{behind_first, wanted-left}
 use Rattle.tre_answer.proofs.offline.wanted_matches.Goals as goal
 
-pub loop-place-init : goal.loop-place-init
-loop-place-init c =
-    AreLeft-first c.args.patterns.now c.args.traces.now _ _ _ c.requires.some c.requires.count
-    c.index-patterns-0.is c.index-traces-0.is c.in_ok-set.ensures
-
-pub loop-place-preserved : goal.loop-place-preserved
-loop-place-preserved c =
-    AreLeft-next c.args.patterns.now c.args.traces.now c.loop-place.place _ _ _ _ _
-    c.loop-place.invariant c.loop-place-test.true c.requires.count c.index-patterns-place.is
-    c.index-traces-place.is c.in_ok-others.ensures c.in_ok-set-2.ensures
-
 pub returns : goal.returns
-returns c = λ labels labelled.
-    AreLeft-all c.args.patterns.now c.args.traces.now c.loop-place.place _ c.loop-place.invariant
-    (omega (arith, c.loop-place-test.false)) labels labelled
+returns c =
+    wanted-left c.args.patterns.now _ c.args.traces.items _ _ _ _ _ c.requires.some
+    c.requires.count c.index-patterns-0.is (behind_first c.args.patterns.now)
+    c.remove-first.ensures.value (c.deref.ensures.value ∙ c.remove-first.ensures.items)
+    c.in_ok-set.ensures c.in_ok-left.ensures
