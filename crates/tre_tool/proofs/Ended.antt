@@ -3,7 +3,7 @@
 use Rattle.std.proofs.Common.{◌≡◌, Result, Ok, Err, refl, inl, inr}
 use Rattle.tre_answer.specs.Ends.{EndsOver}
 use Rattle.tre_answer.specs.declared.fault.AnswerFault.{AnswerFault}
-use Rattle.tre_answer.specs.declared.fault.AnswerFault.TheVariants.{Trace as AnswerTrace, TooLong as AnswerTooLong, TooManyZones as AnswerTooMany, Read as AnswerRead, Write as AnswerWrite, Memory as AnswerMemory}
+use Rattle.tre_answer.specs.declared.fault.AnswerFault.TheVariants.{Trace as AnswerTrace, TooLong as AnswerTooLong, TooManyZones as AnswerTooMany, Read as AnswerRead, Write as AnswerWrite}
 use Rattle.tre_feed.specs.Input.{InputTold}
 use Rattle.tre_tell.specs.Outputs.{OutputTold}
 use Rattle.tre_words.specs.declared.job.Job.{Job}

@@ -1,5 +1,5 @@
 -- The end of a run by the parts that it is made of.
-use Rattle.std.proofs.Common.{◌≡◌, ◌≢◌, List, ℕ, Option, IfSome, Result, Ok, Err, OnOk, OnErr, refl, sym, subst, inl, inr}
+use Rattle.std.proofs.Common.{◌≡◌, ◌≢◌, List, ℕ, Result, Ok, Err, OnOk, OnErr, refl, sym, subst, inl, inr}
 use Rattle.std.specs.Io.KnownBytes.{Appends}
 use Rattle.tre_answer.specs.Ends.{ReadsInput, EndsOver, EndsDone}
 use Rattle.tre_answer.specs.Request.{Request, request_for, sought_in}
@@ -22,7 +22,7 @@ use Rattle.tre_words.specs.declared.job.WordsFault.TheVariants.{Usage as WordsUs
 use Rattle.tre_words.proofs.Jobs.{job_unique}
 use Rattle.tre_tool.specs.Checks.{ChecksWereRead}
 use Rattle.tre_tool.specs.Parts.{IsUnread}
-use Rattle.tre_tool.specs.Request.{ArePatterns, AreDefinitions, IsRefusalOf, IsRefusalOfFile, IsRefusalIn, AsksFor, IsRefused, GiveNone}
+use Rattle.tre_tool.specs.Request.{ArePatterns, AreDefinitions, IsRefusalOf, IsRefusalOfFile, IsRefusalIn, AsksFor, GiveNone}
 use Rattle.tre_tool.specs.Run.{ReadsChecks, ComesFirst, NothingDone, EndsRefused, EndsAs, IsLineTold}
 use Rattle.tre_tool.specs.Status.{words_status, answer_status}
 use Rattle.tre_tool.specs.declared.status.Status.{Status}

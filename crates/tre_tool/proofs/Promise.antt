@@ -1,40 +1,29 @@
 -- What the end of a run says of each part of its promise.
-use Rattle.std.proofs.Common.{◌≡◌, ◌≢◌, ◌≤◌, ℕ, Bool, true, List, [], ◌∷◌, Option, None, Some, IfSome, Result, Ok, Err, OnOk, OnErr, length, refl, sym, ◌∙◌, subst, inl, inr, ap, arith}
-use Rattle.std.specs.Io.KnownBytes.{Appends}
+use Rattle.std.proofs.Common.{◌≡◌, ◌≤◌, ℕ, Bool, true, List, [], ◌∷◌, Option, None, Some, IfSome, Ok, Err, length, refl, sym, subst, inl, inr, ap, arith}
 use Rattle.tre_answer.specs.Ends.{ReadsInput, IsAnswerIn, EndsOver}
 use Rattle.tre_answer.specs.Readings.{readings_of, watched_of, outcome_for}
-use Rattle.tre_answer.specs.Request.{Request, request_for, sought_in}
-use Rattle.tre_answer.specs.declared.asked.Asked.{Asked}
-use Rattle.tre_answer.specs.declared.fault.AnswerFault.{AnswerFault}
+use Rattle.tre_answer.specs.Request.{Request}
 use Rattle.tre_answer.specs.declared.fault.AnswerFault.TheVariants.{Trace as AnswerTrace, TooLong as AnswerTooLong, TooManyZones as AnswerTooMany, Read as AnswerRead, Write as AnswerWrite, Memory as AnswerMemory}
-use Rattle.tre_feed.specs.Input.{InputTold, AllReadsGood}
+use Rattle.tre_feed.specs.Input.{InputTold}
 use Rattle.tre_feed.specs.Outcome.{Outcome, completes, refuses, exceeds, IsReadingOf, outcome_of, reading_within}
 use Rattle.tre_feed.specs.Readings.{common, common_of}
 use Rattle.tre_feed.proofs.Cuts.{take-over}
 use Rattle.tre_feed.proofs.Outcomes.{within}
-use Rattle.tre_io.specs.Faults.{counted, Rises, HasCause}
-use Rattle.tre_io.specs.Written.{AppendsPart}
-use Rattle.tre_io.specs.declared.faults.Failed.{Failed}
-use Rattle.tre_num.specs.Defined.{Defined}
+use Rattle.tre_io.specs.Faults.{counted, Rises}
 use Rattle.tre_tell.specs.Outputs.{OutputTold}
 use Rattle.tre_tell.specs.Watched.{AreTraces}
 use Rattle.tre_trace.specs.Reading.{Reading}
 use Rattle.tre_trace.specs.Trace.{Timeline, quiet}
 use Rattle.tre_watch.specs.Outcome.{Outcome as ChecksOutcome, IsOutcome}
-use Rattle.tre_watch.specs.declared.fault.WatchFault.{WatchFault}
 use Rattle.tre_watch.proofs.Outcomes.{one_outcome}
-use Rattle.tre_words.specs.Job.{GivesJob}
 use Rattle.tre_words.specs.declared.job.Job.{Job}
 use Rattle.tre_words.specs.declared.job.Mode.{Mode}
 use Rattle.tre_words.specs.declared.job.Mode.TheVariants.{Offline, Online, Show, Generate, Watch as WatchMode}
-use Rattle.tre_words.proofs.Jobs.{job_unique}
 use Rattle.tre_tool.specs.Checks.{ChecksWereRead, ChecksAreTold}
-use Rattle.tre_tool.specs.Parts.{IsUnread}
-use Rattle.tre_tool.specs.Request.{ArePatterns, AreDefinitions, IsRefusalOf, IsRefusalOfFile, IsRefusalIn, AsksFor, IsRefused, GiveNone}
-use Rattle.tre_tool.specs.Run.{ChecksFailed, NothingDone, AsksAs, EndsAs, IsStatusFor, IsUnlessMemory, IsComplete, IsLineTold}
+use Rattle.tre_tool.specs.Request.{AsksFor, IsRefused, GiveNone}
+use Rattle.tre_tool.specs.Run.{ChecksFailed, EndsAs, IsStatusFor, IsUnlessMemory, IsComplete}
 use Rattle.tre_tool.specs.declared.status.Status.{Status}
-use Rattle.tre_tool.specs.declared.status.Status.TheVariants.{Done, Usage, Expression, Minus, Definitions, Watch, Trace, InputTooLong, TooManyZones, ReadFault, WriteFault, Memory}
-use Rattle.tre_tool.specs.Status.{answer_status}
+use Rattle.tre_tool.specs.declared.status.Status.TheVariants.{Done, Usage, TooManyZones, Memory}
 use Rattle.tre_tool.proofs.Ended.{Answer, answered_status, Ended, by_usage, by_refusal, by_unread, by_memory, by_answer, ended_of}
 use Rattle.tre_tool.proofs.Once.{GiveOne, the_request, asked_or_refused, refused_once}
 

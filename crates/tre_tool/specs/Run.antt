@@ -27,6 +27,10 @@ abbrev pub ReadsChecks : Mode → Type 0
 ReadsChecks (Watch file) = Unit {0}
 ReadsChecks mode = ⊥
 
+-- No job that is given reads one.
+abbrev pub ReadNoChecks : (Job → Type 0) → Type 0
+ReadNoChecks Gives = (job : Job) → Gives job → ReadsChecks job.mode → ⊥
+
 -- One failure to read the file of checks was counted, where one is read.
 abbrev pub ChecksFailed : Mode → InputTold → Type 0
 ChecksFailed (Watch file) checks = Rises checks.faults_before checks.faults_now

@@ -7,7 +7,7 @@ ghost use Rattle.tre_tell.specs.Outputs.{output_told};
 ghost use Rattle.tre_tool.specs.Checks.{ChecksAreTold};
 ghost use Rattle.tre_tool.specs.Parts.{status_of};
 ghost use Rattle.tre_tool.specs.Request.{AsksForNothing};
-ghost use Rattle.tre_tool.specs.Run.{AsksForMadeRun, ReadsChecks, ComesFirst, EndsAs, EndsMadeRun, IsComplete, IsLineTold};
+ghost use Rattle.tre_tool.specs.Run.{AsksForMadeRun, ReadNoChecks, ComesFirst, EndsAs, EndsMadeRun, IsComplete, IsLineTold};
 ghost use Rattle.tre_tool.specs.Status.{error_line};
 ghost use Rattle.tre_watch.specs.declared.reader.TheConstants.{FILE_MAX};
 ghost use Rattle.tre_words.specs.Job.{GivesJob, HaveNoFault};
@@ -44,7 +44,7 @@ fn run_words<P: Source, S: Source, O: Sink>(
         (input.new ≡ input.old) × (out.new ≡ out.old) }
     ensures source_untouched { (job : Job) → GivesJob (map string_bytes words.now) job →
         (ReadsInput job.mode → ⊥) → input.new ≡ input.old }
-    ensures checks_untouched { ((job : Job) → GivesJob (map string_bytes words.now) job → ReadsChecks job.mode → ⊥) →
+    ensures checks_untouched { ReadNoChecks (GivesJob (map string_bytes words.now)) →
         checks.new ≡ checks.old }
     ensures by_name { (job : Job) → GivesJob (map string_bytes words.now) job →
         IsTrue (S.opened input.new) →
@@ -131,7 +131,7 @@ pub fn run_all<P: Source, S: Source, O: Sink, E: Sink>(
         (ReadsInput job.mode → ⊥) → input.new ≡ input.old }
 
     // Only a watch reads a file of checks.
-    ensures checks_untouched { ((job : Job) → GivesJob (map string_bytes words.now) job → ReadsChecks job.mode → ⊥) →
+    ensures checks_untouched { ReadNoChecks (GivesJob (map string_bytes words.now)) →
         checks.new ≡ checks.old }
 
     // A made run writes the summary of its segments, or a first part of it, and reads nothing.
