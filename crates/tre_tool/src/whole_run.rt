@@ -33,7 +33,8 @@ fn run_words<P: Source, S: Source, O: Sink>(
     requires checks { P.opened checks.old ≡ false }
     requires input { S.opened input.old ≡ false }
     ensures ends { EndsAs (GivesJob (map string_bytes words.now))
-        (input_told P.file_name P.file P.sound P.opened P.left P.found P.faults checks.old checks.new)
+        (input_told P.file_name P.file P.sound P.opened P.left P.found P.faults checks.old
+        checks.new)
         (input_told S.file_name S.file S.sound S.opened S.left S.found S.faults input.old input.new)
         (output_told O.written O.faults out.old out.new)
         (status_of result) }
@@ -103,14 +104,16 @@ pub fn run_all<P: Source, S: Source, O: Sink, E: Sink>(
 
     // What the status means, what was written, and why the run ended so.
     ensures ends { EndsAs (GivesJob (map string_bytes words.now))
-        (input_told P.file_name P.file P.sound P.opened P.left P.found P.faults checks.old checks.new)
+        (input_told P.file_name P.file P.sound P.opened P.left P.found P.faults checks.old
+        checks.new)
         (input_told S.file_name S.file S.sound S.opened S.left S.found S.faults input.old input.new)
         (output_told O.written O.faults out.old out.new) result }
 
     // Where no fault was counted, what the words and the file of checks ask for and the input comes
     // to decides the status.
     ensures complete { IsComplete (GivesJob (map string_bytes words.now))
-        (input_told P.file_name P.file P.sound P.opened P.left P.found P.faults checks.old checks.new)
+        (input_told P.file_name P.file P.sound P.opened P.left P.found P.faults checks.old
+        checks.new)
         (input_told S.file_name S.file S.sound S.opened S.left S.found S.faults input.old input.new)
         (output_told O.written O.faults out.old out.new) result }
 
