@@ -16,7 +16,7 @@ use Rattle.tre_tell.specs.Sought.{Sought, sought_by}
 use Rattle.tre_tell.specs.Watched.{SayNothing}
 use Rattle.tre_text.specs.TextReading.{Terms as TextTerms, text_reading}
 use Rattle.tre_trace.specs.Reading.{Reading, Vocabulary}
-use Rattle.tre_vcd.specs.VcdReading.{Terms as DumpTerms, requiring, vcd_reading}
+use Rattle.tre_vcd.specs.VcdReading.{Terms as DumpTerms, vcd_reading}
 use Rattle.tre_words.specs.declared.job.Format.{Format}
 use Rattle.tre_words.specs.declared.job.Format.TheVariants.{Text, Vcd, Csv}
 use Rattle.tre_words.specs.declared.job.Job.{Job}
