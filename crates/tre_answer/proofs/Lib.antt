@@ -1,7 +1,6 @@
 pub mod Canonical
 pub mod Differences
 pub mod Found
-pub mod Makers
 pub mod OnlineRuns
 pub mod Readings
 pub mod SameReadings

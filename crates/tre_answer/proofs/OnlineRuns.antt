@@ -14,7 +14,7 @@ use Rattle.tre_trace.specs.Reading.{Reading}
 use Rattle.tre_words.specs.declared.job.Job.{Job}
 use Rattle.tre_words.specs.declared.job.Mode.{Mode}
 use Rattle.tre_words.specs.declared.job.Mode.TheVariants.{Offline, Online, Show, Generate, Watch}
-use Rattle.tre_answer.specs.Ends.{ReadsInput, Way, at_once, as_it_comes, way_of, IsAnswerIn, StandsSoFar, IsCut, EndsAtInput, EndsOver}
+use Rattle.tre_answer.specs.Ends.{ReadsInput, Way, as_it_comes, way_of, IsAnswerIn, StandsSoFar, IsCut, EndsAtInput, EndsOver}
 use Rattle.tre_answer.specs.Parts.{tell_fault}
 use Rattle.tre_answer.specs.Readings.{readings_of, watched_of}
 use Rattle.tre_answer.specs.Request.{Request, request_for}

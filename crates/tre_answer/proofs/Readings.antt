@@ -16,7 +16,7 @@ use Rattle.tre_tell.specs.Sought.{Sought, sought_by}
 use Rattle.tre_tell.specs.Watched.{SayNothing}
 use Rattle.tre_text.specs.TextReading.{Terms as TextTerms, text_reading}
 use Rattle.tre_trace.specs.Reading.{Reading, Vocabulary}
-use Rattle.tre_vcd.specs.VcdReading.{Terms as DumpTerms, requiring, vcd_reading}
+use Rattle.tre_vcd.specs.VcdReading.{Terms as DumpTerms, vcd_reading}
 use Rattle.tre_words.specs.declared.job.Format.{Format}
 use Rattle.tre_words.specs.declared.job.Format.TheVariants.{Text, Vcd, Csv}
 use Rattle.tre_words.specs.declared.job.Job.{Job}
@@ -106,10 +106,6 @@ vocabulary_same names events other same same' =
 abbrev pub text_terms_of : Vocabulary → ℕ → TextTerms
 text_terms_of names scale = record { names = names; scale = scale }
 
-pub text_terms : (scale : ℕ) {names other : Vocabulary} → names ≡ other
-    → text_terms_of names scale ≡ text_terms_of other scale
-text_terms scale same = ap (λ names. text_terms_of names scale) same
-
 abbrev pub dump_terms_of : Vocabulary → List Vocabulary → ℕ → DumpTerms
 dump_terms_of names declared scale = record {
   names = names;
@@ -117,18 +113,14 @@ dump_terms_of names declared scale = record {
   scale = scale;
 }
 
-pub dump_terms : (scale : ℕ) (declared : List Vocabulary) {names other : Vocabulary}
-    → names ≡ other → dump_terms_of names declared scale ≡ dump_terms_of other declared scale
-dump_terms scale declared same = ap (λ names. dump_terms_of names declared scale) same
-
--- the names that must be declared besides
-pub declaring : {terms told : DumpTerms} {names other : Vocabulary} → terms ≡ told → names ≡ other
-    → requiring terms names ≡ requiring told other
-declaring {terms} {told} {names} {other} same own =
-    ap (λ t. requiring t names) same ∙ ap (requiring told) own
-
 abbrev pub rows_terms_of : List Defined → Vocabulary → ℕ → RowTerms
 rows_terms_of lets names scale = record { definitions = lets; names = names; scale = scale }
+
+-- the only reading
+pub one_read : {all front : List Reading} {one other : Reading} → all ≡ front ++ one ∷ []
+    → front ≡ [] → one ≡ other → all ≡ other ∷ []
+one_read {one = one} behind none same =
+    behind ∙ (ap (λ xs. xs ++ one ∷ []) none ∙ ap (λ reading. reading ∷ []) same)
 
 pub rows_terms : (lets : List Defined) (scale : ℕ) {names other : Vocabulary} → names ≡ other
     → rows_terms_of lets names scale ≡ rows_terms_of lets other scale

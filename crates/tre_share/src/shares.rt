@@ -49,6 +49,14 @@ impl Shares {
         &self.views
     }
 
+    /// The names that each reader reads, and the views.
+    pub fn into_parts(self) -> (Vec<Group>, Vec<View>)
+        ensures groups { result.0.items ≡ groups_of self }
+        ensures views { result.1.items ≡ views_of self }
+    {
+        (self.groups, self.views)
+    }
+
     // One more pattern.
     fn add(&mut self, alloc: Global, pattern: &Pattern) -> Result<(), AllocError>
         ensures { (asked : List Vocabulary) → AreShared asked self.old →

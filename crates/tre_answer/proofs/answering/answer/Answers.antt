@@ -1,8 +1,8 @@
-use Rattle.std.proofs.Common.{◌≡◌, refl}
+use Rattle.std.proofs.Common.{refl}
 use Rattle.std.proofs.lemmas.List.{get_or_read}
 use Rattle.std.proofs.lemmas.Result.{err_from_is_err_and}
 use Rattle.tre_answer.specs.Request.{request_for}
-use Rattle.tre_answer.proofs.Stops.{EndsOver-written, show_once, made_once, reads_input, shown_unread, made_unread}
+use Rattle.tre_answer.proofs.Stops.{EndsOver-written, show_once, made_once, shown_unread, made_unread}
 use Rattle.tre_answer.proofs.Unread.{EndsOver-early, shown_for, made_for}
 use Rattle.tre_answer.proofs.answering.answer.Goals as goal
 

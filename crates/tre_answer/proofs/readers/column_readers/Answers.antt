@@ -1,8 +1,7 @@
 use Rattle.std.proofs.Common.{◌∙◌, ap}
 use Rattle.tre_num.specs.Rows.{rows_reading}
 use Rattle.tre_syntax.specs.Pattern.{names_of}
-use Rattle.tre_answer.proofs.Makers.{one_read}
-use Rattle.tre_answer.proofs.Readings.{rows_terms, vocabulary_same}
+use Rattle.tre_answer.proofs.Readings.{one_read, rows_terms, vocabulary_same}
 use Rattle.tre_answer.proofs.readers.column_readers.Goals as goal
 
 pub returns-clause-reads : goal.returns-clause-reads

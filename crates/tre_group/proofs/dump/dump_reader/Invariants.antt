@@ -2,13 +2,13 @@ use Rattle.std.proofs.Common.{◌≡◌, map, take}
 use Rattle.tre_syntax.specs.Pattern.{names_of}
 use Rattle.tre_vcd.specs.VcdReading.{first_place}
 use Rattle.tre_vcd.specs.contracts.token_reader.TokenReaderPartReader.TheImpl.{ghosts as token_reader}
-use Rattle.tre_answer.proofs.Readings.{dump_terms_of}
-use Rattle.tre_answer.proofs.readers.dump_reader.Given as goal
+use Rattle.tre_group.specs.Begun.{dump_terms}
+use Rattle.tre_group.proofs.dump.dump_reader.Given as goal
 
 -- the names of the patterns so far must be declared
 abbrev pub invariant-loop-pattern : goal.invariant-loop-pattern
 invariant-loop-pattern l = record {
   begins : token_reader.holds l.tokens first_place;
-  terms : token_reader.terms l.tokens ≡ dump_terms_of (names_of l.fn.pattern)
-      (map names_of (take l.pattern-index l.all)) l.scale;
+  terms : token_reader.terms l.tokens
+      ≡ dump_terms (map names_of (take l.pattern-index l.patterns)) l.scale l.fn.group;
 }

@@ -1,0 +1,32 @@
+use Rattle.std.proofs.Common.{◌≡◌, ◌∙◌, [], sym, rules}
+use Rattle.tre_syntax.specs.Pattern.{names_of}
+use Rattle.tre_text.specs.TextReading.{text_reading}
+use Rattle.tre_group.specs.Begun.{text_terms}
+use Rattle.tre_group.proofs.Joining.{each_of, left_next, left_none, left_within, none_of}
+use Rattle.tre_group.proofs.Names.{text_seen}
+use Rattle.tre_group.proofs.text.text_readers.Goals as goal
+
+pub push_text-requires-clause-within : goal.push_text-requires-clause-within
+push_text-requires-clause-within c =
+    let left = rw c.in-Some.ensures.steps.0 at c.loop-view.invariant.left in
+    rw c.deref.ensures.value (left_within c.in-Some.view _ left)
+
+pub loop-view-preserved : goal.loop-view-preserved
+loop-view-preserved c =
+    let left = rw c.in-Some.ensures.steps.0 at c.loop-view.invariant.left in
+    record {
+      can = search rules;
+      ends = search rules;
+      fresh = c.in_ok-push_text.ensures.fresh;
+      begun = rw c.deref.ensures.value at c.in_ok-push_text.ensures.begun;
+      left = left_next (text_seen c.shared.ensures c.args.scale) _ c.in-Some.view _ left
+          (rw c.deref.ensures.value at c.in_ok-push_text.ensures.readings);
+    }
+
+pub returns-clause-reads : goal.returns-clause-reads
+returns-clause-reads c =
+    let rest = c.loop-view.view-iterator.rest in
+    let none : rest.items ≡ [] = none_of rest.items (sym rest.ok.0 ∙ c.in-None.ensures.steps.0) in
+    λ closed bytes. left_none (rw none at c.loop-view.invariant.left) closed bytes
+    ∙ each_of names_of (λ names. text_reading (text_terms c.args.scale names) closed bytes)
+    c.args.patterns.now

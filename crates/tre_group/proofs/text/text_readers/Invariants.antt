@@ -1,0 +1,23 @@
+use Rattle.std.proofs.Common.{◌≡◌, map}
+use Rattle.tre_feed.specs.Readers.{AreFresh, groups_in, readings_in}
+use Rattle.tre_syntax.specs.Pattern.{names_of}
+use Rattle.tre_text.specs.TextReading.{text_reading}
+use Rattle.tre_text.specs.contracts.line_reader.LineReaderPartReader.TheImpl.{ghosts as line_reader}
+use Rattle.tre_group.specs.Begun.{terms_at, text_terms}
+use Rattle.tre_group.proofs.Joining.{IsLeft}
+use Rattle.tre_group.proofs.Parts.{parts_reading, parts_represent, parts_terms}
+use Rattle.tre_group.proofs.text.text_readers.Given as goal
+
+-- the readers so far say what the patterns of the views so far are to be told
+abbrev pub invariant-loop-view : goal.invariant-loop-view
+invariant-loop-view l = record {
+  can : goal.iterator-loop-view.can_next l.view-iterator;
+  ends : goal.iterator-loop-view.is_finite l.view-iterator;
+  fresh : AreFresh (parts_represent line_reader.terms line_reader.format line_reader.holds)
+      l.readers;
+  begun : groups_in (parts_terms line_reader.terms) l.readers
+      ≡ terms_at (text_terms l.scale) l.groups.items l.begun.items;
+  left : IsLeft l.groups.items (λ names. text_reading (text_terms l.scale names))
+      (map names_of l.patterns) (readings_in (parts_reading line_reader.format)
+      (parts_terms line_reader.terms) l.readers) l.view-iterator.rest.items;
+}

@@ -1,0 +1,27 @@
+-- Readers of which each reads for a group.
+use Rattle.std.specs.Prelude.{ℕ, List, [], map, slice_index_or}
+use Rattle.tre_text.specs.TextReading.{Terms as TextTerms}
+use Rattle.tre_trace.specs.Reading.{Vocabulary}
+use Rattle.tre_vcd.specs.VcdReading.{Terms as DumpTerms}
+
+-- the names of no group
+abbrev pub no_names : Vocabulary
+no_names = record { names = []; events = [] }
+
+-- the names of the group of this number
+abbrev pub group_at : List Vocabulary → ℕ → Vocabulary
+group_at groups number = slice_index_or groups number no_names
+
+-- the terms by which the groups of these numbers are read
+abbrev pub terms_at : {Terms : Type 0} → (Vocabulary → Terms) → List Vocabulary → List ℕ →
+    List Terms
+terms_at terms groups begun = map (λ number. terms (group_at groups number)) begun
+
+-- how a text is read for these names
+abbrev pub text_terms : ℕ → Vocabulary → TextTerms
+text_terms scale names = record { names = names; scale = scale }
+
+-- how a dump is read for these names, which must declare others
+abbrev pub dump_terms : List Vocabulary → ℕ → Vocabulary → DumpTerms
+dump_terms declared scale names =
+    record { names = names; declared = declared; scale = scale }

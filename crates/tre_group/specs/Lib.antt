@@ -1,0 +1,2 @@
+-- Which groups have readers.
+pub mod Begun

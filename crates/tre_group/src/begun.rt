@@ -1,0 +1,15 @@
+// Which groups have a reader.
+ghost use Rattle.std.specs.Prelude.{◌≡◌, ◌<◌, length, slice_index_or, IfSome};
+
+// The place of the group of this number among those that have a reader.
+pub(crate) fn place_of(begun: &[usize], group: usize) -> Option<usize>
+    ensures within { IfSome result (λ place. place < length begun.now) }
+    ensures there { IfSome result (λ place. slice_index_or begun.now place group ≡ group) }
+{
+    for place in 0..begun.len() {
+        if begun[place] == group {
+            return Some(place);
+        }
+    }
+    None
+}

@@ -1,0 +1,112 @@
+// The readers of a dump.
+ghost use Rattle.std.specs.Prelude.{◌≡◌, ◌<◌, ◌≤◌, ◌∷◌, ◌++◌, [], ℕ, Bool, List, length, map, IfOk, OnOk};
+ghost use Rattle.tre_decimal.specs.declared.TheConstants.{SCALE_MAX};
+ghost use Rattle.tre_feed.specs.Readers.{AreFresh, groups_in, readings_in};
+ghost use Rattle.tre_group.specs.Begun.{dump_terms, group_at, terms_at};
+ghost use Rattle.tre_share.specs.Shares.{group_of};
+ghost use Rattle.tre_share.specs.Shown.{shown_reading};
+ghost use Rattle.tre_syntax.specs.Pattern.{names_of};
+ghost use Rattle.tre_vcd.specs.VcdReading.{vcd_reading};
+
+use crate::begun::place_of;
+use std::alloc::{AllocError, Global};
+use tre_feed::Readers;
+use tre_share::{Group, View, share};
+use tre_syntax::Pattern;
+use tre_trace::TraceReader;
+use tre_vcd::{TokenReader, VcdReader, laws};
+
+/// Readers of a dump, which must declare the names of all patterns: one for each pattern. Patterns
+/// share one where it has room.
+pub fn dump_readers(
+    alloc: Global,
+    patterns: &[Pattern],
+    scale: u8,
+) -> Result<Readers<VcdReader>, AllocError>
+    requires { scale ≤ SCALE_MAX }
+    ensures fresh { IfOk result (AreFresh ⟦<VcdReader as TraceReader>⟧.represents) }
+    ensures reads { IfOk result (λ readers. (closed : Bool) (bytes : List ℕ) →
+        readings_in ⟦<VcdReader as TraceReader>⟧.reading ⟦<VcdReader as TraceReader>⟧.terms
+        readers closed bytes ≡ map (λ pattern. vcd_reading
+        (dump_terms (map names_of patterns.now) scale (names_of pattern)) closed bytes)
+        patterns.now) }
+{
+    laws::shared();
+    let shares = share(alloc, patterns)?;
+    let (groups, views) = shares.into_parts();
+    let mut readers = Readers::new(alloc);
+    let mut begun = Vec::new(alloc);
+    for view in views {
+        push_dump(
+            alloc,
+            &groups,
+            patterns,
+            scale,
+            view,
+            &mut begun,
+            &mut readers,
+        )?;
+    }
+    Ok(readers)
+}
+
+// Has the view see what the reader of its group reads. A group that has none gets one.
+fn push_dump(
+    alloc: Global,
+    groups: &[Group],
+    patterns: &[Pattern],
+    scale: u8,
+    view: View,
+    begun: &mut Vec<usize>,
+    readers: &mut Readers<VcdReader>,
+) -> Result<(), AllocError>
+    requires scale { scale ≤ SCALE_MAX }
+    requires within { group_of view < length groups.now }
+    requires others { AreFresh ⟦<VcdReader as TraceReader>⟧.represents readers.old }
+    requires begun { groups_in ⟦<VcdReader as TraceReader>⟧.terms readers.old
+        ≡ terms_at (dump_terms (map names_of patterns.now) scale) groups.now begun.old.items }
+    ensures fresh { OnOk result
+        (AreFresh ⟦<VcdReader as TraceReader>⟧.represents readers.new) }
+    ensures begun { OnOk result (groups_in ⟦<VcdReader as TraceReader>⟧.terms readers.new
+        ≡ terms_at (dump_terms (map names_of patterns.now) scale) groups.now begun.new.items) }
+    ensures readings { OnOk result ((closed : Bool) (bytes : List ℕ) →
+        readings_in ⟦<VcdReader as TraceReader>⟧.reading ⟦<VcdReader as TraceReader>⟧.terms
+        readers.new closed bytes
+        ≡ readings_in ⟦<VcdReader as TraceReader>⟧.reading
+        ⟦<VcdReader as TraceReader>⟧.terms readers.old closed bytes
+        ++ shown_reading view (vcd_reading
+        (dump_terms (map names_of patterns.now) scale (group_at groups.now (group_of view)))
+        closed bytes) ∷ []) }
+{
+    let number = view.group();
+    if let Some(place) = place_of(begun, number) {
+        readers.push_view(place, view)?;
+        return Ok(());
+    }
+    let reader = dump_reader(alloc, &groups[number], patterns, scale)?;
+    readers.push_group(alloc, reader, view)?;
+    begun.push(number)?;
+    Ok(())
+}
+
+// A reader of a dump for the names of the group, which must declare those of all patterns.
+fn dump_reader(
+    alloc: Global,
+    group: &Group,
+    patterns: &[Pattern],
+    scale: u8,
+) -> Result<VcdReader, AllocError>
+    requires { scale ≤ SCALE_MAX }
+    ensures fresh { IfOk result (λ reader. ⟦<VcdReader as TraceReader>⟧.represents reader []) }
+    ensures terms { IfOk result (λ reader. ⟦<VcdReader as TraceReader>⟧.terms reader
+        ≡ dump_terms (map names_of patterns.now) scale group.now) }
+{
+    let names = group.names().try_clone()?;
+    let events = group.events().try_clone()?;
+    let mut tokens = TokenReader::new(alloc, names, events, scale);
+    for pattern in patterns {
+        tokens.must_declare(pattern.names(), pattern.events())?;
+    }
+    let reader = VcdReader::new(alloc, tokens);
+    Ok(reader)
+}

@@ -1,0 +1,91 @@
+// The readers of a text trace.
+ghost use Rattle.std.specs.Prelude.{◌≡◌, ◌<◌, ◌≤◌, ◌∷◌, ◌++◌, [], ℕ, Bool, List, length, map, IfOk, OnOk};
+ghost use Rattle.tre_decimal.specs.declared.TheConstants.{SCALE_MAX};
+ghost use Rattle.tre_feed.specs.Readers.{AreFresh, groups_in, readings_in};
+ghost use Rattle.tre_group.specs.Begun.{group_at, terms_at, text_terms};
+ghost use Rattle.tre_share.specs.Shares.{group_of};
+ghost use Rattle.tre_share.specs.Shown.{shown_reading};
+ghost use Rattle.tre_syntax.specs.Pattern.{names_of};
+ghost use Rattle.tre_text.specs.TextReading.{text_reading};
+
+use crate::begun::place_of;
+use std::alloc::{AllocError, Global};
+use tre_feed::Readers;
+use tre_share::{Group, View, share};
+use tre_syntax::Pattern;
+use tre_text::{LineReader, TextReader, laws};
+use tre_trace::TraceReader;
+
+/// Readers of a text trace, one for each pattern. Patterns share one where it has room.
+pub fn text_readers(
+    alloc: Global,
+    patterns: &[Pattern],
+    scale: u8,
+) -> Result<Readers<TextReader>, AllocError>
+    requires { scale ≤ SCALE_MAX }
+    ensures fresh { IfOk result (AreFresh ⟦<TextReader as TraceReader>⟧.represents) }
+    ensures reads { IfOk result (λ readers. (closed : Bool) (bytes : List ℕ) →
+        readings_in ⟦<TextReader as TraceReader>⟧.reading ⟦<TextReader as TraceReader>⟧.terms
+        readers closed bytes ≡ map (λ pattern. text_reading
+        (text_terms scale (names_of pattern)) closed bytes) patterns.now) }
+{
+    laws::shared();
+    let shares = share(alloc, patterns)?;
+    let (groups, views) = shares.into_parts();
+    let mut readers = Readers::new(alloc);
+    let mut begun = Vec::new(alloc);
+    for view in views {
+        push_text(alloc, &groups, scale, view, &mut begun, &mut readers)?;
+    }
+    Ok(readers)
+}
+
+// Has the view see what the reader of its group reads. A group that has none gets one.
+fn push_text(
+    alloc: Global,
+    groups: &[Group],
+    scale: u8,
+    view: View,
+    begun: &mut Vec<usize>,
+    readers: &mut Readers<TextReader>,
+) -> Result<(), AllocError>
+    requires scale { scale ≤ SCALE_MAX }
+    requires within { group_of view < length groups.now }
+    requires others { AreFresh ⟦<TextReader as TraceReader>⟧.represents readers.old }
+    requires begun { groups_in ⟦<TextReader as TraceReader>⟧.terms readers.old
+        ≡ terms_at (text_terms scale) groups.now begun.old.items }
+    ensures fresh { OnOk result
+        (AreFresh ⟦<TextReader as TraceReader>⟧.represents readers.new) }
+    ensures begun { OnOk result (groups_in ⟦<TextReader as TraceReader>⟧.terms readers.new
+        ≡ terms_at (text_terms scale) groups.now begun.new.items) }
+    ensures readings { OnOk result ((closed : Bool) (bytes : List ℕ) →
+        readings_in ⟦<TextReader as TraceReader>⟧.reading ⟦<TextReader as TraceReader>⟧.terms
+        readers.new closed bytes
+        ≡ readings_in ⟦<TextReader as TraceReader>⟧.reading
+        ⟦<TextReader as TraceReader>⟧.terms readers.old closed bytes
+        ++ shown_reading view (text_reading
+        (text_terms scale (group_at groups.now (group_of view))) closed bytes) ∷ []) }
+{
+    let number = view.group();
+    if let Some(place) = place_of(begun, number) {
+        readers.push_view(place, view)?;
+        return Ok(());
+    }
+    let reader = text_reader(alloc, &groups[number], scale)?;
+    readers.push_group(alloc, reader, view)?;
+    begun.push(number)?;
+    Ok(())
+}
+
+// A reader of a text trace for the names of the group.
+fn text_reader(alloc: Global, group: &Group, scale: u8) -> Result<TextReader, AllocError>
+    requires { scale ≤ SCALE_MAX }
+    ensures fresh { IfOk result (λ reader. ⟦<TextReader as TraceReader>⟧.represents reader []) }
+    ensures terms { IfOk result (λ reader. ⟦<TextReader as TraceReader>⟧.terms reader
+        ≡ text_terms scale group.now) }
+{
+    let names = group.names().try_clone()?;
+    let events = group.events().try_clone()?;
+    let reader = TextReader::new(alloc, LineReader::new(names, events, scale));
+    Ok(reader)
+}
