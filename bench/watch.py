@@ -51,7 +51,7 @@ def print_text(montre, folder, segments):
     """Over text: a watch, and what the runs of its patterns take together with one reading."""
     trace = write_trace(folder, segments)
     singles = [counted([montre, "--online", pattern], trace) for pattern in PATTERNS]
-    reading = counted([montre, "--online", NOTHING], trace)
+    reading = counted([montre, NOTHING], trace)
     print_head(["patterns over text", "a watch", "their runs", "a reading", "runs less readings",
                 "ratio"])
     for count in WATCHED:
@@ -64,9 +64,9 @@ def print_text(montre, folder, segments):
                    ratio(watch, least)])
 
 
-def write_dump(folder, changes):
-    """A dump with 64 pairs of signals that are asked, and others that change mostly."""
-    path = os.path.join(folder, "many.vcd")
+def write_dump(folder, changes, with_others):
+    """A dump with 64 pairs of signals that are asked, and others that change mostly, or don't."""
+    path = os.path.join(folder, "many.vcd" if with_others else "few.vcd")
     with open(path, "w", encoding="utf-8") as file:
         file.write("$timescale 1 ns $end\n$scope module top $end\n")
         for number in range(128):
@@ -76,22 +76,27 @@ def write_dump(folder, changes):
         file.write("$upscope $end\n$enddefinitions $end\n")
         for time in range(changes // OTHERS):
             file.write("#%d\n%da%d\n" % (time, time // 128 % 2, time % 128))
-            file.writelines("%do%d\n" % (time % 2, number) for number in range(1, OTHERS))
+            if with_others:
+                file.writelines("%do%d\n" % (time % 2, number) for number in range(1, OTHERS))
         file.write("#%d\n" % (changes // OTHERS))
     return path
 
 
 def print_dump(montre, folder, changes):
-    """Over a dump: a watch of patterns of two names each, which find next to nothing."""
-    dump = write_dump(folder, changes)
+    """Over a dump: a watch of patterns of two names each, which find next to nothing. What reading
+    takes is what the changes of the other signals add."""
+    dump, without = (write_dump(folder, changes, with_others) for with_others in (True, False))
     one = None
-    print_head(["patterns over a dump", "a watch", "times one pattern"])
+    print_head(["patterns over a dump", "a watch", "without the others' changes", "these changes",
+                "times one pattern"])
     for count in WATCHED:
         patterns = ["rise(top.s%d) & rise(top.s%d)" % (2 * n, 2 * n + 1) for n in range(count)]
         checks = write_checks(folder, patterns)
-        watch = counted([montre, "--watch", "--format", "vcd", checks], dump)
-        one = one or watch
-        print_row([str(count), "%.1f" % watch, ratio(watch, one)])
+        watch, least = (counted([montre, "--watch", "--format", "vcd", checks], source)
+                        for source in (dump, without))
+        one = one or watch - least
+        print_row([str(count), "%.1f" % watch, "%.1f" % least, "%.1f" % (watch - least),
+                   ratio(watch - least, one)])
 
 
 def main():

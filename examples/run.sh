@@ -85,6 +85,7 @@ status_of() {
         'montre: too many zones '*) echo 9 ;;
         'montre: minus expression: '*) echo 10 ;;
         'montre: definitions: '*) echo 11 ;;
+        'montre: watch: '*) echo 12 ;;
         *) echo 0 ;;
     esac
 }
