@@ -1,5 +1,5 @@
 -- The steps of atoms, as the calls say them.
-use Rattle.std.proofs.Common.{◌≡◌, ◌*◌, List, [], inl, ⊎_elim}
+use Rattle.std.proofs.Common.{◌≡◌, ◌*◌, List, [], ⊎_elim}
 use Rattle.tre_pairs.specs.Pairs.{Composed, Either, Both}
 use Rattle.tre_pairs.proofs.Laws.{Agree}
 use Rattle.tre_zone.specs.Held.{Held, IsSetOf}
@@ -14,11 +14,11 @@ use Rattle.tre_edges.specs.declared.piece.Piece.{Piece}
 use Rattle.tre_mark.specs.MarkTree.{atom_mark}
 use Rattle.tre_mark.specs.Marked.{EndBetween, IsWellAt}
 use Rattle.tre_mark.proofs.Agreeing.{agree_refl, agree_then, agree_composed, agree_either}
-use Rattle.tre_advance.specs.Moves.{StepsTo, EntersTo, TellsAtom, IsBriefTree, IsLiteralTree}
-use Rattle.tre_advance.proofs.AtomSteps.{IsBrief, brief_empty, brief_rise, brief_fall, brief_event, literal_tells, brief_tells, brief_inner, brief_beside, literal_inner, literal_beside}
+use Rattle.tre_advance.specs.Moves.{EntersTo, TellsAtom, IsBriefTree, IsLiteralTree}
+use Rattle.tre_advance.proofs.AtomSteps.{IsBrief, brief_empty, brief_rise, brief_fall, brief_event, brief_beside, literal_beside}
 use Rattle.tre_advance.proofs.Going.{alone}
 use Rattle.tre_advance.proofs.SetsOf.{set_agrees, set_of, set_exact, set_none, no_pair}
-use Rattle.tre_advance.proofs.Steps.{Followed, steps_of, enters_of}
+use Rattle.tre_advance.proofs.Steps.{Followed, enters_of}
 
 -- What `local` holds are the matches over the piece alone.
 pub inside_agrees : (piece : Piece) (tree : PatternTree) (inside : List ZoneBounds)
@@ -28,74 +28,6 @@ inside_agrees piece tree inside held =
     set_agrees (set_exact inside (MatchesRest tree (alone piece))
     (IsOrdered-rest tree (alone piece))
     held)
-
--- What an atom tells where nothing enters.
-told_alone : (piece : Piece) (here begun none told : List ZoneBounds) (tree : PatternTree)
-    → none ≡ [] → TellsAtom here begun none tree piece told
-    → Agree (Held told)
-    (Either (Composed (Either (Held here) (Held begun)) (MatchesRest tree (alone piece)))
-    (Held begun))
-told_alone piece here begun none told tree nothing tells =
-    agree_then (set_agrees tells.set)
-    (agree_either
-    (agree_composed (record {
-      at = λ a b n some. (
-        (λ h. ⊎_elim (λ x. x) (λ x. absurd (no_pair none nothing a b n x)) h),
-        (λ h. inl h),
-      );
-    }) (agree_refl (MatchesRest tree (alone piece))))
-    (agree_refl (Held begun)))
-
-module _ (piece : Piece) (here begun none told : List ZoneBounds) (nothing : none ≡ []) where
-  brief_by : (x : Atom) → IsBrief x → IsWellAt piece.begin (atom_mark here begun) (atom x)
-      → TellsAtom here begun none (atom x) piece told
-      → StepsTo (atom_mark here begun) (atom x) piece told (atom_mark [] [])
-  brief_by x brief well tells =
-      steps_of piece (atom x) told (atom_mark [] []) (atom_mark here begun)
-      (brief_inner piece here begun told x brief
-      (agree_then (told_alone piece here begun none told (atom x) nothing tells)
-      (brief_tells piece here begun x well.well.0 brief
-      (brief.begun piece.begin begun well.well.1))))
-
-  pub brief_steps_to : (tree : PatternTree) → IsBriefTree tree
-      → IsWellAt piece.begin (atom_mark here begun) tree
-      → TellsAtom here begun none tree piece told
-      → StepsTo (atom_mark here begun) tree piece told (atom_mark [] [])
-  brief_steps_to (atom empty) is well tells = brief_by empty brief_empty well tells
-  brief_steps_to (atom (literal state)) is well tells = absurd is
-  brief_steps_to (atom (rise state)) is well tells =
-      brief_by (rise state) (brief_rise state) well tells
-  brief_steps_to (atom (fall state)) is well tells =
-      brief_by (fall state) (brief_fall state) well tells
-  brief_steps_to (atom (event number)) is well tells =
-      brief_by (event number) (brief_event number) well tells
-  brief_steps_to (sequence left right) is well tells = absurd is
-  brief_steps_to (alternation left right) is well tells = absurd is
-  brief_steps_to (intersection left right) is well tells = absurd is
-  brief_steps_to (repetition tree) is well tells = absurd is
-  brief_steps_to (restriction tree ends) is well tells = absurd is
-
-  pub literal_steps_to : (begun' : List ZoneBounds) (tree : PatternTree) → IsLiteralTree tree
-      → IsWellAt piece.begin (atom_mark here begun) tree
-      → TellsAtom here begun none tree piece told
-      → IsSetOf begun' (Both (Held told) (EndsAt (end_of_piece piece)))
-      → StepsTo (atom_mark here begun) tree piece told (atom_mark [] begun')
-  literal_steps_to begun' (atom (literal state)) is well tells kept =
-      let tree = atom (literal state) in
-      steps_of piece tree told (atom_mark [] begun') (atom_mark here begun)
-      (literal_inner piece here begun told begun' state
-      (agree_then (told_alone piece here begun none told tree nothing tells)
-      (literal_tells piece here begun state well.well.0 well.well.1))
-      (set_agrees kept))
-  literal_steps_to begun' (atom empty) is well tells kept = absurd is
-  literal_steps_to begun' (atom (rise state)) is well tells kept = absurd is
-  literal_steps_to begun' (atom (fall state)) is well tells kept = absurd is
-  literal_steps_to begun' (atom (event number)) is well tells kept = absurd is
-  literal_steps_to begun' (sequence left right) is well tells kept = absurd is
-  literal_steps_to begun' (alternation left right) is well tells kept = absurd is
-  literal_steps_to begun' (intersection left right) is well tells kept = absurd is
-  literal_steps_to begun' (repetition tree) is well tells kept = absurd is
-  literal_steps_to begun' (restriction tree ends) is well tells kept = absurd is
 
 module _ (piece : Piece) (here begun enter inside told last here' : List ZoneBounds)
     (between : EndBetween piece.begin (end_of_piece piece) enter)

@@ -24,13 +24,12 @@ use Rattle.tre_mark.specs.MarkTree.{MarkTree, atom_mark}
 use Rattle.tre_mark.specs.Marked.{GoesOn, Marked, EndBetween, IsBegun, IsWellAt}
 use Rattle.tre_mark.proofs.Agreeing.{agree_refl, agree_sym, agree_then, agree_either, joined_composed}
 use Rattle.tre_mark.proofs.Meanings.{Scales-Marked, IsOrdered-GoesOn}
-use Rattle.tre_mark.proofs.Starts.{end_at_none, nothing_atom}
+use Rattle.tre_mark.proofs.Starts.{nothing_atom}
 use Rattle.tre_edges.specs.Piece.{end_of_piece}
 use Rattle.tre_advance.proofs.Crossings.{agree_crossing, distributes}
 use Rattle.tre_advance.proofs.Going.{over, alone, behind, cut_of, long_front, mark_front, followed_front}
 use Rattle.tre_advance.proofs.SetsOf.{no_pair}
-use Rattle.tre_advance.proofs.StarSteps.{between_none}
-use Rattle.tre_advance.proofs.Steps.{Inner, Beside, Followed}
+use Rattle.tre_advance.proofs.Steps.{Beside, Followed}
 
 -- The pairs of a mark, and those that enter and that a match follows.
 abbrev Going : Rest → MarkTree → PatternTree → Pairs → Pairs
@@ -437,22 +436,6 @@ two_marks rest x here begun one two three four heres beguns = record {
       );
 }
 
-pub brief_inner : (piece : Piece) (here begun told : List ZoneBounds) (x : Atom) → IsBrief x
-    → Agree (Held told) (Marked (alone piece) (atom_mark here begun) (atom x))
-    → Inner (Unit {0}) piece (atom x) (λ r. Marked r (atom_mark here begun) (atom x)) told
-    (atom_mark [] [])
-brief_inner piece here begun told x brief whole = record {
-  tells = whole;
-  leaves = λ can next long.
-      agree_then (brief_leaves piece here begun [] [] x brief
-      (between_none piece.begin (end_of_piece piece)) (none_kept (EndsAt (end_of_piece piece)))
-      next)
-      (agree_crossing (end_of_piece piece)
-      (nothing_enters (over piece next) (atom_mark here begun) (atom x)));
-  takes = λ can. tt;
-  well = record { well = (end_at_none (end_of_piece piece), brief.none (end_of_piece piece)) };
-}
-
 pub brief_beside : (piece : Piece) (here begun enter told last here' : List ZoneBounds) (x : Atom)
     → IsBrief x → EndBetween piece.begin (end_of_piece piece) enter
     → IsWellAt (end_of_piece piece) (atom_mark here begun) (atom x)
@@ -486,32 +469,6 @@ brief_beside piece here begun enter told last here' x brief between well whole k
     );
   };
 }
-
-pub literal_inner : (piece : Piece) (here begun told begun' : List ZoneBounds) (state : StateTree)
-    → Agree (Held told) (Marked (alone piece) (atom_mark here begun) (atom (literal state)))
-    → Agree (Held begun') (Both (Held told) (EndsAt (end_of_piece piece)))
-    → Inner (Unit {0}) piece (atom (literal state))
-    (λ r. Marked r (atom_mark here begun) (atom (literal state))) told (atom_mark [] begun')
-literal_inner piece here begun told begun' state whole kept =
-    let tree = atom (literal state) in
-    record {
-      tells = whole;
-      leaves = λ can next long.
-          agree_then (literal_leaves piece here begun [] told [] begun' state
-          (between_none piece.begin (end_of_piece piece))
-          (agree_then whole
-          (agree_sym (nothing_enters (alone piece) (atom_mark here begun) tree)))
-          (none_kept (EndsAt (end_of_piece piece))) kept next long)
-          (agree_crossing (end_of_piece piece)
-          (nothing_enters (over piece next) (atom_mark here begun) tree));
-      takes = λ can. tt;
-      well = record {
-        well = (
-          end_at_none (end_of_piece piece),
-          record { ends = λ a b n some h. ((kept.at a b n some).0 h).right.ends },
-        );
-      };
-    }
 
 pub literal_beside : (piece : Piece)
     (here begun enter told last last' here' begun' : List ZoneBounds) (state : StateTree)

@@ -1,38 +1,23 @@
 -- The steps of the other forms, as the calls say them.
-use Rattle.std.proofs.Common.{◌≡◌, ◌*◌, List, [], inl, inr, ⊎_elim, Result, Ok, Err, IfOk, sym, subst, arith}
-use Rattle.tre_pairs.specs.Pairs.{Composed, Either, Both, Chain}
-use Rattle.tre_pairs.proofs.Laws.{Agree}
-use Rattle.tre_zone.specs.Held.{Held, EndAt, IsSetOf}
-use Rattle.tre_zone.proofs.HeldSets.{Held-empty}
+use Rattle.std.proofs.Common.{◌≡◌, ◌*◌, List, [], inl, ⊎_elim, Result, Ok, Err, IfOk, sym, subst, arith}
+use Rattle.tre_pairs.specs.Pairs.{Composed, Either, Chain}
+use Rattle.tre_zone.specs.Held.{Held, IsSetOf}
 use Rattle.tre_syntax.specs.Meaning.{MatchesRest}
 use Rattle.tre_syntax.specs.PatternTree.{PatternTree, sequence, alternation, repetition}
-use Rattle.tre_zone.specs.Zone.{IsInstantBetween, EndsAt}
+use Rattle.tre_zone.specs.Zone.{IsInstantBetween}
 use Rattle.tre_zone.specs.ZoneList.{HoldExactly}
 use Rattle.tre_zone.specs.declared.zone_bounds.ZoneBounds.{ZoneBounds}
 use Rattle.tre_edges.specs.Piece.{rest_of_piece, end_of_piece}
 use Rattle.tre_edges.specs.declared.piece.Piece.{Piece}
 use Rattle.tre_mark.specs.MarkTree.{MarkTree, sequence_mark, alternation_mark, repetition_mark, intersection_none}
 use Rattle.tre_mark.specs.Marked.{EndBetween, IsWellAt}
-use Rattle.tre_mark.proofs.Agreeing.{agree_refl, agree_then, agree_composed}
-use Rattle.tre_advance.specs.Moves.{StepsTo, EntersTo, KeepsHere}
+use Rattle.tre_advance.specs.Moves.{EntersTo, KeepsHere}
 use Rattle.tre_advance.proofs.AtomForms.{inside_agrees}
-use Rattle.tre_advance.proofs.FormSteps.{sequence_inner, sequence_beside, alternation_inner, alternation_beside}
+use Rattle.tre_advance.proofs.FormSteps.{sequence_beside, alternation_beside}
 use Rattle.tre_advance.proofs.Going.{alone}
 use Rattle.tre_advance.proofs.SetsOf.{set_agrees, set_of, no_pair}
-use Rattle.tre_advance.proofs.StarSteps.{Started, enter_tells, repetition_inner, repetition_beside}
-use Rattle.tre_advance.proofs.Steps.{Followed, steps_of, of_steps, enters_of, of_enters, followed_between}
-
-pub sequence_steps_to : (piece : Piece) (one other one' next other' : MarkTree)
-    (left right : PatternTree) (first second third told : List ZoneBounds)
-    → StepsTo one left piece first one' → StepsTo other right piece second next
-    → EntersTo next right first piece third other'
-    → IsSetOf told (Either (Held second) (Held third))
-    → StepsTo (sequence_mark one other) (sequence left right) piece told (sequence_mark one' other')
-sequence_steps_to piece one other one' next other' left right first second third told f g e union =
-    steps_of piece (sequence left right) told (sequence_mark one' other') (sequence_mark one other)
-    (sequence_inner piece one other one' next other' left right first second third told
-    (of_steps piece left first one' one f) (of_steps piece right second next other g)
-    (of_enters piece right third other' next first e) (set_agrees union))
+use Rattle.tre_advance.proofs.StarSteps.{enter_tells, repetition_beside}
+use Rattle.tre_advance.proofs.Steps.{Followed, enters_of, of_enters, followed_between}
 
 pub sequence_enters_to : (piece : Piece) (one other one' other' : MarkTree)
     (left right : PatternTree) (enter first second : List ZoneBounds)
@@ -46,19 +31,6 @@ sequence_enters_to piece one other one' other' left right enter first second bet
     (sequence_beside piece one other one' other' left right enter first second between
     (of_enters piece left first one' one enter f) (of_enters piece right second other' other first
     g))
-
-pub alternation_steps_to : (piece : Piece) (one other one' other' : MarkTree)
-    (left right : PatternTree) (first second told : List ZoneBounds)
-    → StepsTo one left piece first one' → StepsTo other right piece second other'
-    → IsSetOf told (Either (Held first) (Held second))
-    → StepsTo (alternation_mark one other) (alternation left right) piece told
-    (alternation_mark one' other')
-alternation_steps_to piece one other one' other' left right first second told f g union =
-    steps_of piece (alternation left right) told (alternation_mark one' other')
-    (alternation_mark one other)
-    (alternation_inner piece one other one' other' left right first second told
-    (of_steps piece left first one' one f) (of_steps piece right second other' other g)
-    (set_agrees union))
 
 pub alternation_enters_to : (piece : Piece) (one other one' other' : MarkTree)
     (left right : PatternTree) (enter first second told : List ZoneBounds)
@@ -117,54 +89,6 @@ pub repeat_between : (piece : Piece) (tree : PatternTree) (starts told : List Zo
 repeat_between piece tree starts told set =
     followed_between piece (repetition tree) told intersection_none (Held starts) (set_agrees set)
 
-pub again_set : (piece : Piece) (tree : PatternTree) (ended here starts told : List ZoneBounds)
-    → IsSetOf starts (Either (Held ended) (Held here))
-    → IsSetOf told (Followed (Held starts) (repetition tree) (alone piece))
-    → IsSetOf told (Followed (Either (Held ended) (Held here)) (repetition tree) (alone piece))
-again_set piece tree ended here starts told union set =
-    set_of (agree_then (set_agrees set)
-    (agree_composed (set_agrees union) (agree_refl (MatchesRest (repetition tree) (alone piece)))))
-
-pub repetition_steps_to : (piece : Piece) (here : List ZoneBounds)
-    (body body' body'' rest : MarkTree)
-    (tree : PatternTree) (ended told told' none : List ZoneBounds)
-    → EndAt piece.begin here → StepsTo body tree piece ended body'
-    → IsSetOf told (Followed (Either (Held ended) (Held here)) (repetition tree) (alone piece))
-    → EntersTo body' tree told piece told' body''
-    → none ≡ [] → KeepsHere (end_of_piece piece) none told body'' rest
-    → StepsTo (repetition_mark here body) (repetition tree) piece told rest
-repetition_steps_to piece here body body' body'' rest tree ended told told' none ends f set e empty
-    kept =
-    let T' = end_of_piece piece in
-    let inner = of_steps piece tree ended body' body f in
-    let alike : Agree (Either (Held ended) (Held here))
-    (Started piece here body tree ends (alone piece)) =
-    record {
-      at = λ a b n some.
-          let same = inner.tells.at a b n some in (
-            (λ h. ⊎_elim (λ x. inl (same.0 x)) (λ x. inr (inl x)) h),
-            (λ h. ⊎_elim (λ x. inl (same.1 x))
-                (λ x. ⊎_elim (λ y. inr y) (λ y. absurd (Held-empty a b n y)) x) h),
-          );
-    } in
-    let last : Agree (Held kept.here) (Both (Held told) (EndsAt T')) =
-    agree_then (set_agrees kept.union)
-    (agree_then (record {
-      at = λ a b n some. (
-        (λ h. ⊎_elim (λ x. x) (λ x. absurd (no_pair none empty a b n x)) h),
-        (λ h. inl h),
-      );
-    }) (set_agrees kept.ends)) in
-    subst (λ (mark : MarkTree). StepsTo (repetition_mark here body) (repetition tree) piece told
-    mark)
-    (sym kept.shape)
-    (steps_of piece (repetition tree) told (repetition_mark kept.here body'')
-    (repetition_mark here body)
-    (repetition_inner piece here body tree ends told ended told' kept.here body' body''
-    (agree_then (set_agrees set)
-    (agree_composed alike (agree_refl (MatchesRest (repetition tree) (alone piece)))))
-    last inner (of_enters piece tree told' body'' body' told e)))
-
 pub repetition_enters_to : (piece : Piece) (old : List ZoneBounds) (body body' rest : MarkTree)
     (tree : PatternTree) (enter told told' : List ZoneBounds)
     → EndBetween piece.begin (end_of_piece piece) enter
@@ -202,13 +126,6 @@ pub enters_moved : (piece : Piece) (mark mark' : MarkTree) (tree tree' : Pattern
 enters_moved piece mark mark' tree tree' enter told rest e f h =
     subst (λ (t : PatternTree). EntersTo mark' t enter piece told rest) (sym f)
     (subst (λ (m : MarkTree). EntersTo m tree enter piece told rest) (sym e) h)
-
-pub steps_moved : (piece : Piece) (mark mark' : MarkTree) (tree tree' : PatternTree)
-    (told : List ZoneBounds) (rest : MarkTree) → mark' ≡ mark → tree' ≡ tree
-    → StepsTo mark tree piece told rest → StepsTo mark' tree' piece told rest
-steps_moved piece mark mark' tree tree' told rest e f h =
-    subst (λ (t : PatternTree). StepsTo mark' t piece told rest) (sym f)
-    (subst (λ (m : MarkTree). StepsTo m tree piece told rest) (sym e) h)
 
 -- Two facts of one result.
 pub IfOk-both : {T E : Type 0} (result : Result T E) (P Q : T → Type 0) → IfOk result P

@@ -13,13 +13,12 @@ use Rattle.tre_trace.specs.Trace.{Timeline}
 use Rattle.tre_zone.specs.declared.zone_bounds.ZoneBounds.{ZoneBounds}
 use Rattle.tre_edges.specs.declared.piece.Piece.{Piece}
 use Rattle.tre_mark.specs.MarkTree.{MarkTree, sequence_mark, alternation_mark}
-use Rattle.tre_mark.specs.Marked.{CanTakeIn, Marked, EndBetween}
+use Rattle.tre_mark.specs.Marked.{Marked, EndBetween}
 use Rattle.tre_mark.proofs.Agreeing.{agree_refl, agree_sym, agree_then, agree_composed, agree_either, agree_assoc}
 use Rattle.tre_edges.specs.Piece.{end_of_piece}
-use Rattle.tre_advance.specs.Moves.{with_piece}
 use Rattle.tre_advance.proofs.Crossings.{IsFront, agree_crossing, cross_either, cross_followed, distributes}
-use Rattle.tre_advance.proofs.Going.{over, alone, behind, cut_of, mark_front, followed_front}
-use Rattle.tre_advance.proofs.Steps.{Inner, Beside, Followed}
+use Rattle.tre_advance.proofs.Going.{over, alone, behind, cut_of, followed_front}
+use Rattle.tre_advance.proofs.Steps.{Beside, Followed}
 
 -- What crosses where the second part of a sequence follows a front.
 module _ (piece : Piece) (right : PatternTree) (next : Timeline) (G F : Pairs)
@@ -35,60 +34,6 @@ module _ (piece : Piece) (right : PatternTree) (next : Timeline) (G F : Pairs)
       (MatchesRest right (alone piece))
       (MatchesRest right (behind piece next)) front (cut_of piece next right)
       (IsOrdered-rest right W)
-
-pub sequence_inner : {Q R : Type 0} → (piece : Piece) (one other one' other' other'' : MarkTree)
-    (left right : PatternTree) (first second third told : List ZoneBounds)
-    → Inner Q piece left (λ r. Marked r one left) first one'
-    → Inner R piece right (λ r. Marked r other right) second other'
-    → Beside (CanTakeIn (with_piece piece) other' right) piece right other'
-    (Followed (Held first) right) third other''
-    → Agree (Held told) (Either (Held second) (Held third))
-    → Inner (Q × R) piece (sequence left right) (λ r. Marked r (sequence_mark one other)
-    (sequence left right))
-    told (sequence_mark one' other'')
-sequence_inner piece one other one' other' other'' left right first second third told f g e union =
-    let T' = end_of_piece piece in
-    let P = alone piece in
-    record {
-      tells = agree_then union
-          (agree_then
-          (agree_either g.tells
-          (agree_then e.tells (agree_composed f.tells (agree_refl (MatchesRest right P)))))
-          (record {
-            at = λ a b n some. (
-              (λ h. ⊎_elim (λ x. inr x) (λ x. inl x) h),
-              (λ h. ⊎_elim (λ x. inr x) (λ x. inl x) h),
-            );
-          }));
-      leaves = λ can next long.
-          let W = over piece next in
-          let V = behind piece next in
-          let X = MatchesRest right W in
-          let M = Marked W one left in
-          let split = cross_second piece right next M (Marked P one left)
-          (mark_front piece next one left) in
-          let whole = agree_then (cross_either T' (Composed M X) (Marked W other right))
-          (agree_either split (agree_refl (Crossing T' (Marked W other right)))) in
-          let start = agree_composed (f.leaves can.0 next long)
-          (agree_refl (MatchesRest right V)) in
-          let last = agree_then (e.leaves (g.takes can.1) next long)
-          (agree_either (g.leaves can.1 next long)
-          (agree_crossing T' (agree_composed f.tells (agree_refl X)))) in
-          record {
-            at = λ a b n some.
-                let w = whole.at a b n some in
-                let s = start.at a b n some in
-                let l = last.at a b n some in (
-                  (λ h. w.1 (⊎_elim (λ x. inl (inl (s.0 x)))
-                      (λ x. ⊎_elim (λ y. inr y) (λ y. inl (inr y)) (l.0 x)) h)),
-                  (λ h. ⊎_elim
-                      (λ x. ⊎_elim (λ y. inl (s.1 y)) (λ y. inr (l.1 (inr y))) x)
-                      (λ x. inr (l.1 (inl x))) (w.0 h)),
-                );
-          };
-      takes = λ can. (f.takes can.0, e.takes (g.takes can.1));
-      well = record { well = (f.well.well, e.well.well) };
-    }
 
 pub sequence_beside : {Q R : Type 0} → (piece : Piece) (one other one' other' : MarkTree)
     (left right : PatternTree) (enter first second : List ZoneBounds)
@@ -140,24 +85,6 @@ sequence_beside piece one other one' other' left right enter first second betwee
       takes = λ can. (f.takes can.0, g.takes can.1);
       well = record { well = (f.well.well, g.well.well) };
     }
-
-pub alternation_inner : {Q R : Type 0} → (piece : Piece) (one other one' other' : MarkTree)
-    (left right : PatternTree) (first second told : List ZoneBounds)
-    → Inner Q piece left (λ r. Marked r one left) first one'
-    → Inner R piece right (λ r. Marked r other right) second other'
-    → Agree (Held told) (Either (Held first) (Held second))
-    → Inner (Q × R) piece (alternation left right)
-    (λ r. Marked r (alternation_mark one other) (alternation left right)) told
-    (alternation_mark one' other')
-alternation_inner piece one other one' other' left right first second told f g union = record {
-  tells = agree_then union (agree_either f.tells g.tells);
-  leaves = λ can next long.
-      let W = over piece next in
-      agree_then (agree_either (f.leaves can.0 next long) (g.leaves can.1 next long))
-      (agree_sym (cross_either (end_of_piece piece) (Marked W one left) (Marked W other right)));
-  takes = λ can. (f.takes can.0, g.takes can.1);
-  well = record { well = (f.well.well, g.well.well) };
-}
 
 -- Either of two matches follows.
 pub followed_either : (E : Pairs) (left right : PatternTree) (rest : Rest)

@@ -1,4 +1,4 @@
--- The steps of intersections and restrictions that have begun, and what enters them.
+-- What enters intersections and restrictions.
 use Rattle.std.proofs.Common.{◌≡◌, ℕ, ◌*◌, ◌<◌, ◌≤◌, List, [], ⊎_elim, refl, subst, arith}
 use Rattle.std.proofs.Math.Nat.{mul-le-mul_right}
 use Rattle.tre_pairs.specs.Cuts.{Crossing}
@@ -21,16 +21,16 @@ use Rattle.tre_mark.specs.Marked.{AnyDuration, Marked, EndBetween, IsEntered, Is
 use Rattle.tre_mark.proofs.Agreeing.{agree_refl, agree_sym, agree_then, agree_composed, agree_either}
 use Rattle.tre_mark.proofs.Starts.{bare_open, nothing_open}
 use Rattle.tre_advance.specs.Instances.{IsRestriction, IsIntersection, LeavesRestriction, LeavesIntersection}
-use Rattle.tre_advance.specs.Moves.{with_piece, StepsTo, EntersTo}
+use Rattle.tre_advance.specs.Advance.{with_piece}
+use Rattle.tre_advance.specs.Moves.{EntersTo}
 use Rattle.tre_advance.proofs.Crossings.{cross_after}
 use Rattle.tre_advance.proofs.Going.{over, alone, behind, begin_end}
-use Rattle.tre_advance.proofs.Opening.{stepped_open}
 use Rattle.tre_advance.proofs.SetsOf.{set_agrees}
-use Rattle.tre_advance.proofs.Steps.{all_moments, steps_of, of_steps, enters_of, of_enters}
+use Rattle.tre_advance.proofs.Steps.{all_moments, enters_of, of_enters}
 use Rattle.tre_advance.proofs.Takings.{entered_open, takes_of, taken_lasting, taken_both}
 
 -- Of what enters or is entered something crosses the end where what goes on does.
-cross_outer : (piece : Piece) (outer : List ZoneBounds) (N K : Pairs)
+pub cross_outer : (piece : Piece) (outer : List ZoneBounds) (N K : Pairs)
     → ((a b n : ℕ) → 0 < n → Held outer a b n → b ≤ end_of_piece piece * n)
     → Agree K (Crossing (end_of_piece piece) N)
     → Agree (Composed (Held outer) K) (Crossing (end_of_piece piece) (Composed (Held outer) N))
@@ -98,42 +98,6 @@ restriction_unbegun tree interval outer body none unbegun = record {
   );
 }
 
-module _ (piece : Piece) (tree : PatternTree) (interval : IntervalEnds) (to : ℕ)
-    (outer told new_told : List ZoneBounds) (one rest new : MarkTree)
-    (ends : EndBy piece.begin outer) (steps : StepsTo one tree piece told rest)
-    (tells : IsSetOf new_told
-    (Composed (Held outer) (Lasting (LastsWithin interval) (Held told))))
-    (leaves : LeavesRestriction (end_of_piece piece) interval outer rest new) where
-  pub lasting_steps : StepsTo (restriction_one to outer one) (restriction tree interval) piece
-      new_told new
-  lasting_steps =
-      let D = LastsWithin interval in
-      let T' = end_of_piece piece in
-      let inner = of_steps piece tree told rest one steps in
-      steps_of piece (restriction tree interval) new_told new (restriction_one to outer one)
-      (record {
-        tells = agree_then (set_agrees tells)
-            (agree_composed (agree_refl (Held outer))
-            (Agree-Lasting D (Held told) (Marked (alone piece) one tree) inner.tells));
-        leaves = λ can next long.
-            let W = over piece next in
-            let V = behind piece next in
-            agree_then (record { at = leaves.pairs tree V refl })
-            (cross_outer piece outer (Lasting D (Marked W one tree))
-            (Lasting D (Marked V rest tree)) (later_ends piece outer ends).ends
-            (agree_then
-            (Agree-Lasting D (Marked V rest tree) (Crossing T' (Marked W one tree))
-            (inner.leaves can.1 next long))
-            (agree_sym (record {
-              at = λ a b n some. crossing_lasting T' D (Marked W one tree) a b n;
-            }))));
-        takes = λ can.
-            leaves.takes tree (with_piece piece)
-            (stepped_open piece D outer one tree rest ends.ends can.0 (inner.leaves can.1))
-            (inner.takes can.1);
-        well = leaves.well tree inner.well;
-      })
-
 module _ (piece : Piece) (tree : PatternTree) (interval : IntervalEnds)
     (outer enter whole all told new_told : List ZoneBounds) (one mark rest new : MarkTree)
     (between : EndBetween piece.begin (end_of_piece piece) enter)
@@ -164,11 +128,12 @@ module _ (piece : Piece) (tree : PatternTree) (interval : IntervalEnds)
             let parts = is.takes (with_piece piece) can in
             agree_then (record { at = leaves.pairs tree V refl })
             (agree_then
-            (taken_lasting T' outer enter whole union between.end D M (Marked V rest tree) X
+            (taken_lasting outer enter whole union D M (Marked V rest tree) (Crossing T' X)
             (takes_of piece tree all held D outer one rest parts.0 (beside.leaves parts.1) enter
             between next long))
             (agree_either (agree_sym (record { at = is.pairs V }))
-            (agree_refl (Crossing T' (Composed (Held enter) (Lasting D X))))));
+            (cross_outer piece enter (Lasting D X) (Lasting D (Crossing T' X)) between.end
+            (agree_sym (record { at = λ a b n some. crossing_lasting T' D X a b n })))));
         takes = λ can.
             let parts = is.takes (with_piece piece) can in
             leaves.takes tree (with_piece piece)
@@ -205,47 +170,6 @@ intersection_unbegun left right outer one other none unbegun unbegun' = record {
   );
 }
 
-module _ (piece : Piece) (left right : PatternTree) (to : ℕ)
-    (outer told told' new_told : List ZoneBounds) (one other rest rest' new : MarkTree)
-    (ends : EndBy piece.begin outer) (steps : StepsTo one left piece told rest)
-    (steps' : StepsTo other right piece told' rest')
-    (tells : IsSetOf new_told (Composed (Held outer) (Both (Held told) (Held told'))))
-    (leaves : LeavesIntersection (end_of_piece piece) outer rest rest' new) where
-  pub both_steps : StepsTo (intersection_one to outer one other) (intersection left right) piece
-      new_told new
-  both_steps =
-      let T' = end_of_piece piece in
-      let P = alone piece in
-      let inner = of_steps piece left told rest one steps in
-      let inner' = of_steps piece right told' rest' other steps' in
-      steps_of piece (intersection left right) new_told new (intersection_one to outer one other)
-      (record {
-        tells = agree_then (set_agrees tells)
-            (agree_composed (agree_refl (Held outer))
-            (Agree-Both (Held told) (Marked P one left) (Held told') (Marked P other right)
-            inner.tells inner'.tells));
-        leaves = λ can next long.
-            let W = over piece next in
-            let V = behind piece next in
-            let M = Marked W one left in
-            let N = Marked W other right in
-            agree_then (record { at = leaves.pairs left right V })
-            (cross_outer piece outer (Both M N) (Both (Marked V rest left) (Marked V rest' right))
-            (later_ends piece outer ends).ends
-            (agree_then
-            (Agree-Both (Marked V rest left) (Crossing T' M) (Marked V rest' right) (Crossing T' N)
-            (inner.leaves can.2 next long) (inner'.leaves can.3 next long))
-            (agree_sym (record { at = λ a b n some. crossing_both T' M N a b n }))));
-        takes = λ can.
-            leaves.takes left right (with_piece piece)
-            (stepped_open piece AnyDuration outer one left rest ends.ends can.0
-            (inner.leaves can.2))
-            (stepped_open piece AnyDuration outer other right rest' ends.ends can.1
-            (inner'.leaves can.3))
-            (inner.takes can.2) (inner'.takes can.3);
-        well = leaves.well left right inner.well inner'.well;
-      })
-
 module _ (piece : Piece) (left right : PatternTree)
     (outer enter whole all told told' new_told : List ZoneBounds)
     (one other mark rest rest' new : MarkTree)
@@ -278,14 +202,15 @@ module _ (piece : Piece) (left right : PatternTree)
             let parts = is.takes (with_piece piece) can in
             agree_then (record { at = leaves.pairs left right V })
             (agree_then
-            (taken_both T' outer enter whole union between.end (Marked V one left)
-            (Marked V rest left) X (Marked V other right) (Marked V rest' right) Y
+            (taken_both outer enter whole union (Marked V one left) (Marked V rest left)
+            (Crossing T' X) (Marked V other right) (Marked V rest' right) (Crossing T' Y)
             (takes_of piece left all held AnyDuration outer one rest parts.0
             (beside.leaves parts.2) enter between next long)
             (takes_of piece right all held AnyDuration outer other rest' parts.1
             (beside'.leaves parts.3) enter between next long))
             (agree_either (agree_sym (record { at = is.pairs V }))
-            (agree_refl (Crossing T' (Composed (Held enter) (Both X Y))))));
+            (cross_outer piece enter (Both X Y) (Both (Crossing T' X) (Crossing T' Y)) between.end
+            (agree_sym (record { at = λ a b n some. crossing_both T' X Y a b n })))));
         takes = λ can.
             let parts = is.takes (with_piece piece) can in
             leaves.takes left right (with_piece piece)

@@ -7,7 +7,7 @@ pub mod Crossings
 pub mod Going
 -- marks that can take in what begins later
 pub mod Opening
--- what a step does, form by form
+-- what a mark does over a piece, form by form
 pub mod Steps
 pub mod FormSteps
 pub mod StarSteps
@@ -18,6 +18,7 @@ pub mod Takings
 pub mod Shortenings
 pub mod Recent
 pub mod InstanceSteps
+pub mod Passings
 -- what a mark tells where the trace ends
 pub mod Closings
 -- and as the calls say it

@@ -6,6 +6,7 @@ use Rattle.tre_pairs.proofs.Laws.{Agree}
 use Rattle.tre_pairs.proofs.Order.{IsOrdered-Composed, IsOrdered-Either}
 use Rattle.tre_pairs.proofs.Ticks.{le_down}
 use Rattle.tre_zone.specs.Held.{Held, EndAt, IsSetOf}
+use Rattle.tre_zone.specs.Interval.{IntervalEnds}
 use Rattle.tre_zone.specs.Zone.{EndsAt}
 use Rattle.tre_zone.specs.declared.zone_bounds.ZoneBounds.{ZoneBounds}
 use Rattle.tre_zone.proofs.HeldSets.{Scales-Held, IsOrdered-Held, Held-empty}
@@ -16,21 +17,20 @@ use Rattle.tre_syntax.proofs.CutMeaning.{Scales-rest, IsOrdered-rest, IsBounded-
 use Rattle.tre_trace.specs.Trace.{Timeline, quiet, AreLong}
 use Rattle.tre_edges.specs.Piece.{end_of_piece}
 use Rattle.tre_edges.specs.declared.piece.Piece.{Piece}
-use Rattle.tre_mark.specs.MarkTree.{MarkTree, atom_mark, sequence_mark, alternation_mark, repetition_mark}
+use Rattle.tre_mark.specs.MarkTree.{MarkTree, atom_mark, sequence_mark, alternation_mark, repetition_mark, intersection_none, restriction_none}
 use Rattle.tre_mark.specs.Marked.{CanTakeIn, Marked, EndBetween, IsWellAt}
 use Rattle.tre_mark.proofs.Agreeing.{agree_refl, agree_sym, agree_then, agree_composed, agree_either, agree_assoc}
 use Rattle.tre_mark.proofs.Growth.{mark_ends, ends_composed, tree_ends}
 use Rattle.tre_mark.proofs.Meanings.{around_present, IsOrdered-Marked}
-use Rattle.tre_advance.specs.Advance.{GoesOver, MarkedBehind, before_piece, after_piece, Advances}
-use Rattle.tre_advance.specs.Moves.{StepsTo, EntersTo, KeepsHere, IsBriefTree, IsLiteralTree}
+use Rattle.tre_advance.specs.Advance.{GoesOver, MarkedBehind, before_piece, with_piece, Advances}
+use Rattle.tre_advance.specs.Moves.{EntersTo, KeepsHere, IsBriefTree, IsLiteralTree}
 use Rattle.tre_advance.proofs.AtomSteps.{IsBrief, brief_empty, brief_rise, brief_fall, brief_event, literal_tells, brief_tells, brief_leaves, literal_leaves}
 use Rattle.tre_advance.proofs.Crossings.{IsFront, agree_crossing, cross_either, distributes}
 use Rattle.tre_advance.proofs.FormSteps.{cross_second, followed_either}
-use Rattle.tre_advance.proofs.Going.{over, alone, behind, begin_le, mark_front, followed_front}
-use Rattle.tre_advance.proofs.Opening.{all_later}
-use Rattle.tre_advance.proofs.SetsOf.{exact_set, set_exact, no_pair}
-use Rattle.tre_advance.proofs.StarSteps.{Starts, Started, starts_between, marked_repetition, leaves_repetition}
-use Rattle.tre_advance.proofs.Steps.{Followed, of_steps, of_enters}
+use Rattle.tre_advance.proofs.Going.{over, alone, behind, begin_le, begin_end, mark_front, followed_front}
+use Rattle.tre_advance.proofs.SetsOf.{set_agrees, set_none, exact_set, set_exact, no_pair}
+use Rattle.tre_advance.proofs.StarSteps.{Starts, Started, marked_repetition, leaves_repetition}
+use Rattle.tre_advance.proofs.Steps.{Followed, of_enters}
 
 -- The pairs of a mark, and those that enter and that a match follows.
 abbrev pub Onward : Rest → MarkTree → PatternTree → List ZoneBounds → Pairs
@@ -39,12 +39,14 @@ Onward rest mark tree enter = Either (Marked rest mark tree) (Followed (Held ent
 -- Told are these over the piece, and what is left are those over more that cross its end.
 pub record Proceeds (piece : Piece) (mark : MarkTree) (tree : PatternTree)
     (enter told : List ZoneBounds) (rest : MarkTree) : Type 0 where
-  pub tells : Agree (Held told) (Onward (alone piece) mark tree enter)
+  pub tells : CanTakeIn (before_piece piece) mark tree
+      → Agree (Held told) (Onward (alone piece) mark tree enter)
   pub leaves : CanTakeIn (before_piece piece) mark tree → (next : Timeline)
       → AreLong next.segments
       → Agree (Marked (behind piece next) rest tree)
       (Crossing (end_of_piece piece) (Onward (over piece next) mark tree enter))
-  pub takes : CanTakeIn (before_piece piece) mark tree → CanTakeIn (after_piece piece) rest tree
+  pub takes : CanTakeIn (before_piece piece) mark tree → CanTakeIn (with_piece piece) rest tree
+  pub between : EndBetween piece.begin (end_of_piece piece) told
   pub well : IsWellAt (end_of_piece piece) rest tree
 
 module _ (piece : Piece) (mark : MarkTree) (tree : PatternTree) (enter told : List ZoneBounds)
@@ -58,11 +60,24 @@ module _ (piece : Piece) (mark : MarkTree) (tree : PatternTree) (enter told : Li
       let rising = (IsOrdered-rest tree P).le x.midpoint (k * b) (k * n) x.right in
       le_down k piece.begin b n x.positive (omega (arith, begin, rising))
 
+  -- What goes on over the piece alone ends in it.
+  onward_between : Agree (Held told) (Onward (alone piece) mark tree enter)
+      → EndBetween piece.begin (end_of_piece piece) told
+  onward_between same = record {
+    begin = λ a b n some h. ⊎_elim
+        (λ x. (around_present (alone piece) mark tree a b n x).1)
+        (λ x. followed_begins a b n some x) ((same.at a b n some).0 h);
+    end = λ a b n some h. ⊎_elim
+        (λ x. mark_ends (alone piece) (begin_le piece) mark tree a b n x)
+        (λ x. ends_composed (alone piece) (Held enter) (MatchesRest tree (alone piece))
+        (tree_ends (alone piece) tree) a b n x) ((same.at a b n some).0 h);
+  }
+
   pub advances_by : Proceeds piece mark tree enter told rest → Advances mark tree enter piece told rest
   unfolding GoesOver MarkedBehind
   advances_by goes = record {
-    tells = exact_set told (GoesOver mark tree enter piece (quiet []))
-        (record { pairs = goes.tells.at });
+    tells = λ can. exact_set told (GoesOver mark tree enter piece (quiet []))
+        (record { pairs = (goes.tells can).at });
     leaves = λ can next a b n long some.
         let same = (goes.leaves can next long).at a b n some in (
           (λ h.
@@ -71,15 +86,7 @@ module _ (piece : Piece) (mark : MarkTree) (tree : PatternTree) (enter told : Li
           (λ h. same.1 (record { related = h.related; begin = h.begin; end = h.end })),
         );
     takes = goes.takes;
-    between = record {
-      begin = λ a b n some h. ⊎_elim
-          (λ x. (around_present (alone piece) mark tree a b n x).1)
-          (λ x. followed_begins a b n some x) ((goes.tells.at a b n some).0 h);
-      end = λ a b n some h. ⊎_elim
-          (λ x. mark_ends (alone piece) (begin_le piece) mark tree a b n x)
-          (λ x. ends_composed (alone piece) (Held enter) (MatchesRest tree (alone piece))
-          (tree_ends (alone piece) tree) a b n x) ((goes.tells.at a b n some).0 h);
-    };
+    between = goes.between;
     well = goes.well;
   }
 
@@ -87,14 +94,13 @@ module _ (piece : Piece) (mark : MarkTree) (tree : PatternTree) (enter told : Li
   unfolding GoesOver MarkedBehind
   proceeds_by advances =
       let P = alone piece in
-      let set = set_exact told (Onward P mark tree enter)
-      (IsOrdered-Either (Marked P mark tree) (Followed (Held enter) tree P)
-      (IsOrdered-Marked P mark tree)
-      (IsOrdered-Composed (Held enter) (MatchesRest tree P) (IsOrdered-Held enter)
-      (IsOrdered-rest tree P)))
-      (record { exact = advances.tells.exact }) in
       record {
-        tells = record { at = set.pairs };
+        tells = λ can. set_agrees (set_exact told (Onward P mark tree enter)
+            (IsOrdered-Either (Marked P mark tree) (Followed (Held enter) tree P)
+            (IsOrdered-Marked P mark tree)
+            (IsOrdered-Composed (Held enter) (MatchesRest tree P) (IsOrdered-Held enter)
+            (IsOrdered-rest tree P)))
+            (record { exact = (advances.tells can).exact }));
         leaves = λ can next long. record {
           at = λ a b n some.
               let same = advances.leaves can next a b n long some in (
@@ -105,6 +111,7 @@ module _ (piece : Piece) (mark : MarkTree) (tree : PatternTree) (enter told : Li
               );
         };
         takes = advances.takes;
+        between = advances.between;
         well = advances.well;
       }
 
@@ -147,17 +154,21 @@ module _ (piece : Piece) (here begun enter told here' : List ZoneBounds)
       → Advances (atom_mark here begun) (atom x) enter piece told (atom_mark here' [])
   brief_advances_by x brief well whole =
       let X = MatchesRest (atom x) (alone piece) in
-      advances_by piece (atom_mark here begun) (atom x) enter told (atom_mark here' [])
+      let mark = atom_mark here begun in
+      let tells : Agree (Held told) (Onward (alone piece) mark (atom x) enter) =
+      agree_then (record { at = whole.pairs })
+      (agree_then (atom_told here begun enter X)
+      (agree_either
+      (brief_tells piece here begun x well.well.0 brief (brief.begun piece.begin begun well.well.1))
+      (agree_refl (Followed (Held enter) (atom x) (alone piece))))) in
+      advances_by piece mark (atom x) enter told (atom_mark here' [])
       (record {
-        tells = agree_then (record { at = whole.pairs })
-            (agree_then (atom_told here begun enter X)
-            (agree_either
-            (brief_tells piece here begun x well.well.0 brief (brief.begun piece.begin begun well.well.1))
-            (agree_refl (Followed (Held enter) (atom x) (alone piece)))));
+        tells = λ can. tells;
         leaves = λ can next long.
             brief_leaves piece here begun enter here' x brief between (record { at = kept.pairs })
             next;
         takes = λ can. tt;
+        between = onward_between piece mark (atom x) enter told (atom_mark here' []) tells;
         well = record {
           well = (
             record { ends = λ a b n some h. ((kept.pairs a b n some).0 h).right.ends },
@@ -197,11 +208,13 @@ module _ (piece : Piece) (here begun enter told here' : List ZoneBounds)
       (agree_refl (Followed (Held enter) tree (alone piece))))) in
       advances_by piece (atom_mark here begun) tree enter told (atom_mark here' begun')
       (record {
-        tells = tells;
+        tells = λ can. tells;
         leaves = λ can next long.
             literal_leaves piece here begun enter told here' begun' state between tells
             (record { at = kept.pairs }) (record { at = kept'.pairs }) next long;
         takes = λ can. tt;
+        between = onward_between piece (atom_mark here begun) tree enter told
+            (atom_mark here' begun') tells;
         well = record {
           well = (
             record { ends = λ a b n some h. ((kept.pairs a b n some).0 h).right.ends },
@@ -268,11 +281,11 @@ module _ (piece : Piece) (one other one' other' : MarkTree) (left right : Patter
       let T' = end_of_piece piece in
       let P = alone piece in
       record {
-        tells = agree_then g.tells
+        tells = λ can. agree_then (g.tells can.1)
             (agree_then
             (record {
               at = λ a b n some.
-                  let c = (agree_composed f.tells (agree_refl (MatchesRest right P))).at a b n some in (
+                  let c = (agree_composed (f.tells can.0) (agree_refl (MatchesRest right P))).at a b n some in (
                     (λ h. ⊎_elim (λ x. inr x) (λ x. inl (c.0 x)) h),
                     (λ h. ⊎_elim (λ x. inr (c.1 x)) (λ x. inl x) h),
                   );
@@ -298,7 +311,7 @@ module _ (piece : Piece) (one other one' other' : MarkTree) (left right : Patter
             let last = agree_then (g.leaves can.1 next long)
             (agree_then (cross_either T' (Marked W other right) (Composed (Held first) X))
             (agree_either (agree_refl (Crossing T' (Marked W other right)))
-            (agree_crossing T' (agree_composed f.tells (agree_refl X))))) in
+            (agree_crossing T' (agree_composed (f.tells can.0) (agree_refl X))))) in
             record {
               at = λ a b n some.
                   let w = whole.at a b n some in
@@ -312,6 +325,7 @@ module _ (piece : Piece) (one other one' other' : MarkTree) (left right : Patter
                   );
             };
         takes = λ can. (f.takes can.0, g.takes can.1);
+        between = g.between;
         well = record { well = (f.well.well, g.well.well) };
       }
 
@@ -349,8 +363,8 @@ module _ (piece : Piece) (one other one' other' : MarkTree) (left right : Patter
   alternation_goes f g =
       let T' = end_of_piece piece in
       record {
-        tells = agree_then (record { at = union.pairs })
-            (agree_then (agree_either f.tells g.tells) (agree_sym (in_either (alone piece))));
+        tells = λ can. agree_then (record { at = union.pairs })
+            (agree_then (agree_either (f.tells can.0) (g.tells can.1)) (agree_sym (in_either (alone piece))));
         leaves = λ can next long.
             let W = over piece next in
             agree_then (agree_either (f.leaves can.0 next long) (g.leaves can.1 next long))
@@ -359,6 +373,12 @@ module _ (piece : Piece) (one other one' other' : MarkTree) (left right : Patter
             (cross_either T' (Onward W one left enter) (Onward W other right enter)))
             (agree_crossing T' (agree_sym (in_either W))));
         takes = λ can. (f.takes can.0, g.takes can.1);
+        between = record {
+          begin = λ a b n some h. ⊎_elim (λ x. f.between.begin a b n some x)
+              (λ x. g.between.begin a b n some x) ((union.pairs a b n some).0 h);
+          end = λ a b n some h. ⊎_elim (λ x. f.between.end a b n some x)
+              (λ x. g.between.end a b n some x) ((union.pairs a b n some).0 h);
+        };
         well = record { well = (f.well.well, g.well.well) };
       }
 
@@ -403,15 +423,27 @@ module _ (piece : Piece) (here enter : List ZoneBounds) (body : MarkTree) (tree 
         );
       }) (agree_refl X)))
 
-  module _ (ended starts : List ZoneBounds) (body' : MarkTree)
-      (f : StepsTo body tree piece ended body')
+  module _ (none ended starts : List ZoneBounds) (body' : MarkTree) (nothing : none ≡ [])
+      (f : Advances body tree none piece ended body')
       (union : IsSetOf starts (Either (Either (Held ended) (Held here)) (Held enter))) where
-    starts_are : Agree (Held starts) (From (alone piece))
-    starts_are =
-        let inner = of_steps piece tree ended body' body f in
+    -- Where nothing enters, the body goes on alone.
+    body_alone : (rest : Rest) → Agree (Onward rest body tree none) (Marked rest body tree)
+    body_alone rest = record {
+      at = λ a b n some. (
+        (λ h. ⊎_elim (λ x. x)
+            (λ x. absurd (no_pair none nothing (x.factor * a) x.midpoint (x.factor * n) x.left)) h),
+        (λ h. inl h),
+      );
+    }
+
+    inner : Proceeds piece body tree none ended body'
+    inner = proceeds_by piece body tree none ended body' f
+
+    starts_are : CanTakeIn (before_piece piece) body tree → Agree (Held starts) (From (alone piece))
+    starts_are can =
         agree_then (record { at = union.pairs }) (record {
           at = λ a b n some.
-              let same = inner.tells.at a b n some in (
+              let same = (agree_then (inner.tells can) (body_alone (alone piece))).at a b n some in (
                 (λ h. ⊎_elim
                     (λ x. ⊎_elim (λ y. inl (same.0 y)) (λ y. inr (inl y)) x)
                     (λ x. inr (inr x)) h),
@@ -421,21 +453,33 @@ module _ (piece : Piece) (here enter : List ZoneBounds) (body : MarkTree) (tree 
         })
 
     pub again_between : EndBetween piece.begin (end_of_piece piece) starts
-    again_between = starts_between piece here enter body tree ends between starts starts_are
+    again_between = record {
+      begin = λ a b n some h. ⊎_elim
+          (λ x. ⊎_elim (λ y. f.between.begin a b n some y)
+          (λ y. let at = ends.ends a b n some y in omega (arith, at)) x)
+          (λ x. between.begin a b n some x) ((union.pairs a b n some).0 h);
+      end = λ a b n some h. ⊎_elim
+          (λ x. ⊎_elim (λ y. f.between.end a b n some y)
+          (λ y.
+          let at = ends.ends a b n some y in
+          let later = begin_end piece n in
+          omega (arith, at, later)) x)
+          (λ x. between.end a b n some x) ((union.pairs a b n some).0 h);
+    }
 
-    pub repetition_advances : (told told' none : List ZoneBounds) (body'' rest : MarkTree)
+    pub repetition_advances : (told told' : List ZoneBounds) (body'' rest : MarkTree)
         → IsSetOf told (Followed (Held starts) (repetition tree) (alone piece))
+        → EndBetween piece.begin (end_of_piece piece) told
         → EntersTo body' tree told piece told' body''
-        → none ≡ [] → KeepsHere (end_of_piece piece) none told body'' rest
+        → KeepsHere (end_of_piece piece) none told body'' rest
         → Advances (repetition_mark here body) (repetition tree) enter piece told rest
-    repetition_advances told told' none body'' rest set e nothing kept =
+    repetition_advances told told' body'' rest set told_ends e kept =
         let T' = end_of_piece piece in
-        let inner = of_steps piece tree ended body' body f in
         let beside = of_enters piece tree told' body'' body' told e in
-        let whole : Agree (Held told)
+        let whole : CanTakeIn (before_piece piece) body tree → Agree (Held told)
         (Composed (From (alone piece)) (MatchesRest (repetition tree) (alone piece))) =
-        agree_then (record { at = set.pairs })
-        (agree_composed starts_are (agree_refl (MatchesRest (repetition tree) (alone piece)))) in
+        λ can. agree_then (record { at = set.pairs })
+        (agree_composed (starts_are can) (agree_refl (MatchesRest (repetition tree) (alone piece)))) in
         let last : Agree (Held kept.here) (Both (Held told) (EndsAt T')) =
         agree_then (record { at = kept.union.pairs })
         (agree_then (record {
@@ -449,16 +493,19 @@ module _ (piece : Piece) (here enter : List ZoneBounds) (body : MarkTree) (tree 
         (advances_by piece (repetition_mark here body) (repetition tree) enter told
         (repetition_mark kept.here body'')
         (record {
-          tells = agree_then whole (agree_sym (from_starts (quiet [])));
+          tells = λ can. agree_then (whole can) (agree_sym (from_starts (quiet [])));
           leaves = λ can next long.
               agree_then (leaves_repetition piece here enter body tree ends between told
-              kept.here (λ next. Marked (behind piece next) body'' tree) whole last
+              kept.here (λ next. Marked (behind piece next) body'' tree) (whole can) last
               (λ next long. agree_then (beside.leaves (inner.takes can) next long)
-              (agree_either (inner.leaves can next long)
+              (agree_either
+              (agree_then (inner.leaves can next long)
+              (agree_crossing T' (body_alone (over piece next))))
               (agree_refl (Crossing T' (Followed (Held told) tree (over piece next))))))
               next long)
               (agree_crossing T' (agree_sym (from_starts next)));
-          takes = λ can. all_later piece body'' tree (beside.takes (inner.takes can));
+          takes = λ can. beside.takes (inner.takes can);
+          between = told_ends;
           well = record {
             well = (
               record { ends = λ a b n some h. ((last.at a b n some).0 h).right.ends },
@@ -466,3 +513,63 @@ module _ (piece : Piece) (here enter : List ZoneBounds) (body : MarkTree) (tree 
             );
           };
         }))
+
+-- ---- intersections and restrictions that have not begun, where nothing enters
+
+pub none_between : (low high : ℕ) (none : List ZoneBounds) → none ≡ [] → EndBetween low high none
+none_between low high none nothing = record {
+  begin = λ a b n some h. absurd (no_pair none nothing a b n h);
+  end = λ a b n some h. absurd (no_pair none nothing a b n h);
+}
+
+module _ (piece : Piece) (enter told : List ZoneBounds) (nothing : enter ≡ []) (empty : told ≡ [])
+  where
+    -- Nothing follows where nothing enters.
+    never_follows : (tree : PatternTree) (rest : Rest) (a b n : ℕ)
+        → Followed (Held enter) tree rest a b n → ⊥
+    never_follows tree rest a b n h =
+        no_pair enter nothing (h.factor * a) h.midpoint (h.factor * n) h.left
+
+    pub lasting_nothing : (tree : PatternTree) (interval : IntervalEnds)
+        → Advances restriction_none (restriction tree interval) enter piece told restriction_none
+    lasting_nothing tree interval =
+        advances_by piece restriction_none (restriction tree interval) enter told restriction_none
+        (record {
+          tells = λ can. set_agrees (set_none told
+              (Onward (alone piece) restriction_none (restriction tree interval) enter) empty
+              (λ a b n some h. ⊎_elim (λ x. x)
+              (λ x. never_follows (restriction tree interval) (alone piece) a b n x) h));
+          leaves = λ can next long. record {
+            at = λ a b n some. (
+              (λ h. absurd h),
+              (λ h. ⊎_elim (λ x. x)
+                  (λ x. never_follows (restriction tree interval) (over piece next) a b n x)
+                  h.related),
+            );
+          };
+          takes = λ can. tt;
+          between = none_between piece.begin (end_of_piece piece) told empty;
+          well = record { well = tt };
+        })
+
+    pub both_nothing : (left right : PatternTree)
+        → Advances intersection_none (intersection left right) enter piece told intersection_none
+    both_nothing left right =
+        advances_by piece intersection_none (intersection left right) enter told intersection_none
+        (record {
+          tells = λ can. set_agrees (set_none told
+              (Onward (alone piece) intersection_none (intersection left right) enter) empty
+              (λ a b n some h. ⊎_elim (λ x. x)
+              (λ x. never_follows (intersection left right) (alone piece) a b n x) h));
+          leaves = λ can next long. record {
+            at = λ a b n some. (
+              (λ h. absurd h),
+              (λ h. ⊎_elim (λ x. x)
+                  (λ x. never_follows (intersection left right) (over piece next) a b n x)
+                  h.related),
+            );
+          };
+          takes = λ can. tt;
+          between = none_between piece.begin (end_of_piece piece) told empty;
+          well = record { well = tt };
+        })

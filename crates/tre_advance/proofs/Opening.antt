@@ -1,48 +1,21 @@
 -- Marks that can take in what begins later: over a piece, and where it ends.
-use Rattle.std.proofs.Common.{ℕ, ◌*◌, ◌<◌, ◌≤◌, List, [], ◌∷◌, arith}
-use Rattle.tre_pairs.specs.Cuts.{Crossing}
-use Rattle.tre_pairs.proofs.Laws.{Agree}
-use Rattle.tre_zone.specs.Held.{Held}
+use Rattle.std.proofs.Common.{ℕ, Some, List, [], arith}
 use Rattle.tre_zone.specs.Interval.{LastsWithin}
 use Rattle.tre_zone.specs.declared.zone_bounds.ZoneBounds.{ZoneBounds}
 use Rattle.tre_syntax.specs.PatternTree.{PatternTree, sequence, alternation, intersection, repetition, restriction}
-use Rattle.tre_syntax.specs.Rest.{prefixed}
-use Rattle.tre_trace.specs.Trace.{Timeline, AreLong}
 use Rattle.tre_edges.specs.Piece.{end_of_piece}
 use Rattle.tre_edges.specs.declared.piece.Piece.{Piece}
 use Rattle.tre_mark.specs.MarkTree.{MarkTree, sequence_mark, alternation_mark, repetition_mark, intersection_one, restriction_one}
-use Rattle.tre_mark.specs.Marked.{IsOpen, AnyDuration, CanTakeIn, Marked}
-use Rattle.tre_advance.specs.Advance.{before_piece, after_piece}
-use Rattle.tre_advance.specs.Moves.{with_piece}
-use Rattle.tre_advance.proofs.Going.{over, behind, begin_end, cut_of}
+use Rattle.tre_mark.specs.Marked.{Since, since, IsOpen, AnyDuration, CanTakeIn}
+use Rattle.tre_advance.specs.Advance.{with_piece}
+use Rattle.tre_advance.proofs.Going.{begin_end, cut_of}
+
+-- Where the piece ends nothing more is read yet.
+abbrev pub after_piece : Piece → Since
+after_piece piece = since (end_of_piece piece) (Some piece.segment.val) []
 
 module _ (piece : Piece) (admitted : ℕ → ℕ → Type 0) (outer : List ZoneBounds) (mark : MarkTree)
     (tree : PatternTree) where
-  -- What a step leaves serves the same pairs, and those that end in the piece.
-  pub stepped_open : (rest : MarkTree)
-      → ((a b n : ℕ) → 0 < n → Held outer a b n → b ≤ piece.begin * n)
-      → IsOpen (before_piece piece) admitted outer mark tree
-      → ((next : Timeline) → AreLong next.segments
-      → Agree (Marked (behind piece next) rest tree)
-      (Crossing (end_of_piece piece) (Marked (over piece next) mark tree)))
-      → IsOpen (with_piece piece) admitted outer rest tree
-  stepped_open rest ends is leaves = record {
-    sound = λ next a b n long some from h.
-        is.sound (prefixed (piece.segment ∷ []) next) a b n (piece.long, long) some from
-        (((leaves next long).at a b n some).0 h).related;
-    complete = λ next a m b n long some held from last h.
-        let early = ends a m n some held in
-        let later = begin_end piece n in
-        let end = h.end in
-        ((leaves next long).at m b n some).1 (record {
-          related = is.complete (prefixed (piece.segment ∷ []) next) a m b n (piece.long, long) some held
-              from last
-              (record { related = h.related; begin = early; end = omega (arith, later, end) });
-          begin = h.begin;
-          end = h.end;
-        });
-  }
-
   -- Where the piece ends it serves the pairs that end there.
   pub later_open : IsOpen (with_piece piece) admitted outer mark tree
       → IsOpen (after_piece piece) admitted outer mark tree

@@ -17,21 +17,20 @@ use Rattle.tre_syntax.specs.PatternTree.{PatternTree, empty, repetition}
 use Rattle.tre_syntax.specs.Rest.{Rest, AtomMatches}
 use Rattle.tre_syntax.proofs.Atoms.{Scales-Atom, IsInstant-Empty, end_of-le}
 use Rattle.tre_syntax.proofs.CutMeaning.{Scales-rest, IsOrdered-rest, crossing_repetition}
-use Rattle.tre_trace.specs.Trace.{Timeline, quiet, AreLong}
+use Rattle.tre_trace.specs.Trace.{Timeline, AreLong}
 use Rattle.tre_zone.specs.Zone.{IsInstantBetween, EndsAt}
 use Rattle.tre_zone.specs.declared.zone_bounds.ZoneBounds.{ZoneBounds}
 use Rattle.tre_edges.specs.declared.piece.Piece.{Piece}
 use Rattle.tre_mark.specs.MarkTree.{MarkTree, repetition_mark, restriction_none}
-use Rattle.tre_mark.specs.Marked.{CanTakeIn, Marked, EndBetween, IsWellAt}
+use Rattle.tre_mark.specs.Marked.{Marked, EndBetween, IsWellAt}
 use Rattle.tre_mark.proofs.Agreeing.{agree_refl, agree_sym, agree_then, agree_composed, agree_either, agree_assoc, joined_composed}
 use Rattle.tre_mark.proofs.Meanings.{Scales-Marked, IsOrdered-Marked, around_present}
 use Rattle.tre_mark.proofs.Starts.{end_at_none, nothing_restriction}
 use Rattle.tre_edges.specs.Piece.{end_of_piece, cut_behind}
-use Rattle.tre_advance.specs.Moves.{with_piece}
 use Rattle.tre_advance.proofs.Crossings.{IsFront, agree_crossing, cross_followed, cross_after, distributes}
 use Rattle.tre_mark.proofs.Growth.{mark_grows, mark_early, mark_ends, ends_composed, tree_ends}
 use Rattle.tre_advance.proofs.Going.{over, alone, behind, cut_of, long_front, begin_end, begin_le}
-use Rattle.tre_advance.proofs.Steps.{Inner, Beside, Followed}
+use Rattle.tre_advance.proofs.Steps.{Beside, Followed}
 
 module _ (piece : Piece) (here enter : List ZoneBounds) (body : MarkTree) (tree : PatternTree)
     (ends : EndAt piece.begin here)
@@ -77,16 +76,6 @@ module _ (piece : Piece) (here enter : List ZoneBounds) (body : MarkTree) (tree 
   starts_ends a b n some h = ⊎_elim
       (λ x. mark_ends (alone piece) (begin_le piece) body tree a b n x)
       (λ x. entering_ends a b n some x) h
-
-  -- All starts end in the piece or behind it.
-  pub starts_between : (starts : List ZoneBounds) → Agree (Held starts) (Starts (alone piece))
-      → EndBetween piece.begin (end_of_piece piece) starts
-  starts_between starts same = record {
-    begin = λ a b n some h. ⊎_elim
-        (λ x. (around_present (alone piece) body tree a b n x).1)
-        (λ x. entering_begins a b n some x) ((same.at a b n some).0 h);
-    end = λ a b n some h. starts_ends a b n some ((same.at a b n some).0 h);
-  }
 
   instants_agree : Agree (IsInstantBetween piece.begin (end_of_piece piece))
       (AtomMatches (alone piece) empty)
@@ -394,56 +383,6 @@ module _ (piece : Piece) (here : List ZoneBounds) (body : MarkTree) (tree : Patt
                   (e.0 x))
                   (d.0 h)),
             );
-      }
-
-  -- The sets that the code makes.
-  pub step_tells : (ended starts steps told : List ZoneBounds)
-      → Agree (Held ended) (Marked (alone piece) body tree)
-      → Agree (Held starts) (Either (Held ended) (Held here))
-      → Agree (Held steps) (MatchesRest tree (alone piece))
-      → Agree (Held told) (Composed (Held starts)
-      (Chain (Held steps) (IsInstantBetween piece.begin (end_of_piece piece))))
-      → Agree (Held told) (Composed (Started (alone piece))
-      (MatchesRest (repetition tree) (alone piece)))
-  step_tells ended starts steps told one two three four =
-      repetition_tells piece here [] body tree ends none_enters starts steps told
-      (agree_then two (agree_either one (record {
-        at = λ a b n some. (
-          (λ h. inl h),
-          (λ h. ⊎_elim (λ x. x) (λ x. absurd (Held-empty a b n x)) h),
-        );
-      }))) three four
-
-  pub repetition_inner : {Q : Type 0} → (told ended told' here' : List ZoneBounds) (body' body'' : MarkTree)
-      → Agree (Held told) (Composed (Started (alone piece))
-      (MatchesRest (repetition tree) (alone piece)))
-      → Agree (Held here') (Both (Held told) (EndsAt (end_of_piece piece)))
-      → Inner Q piece tree (λ r. Marked r body tree) ended body'
-      → Beside (CanTakeIn (with_piece piece) body' tree) piece tree body'
-      (Followed (Held told) tree) told' body''
-      → Inner Q piece (repetition tree)
-      (λ r. Marked r (repetition_mark here body) (repetition tree)) told
-      (repetition_mark here' body'')
-  repetition_inner told ended told' here' body' body'' whole kept f e =
-      let T' = end_of_piece piece in
-      record {
-        tells = agree_then whole (agree_sym (marked_repetition (quiet [])));
-        leaves = λ can next long.
-            let W = over piece next in
-            agree_then (leaves_repetition piece here [] body tree ends none_enters told here'
-            (λ next. Marked (behind piece next) body'' tree) whole kept
-            (λ next long. agree_then (e.leaves (f.takes can) next long)
-            (agree_either (f.leaves can next long)
-            (agree_refl (Crossing T' (Followed (Held told) tree (over piece next))))))
-            next long)
-            (agree_crossing T' (agree_sym (marked_repetition next)));
-        takes = λ can. e.takes (f.takes can);
-        well = record {
-          well = (
-            record { ends = λ a b n some h. ((kept.at a b n some).0 h).right.ends },
-            e.well.well,
-          );
-        };
       }
 
 -- ---- what enters a repetition

@@ -1,53 +1,19 @@
--- Steps where nothing has begun, and what is left of what has begun.
+-- What is left of an intersection or a restriction that has begun.
 use Rattle.std.proofs.Common.{◌≡◌, ℕ, ◌+◌, ◌-◌, ◌*◌, ◌<◌, ◌≤◌, List, [], Option, None, Some, Bool, true, false, MatchOption, MatchBool, ⊎_elim, subst, arith}
 use Rattle.std.proofs.Math.Nat.{mul-pos, mul-le-mul_right}
 use Rattle.std.proofs.lemmas.Bool.{cases_lt}
 use Rattle.tre_pairs.specs.Pairs.{Composed, Both, Lasting}
-use Rattle.tre_syntax.specs.PatternTree.{PatternTree, intersection, restriction}
+use Rattle.tre_syntax.specs.PatternTree.{PatternTree}
 use Rattle.tre_syntax.specs.Rest.{Rest}
 use Rattle.tre_zone.specs.Held.{Held, IsLatest}
 use Rattle.tre_zone.specs.Interval.{IntervalEnds, LastsWithin}
 use Rattle.tre_zone.specs.declared.zone_bounds.ZoneBounds.{ZoneBounds}
-use Rattle.tre_edges.specs.Piece.{end_of_piece}
-use Rattle.tre_edges.specs.declared.piece.Piece.{Piece}
 use Rattle.tre_mark.specs.MarkTree.{MarkTree, intersection_none, intersection_one, restriction_none, restriction_one}
-use Rattle.tre_mark.specs.Marked.{Marked, EndBetween, IsBare}
+use Rattle.tre_mark.specs.Marked.{Marked, IsBare}
 use Rattle.tre_mark.proofs.Meanings.{around_present}
 use Rattle.tre_mark.proofs.Starts.{bare_nothing}
 use Rattle.tre_advance.specs.Instances.{IsPast, LeavesRestriction, LeavesIntersection}
-use Rattle.tre_advance.specs.Moves.{StepsTo}
-use Rattle.tre_advance.proofs.Going.{alone}
-use Rattle.tre_advance.proofs.SetsOf.{set_none, no_pair}
-
--- Where nothing has begun, nothing is told or left.
-module _ (piece : Piece) (told : List ZoneBounds) (empty : told ≡ []) where
-  told_nothing : EndBetween piece.begin (end_of_piece piece) told
-  told_nothing = record {
-    begin = λ a b n some h. absurd (no_pair told empty a b n h);
-    end = λ a b n some h. absurd (no_pair told empty a b n h);
-  }
-
-  pub lasting_nothing : (tree : PatternTree) (interval : IntervalEnds)
-      → StepsTo restriction_none (restriction tree interval) piece told restriction_none
-  lasting_nothing tree interval = record {
-    tells = set_none told (Marked (alone piece) restriction_none (restriction tree interval))
-        empty (λ a b n some h. h);
-    leaves = λ can next long a b n some. ((λ h. absurd h), (λ h. absurd h.related));
-    takes = λ can. tt;
-    between = told_nothing;
-    well = record { well = tt };
-  }
-
-  pub both_nothing : (left right : PatternTree)
-      → StepsTo intersection_none (intersection left right) piece told intersection_none
-  both_nothing left right = record {
-    tells = set_none told (Marked (alone piece) intersection_none (intersection left right))
-        empty (λ a b n some h. h);
-    leaves = λ can next long a b n some. ((λ h. absurd h), (λ h. absurd h.related));
-    takes = λ can. tt;
-    between = told_nothing;
-    well = record { well = tt };
-  }
+use Rattle.tre_advance.proofs.SetsOf.{no_pair}
 
 -- ---- intervals
 

@@ -1,5 +1,5 @@
 -- What a mark does over a piece, and what enters does, over all relations that they speak of.
-use Rattle.std.proofs.Common.{ℕ, ◌*◌, ◌<◌, ◌≤◌, List, [], ⊎_elim, refl, sym, arith}
+use Rattle.std.proofs.Common.{ℕ, ◌*◌, ◌<◌, ◌≤◌, List, refl, sym, arith}
 use Rattle.std.proofs.Math.Nat.{mul-pos}
 use Rattle.tre_pairs.specs.Cuts.{Crossing}
 use Rattle.tre_pairs.specs.Pairs.{Pairs, Composed, Either}
@@ -7,41 +7,26 @@ use Rattle.tre_pairs.proofs.Chains.{Composed-at}
 use Rattle.tre_pairs.proofs.Laws.{Agree}
 use Rattle.tre_pairs.proofs.Scaling.{moved}
 use Rattle.tre_pairs.proofs.Ticks.{le_down}
-use Rattle.tre_zone.specs.Held.{Held, IsSetOf}
+use Rattle.tre_zone.specs.Held.{Held}
 use Rattle.tre_syntax.specs.Meaning.{MatchesRest}
 use Rattle.tre_syntax.specs.PatternTree.{PatternTree}
 use Rattle.tre_syntax.specs.Rest.{Rest}
 use Rattle.tre_syntax.proofs.CutMeaning.{Scales-rest, IsOrdered-rest, IsBounded-rest}
-use Rattle.tre_trace.specs.Trace.{Timeline, quiet, AreLong}
+use Rattle.tre_trace.specs.Trace.{Timeline, AreLong}
 use Rattle.tre_zone.specs.Zone.{IsInstantBetween}
 use Rattle.tre_zone.specs.ZoneList.{HoldExactly}
 use Rattle.tre_zone.specs.declared.zone_bounds.ZoneBounds.{ZoneBounds}
 use Rattle.tre_edges.specs.declared.piece.Piece.{Piece}
 use Rattle.tre_mark.specs.MarkTree.{MarkTree}
 use Rattle.tre_mark.specs.Marked.{CanTakeIn, Marked, EndBetween, IsWellAt}
-use Rattle.tre_mark.proofs.Agreeing.{agree_refl, agree_sym, agree_then, agree_either}
-use Rattle.tre_mark.proofs.Meanings.{around_present}
 use Rattle.tre_edges.specs.Piece.{end_of_piece}
-use Rattle.tre_advance.specs.Advance.{GoesOver, MarkedBehind, before_piece, Advances}
-use Rattle.tre_advance.specs.Moves.{with_piece, StepsTo, EntersTo}
-use Rattle.tre_advance.proofs.Crossings.{cross_either}
-use Rattle.tre_mark.proofs.Growth.{mark_ends, ends_composed, tree_ends}
-use Rattle.tre_advance.proofs.Going.{over, alone, behind, begin_le}
-use Rattle.tre_advance.proofs.Opening.{all_later}
-use Rattle.tre_advance.proofs.SetsOf.{exact_set}
+use Rattle.tre_advance.specs.Advance.{with_piece}
+use Rattle.tre_advance.specs.Moves.{EntersTo}
+use Rattle.tre_mark.proofs.Growth.{ends_composed, tree_ends}
+use Rattle.tre_advance.proofs.Going.{over, alone, behind}
 
 -- Told are the pairs of a relation over the piece, and what is left, where Q is so, are those of the
--- same over more that cross the end.
-pub record Inner (Q : Type 0) (piece : Piece) (tree : PatternTree) (N : Rest → Pairs) (told : List ZoneBounds)
-    (rest : MarkTree) : Type 0 where
-  pub tells : Agree (Held told) (N (alone piece))
-  pub leaves : Q → (next : Timeline) → AreLong next.segments
-      → Agree (Marked (behind piece next) rest tree)
-      (Crossing (end_of_piece piece) (N (over piece next)))
-  pub takes : Q → CanTakeIn (with_piece piece) rest tree
-  pub well : IsWellAt (end_of_piece piece) rest tree
-
--- The same beside what an old mark stands for.
+-- same over more that cross the end, beside what an old mark stands for.
 pub record Beside (Q : Type 0) (piece : Piece) (tree : PatternTree) (old : MarkTree) (N : Rest → Pairs)
     (told : List ZoneBounds) (rest : MarkTree) : Type 0 where
   pub tells : Agree (Held told) (N (alone piece))
@@ -57,15 +42,6 @@ abbrev pub Followed : Pairs → PatternTree → Rest → Pairs
 Followed E tree rest = Composed E (MatchesRest tree rest)
 
 module _ (piece : Piece) (tree : PatternTree) (told : List ZoneBounds) (rest : MarkTree) where
-  pub marked_between : (mark : MarkTree) → Agree (Held told) (Marked (alone piece) mark tree)
-      → EndBetween piece.begin (end_of_piece piece) told
-  marked_between mark same = record {
-    begin = λ a b n some h. (around_present (alone piece) mark tree a b n
-        ((same.at a b n some).0 h)).1;
-    end = λ a b n some h. mark_ends (alone piece) (begin_le piece) mark tree a b n
-        ((same.at a b n some).0 h);
-  }
-
   pub followed_between : (E : Pairs) → Agree (Held told) (Followed E tree (alone piece))
       → EndBetween piece.begin (end_of_piece piece) told
   followed_between E same = record {
@@ -78,27 +54,6 @@ module _ (piece : Piece) (tree : PatternTree) (told : List ZoneBounds) (rest : M
         le_down k piece.begin b n x.positive (omega (arith, begin, rising));
     end = λ a b n some h. ends_composed (alone piece) E (MatchesRest tree (alone piece))
         (tree_ends (alone piece) tree) a b n ((same.at a b n some).0 h);
-  }
-
-  pub steps_of : (mark : MarkTree)
-      → Inner (CanTakeIn (before_piece piece) mark tree) piece tree (λ r. Marked r mark tree) told
-      rest → StepsTo mark tree piece told rest
-  steps_of mark inner = record {
-    tells = record { pairs = inner.tells.at };
-    leaves = λ can next long. (inner.leaves can next long).at;
-    takes = inner.takes;
-    between = marked_between mark inner.tells;
-    well = inner.well;
-  }
-
-  pub of_steps : (mark : MarkTree) → StepsTo mark tree piece told rest
-      → Inner (CanTakeIn (before_piece piece) mark tree) piece tree (λ r. Marked r mark tree) told
-      rest
-  of_steps mark steps = record {
-    tells = record { at = steps.tells.pairs };
-    leaves = λ can next long. record { at = steps.leaves can next long };
-    takes = steps.takes;
-    well = steps.well;
   }
 
   pub enters_of : (old : MarkTree) (enter : List ZoneBounds)
@@ -159,43 +114,3 @@ module _ (piece : Piece) (tree : PatternTree) (all : List ZoneBounds)
               to_moment P a b n some low (omega (arith, rising, high)) h),
         );
   }
-
--- A step and what enters make the whole.
-module _ (piece : Piece) (mark : MarkTree) (tree : PatternTree)
-    (enter first second told : List ZoneBounds) (left rest : MarkTree)
-    (steps : StepsTo mark tree piece first left)
-    (enters : EntersTo left tree enter piece second rest)
-    (union : IsSetOf told (Either (Held first) (Held second))) where
-  pub advances_of : Advances mark tree enter piece told rest
-  unfolding GoesOver MarkedBehind
-  advances_of =
-      let T' = end_of_piece piece in
-      let tells : Agree (Held told)
-      (Either (Marked (alone piece) mark tree) (Followed (Held enter) tree (alone piece))) =
-      agree_then (record { at = union.pairs })
-      (agree_either (record { at = steps.tells.pairs }) (record { at = enters.tells.pairs })) in
-      record {
-        tells = exact_set told (GoesOver mark tree enter piece (quiet [])) (record { pairs = tells.at });
-        leaves = λ can next a b n long some.
-            let W = over piece next in
-            let same = (agree_then
-            (record { at = enters.leaves (steps.takes can) next long })
-            (agree_then
-            (agree_either (record { at = steps.leaves can next long })
-            (agree_refl (Crossing T' (Followed (Held enter) tree W))))
-            (agree_sym (cross_either T' (Marked W mark tree)
-            (Followed (Held enter) tree W))))).at a b n some in (
-              (λ h.
-                  let x = same.0 h in
-                  record { related = x.related; begin = x.begin; end = x.end }),
-              (λ h. same.1 (record { related = h.related; begin = h.begin; end = h.end })),
-            );
-        between = record {
-          begin = λ a b n some h. ⊎_elim (λ x. steps.between.begin a b n some x)
-              (λ x. enters.between.begin a b n some x) ((union.pairs a b n some).0 h);
-          end = λ a b n some h. ⊎_elim (λ x. steps.between.end a b n some x)
-              (λ x. enters.between.end a b n some x) ((union.pairs a b n some).0 h);
-        };
-        takes = λ can. all_later piece rest tree (enters.takes (steps.takes can));
-        well = enters.well;
-      }

@@ -1,11 +1,10 @@
 -- What an intersection or a restriction that has begun becomes as it takes in what begins later.
-use Rattle.std.proofs.Common.{ℕ, ◌-◌, ◌*◌, ◌<◌, ◌≤◌, List, inl, inr, ⊎_elim}
+use Rattle.std.proofs.Common.{ℕ, ◌-◌, ◌*◌, ◌<◌, List, inl, inr, ⊎_elim}
 use Rattle.std.proofs.Math.Nat.{mul-pos}
 use Rattle.tre_pairs.specs.Cuts.{Crossing}
 use Rattle.tre_pairs.specs.Pairs.{Pairs, Composed, Either, Both, Lasting}
 use Rattle.tre_pairs.proofs.Laws.{Agree}
 use Rattle.tre_zone.specs.Held.{Held, IsSetOf}
-use Rattle.tre_zone.proofs.HeldSets.{IsOrdered-Held}
 use Rattle.tre_zone.specs.Zone.{IsInstantBetween}
 use Rattle.tre_zone.specs.ZoneList.{HoldExactly}
 use Rattle.tre_zone.specs.declared.zone_bounds.ZoneBounds.{ZoneBounds}
@@ -17,173 +16,144 @@ use Rattle.tre_edges.specs.Piece.{end_of_piece}
 use Rattle.tre_edges.specs.declared.piece.Piece.{Piece}
 use Rattle.tre_mark.specs.MarkTree.{MarkTree}
 use Rattle.tre_mark.specs.Marked.{IsOpen, AnyDuration, Marked, EndBetween}
-use Rattle.tre_mark.proofs.Agreeing.{agree_refl, agree_sym, agree_then, agree_either}
 use Rattle.tre_mark.proofs.Meanings.{around_present}
-use Rattle.tre_advance.specs.Moves.{with_piece}
-use Rattle.tre_advance.proofs.Crossings.{cross_after}
+use Rattle.tre_advance.specs.Advance.{with_piece}
 use Rattle.tre_advance.proofs.Going.{over, behind}
 use Rattle.tre_advance.proofs.Steps.{Followed, from_moment, to_moment}
 
--- M' has what M has, and behind a pair that enters it has just what X has across the cut. Behind a
--- pair of `outer` it has nothing more that is admitted.
-pub record Takes (cut : ℕ) (admitted : ℕ → ℕ → Type 0) (outer enter : List ZoneBounds)
-    (M M' X : Pairs) : Type 0 where
+-- M' has what M has, and behind a pair that enters it has just what X has. Behind a pair of `outer`
+-- it has nothing more that is admitted.
+pub record Takes (admitted : ℕ → ℕ → Type 0) (outer enter : List ZoneBounds) (M M' X : Pairs)
+    : Type 0 where
   pub old : (a m b n : ℕ) → 0 < n → Held outer a m n → admitted (b - m) n → M' m b n → M m b n
-  pub new : (a m b n : ℕ) → 0 < n → Held enter a m n → M' m b n → Crossing cut X m b n
+  pub new : (a m b n : ℕ) → 0 < n → Held enter a m n → M' m b n → X m b n
   pub keeps : (a b n : ℕ) → 0 < n → M a b n → M' a b n
-  pub gains : (a m b n : ℕ) → 0 < n → Held enter a m n → Crossing cut X m b n → M' m b n
+  pub gains : (a m b n : ℕ) → 0 < n → Held enter a m n → X m b n → M' m b n
 
-module _ (cut : ℕ) (outer enter whole : List ZoneBounds)
-    (union : IsSetOf whole (Either (Held outer) (Held enter)))
-    (ends : (a b n : ℕ) → 0 < n → Held enter a b n → b ≤ cut * n) where
-  pub taken_lasting : (D : ℕ → ℕ → Type 0) (M M' X : Pairs) → Takes cut D outer enter M M' X
+module _ (outer enter whole : List ZoneBounds)
+    (union : IsSetOf whole (Either (Held outer) (Held enter))) where
+  pub taken_lasting : (D : ℕ → ℕ → Type 0) (M M' X : Pairs) → Takes D outer enter M M' X
       → Agree (Composed (Held whole) (Lasting D M'))
-      (Either (Composed (Held outer) (Lasting D M))
-      (Crossing cut (Composed (Held enter) (Lasting D X))))
-  taken_lasting D M M' X takes =
-      agree_then (record {
-        at = λ a b n some. (
-          (λ h.
-              let k = h.factor in
-              let m = h.midpoint in
-              let finer : 0 < k * n = mul-pos h.positive some in
-              let last = h.right.admitted in
-              ⊎_elim
-              (λ x. inl (record {
-                factor = k;
-                positive = h.positive;
-                midpoint = m;
-                left = x;
-                right = record {
-                  related = takes.old (k * a) m (k * b) (k * n) finer x last h.right.related;
-                  admitted = last;
-                };
-              }))
-              (λ x.
-              let c = takes.new (k * a) m (k * b) (k * n) finer x h.right.related in
-              inr (record {
-                factor = k;
-                positive = h.positive;
-                midpoint = m;
-                left = x;
-                right = record {
-                  related = record { related = c.related; admitted = last };
-                  begin = c.begin;
-                  end = c.end;
-                };
-              })) ((union.pairs (k * a) m (k * n) finer).0 h.left)),
-          (λ h. ⊎_elim
-              (λ x.
-              let k = x.factor in
-              let finer : 0 < k * n = mul-pos x.positive some in
-              record {
-                factor = k;
-                positive = x.positive;
-                midpoint = x.midpoint;
-                left = (union.pairs (k * a) x.midpoint (k * n) finer).1 (inl x.left);
-                right = record {
-                  related = takes.keeps x.midpoint (k * b) (k * n) finer x.right.related;
-                  admitted = x.right.admitted;
-                };
-              })
-              (λ x.
-              let k = x.factor in
-              let finer : 0 < k * n = mul-pos x.positive some in
-              record {
-                factor = k;
-                positive = x.positive;
-                midpoint = x.midpoint;
-                left = (union.pairs (k * a) x.midpoint (k * n) finer).1 (inr x.left);
-                right = record {
-                  related = takes.gains (k * a) x.midpoint (k * b) (k * n) finer x.left (record {
-                    related = x.right.related.related;
-                    begin = x.right.begin;
-                    end = x.right.end;
-                  });
-                  admitted = x.right.related.admitted;
-                };
-              }) h),
-        );
-      })
-      (agree_either (agree_refl (Composed (Held outer) (Lasting D M)))
-      (agree_sym (cross_after cut (Held enter) (Lasting D X) (IsOrdered-Held enter) ends)))
+      (Either (Composed (Held outer) (Lasting D M)) (Composed (Held enter) (Lasting D X)))
+  taken_lasting D M M' X takes = record {
+    at = λ a b n some. (
+      (λ h.
+          let k = h.factor in
+          let m = h.midpoint in
+          let finer : 0 < k * n = mul-pos h.positive some in
+          let last = h.right.admitted in
+          ⊎_elim
+          (λ x. inl (record {
+            factor = k;
+            positive = h.positive;
+            midpoint = m;
+            left = x;
+            right = record {
+              related = takes.old (k * a) m (k * b) (k * n) finer x last h.right.related;
+              admitted = last;
+            };
+          }))
+          (λ x. inr (record {
+            factor = k;
+            positive = h.positive;
+            midpoint = m;
+            left = x;
+            right = record {
+              related = takes.new (k * a) m (k * b) (k * n) finer x h.right.related;
+              admitted = last;
+            };
+          })) ((union.pairs (k * a) m (k * n) finer).0 h.left)),
+      (λ h. ⊎_elim
+          (λ x.
+          let k = x.factor in
+          let finer : 0 < k * n = mul-pos x.positive some in
+          record {
+            factor = k;
+            positive = x.positive;
+            midpoint = x.midpoint;
+            left = (union.pairs (k * a) x.midpoint (k * n) finer).1 (inl x.left);
+            right = record {
+              related = takes.keeps x.midpoint (k * b) (k * n) finer x.right.related;
+              admitted = x.right.admitted;
+            };
+          })
+          (λ x.
+          let k = x.factor in
+          let finer : 0 < k * n = mul-pos x.positive some in
+          record {
+            factor = k;
+            positive = x.positive;
+            midpoint = x.midpoint;
+            left = (union.pairs (k * a) x.midpoint (k * n) finer).1 (inr x.left);
+            right = record {
+              related = takes.gains (k * a) x.midpoint (k * b) (k * n) finer x.left
+                  x.right.related;
+              admitted = x.right.admitted;
+            };
+          }) h),
+    );
+  }
 
-  pub taken_both : (M M' X N N' Y : Pairs) → Takes cut AnyDuration outer enter M M' X
-      → Takes cut AnyDuration outer enter N N' Y
+  pub taken_both : (M M' X N N' Y : Pairs) → Takes AnyDuration outer enter M M' X
+      → Takes AnyDuration outer enter N N' Y
       → Agree (Composed (Held whole) (Both M' N'))
-      (Either (Composed (Held outer) (Both M N))
-      (Crossing cut (Composed (Held enter) (Both X Y))))
-  taken_both M M' X N N' Y one other =
-      agree_then (record {
-        at = λ a b n some. (
-          (λ h.
-              let k = h.factor in
-              let m = h.midpoint in
-              let finer : 0 < k * n = mul-pos h.positive some in
-              ⊎_elim
-              (λ x. inl (record {
-                factor = k;
-                positive = h.positive;
-                midpoint = m;
-                left = x;
-                right = record {
-                  left = one.old (k * a) m (k * b) (k * n) finer x tt h.right.left;
-                  right = other.old (k * a) m (k * b) (k * n) finer x tt h.right.right;
-                };
-              }))
-              (λ x.
-              let c = one.new (k * a) m (k * b) (k * n) finer x h.right.left in
-              let d = other.new (k * a) m (k * b) (k * n) finer x h.right.right in
-              inr (record {
-                factor = k;
-                positive = h.positive;
-                midpoint = m;
-                left = x;
-                right = record {
-                  related = record { left = c.related; right = d.related };
-                  begin = c.begin;
-                  end = c.end;
-                };
-              })) ((union.pairs (k * a) m (k * n) finer).0 h.left)),
-          (λ h. ⊎_elim
-              (λ x.
-              let k = x.factor in
-              let finer : 0 < k * n = mul-pos x.positive some in
-              record {
-                factor = k;
-                positive = x.positive;
-                midpoint = x.midpoint;
-                left = (union.pairs (k * a) x.midpoint (k * n) finer).1 (inl x.left);
-                right = record {
-                  left = one.keeps x.midpoint (k * b) (k * n) finer x.right.left;
-                  right = other.keeps x.midpoint (k * b) (k * n) finer x.right.right;
-                };
-              })
-              (λ x.
-              let k = x.factor in
-              let finer : 0 < k * n = mul-pos x.positive some in
-              record {
-                factor = k;
-                positive = x.positive;
-                midpoint = x.midpoint;
-                left = (union.pairs (k * a) x.midpoint (k * n) finer).1 (inr x.left);
-                right = record {
-                  left = one.gains (k * a) x.midpoint (k * b) (k * n) finer x.left (record {
-                    related = x.right.related.left;
-                    begin = x.right.begin;
-                    end = x.right.end;
-                  });
-                  right = other.gains (k * a) x.midpoint (k * b) (k * n) finer x.left (record {
-                    related = x.right.related.right;
-                    begin = x.right.begin;
-                    end = x.right.end;
-                  });
-                };
-              }) h),
-        );
-      })
-      (agree_either (agree_refl (Composed (Held outer) (Both M N)))
-      (agree_sym (cross_after cut (Held enter) (Both X Y) (IsOrdered-Held enter) ends)))
+      (Either (Composed (Held outer) (Both M N)) (Composed (Held enter) (Both X Y)))
+  taken_both M M' X N N' Y one other = record {
+    at = λ a b n some. (
+      (λ h.
+          let k = h.factor in
+          let m = h.midpoint in
+          let finer : 0 < k * n = mul-pos h.positive some in
+          ⊎_elim
+          (λ x. inl (record {
+            factor = k;
+            positive = h.positive;
+            midpoint = m;
+            left = x;
+            right = record {
+              left = one.old (k * a) m (k * b) (k * n) finer x tt h.right.left;
+              right = other.old (k * a) m (k * b) (k * n) finer x tt h.right.right;
+            };
+          }))
+          (λ x. inr (record {
+            factor = k;
+            positive = h.positive;
+            midpoint = m;
+            left = x;
+            right = record {
+              left = one.new (k * a) m (k * b) (k * n) finer x h.right.left;
+              right = other.new (k * a) m (k * b) (k * n) finer x h.right.right;
+            };
+          })) ((union.pairs (k * a) m (k * n) finer).0 h.left)),
+      (λ h. ⊎_elim
+          (λ x.
+          let k = x.factor in
+          let finer : 0 < k * n = mul-pos x.positive some in
+          record {
+            factor = k;
+            positive = x.positive;
+            midpoint = x.midpoint;
+            left = (union.pairs (k * a) x.midpoint (k * n) finer).1 (inl x.left);
+            right = record {
+              left = one.keeps x.midpoint (k * b) (k * n) finer x.right.left;
+              right = other.keeps x.midpoint (k * b) (k * n) finer x.right.right;
+            };
+          })
+          (λ x.
+          let k = x.factor in
+          let finer : 0 < k * n = mul-pos x.positive some in
+          record {
+            factor = k;
+            positive = x.positive;
+            midpoint = x.midpoint;
+            left = (union.pairs (k * a) x.midpoint (k * n) finer).1 (inr x.left);
+            right = record {
+              left = one.gains (k * a) x.midpoint (k * b) (k * n) finer x.left x.right.left;
+              right = other.gains (k * a) x.midpoint (k * b) (k * n) finer x.left x.right.right;
+            };
+          }) h),
+    );
+  }
 
 -- Every moment of the piece enters a mark that is open.
 module _ (piece : Piece) (tree : PatternTree) (all : List ZoneBounds)
@@ -213,8 +183,9 @@ module _ (piece : Piece) (tree : PatternTree) (all : List ZoneBounds)
 
   pub takes_of : (enter : List ZoneBounds) → EndBetween piece.begin (end_of_piece piece) enter
       → (next : Timeline) → AreLong next.segments
-      → Takes (end_of_piece piece) admitted outer enter (Marked (behind piece next) mark tree)
-      (Marked (behind piece next) rest tree) (MatchesRest tree (over piece next))
+      → Takes admitted outer enter (Marked (behind piece next) mark tree)
+      (Marked (behind piece next) rest tree)
+      (Crossing (end_of_piece piece) (MatchesRest tree (over piece next)))
   takes_of enter between next long =
       let W = over piece next in
       let V = behind piece next in

@@ -1,5 +1,5 @@
 -- What one more piece of a trace makes of a mark.
-use Rattle.std.specs.Prelude.{ℕ, ◌<◌, ◌↔◌, Some, List, []}
+use Rattle.std.specs.Prelude.{ℕ, ◌<◌, ◌↔◌, List, [], ◌∷◌}
 use Rattle.tre_pairs.specs.Cuts.{Crossing}
 use Rattle.tre_pairs.specs.Pairs.{Pairs, Composed, Either}
 use Rattle.tre_zone.specs.ZoneList.{HoldExactly}
@@ -30,24 +30,25 @@ unfoldable pub MarkedBehind : MarkTree → PatternTree → Piece → Timeline �
 MarkedBehind mark tree piece next a b n =
     Marked (back_of (cut_behind piece next)) mark tree a b n
 
--- Where the piece begins, and where it ends, nothing more is read yet.
+-- Where the piece begins nothing more is read yet; then the piece is.
 abbrev pub before_piece : Piece → Since
 before_piece piece = since piece.begin piece.before []
 
-abbrev pub after_piece : Piece → Since
-after_piece piece = since (end_of_piece piece) (Some piece.segment.val) []
+abbrev pub with_piece : Piece → Since
+with_piece piece = since piece.begin piece.before (piece.segment ∷ [])
 
--- The mark went over the piece, and the pairs of the set entered on the way. Told are exactly the
--- pairs where the piece alone comes. What is left is a mark at the end of the piece, and whatever
--- comes behind the piece it stands for exactly those that end as the piece ends or later: so it is
--- of a mark that can take in what begins later, and it can do so again.
+-- The mark went over the piece, and the pairs of the set entered on the way. Of a mark that can
+-- take in what begins later, told are exactly the pairs where the piece alone comes. What is left
+-- is a mark at the end of the piece, and whatever comes behind the piece it stands for exactly
+-- those that end as the piece ends or later; and it can take in what begins in the piece or later.
 pub record Advances (mark : MarkTree) (tree : PatternTree) (enter : List ZoneBounds) (piece : Piece)
     (told : List ZoneBounds) (rest : MarkTree) : Type 0 where
-  pub tells : HoldExactly told (GoesOver mark tree enter piece (quiet []))
+  pub tells : CanTakeIn (before_piece piece) mark tree
+      → HoldExactly told (GoesOver mark tree enter piece (quiet []))
   pub leaves : CanTakeIn (before_piece piece) mark tree → (next : Timeline) (a b n : ℕ)
       → AreLong next.segments → 0 < n
       → MarkedBehind rest tree piece next a b n
       ↔ Crossing (end_of_piece piece) (GoesOver mark tree enter piece next) a b n
-  pub takes : CanTakeIn (before_piece piece) mark tree → CanTakeIn (after_piece piece) rest tree
+  pub takes : CanTakeIn (before_piece piece) mark tree → CanTakeIn (with_piece piece) rest tree
   pub between : EndBetween piece.begin (end_of_piece piece) told
   pub well : IsWellAt (end_of_piece piece) rest tree

@@ -3,8 +3,8 @@
 pub mod Advance
 pub mod Closing
 -- What the functions inside promise each other: what an intersection or a restriction stands for
--- and what is left of it (Instances), what can no longer count in an interval (Shortening), what a
--- mark does where nothing enters (StepsTo), and what enters does (EntersTo).
+-- and what is left of it (Instances), what can no longer count in an interval (Shortening), and
+-- what enters does (EntersTo).
 pub mod Instances
 pub mod Shortening
 pub mod Moves

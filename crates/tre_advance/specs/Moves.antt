@@ -1,9 +1,9 @@
--- What a mark does over a piece where nothing enters, and what enters does.
-use Rattle.std.specs.Prelude.{◌≡◌, ℕ, ◌<◌, ◌↔◌, List, [], ◌∷◌}
+-- What enters in a piece, and what its atoms and repetitions keep.
+use Rattle.std.specs.Prelude.{◌≡◌, ℕ, ◌<◌, ◌↔◌, List, []}
 use Rattle.tre_pairs.specs.Cuts.{Crossing}
 use Rattle.tre_pairs.specs.Pairs.{Composed, Either, Both}
 use Rattle.tre_zone.specs.Held.{Held, IsSetOf}
-use Rattle.tre_zone.specs.Zone.{EndsAt}
+use Rattle.tre_zone.specs.Zone.{IsInstantBetween, EndsAt}
 use Rattle.tre_zone.specs.declared.zone_bounds.ZoneBounds.{ZoneBounds}
 use Rattle.tre_trace.specs.Trace.{Timeline, quiet, AreLong}
 use Rattle.tre_syntax.specs.Cut.{uncut, back_of}
@@ -11,26 +11,17 @@ use Rattle.tre_syntax.specs.Meaning.{MatchesRest}
 use Rattle.tre_syntax.specs.PatternTree.{PatternTree, empty, literal, rise, fall, event, atom}
 use Rattle.tre_edges.specs.declared.piece.Piece.{Piece}
 use Rattle.tre_mark.specs.MarkTree.{MarkTree, repetition_mark}
-use Rattle.tre_mark.specs.Marked.{Since, since, CanTakeIn, Marked, EndBetween, IsWellAt}
+use Rattle.tre_mark.specs.Marked.{CanTakeIn, Marked, EndBetween, IsWellAt}
 use Rattle.tre_edges.specs.Piece.{end_of_piece, cut_behind}
-use Rattle.tre_advance.specs.Advance.{before_piece}
+use Rattle.tre_advance.specs.Advance.{with_piece}
 
--- What is read with the piece, from its begin on.
-abbrev pub with_piece : Piece → Since
-with_piece piece = since piece.begin piece.before (piece.segment ∷ [])
-
--- The mark went over the piece, and nothing entered. What is left is told of a mark that can take
--- in what begins later, and can do so again.
-pub record StepsTo (mark : MarkTree) (tree : PatternTree) (piece : Piece) (told : List ZoneBounds)
-    (rest : MarkTree) : Type 0 where
-  pub tells : IsSetOf told (Marked (uncut (cut_behind piece (quiet []))) mark tree)
-  pub leaves : CanTakeIn (before_piece piece) mark tree → (next : Timeline)
-      → AreLong next.segments → (a b n : ℕ) → 0 < n
-      → Marked (back_of (cut_behind piece next)) rest tree a b n
-      ↔ Crossing (end_of_piece piece) (Marked (uncut (cut_behind piece next)) mark tree) a b n
-  pub takes : CanTakeIn (before_piece piece) mark tree → CanTakeIn (with_piece piece) rest tree
-  pub between : EndBetween piece.begin (end_of_piece piece) told
-  pub well : IsWellAt (end_of_piece piece) rest tree
+-- Each pair of the set is a moment of the piece, and where a pair enters, the moment at which it
+-- ends is one of them.
+pub record AreMomentsFor (enter : List ZoneBounds) (piece : Piece) (moments : List ZoneBounds)
+    : Type 0 where
+  pub only : (a b n : ℕ) → 0 < n → Held moments a b n
+      → IsInstantBetween piece.begin (end_of_piece piece) a b n
+  pub ends : (a m n : ℕ) → 0 < n → Held enter a m n → Held moments m m n
 
 -- The pairs of the set entered in the piece: told are those that a match inside the piece follows,
 -- and the mark at its end stands for those that go on too.

@@ -1,25 +1,29 @@
 // What a mark does over a piece in which pairs enter on the way.
-ghost use Rattle.std.specs.Prelude.{List, ◌⊎◌, IfOk};
+ghost use Rattle.std.specs.Prelude.{◌≡◌, List, [], ◌⊎◌, IfOk};
 ghost use Rattle.tre_state.specs.declared.names.TheConstants.{NAMES_MAX};
 ghost use Rattle.tre_syntax.specs.Expr.{tree_of};
-ghost use Rattle.tre_syntax.specs.PatternTree.{PatternTree, NumbersBelow, sequence, alternation, repetition};
+ghost use Rattle.tre_syntax.specs.PatternTree.{PatternTree, NumbersBelow, sequence, alternation, intersection, repetition, restriction};
+ghost use Rattle.tre_zone.specs.Held.{EndBy};
+ghost use Rattle.tre_zone.specs.Interval.{IntervalEnds};
 ghost use Rattle.tre_zone.specs.declared.zone_bounds.ZoneBounds.{ZoneBounds};
 ghost use Rattle.tre_edges.specs.declared.piece.Piece.{Piece};
-ghost use Rattle.tre_mark.specs.MarkTree.{MarkTree, mark_of, sequence_mark, alternation_mark};
+ghost use Rattle.tre_mark.specs.MarkTree.{MarkTree, mark_of, sequence_mark, alternation_mark, intersection_none, restriction_none};
 ghost use Rattle.tre_mark.specs.Marked.{EndBetween, IsWellAt};
 ghost use Rattle.tre_edges.specs.Piece.{end_of_piece};
 ghost use Rattle.tre_advance.specs.Advance.{Advances};
-ghost use Rattle.tre_advance.specs.Moves.{IsBriefTree, IsLiteralTree};
+ghost use Rattle.tre_advance.specs.Instances.{IsRestriction, IsIntersection};
+ghost use Rattle.tre_advance.specs.Moves.{AreMomentsFor, IsBriefTree, IsLiteralTree};
 
 use crate::atoms::{advance_brief, advance_literal};
-use crate::enter::enter;
+use crate::enter::{enter, entered, moments_of, unbegun};
+use crate::instances::{leave_both, leave_lasting, tell_both, tell_lasting};
 use crate::sets::joined;
-use crate::step::step;
 use crate::stepping::{Advanced, leave_again, repeat, starts_again};
 use std::alloc::{AllocError, Global};
 use tre_edges::Piece;
 use tre_mark::{Mark, alternation, sequence};
 use tre_syntax::Expr;
+use tre_zone::Interval;
 use tre_zoneset::ZoneSet;
 
 /// The mark goes over the piece, and the pairs of the set, each of which ends in it, enter on the
@@ -47,8 +51,11 @@ pub fn advance(
         Expr::Seq(left, right) => advance_sequence(alloc, mark, left, right, entering, piece),
         Expr::Alt(left, right) => advance_alternation(alloc, mark, left, right, entering, piece),
         Expr::Star(body) => advance_repetition(alloc, mark, body, entering, piece),
-        Expr::Meet(_, _) | Expr::Within(_, _) => {
-            step_and_enter(alloc, mark, expr, entering, piece)
+        Expr::Meet(left, right) => {
+            advance_intersection(alloc, mark, left, right, entering, piece)
+        }
+        Expr::Within(body, interval) => {
+            advance_restriction(alloc, mark, body, interval, entering, piece)
         }
     }
 }
@@ -108,6 +115,136 @@ fn advance_alternation(
     }
 }
 
+#[cycle(advance)]
+fn advance_intersection(
+    alloc: Global,
+    mark: &Mark,
+    left: &Expr,
+    right: &Expr,
+    entering: &ZoneSet,
+    piece: &Piece,
+) -> Result<Advanced, AllocError>
+    requires numbers { NumbersBelow NAMES_MAX
+        (intersection (tree_of left.now) (tree_of right.now)) }
+    requires well { IsWellAt piece.now.begin (mark_of mark.now)
+        (intersection (tree_of left.now) (tree_of right.now)) }
+    requires enter { EndBetween piece.now.begin (end_of_piece piece.now) entering.now }
+    ensures { IfOk result (λ r. Advances (mark_of mark.now)
+        (intersection (tree_of left.now) (tree_of right.now)) entering.now piece.now r.told
+        (mark_of r.rest)) }
+{
+    match mark {
+        Mark::NoMeet => {
+            if entering.is_empty() {
+                return Ok(no_intersection(alloc));
+            }
+            let outer = ZoneSet::new(alloc);
+            let one = unbegun(alloc, left, piece)?;
+            let other = unbegun(alloc, right, piece)?;
+            pass_both(alloc, &outer, &one, &other, left, right, entering, piece)
+        }
+        Mark::Meet {
+            outer,
+            left: one,
+            right: other,
+            ..
+        } => pass_both(alloc, outer, one, other, left, right, entering, piece),
+        _ => unreachable!(),
+    }
+}
+
+// An intersection that began behind each pair of `outer`, and begins behind each that enters: both
+// its sides are entered at the moments at which pairs enter.
+#[cycle(advance)]
+fn pass_both(
+    alloc: Global,
+    outer: &ZoneSet,
+    one: &Mark,
+    other: &Mark,
+    left: &Expr,
+    right: &Expr,
+    entering: &ZoneSet,
+    piece: &Piece,
+) -> Result<Advanced, AllocError>
+    requires numbers { NumbersBelow NAMES_MAX
+        (intersection (tree_of left.now) (tree_of right.now)) }
+    requires one { IsWellAt piece.now.begin (mark_of one.now) (tree_of left.now) }
+    requires other { IsWellAt piece.now.begin (mark_of other.now) (tree_of right.now) }
+    requires ends { EndBy piece.now.begin outer.now }
+    requires enter { EndBetween piece.now.begin (end_of_piece piece.now) entering.now }
+    ensures { IfOk result (λ r. (mark : MarkTree)
+        → IsIntersection (tree_of left.now) (tree_of right.now) outer.now (mark_of one.now)
+        (mark_of other.now) mark
+        → Advances mark (intersection (tree_of left.now) (tree_of right.now)) entering.now
+        piece.now r.told (mark_of r.rest)) }
+{
+    let moments = moments_for(alloc, entering, piece)?;
+    let first = advance(alloc, one, left, &moments, piece)?;
+    let second = advance(alloc, other, right, &moments, piece)?;
+    go_on_both(alloc, outer, first, second, entering, piece)
+}
+
+#[cycle(advance)]
+fn advance_restriction(
+    alloc: Global,
+    mark: &Mark,
+    body: &Expr,
+    interval: &Interval,
+    entering: &ZoneSet,
+    piece: &Piece,
+) -> Result<Advanced, AllocError>
+    requires numbers { NumbersBelow NAMES_MAX (restriction (tree_of body.now) interval.now) }
+    requires well { IsWellAt piece.now.begin (mark_of mark.now)
+        (restriction (tree_of body.now) interval.now) }
+    requires enter { EndBetween piece.now.begin (end_of_piece piece.now) entering.now }
+    ensures { IfOk result (λ r. Advances (mark_of mark.now)
+        (restriction (tree_of body.now) interval.now) entering.now piece.now r.told
+        (mark_of r.rest)) }
+{
+    match mark {
+        Mark::NoWithin => {
+            if entering.is_empty() {
+                return Ok(no_restriction(alloc));
+            }
+            let outer = ZoneSet::new(alloc);
+            let inner = unbegun(alloc, body, piece)?;
+            pass_lasting(alloc, &outer, &inner, body, interval, entering, piece)
+        }
+        Mark::Within {
+            outer,
+            body: inner,
+            ..
+        } => pass_lasting(alloc, outer, inner, body, interval, entering, piece),
+        _ => unreachable!(),
+    }
+}
+
+// A restriction that began behind each pair of `outer`, and begins behind each that enters: its
+// body is entered at the moments at which pairs enter.
+#[cycle(advance)]
+fn pass_lasting(
+    alloc: Global,
+    outer: &ZoneSet,
+    inner: &Mark,
+    body: &Expr,
+    interval: &Interval,
+    entering: &ZoneSet,
+    piece: &Piece,
+) -> Result<Advanced, AllocError>
+    requires numbers { NumbersBelow NAMES_MAX (tree_of body.now) }
+    requires well { IsWellAt piece.now.begin (mark_of inner.now) (tree_of body.now) }
+    requires ends { EndBy piece.now.begin outer.now }
+    requires enter { EndBetween piece.now.begin (end_of_piece piece.now) entering.now }
+    ensures { IfOk result (λ r. (mark : MarkTree)
+        → IsRestriction (tree_of body.now) interval.now outer.now (mark_of inner.now) mark
+        → Advances mark (restriction (tree_of body.now) interval.now) entering.now piece.now
+        r.told (mark_of r.rest)) }
+{
+    let moments = moments_for(alloc, entering, piece)?;
+    let next = advance(alloc, inner, body, &moments, piece)?;
+    go_on_lasting(alloc, outer, next, interval, entering, piece)
+}
+
 fn advance_atom(
     alloc: Global,
     mark: &Mark,
@@ -131,6 +268,7 @@ fn advance_atom(
     }
 }
 
+#[cycle(advance)]
 fn advance_repetition(
     alloc: Global,
     mark: &Mark,
@@ -146,11 +284,12 @@ fn advance_repetition(
 {
     match mark {
         Mark::Star { here, body: inner } => {
-            let next = step(alloc, inner, body, piece)?;
+            let none = ZoneSet::new(alloc);
+            let next = advance(alloc, inner, body, &none, piece)?;
             let starts = starts_again(next.told, here, entering)?;
             let told = repeat(alloc, starts, body, piece)?;
             let entered = enter(alloc, next.rest, body, &told, piece)?;
-            leave_again(alloc, ZoneSet::new(alloc), told, entered.rest, piece)
+            leave_again(alloc, none, told, entered.rest, piece)
         }
         _ => unreachable!(),
     }
@@ -185,25 +324,89 @@ fn advance_either(alloc: Global, one: Advanced, other: Advanced) -> Result<Advan
     Ok(Advanced { told, rest })
 }
 
-// The mark goes over the piece, and then the pairs of the set enter.
-fn step_and_enter(
+// Moments at which the pairs that enter may end: all of the piece, or none where nothing enters.
+fn moments_for(alloc: Global, entering: &ZoneSet, piece: &Piece) -> Result<ZoneSet, AllocError>
+    requires enter { EndBetween piece.now.begin (end_of_piece piece.now) entering.now }
+    ensures { IfOk result (λ moments. AreMomentsFor entering.now piece.now moments) }
+{
+    if entering.is_empty() {
+        return Ok(ZoneSet::new(alloc));
+    }
+    moments_of(alloc, piece)
+}
+
+// A restriction goes on as its body does, behind what was there and what enters.
+fn go_on_lasting(
     alloc: Global,
-    mark: &Mark,
-    expr: &Expr,
+    outer: &ZoneSet,
+    next: Advanced,
+    interval: &Interval,
     entering: &ZoneSet,
     piece: &Piece,
 ) -> Result<Advanced, AllocError>
-    requires numbers { NumbersBelow NAMES_MAX (tree_of expr.now) }
-    requires well { IsWellAt piece.now.begin (mark_of mark.now) (tree_of expr.now) }
+    requires ends { EndBy piece.now.begin outer.now }
     requires enter { EndBetween piece.now.begin (end_of_piece piece.now) entering.now }
-    ensures { IfOk result (λ r. Advances (mark_of mark.now) (tree_of expr.now) entering.now
-        piece.now r.told (mark_of r.rest)) }
+    ensures { IfOk result (λ r. (tree : PatternTree) (moments : List ZoneBounds)
+        (one mark : MarkTree) → AreMomentsFor entering.now piece.now moments
+        → Advances one tree moments piece.now next.told (mark_of next.rest)
+        → IsRestriction tree interval.now outer.now one mark
+        → Advances mark (restriction tree interval.now) entering.now piece.now r.told
+        (mark_of r.rest)) }
 {
-    let stepped = step(alloc, mark, expr, piece)?;
-    let entered = enter(alloc, stepped.rest, expr, entering, piece)?;
-    let told = joined(stepped.told, &entered.told)?;
-    Ok(Advanced {
-        told,
-        rest: entered.rest,
-    })
+    let end = piece.begin + piece.segment.len;
+    let whole = entered(alloc, outer, entering, piece)?;
+    let told = tell_lasting(alloc, &whole, &next.told, interval)?;
+    let rest = leave_lasting(alloc, whole, next.rest, interval, end)?;
+    Ok(Advanced { told, rest })
+}
+
+// The same of an intersection and both its sides.
+fn go_on_both(
+    alloc: Global,
+    outer: &ZoneSet,
+    first: Advanced,
+    second: Advanced,
+    entering: &ZoneSet,
+    piece: &Piece,
+) -> Result<Advanced, AllocError>
+    requires ends { EndBy piece.now.begin outer.now }
+    requires enter { EndBetween piece.now.begin (end_of_piece piece.now) entering.now }
+    ensures { IfOk result (λ r. (left right : PatternTree) (moments : List ZoneBounds)
+        (one other mark : MarkTree) → AreMomentsFor entering.now piece.now moments
+        → Advances one left moments piece.now first.told (mark_of first.rest)
+        → Advances other right moments piece.now second.told (mark_of second.rest)
+        → IsIntersection left right outer.now one other mark
+        → Advances mark (intersection left right) entering.now piece.now r.told
+        (mark_of r.rest)) }
+{
+    let end = piece.begin + piece.segment.len;
+    let whole = entered(alloc, outer, entering, piece)?;
+    let told = tell_both(alloc, &whole, &first.told, &second.told)?;
+    let rest = leave_both(alloc, whole, first.rest, second.rest, end)?;
+    Ok(Advanced { told, rest })
+}
+
+// Where nothing enters, a restriction that has not begun tells nothing.
+fn no_restriction(alloc: Global) -> Advanced
+    ensures { (tree : PatternTree) (interval : IntervalEnds) (piece : Piece)
+        (enter : List ZoneBounds) → enter ≡ []
+        → Advances restriction_none (restriction tree interval) enter piece result.told
+        (mark_of result.rest) }
+{
+    Advanced {
+        told: ZoneSet::new(alloc),
+        rest: Mark::NoWithin,
+    }
+}
+
+// Nor does an intersection.
+fn no_intersection(alloc: Global) -> Advanced
+    ensures { (left right : PatternTree) (piece : Piece) (enter : List ZoneBounds) → enter ≡ []
+        → Advances intersection_none (intersection left right) enter piece result.told
+        (mark_of result.rest) }
+{
+    Advanced {
+        told: ZoneSet::new(alloc),
+        rest: Mark::NoMeet,
+    }
 }

@@ -1,4 +1,4 @@
-// The step of the mark of an atom, and what enters it.
+// What an atom does over a piece, and what enters it.
 ghost use Rattle.std.specs.Prelude.{◌≡◌, List, [], IfOk, IsTrue};
 ghost use Rattle.tre_state.specs.declared.names.TheConstants.{NAMES_MAX};
 ghost use Rattle.tre_syntax.specs.Expr.{tree_of};
@@ -10,7 +10,7 @@ ghost use Rattle.tre_edges.specs.Piece.{end_of_piece};
 ghost use Rattle.tre_pairs.specs.Pairs.{Composed, Either};
 ghost use Rattle.tre_zone.specs.Held.{Held, IsSetOf};
 ghost use Rattle.tre_advance.specs.Advance.{Advances};
-ghost use Rattle.tre_advance.specs.Moves.{StepsTo, EntersTo, TellsAtom, AreAmong, IsBriefTree, IsLiteralTree};
+ghost use Rattle.tre_advance.specs.Moves.{EntersTo, TellsAtom, AreAmong, IsBriefTree, IsLiteralTree};
 
 use crate::sets::{
     all_among, ending_at, followed, joined, joined_behind, joined_both, joined_ends,
@@ -22,51 +22,6 @@ use tre_mark::atom;
 use tre_offline::local;
 use tre_syntax::Expr;
 use tre_zoneset::ZoneSet;
-
-/// The step of an atom that lasts no time: nothing of it is left.
-pub fn step_brief(
-    alloc: Global,
-    here: &ZoneSet,
-    begun: &ZoneSet,
-    expr: &Expr,
-    piece: &Piece,
-) -> Result<Advanced, AllocError>
-    requires numbers { NumbersBelow NAMES_MAX (tree_of expr.now) }
-    requires brief { IsBriefTree (tree_of expr.now) }
-    requires well { IsWellAt piece.now.begin (atom_mark here.now begun.now) (tree_of expr.now) }
-    ensures { IfOk result (λ r. StepsTo (atom_mark here.now begun.now) (tree_of expr.now)
-        piece.now r.told (mark_of r.rest)) }
-{
-    let none = ZoneSet::new(alloc);
-    let told = tell_atom(alloc, here, begun, expr, &none, piece)?;
-    Ok(Advanced {
-        told,
-        rest: atom(none, ZoneSet::new(alloc)),
-    })
-}
-
-/// The step of a literal: what holds until the end of the piece may hold on.
-pub fn step_literal(
-    alloc: Global,
-    here: &ZoneSet,
-    begun: &ZoneSet,
-    expr: &Expr,
-    piece: &Piece,
-) -> Result<Advanced, AllocError>
-    requires numbers { NumbersBelow NAMES_MAX (tree_of expr.now) }
-    requires literal { IsLiteralTree (tree_of expr.now) }
-    requires well { IsWellAt piece.now.begin (atom_mark here.now begun.now) (tree_of expr.now) }
-    ensures { IfOk result (λ r. StepsTo (atom_mark here.now begun.now) (tree_of expr.now)
-        piece.now r.told (mark_of r.rest)) }
-{
-    let none = ZoneSet::new(alloc);
-    let told = tell_atom(alloc, here, begun, expr, &none, piece)?;
-    let held = ending_at(alloc, &told, piece.begin + piece.segment.len)?;
-    Ok(Advanced {
-        told,
-        rest: atom(none, held),
-    })
-}
 
 /// What enters an atom that lasts no time: at the end of the piece it may begin, and what comes
 /// decides.

@@ -312,8 +312,8 @@ fn enter_atom(
     }
 }
 
-// Every moment of the piece.
-fn moments_of(alloc: Global, piece: &Piece) -> Result<ZoneSet, AllocError>
+/// Every moment of the piece.
+pub fn moments_of(alloc: Global, piece: &Piece) -> Result<ZoneSet, AllocError>
     ensures held { IfOk result (λ all. HoldExactly all
         (IsInstantBetween piece.now.begin (end_of_piece piece.now))) }
     ensures between { IfOk result (λ all.
@@ -322,8 +322,8 @@ fn moments_of(alloc: Global, piece: &Piece) -> Result<ZoneSet, AllocError>
     moments(alloc, piece.begin, piece.begin + piece.segment.len)
 }
 
-// The mark of an expression of which nothing has begun, also as the piece ends.
-fn unbegun(alloc: Global, expr: &Expr, piece: &Piece) -> Result<Mark, AllocError>
+/// The mark of an expression of which nothing has begun, also as the piece ends.
+pub fn unbegun(alloc: Global, expr: &Expr, piece: &Piece) -> Result<Mark, AllocError>
     ensures nothing { IfOk result (λ mark. IsUnbegun (mark_of mark) (tree_of expr.now)) }
     ensures well { IfOk result (λ mark.
         IsWellAt (end_of_piece piece.now) (mark_of mark) (tree_of expr.now)) }
@@ -352,7 +352,7 @@ fn begin_lasting(
 {
     let end = piece.begin + piece.segment.len;
     let told = tell_lasting(alloc, zones, &begun.told, interval)?;
-    let outer = entered(alloc, outer, zones, piece)?;
+    let outer = entered(alloc, &outer, zones, piece)?;
     let rest = leave_lasting(alloc, outer, begun.rest, interval, end)?;
     Ok(Advanced { told, rest })
 }
@@ -378,24 +378,24 @@ fn begin_both(
 {
     let end = piece.begin + piece.segment.len;
     let told = tell_both(alloc, zones, &first.told, &second.told)?;
-    let outer = entered(alloc, outer, zones, piece)?;
+    let outer = entered(alloc, &outer, zones, piece)?;
     let rest = leave_both(alloc, outer, first.rest, second.rest, end)?;
     Ok(Advanced { told, rest })
 }
 
-// The pairs behind which something began before or begins in the piece: zones that touch are to be
-// one, and tests see that they are.
-fn entered(
+/// The pairs behind which something began before or begins in the piece: zones that touch are to be
+/// one, and tests see that they are.
+pub fn entered(
     alloc: Global,
-    outer: ZoneSet,
+    outer: &ZoneSet,
     zones: &ZoneSet,
     piece: &Piece,
 ) -> Result<ZoneSet, AllocError>
-    requires ends { EndBy (end_of_piece piece.now) outer }
+    requires ends { EndBy (end_of_piece piece.now) outer.now }
     requires enter { EndBetween piece.now.begin (end_of_piece piece.now) zones.now }
     ensures union { IfOk result (λ whole.
-        IsSetOf whole (Either (Held outer) (Held zones.now))) }
+        IsSetOf whole (Either (Held outer.now) (Held zones.now))) }
     ensures ends { IfOk result (λ whole. EndBy (end_of_piece piece.now) whole) }
 {
-    joined_both(alloc, &outer, zones)
+    joined_both(alloc, outer, zones)
 }

@@ -23,7 +23,6 @@ mod enter;
 mod instances;
 mod sets;
 mod shortening;
-mod step;
 mod stepping;
 
 pub use advancing::advance;

@@ -13,7 +13,7 @@ ghost use Rattle.tre_zone.specs.Held.{Held, EndAt, IsSetOf};
 ghost use Rattle.tre_mark.specs.MarkTree.{MarkTree, mark_of, sequence_mark, alternation_mark};
 ghost use Rattle.tre_mark.specs.Marked.{EndBetween};
 ghost use Rattle.tre_edges.specs.Piece.{end_of_piece, cut_behind};
-ghost use Rattle.tre_advance.specs.Moves.{StepsTo, EntersTo, KeepsHere};
+ghost use Rattle.tre_advance.specs.Moves.{EntersTo, KeepsHere};
 
 use crate::sets::{all_among, ending_at, joined, joined_ends, repeated};
 use std::alloc::{AllocError, Global};
@@ -28,25 +28,6 @@ use tre_zoneset::ZoneSet;
 pub struct Advanced {
     pub told: ZoneSet,
     pub rest: Mark,
-}
-
-/// The step of a sequence, whose second part told `second`, and was then entered by what the first
-/// part told.
-pub fn step_in_turn(
-    alloc: Global,
-    first: Advanced,
-    second: ZoneSet,
-    third: Advanced,
-) -> Result<Advanced, AllocError>
-    ensures { IfOk result (λ r. (one other next : MarkTree) (left right : PatternTree)
-        (piece : Piece) → StepsTo one left piece first.told (mark_of first.rest)
-        → StepsTo other right piece second next
-        → EntersTo next right first.told piece third.told (mark_of third.rest)
-        → StepsTo (sequence_mark one other) (sequence left right) piece r.told (mark_of r.rest)) }
-{
-    let told = joined(second, &third.told)?;
-    let rest = sequence(alloc, first.rest, third.rest)?;
-    Ok(Advanced { told, rest })
 }
 
 /// What enters a sequence enters its first part, and what that tells the second.
@@ -69,14 +50,9 @@ pub fn enter_in_turn(
     })
 }
 
-/// Both sides of an alternation make a step, or are entered.
+/// Both sides of an alternation are entered.
 pub fn either(alloc: Global, one: Advanced, other: Advanced) -> Result<Advanced, AllocError>
-    ensures steps { IfOk result (λ r. (x y : MarkTree) (left right : PatternTree)
-        (piece : Piece) → StepsTo x left piece one.told (mark_of one.rest)
-        → StepsTo y right piece other.told (mark_of other.rest)
-        → StepsTo (alternation_mark x y) (alternation left right) piece r.told
-        (mark_of r.rest)) }
-    ensures enters { IfOk result (λ r. (x y : MarkTree) (left right : PatternTree)
+    ensures { IfOk result (λ r. (x y : MarkTree) (left right : PatternTree)
         (piece : Piece) (enter : List ZoneBounds)
         → EntersTo x left enter piece one.told (mark_of one.rest)
         → EntersTo y right enter piece other.told (mark_of other.rest)
@@ -110,27 +86,6 @@ pub fn repeat(
         piece.begin,
         piece.begin + piece.segment.len,
     )
-}
-
-/// What a repetition tells of the pairs behind which its body ended, and of those that are here.
-pub fn tell_again(
-    alloc: Global,
-    ended: ZoneSet,
-    here: &ZoneSet,
-    body: &Expr,
-    piece: &Piece,
-) -> Result<ZoneSet, AllocError>
-    requires numbers { NumbersBelow NAMES_MAX (tree_of body.now) }
-    requires ended { EndBetween piece.now.begin (end_of_piece piece.now) ended }
-    requires here { EndAt piece.now.begin here.now }
-    ensures tells { IfOk result (λ told. IsSetOf told (Composed
-        (Either (Held ended) (Held here.now))
-        (MatchesRest (repetition (tree_of body.now)) (uncut (cut_behind piece.now (quiet [])))))) }
-    ensures between { IfOk result (λ told.
-        EndBetween piece.now.begin (end_of_piece piece.now) told) }
-{
-    let starts = joined(ended, here)?;
-    repeat(alloc, starts, body, piece)
 }
 
 /// The pairs behind which a repetition may go on: those behind which its body ended, those that are

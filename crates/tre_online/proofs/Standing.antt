@@ -26,6 +26,7 @@ use Rattle.tre_zoneset.proofs.Kept.{IsZoneSet-kept, SetHolds-kept}
 use Rattle.tre_mark.specs.MarkTree.{MarkTree, mark_of}
 use Rattle.tre_mark.specs.Marked.{since, CanTakeIn, Marked, IsStart, IsWellAt}
 use Rattle.tre_advance.specs.Advance.{GoesOver, MarkedBehind, before_piece, Advances}
+use Rattle.tre_advance.proofs.Opening.{all_later}
 use Rattle.tre_online.specs.Reading.{AreMoments, IsPieceFor, Reads}
 use Rattle.tre_online.specs.Session.{cut_after, AwaitsMatches, StandsFor, TellsNew}
 use Rattle.tre_online.specs.Told.{WasTold}
@@ -220,7 +221,7 @@ module _ (tree : PatternTree) (u : List Segment) (piece : Piece) (before : MarkT
         ↔ Either (MatchesBehind tree (cut_after u (quiet (piece.segment ∷ []))))
         (MatchesAcross tree (cut_after u (quiet (piece.segment ∷ [])))) a b n
     found_is a b n some le =
-        let exact = advances.tells.exact a b n some le in (
+        let exact = (advances.tells can).exact a b n some le in (
           (λ h.
               let end = advances.between.end a b n some (record { rising = le; held = h }) in
               (goes entering moments (quiet []) a b n tt some (omega (arith, end, le))).0 (exact.0 h)),
@@ -396,7 +397,8 @@ module _ (old : Session) (whole : MarkTree) (u : List Segment) (segment : Segmen
         last = last ∙ sym value;
         takes = rw (pattern, mark, at, last)
             (subst (λ (s : Segment). CanTakeIn (since (piece.begin + s.len) (Some s.val) []) whole
-            (pattern_tree old.pattern)) is_piece.same (reads.advances.takes can_here));
+            (pattern_tree old.pattern)) is_piece.same
+            (all_later piece whole (pattern_tree old.pattern) (reads.advances.takes can_here)));
         awaits = rw (pattern, mark)
             (subst (λ (s : Segment). AwaitsMatches whole
             (pattern_tree old.pattern) (u ++ s ∷ [])) is_piece.same

@@ -1,10 +1,18 @@
 -- Each form goes on as its parts do.
-use Rattle.std.proofs.Common.{◌≡◌, ◌∙◌, ap, sym}
+use Rattle.std.proofs.Common.{◌≡◌, ◌∙◌, List, ap, refl, sym, subst, arith}
 use Rattle.std.proofs.lemmas.Result.{IfOk-weaker}
+use Rattle.tre_zone.specs.declared.zone_bounds.ZoneBounds.{ZoneBounds}
 use Rattle.tre_syntax.specs.Expr.{tree_of}
-use Rattle.tre_mark.specs.MarkTree.{mark_of, sequence_mark, alternation_mark}
-use Rattle.tre_advance.proofs.Onward.{advances_moved}
-use Rattle.tre_advance.proofs.ShapeForms.{shape_sequence, shape_alternation}
+use Rattle.tre_syntax.specs.PatternTree.{intersection, repetition, restriction}
+use Rattle.tre_edges.specs.Piece.{end_of_piece}
+use Rattle.tre_mark.specs.MarkTree.{MarkTree, mark_of, sequence_mark, alternation_mark, repetition_mark, intersection_none, intersection_one, restriction_none, restriction_one}
+use Rattle.tre_mark.specs.declared.mark.Mark.{Mark}
+use Rattle.tre_mark.specs.Marked.{IsWell, IsWellAt}
+use Rattle.tre_advance.specs.Advance.{Advances}
+use Rattle.tre_advance.proofs.CallForms.{IfOk-both}
+use Rattle.tre_advance.proofs.InstanceSteps.{entered_ends, none_ends, restriction_begun, restriction_unbegun, intersection_begun, intersection_unbegun}
+use Rattle.tre_advance.proofs.Onward.{none_between, advances_moved, again_between, repetition_advances}
+use Rattle.tre_advance.proofs.ShapeForms.{shape_sequence, shape_alternation, shape_repetition, shape_intersection, shape_restriction}
 use Rattle.tre_advance.proofs.advancing.+advance.Goals as goal
 
 -- ---- a sequence
@@ -52,3 +60,234 @@ advance_alternation-returns t c =
     (f one other left right c.args.piece.now c.args.entering.now
     c.in_ok-first-in-Alt.ensures c.in_ok-second-in-Alt.ensures))
     c.advance_either.ensures
+
+-- ---- a repetition
+
+pub advance_repetition-unreachable-requires : goal.advance_repetition-unreachable-requires
+advance_repetition-unreachable-requires t c =
+    shape_repetition c.args.piece.now.begin c.args.mark.now (tree_of c.args.body.now)
+    c.requires.well.well c.in_default.not-Star
+
+pub advance_repetition-advance-requires : goal.advance_repetition-advance-requires
+advance_repetition-advance-requires t c =
+    let piece = c.args.piece.now in
+    let here = c.in-Star.here in
+    let body = mark_of c.deref.result.now in
+    let tree = tree_of c.args.body.now in
+    let shape : mark_of c.args.mark.now ≡ repetition_mark here body =
+    ap mark_of c.in-Star.is ∙ ap (λ m. repetition_mark here (mark_of m)) (sym c.deref.ensures) in
+    let well : IsWellAt piece.begin (repetition_mark here body) (repetition tree) =
+    subst (λ (mark : MarkTree). IsWellAt piece.begin mark (repetition tree)) shape
+    c.requires.well in (
+      omega arith,
+      (
+        c.requires.numbers,
+        (
+          record { well = well.well.1 },
+          none_between piece.begin (end_of_piece piece) c.new-none.result c.new-none.ensures,
+        ),
+      ),
+    )
+
+pub advance_repetition-repeat-requires-clause-starts :
+    goal.advance_repetition-repeat-requires-clause-starts
+advance_repetition-repeat-requires-clause-starts t c =
+    let piece = c.args.piece.now in
+    let here = c.in-Star.here in
+    let body = mark_of c.deref.result.now in
+    let tree = tree_of c.args.body.now in
+    let shape : mark_of c.args.mark.now ≡ repetition_mark here body =
+    ap mark_of c.in-Star.is ∙ ap (λ m. repetition_mark here (mark_of m)) (sym c.deref.ensures) in
+    let well : IsWellAt piece.begin (repetition_mark here body) (repetition tree) =
+    subst (λ (mark : MarkTree). IsWellAt piece.begin mark (repetition tree)) shape
+    c.requires.well in
+    again_between piece here c.args.entering.now body tree well.well.0 c.requires.enter
+    c.new-none.result c.in_ok-next-in-Star.next.told c.in_ok-starts-in-Star.starts
+    (mark_of c.in_ok-next-in-Star.next.rest) c.new-none.ensures c.in_ok-next-in-Star.ensures
+    c.in_ok-starts-in-Star.ensures
+
+pub advance_repetition-returns : goal.advance_repetition-returns
+advance_repetition-returns t c =
+    let piece = c.args.piece.now in
+    let here = c.in-Star.here in
+    let body = mark_of c.deref.result.now in
+    let enter = c.args.entering.now in
+    let next = c.in_ok-next-in-Star.next in
+    let starts = c.in_ok-starts-in-Star.starts in
+    let told = c.in_ok-told-in-Star.told in
+    let entered = c.in_ok-entered-in-Star.entered in
+    let tree = tree_of c.args.body.now in
+    let shape : mark_of c.args.mark.now ≡ repetition_mark here body =
+    ap mark_of c.in-Star.is ∙ ap (λ m. repetition_mark here (mark_of m)) (sym c.deref.ensures) in
+    let well : IsWellAt piece.begin (repetition_mark here body) (repetition tree) =
+    subst (λ (mark : MarkTree). IsWellAt piece.begin mark (repetition tree)) shape
+    c.requires.well in
+    IfOk-weaker c.leave_again.result _ _
+    (λ r both. advances_moved shape
+    (subst (λ (list : List ZoneBounds). Advances (repetition_mark here body) (repetition tree)
+    enter piece list (mark_of r.rest)) (sym both.0)
+    (repetition_advances piece here enter body tree well.well.0 c.requires.enter c.new-none.result
+    next.told starts (mark_of next.rest) c.new-none.ensures c.in_ok-next-in-Star.ensures
+    c.in_ok-starts-in-Star.ensures told entered.told (mark_of entered.rest) (mark_of r.rest)
+    c.in_ok-told-in-Star.ensures.tells c.in_ok-told-in-Star.ensures.between
+    c.in_ok-entered-in-Star.ensures both.1)))
+    (IfOk-both c.leave_again.result _ _ c.leave_again.ensures.told c.leave_again.ensures.rest)
+
+-- ---- an intersection
+
+pub advance_intersection-unreachable-requires : goal.advance_intersection-unreachable-requires
+advance_intersection-unreachable-requires t c =
+    shape_intersection c.args.piece.now.begin c.args.mark.now (tree_of c.args.left.now)
+    (tree_of c.args.right.now) c.requires.well.well c.in_default.not-NoMeet c.in_default.not-Meet
+
+pub advance_intersection-pass_both-requires : goal.advance_intersection-pass_both-requires
+advance_intersection-pass_both-requires t c =
+    let time = c.args.piece.now.begin in
+    let ends = none_ends time c.new-outer.result c.new-outer.ensures in (
+      omega arith,
+      (
+        c.requires.numbers,
+        (
+          c.in_ok-one-in-NoMeet.ensures.nothing.well time,
+          (
+            c.in_ok-other-in-NoMeet.ensures.nothing.well time,
+            (ends, c.requires.enter),
+          ),
+        ),
+      ),
+    )
+
+pub advance_intersection-pass_both-requires-in-Meet :
+    goal.advance_intersection-pass_both-requires-in-Meet
+advance_intersection-pass_both-requires-in-Meet t c =
+    let time = c.args.piece.now.begin in
+    let left = tree_of c.args.left.now in
+    let right = tree_of c.args.right.now in
+    let well = subst (λ (m : Mark). IsWell time (mark_of m) (intersection left right)) c.in-Meet.is
+    c.requires.well.well in
+    let one : IsWellAt time (mark_of c.deref.result.now) left = record {
+      well = subst (λ (m : Mark). IsWell time (mark_of m) left) (sym c.deref.ensures) well.1;
+    } in
+    let other : IsWellAt time (mark_of c.deref-in-Meet.result.now) right = record {
+      well = subst (λ (m : Mark). IsWell time (mark_of m) right) (sym c.deref-in-Meet.ensures)
+          well.2;
+    } in
+    let ends = entered_ends time c.in-Meet.to c.in-Meet.outer well.0 in
+    (omega arith, (c.requires.numbers, (one, (other, (ends, c.requires.enter)))))
+
+pub advance_intersection-returns-then-is_empty : goal.advance_intersection-returns-then-is_empty
+advance_intersection-returns-then-is_empty t c =
+    advances_moved (ap mark_of c.in-NoMeet.is)
+    (c.no_intersection.ensures (tree_of c.args.left.now) (tree_of c.args.right.now)
+    c.args.piece.now c.args.entering.now (c.if-is_empty.ensures.0 refl))
+
+pub advance_intersection-returns-in_ok-other-in-NoMeet :
+    goal.advance_intersection-returns-in_ok-other-in-NoMeet
+advance_intersection-returns-in_ok-other-in-NoMeet t c =
+    let left = tree_of c.args.left.now in
+    let right = tree_of c.args.right.now in
+    let one = mark_of c.in_ok-one-in-NoMeet.one in
+    let other = mark_of c.in_ok-other-in-NoMeet.other in
+    IfOk-weaker c.pass_both.result _ _
+    (λ r f. advances_moved (ap mark_of c.in-NoMeet.is)
+    (f intersection_none (intersection_unbegun left right c.new-outer.result one other c.new-outer.ensures
+    c.in_ok-one-in-NoMeet.ensures.nothing c.in_ok-other-in-NoMeet.ensures.nothing)))
+    c.pass_both.ensures
+
+pub advance_intersection-returns-in-Meet : goal.advance_intersection-returns-in-Meet
+advance_intersection-returns-in-Meet t c =
+    let left = tree_of c.args.left.now in
+    let right = tree_of c.args.right.now in
+    let to = c.in-Meet.to in
+    let outer = c.in-Meet.outer in
+    let one = mark_of c.deref.result.now in
+    let other = mark_of c.deref-in-Meet.result.now in
+    let shape : mark_of c.args.mark.now ≡ intersection_one to outer one other =
+    ap mark_of c.in-Meet.is
+    ∙ ap (λ m. intersection_one to outer (mark_of m) (mark_of c.in-Meet.other.value))
+    (sym c.deref.ensures)
+    ∙ ap (λ m. intersection_one to outer one (mark_of m)) (sym c.deref-in-Meet.ensures) in
+    IfOk-weaker c.pass_both-in-Meet.result _ _
+    (λ r f. advances_moved shape
+    (f (intersection_one to outer one other) (intersection_begun left right to outer one other)))
+    c.pass_both-in-Meet.ensures
+
+-- Moments enter both sides.
+pub pass_both-returns : goal.pass_both-returns
+pass_both-returns t c =
+    IfOk-weaker c.go_on_both.result _ _
+    (λ r f mark is. f (tree_of c.args.left.now) (tree_of c.args.right.now)
+    c.in_ok-moments.moments (mark_of c.args.one.now) (mark_of c.args.other.now) mark
+    c.in_ok-moments.ensures c.in_ok-first.ensures c.in_ok-second.ensures is)
+    c.go_on_both.ensures
+
+-- ---- a restriction
+
+pub advance_restriction-unreachable-requires : goal.advance_restriction-unreachable-requires
+advance_restriction-unreachable-requires t c =
+    shape_restriction c.args.piece.now.begin c.args.mark.now (tree_of c.args.body.now)
+    c.args.interval.now c.requires.well.well c.in_default.not-NoWithin c.in_default.not-Within
+
+pub advance_restriction-pass_lasting-requires : goal.advance_restriction-pass_lasting-requires
+advance_restriction-pass_lasting-requires t c =
+    let time = c.args.piece.now.begin in
+    let ends = none_ends time c.new-outer.result c.new-outer.ensures in (
+      omega arith,
+      (
+        c.requires.numbers,
+        (c.in_ok-inner-in-NoWithin.ensures.nothing.well time, (ends, c.requires.enter)),
+      ),
+    )
+
+pub advance_restriction-pass_lasting-requires-in-Within :
+    goal.advance_restriction-pass_lasting-requires-in-Within
+advance_restriction-pass_lasting-requires-in-Within t c =
+    let time = c.args.piece.now.begin in
+    let tree = tree_of c.args.body.now in
+    let well = subst (λ (m : Mark). IsWell time (mark_of m) (restriction tree c.args.interval.now))
+    c.in-Within.is c.requires.well.well in
+    let inner : IsWellAt time (mark_of c.deref.result.now) tree = record {
+      well = subst (λ (m : Mark). IsWell time (mark_of m) tree) (sym c.deref.ensures) well.2;
+    } in
+    let ends = entered_ends time c.in-Within.to c.in-Within.outer well.0 in
+    (omega arith, (c.requires.numbers, (inner, (ends, c.requires.enter))))
+
+pub advance_restriction-returns-then-is_empty : goal.advance_restriction-returns-then-is_empty
+advance_restriction-returns-then-is_empty t c =
+    advances_moved (ap mark_of c.in-NoWithin.is)
+    (c.no_restriction.ensures (tree_of c.args.body.now) c.args.interval.now c.args.piece.now
+    c.args.entering.now (c.if-is_empty.ensures.0 refl))
+
+pub advance_restriction-returns-in_ok-inner-in-NoWithin :
+    goal.advance_restriction-returns-in_ok-inner-in-NoWithin
+advance_restriction-returns-in_ok-inner-in-NoWithin t c =
+    let tree = tree_of c.args.body.now in
+    let inner = mark_of c.in_ok-inner-in-NoWithin.inner in
+    IfOk-weaker c.pass_lasting.result _ _
+    (λ r f. advances_moved (ap mark_of c.in-NoWithin.is)
+    (f restriction_none (restriction_unbegun tree c.args.interval.now c.new-outer.result inner
+    c.new-outer.ensures c.in_ok-inner-in-NoWithin.ensures.nothing)))
+    c.pass_lasting.ensures
+
+pub advance_restriction-returns-in-Within : goal.advance_restriction-returns-in-Within
+advance_restriction-returns-in-Within t c =
+    let tree = tree_of c.args.body.now in
+    let interval = c.args.interval.now in
+    let to = c.in-Within.to in
+    let outer = c.in-Within.outer in
+    let inner = mark_of c.deref.result.now in
+    let shape : mark_of c.args.mark.now ≡ restriction_one to outer inner =
+    ap mark_of c.in-Within.is
+    ∙ ap (λ m. restriction_one to outer (mark_of m)) (sym c.deref.ensures) in
+    IfOk-weaker c.pass_lasting-in-Within.result _ _
+    (λ r f. advances_moved shape
+    (f (restriction_one to outer inner) (restriction_begun tree interval to outer inner)))
+    c.pass_lasting-in-Within.ensures
+
+-- Moments enter the body.
+pub pass_lasting-returns : goal.pass_lasting-returns
+pass_lasting-returns t c =
+    IfOk-weaker c.go_on_lasting.result _ _
+    (λ r f mark is. f (tree_of c.args.body.now) c.in_ok-moments.moments
+    (mark_of c.args.inner.now) mark c.in_ok-moments.ensures c.in_ok-next.ensures is)
+    c.go_on_lasting.ensures

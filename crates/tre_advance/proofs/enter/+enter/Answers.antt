@@ -73,7 +73,7 @@ enter_alternation-returns t c =
     (alternation left right) (alternation left right) zones r.told (mark_of r.rest) shape refl
     (f one other left right piece zones c.in_ok-first-in-Alt.ensures
     c.in_ok-second-in-Alt.ensures))
-    c.either.ensures.enters
+    c.either.ensures
 
 -- ---- a repetition
 

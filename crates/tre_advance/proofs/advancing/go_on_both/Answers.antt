@@ -1,0 +1,15 @@
+use Rattle.tre_mark.specs.MarkTree.{mark_of}
+use Rattle.tre_advance.proofs.InstanceSteps.{later_ends}
+use Rattle.tre_advance.proofs.Passings.{intersection_advances}
+use Rattle.tre_advance.proofs.advancing.go_on_both.Goals as goal
+
+pub entered-requires-clause-ends : goal.entered-requires-clause-ends
+entered-requires-clause-ends c = later_ends c.args.piece.now c.args.outer.now c.requires.ends
+
+pub returns : goal.returns
+returns c left right moments one other mark serve advances advances' is =
+    intersection_advances c.args.piece.now left right c.args.outer.now c.args.entering.now
+    c.in_ok-whole.whole moments c.args.first.told c.args.second.told c.in_ok-told.told one other
+    mark (mark_of c.args.first.rest) (mark_of c.args.second.rest) (mark_of c.in_ok-rest.rest)
+    c.requires.ends c.requires.enter serve advances advances' is c.in_ok-whole.ensures.union
+    c.in_ok-told.ensures c.in_ok-rest.ensures
