@@ -1,16 +1,17 @@
--- Zones that are among others.
-use Rattle.std.proofs.Common.{◌≡◌, ℕ, ◌+◌, ◌<◌, ◌≤◌, List, [], Any, length, get_or, take, inl, inr, ⊎_elim, subst}
+-- Zones that are among others, and zones of instants.
+use Rattle.std.proofs.Common.{◌≡◌, ℕ, ◌+◌, ◌<◌, ◌≤◌, List, [], Any, Some, length, get_or, take, inl, inr, ⊎_elim, subst, arith}
 use Rattle.std.proofs.lemmas.List.{take_all}
 use Rattle.tre_pairs.specs.Pairs.{Either}
 use Rattle.tre_pairs.proofs.Laws.{Agree}
 use Rattle.tre_zone.specs.Held.{Held, IsSetOf}
+use Rattle.tre_zone.specs.Longest.{AllLastUpTo}
 use Rattle.tre_zone.specs.Zone.{Includes}
 use Rattle.tre_zone.specs.declared.zone_bounds.ZoneBounds.{ZoneBounds}
 use Rattle.tre_zone.proofs.HeldSets.{Held-empty}
 use Rattle.tre_zoneset.proofs.Members.{SetHolds-more}
 use Rattle.tre_zoneset.proofs.Unions.{SetHolds-included}
 use Rattle.tre_mark.proofs.Agreeing.{agree_refl, agree_then, agree_either}
-use Rattle.tre_advance.specs.Moves.{AreAmong}
+use Rattle.tre_advance.specs.Moves.{AreAmong, AreInstants}
 use Rattle.tre_advance.proofs.SetsOf.{no_pair, set_agrees, set_of}
 
 module _ (others : List ZoneBounds) where
@@ -33,6 +34,27 @@ module _ (others : List ZoneBounds) where
       → AreAmong (take i zones) others → AreAmong zones others
   among_all zones i all old =
       subst (λ (list : List ZoneBounds). AreAmong list others) (take_all i zones all) old
+
+pub instants_none : AreInstants []
+instants_none = record { same = λ a b n some h. absurd (Held-empty a b n h) }
+
+pub instants_more : (zones : List ZoneBounds) (i : ℕ) (zone : ZoneBounds) → i < length zones
+    → zone ≡ get_or zones i zone → AreInstants (take i zones) → AllLastUpTo (Some 0) zone
+    → AreInstants (take (i + 1) zones)
+instants_more zones i zone below is old short = record {
+  same = λ a b n some h. ⊎_elim
+      (λ x. old.same a b n some (record { rising = h.rising; held = x }))
+      (λ x.
+      let rising = h.rising in
+      let last = (short.each a b n some rising x).within in
+      omega (arith, rising, last))
+      ((SetHolds-more zones i zone below is a b n).0 h.held);
+}
+
+pub instants_all : (zones : List ZoneBounds) (i : ℕ) → length zones ≤ i
+    → AreInstants (take i zones) → AreInstants zones
+instants_all zones i all old =
+    subst (λ (list : List ZoneBounds). AreInstants list) (take_all i zones all) old
 
 -- Where nothing has begun, and all that is here enters too, what enters is all.
 pub entering_alone : (here begun enter : List ZoneBounds) → AreAmong here enter → begun ≡ []

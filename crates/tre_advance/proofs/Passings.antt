@@ -1,5 +1,5 @@
 -- What an intersection or a restriction does over a piece in which pairs enter, in one walk.
-use Rattle.std.proofs.Common.{◌≡◌, ℕ, ◌*◌, ◌<◌, ◌≤◌, List, [], ◌∷◌, inl, inr, ⊎_elim, sym, refl, arith}
+use Rattle.std.proofs.Common.{ℕ, ◌*◌, ◌<◌, ◌≤◌, List, [], ◌∷◌, subst, inl, inr, ⊎_elim, sym, refl, arith}
 use Rattle.std.proofs.Math.Nat.{mul-pos}
 use Rattle.tre_pairs.specs.Cuts.{Crossing}
 use Rattle.tre_pairs.specs.Pairs.{Pairs, Composed, Either, Both, Lasting}
@@ -26,18 +26,18 @@ use Rattle.tre_mark.specs.Marked.{IsOpen, AnyDuration, Marked, EndBetween}
 use Rattle.tre_mark.proofs.Agreeing.{agree_refl, agree_sym, agree_then, agree_composed, agree_either}
 use Rattle.tre_advance.specs.Advance.{before_piece, with_piece, Advances}
 use Rattle.tre_advance.specs.Instances.{IsRestriction, IsIntersection, LeavesRestriction, LeavesIntersection}
-use Rattle.tre_advance.specs.Moves.{AreMomentsFor}
+use Rattle.tre_advance.specs.Moves.{AreMomentsFor, AreInstants}
 use Rattle.tre_advance.proofs.Crossings.{agree_crossing}
 use Rattle.tre_advance.proofs.Going.{over, alone, behind}
 use Rattle.tre_advance.proofs.InstanceSteps.{cross_outer, later_ends, union_ends}
 use Rattle.tre_advance.proofs.Onward.{Onward, advances_by, proceeds_by}
-use Rattle.tre_advance.proofs.SetsOf.{set_agrees, no_pair}
+use Rattle.tre_advance.proofs.SetsOf.{set_agrees}
 use Rattle.tre_advance.proofs.Steps.{Followed}
 use Rattle.tre_advance.proofs.Takings.{Takes, taken_lasting, taken_both}
 
 -- ---- moments
 
--- All moments of the piece serve whatever enters in it, and none serve where nothing does.
+-- All moments of the piece serve whatever enters in it.
 pub all_served : (piece : Piece) (enter all : List ZoneBounds)
     → EndBetween piece.begin (end_of_piece piece) enter
     → HoldExactly all (IsInstantBetween piece.begin (end_of_piece piece))
@@ -54,11 +54,22 @@ all_served piece enter all between held = record {
   };
 }
 
-pub none_served : (piece : Piece) (enter none : List ZoneBounds) → enter ≡ [] → none ≡ []
-    → AreMomentsFor enter piece none
-none_served piece enter none nothing empty = record {
-  only = λ a b n some h. absurd (no_pair none empty a b n h);
-  ends = λ a m n some h. absurd (no_pair enter nothing a m n h);
+-- And instants that enter serve themselves.
+pub instants_serve : (piece : Piece) (enter : List ZoneBounds)
+    → EndBetween piece.begin (end_of_piece piece) enter → AreInstants enter
+    → AreMomentsFor enter piece enter
+instants_serve piece enter between are = record {
+  only = λ a b n some h.
+      let is = are.same a b n some h in
+      let begin = between.begin a b n some h in
+      record {
+        starts = omega (arith, begin, is);
+        same = is;
+        ends = between.end a b n some h;
+      };
+  ends = λ a m n some h.
+      let is = are.same a m n some h in
+      subst (λ (x : ℕ). Held enter x m n) is h;
 }
 
 module _ (piece : Piece) (enter moments : List ZoneBounds)

@@ -1,5 +1,6 @@
 -- Sets of ordered pairs, made by the operators.
-use Rattle.std.proofs.Common.{◌≡◌, ℕ, ◌*◌, ◌<◌, ◌↔◌, ◌⊎◌, ◌++◌, List, [], inl, inr, ⊎_elim, subst, refl, sym}
+use Rattle.std.proofs.Common.{◌≡◌, ℕ, ◌+◌, ◌*◌, ◌<◌, ◌≤◌, ◌↔◌, ◌⊎◌, ◌++◌, List, [], inl, inr, ⊎_elim, subst, refl, sym, arith}
+use Rattle.std.proofs.Math.Nat.{mul-le-mul_right}
 use Rattle.tre_pairs.specs.Pairs.{Pairs, Composed, Either, Both, Lasting, Chain}
 use Rattle.tre_pairs.proofs.Agreement.{Agree-Chain}
 use Rattle.tre_pairs.proofs.Chains.{Composed-at, Chain-none, Chain-cases}
@@ -7,7 +8,7 @@ use Rattle.tre_pairs.proofs.Laws.{IsOrdered, IsInstant, Agree}
 use Rattle.tre_pairs.proofs.Order.{IsOrdered-Chain}
 use Rattle.tre_pairs.proofs.Scaling.{moved}
 use Rattle.tre_offline.proofs.Unions.{Agree-held}
-use Rattle.tre_zone.specs.Held.{Held, IsSetOf}
+use Rattle.tre_zone.specs.Held.{Held, IsLatest, IsSetOf}
 use Rattle.tre_zone.proofs.HeldSets.{Scales-Held, IsOrdered-Held, Held-empty}
 use Rattle.tre_star.proofs.Chaining.{Scales-instants}
 use Rattle.tre_zone.specs.Interval.{IntervalEnds, LastsWithin}
@@ -147,6 +148,16 @@ both_set zones one other held = record {
     }),
   );
 }
+
+-- No pair ends at a time by which all have ended before.
+pub ends_before : (zones : List ZoneBounds) (latest time : ℕ) → IsLatest latest zones
+    → latest < time → (a b n : ℕ) → 0 < n → Both (Held zones) (EndsAt time) a b n → ⊥
+ends_before zones latest time is before a b n some h =
+    let by = is.ends.ends a b n some h.left in
+    let at = h.right.ends in
+    let more : latest + 1 ≤ time = omega (arith, before) in
+    let later = mul-le-mul_right n more in
+    omega (arith, by, at, later, some)
 
 pub ending_set : (time : ℕ) (zones all : List ZoneBounds)
     → HoldExactly zones (Both (SetHolds all) (EndsAt time))

@@ -50,6 +50,10 @@ pub record TellsAtom (here begun enter : List ZoneBounds) (tree : PatternTree) (
 pub record AreAmong (zones others : List ZoneBounds) : Type 0 where
   pub each : (a b n : ℕ) → 0 < n → Held zones a b n → Held others a b n
 
+-- Each pair of the zones is an instant.
+pub record AreInstants (zones : List ZoneBounds) : Type 0 where
+  pub same : (a b n : ℕ) → 0 < n → Held zones a b n → a ≡ b
+
 -- The mark of a repetition has the pairs that it had and those of the set that end at the time.
 pub record KeepsHere (time : ℕ) (old told : List ZoneBounds) (body rest : MarkTree) : Type 0 where
   pub last : List ZoneBounds

@@ -17,7 +17,7 @@ ghost use Rattle.tre_advance.specs.Moves.{AreMomentsFor, IsBriefTree, IsLiteralT
 use crate::atoms::{advance_brief, advance_literal};
 use crate::enter::{enter, entered, moments_of, unbegun};
 use crate::instances::{leave_both, leave_lasting, tell_both, tell_lasting};
-use crate::sets::joined;
+use crate::sets::{are_instants, joined};
 use crate::stepping::{Advanced, leave_again, repeat, starts_again};
 use std::alloc::{AllocError, Global};
 use tre_edges::Piece;
@@ -153,8 +153,8 @@ fn advance_intersection(
     }
 }
 
-// An intersection that began behind each pair of `outer`, and begins behind each that enters: both
-// its sides are entered at the moments at which pairs enter.
+// An intersection that began behind each pair of `outer`, and begins behind each that enters:
+// moments enter both its sides. Those that enter it serve, else all of the piece do.
 #[cycle(advance)]
 fn pass_both(
     alloc: Global,
@@ -178,7 +178,12 @@ fn pass_both(
         → Advances mark (intersection (tree_of left.now) (tree_of right.now)) entering.now
         piece.now r.told (mark_of r.rest)) }
 {
-    let moments = moments_for(alloc, entering, piece)?;
+    if are_instants(entering.zones()) {
+        let first = advance(alloc, one, left, entering, piece)?;
+        let second = advance(alloc, other, right, entering, piece)?;
+        return go_on_both(alloc, outer, first, second, entering, piece);
+    }
+    let moments = moments_of(alloc, piece)?;
     let first = advance(alloc, one, left, &moments, piece)?;
     let second = advance(alloc, other, right, &moments, piece)?;
     go_on_both(alloc, outer, first, second, entering, piece)
@@ -219,8 +224,8 @@ fn advance_restriction(
     }
 }
 
-// A restriction that began behind each pair of `outer`, and begins behind each that enters: its
-// body is entered at the moments at which pairs enter.
+// A restriction that began behind each pair of `outer`, and begins behind each that enters: moments
+// enter its body. Those that enter it serve, else all of the piece do.
 #[cycle(advance)]
 fn pass_lasting(
     alloc: Global,
@@ -240,7 +245,11 @@ fn pass_lasting(
         → Advances mark (restriction (tree_of body.now) interval.now) entering.now piece.now
         r.told (mark_of r.rest)) }
 {
-    let moments = moments_for(alloc, entering, piece)?;
+    if are_instants(entering.zones()) {
+        let next = advance(alloc, inner, body, entering, piece)?;
+        return go_on_lasting(alloc, outer, next, interval, entering, piece);
+    }
+    let moments = moments_of(alloc, piece)?;
     let next = advance(alloc, inner, body, &moments, piece)?;
     go_on_lasting(alloc, outer, next, interval, entering, piece)
 }
@@ -322,17 +331,6 @@ fn advance_either(alloc: Global, one: Advanced, other: Advanced) -> Result<Advan
     let told = joined(one.told, &other.told)?;
     let rest = alternation(alloc, one.rest, other.rest)?;
     Ok(Advanced { told, rest })
-}
-
-// Moments at which the pairs that enter may end: all of the piece, or none where nothing enters.
-fn moments_for(alloc: Global, entering: &ZoneSet, piece: &Piece) -> Result<ZoneSet, AllocError>
-    requires enter { EndBetween piece.now.begin (end_of_piece piece.now) entering.now }
-    ensures { IfOk result (λ moments. AreMomentsFor entering.now piece.now moments) }
-{
-    if entering.is_empty() {
-        return Ok(ZoneSet::new(alloc));
-    }
-    moments_of(alloc, piece)
 }
 
 // A restriction goes on as its body does, behind what was there and what enters.

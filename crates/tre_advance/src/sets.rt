@@ -6,11 +6,11 @@ ghost use Rattle.tre_mark.specs.Marked.{EndBetween};
 ghost use Rattle.tre_zone.specs.Held.{Held, IsSetOf};
 ghost use Rattle.tre_zone.specs.Interval.{LastsWithin};
 ghost use Rattle.tre_zone.specs.Zone.{IsInstantBetween, EndsAt, Includes};
-ghost use Rattle.tre_advance.specs.Moves.{AreAmong};
+ghost use Rattle.tre_advance.specs.Moves.{AreAmong, AreInstants};
 
 use std::alloc::{AllocError, Global};
 use tre_star::{closure, compose_sets};
-use tre_zone::{Interval, Zone};
+use tre_zone::{Interval, Zone, latest_end};
 use tre_zoneset::{ZoneSet, are_few};
 
 /// The pairs of the first set, each followed by one of the second.
@@ -102,12 +102,12 @@ pub fn within(alloc: Global, zones: &ZoneSet, interval: &Interval) -> Result<Zon
     zones.within(interval)
 }
 
-/// The pairs of the set that end at the time.
+/// The pairs of the set that end at the time: none, at once, where all have ended before.
 pub fn ending_at(alloc: Global, zones: &ZoneSet, time: u64) -> Result<ZoneSet, AllocError>
     requires { time ≤ TIME_MAX }
     ensures { IfOk result (λ ending. IsSetOf ending (Both (Held zones.now) (EndsAt time))) }
 {
-    if zones.is_empty() {
+    if latest_end(zones.zones()) < time {
         return Ok(ZoneSet::new(alloc));
     }
     zones.ending_at(time)
@@ -162,4 +162,16 @@ fn is_included(zone: &Zone, others: &[Zone]) -> bool
     ensures { IsTrue result ↔ Any (λ other. Includes other zone.now) others.now }
 {
     others.iter().any(|other| other.includes(zone))
+}
+
+/// Whether each pair of the zones is seen to be an instant.
+pub fn are_instants(zones: &[Zone]) -> bool
+    ensures { IsTrue result → AreInstants zones.now }
+{
+    for zone in zones {
+        if !zone.is_up_to(Some(0)) {
+            return false;
+        }
+    }
+    true
 }

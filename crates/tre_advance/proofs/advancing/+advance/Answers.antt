@@ -9,9 +9,11 @@ use Rattle.tre_mark.specs.MarkTree.{MarkTree, mark_of, sequence_mark, alternatio
 use Rattle.tre_mark.specs.declared.mark.Mark.{Mark}
 use Rattle.tre_mark.specs.Marked.{IsWell, IsWellAt}
 use Rattle.tre_advance.specs.Advance.{Advances}
+use Rattle.tre_advance.specs.Moves.{AreInstants}
 use Rattle.tre_advance.proofs.CallForms.{IfOk-both}
 use Rattle.tre_advance.proofs.InstanceSteps.{entered_ends, none_ends, restriction_begun, restriction_unbegun, intersection_begun, intersection_unbegun}
 use Rattle.tre_advance.proofs.Onward.{none_between, advances_moved, again_between, repetition_advances}
+use Rattle.tre_advance.proofs.Passings.{instants_serve, all_served}
 use Rattle.tre_advance.proofs.ShapeForms.{shape_sequence, shape_alternation, shape_repetition, shape_intersection, shape_restriction}
 use Rattle.tre_advance.proofs.advancing.+advance.Goals as goal
 
@@ -213,13 +215,27 @@ advance_intersection-returns-in-Meet t c =
     c.pass_both-in-Meet.ensures
 
 -- Moments enter both sides.
+pub pass_both-returns-then-are_instants : goal.pass_both-returns-then-are_instants
+pass_both-returns-then-are_instants t c =
+    let enter = c.args.entering.now in
+    IfOk-weaker c.go_on_both.result _ _
+    (λ r f mark is. f (tree_of c.args.left.now) (tree_of c.args.right.now) enter
+    (mark_of c.args.one.now) (mark_of c.args.other.now) mark
+    (instants_serve c.args.piece.now enter c.requires.enter
+    (subst (λ (zones : List ZoneBounds). AreInstants zones) c.zones.ensures.same
+    (c.are_instants.ensures c.if-are_instants.true)))
+    c.in_ok-first.ensures c.in_ok-second.ensures is)
+    c.go_on_both.ensures
+
 pub pass_both-returns : goal.pass_both-returns
 pass_both-returns t c =
-    IfOk-weaker c.go_on_both.result _ _
+    IfOk-weaker c.go_on_both-2.result _ _
     (λ r f mark is. f (tree_of c.args.left.now) (tree_of c.args.right.now)
     c.in_ok-moments.moments (mark_of c.args.one.now) (mark_of c.args.other.now) mark
-    c.in_ok-moments.ensures c.in_ok-first.ensures c.in_ok-second.ensures is)
-    c.go_on_both.ensures
+    (all_served c.args.piece.now c.args.entering.now c.in_ok-moments.moments c.requires.enter
+    c.in_ok-moments.ensures.held)
+    c.in_ok-first-2.ensures c.in_ok-second-2.ensures is)
+    c.go_on_both-2.ensures
 
 -- ---- a restriction
 
@@ -285,9 +301,23 @@ advance_restriction-returns-in-Within t c =
     c.pass_lasting-in-Within.ensures
 
 -- Moments enter the body.
+pub pass_lasting-returns-then-are_instants : goal.pass_lasting-returns-then-are_instants
+pass_lasting-returns-then-are_instants t c =
+    let enter = c.args.entering.now in
+    IfOk-weaker c.go_on_lasting.result _ _
+    (λ r f mark is. f (tree_of c.args.body.now) enter (mark_of c.args.inner.now) mark
+    (instants_serve c.args.piece.now enter c.requires.enter
+    (subst (λ (zones : List ZoneBounds). AreInstants zones) c.zones.ensures.same
+    (c.are_instants.ensures c.if-are_instants.true)))
+    c.in_ok-next.ensures is)
+    c.go_on_lasting.ensures
+
 pub pass_lasting-returns : goal.pass_lasting-returns
 pass_lasting-returns t c =
-    IfOk-weaker c.go_on_lasting.result _ _
+    IfOk-weaker c.go_on_lasting-2.result _ _
     (λ r f mark is. f (tree_of c.args.body.now) c.in_ok-moments.moments
-    (mark_of c.args.inner.now) mark c.in_ok-moments.ensures c.in_ok-next.ensures is)
-    c.go_on_lasting.ensures
+    (mark_of c.args.inner.now) mark
+    (all_served c.args.piece.now c.args.entering.now c.in_ok-moments.moments c.requires.enter
+    c.in_ok-moments.ensures.held)
+    c.in_ok-next-2.ensures is)
+    c.go_on_lasting-2.ensures
