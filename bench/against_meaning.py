@@ -18,8 +18,8 @@ import tempfile
 from functools import lru_cache
 
 import meaning
-from cases import (ALL, are_in_order, end_of, forms_of, holds, key_of, lines_of, make_trace,
-                   read_zone, spelled, star_of_turns)
+from cases import (ALL, are_in_order, declared, end_of, forms_of, holds, key_of, make_trace,
+                   read_zone, spelled, star_of_turns, with_names)
 from meaning import FINE, STEP, cuts, front, strip_zones
 
 TRACES = 36
@@ -200,11 +200,15 @@ def compare_watch(montre, path, checks, trace, form):
 
 
 def watch_all(montre, path, place, trace, forms):
-    """All patterns over one trace, in files of some checks each."""
+    """All patterns over one trace, in files of some checks each, whose names make several groups in
+    every other file."""
     size, results = (5, 11, len(ALL))[place % 3], []
-    for start in range(0, len(ALL), size):
-        form = forms[(start // size + place // 2) % 2]
-        results += compare_watch(montre, path, ALL[start:start + size], trace, form)
+    for turn, start in enumerate(range(0, len(ALL), size)):
+        checks, form = ALL[start:start + size], forms[(turn + place // 2) % 2]
+        if (turn // 2 + place // 4) % 2:
+            checks = list(with_names(checks))
+            form = declared(form, checks)
+        results += compare_watch(montre, path, checks, trace, form)
     return results
 
 

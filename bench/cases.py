@@ -102,7 +102,7 @@ def number(units, scale):
 
 
 def scaled(spelling, scale):
-    return re.sub(r"\d+", lambda digits: number(int(digits[0]), scale), spelling)
+    return re.sub(r"\b\d+", lambda digits: number(int(digits[0]), scale), spelling)
 
 
 def lines_of(trace, scale=0):
@@ -140,6 +140,20 @@ def columns_of(trace, scale=0):
 
 # A form of a trace: its options, its scale, how many units a tick of the trace is, its text.
 Form = namedtuple("Form", "options scale units text")
+
+
+def with_names(checks):
+    """Checks with names of their own that are never true: 0, 20 or 40 of them."""
+    for place, (spelling, tree) in enumerate(checks):
+        names = ["n%d_%d" % (place, name) for name in range(place % 3 * 20)]
+        yield spelling + " | {!true && (%s)}" % " || ".join(["p", *names]), tree
+
+
+def declared(form, checks):
+    """A dump with the names of with_names declared."""
+    names = re.findall(r"\bn\d+_\d+", "".join(spelling for spelling, _ in checks))
+    more = "".join("$var wire 1 %s %s $end\n" % (name, name) for name in names)
+    return form._replace(text=form.text.replace("$enddefinitions", more + "$enddefinitions"))
 
 
 def scale_words(scale):
