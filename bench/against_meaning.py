@@ -3,135 +3,29 @@
 
     python3 bench/against_meaning.py PATH_OF_MONTRE
 
-Each pattern stands below as a tree beside its spelling. Over each small trace
+Each pattern stands in cases.py as a tree beside its spelling. Over each small trace
 the tree is read by the definitions (meaning.py), and each pair of half ticks is
-compared with the zones that montre prints: over lines of text, with a scale, over
-a dump, over columns, less another pattern, as strips, and after each block of
---online.
+compared with the zones that montre prints: over lines of text, a dump and columns,
+with a scale, less another pattern, as strips, after each block of --online, and
+after each block of --watch, where many patterns stand in one file.
 """
 
 import os
 import re
 import subprocess
 import sys
+import tempfile
+from functools import lru_cache
 
-from meaning import FINE, INF, STEP, Segment, Trace, admits, cuts, front, pairs, strip_zones
+import meaning
+from cases import (ALL, are_in_order, declared, end_of, forms_of, holds, key_of, make_trace,
+                   read_zone, spelled, star_of_turns, with_names)
+from meaning import FINE, STEP, cuts, front, strip_zones
 
-P, Q, R = (lambda on: "p" in on), (lambda on: "q" in on), (lambda on: "r" in on)
-TRUE, ANY = (lambda on: True), (lambda on: P(on) or Q(on))
-BOTH, P_NOT_Q = (lambda on: P(on) and Q(on)), (lambda on: P(on) and not Q(on))
+TRACES = 36
+NAMES = ["at", "end", "p", "_", "b.c_1", *("check%d" % place for place in range(59))]
 
-def no(state): return lambda on: not state(on)
-def lit(state): return ("literal", state)
-def rise(state): return ("edge", state, False)
-def fall(state): return ("edge", state, True)
-def event(name): return ("event", name)
-def seq(e, *rest): return ("seq", e, seq(*rest)) if rest else e
-def alt(e, f): return ("alt", e, f)
-def both(e, f): return ("both", e, f)
-def star(e): return ("star", e)
-def plus(e): return seq(e, star(e))
-def last(e, low, high, *ends): return ("last", e, low, high, *(ends or (True, True)))
-EPS = ("eps",)
-p, q, r, a, b = lit(P), lit(Q), lit(R), event("a"), event("b")
-PULSE = seq(rise(P), p, fall(P))
-
-PATTERNS = [
-    ("p", p), ("!p", lit(no(P))), ("true", lit(TRUE)), ("eps", EPS),
-    ("{p && q}", lit(BOTH)), ("{p && !q}", lit(P_NOT_Q)), ("{p || q}", lit(ANY)),
-    ("rise(p)", rise(P)), ("fall(p)", fall(P)), ("rise(p || q)", rise(ANY)),
-    ("p|q", alt(p, q)), ("p&q", both(p, q)), ("rise(p)|fall(q)", alt(rise(P), fall(Q))),
-    ("p;q", seq(p, q)), ("p;p", seq(p, p)), ("p;q;r", seq(p, q, r)),
-    ("<:p", seq(rise(P), p)), ("p:>", seq(p, fall(P))), ("<:p:>", PULSE),
-    ("<:!q:>", seq(rise(no(Q)), lit(no(Q)), fall(no(Q)))),
-    ("p % [1,2]", last(p, 1, 2)), ("p % (1,2)", last(p, 1, 2, False, False)),
-    ("p % (1,2]", last(p, 1, 2, False, True)), ("p % [2,inf)", last(p, 2, INF)),
-    ("p % [0,0]", last(p, 0, 0)), ("(p;q) % [0,1]", last(seq(p, q), 0, 1)),
-    ("p ; q % (1,3)", seq(p, last(q, 1, 3, False, False))),
-    ("(p % (0,1)) ; (q % [1,2))",
-     seq(last(p, 0, 1, False, False), last(q, 1, 2, True, False))),
-    ("(p;q) & (true;rise(q);true)", both(seq(p, q), seq(lit(TRUE), rise(Q), lit(TRUE)))),
-    ("(p;q) % [2,3] | q % [1,1]", alt(last(seq(p, q), 2, 3), last(q, 1, 1))),
-    ("<:p:> ; !q % [1,2]", seq(PULSE, last(lit(no(Q)), 1, 2))),
-    ("p?", alt(p, EPS)), ("p*", star(p)), ("(p;q)*", star(seq(p, q))),
-    ("(p % [1,1])*", star(last(p, 1, 1))), ("(p % [2,2])+", plus(last(p, 2, 2))),
-    ("rise(p)*", star(rise(P))), ("(<:p:>|!p)*", star(alt(PULSE, lit(no(P))))),
-    ("(p* & q % [1,2])*", star(both(star(p), last(q, 1, 2)))),
-    ("((p % [1,2]);(q % [1,2]))+ % [3,6]",
-     last(plus(seq(last(p, 1, 2), last(q, 1, 2))), 3, 6)),
-]
-
-EVENTS = [
-    ("event(a)", a), ("event(a)|event(b)", alt(a, b)), ("event(a) & event(b)", both(a, b)),
-    ("event(a);p", seq(a, p)), ("p;event(a)", seq(p, a)), ("event(a);event(b)", seq(a, b)),
-    ("event(a);true;event(b)", seq(a, lit(TRUE), b)), ("rise(p);event(a)", seq(rise(P), a)),
-    ("(event(a);{p || q};event(b)) % [1,3]", last(seq(a, lit(ANY), b), 1, 3)),
-    ("(p;event(a))*", star(seq(p, a))), ("event(a)*", star(a)), ("event(a)?", alt(a, EPS)),
-    ("(true;event(b)) & q", both(seq(lit(TRUE), b), q)),
-]
-
-
-def make_trace(number, size, with_events):
-    """A trace by a fixed rule."""
-    segments = []
-    for place in range(size):
-        code = (number * 5 + place * 3 + place * place * number + number // 7) % 4
-        names = [name for bit, name in ((1, "p"), (2, "q")) if code & bit]
-        if (number + place) % 3 == 0:
-            names.append("r")
-        segments.append(Segment(1 + (number + place * place) % 3, frozenset(names),
-                                events_at(number, place) if with_events else frozenset()))
-    return Trace(segments, events_at(number, size) if with_events else frozenset())
-
-
-def events_at(number, place):
-    return frozenset(name for factor, name in ((3, "a"), (7, "b"))
-                     if (number + factor * place + number * place // 2) % 3 == 0)
-
-
-# ---- what montre is given, and what it prints
-
-def number(units, scale):
-    """A number of units with as many decimals as the scale is."""
-    digits = str(units).rjust(scale + 1, "0")
-    return digits if scale == 0 else digits[:-scale] + "." + digits[-scale:]
-
-
-def scaled(spelling, scale):
-    return re.sub(r"\d+", lambda digits: number(int(digits[0]), scale), spelling)
-
-
-def lines_of(trace, scale=0):
-    """The trace in lines of text."""
-    text = ""
-    for segment in trace.segments:
-        text += "@ %s\n" % " ".join(sorted(segment.events)) if segment.events else ""
-        text += " ".join([number(segment.length, scale)] + sorted(segment.on)) + "\n"
-    return text + ("@ %s\n" % " ".join(sorted(trace.last)) if trace.last else "")
-
-
-def dump_of(trace, _scale=0):
-    """The trace as a value change dump."""
-    text = "".join("$var wire 1 %s %s $end\n" % (name, name) for name in "pqr")
-    text += "".join("$var event 1 %s %s $end\n" % (name, name) for name in "ab")
-    text += "$enddefinitions $end\n"
-    ends = cuts(trace, 1)
-    for segment, begin in zip(trace.segments, ends):
-        values = "".join("%d%s " % (name in segment.on, name) for name in "pqr")
-        text += "#%d %s%s\n" % (begin, values, "".join("1%s " % name for name in segment.events))
-    return text + "#%d %s\n" % (ends[-1], "".join("1%s " % name for name in trace.last))
-
-
-LETS = "p = one >= 1; q = two != 0 ; r=three<-5"
-
-
-def columns_of(trace, scale=0):
-    """The trace as comma-separated rows, for the definitions of LETS."""
-    text = "dt,two,one,three\n"
-    for segment in trace.segments:
-        text += "%s,%d,%d,%d\n" % (number(segment.length, scale), 7 if "q" in segment.on else 0,
-                                   1 if "p" in segment.on else 0, -6 if "r" in segment.on else -5)
-    return text
+pairs = lru_cache(maxsize=1000)(meaning.pairs)
 
 
 def run_montre(montre, words, text):
@@ -141,25 +35,11 @@ def run_montre(montre, words, text):
     return done.stdout.splitlines()
 
 
-def read_units(word, scale):
-    whole, _, decimals = word.partition(".")
-    assert len(decimals) == scale
-    return int(whole + decimals)
-
-
-def read_range(word, scale):
-    low, high = word[1:-1].split(",")
-    return read_units(low, scale), read_units(high, scale), word[0] == "[", word[-1] == "]"
-
-
-def read_zone(line, scale=0):
-    """A zone, as three ranges."""
-    return tuple(read_range(word, scale) for word in line.split())
-
-
-def holds(zone, begin, end):
-    begins, ends, lasts = zone
-    return admits(begin, *begins) and admits(end, *ends) and admits(end - begin, *lasts)
+@lru_cache(maxsize=2 * len(ALL))
+def online(montre, spelling, form):
+    """The lines of --online."""
+    words = [*form.options, "--online", spelled(spelling, form)]
+    return run_montre(montre, words, form.text)
 
 
 # ---- comparing
@@ -181,88 +61,174 @@ def differing(spelling, zones, meant, trace, count):
     return len(grid), len(meant.intersection(grid)), len(wrong)
 
 
-def compare(montre, words, scale, text, meant, trace, count):
+def compare(montre, words, form, meant, trace, count):
     """The zones of an offline run, and its last line."""
-    lines = run_montre(montre, words, text)
-    zones = [read_zone(line, scale) for line in lines[:-1]]
+    words = [*form.options, *words]
+    lines = run_montre(montre, words, form.text)
+    zones = [read_zone(line, form) for line in lines[:-1]]
     compared, matches, differ = differing(words, zones, meant, trace, count)
-    end = "end " + number(cuts(trace, 1)[-1], scale)
-    if lines[-1] != end:
-        print("differs: %s over %s ends with %s" % (words, seen(trace), lines[-1]))
-    return compared, matches, differ + (lines[-1] != end)
+    is_fine = lines[-1] == "end " + end_of(cuts(trace, 1)[-1], form) and are_in_order(zones, [])
+    if not is_fine:
+        print("differs: %s over %s prints %s" % (words, seen(trace), lines))
+    return compared, matches, differ + (not is_fine)
 
 
-def compare_online(montre, spelling, tree, trace, count):
-    """After each block, for the segments up to there; and behind the last, for the whole trace."""
-    ends = cuts(trace, 1)
-    zones, results, place, wrong = [], [], 0, []
-    lines = run_montre(montre, ["--online", spelling], lines_of(trace))
+def blocks_of(lines):
+    """The lines of each block, and the line behind them."""
+    blocks, block = [], []
     for line in lines:
-        begin, end = (ends + ends[-1:])[place:place + 2]
-        is_end = place == len(trace.segments)
-        if line == ("end %d" if is_end else "at %d") % end:
-            place += 1
-            so_far = trace if is_end else front(trace, place)
-            here = min(count, cuts(so_far)[-1] + FINE + 1)
-            meant = pairs(tree, so_far, here)
-            # Without a segment there is no block for what matches at 0.
-            if trace.segments:
-                results.append(differing("--online " + spelling, zones, meant, so_far, here))
-            continue
-        zones.append(read_zone(line))
-        low, high = zones[-1][1][:2]
-        wrong += [] if begin <= low and high <= end else [line]
-    wrong += [] if place == len(trace.segments) + 1 else [lines[-1]]
-    for line in wrong:
-        print("differs: --online %s over %s has the line %s" % (spelling, seen(trace), line))
+        if re.match(r"(at|end) \d", line):
+            blocks.append((block, line))
+            block = []
+        else:
+            block.append(line)
+    return blocks + ([(block, None)] if block else [])
+
+
+def is_fine_block(zones, before, begin, end):
+    """Zones that end in a segment, in order, none of which is included in one before."""
+    return are_in_order(zones, before) and all(
+        begin <= zone[1][0] and zone[1][1] <= end for zone in zones)
+
+
+def compare_blocks(words, lines, form, tree, trace, count):
+    """After each block, for the segments up to there; and behind the last, for the whole trace."""
+    ends, size = cuts(trace, 1), len(trace.segments)
+    ends.append(ends[-1])
+    wanted = ["at " + end_of(end, form) for end in ends[1:-1]] + ["end " + end_of(ends[-1], form)]
+    blocks = blocks_of(lines)
+    is_fine = [behind for _, behind in blocks] == wanted
+    # What the events at the end complete; without them there is nothing behind the last block.
+    closes = any("event(%s)" % name in words[-1] for name in trace.last)
+    all_zones, before, results = [], [], []
+    for place, (block, _) in enumerate(blocks[:size + closes]):
+        so_far = trace if place == size else front(trace, place + 1)
+        zones = [read_zone(line, form) for line in block]
+        is_fine &= is_fine_block(zones, before, *ends[place:place + 2])
+        all_zones, before = all_zones + zones, zones
+        here = min(count, cuts(so_far)[-1] + FINE + 1)
+        results.append(differing(words, all_zones, pairs(tree, so_far, here), so_far, here))
+    is_fine &= closes or blocks[-1][0] == []
+    if not is_fine:
+        print("differs: %s over %s prints %s" % (words, seen(trace), lines))
     compared, matches, differ = map(sum, zip(*results)) if results else (0, 0, 0)
-    return compared, matches, differ + len(wrong)
+    return compared, matches, differ + (not is_fine)
 
 
-def key_of(zone):
-    """By this the lines are in order."""
-    return [part for low, high, low_in, high_in in zone for part in (low, not low_in, high, high_in)]
-
-
-def compare_strips(montre, spelling, tree, trace, other=None):
+def compare_strips(montre, words, form, trees, trace):
     """The zones of --normal, of a pattern or of what another leaves of it, one by one."""
     ends, fine = cuts(trace, 1), 4 * STEP
     count = ends[-1] * fine + 1
-    meant = pairs(tree, trace, count, fine)
-    meant -= pairs(other[1], trace, count, fine) if other else set()
+    meant = pairs(trees[0], trace, count, fine).difference(
+        *(pairs(tree, trace, count, fine) for tree in trees[1:]))
     quarters = {}
     for begin, end in meant:
         if begin % 8 == 0 and end % 4 == 0:
             quarters.setdefault(begin // 8, set()).add(end // 4)
     wanted = strip_zones(lambda begin: quarters.get(begin, set()), ends[-1])
-    words = ["--normal", *(["--minus", other[0]] if other else []), spelling]
-    found = [read_zone(line) for line in run_montre(montre, words, lines_of(trace))[:-1]]
-    differ = found != sorted(wanted, key=key_of)
+    lines = run_montre(montre, [*form.options, "--normal", *words], form.text)
+    differ = [read_zone(line, form) for line in lines[:-1]] != sorted(wanted, key=key_of)
     if differ:
-        print("differs: %s over %s: %s are the strips" % (words, seen(trace), wanted))
+        print("differs: --normal %s over %s: %s are the strips" % (words, seen(trace), wanted))
     return 0, len(wanted), int(differ)
 
 
-def compare_all(montre, place, spelling, tree, trace):
-    """One pattern over one trace, in each way."""
+def compare_all(montre, place, spelling, tree, trace, forms):
+    """One pattern over one trace, in each way but --watch."""
     # To one tick past the end, where nothing may match.
     count = cuts(trace)[-1] + FINE + 1
     meant = pairs(tree, trace, count)
-    scale = 1 + place % 9
-    offline = [(["--scale", str(scale), scaled(spelling, scale)], scale, lines_of(trace, scale)),
-               (["--format", "vcd", spelling], 0, dump_of(trace)), ([spelling], 0, lines_of(trace))]
-    if "event" not in spelling:
-        offline.append((["--format", "csv", "--let", LETS, spelling], 0, columns_of(trace)))
-    results = [compare(montre, *run, meant, trace, count) for run in offline]
-    results.append(compare_online(montre, spelling, tree, trace, count))
-    other = (PATTERNS + EVENTS)[(place * 7 + len(trace.segments)) % (len(PATTERNS) + len(EVENTS))]
+    forms = forms[:2] if "event" in spelling else forms
+    results = [compare(montre, [spelled(spelling, form)], form, meant, trace, count)
+               for form in forms]
+    for form in forms[:2]:
+        lines = online(montre, spelling, form)
+        words = [*form.options, "--online", spelling]
+        results.append(compare_blocks(words, lines, form, tree, trace, count))
+    # Over columns there is no --minus.
+    turn = place + len(trace.segments)
+    other, form = ALL[turn * 7 % len(ALL)], forms[turn % 2]
+    words = ["--minus", spelled(other[0], form), spelled(spelling, form)]
     left = meant - pairs(other[1], trace, count)
-    results.append(compare(montre, ["--minus", other[0], spelling], 0, lines_of(trace), left,
-                           trace, count))
+    results.append(compare(montre, words, form, left, trace, count))
     if cuts(trace, 1)[-1] <= 7:
-        results.append(compare_strips(montre, spelling, tree, trace))
-        results.append(compare_strips(montre, spelling, tree, trace, other))
+        results.append(compare_strips(montre, words, form, [tree, other[1]], trace))
+        form = forms[turn % len(forms)]
+        results.append(compare_strips(montre, [spelled(spelling, form)], form, [tree], trace))
     return results
+
+
+# ---- several patterns at once
+
+def write_checks(path, names, checks, form):
+    with open(path, "w", encoding="utf-8") as file:
+        file.write("# Some checks.\n\n")
+        for name, (spelling, _) in zip(names, checks):
+            file.write("\t%s =%s\n" % (name, spelled(spelling, form)))
+
+
+def lines_by_name(lines, names):
+    """What each name has, with the lines behind all blocks; and whether names are in order."""
+    own, in_order = {name: [] for name in names}, True
+    for block, behind in blocks_of(lines):
+        labels = [line.partition(" ")[::2] for line in block]
+        places = [names.index(name) for name, _ in labels]
+        in_order &= places == sorted(places)
+        for name, line in labels:
+            own[name].append(line)
+        for name in names:
+            own[name].append(behind)
+    return own, in_order
+
+
+def compare_watch(montre, path, checks, trace, form):
+    """Some patterns in one file: by the meaning, and beside the lines of each alone."""
+    count = cuts(trace)[-1] + FINE + 1
+    names = NAMES[:len(checks)]
+    write_checks(path, names, checks, form)
+    lines = run_montre(montre, ["--watch", *form.options, path], form.text)
+    own, in_order = lines_by_name(lines, names)
+    results = [(0, 0, int(not in_order))]
+    for name, (spelling, tree) in zip(names, checks):
+        words = ["--watch", *form.options, name, spelling]
+        compared, matches, differ = compare_blocks(words, own[name], form, tree, trace, count)
+        is_alone = own[name] == online(montre, spelling, form)
+        if not is_alone:
+            print("differs: %s over %s prints %s" % (words, seen(trace), own[name]))
+        results.append((compared, matches, differ + (not is_alone)))
+    return results
+
+
+def watch_all(montre, path, place, trace, forms):
+    """All patterns over one trace, in files of some checks each, whose names make several groups in
+    every other file."""
+    size, results = (5, 11, len(ALL))[place % 3], []
+    for turn, start in enumerate(range(0, len(ALL), size)):
+        checks, form = ALL[start:start + size], forms[(turn + place // 2) % 2]
+        if (turn // 2 + place // 4) % 2:
+            checks = list(with_names(checks))
+            form = declared(form, checks)
+        results += compare_watch(montre, path, checks, trace, form)
+    return results
+
+
+def compare_trace(montre, path, place):
+    """All patterns over one trace. The first has no segment, the others have one to five; every
+    other one has events."""
+    trace = make_trace(place, 1 + place % 5 if place else 0, place % 2 == 0)
+    forms, results = forms_of(trace, place), []
+    for number, (spelling, tree) in enumerate(ALL):
+        results += compare_all(montre, number, spelling, tree, trace, forms)
+    return results + watch_all(montre, path, place, trace, forms)
+
+
+def compare_long(montre):
+    """Of a long trace the first 12 ticks: what comes later can't change them."""
+    spelling, tree, trace = star_of_turns(200)
+    count = 12 * FINE + 1
+    form = forms_of(trace, 0)[0]
+    zones = [read_zone(line, form) for line in run_montre(montre, [spelling], form.text)[:-1]]
+    return differing(spelling, zones, pairs(tree, trace, count), trace, count)
 
 
 def main():
@@ -270,17 +236,10 @@ def main():
         sys.exit("usage: python3 bench/against_meaning.py PATH_OF_MONTRE")
     montre = os.path.abspath(sys.argv[1])
     results = []
-    for number in range(36):
-        # The first has no segment, the others have one to five. Every other one has events.
-        trace = make_trace(number, 1 + number % 5 if number else 0, number % 2 == 0)
-        for place, (spelling, tree) in enumerate(PATTERNS + EVENTS):
-            results += compare_all(montre, place, spelling, tree, trace)
-    # Of a long trace the first 12 ticks: what comes later can't change them.
-    turns = Trace([Segment(1 + place % 3, frozenset("pq"[place % 2]), frozenset())
-                   for place in range(200)], frozenset())
-    tree, count = star(seq(p, q)), 12 * FINE + 1
-    results.append(compare(montre, ["(p;q)*"], 0, lines_of(turns), pairs(tree, turns, count),
-                           turns, count))
+    with tempfile.TemporaryDirectory() as folder:
+        for place in range(TRACES):
+            results += compare_trace(montre, os.path.join(folder, "checks"), place)
+    results.append(compare_long(montre))
     compared, matches, differ = map(sum, zip(*results))
     print("%d runs, %d matches" % (len(results), matches))
     print("%d pairs, %d differ" % (compared, differ))

@@ -6,8 +6,8 @@ its begin, and the set of the events at the end. A pattern is a tree of tuples.
 
 All bounds are whole numbers. So where some moment between two times fits, one
 fits on the grid of these times or halfway between two of its times. A sequence in
-a sequence needs one more halving, and no pattern of against_meaning.py needs more
-than two: times that are compared stand at every fourth moment of the grid.
+a sequence needs one more halving, and no pattern of cases.py needs more than
+two: times that are compared stand at every fourth moment of the grid.
 Repetitions restrict by closed intervals only, so their cuts need none.
 """
 

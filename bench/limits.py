@@ -1,0 +1,218 @@
+#!/usr/bin/env python3
+"""montre at each limit of the pages and one past it, and with patterns as large as they may be.
+
+    python3 bench/limits.py PATH_OF_MONTRE
+
+Each pattern is run at the end, online, as the one to take away, by --show and as a check of a
+file, on a stack of 8 MB. For Linux.
+"""
+
+import os
+import resource
+import subprocess
+import sys
+import tempfile
+
+from cases import lines_of, make_trace
+
+SECONDS = 60     # a run that takes longer hangs
+SLOW = 2         # processor seconds that are told
+STACK = 8 << 20  # bytes
+MOST = 16384     # bytes of a pattern
+LAST = 1 << 40   # the last unit of a trace
+
+
+def nested(before, after, count, inside="p"):
+    return before * count + inside + after * count
+
+
+def joined(sign, part, count):
+    return sign.join([part] * count)
+
+
+def names(form, count):
+    return "|".join(form % number for number in range(count))
+
+
+WRONG = b"montre: wrong arguments\n"
+STARS = "p" + "*" * 998  # online it takes minutes, so it is left out there
+
+# Patterns, and what the line of a refusal has.
+AT_LIMITS = [
+    ("p" + " " * (MOST - 1), ""), ("p" + " " * MOST, "TooLong"), ("a" * MOST, ""),
+    (" \t\r\n" * 4095 + "p;q", ""), ("(\n" * 100 + "p" + "\t)\r" * 100, ""),
+    (nested("(", ")", 200), ""), (nested("(", ")", 201), "TooDeep at 200"),
+    ("{" + nested("(", ")", 199) + "}", ""), ("{" + nested("(", ")", 200) + "}", "TooDeep at 200"),
+    ("rise(" + nested("(", ")", 199) + ")", ""),
+    ("rise(" + nested("(", ")", 200) + ")", "TooDeep at 204"),
+    (nested("(", ")", 199, "p % [1,2]"), ""),
+    (nested("(", ")", 200, "p % [1,2]"), "TooDeep at 204"),
+    ("(" * MOST, "TooDeep at 200"), ("[" * MOST, "TooDeep at 200"), (")" * MOST, "Syntax at 0"),
+    (nested("(", "", 200), "Syntax at 201"), ("{" * 200 + "p", "Syntax at 1"),
+    *((joined(sign, "p", 333), "") for sign in ";|&"),
+    *((joined(sign, "p", 334), "TooLarge 1001") for sign in ";|&"),
+    *((joined(sign, "eps", 500), "") for sign in ";|&"),
+    *((joined(sign, "event(a)", 500), "") for sign in ";|&"),
+    *((joined(sign, "rise(p)", 333), "") for sign in ";|&"),
+    *((joined(sign, "p", MOST // 2), "TooLarge 24575") for sign in ";|&"),
+    *(("{" + joined(sign, "p", 500) + "}", "") for sign in ("&&", "||")),
+    *(("{" + joined(sign, "p", 501) + "}", "TooLarge 1002") for sign in ("&&", "||")),
+    *(("fall(" + joined(sign, "!q", 333) + ")", "") for sign in ("&&", "||")),
+    ("!" * 998 + "p", ""), ("!" * 999 + "p", "TooLarge 1001"),
+    ("!" * (MOST - 1) + "p", "TooLarge 16385"), ("{" + "!" * 998 + "true}", ""),
+    (STARS, ""), ("p" + "*" * 125, ""), ("p" + "*" * 999, "TooLarge 1001"),
+    ("p" + "*" * (MOST - 1), "TooLarge 16385"), ("p" + "?" * 499, ""),
+    ("p" + "?" * 500, "TooLarge 1002"), ("p" + "+" * 7, ""), ("p" + "+" * 8, "TooLarge 1022"),
+    ("p" + "+" * (MOST - 1), "TooLarge 1000000000"),
+    ("p" + " % [0,9]" * 998, ""), ("p" + "%[0,9]" * 999, "TooLarge 1001"),
+    (nested("(", "% (0,9])", 199), ""), (nested("(", ")*", 199), ""), (nested("(", ";q)+", 6), ""),
+    (nested("(p;", ")", 199), ""), (nested("(p|", ")", 199), ""), (nested("(p&", ")", 199), ""),
+    (nested("(q;", ")*", 199), ""), (nested("(q*&", ")*", 100), ""),
+    (nested("(", " % [1,2];q)?", 120), ""),
+    (nested("{p&&(", ")}", 1, nested("(q||(p&&", "))", 90)), ""),
+    (joined("|", "<:p:>", 111), ""), (joined("|", "<:p:>", 112), "TooLarge 1007"),
+    ("p %% [0,%d]" % LAST, ""), ("p %% [0,%d]" % (LAST + 1), "Number at 7"),
+    ("p %% (%d,inf)" % LAST, ""), ("p % [" + "0" * 16000 + "1,2]", ""),
+    ("p % [0," + "9" * 16000 + "]", "Number at 7"), ("p % [1." + "0" * 16000 + ",2]", ""),
+    ("p % [1." + "0" * 16000 + "1,2]", "Number at 5"),
+    (joined(";", "p %% [0,%d]" % LAST, 250), ""),
+    ("p %% (%d,%d]" % (LAST, LAST), "EmptyInterval at 4"),
+    (names("p%d", 64), ""), (names("p%d", 65), "TooManyNames at 246"),
+    (names("event(p%d)", 64) + "|p0", ""), (names("event(p%d)", 65), "TooManyNames at 700"),
+    (names("p%d", 64) + "|" + names("event(p%d)", 64), ""),
+    ("p " * (MOST // 2), "Syntax at 2"), ("@" * MOST, "BadByte at 0"), ("%" * MOST, "Syntax at 0"),
+    ("|" * MOST, "Syntax at 0"), ("<:" * (MOST // 2), "Syntax at 2"), ("", "Syntax at 0"),
+    ("((p % (0,1))* & (q|r|!q)*)* & (true % [3,3])* & (true % (0,2))+", ""),
+    ("(true % [2,3])* & (true % [3,5])* & (true % (1,7))*;(p|q|r|!p)*", ""),
+]
+
+TRACE = make_trace(6, 8, True)
+
+
+HEAD, WIDE = b"$enddefinitions $end\n", b"x" * 65536
+DUMP, CSV = ["--format", "vcd", "true"], ["--format", "csv", "p", "--let"]
+LATE, BAD_LET = b"montre: trace: TooLate at ", b"montre: definitions: BadLet at 1\n"
+
+# Words and standard input, and the status and the line that are wanted.
+INPUTS = [
+    (["p"], WIDE + b"\n", 4, b"montre: trace: BadNumber at 1\n"),
+    (["p"], b"#" + WIDE[1:] + b"\n3 p", 0, b""), (["p"], b"1 " + WIDE[2:], 0, b""),
+    (["p"], b"#" + WIDE + b"\n3 p", 4, b"montre: trace: LineTooLong at 1\n"),
+    (["p"], b"3 p\n1 " + WIDE, 4, b"montre: trace: LineTooLong at 2\n"),
+    (["p"], b"%d p\n" % LAST, 0, b""), (["p"], b"1 p\n%d p\n" % LAST, 4, LATE + b"2\n"),
+    (["p"], b"%d p\n" % (LAST + 1), 4, LATE + b"1\n"),
+    (["p"], b"0" * 65000 + b"1 p", 0, b""), (["p"], b"1." + b"0" * 65000 + b" p", 0, b""),
+    (["--scale", "9", "p"], b"1099.511627776 p\n", 0, b""),
+    (["--scale", "9", "p"], b"1099.511627777 p\n", 4, LATE + b"1\n"),
+    (["--scale", "9", "p % [0,1099.511627776]"], b"", 0, b""),
+    (["--scale", "9", "p % [0,1099.511627777]"], b"", 3, b"montre: expression: Number at 7\n"),
+    (["--scale", "9", "p % [0.0000000001,1]"], b"", 3, b"montre: expression: Number at 5\n"),
+    (DUMP, HEAD + b"#0 #%d" % LAST, 0, b""), (DUMP, HEAD + b"#%d" % (LAST + 1), 4, LATE + b"21\n"),
+    (["--scale", "9", *DUMP], HEAD + b"#1099", 0, b""),
+    (["--scale", "9", *DUMP], HEAD + b"#1100", 4, LATE + b"21\n"),
+    (DUMP, b"$comment " + WIDE + b" $end " + HEAD + b"#1", 0, b""),
+    (DUMP, b"$comment " + WIDE + b"x $end " + HEAD, 4, b"montre: trace: LineTooLong at 9\n"),
+    ([*CSV, "p = x >= -9223372036854775808"],
+     b"dt,x\n1,9223372036854775807\n2,-9223372036854775808", 0, b""),
+    ([*CSV, "p = x >= -9223372036854775809"], b"", 11, BAD_LET),
+    ([*CSV, "p = x < 9223372036854775808"], b"", 11, BAD_LET),
+    ([*CSV, "p = x < 1"], b"dt,x\n1,9223372036854775808\n", 4, b"montre: trace: BadNumber at 2\n"),
+    ([*CSV, "p = x < 1"], b"dt,x\n%d,1\n1,1" % LAST, 4, LATE + b"3\n"),
+    ([*CSV, "p = x < 1"], b"dt" + b",c" * 99999 + b",x\n1" + b",9" * 99999 + b",0\n", 0, b""),
+    ([*CSV, "p = x < 1"], b"dt,y,x\n1," + WIDE * 9 + b",0\n", 0, b""),
+]
+
+# Words, and the status and the line that are wanted over two pulses in nine bytes.
+NUMBERS = [
+    (["--scale", "9", "p"], 0, b""), (["--scale", "10", "p"], 2, WRONG),
+    (["--scale", "-1", "p"], 2, WRONG), (["--scale", "", "p"], 2, WRONG),
+    (["--max-bytes", str(LAST), "p"], 0, b""), (["--max-bytes", str(LAST + 1), "p"], 2, WRONG),
+    (["--max-bytes", "0", "p"], 2, WRONG), (["--max-bytes", "9", "p"], 0, b""),
+    (["--max-bytes", "8", "p"], 5, b"montre: input too long\n"),
+    (["--generate", "1"], 0, b""), (["--generate", "10000"], 0, b""),
+    (["--generate", "10001"], 2, WRONG), (["--generate", "0"], 2, WRONG),
+    (["--normal", "--max-zones", "2", "p"], 0, b""),
+    (["--normal", "--max-zones", "1", "p"], 9, b"montre: too many zones 2\n"),
+    (["--normal", "--max-zones", "0", "q"], 0, b""),
+    (["--normal", "--max-zones", str(LAST), "p"], 0, b""),
+    (["--normal", "--max-zones", str(LAST + 1), "p"], 2, WRONG),
+]
+
+
+def check_files(folder):
+    """Files of checks at their limits, as INPUTS."""
+    checks = b"".join(b"c%d = p\n" % number for number in range(64))
+    ends = [(checks, 0, b""), (checks + b"d = p\n", 12, b"montre: watch: TooMany at 65\n"),
+            (b"a = p\n#" + b"x" * 1048569, 0, b""),
+            (b"a = p\n#" + b"x" * 1048570, 12, b"montre: watch: TooLarge\n")]
+    for number, (text, status, line) in enumerate(ends):
+        name = "file%d" % number
+        with open(os.path.join(folder, name), "wb") as file:
+            file.write(text)
+        yield ["--watch", name], b"3 p", status, line
+
+
+class Runs:
+    def __init__(self, montre, folder):
+        self.montre, self.folder = montre, folder
+        self.count = self.wrong = self.slow = 0
+
+    def compare(self, words, given, status, line):
+        before = resource.getrusage(resource.RUSAGE_CHILDREN)
+        try:
+            done = subprocess.run([self.montre, *words], input=given, capture_output=True,
+                                  cwd=self.folder, timeout=SECONDS)
+            found = done.returncode, done.stderr
+        except subprocess.TimeoutExpired:
+            found = "hangs", b""
+        after = resource.getrusage(resource.RUSAGE_CHILDREN)
+        told = [word if len(word) < 60 else word[:60] + ".." for word in words]
+        self.count += 1
+        if found != (status, line):
+            self.wrong += 1
+            print("wrong: %s: %s %r, not %s %r" % (told, *found, status, line))
+        if after.ru_utime - before.ru_utime > SLOW:
+            self.slow += 1
+            print("slow: %s: %.1f s" % (told, after.ru_utime - before.ru_utime))
+
+    def compare_pattern(self, pattern, refusal):
+        """A pattern in each place in which one may stand."""
+        text, dump = lines_of(TRACE).encode(), ["--format", "vcd", "--online"]
+        status, line = 0, b""
+        if refusal:
+            status, line = 3, b"montre: expression: " + refusal.encode() + b"\n"
+        is_quick = pattern != STARS
+        for words in ([], ["--show"], ["--normal"], *([["--online"]] if is_quick else [])):
+            self.compare([*words, pattern], text, status, line)
+        if refusal:
+            self.compare([*dump, pattern], b"", status, line)
+            status, line = 10, line.replace(b"montre: ", b"montre: minus ")
+        self.compare(["--minus", pattern, "p"], text, status, line)
+        if refusal:
+            status, line = 12, line.replace(b"minus expression", b"watch: Pattern at 1")
+        # In a file of checks a line feed ends the pattern.
+        with open(os.path.join(self.folder, "check"), "w", encoding="utf-8", newline="") as file:
+            file.write("at =" + pattern.replace("\n", "\t"))
+        if is_quick:
+            self.compare(["--watch", "check"], text, status, line)
+
+
+def main():
+    if len(sys.argv) != 2:
+        sys.exit("usage: python3 bench/limits.py PATH_OF_MONTRE")
+    resource.setrlimit(resource.RLIMIT_STACK, (STACK, STACK))
+    with tempfile.TemporaryDirectory() as folder:
+        runs = Runs(os.path.abspath(sys.argv[1]), folder)
+        for pattern, refusal in AT_LIMITS:
+            runs.compare_pattern(pattern, refusal)
+        for words, given, status, line in [*INPUTS, *check_files(folder)]:
+            runs.compare(words, given, status, line)
+        for words, status, line in NUMBERS:
+            runs.compare(words, b"1 p\n1\n1 p", status, line)
+    print("%d patterns, %d runs, %d slow, %d wrong"
+          % (len(AT_LIMITS), runs.count, runs.slow, runs.wrong))
+    sys.exit(1 if runs.wrong else 0)
+
+
+if __name__ == "__main__":
+    main()
