@@ -1,7 +1,7 @@
 -- The operator at the top is the tree's, and its parts are those of the tree.
 use Rattle.std.proofs.Common.{◌≡◌, ap}
 use Rattle.tre_syntax.specs.Expr.{tree_of}
-use Rattle.tre_syntax.specs.PatternTree.{PatternTree, sequence, alternation, intersection, repetition, restriction}
+use Rattle.tre_syntax.specs.PatternTree.{sequence, alternation, intersection, repetition, restriction}
 use Rattle.tre_syntax.specs.Rest.{whole}
 use Rattle.tre_offline.proofs.Operations.{short_of_form}
 use Rattle.tre_offline.proofs.matching.+last_matches_of.Goals as goal
