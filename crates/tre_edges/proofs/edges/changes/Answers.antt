@@ -47,7 +47,8 @@ add_instant-requires-clause-limit c =
     omega (
       arith,
       c.start_from-seen.ensures.time,
-      time_of-limit c.args.trace.now.segments c.next_place-turn.result c.segments-count.ensures.trace,
+      time_of-limit c.args.trace.now.segments c.next_place-turn.result
+          c.segments-count.ensures.trace,
     )
 
 pub loop-at-preserved : goal.loop-at-preserved
@@ -59,7 +60,8 @@ loop-at-preserved c =
     let truth = c.in_ok-words.ensures in
     let state = tree_of c.args.state.now in
     let first =
-    rw (c.deref-in-loop-at.ensures.value, c.segments-count.ensures.segments) at c.next_place-other.ensures in
+    rw (c.deref-in-loop-at.ensures.value, c.segments-count.ensures.segments) at
+    c.next_place-other.ensures in
     let last =
     rw (c.deref-in-loop-at-2.ensures.value, c.segments-count.ensures.segments) at
     c.next_place-turn.ensures in
