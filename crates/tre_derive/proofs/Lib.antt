@@ -1,3 +1,5 @@
+-- the two parts of a step
+pub mod ToldAndLeft
 -- sets of zones beside relations
 pub mod Held
 pub mod Moments

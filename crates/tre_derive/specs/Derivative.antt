@@ -1,5 +1,5 @@
 -- What one more piece of a trace makes of the matches that have begun, whatever comes behind it.
-use Rattle.std.specs.Prelude.{ℕ, ◌*◌, ◌<◌, ◌≤◌, ◌↔◌, List}
+use Rattle.std.specs.Prelude.{◌≡◌, Result, Ok, ℕ, ◌*◌, ◌<◌, ◌≤◌, ◌↔◌, List}
 use Rattle.tre_pairs.specs.Pairs.{Pairs}
 use Rattle.tre_zone.specs.ZoneList.{HoldExactly}
 use Rattle.tre_zone.specs.declared.zone_bounds.ZoneBounds.{ZoneBounds}
@@ -9,7 +9,8 @@ use Rattle.tre_syntax.specs.Meaning.{MatchesRest}
 use Rattle.tre_syntax.specs.PatternTree.{Atom, PatternTree, empty, literal, rise, fall, event}
 use Rattle.tre_edges.specs.Piece.{rest_of_piece, end_of_piece, cut_behind}
 use Rattle.tre_edges.specs.declared.piece.Piece.{Piece}
-use Rattle.tre_residual.specs.Residual.{ResidualTree, nothing, preceded, Means, IsWellAt, Builds}
+use Rattle.tre_residual.specs.Residual.{ResidualTree, nothing, preceded, followed, either, residual_tree, Means, IsWellAt, Builds, IsComposition}
+use Rattle.tre_residual.specs.declared.residual.Residual.{Residual}
 
 -- R, to the time or to a later one.
 pub record EndingFrom (time : ℕ) (R : Pairs) (a b n : ℕ) : Type 0 where
@@ -56,3 +57,46 @@ pub record ComesAfter (tree : PatternTree) (piece : Piece) (residual whole : Res
 -- The same of a residual that stands for nothing.
 abbrev pub IsStepOfNothing : List ZoneBounds → ResidualTree → Type 0
 IsStepOfNothing told rest = (piece : Piece) → StepsTo nothing piece told rest
+
+-- What is told are the pairs of the zones, each followed by a match of the expression inside the
+-- piece.
+pub record ComesInside (zones : List ZoneBounds) (tree : PatternTree) (piece : Piece)
+    (told : List ZoneBounds) : Type 0 where
+  pub inside : List ZoneBounds
+  pub exact : HoldExactly inside (MatchesRest tree (rest_of_piece piece))
+  pub composed : IsComposition told zones inside
+
+-- The whole stands for a pair of the zones, and then a match of the expression that begins in the
+-- piece and ends as it ends or later.
+pub record ComesAcross (zones : List ZoneBounds) (tree : PatternTree) (piece : Piece)
+    (whole : ResidualTree) : Type 0 where
+  pub across : ResidualTree
+  pub fresh : IsFresh tree piece across
+  pub builds : Builds whole (preceded zones across)
+
+-- The whole stands for a pair of the residual, and then a match of the expression behind the piece,
+-- and for a pair of the zones, and then a match across its end.
+pub record ComesBehind (zones : List ZoneBounds) (residual : ResidualTree) (tree : PatternTree)
+    (piece : Piece) (whole : ResidualTree) : Type 0 where
+  pub behind : ResidualTree
+  pub begun : ResidualTree
+  pub follows : Builds behind (followed residual tree)
+  pub across : ComesAcross zones tree piece begun
+  pub builds : Builds whole (either behind begun)
+
+-- The whole stands for matches of the expression inside the piece, a pair of the residual across its
+-- end, and matches of the expression behind it.
+pub record ComesAround (tree : PatternTree) (piece : Piece) (residual whole : ResidualTree)
+    : Type 0 where
+  pub behind : ResidualTree
+  pub follows : Builds behind (followed residual tree)
+  pub after : ComesAfter tree piece behind whole
+
+-- Both residuals were made, and the whole stands for the pairs of one of them.
+pub record IsOneOf {E : Type 0} (one other : Result Residual E) (whole : ResidualTree) : Type 0
+  where
+    pub first : Residual
+    pub second : Residual
+    pub is_first : one ≡ Ok first
+    pub is_second : other ≡ Ok second
+    pub builds : Builds whole (either (residual_tree first) (residual_tree second))

@@ -5,8 +5,8 @@ ghost use Rattle.tre_syntax.specs.PatternTree.{NumbersBelow};
 ghost use Rattle.tre_residual.specs.Residual.{residual_tree};
 ghost use Rattle.tre_derive.specs.Derivative.{IsFresh};
 
-use crate::parts::{after_local, followed_by};
 use crate::rows::{fresh_instant, fresh_literal, fresh_moment};
+use crate::sequences::{fresh_repetition, fresh_sequence};
 use std::alloc::{AllocError, Global};
 use tre_edges::Piece;
 use tre_residual::Residual;
@@ -32,10 +32,8 @@ pub fn fresh(alloc: Global, expr: &Expr, piece: &Piece) -> Result<Residual, Allo
             let left: &Expr = left;
             let right: &Expr = right;
             let first = fresh(alloc, left, piece)?;
-            let first = followed_by(alloc, first, right)?;
             let second = fresh(alloc, right, piece)?;
-            let second = after_local(alloc, left, piece, second)?;
-            Residual::or(alloc, first, second)
+            fresh_sequence(alloc, left, right, piece, first, second)
         }
         Expr::Alt(left, right) => {
             let one = fresh(alloc, left, piece)?;
@@ -49,10 +47,7 @@ pub fn fresh(alloc: Global, expr: &Expr, piece: &Piece) -> Result<Residual, Allo
         }
         Expr::Star(part) => {
             let across = fresh(alloc, part, piece)?;
-            let across = followed_by(alloc, across, expr)?;
-            let across = after_local(alloc, expr, piece, across)?;
-            let none = fresh_moment(alloc, piece)?;
-            Residual::or(alloc, none, across)
+            fresh_repetition(alloc, expr, piece, across)
         }
         Expr::Within(whole, interval) => {
             let whole = fresh(alloc, whole, piece)?;

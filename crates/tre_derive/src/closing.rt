@@ -1,14 +1,14 @@
 // What a residual stands for where the trace has ended.
 ghost use Rattle.std.specs.Prelude.{◌≤◌, IfOk};
-ghost use Rattle.tre_pairs.specs.Pairs.{Either};
 ghost use Rattle.tre_pairs.specs.declared.TheConstants.{TIME_MAX};
 ghost use Rattle.tre_state.specs.declared.names.TheConstants.{NAMES_MAX};
 ghost use Rattle.tre_syntax.specs.Expr.{tree_of};
 ghost use Rattle.tre_syntax.specs.PatternTree.{NumbersBelow};
-ghost use Rattle.tre_zone.specs.ZoneList.{SetHolds, HoldExactly};
+ghost use Rattle.tre_zone.specs.ZoneList.{HoldExactly};
 ghost use Rattle.tre_residual.specs.Residual.{residual_tree, IsWellAt};
 ghost use Rattle.tre_derive.specs.Closing.{ClosesTo, HeldAtEnd};
 
+use crate::sets::of_either;
 use std::alloc::{AllocError, Global};
 use tre_offline::matches_at_end;
 use tre_residual::{Residual, composed};
@@ -74,13 +74,4 @@ fn held_at_end(alloc: Global, zones: ZoneSet, expr: &Expr, events: u64) -> ZoneS
         return zones;
     }
     ZoneSet::new(alloc)
-}
-
-// The pairs of one of the two sets.
-fn of_either(mut one: ZoneSet, other: &ZoneSet) -> Result<ZoneSet, AllocError>
-    ensures { IfOk result (λ zones.
-        HoldExactly zones (Either (SetHolds one) (SetHolds other.now))) }
-{
-    one.join(other)?;
-    Ok(one)
 }

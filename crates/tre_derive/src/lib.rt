@@ -23,6 +23,7 @@ mod forms;
 mod marks;
 mod parts;
 mod rows;
+mod sequences;
 mod sets;
 mod stepped;
 mod stepping;

@@ -3,7 +3,7 @@ ghost use Rattle.std.specs.Prelude.{IfOk};
 ghost use Rattle.tre_syntax.specs.Expr.{tree_of};
 ghost use Rattle.tre_syntax.specs.PatternTree.{NumbersBelow};
 ghost use Rattle.tre_residual.specs.Residual.{residual_tree, followed, Builds};
-ghost use Rattle.tre_derive.specs.Derivative.{ComesAfter};
+ghost use Rattle.tre_derive.specs.Derivative.{ComesAfter, IsOneOf};
 
 use std::alloc::{AllocError, Global};
 use tre_edges::Piece;
@@ -35,4 +35,17 @@ pub fn after_local(
 {
     let inside = local(alloc, expr, piece)?;
     Residual::pre(alloc, inside, residual)
+}
+
+/// A pair of one of the two residuals, where memory was enough for both.
+pub fn one_of(
+    alloc: Global,
+    one: Result<Residual, AllocError>,
+    other: Result<Residual, AllocError>,
+) -> Result<Residual, AllocError>
+    ensures { IfOk result (λ whole. IsOneOf one other (residual_tree whole)) }
+{
+    let one = one?;
+    let other = other?;
+    Residual::or(alloc, one, other)
 }

@@ -1,8 +1,9 @@
 // Sets of zones around the ends of a piece.
 ghost use Rattle.std.specs.Prelude.{◌≡◌, ◌≤◌, IfOk};
 ghost use Rattle.tre_pairs.specs.Cuts.{IsMoment};
+ghost use Rattle.tre_pairs.specs.Pairs.{Either};
 ghost use Rattle.tre_pairs.specs.declared.TheConstants.{TIME_MAX};
-ghost use Rattle.tre_zone.specs.ZoneList.{HoldExactly};
+ghost use Rattle.tre_zone.specs.ZoneList.{SetHolds, HoldExactly};
 ghost use Rattle.tre_edges.specs.Piece.{end_of_piece};
 
 use std::alloc::{AllocError, Global};
@@ -26,4 +27,13 @@ pub fn moment(alloc: Global, time: u64) -> Result<ZoneSet, AllocError>
     let mut zones = ZoneSet::new(alloc);
     zones.add_found(Some(Zone::instants(time, time)))?;
     Ok(zones)
+}
+
+/// The pairs of one of the two sets.
+pub fn of_either(mut one: ZoneSet, other: &ZoneSet) -> Result<ZoneSet, AllocError>
+    ensures { IfOk result (λ zones.
+        HoldExactly zones (Either (SetHolds one) (SetHolds other.now))) }
+{
+    one.join(other)?;
+    Ok(one)
 }

@@ -1,3 +1,6 @@
+ghost use Rattle.std.specs.Prelude.{◌≡◌, Ok, IfOk};
+
+use std::alloc::AllocError;
 use tre_residual::Residual;
 use tre_zoneset::ZoneSet;
 
@@ -8,4 +11,19 @@ pub struct Stepped {
     pub told: ZoneSet,
     /// What is left at the end of the piece.
     pub rest: Residual,
+}
+
+impl Stepped {
+    /// Of what is told and what is left, where memory was enough for both.
+    pub(crate) fn of(
+        told: Result<ZoneSet, AllocError>,
+        rest: Result<Residual, AllocError>,
+    ) -> Result<Stepped, AllocError>
+        ensures told { IfOk result (λ whole. told ≡ Ok whole.told) }
+        ensures rest { IfOk result (λ whole. rest ≡ Ok whole.rest) }
+    {
+        let told = told?;
+        let rest = rest?;
+        Ok(Stepped { told, rest })
+    }
 }

@@ -1,4 +1,5 @@
 pub mod EndsOfLists
+pub mod EmptySets
 pub mod RunLists
 pub mod InstantLists
 pub mod Literals

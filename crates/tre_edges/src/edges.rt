@@ -10,6 +10,7 @@ ghost use Rattle.tre_edges.specs.Truth.{ComesTo};
 
 use crate::instants::add_instant;
 use crate::next_place::next_place;
+use crate::room::room_for_runs;
 use crate::truth_words::truth;
 use std::alloc::{AllocError, Global};
 use tre_state::{NAMES_MAX, State};
@@ -50,7 +51,7 @@ fn changes(
 {
     let words = truth(alloc, state, trace)?;
     let count = trace.segments().len();
-    let mut zones = ZoneSet::new(alloc);
+    let mut zones = room_for_runs(alloc, &words)?;
     // All edges before the place `at` are in, and the one there is none. Times were added up as far
     // as `seen`.
     let mut at = 0;

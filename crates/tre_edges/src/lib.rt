@@ -27,6 +27,7 @@ mod in_piece;
 mod instants;
 mod next_place;
 mod piece;
+mod room;
 mod runs;
 mod truth_words;
 

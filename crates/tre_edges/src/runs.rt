@@ -12,6 +12,7 @@ ghost use Rattle.tre_edges.specs.Ends.{EndBefore};
 ghost use Rattle.tre_edges.specs.Runs.{AreRuns};
 
 use crate::next_place::next_place;
+use crate::room::room_for_runs;
 use crate::truth_words::truth;
 use std::alloc::{AllocError, Global};
 use tre_state::{NAMES_MAX, State};
@@ -29,7 +30,7 @@ pub fn literal(alloc: Global, state: &State, trace: &Trace) -> Result<ZoneSet, A
 {
     let words = truth(alloc, state, trace)?;
     let count = trace.segments().len();
-    let mut zones = ZoneSet::new(alloc);
+    let mut zones = room_for_runs(alloc, &words)?;
     // All runs that begin before `at` are in, and times were added up as far as `seen`.
     let mut at = 0;
     let mut seen = Start { place: 0, time: 0 };

@@ -1,5 +1,6 @@
 -- The short matches of each operator, from those of its parts.
-use Rattle.std.proofs.Common.{◌≡◌, ◌↔◌, ◌-◌, ℕ, List, Option, inl, inr, ⊎_elim, subst}
+use Rattle.std.proofs.Common.{◌≡◌, ◌↔◌, ◌-◌, ℕ, List, Option, Result, IfOk, inl, inr, ⊎_elim, sym, subst}
+use Rattle.std.proofs.lemmas.Result.{IfOk-weaker}
 use Rattle.tre_pairs.specs.Pairs.{Pairs, Composed, Either, Both, Lasting, Chain}
 use Rattle.tre_pairs.proofs.Laws.{IsOrdered, IsInstant, Agree}
 use Rattle.tre_pairs.proofs.Agreement.{Agree-Composed, Agree-Chain, Agree-Lasting}
@@ -174,3 +175,15 @@ restriction_exact inner longest tree ends rest all zones same exact held = recor
         })),
       );
 }
+
+-- The short matches of an expression are those of the operator at its top.
+pub short_of_form : {E : Type 0} {whole form : PatternTree} (result : Result (List ZoneBounds) E)
+    (longest : Option ℕ) (rest : Rest) → whole ≡ form → (P : List ZoneBounds → Type 0)
+    → ((zones : List ZoneBounds) → P zones → HoldExactly zones (Short longest form rest))
+    → IfOk result P → IfOk result (λ zones. HoldExactly zones (Short longest whole rest))
+short_of_form result longest rest is P exact given =
+    IfOk-weaker result P _
+    (λ zones told.
+    subst (λ (tree : PatternTree). HoldExactly zones (Short longest tree rest)) (sym is)
+    (exact zones told))
+    given

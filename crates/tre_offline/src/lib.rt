@@ -4,9 +4,9 @@
 //! expression, at every denominator, and none of its zones is included in another. It goes up the
 //! expression once, and each operator is one exact call of the layers below: `;` composes, `|`
 //! joins, `&` meets, `*` closes, `%` restricts. [`local`] is the same over one piece of a trace:
-//! the two differ in their atoms alone. [`into_matches`] is that of a whole trace which is not needed
-//! any more. [`matches_at_end`] decides what the end of a trace matches. The layers above may rely on
-//! every pair, and on nothing of the order of the zones.
+//! the two differ in their atoms alone. [`into_matches`] is that of a whole trace which is not
+//! needed any more. [`matches_at_end`] decides what the end of a trace matches. The layers above
+//! may rely on every pair, and on nothing of the order of the zones.
 //!
 //! ```
 //! let zones = matches(alloc, &pattern, &trace)?;

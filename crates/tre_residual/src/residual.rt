@@ -66,34 +66,7 @@ impl Residual {
         if zones.is_empty() {
             return Ok(Residual::Nil);
         }
-        match residual {
-            Residual::Nil => Ok(Residual::Nil),
-            Residual::Here(ended) => here_after(alloc, &zones, &ended),
-            Residual::At(begun, expr) => at_after(alloc, &zones, &begun, expr),
-            Residual::Pre(first, rest) => pre_after(alloc, &zones, &first, rest),
-            Residual::Post(first, expr) => {
-                let first = Residual::pre(alloc, zones, Box::into_inner(first))?;
-                followed_by(alloc, first, expr)
-            }
-            Residual::Or(one, other) => {
-                let copy = zones.try_clone()?;
-                let one = Residual::pre(alloc, copy, Box::into_inner(one))?;
-                let other = Residual::pre(alloc, zones, Box::into_inner(other))?;
-                Residual::or(alloc, one, other)
-            }
-            Residual::Both(one, other) => {
-                let residual = Box::new(alloc, Residual::Both(one, other))?;
-                Ok(Residual::Pre(zones, residual))
-            }
-            Residual::Dur(inner, interval) => {
-                let residual = Box::new(alloc, Residual::Dur(inner, interval))?;
-                Ok(Residual::Pre(zones, residual))
-            }
-            Residual::Mark(mark, expr) => {
-                let residual = Box::new(alloc, Residual::Mark(mark, expr))?;
-                Ok(Residual::Pre(zones, residual))
-            }
-        }
+        preceded_by(alloc, &zones, residual)
     }
 
     /// A pair of the residual, and then a match of the expression.
@@ -118,9 +91,7 @@ impl Residual {
         if other.is_nil() {
             return Ok(one);
         }
-        let one = Box::new(alloc, one)?;
-        let other = Box::new(alloc, other)?;
-        Ok(Residual::Or(one, other))
+        one_of(alloc, one, other)
     }
 
     /// A pair of both.
@@ -131,9 +102,7 @@ impl Residual {
         if one.is_nil() || other.is_nil() {
             return Ok(Residual::Nil);
         }
-        let one = Box::new(alloc, one)?;
-        let other = Box::new(alloc, other)?;
-        Ok(Residual::Both(one, other))
+        both_of(alloc, one, other)
     }
 
     /// A pair of the residual with its duration in the interval.
@@ -173,6 +142,59 @@ impl Residual {
             _ => false,
         }
     }
+}
+
+// The pairs of a set followed by those of a residual: the set goes into its parts.
+fn preceded_by(alloc: Global, zones: &ZoneSet, residual: Residual) -> Result<Residual, AllocError>
+    ensures { IfOk result (λ whole.
+        Builds (residual_tree whole) (preceded zones.now (residual_tree residual))) }
+{
+    match residual {
+        Residual::Nil => Ok(Residual::Nil),
+        Residual::Here(ended) => here_after(alloc, zones, &ended),
+        Residual::At(begun, expr) => at_after(alloc, zones, &begun, expr),
+        Residual::Pre(first, rest) => pre_after(alloc, zones, &first, rest),
+        Residual::Post(first, expr) => {
+            let first = preceded_by(alloc, zones, Box::into_inner(first))?;
+            followed_by(alloc, first, expr)
+        }
+        Residual::Or(one, other) => {
+            let one = preceded_by(alloc, zones, Box::into_inner(one))?;
+            let other = preceded_by(alloc, zones, Box::into_inner(other))?;
+            Residual::or(alloc, one, other)
+        }
+        whole => whole_after(alloc, zones, whole),
+    }
+}
+
+// The pairs of a set followed by those of a residual, as they stand.
+fn whole_after(alloc: Global, zones: &ZoneSet, residual: Residual) -> Result<Residual, AllocError>
+    ensures { IfOk result (λ whole.
+        Builds (residual_tree whole) (preceded zones.now (residual_tree residual))) }
+{
+    let residual = Box::new(alloc, residual)?;
+    let zones = zones.try_clone()?;
+    Ok(Residual::Pre(zones, residual))
+}
+
+// A pair of one of the two, neither of which is `Nil`.
+fn one_of(alloc: Global, one: Residual, other: Residual) -> Result<Residual, AllocError>
+    ensures { IfOk result (λ whole.
+        Builds (residual_tree whole) (either (residual_tree one) (residual_tree other))) }
+{
+    let one = Box::new(alloc, one)?;
+    let other = Box::new(alloc, other)?;
+    Ok(Residual::Or(one, other))
+}
+
+// A pair of both.
+fn both_of(alloc: Global, one: Residual, other: Residual) -> Result<Residual, AllocError>
+    ensures { IfOk result (λ whole.
+        Builds (residual_tree whole) (both (residual_tree one) (residual_tree other))) }
+{
+    let one = Box::new(alloc, one)?;
+    let other = Box::new(alloc, other)?;
+    Ok(Residual::Both(one, other))
 }
 
 // The pairs of a set followed by pairs that are here.

@@ -2,12 +2,11 @@
 use Rattle.std.proofs.Common.{◌≡◌, ap, sym, subst}
 use Rattle.std.proofs.lemmas.Result.{IfOk-weaker}
 use Rattle.tre_state.specs.State as states
-use Rattle.tre_state.specs.declared.names.TheConstants.{NAMES_MAX}
 use Rattle.tre_syntax.specs.Expr.{tree_of}
-use Rattle.tre_syntax.specs.PatternTree.{PatternTree, NumbersBelow, atom, empty, literal, rise, fall, event, sequence, alternation, intersection, repetition, restriction}
-use Rattle.tre_residual.specs.Residual.{followed, residual_tree, Builds}
-use Rattle.tre_derive.specs.Derivative.{IsFresh, ComesAfter}
-use Rattle.tre_derive.proofs.AcrossPieces.{fresh_seq, fresh_star, fresh_alt, fresh_meet, fresh_within}
+use Rattle.tre_syntax.specs.PatternTree.{PatternTree, atom, empty, literal, rise, fall, event, sequence, alternation, intersection, repetition, restriction}
+use Rattle.tre_residual.specs.Residual.{residual_tree}
+use Rattle.tre_derive.specs.Derivative.{IsFresh}
+use Rattle.tre_derive.proofs.AcrossPieces.{fresh_alt, fresh_meet, fresh_within}
 use Rattle.tre_derive.proofs.beginning.+fresh.Goals as goal
 
 pub returns-in-Eps : goal.returns-in-Eps
@@ -60,25 +59,17 @@ returns-in-Event t c =
     (sym tree) (is x tree tt))
     c.fresh_instant-in-Event.ensures
 
-pub returns-in_ok-second-in-Seq-2 : goal.returns-in_ok-second-in-Seq-2
-returns-in_ok-second-in-Seq-2 t c =
-    let piece = c.args.piece.now in
+pub returns-in_ok-second-in-Seq : goal.returns-in_ok-second-in-Seq
+returns-in_ok-second-in-Seq t c =
     let left = tree_of c.deref-left.result.now in
     let right = tree_of c.deref-right.result.now in
     let tree : tree_of c.args.expr.now ≡ sequence left right =
     rw (c.deref-left.ensures, c.deref-right.ensures) (ap tree_of c.in-Seq.is) in
-    let numbers = subst (λ (whole : PatternTree). NumbersBelow NAMES_MAX whole) tree c.requires in
-    let one = residual_tree c.in_ok-first-in-Seq.first in
-    let one' = residual_tree c.in_ok-first-in-Seq-2.first in
-    let two = residual_tree c.in_ok-second-in-Seq.second in
-    let two' = residual_tree c.in_ok-second-in-Seq-2.second in
-    IfOk-weaker c.or.result _ _
-    (λ residual built.
-    subst (λ (whole : PatternTree). IsFresh whole piece (residual_tree residual)) (sym tree)
-    (fresh_seq piece left right one one' two two' (residual_tree residual) numbers.1
-    c.in_ok-first-in-Seq.ensures c.in_ok-second-in-Seq.ensures c.in_ok-first-in-Seq-2.ensures
-    c.in_ok-second-in-Seq-2.ensures built))
-    c.or.ensures
+    IfOk-weaker c.fresh_sequence.result _ _
+    (λ residual is.
+    subst (λ (whole : PatternTree). IsFresh whole c.args.piece.now (residual_tree residual))
+    (sym tree) (is c.in_ok-first-in-Seq.ensures c.in_ok-second-in-Seq.ensures))
+    c.fresh_sequence.ensures
 
 pub returns-in_ok-other-in-Alt : goal.returns-in_ok-other-in-Alt
 returns-in_ok-other-in-Alt t c =
@@ -87,13 +78,13 @@ returns-in_ok-other-in-Alt t c =
     let right = tree_of c.deref-in-Alt.result.now in
     let tree : tree_of c.args.expr.now ≡ alternation left right =
     rw (c.deref.ensures, c.deref-in-Alt.ensures) (ap tree_of c.in-Alt.is) in
-    IfOk-weaker c.or-in-Alt.result _ _
+    IfOk-weaker c.or.result _ _
     (λ residual built.
     subst (λ (whole : PatternTree). IsFresh whole piece (residual_tree residual)) (sym tree)
     (fresh_alt piece left right (residual_tree c.in_ok-one-in-Alt.one)
     (residual_tree c.in_ok-other-in-Alt.other) (residual_tree residual)
     c.in_ok-one-in-Alt.ensures c.in_ok-other-in-Alt.ensures built))
-    c.or-in-Alt.ensures
+    c.or.ensures
 
 pub returns-in_ok-other-in-Meet : goal.returns-in_ok-other-in-Meet
 returns-in_ok-other-in-Meet t c =
@@ -110,28 +101,16 @@ returns-in_ok-other-in-Meet t c =
     c.in_ok-one-in-Meet.ensures c.in_ok-other-in-Meet.ensures built))
     c.both.ensures
 
-pub returns-in_ok-none-in-Star : goal.returns-in_ok-none-in-Star
-returns-in_ok-none-in-Star t c =
-    let piece = c.args.piece.now in
+pub returns-in_ok-across-in-Star : goal.returns-in_ok-across-in-Star
+returns-in_ok-across-in-Star t c =
     let part = tree_of c.deref-in-Star.result.now in
     let tree : tree_of c.args.expr.now ≡ repetition part =
     rw c.deref-in-Star.ensures (ap tree_of c.in-Star.is) in
-    let numbers = subst (λ (whole : PatternTree). NumbersBelow NAMES_MAX whole) tree c.requires in
-    let across = residual_tree c.in_ok-across-in-Star.across in
-    let behind = residual_tree c.in_ok-across-in-Star-2.across in
-    let before = residual_tree c.in_ok-across-in-Star-3.across in
-    let none = residual_tree c.in_ok-none-in-Star.none in
-    IfOk-weaker c.or-in-Star.result _ _
-    (λ residual built.
-    subst (λ (whole : PatternTree). IsFresh whole piece (residual_tree residual)) (sym tree)
-    (fresh_star piece part across behind before none (residual_tree residual) numbers
-    c.in_ok-across-in-Star.ensures
-    (subst (λ (whole : PatternTree). Builds behind (followed across whole)) tree
-    c.in_ok-across-in-Star-2.ensures)
-    (subst (λ (whole : PatternTree). ComesAfter whole piece behind before) tree
-    c.in_ok-across-in-Star-3.ensures)
-    c.in_ok-none-in-Star.ensures built))
-    c.or-in-Star.ensures
+    IfOk-weaker c.fresh_repetition.result _ _
+    (λ residual is.
+    subst (λ (whole : PatternTree). IsFresh whole c.args.piece.now (residual_tree residual))
+    (sym tree) (is part tree c.in_ok-across-in-Star.ensures))
+    c.fresh_repetition.ensures
 
 pub returns-in_ok-whole-in-Within : goal.returns-in_ok-whole-in-Within
 returns-in_ok-whole-in-Within t c =

@@ -10,7 +10,7 @@ use Rattle.tre_edges.proofs.edges.changes.Goals as goal
 
 pub loop-at-init : goal.loop-at-init
 loop-at-init c =
-    rw c.new-zones.ensures (record {
+    rw c.in_ok-zones.ensures (record {
       exact = λ a b n some rising. (
         λ matches. inr matches,
         λ either. ⊎_elim (λ held. absurd (SetHolds-empty a b n held)) (λ rest. rest) either,
@@ -47,7 +47,8 @@ add_instant-requires-clause-limit c =
     omega (
       arith,
       c.start_from-seen.ensures.time,
-      time_of-limit c.args.trace.now.segments c.next_place-turn.result c.segments-count.ensures.trace,
+      time_of-limit c.args.trace.now.segments c.next_place-turn.result
+          c.segments-count.ensures.trace,
     )
 
 pub loop-at-preserved : goal.loop-at-preserved
@@ -59,9 +60,10 @@ loop-at-preserved c =
     let truth = c.in_ok-words.ensures in
     let state = tree_of c.args.state.now in
     let first =
-    rw (c.deref.ensures.value, c.segments-count.ensures.segments) at c.next_place-other.ensures in
-    let last =
     rw (c.deref-in-loop-at.ensures.value, c.segments-count.ensures.segments) at
+    c.next_place-other.ensures in
+    let last =
+    rw (c.deref-in-loop-at-2.ensures.value, c.segments-count.ensures.segments) at
     c.next_place-turn.ensures in
     let held = rw (c.start_from-seen.ensures.time, c.segments-count.ensures.segments) at
     c.in_ok-add_instant.ensures.held in

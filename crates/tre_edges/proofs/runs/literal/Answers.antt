@@ -13,7 +13,7 @@ use Rattle.tre_edges.proofs.runs.literal.Goals as goal
 pub loop-at-init : goal.loop-at-init
 loop-at-init c =
     let start = HoldsFrom-literal (HoldsOn (tree_of c.args.state.now)) c.args.trace.now.segments in
-    rw c.new-zones.ensures (record {
+    rw c.in_ok-zones.ensures (record {
       exact = λ a b n some rising. (
         λ matches. inr ((start a b n).0 matches),
         λ either. ⊎_elim (λ held. absurd (SetHolds-empty a b n held))
@@ -59,7 +59,8 @@ close-requires-clause-limit c =
     omega (
       arith,
       c.start_from-seen.ensures.time,
-      time_of-limit c.args.trace.now.segments c.next_place-end.result c.segments-count.ensures.trace,
+      time_of-limit c.args.trace.now.segments c.next_place-end.result
+          c.segments-count.ensures.trace,
     )
 
 pub loop-at-preserved : goal.loop-at-preserved
@@ -68,12 +69,14 @@ loop-at-preserved c =
     let begin = c.next_place-begin.result in
     let end = c.next_place-end.result in
     let first =
-    rw (c.deref.ensures.value, c.segments-count.ensures.segments) at c.next_place-begin.ensures in
-    let last =
     rw (c.deref-in-loop-at.ensures.value, c.segments-count.ensures.segments) at
+    c.next_place-begin.ensures in
+    let last =
+    rw (c.deref-in-loop-at-2.ensures.value, c.segments-count.ensures.segments) at
     c.next_place-end.ensures in
     let held =
-    rw (c.start_from-from.ensures.time, c.start_from-seen.ensures.time) at c.in_ok-close.ensures.held in
+    rw (c.start_from-from.ensures.time, c.start_from-seen.ensures.time) at
+    c.in_ok-close.ensures.held in
     record {
       exact = λ a b n some rising.
           exact_closed (c.loop-at.invariant.exact a b n some rising)

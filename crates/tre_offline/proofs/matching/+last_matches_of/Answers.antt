@@ -1,13 +1,9 @@
 -- The operator at the top is the tree's, and its parts are those of the tree.
-use Rattle.std.proofs.Common.{◌≡◌, ap, sym, subst}
-use Rattle.std.proofs.lemmas.Result.{IfOk-weaker}
-use Rattle.tre_pairs.specs.Pairs.{Lasting}
-use Rattle.tre_zone.specs.Longest.{LastsUpTo}
-use Rattle.tre_zone.specs.ZoneList.{HoldExactly}
+use Rattle.std.proofs.Common.{◌≡◌, ap}
 use Rattle.tre_syntax.specs.Expr.{tree_of}
-use Rattle.tre_syntax.specs.Meaning.{MatchesRest}
-use Rattle.tre_syntax.specs.PatternTree.{PatternTree, sequence, alternation, intersection, repetition, restriction}
+use Rattle.tre_syntax.specs.PatternTree.{sequence, alternation, intersection, repetition, restriction}
 use Rattle.tre_syntax.specs.Rest.{whole}
+use Rattle.tre_offline.proofs.Operations.{short_of_form}
 use Rattle.tre_offline.proofs.matching.+last_matches_of.Goals as goal
 
 pub returns-in_ok-second-in-Seq : goal.returns-in_ok-second-in-Seq
@@ -17,11 +13,9 @@ returns-in_ok-second-in-Seq t c =
     let right = tree_of c.deref-in-Seq.result.now in
     let tree : tree_of c.args.expr.now ≡ sequence left right =
     rw (c.deref.ensures, c.deref-in-Seq.ensures) (ap tree_of c.in-Seq.is) in
-    IfOk-weaker c.followed.result _ _
-    (λ zones exact.
-    subst (λ (whole : PatternTree). HoldExactly zones (Lasting (LastsUpTo c.args.longest)
-    (MatchesRest whole rest))) (sym tree)
-    (exact left right rest c.in_ok-first-in-Seq.ensures c.in_ok-second-in-Seq.ensures))
+    short_of_form c.followed.result c.args.longest rest tree _
+    (λ zones exact. exact left right rest c.in_ok-first-in-Seq.ensures
+    c.in_ok-second-in-Seq.ensures)
     c.followed.ensures
 
 pub returns-in_ok-other-in-Alt : goal.returns-in_ok-other-in-Alt
@@ -31,11 +25,9 @@ returns-in_ok-other-in-Alt t c =
     let right = tree_of c.deref-in-Alt-2.result.now in
     let tree : tree_of c.args.expr.now ≡ alternation left right =
     rw (c.deref-in-Alt.ensures, c.deref-in-Alt-2.ensures) (ap tree_of c.in-Alt.is) in
-    IfOk-weaker c.joined.result _ _
-    (λ zones exact.
-    subst (λ (whole : PatternTree). HoldExactly zones (Lasting (LastsUpTo c.args.longest)
-    (MatchesRest whole rest))) (sym tree)
-    (exact c.args.longest left right rest c.in_ok-one-in-Alt.ensures c.in_ok-other-in-Alt.ensures))
+    short_of_form c.joined.result c.args.longest rest tree _
+    (λ zones exact. exact c.args.longest left right rest c.in_ok-one-in-Alt.ensures
+    c.in_ok-other-in-Alt.ensures)
     c.joined.ensures
 
 pub returns-in_ok-other-in-Meet : goal.returns-in_ok-other-in-Meet
@@ -45,12 +37,9 @@ returns-in_ok-other-in-Meet t c =
     let right = tree_of c.deref-in-Meet-2.result.now in
     let tree : tree_of c.args.expr.now ≡ intersection left right =
     rw (c.deref-in-Meet.ensures, c.deref-in-Meet-2.ensures) (ap tree_of c.in-Meet.is) in
-    IfOk-weaker c.met.result _ _
-    (λ zones exact.
-    subst (λ (whole : PatternTree). HoldExactly zones (Lasting (LastsUpTo c.args.longest)
-    (MatchesRest whole rest))) (sym tree)
-    (exact c.args.longest left right rest c.in_ok-one-in-Meet.ensures
-    c.in_ok-other-in-Meet.ensures))
+    short_of_form c.met.result c.args.longest rest tree _
+    (λ zones exact. exact c.args.longest left right rest c.in_ok-one-in-Meet.ensures
+    c.in_ok-other-in-Meet.ensures)
     c.met.ensures
 
 pub returns-in_ok-step-in-Star : goal.returns-in_ok-step-in-Star
@@ -59,11 +48,9 @@ returns-in_ok-step-in-Star t c =
     let step = tree_of c.deref-in-Star.result.now in
     let tree : tree_of c.args.expr.now ≡ repetition step =
     rw c.deref-in-Star.ensures (ap tree_of c.in-Star.is) in
-    IfOk-weaker c.repeated.result _ _
-    (λ zones exact.
-    subst (λ (whole : PatternTree). HoldExactly zones (Lasting (LastsUpTo c.args.longest)
-    (MatchesRest whole rest))) (sym tree)
-    (exact step rest c.begin-begin.ensures c.end-end.ensures.end c.in_ok-step-in-Star.ensures))
+    short_of_form c.repeated.result c.args.longest rest tree _
+    (λ zones exact. exact step rest c.begin-begin.ensures c.end-end.ensures.end
+    c.in_ok-step-in-Star.ensures)
     c.repeated.ensures
 
 pub returns-in_ok-all-in-Within : goal.returns-in_ok-all-in-Within
@@ -72,10 +59,7 @@ returns-in_ok-all-in-Within t c =
     let all = tree_of c.deref-in-Within.result.now in
     let tree : tree_of c.args.expr.now ≡ restriction all c.in-Within.interval =
     rw c.deref-in-Within.ensures (ap tree_of c.in-Within.is) in
-    IfOk-weaker c.restricted.result _ _
-    (λ zones exact.
-    subst (λ (whole : PatternTree). HoldExactly zones (Lasting (LastsUpTo c.args.longest)
-    (MatchesRest whole rest))) (sym tree)
-    (exact c.up_to-inner.result c.args.longest all rest c.up_to-inner.ensures.same
-    c.in_ok-all-in-Within.ensures))
+    short_of_form c.restricted.result c.args.longest rest tree _
+    (λ zones exact. exact c.up_to-inner.result c.args.longest all rest c.up_to-inner.ensures.same
+    c.in_ok-all-in-Within.ensures)
     c.restricted.ensures

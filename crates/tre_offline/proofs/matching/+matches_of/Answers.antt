@@ -1,13 +1,9 @@
 -- The operator at the top is the tree's, and its parts are those of the tree.
-use Rattle.std.proofs.Common.{◌≡◌, ap, sym, subst}
-use Rattle.std.proofs.lemmas.Result.{IfOk-weaker}
-use Rattle.tre_pairs.specs.Pairs.{Lasting}
-use Rattle.tre_zone.specs.Longest.{LastsUpTo}
-use Rattle.tre_zone.specs.ZoneList.{HoldExactly}
+use Rattle.std.proofs.Common.{◌≡◌, ap}
 use Rattle.tre_state.specs.State as states
 use Rattle.tre_syntax.specs.Expr.{tree_of}
-use Rattle.tre_syntax.specs.Meaning.{MatchesRest}
 use Rattle.tre_syntax.specs.PatternTree.{PatternTree, atom, empty, literal, rise, fall, event, sequence, alternation, intersection, repetition, restriction}
+use Rattle.tre_offline.proofs.Operations.{short_of_form}
 use Rattle.tre_offline.proofs.matching.+matches_of.Goals as goal
 
 pub returns-in_ok-second-in-Seq : goal.returns-in_ok-second-in-Seq
@@ -17,11 +13,9 @@ returns-in_ok-second-in-Seq g t c =
     let right = tree_of c.deref-in-Seq.result.now in
     let tree : tree_of c.args.expr.now ≡ sequence left right =
     rw (c.deref.ensures, c.deref-in-Seq.ensures) (ap tree_of c.in-Seq.is) in
-    IfOk-weaker c.followed.result _ _
-    (λ zones exact.
-    subst (λ (whole : PatternTree). HoldExactly zones (Lasting (LastsUpTo c.args.longest)
-    (MatchesRest whole rest))) (sym tree)
-    (exact left right rest c.in_ok-first-in-Seq.ensures c.in_ok-second-in-Seq.ensures))
+    short_of_form c.followed.result c.args.longest rest tree _
+    (λ zones exact. exact left right rest c.in_ok-first-in-Seq.ensures
+    c.in_ok-second-in-Seq.ensures)
     c.followed.ensures
 
 pub returns-in_ok-other-in-Alt : goal.returns-in_ok-other-in-Alt
@@ -31,11 +25,9 @@ returns-in_ok-other-in-Alt g t c =
     let right = tree_of c.deref-in-Alt-2.result.now in
     let tree : tree_of c.args.expr.now ≡ alternation left right =
     rw (c.deref-in-Alt.ensures, c.deref-in-Alt-2.ensures) (ap tree_of c.in-Alt.is) in
-    IfOk-weaker c.joined.result _ _
-    (λ zones exact.
-    subst (λ (whole : PatternTree). HoldExactly zones (Lasting (LastsUpTo c.args.longest)
-    (MatchesRest whole rest))) (sym tree)
-    (exact c.args.longest left right rest c.in_ok-one-in-Alt.ensures c.in_ok-other-in-Alt.ensures))
+    short_of_form c.joined.result c.args.longest rest tree _
+    (λ zones exact. exact c.args.longest left right rest c.in_ok-one-in-Alt.ensures
+    c.in_ok-other-in-Alt.ensures)
     c.joined.ensures
 
 pub returns-in_ok-other-in-Meet : goal.returns-in_ok-other-in-Meet
@@ -45,12 +37,9 @@ returns-in_ok-other-in-Meet g t c =
     let right = tree_of c.deref-in-Meet-2.result.now in
     let tree : tree_of c.args.expr.now ≡ intersection left right =
     rw (c.deref-in-Meet.ensures, c.deref-in-Meet-2.ensures) (ap tree_of c.in-Meet.is) in
-    IfOk-weaker c.met.result _ _
-    (λ zones exact.
-    subst (λ (whole : PatternTree). HoldExactly zones (Lasting (LastsUpTo c.args.longest)
-    (MatchesRest whole rest))) (sym tree)
-    (exact c.args.longest left right rest c.in_ok-one-in-Meet.ensures
-    c.in_ok-other-in-Meet.ensures))
+    short_of_form c.met.result c.args.longest rest tree _
+    (λ zones exact. exact c.args.longest left right rest c.in_ok-one-in-Meet.ensures
+    c.in_ok-other-in-Meet.ensures)
     c.met.ensures
 
 pub returns-in_ok-step-in-Star : goal.returns-in_ok-step-in-Star
@@ -59,11 +48,9 @@ returns-in_ok-step-in-Star g t c =
     let step = tree_of c.deref-in-Star.result.now in
     let tree : tree_of c.args.expr.now ≡ repetition step =
     rw c.deref-in-Star.ensures (ap tree_of c.in-Star.is) in
-    IfOk-weaker c.repeated.result _ _
-    (λ zones exact.
-    subst (λ (whole : PatternTree). HoldExactly zones (Lasting (LastsUpTo c.args.longest)
-    (MatchesRest whole rest))) (sym tree)
-    (exact step rest c.begin.ensures c.end.ensures.end c.in_ok-step-in-Star.ensures))
+    short_of_form c.repeated.result c.args.longest rest tree _
+    (λ zones exact. exact step rest c.begin.ensures c.end.ensures.end
+    c.in_ok-step-in-Star.ensures)
     c.repeated.ensures
 
 pub returns-in_ok-all-in-Within : goal.returns-in_ok-all-in-Within
@@ -72,12 +59,9 @@ returns-in_ok-all-in-Within g t c =
     let all = tree_of c.deref-in-Within.result.now in
     let tree : tree_of c.args.expr.now ≡ restriction all c.in-Within.interval =
     rw c.deref-in-Within.ensures (ap tree_of c.in-Within.is) in
-    IfOk-weaker c.restricted.result _ _
-    (λ zones exact.
-    subst (λ (whole : PatternTree). HoldExactly zones (Lasting (LastsUpTo c.args.longest)
-    (MatchesRest whole rest))) (sym tree)
-    (exact c.up_to-inner.result c.args.longest all rest c.up_to-inner.ensures.same
-    c.in_ok-all-in-Within.ensures))
+    short_of_form c.restricted.result c.args.longest rest tree _
+    (λ zones exact. exact c.up_to-inner.result c.args.longest all rest c.up_to-inner.ensures.same
+    c.in_ok-all-in-Within.ensures)
     c.restricted.ensures
 
 pub returns-in_ok-all-in-Eps : goal.returns-in_ok-all-in-Eps
@@ -85,52 +69,37 @@ returns-in_ok-all-in-Eps g t c =
     let rest = g.A.Atoms.rest c.args.atoms.now in
     let part : PatternTree = atom empty in
     let tree : tree_of c.args.expr.now ≡ part = ap tree_of c.in-Eps.is in
-    IfOk-weaker c.shortened.result _ _
-    (λ zones exact.
-    subst (λ (whole : PatternTree). HoldExactly zones (Lasting (LastsUpTo c.args.longest)
-    (MatchesRest whole rest))) (sym tree) (exact part rest c.in_ok-all-in-Eps.ensures))
-    c.shortened.ensures
+    short_of_form c.shortened.result c.args.longest rest tree _
+    (λ zones exact. exact part rest c.in_ok-all-in-Eps.ensures) c.shortened.ensures
 
 pub returns-in_ok-all-in-Lit : goal.returns-in_ok-all-in-Lit
 returns-in_ok-all-in-Lit g t c =
     let rest = g.A.Atoms.rest c.args.atoms.now in
     let part : PatternTree = atom (literal (states.tree_of c.in-Lit.state)) in
     let tree : tree_of c.args.expr.now ≡ part = ap tree_of c.in-Lit.is in
-    IfOk-weaker c.shortened-in-Lit.result _ _
-    (λ zones exact.
-    subst (λ (whole : PatternTree). HoldExactly zones (Lasting (LastsUpTo c.args.longest)
-    (MatchesRest whole rest))) (sym tree) (exact part rest c.in_ok-all-in-Lit.ensures))
-    c.shortened-in-Lit.ensures
+    short_of_form c.shortened-in-Lit.result c.args.longest rest tree _
+    (λ zones exact. exact part rest c.in_ok-all-in-Lit.ensures) c.shortened-in-Lit.ensures
 
 pub returns-in_ok-all-in-Rise : goal.returns-in_ok-all-in-Rise
 returns-in_ok-all-in-Rise g t c =
     let rest = g.A.Atoms.rest c.args.atoms.now in
     let part : PatternTree = atom (rise (states.tree_of c.in-Rise.state)) in
     let tree : tree_of c.args.expr.now ≡ part = ap tree_of c.in-Rise.is in
-    IfOk-weaker c.shortened-in-Rise.result _ _
-    (λ zones exact.
-    subst (λ (whole : PatternTree). HoldExactly zones (Lasting (LastsUpTo c.args.longest)
-    (MatchesRest whole rest))) (sym tree) (exact part rest c.in_ok-all-in-Rise.ensures))
-    c.shortened-in-Rise.ensures
+    short_of_form c.shortened-in-Rise.result c.args.longest rest tree _
+    (λ zones exact. exact part rest c.in_ok-all-in-Rise.ensures) c.shortened-in-Rise.ensures
 
 pub returns-in_ok-all-in-Fall : goal.returns-in_ok-all-in-Fall
 returns-in_ok-all-in-Fall g t c =
     let rest = g.A.Atoms.rest c.args.atoms.now in
     let part : PatternTree = atom (fall (states.tree_of c.in-Fall.state)) in
     let tree : tree_of c.args.expr.now ≡ part = ap tree_of c.in-Fall.is in
-    IfOk-weaker c.shortened-in-Fall.result _ _
-    (λ zones exact.
-    subst (λ (whole : PatternTree). HoldExactly zones (Lasting (LastsUpTo c.args.longest)
-    (MatchesRest whole rest))) (sym tree) (exact part rest c.in_ok-all-in-Fall.ensures))
-    c.shortened-in-Fall.ensures
+    short_of_form c.shortened-in-Fall.result c.args.longest rest tree _
+    (λ zones exact. exact part rest c.in_ok-all-in-Fall.ensures) c.shortened-in-Fall.ensures
 
 pub returns-in_ok-all-in-Event : goal.returns-in_ok-all-in-Event
 returns-in_ok-all-in-Event g t c =
     let rest = g.A.Atoms.rest c.args.atoms.now in
     let part : PatternTree = atom (event c.in-Event.number) in
     let tree : tree_of c.args.expr.now ≡ part = ap tree_of c.in-Event.is in
-    IfOk-weaker c.shortened-in-Event.result _ _
-    (λ zones exact.
-    subst (λ (whole : PatternTree). HoldExactly zones (Lasting (LastsUpTo c.args.longest)
-    (MatchesRest whole rest))) (sym tree) (exact part rest c.in_ok-all-in-Event.ensures))
-    c.shortened-in-Event.ensures
+    short_of_form c.shortened-in-Event.result c.args.longest rest tree _
+    (λ zones exact. exact part rest c.in_ok-all-in-Event.ensures) c.shortened-in-Event.ensures

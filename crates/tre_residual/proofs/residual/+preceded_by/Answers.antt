@@ -1,21 +1,15 @@
 -- Inside a form the set goes before its parts.
-use Rattle.std.proofs.Common.{◌≡◌, List, ap, sym, subst}
+use Rattle.std.proofs.Common.{◌≡◌, ap, sym, subst}
 use Rattle.std.proofs.lemmas.Result.{IfOk-weaker}
 use Rattle.tre_syntax.specs.Expr.{tree_of}
-use Rattle.tre_zone.specs.declared.zone_bounds.ZoneBounds.{ZoneBounds}
 use Rattle.tre_residual.specs.Residual.{ResidualTree, preceded, followed, either, residual_tree, Builds}
 use Rattle.tre_residual.specs.declared.residual.Residual.{Residual}
-use Rattle.tre_residual.proofs.Forms.{dropped_before, preceded_followed, preceded_either}
-use Rattle.tre_residual.proofs.residual.Residual.+pre.Goals as goal
-
-pub returns-then-is_empty : goal.returns-then-is_empty
-returns-then-is_empty t c =
-    dropped_before c.args.zones (residual_tree c.args.residual)
-    (c.is_empty.ensures.0 c.if-is_empty.true)
+use Rattle.tre_residual.proofs.Forms.{preceded_followed, preceded_either}
+use Rattle.tre_residual.proofs.residual.+preceded_by.Goals as goal
 
 pub returns-in_ok-first-in-Post : goal.returns-in_ok-first-in-Post
 returns-in_ok-first-in-Post t c =
-    let zones = c.args.zones in
+    let zones = c.args.zones.now in
     let first = residual_tree c.in_ok-first-in-Post.first in
     let inner = residual_tree c.in-Post.first.value in
     let tree = tree_of c.in-Post.expr in
@@ -32,17 +26,15 @@ returns-in_ok-first-in-Post t c =
 
 pub returns-in_ok-other-in-Or : goal.returns-in_ok-other-in-Or
 returns-in_ok-other-in-Or t c =
-    let zones = c.args.zones in
+    let zones = c.args.zones.now in
     let one = residual_tree c.in-Or.one.value in
     let other = residual_tree c.in-Or.other.value in
     let one' = residual_tree c.in_ok-one-in-Or.one in
     let other' = residual_tree c.in_ok-other-in-Or.other in
     let form : residual_tree c.args.residual ≡ either one other = ap residual_tree c.in-Or.is in
     let left : Builds one' (preceded zones one) =
-    subst (λ (list : List ZoneBounds). Builds one' (preceded list one))
-    c.in_ok-copy-in-Or.ensures
-    (subst (λ (r : Residual). Builds one' (preceded c.in_ok-copy-in-Or.copy (residual_tree r)))
-    c.into_inner-in-Or.ensures c.in_ok-one-in-Or.ensures) in
+    subst (λ (r : Residual). Builds one' (preceded zones (residual_tree r)))
+    c.into_inner-in-Or.ensures c.in_ok-one-in-Or.ensures in
     let right : Builds other' (preceded zones other) =
     subst (λ (r : Residual). Builds other' (preceded zones (residual_tree r)))
     c.into_inner-in-Or-2.ensures c.in_ok-other-in-Or.ensures in
