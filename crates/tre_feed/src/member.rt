@@ -1,6 +1,7 @@
 // One of those that a reader reads for.
 ghost use Rattle.std.specs.Prelude.{◌≡◌, map};
 ghost use Rattle.tre_feed.specs.Members.{events_by, row_by, segment_by};
+ghost use Rattle.tre_share.specs.Shown.{shown_segment};
 
 use tre_share::View;
 use tre_trace::Segment;
@@ -37,8 +38,17 @@ impl Member {
     pub fn narrow(&self, row: &mut [Segment])
         ensures { row.new ≡ row_by self.now.view row.old }
     {
-        for segment in row {
-            *segment = self.segment(*segment);
+        if let Some(view) = &self.view {
+            narrow_each(view, row);
         }
+    }
+}
+
+// Leaves of each segment what the view shows.
+fn narrow_each(view: &View, row: &mut [Segment])
+    ensures { row.new ≡ map (shown_segment view.now) row.old }
+{
+    for segment in row {
+        *segment = view.segment(*segment);
     }
 }

@@ -2,13 +2,14 @@
 use Rattle.std.proofs.Common.{◌≡◌, ◌∙◌, ℕ, ◌<◌, Bool, List, [], ◌∷◌, ◌++◌, length, map, get_or, slice_get, Some, refl, sym, ap, subst, arith, append-nil, append_assoc}
 use Rattle.std.specs.List.{AllZip}
 use Rattle.std.proofs.lemmas.List.{length-map}
+use Rattle.std.specs.Prelude.{IfSome}
 use Rattle.std.proofs.lemmas.Option.{get_or_from_slice_get, slice_get-get_or, slice_get_within}
 use Rattle.tre_feed.proofs.Members.{get_or-mapped}
 use Rattle.tre_share.specs.Shares.{IsViewOf, Shows, group_of}
 use Rattle.tre_share.specs.Shown.{shown_reading}
 use Rattle.tre_share.specs.declared.view.View.{View}
 use Rattle.tre_trace.specs.Reading.{Reading, Vocabulary}
-use Rattle.tre_group.specs.Begun.{group_at, no_names, terms_at}
+use Rattle.tre_group.specs.Begun.{SeesAs, group_at, no_names, terms_at}
 
 -- a group that has a reader is found by its place
 pub found_at : {Terms : Type 0} (terms : Vocabulary → Terms) (groups : List Vocabulary)
@@ -21,6 +22,43 @@ found_at {Terms} terms groups begun place number below there =
     (subst (λ count. place < count) (sym (length-map begun seen)) below)
     ∙ ap Some (get_or-mapped seen begun place number (seen number) below ∙ ap seen there)
 
+-- the names of the group that a view is of
+pub group_of_view : (groups : List Vocabulary) (asked : Vocabulary) (view : View)
+    (is : IsViewOf groups asked view) → group_at groups (group_of view) ≡ is.all
+group_of_view groups asked view is =
+    get_or_from_slice_get groups (group_of view) is.all no_names is.group
+
+-- the view is of this group, and shows what is read for it
+pub shown_in : (groups : List Vocabulary) (number : ℕ) (group : Vocabulary)
+    → group ≡ get_or groups number group → (view : View) → number ≡ group_of view
+    → (asked : Vocabulary) → IsViewOf groups asked view → Shows asked group view
+shown_in groups number group here view of_view asked is =
+    let same : group ≡ is.all = here ∙ (ap (λ one. get_or groups one group) of_view
+    ∙ get_or_from_slice_get groups (group_of view) is.all group is.group) in
+    subst (λ all. Shows asked all view) (sym same) is.shows
+
+-- One who shares a reader is told what a reader for its names alone would tell.
+pub shared_told : {Terms : Type 0} (terms : Vocabulary → Terms)
+    (reading : Terms → Bool → List ℕ → Reading) → SeesAs (λ names. reading (terms names))
+    → (groups : List Vocabulary) (begun : List ℕ) (place number : ℕ) → place < length begun
+    → get_or begun place number ≡ number → (view : View) → number ≡ group_of view
+    → (read : List Terms) → read ≡ terms_at terms groups begun
+    → (old now : Bool → List ℕ → List Reading)
+    → IfSome (slice_get read place) (λ one. (closed : Bool) (bytes : List ℕ) →
+    now closed bytes ≡ old closed bytes ++ shown_reading view (reading one closed bytes) ∷ [])
+    → (asked : Vocabulary) → IsViewOf groups asked view → (closed : Bool) (bytes : List ℕ)
+    → now closed bytes ≡ old closed bytes ++ reading (terms asked) closed bytes ∷ []
+shared_told {Terms} terms reading sees groups begun place number below there view of_view read are
+    old now told asked is closed bytes =
+    let found : slice_get read place ≡ Some (terms is.all) =
+    ap (λ (all : List Terms). slice_get all place) are
+    ∙ (found_at terms groups begun place number below there
+    ∙ ap (λ names. Some (terms names))
+    (ap (group_at groups) of_view ∙ group_of_view groups asked view is)) in
+    (rw found at told) closed bytes
+    ∙ ap (λ (one : Reading). old closed bytes ++ one ∷ [])
+    (sym (sees asked is.all view is.shows closed bytes))
+
 -- What the readers so far say is what the first of all are to say; the views of the others are
 -- left.
 pub record IsLeft (groups : List Vocabulary) (read : Vocabulary → Bool → List ℕ → Reading)
@@ -30,11 +68,6 @@ pub record IsLeft (groups : List Vocabulary) (read : Vocabulary → Bool → Lis
   pub whole : (closed : Bool) (bytes : List ℕ) →
       now closed bytes ++ map (λ names. read names closed bytes) asked
       ≡ map (λ names. read names closed bytes) all
-
--- one reading for more names is seen through the view as that for the asked ones
-abbrev pub SeesAs : (Vocabulary → Bool → List ℕ → Reading) → Type 0
-SeesAs read = (asked wide : Vocabulary) (view : View) → Shows asked wide view → (closed : Bool)
-    (bytes : List ℕ) → read asked closed bytes ≡ shown_reading view (read wide closed bytes)
 
 module _ {groups : List Vocabulary} {read : Vocabulary → Bool → List ℕ → Reading}
     {all : List Vocabulary} {now : Bool → List ℕ → List Reading} where
@@ -49,34 +82,26 @@ module _ {groups : List Vocabulary} {read : Vocabulary → Bool → List ℕ →
       first (names ∷ asked) are = slice_get_within groups (group_of view) are.0.all are.0.group
 
   -- and joins it
-  pub left_next : SeesAs read → (then : Bool → List ℕ → List Reading) (view : View)
-      (views : List View) → IsLeft groups read all now (view ∷ views)
-      → ((closed : Bool) (bytes : List ℕ) → then closed bytes ≡ now closed bytes
-      ++ shown_reading view (read (group_at groups (group_of view)) closed bytes) ∷ [])
+  pub left_next : (then : Bool → List ℕ → List Reading) (view : View) (views : List View)
+      → IsLeft groups read all now (view ∷ views)
+      → ((asked : Vocabulary) → IsViewOf groups asked view → (closed : Bool) (bytes : List ℕ)
+      → then closed bytes ≡ now closed bytes ++ read asked closed bytes ∷ [])
       → IsLeft groups read all then views
-  left_next sees then view views left pushed = next left.asked left.are left.whole
+  left_next then view views left pushed = next left.asked left.are left.whole
     where
       next : (asked : List Vocabulary) → AllZip (IsViewOf groups) asked (view ∷ views)
           → ((closed : Bool) (bytes : List ℕ) →
           now closed bytes ++ map (λ names. read names closed bytes) asked
           ≡ map (λ names. read names closed bytes) all) → IsLeft groups read all then views
       next [] are whole = absurd are
-      next (names ∷ asked) are whole =
-          let wide : group_at groups (group_of view) ≡ are.0.all =
-          get_or_from_slice_get groups (group_of view) are.0.all no_names are.0.group in
-          record {
-            asked = asked;
-            are = are.1;
-            whole = λ closed bytes.
-                let rest = map (λ (one : Vocabulary). read one closed bytes) asked in
-                let one : shown_reading view (read (group_at groups (group_of view)) closed bytes)
-                ≡ read names closed bytes =
-                ap (λ each. shown_reading view (read each closed bytes)) wide
-                ∙ sym (sees names are.0.all view are.0.shows closed bytes) in
-                ap (λ front. front ++ rest) (pushed closed bytes)
-                ∙ (append_assoc (now closed bytes) _ rest
-                ∙ (ap (λ first. now closed bytes ++ first ∷ rest) one ∙ whole closed bytes));
-          }
+      next (names ∷ asked) are whole = record {
+        asked = asked;
+        are = are.1;
+        whole = λ closed bytes.
+            let rest = map (λ (one : Vocabulary). read one closed bytes) asked in
+            ap (λ front. front ++ rest) (pushed names are.0 closed bytes)
+            ∙ (append_assoc (now closed bytes) _ rest ∙ whole closed bytes);
+      }
 
   -- no view is left
   pub left_none : IsLeft groups read all now [] → (closed : Bool) (bytes : List ℕ)

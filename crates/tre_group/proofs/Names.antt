@@ -5,8 +5,7 @@ use Rattle.tre_share.proofs.Shown.{shown-seen}
 use Rattle.tre_text.specs.TextReading.{Terms as TextTerms, text_reading}
 use Rattle.tre_trace.specs.Reading.{Vocabulary}
 use Rattle.tre_vcd.specs.VcdReading.{Terms as DumpTerms, vcd_reading}
-use Rattle.tre_group.specs.Begun.{dump_terms, text_terms}
-use Rattle.tre_group.proofs.Joining.{SeesAs}
+use Rattle.tre_group.specs.Begun.{SeesAs, dump_terms, text_terms}
 
 pub vocabulary_same : (names events : List (List ℕ)) (other : Vocabulary) → names ≡ other.names
     → events ≡ other.events → record { names = names; events = events } ≡ other

@@ -1,7 +1,10 @@
 -- Readers of which each reads for a group.
-use Rattle.std.specs.Prelude.{ℕ, List, [], map, slice_index_or}
+use Rattle.std.specs.Prelude.{◌≡◌, ℕ, Bool, List, [], map, slice_index_or}
+use Rattle.tre_share.specs.Shares.{Shows}
+use Rattle.tre_share.specs.Shown.{shown_reading}
+use Rattle.tre_share.specs.declared.view.View.{View}
 use Rattle.tre_text.specs.TextReading.{Terms as TextTerms}
-use Rattle.tre_trace.specs.Reading.{Vocabulary}
+use Rattle.tre_trace.specs.Reading.{Reading, Vocabulary}
 use Rattle.tre_vcd.specs.VcdReading.{Terms as DumpTerms}
 
 -- the names of no group
@@ -25,3 +28,8 @@ text_terms scale names = record { names = names; scale = scale }
 abbrev pub dump_terms : List Vocabulary → ℕ → Vocabulary → DumpTerms
 dump_terms declared scale names =
     record { names = names; declared = declared; scale = scale }
+
+-- A reading for more names is seen through a view as that for the asked ones.
+abbrev pub SeesAs : (Vocabulary → Bool → List ℕ → Reading) → Type 0
+SeesAs read = (asked wide : Vocabulary) (view : View) → Shows asked wide view → (closed : Bool)
+    (bytes : List ℕ) → read asked closed bytes ≡ shown_reading view (read wide closed bytes)

@@ -2,13 +2,14 @@
 ghost use Rattle.std.specs.Prelude.{◌≡◌, ◌<◌, ◌≤◌, ◌∷◌, ◌++◌, [], ℕ, Bool, List, length, map, IfOk, OnOk};
 ghost use Rattle.tre_decimal.specs.declared.TheConstants.{SCALE_MAX};
 ghost use Rattle.tre_feed.specs.Readers.{AreFresh, groups_in, readings_in};
-ghost use Rattle.tre_group.specs.Begun.{dump_terms, group_at, terms_at};
-ghost use Rattle.tre_share.specs.Shares.{group_of};
-ghost use Rattle.tre_share.specs.Shown.{shown_reading};
+ghost use Rattle.tre_group.specs.Begun.{dump_terms, terms_at};
+ghost use Rattle.tre_share.specs.Shares.{IsViewOf, group_of};
 ghost use Rattle.tre_syntax.specs.Pattern.{names_of};
+ghost use Rattle.tre_trace.specs.Reading.{Vocabulary};
 ghost use Rattle.tre_vcd.specs.VcdReading.{vcd_reading};
 
 use crate::begun::place_of;
+use crate::first::push_first;
 use std::alloc::{AllocError, Global};
 use tre_feed::Readers;
 use tre_share::{Group, View, share};
@@ -31,7 +32,6 @@ pub fn dump_readers(
         (dump_terms (map names_of patterns.now) scale (names_of pattern)) closed bytes)
         patterns.now) }
 {
-    laws::shared();
     let shares = share(alloc, patterns)?;
     let (groups, views) = shares.into_parts();
     let mut readers = Readers::new(alloc);
@@ -69,22 +69,23 @@ fn push_dump(
         (AreFresh ⟦<VcdReader as TraceReader>⟧.represents readers.new) }
     ensures begun { OnOk result (groups_in ⟦<VcdReader as TraceReader>⟧.terms readers.new
         ≡ terms_at (dump_terms (map names_of patterns.now) scale) groups.now begun.new.items) }
-    ensures readings { OnOk result ((closed : Bool) (bytes : List ℕ) →
+    ensures readings { (asked : Vocabulary) → IsViewOf groups.now asked view →
+        OnOk result ((closed : Bool) (bytes : List ℕ) →
         readings_in ⟦<VcdReader as TraceReader>⟧.reading ⟦<VcdReader as TraceReader>⟧.terms
         readers.new closed bytes
         ≡ readings_in ⟦<VcdReader as TraceReader>⟧.reading
         ⟦<VcdReader as TraceReader>⟧.terms readers.old closed bytes
-        ++ shown_reading view (vcd_reading
-        (dump_terms (map names_of patterns.now) scale (group_at groups.now (group_of view)))
-        closed bytes) ∷ []) }
+        ++ vcd_reading (dump_terms (map names_of patterns.now) scale asked) closed bytes ∷ []) }
 {
+    laws::shared();
     let number = view.group();
     if let Some(place) = place_of(begun, number) {
         readers.push_view(place, view)?;
         return Ok(());
     }
-    let reader = dump_reader(alloc, &groups[number], patterns, scale)?;
-    readers.push_group(alloc, reader, view)?;
+    let group = &groups[number];
+    let reader = dump_reader(alloc, group, patterns, scale)?;
+    push_first(alloc, group, reader, view, readers)?;
     begun.push(number)?;
     Ok(())
 }

@@ -12,6 +12,7 @@
 
 mod begun;
 mod dump;
+mod first;
 mod text;
 
 pub use dump::dump_readers;

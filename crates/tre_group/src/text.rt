@@ -2,13 +2,14 @@
 ghost use Rattle.std.specs.Prelude.{◌≡◌, ◌<◌, ◌≤◌, ◌∷◌, ◌++◌, [], ℕ, Bool, List, length, map, IfOk, OnOk};
 ghost use Rattle.tre_decimal.specs.declared.TheConstants.{SCALE_MAX};
 ghost use Rattle.tre_feed.specs.Readers.{AreFresh, groups_in, readings_in};
-ghost use Rattle.tre_group.specs.Begun.{group_at, terms_at, text_terms};
-ghost use Rattle.tre_share.specs.Shares.{group_of};
-ghost use Rattle.tre_share.specs.Shown.{shown_reading};
+ghost use Rattle.tre_group.specs.Begun.{terms_at, text_terms};
+ghost use Rattle.tre_share.specs.Shares.{IsViewOf, group_of};
 ghost use Rattle.tre_syntax.specs.Pattern.{names_of};
 ghost use Rattle.tre_text.specs.TextReading.{text_reading};
+ghost use Rattle.tre_trace.specs.Reading.{Vocabulary};
 
 use crate::begun::place_of;
+use crate::first::push_first;
 use std::alloc::{AllocError, Global};
 use tre_feed::Readers;
 use tre_share::{Group, View, share};
@@ -29,7 +30,6 @@ pub fn text_readers(
         readers closed bytes ≡ map (λ pattern. text_reading
         (text_terms scale (names_of pattern)) closed bytes) patterns.now) }
 {
-    laws::shared();
     let shares = share(alloc, patterns)?;
     let (groups, views) = shares.into_parts();
     let mut readers = Readers::new(alloc);
@@ -58,21 +58,23 @@ fn push_text(
         (AreFresh ⟦<TextReader as TraceReader>⟧.represents readers.new) }
     ensures begun { OnOk result (groups_in ⟦<TextReader as TraceReader>⟧.terms readers.new
         ≡ terms_at (text_terms scale) groups.now begun.new.items) }
-    ensures readings { OnOk result ((closed : Bool) (bytes : List ℕ) →
+    ensures readings { (asked : Vocabulary) → IsViewOf groups.now asked view →
+        OnOk result ((closed : Bool) (bytes : List ℕ) →
         readings_in ⟦<TextReader as TraceReader>⟧.reading ⟦<TextReader as TraceReader>⟧.terms
         readers.new closed bytes
         ≡ readings_in ⟦<TextReader as TraceReader>⟧.reading
         ⟦<TextReader as TraceReader>⟧.terms readers.old closed bytes
-        ++ shown_reading view (text_reading
-        (text_terms scale (group_at groups.now (group_of view))) closed bytes) ∷ []) }
+        ++ text_reading (text_terms scale asked) closed bytes ∷ []) }
 {
+    laws::shared();
     let number = view.group();
     if let Some(place) = place_of(begun, number) {
         readers.push_view(place, view)?;
         return Ok(());
     }
-    let reader = text_reader(alloc, &groups[number], scale)?;
-    readers.push_group(alloc, reader, view)?;
+    let group = &groups[number];
+    let reader = text_reader(alloc, group, scale)?;
+    push_first(alloc, group, reader, view, readers)?;
     begun.push(number)?;
     Ok(())
 }

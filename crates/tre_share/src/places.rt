@@ -67,6 +67,14 @@ impl Places {
         Places { places, in_order }
     }
 
+    // Whether they are all places of so many names, one after the other.
+    pub(crate) fn are_all(&self, count: usize) -> bool
+        ensures { result ≡ true →
+            AreInOrder (places_of self.now) × (length (places_of self.now) ≡ count) }
+    {
+        self.in_order && self.places.len() == count
+    }
+
     /// The bits of the asked names, where these are those of all names.
     pub fn seen(&self, bits: u64) -> u64
         ensures at { result ≡ bits_at (places_of self.now) bits }

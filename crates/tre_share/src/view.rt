@@ -1,7 +1,8 @@
-ghost use Rattle.std.specs.Prelude.{◌≡◌};
+ghost use Rattle.std.specs.Prelude.{◌≡◌, true};
 ghost use Rattle.tre_parts.specs.Shared.{seen, seen_segment};
 ghost use Rattle.tre_trace.specs.Reading.{Vocabulary};
 
+use crate::group::Group;
 use crate::places::Places;
 use tre_trace::Segment;
 
@@ -22,6 +23,15 @@ impl View {
         ensures { result ≡ group_of self.now }
     {
         self.group
+    }
+
+    /// Whether it shows what the group reads as it is: then the pattern has the names of the group,
+    /// and no others.
+    pub fn shows_all(&self, group: &Group) -> bool
+        ensures { (asked : Vocabulary) → result ≡ true → Shows asked group.now self.now →
+            asked ≡ group.now }
+    {
+        self.names.are_all(group.names().len()) && self.events.are_all(group.events().len())
     }
 
     /// What a segment that was read for the group is for the pattern.

@@ -1,6 +1,8 @@
 // What one line of a text trace says.
-ghost use Rattle.std.specs.Prelude.{◌≡◌, ◌+◌, ◌≤◌, true, false, IfNone, IfSome};
+ghost use Rattle.std.specs.Prelude.{◌≡◌, ◌+◌, ◌-◌, ◌^◌, ◌≤◌, min, true, false, IfNone, IfSome};
 ghost use Rattle.std.specs.List.{list_all};
+ghost use Rattle.std.specs.Option.{option_map};
+ghost use Rattle.tre_decimal.specs.Decimal.{units_of};
 ghost use Rattle.tre_decimal.specs.declared.TheConstants.{SCALE_MAX};
 ghost use Rattle.tre_text.specs.TextReading.{begins_comment, begins_events, fields_among, spells_word, with_name, valuation_after, line_says};
 ghost use Rattle.tre_text.specs.Lines.{Finds, Heads, list_of, said_of};
@@ -59,6 +61,19 @@ fn is_events(first: &[u8]) -> bool
     first.len() == 1 && first[0] == b'@'
 }
 
+// The number of units that the field is. Most are one digit, and need no loop where a unit is a
+// tick.
+#[inline(always)]
+fn length_of(field: &[u8], scale: u8) -> Option<u64>
+    requires { scale ≤ SCALE_MAX }
+    ensures { result ≡ option_map (λ units. min units (2 ^ 64 - 1)) (units_of scale field.now) }
+{
+    if scale == 0 && field.len() == 1 && field[0].is_ascii_digit() {
+        return Some(u64::from(field[0] - b'0'));
+    }
+    read_units(field, scale)
+}
+
 // What the first field of a line says, where it is no comment.
 #[inline(always)]
 fn head_of(known: Known, first: &[u8], scale: u8) -> Result<Head, TraceKind>
@@ -68,7 +83,7 @@ fn head_of(known: Known, first: &[u8], scale: u8) -> Result<Head, TraceKind>
 {
     // For the proof: what is a number of units is no sign of events.
     begins_with_a_digit();
-    let Some(len) = read_units(first, scale) else {
+    let Some(len) = length_of(first, scale) else {
         return if is_events(first) {
             Ok(Head::Events)
         } else {

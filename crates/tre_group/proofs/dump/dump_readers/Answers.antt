@@ -3,7 +3,6 @@ use Rattle.tre_syntax.specs.Pattern.{names_of}
 use Rattle.tre_vcd.specs.VcdReading.{vcd_reading}
 use Rattle.tre_group.specs.Begun.{dump_terms}
 use Rattle.tre_group.proofs.Joining.{each_of, left_next, left_none, left_within, none_of}
-use Rattle.tre_group.proofs.Names.{dump_seen}
 use Rattle.tre_group.proofs.dump.dump_readers.Goals as goal
 
 pub push_dump-requires-clause-within : goal.push_dump-requires-clause-within
@@ -19,8 +18,7 @@ loop-view-preserved c =
       ends = search rules;
       fresh = c.in_ok-push_dump.ensures.fresh;
       begun = rw c.deref.ensures.value at c.in_ok-push_dump.ensures.begun;
-      left = left_next (dump_seen c.shared.ensures (map names_of c.args.patterns.now) c.args.scale)
-          _ c.in-Some.view _ left
+      left = left_next _ c.in-Some.view _ left
           (rw c.deref.ensures.value at c.in_ok-push_dump.ensures.readings);
     }
 

@@ -3,7 +3,6 @@ use Rattle.tre_syntax.specs.Pattern.{names_of}
 use Rattle.tre_text.specs.TextReading.{text_reading}
 use Rattle.tre_group.specs.Begun.{text_terms}
 use Rattle.tre_group.proofs.Joining.{each_of, left_next, left_none, left_within, none_of}
-use Rattle.tre_group.proofs.Names.{text_seen}
 use Rattle.tre_group.proofs.text.text_readers.Goals as goal
 
 pub push_text-requires-clause-within : goal.push_text-requires-clause-within
@@ -19,7 +18,7 @@ loop-view-preserved c =
       ends = search rules;
       fresh = c.in_ok-push_text.ensures.fresh;
       begun = rw c.deref.ensures.value at c.in_ok-push_text.ensures.begun;
-      left = left_next (text_seen c.shared.ensures c.args.scale) _ c.in-Some.view _ left
+      left = left_next _ c.in-Some.view _ left
           (rw c.deref.ensures.value at c.in_ok-push_text.ensures.readings);
     }
 

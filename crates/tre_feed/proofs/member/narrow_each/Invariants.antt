@@ -1,8 +1,8 @@
 use Rattle.std.proofs.Common.{◌≡◌, ◌++◌, map, take, drop}
-use Rattle.tre_feed.specs.Members.{segment_by}
-use Rattle.tre_feed.proofs.member.Member.narrow.Given as goal
+use Rattle.tre_share.specs.Shown.{shown_segment}
+use Rattle.tre_feed.proofs.member.narrow_each.Given as goal
 
 abbrev pub invariant-loop-segment : goal.invariant-loop-segment
 invariant-loop-segment l = l.segment-items
-    ≡ map (segment_by l.self.view) (take l.segment-index l.fn.row)
+    ≡ map (shown_segment l.view) (take l.segment-index l.fn.row)
     ++ drop l.segment-index l.fn.row

@@ -1,0 +1,23 @@
+use Rattle.std.proofs.Common.{map}
+use Rattle.tre_syntax.specs.Pattern.{names_of}
+use Rattle.tre_vcd.specs.VcdReading.{vcd_reading}
+use Rattle.tre_group.specs.Begun.{dump_terms}
+use Rattle.tre_group.proofs.Joining.{shared_told, shown_in}
+use Rattle.tre_group.proofs.Names.{dump_seen}
+use Rattle.tre_group.proofs.dump.push_dump.Goals as goal
+
+pub returns-in-Some-clause-readings : goal.returns-in-Some-clause-readings
+returns-in-Some-clause-readings c =
+    shared_told (dump_terms (map names_of c.args.patterns.now) c.args.scale) vcd_reading
+    (dump_seen c.shared.ensures (map names_of c.args.patterns.now) c.args.scale)
+    c.args.groups.now c.args.begun.now.items c.in-Some.place c.group-number.result
+    (rw c.deref.ensures.value at c.in-Some.ensures.within)
+    (rw c.deref.ensures.value at c.in-Some.ensures.there) c.args.view c.group-number.ensures _
+    c.requires.begun _ _ c.in_ok-push_view.ensures.readings
+
+pub returns-clause-readings : goal.returns-clause-readings
+returns-clause-readings c = λ asked is.
+    c.in_ok-push_first.ensures.readings (dump_terms (map names_of c.args.patterns.now) c.args.scale) asked
+    c.in_ok-reader.ensures.terms (dump_seen c.shared.ensures (map names_of c.args.patterns.now) c.args.scale)
+    (shown_in c.args.groups.now c.group-number.result c.index-groups-number.result
+    c.index-groups-number.is c.args.view c.group-number.ensures asked is)
