@@ -19,7 +19,7 @@ use Rattle.tre_feed.specs.declared.fed.Fed.{Fed}
 use Rattle.tre_feed.specs.declared.leaders.Leaders.{Leaders}
 use Rattle.tre_feed.specs.declared.member.Member.{Member}
 use Rattle.tre_feed.specs.declared.readers.Readers.{Readers}
-use Rattle.tre_feed.proofs.Alike.{common_fault}
+use Rattle.tre_feed.proofs.Alike.{AreLevel-none, common_fault}
 use Rattle.tre_feed.proofs.Changed.{All-first, All-rest}
 use Rattle.tre_feed.proofs.Members.{AddsEach-for, All-for, AreLevel-back, AreLevel-for, alike-back, get_or-mapped, lasts-for, none-back}
 use Rattle.tre_feed.proofs.Read.{count_led, within_led}
@@ -67,6 +67,16 @@ module _ {R : Type 0} (leaders : Leaders R) (members : List Member)
       → All (λ row. row ≡ []) (map (row_for (rows_led leaders)) members)
   none_seen none = All-for row_by [] (λ row. row ≡ []) (λ row. row ≡ [])
       (λ view row is. ap (row_by view) is) (rows_led leaders) members within_rows none
+
+-- Readers whose leaders have read nothing have read nothing.
+pub fresh_seen : {R : Type 0} {represents : R → List ℕ → Type 0} (readers : Readers R)
+    → AreNew represents readers.leaders → AreFresh represents readers
+fresh_seen readers new =
+    let none = none_seen readers.leaders readers.members.items readers.within new.none in
+    record {
+      fed = record { each = new.each; level = AreLevel-none _ none };
+      none = none;
+    }
 
 -- all members have the fault that their leaders have
 common_seen : (nows : List Reading) (members : List Member) (fault : TraceFault)

@@ -1,48 +1,19 @@
-use Rattle.std.proofs.Common.{◌≡◌, ◌∙◌, ◌+◌, ◌-◌, ◌++◌, ◌∷◌, List, [], length, map, take, sym, ap, subst, arith, length-append}
+use Rattle.std.proofs.Common.{◌≡◌, ◌+◌, ◌∷◌, [], length, map, ap, arith, length-append}
 use Rattle.std.proofs.lemmas.List.{length-map}
-use Rattle.tre_feed.specs.Members.{AreWithin}
 use Rattle.tre_feed.specs.declared.fed.Fed.{Fed}
 use Rattle.tre_feed.specs.declared.member.Member.{Member}
-use Rattle.tre_feed.proofs.Alike.{AreLevel-none}
-use Rattle.tre_feed.proofs.Groups.{lead-push, led_fresh, none_seen, take-front, within-more, within-push}
+use Rattle.tre_feed.proofs.Groups.{fresh_seen, lead-push, led_fresh, within-more, within-push}
 use Rattle.tre_feed.proofs.readers.Readers.push_leader.Goals as goal
 
 pub returns-in_err-push-clause-fresh : goal.returns-in_err-push-clause-fresh
 returns-in_err-push-clause-fresh g c =
-    let others = c.requires.others in
-    record {
-      fed = record {
-        each = others.fed.each;
-        level = rw c.in_err-push.ensures.items others.fed.level;
-      };
-      none = rw c.in_err-push.ensures.items others.none;
-    }
+    fresh_seen _ (led_fresh c.args.self.now c.requires.others)
 
 pub push-requires-2-clause-others : goal.push-requires-2-clause-others
 push-requires-2-clause-others g c = led_fresh c.args.self.now c.requires.others
 
 pub returns-in-Err-clause-fresh : goal.returns-in-Err-clause-fresh
-returns-in-Err-clause-fresh g c =
-    let readers = c.args.self.now in
-    let olds = readers.members.items in
-    let leaders = c.push-2.new.self in
-    let one : Member = record { leader = c.len-leader.result; view = c.args.view } in
-    let count : c.push.new.self.len - 1 ≡ length olds =
-    omega (arith, c.in_ok-push.ensures.len, readers.members.ok.0) in
-    let same : c.pop.new.self.items ≡ olds =
-    c.pop.ensures.rest ∙ (ap (λ n. take n c.push.new.self.items) count
-    ∙ (ap (take (length olds)) c.in_ok-push.ensures.items ∙ take-front olds (one ∷ []))) in
-    let within : AreWithin (length leaders.each.items) olds =
-    subst (λ (all : List (Fed g.row.R.Denot)). AreWithin (length all) olds)
-    (sym c.in-Err.ensures.same) readers.within in
-    let none = none_seen leaders olds within c.in-Err.ensures.fresh.none in
-    record {
-      fed = record {
-        each = c.in-Err.ensures.fresh.each;
-        level = rw same (AreLevel-none _ none);
-      };
-      none = rw same none;
-    }
+returns-in-Err-clause-fresh g c = fresh_seen _ c.in-Err.ensures.fresh
 
 pub invariant_of-self-in-Ok : goal.invariant_of-self-in-Ok
 invariant_of-self-in-Ok g c =
@@ -70,30 +41,4 @@ invariant_of-self-in-Ok g c =
     }
 
 pub returns-in-Ok-clause-fresh : goal.returns-in-Ok-clause-fresh
-returns-in-Ok-clause-fresh g c =
-    let readers = c.args.self.now in
-    let olds = readers.members.items in
-    let old_count = length readers.leaders.each.items in
-    let leaders = c.push-2.new.self in
-    let terms : Fed g.row.R.Denot → g.R.TraceReader.Terms =
-    λ fed. g.R.TraceReader.terms fed.reader in
-    let one : Member = record { leader = c.len-leader.result; view = c.args.view } in
-    let count : length leaders.each.items ≡ old_count + 1 = omega (
-      arith,
-      length-map leaders.each.items terms,
-      length-map readers.leaders.each.items terms,
-      ap length c.in-Ok.ensures.terms,
-      length-append (map terms readers.leaders.each.items)
-          (g.R.TraceReader.terms c.args.reader ∷ []),
-    ) in
-    let within : AreWithin (length leaders.each.items) (olds ++ one ∷ []) =
-    subst (λ n. AreWithin n (olds ++ one ∷ [])) (sym count) (within-push (old_count + 1) olds one
-    (omega (arith, c.len-leader.ensures)) (within-more (omega arith) olds readers.within)) in
-    let none = none_seen leaders (olds ++ one ∷ []) within c.in-Ok.ensures.fresh.none in
-    record {
-      fed = record {
-        each = c.in-Ok.ensures.fresh.each;
-        level = rw c.in_ok-push.ensures.items (AreLevel-none _ none);
-      };
-      none = rw c.in_ok-push.ensures.items none;
-    }
+returns-in-Ok-clause-fresh g c = fresh_seen _ c.in-Ok.ensures.fresh

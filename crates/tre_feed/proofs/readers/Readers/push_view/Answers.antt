@@ -1,9 +1,8 @@
-use Rattle.std.proofs.Common.{◌≡◌, ◌<◌, ◌++◌, ◌∷◌, [], length, Option, None, Some, IfSome, refl, subst}
+use Rattle.std.proofs.Common.{◌≡◌, ◌<◌, length, Option, None, Some, IfSome, refl, subst}
 use Rattle.std.proofs.lemmas.List.{length-map}
 use Rattle.tre_feed.specs.Members.{AllLead, AreWithin}
 use Rattle.tre_feed.specs.declared.member.Member.{Member}
-use Rattle.tre_feed.proofs.Alike.{AreLevel-none}
-use Rattle.tre_feed.proofs.Groups.{lead-more, led_fresh, none_seen, pushed_or_not, view_pushed, within-push}
+use Rattle.tre_feed.proofs.Groups.{fresh_seen, lead-more, led_fresh, pushed_or_not, view_pushed, within-push}
 use Rattle.tre_feed.proofs.readers.Readers.push_view.Goals as goal
 
 if_some : {A : Type 0} (option : Option A) (P : A → Type 0)
@@ -31,33 +30,10 @@ invariant_of-self g c =
 
 pub returns-in_err-push-clause-fresh : goal.returns-in_err-push-clause-fresh
 returns-in_err-push-clause-fresh g c =
-    let others = c.requires.others in
-    record {
-      fed = record {
-        each = others.fed.each;
-        level = rw c.in_err-push.ensures.items others.fed.level;
-      };
-      none = rw c.in_err-push.ensures.items others.none;
-    }
+    fresh_seen _ (led_fresh c.args.self.now c.requires.others)
 
 pub returns-clause-fresh : goal.returns-clause-fresh
-returns-clause-fresh g c =
-    let readers = c.args.self.now in
-    let one : Member = record { leader = c.args.group; view = Some c.args.view } in
-    let below : c.args.group < length readers.leaders.each.items =
-    subst (λ count. c.args.group < count)
-    (length-map readers.leaders.each.items (λ fed. g.R.TraceReader.terms fed.reader))
-    c.requires.group in
-    let none = none_seen readers.leaders (readers.members.items ++ one ∷ [])
-    (within-push (length readers.leaders.each.items) readers.members.items one below
-    readers.within) (led_fresh readers c.requires.others).none in
-    record {
-      fed = record {
-        each = c.requires.others.fed.each;
-        level = rw c.in_ok-push.ensures.items (AreLevel-none _ none);
-      };
-      none = rw c.in_ok-push.ensures.items none;
-    }
+returns-clause-fresh g c = fresh_seen _ (led_fresh c.args.self.now c.requires.others)
 
 pub returns-clause-readings : goal.returns-clause-readings
 returns-clause-readings g c =
