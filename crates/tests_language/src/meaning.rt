@@ -68,11 +68,16 @@ fn is_only_match(pattern: &Pattern, trace: &Trace, from: u8, to: u8) -> bool {
     true
 }
 
+// Whether a pulse of p, which lasts three ticks from the second on, is the only match of its form.
+fn is_from_edge_to_edge(alloc: Global) -> Result<bool, Fail> {
+    let pattern = parse(alloc, "<:p:>", 0)?;
+    let trace = trace_of(alloc, &[(2, 0), (3, 1), (1, 0)])?;
+    Ok(is_only_match(&pattern, &trace, 4, 10))
+}
+
 #[test]
 fn a_pulse_is_matched_from_edge_to_edge(rt: HostRuntime) -> Result<(), Fail> {
-    let pattern = parse(rt.alloc(), "<:p:>", 0)?;
-    let trace = trace_of(rt.alloc(), &[(2, 0), (3, 1), (1, 0)])?;
-    assert!(rt; is_only_match(&pattern, &trace, 4, 10));
+    assert!(rt; is_from_edge_to_edge(rt.alloc())?);
     Ok(())
 }
 
@@ -112,16 +117,19 @@ const EVENTS: [(&str, Happenings, Stretch, bool); 14] = [
     ),
 ];
 
+// Whether the pattern matches the stretch of the trace, if a match needs at most one cut.
+fn happen(alloc: Global, text: &str, trace: &Happenings, stretch: &Stretch) -> Result<bool, Fail> {
+    let pattern = parse(alloc, text, 0)?;
+    let trace = trace_with(alloc, trace.0, trace.1)?;
+    let (a, b, n) = *stretch;
+    Ok(decide(&pattern, &trace, a, b, n, 1))
+}
+
 #[test]
 fn events_have_numbers_of_their_own(rt: HostRuntime) -> Result<(), Fail> {
     for (text, trace, stretch, want) in &EVENTS {
-        let pattern = parse(rt.alloc(), *text, 0)?;
-        let trace = trace_with(rt.alloc(), trace.0, trace.1)?;
-        let (a, b, n) = *stretch;
-        assert!(rt;
-            decide(&pattern, &trace, a, b, n, 1) == *want,
-            "{text} on {stretch:?}"
-        );
+        let found = happen(rt.alloc(), *text, trace, stretch)?;
+        assert!(rt; found == *want, "{text} on {stretch:?}");
     }
     Ok(())
 }
@@ -183,14 +191,72 @@ fn nodes(alloc: Global, expr: Expr, names: &str, events: &str) -> Result<Option<
     }
 }
 
+// Expressions that are made by calls.
+#[derive(Clone, Copy, Debug)]
+enum Form {
+    // `eps`
+    Eps,
+    // `p`
+    P,
+    // `p ; q`
+    Turns,
+    // `q ; p`
+    Back,
+    // As many events from number 0 on, one or another.
+    Events(u8),
+    // The event of this number.
+    Event(u8),
+    // As many negations of p.
+    Negations(u32),
+    // As many sequences, each in the first part of another.
+    LeftComb(u32),
+    // As many sequences, each in the second part of another.
+    RightComb(u32),
+}
+
+fn made(alloc: Global, form: Form) -> Result<Expr, AllocError> {
+    match form {
+        Form::Eps => Ok(Expr::Eps),
+        Form::P => Ok(p()),
+        Form::Turns => sequence(alloc, p(), q()),
+        Form::Back => sequence(alloc, q(), p()),
+        Form::Events(count) => events(alloc, count),
+        Form::Event(number) => Ok(Expr::Event(number)),
+        Form::Negations(count) => negations(alloc, count),
+        Form::LeftComb(count) => left_comb(alloc, count),
+        Form::RightComb(count) => right_comb(alloc, count),
+    }
+}
+
+// The same of an expression that is made.
+fn nodes_of(alloc: Global, form: Form, names: &str, events: &str) -> Result<Option<u64>, Fail> {
+    let expr = made(alloc, form)?;
+    nodes(alloc, expr, names, events)
+}
+
+// Expressions, the names of their propositions and of their events, and how many nodes there are.
+const NODES: [(Form, &str, &str, Option<u64>); 11] = [
+    (Form::P, "p", "", Some(2)),
+    (Form::Turns, "p q", "", Some(5)),
+    // One name too many, and numbers out of order.
+    (Form::Eps, "p", "", None),
+    (Form::Back, "p q", "", None),
+    (Form::Event(0), "", "a b", None),
+    (Form::Event(0), "a", "", None),
+    (Form::Event(1), "", "a b", None),
+    // A thousand nodes of any shape.
+    (Form::Negations(998), "p", "", Some(1000)),
+    (Form::Negations(999), "p", "", None),
+    (Form::LeftComb(332), "p", "", Some(998)),
+    (Form::RightComb(332), "p", "", Some(998)),
+];
+
 #[test]
 fn a_pattern_has_its_nodes(rt: HostRuntime) -> Result<(), Fail> {
-    let alloc = rt.alloc();
-    assert!(rt; nodes(alloc, p(), "p", "")? == Some(2));
-    assert!(rt; nodes(alloc, sequence(alloc, p(), q())?, "p q", "")? == Some(5));
-    // One name too many, and numbers out of order.
-    assert!(rt; nodes(alloc, Expr::Eps, "p", "")?.is_none());
-    assert!(rt; nodes(alloc, sequence(alloc, q(), p())?, "p q", "")?.is_none());
+    for (form, names, events, count) in &NODES {
+        let found = nodes_of(rt.alloc(), *form, *names, *events)?;
+        assert!(rt; found == *count, "{form:?}");
+    }
     Ok(())
 }
 
@@ -214,25 +280,16 @@ fn event_names(alloc: Global, count: u8) -> Result<String, AllocError> {
     Ok(text)
 }
 
-#[test]
-fn a_pattern_has_a_name_for_each_event(rt: HostRuntime) -> Result<(), Fail> {
-    let alloc = rt.alloc();
+// How many nodes there are of so many events, with 64 names.
+fn event_nodes(alloc: Global, count: u8) -> Result<Option<u64>, Fail> {
     let names = event_names(alloc, 64)?;
-    assert!(rt; nodes(alloc, events(alloc, 64)?, "", names.as_str())? == Some(127));
-    assert!(rt; nodes(alloc, events(alloc, 65)?, "", names.as_str())?.is_none());
-    assert!(rt; nodes(alloc, Expr::Event(0), "", "a b")?.is_none());
-    assert!(rt; nodes(alloc, Expr::Event(0), "a", "")?.is_none());
-    assert!(rt; nodes(alloc, Expr::Event(1), "", "a b")?.is_none());
-    Ok(())
+    nodes_of(alloc, Form::Events(count), "", names.as_str())
 }
 
 #[test]
-fn a_thousand_nodes_of_any_shape_are_a_pattern(rt: HostRuntime) -> Result<(), Fail> {
-    let alloc = rt.alloc();
-    assert!(rt; nodes(alloc, negations(alloc, 998)?, "p", "")? == Some(1000));
-    assert!(rt; nodes(alloc, negations(alloc, 999)?, "p", "")?.is_none());
-    assert!(rt; nodes(alloc, left_comb(alloc, 332)?, "p", "")? == Some(998));
-    assert!(rt; nodes(alloc, right_comb(alloc, 332)?, "p", "")? == Some(998));
+fn a_pattern_has_a_name_for_each_event(rt: HostRuntime) -> Result<(), Fail> {
+    assert!(rt; event_nodes(rt.alloc(), 64)? == Some(127));
+    assert!(rt; event_nodes(rt.alloc(), 65)?.is_none());
     Ok(())
 }
 
@@ -252,12 +309,20 @@ fn the_deepest_pattern_is_copied(rt: HostRuntime) -> Result<(), Fail> {
     Ok(())
 }
 
+// Whether a copy of the pattern is the same, with these second names of its propositions and of its
+// events.
+fn is_copied(alloc: Global, text: &str, name: &str, event: &str) -> Result<bool, Fail> {
+    let pattern = parse(alloc, text, 0)?;
+    let copy = pattern.try_clone(alloc)?;
+    Ok(
+        copy.expr() == pattern.expr()
+            && copy.names().name(1) == Some(name)
+            && copy.events().name(1) == Some(event),
+    )
+}
+
 #[test]
 fn a_copy_of_a_pattern_is_the_pattern(rt: HostRuntime) -> Result<(), Fail> {
-    let pattern = parse(rt.alloc(), "p;q;event(a);event(p)", 0)?;
-    let copy = pattern.try_clone(rt.alloc())?;
-    assert!(rt; copy.expr() == pattern.expr());
-    assert!(rt; copy.names().name(1) == Some("q"));
-    assert!(rt; copy.events().name(1) == Some("p"));
+    assert!(rt; is_copied(rt.alloc(), "p;q;event(a);event(p)", "q", "p")?);
     Ok(())
 }

@@ -189,11 +189,16 @@ fn limits(rt: HostRuntime) -> Result<(), Fail> {
     Ok(())
 }
 
+// How many nodes the pattern has that the text spells.
+fn node_count(alloc: Global, text: &str) -> Result<u64, ParseFault> {
+    let pattern = parse(alloc, text, 0)?;
+    Ok(pattern.nodes())
+}
+
 // Seven times "once or more" is a pattern still.
 #[test]
-fn nodes(rt: HostRuntime) -> Result<(), Fail> {
-    assert!(rt; parse(rt.alloc(), "p+++++++", 0)?.nodes() == 510);
-    Ok(())
+fn nodes(rt: HostRuntime) {
+    assert!(rt; node_count(rt.alloc(), "p+++++++") == Ok(510));
 }
 
 // A text with so many brackets of a kind open: what stands before, the bracket, what stands inside,
@@ -322,18 +327,31 @@ const KINDS: [(&str, &str, &str); 4] = [
     ("rise(q);p;(event ( p ))*", "q p ", "p "),
 ];
 
-#[test]
-fn propositions_and_events_have_names_of_their_own(rt: HostRuntime) -> Result<(), Fail> {
-    for (text, propositions, events) in &KINDS {
-        let pattern = parse(rt.alloc(), *text, 0)?;
-        let names = joined(rt.alloc(), pattern.names())?;
-        let others = joined(rt.alloc(), pattern.events())?;
-        assert!(rt;
-            names.as_str() == *propositions && others.as_str() == *events,
-            "{text}"
-        );
+// Whether the names are these, in the order of their numbers, each with a space behind it.
+fn are(alloc: Global, names: &Names, text: &str) -> bool {
+    match joined(alloc, names) {
+        Ok(joined) => joined.as_str() == text,
+        Err(_) => false,
     }
-    Ok(())
+}
+
+// Whether the pattern that the text spells has these propositions and these events.
+fn has_names(
+    alloc: Global,
+    text: &str,
+    propositions: &str,
+    events: &str,
+) -> Result<bool, ParseFault> {
+    let pattern = parse(alloc, text, 0)?;
+    Ok(are(alloc, pattern.names(), propositions) && are(alloc, pattern.events(), events))
+}
+
+#[test]
+fn propositions_and_events_have_names_of_their_own(rt: HostRuntime) {
+    for (text, propositions, events) in &KINDS {
+        let same = has_names(rt.alloc(), *text, *propositions, *events);
+        assert!(rt; same == Ok(true), "{text}");
+    }
 }
 
 // The operator at the root of an expression.

@@ -41,15 +41,23 @@ fn ends_with_q(names: &Names) -> bool {
     names.len() == 2 && names.name(1) == Some("q") && names.name(2).is_none()
 }
 
+// The number that the text gets, or why it gets none; None where it is no name.
+fn numbered(names: &mut Names, text: &str) -> Option<Result<u8, NameFault>> {
+    if is_name(text) {
+        return Some(names.number(text));
+    }
+    None
+}
+
 #[test]
 fn names_are_numbered_once(rt: HostRuntime) -> Result<(), Fail> {
     let mut names = Names::new(rt.alloc());
-    assert!(rt; is_name("p") && is_name("q"));
-    assert!(rt; names.number("p") == Ok(0));
-    assert!(rt; names.number("q") == Ok(1));
-    assert!(rt; names.number("p") == Ok(0));
+    assert!(rt; numbered(&mut names, "p") == Some(Ok(0)));
+    assert!(rt; numbered(&mut names, "q") == Some(Ok(1)));
+    assert!(rt; numbered(&mut names, "p") == Some(Ok(0)));
     assert!(rt; names.find("r").is_none());
-    assert!(rt; ends_with_q(&names.try_clone()?));
+    let copy = names.try_clone()?;
+    assert!(rt; ends_with_q(&copy));
     Ok(())
 }
 
@@ -68,9 +76,8 @@ fn sixty_four(alloc: Global) -> Result<Names, Fail> {
 #[test]
 fn the_sixty_fifth_name_is_refused(rt: HostRuntime) -> Result<(), Fail> {
     let mut names = sixty_four(rt.alloc())?;
-    assert!(rt; is_name("p63") && is_name("q"));
-    assert!(rt; names.number("p63") == Ok(63));
-    assert!(rt; names.number("q") == Err(NameFault::TooMany));
+    assert!(rt; numbered(&mut names, "p63") == Some(Ok(63)));
+    assert!(rt; numbered(&mut names, "q") == Some(Err(NameFault::TooMany)));
     assert!(rt; names.len() == 64);
     Ok(())
 }

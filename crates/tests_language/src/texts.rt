@@ -1,5 +1,5 @@
 // Tests of tre_show.
-use std::alloc::Global;
+use std::alloc::{AllocError, Global};
 use std::test::Fail;
 use tests_support::{set_of, zone_of};
 use tre_decimal::SCALE_MAX;
@@ -31,11 +31,15 @@ fn printed(alloc: Global, text: &str, scale: u8) -> Result<String, Fail> {
     Ok(printed)
 }
 
+// Whether that is this text.
+fn is_printed(alloc: Global, text: &str, scale: u8, want: &str) -> Result<bool, Fail> {
+    Ok(printed(alloc, text, scale)?.as_str() == want)
+}
+
 #[test]
 fn the_text_of_a_pattern_has_only_the_brackets_that_it_needs(rt: HostRuntime) -> Result<(), Fail> {
     for (text, want) in &PATTERNS {
-        let printed = printed(rt.alloc(), *text, 0)?;
-        assert!(rt; printed.as_str() == *want, "{text}");
+        assert!(rt; is_printed(rt.alloc(), *text, 0, *want)?, "{text}");
     }
     Ok(())
 }
@@ -60,17 +64,25 @@ fn the_numbers_of_a_pattern_have_as_many_decimals_as_the_scale(
     rt: HostRuntime,
 ) -> Result<(), Fail> {
     for (text, scale, want) in &SCALED {
-        let printed = printed(rt.alloc(), *text, *scale)?;
-        assert!(rt; printed.as_str() == *want, "{text} {scale}");
+        assert!(rt;
+            is_printed(rt.alloc(), *text, *scale, *want)?,
+            "{text} {scale}"
+        );
     }
     Ok(())
 }
 
+// The line of the zone, behind another text.
+fn behind_text(alloc: Global, zone: &Zone, scale: u8) -> Result<String, AllocError> {
+    let mut out = String::from_str(alloc, "at 3\n")?;
+    zone_line(zone, scale.min(SCALE_MAX), &mut out)?;
+    Ok(out)
+}
+
 #[test]
 fn a_zone_is_a_line(rt: HostRuntime) -> Result<(), Fail> {
-    let mut out = String::from_str(rt.alloc(), "at 3\n")?;
-    zone_line(&Zone::span(0, 3), 0, &mut out)?;
-    assert!(rt; out.as_str() == "at 3\n[0,3) (0,3] (0,3]\n");
+    let text = behind_text(rt.alloc(), &Zone::span(0, 3), 0)?;
+    assert!(rt; text.as_str() == "at 3\n[0,3) (0,3] (0,3]\n");
     Ok(())
 }
 
@@ -120,33 +132,39 @@ const LINES: [(&str, u8, &str); 13] = [
 // The line of a zone at a scale, behind another text.
 fn line_at(alloc: Global, line: &str, scale: u8) -> Result<String, Fail> {
     let zone = zone_of(line).ok_or("no zone")?;
-    let mut out = String::from_str(alloc, "at 3\n")?;
-    zone_line(&zone, scale.min(SCALE_MAX), &mut out)?;
-    Ok(out)
+    Ok(behind_text(alloc, &zone, scale)?)
+}
+
+// Whether that is this line, behind the other text.
+fn is_line_at(alloc: Global, line: &str, scale: u8, want: &str) -> Result<bool, Fail> {
+    Ok(line_at(alloc, line, scale)?.as_str().lines().nth(1) == Some(want))
 }
 
 #[test]
 fn the_numbers_of_a_line_have_as_many_decimals_as_the_scale(rt: HostRuntime) -> Result<(), Fail> {
     for (line, scale, want) in &LINES {
-        let text = line_at(rt.alloc(), *line, *scale)?;
-        assert!(rt; text.as_str().lines().nth(1) == Some(*want), "{want}");
+        assert!(rt; is_line_at(rt.alloc(), *line, *scale, *want)?, "{want}");
     }
     Ok(())
 }
 
-#[test]
-fn nothing_of_a_long_line_stays_in_the_next(rt: HostRuntime) -> Result<(), Fail> {
+// The lines of a late zone, and of an early one behind it.
+fn late_and_early(alloc: Global) -> Result<String, AllocError> {
     let zones = [
         Zone::span(1099511627774, 1099511627776),
         Zone::instants(7, 7),
     ];
-    let mut out = String::new(rt.alloc());
+    let mut out = String::new(alloc);
     zone_lines(&zones, 0, &mut out)?;
-    let mut lines = out.as_str().lines();
-    let long = "[1099511627774,1099511627776) (1099511627774,1099511627776] (0,2]";
-    assert!(rt; lines.next() == Some(long));
-    assert!(rt; lines.next() == Some("[7,7] [7,7] [0,0]"));
-    assert!(rt; lines.next() == None);
+    Ok(out)
+}
+
+#[test]
+fn nothing_of_a_long_line_stays_in_the_next(rt: HostRuntime) -> Result<(), Fail> {
+    let text = late_and_early(rt.alloc())?;
+    let want = "[1099511627774,1099511627776) (1099511627774,1099511627776] (0,2]\n\
+        [7,7] [7,7] [0,0]\n";
+    assert!(rt; text.as_str() == want);
     Ok(())
 }
 
@@ -157,26 +175,41 @@ fn whole(alloc: Global, lines: &[&str], end: u64, scale: u8) -> Result<String, F
     Ok(text)
 }
 
-#[test]
-fn lines_are_in_rising_order(rt: HostRuntime) -> Result<(), Fail> {
-    let lines = [
-        "[5,9) (5,9] (0,4]",
-        "[2,2] [2,2] [0,0]",
-        "[0,3) (0,3] (0,3]",
-    ];
-    let text = whole(rt.alloc(), &lines, 9, 0)?;
-    let want = "[0,3) (0,3] (0,3]\n[2,2] [2,2] [0,0]\n[5,9) (5,9] (0,4]\nend 9\n";
-    assert!(rt; text.as_str() == want);
-    Ok(())
+// Lines of zones, the end of the trace, a scale, and the text of the whole match.
+const WHOLE: [(&[&str], u8, u8, &str); 3] = [
+    // In rising order.
+    (
+        &[
+            "[5,9) (5,9] (0,4]",
+            "[2,2] [2,2] [0,0]",
+            "[0,3) (0,3] (0,3]",
+        ],
+        9,
+        0,
+        "[0,3) (0,3] (0,3]\n[2,2] [2,2] [0,0]\n[5,9) (5,9] (0,4]\nend 9\n",
+    ),
+    // The end has as many decimals as the scale.
+    (
+        &["[0,5) (0,5] (0,5]", "[5,5] [5,5] [0,0]"],
+        10,
+        1,
+        "[0.0,0.5) (0.0,0.5] (0.0,0.5]\n[0.5,0.5] [0.5,0.5] [0.0,0.0]\nend 1.0\n",
+    ),
+    (&[], 1, 9, "end 0.000000001\n"),
+];
+
+// Whether that is this text.
+fn is_whole(alloc: Global, lines: &[&str], end: u8, scale: u8, want: &str) -> Result<bool, Fail> {
+    Ok(whole(alloc, lines, u64::from(end), scale)?.as_str() == want)
 }
 
 #[test]
-fn the_end_has_as_many_decimals_as_the_scale(rt: HostRuntime) -> Result<(), Fail> {
-    let lines = ["[0,5) (0,5] (0,5]", "[5,5] [5,5] [0,0]"];
-    let text = whole(rt.alloc(), &lines, 10, 1)?;
-    let want = "[0.0,0.5) (0.0,0.5] (0.0,0.5]\n[0.5,0.5] [0.5,0.5] [0.0,0.0]\nend 1.0\n";
-    assert!(rt; text.as_str() == want);
-    let none = whole(rt.alloc(), &[], 1, 9)?;
-    assert!(rt; none.as_str() == "end 0.000000001\n");
+fn whole_matches_are_lines_and_their_end(rt: HostRuntime) -> Result<(), Fail> {
+    for (lines, end, scale, want) in &WHOLE {
+        assert!(rt;
+            is_whole(rt.alloc(), *lines, *end, *scale, *want)?,
+            "{want}"
+        );
+    }
     Ok(())
 }
