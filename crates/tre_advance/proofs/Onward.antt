@@ -397,11 +397,11 @@ module _ (piece : Piece) (one other one' other' : MarkTree) (left right : Patter
 module _ (piece : Piece) (here enter : List ZoneBounds) (body : MarkTree) (tree : PatternTree)
     (ends : EndAt piece.begin here)
     (between : EndBetween piece.begin (end_of_piece piece) enter) where
-  abbrev From : Rest → Pairs
+  abbrev pub From : Rest → Pairs
   From rest = Starts piece here enter body tree ends between rest
 
   -- What a repetition goes on with: any number of matches behind all that may start one.
-  from_starts : (next : Timeline) → Agree
+  pub from_starts : (next : Timeline) → Agree
       (Onward (over piece next) (repetition_mark here body) (repetition tree) enter)
       (Composed (From (over piece next)) (MatchesRest (repetition tree) (over piece next)))
   from_starts next =

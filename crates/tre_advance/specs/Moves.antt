@@ -8,7 +8,7 @@ use Rattle.tre_zone.specs.declared.zone_bounds.ZoneBounds.{ZoneBounds}
 use Rattle.tre_trace.specs.Trace.{Timeline, quiet, AreLong}
 use Rattle.tre_syntax.specs.Cut.{uncut, back_of}
 use Rattle.tre_syntax.specs.Meaning.{MatchesRest}
-use Rattle.tre_syntax.specs.PatternTree.{PatternTree, empty, literal, rise, fall, event, atom}
+use Rattle.tre_syntax.specs.PatternTree.{PatternTree, empty, literal, rise, fall, event, atom, repetition}
 use Rattle.tre_edges.specs.declared.piece.Piece.{Piece}
 use Rattle.tre_mark.specs.MarkTree.{MarkTree, repetition_mark}
 use Rattle.tre_mark.specs.Marked.{CanTakeIn, Marked, EndBetween, IsWellAt}
@@ -78,3 +78,8 @@ IsLiteralTree (atom (rise state)) = ⊥
 IsLiteralTree (atom (fall state)) = ⊥
 IsLiteralTree (atom (event number)) = ⊥
 IsLiteralTree tree = ⊥
+
+-- The expression is a repetition.
+abbrev pub IsRepetitionTree : PatternTree → Type 0
+IsRepetitionTree (repetition tree) = Unit {0}
+IsRepetitionTree tree = ⊥

@@ -3,25 +3,25 @@ ghost use Rattle.std.specs.Prelude.{◌≡◌, List, [], ◌⊎◌, IfOk};
 ghost use Rattle.tre_state.specs.declared.names.TheConstants.{NAMES_MAX};
 ghost use Rattle.tre_syntax.specs.Expr.{tree_of};
 ghost use Rattle.tre_syntax.specs.PatternTree.{PatternTree, NumbersBelow, sequence, alternation, intersection, repetition, restriction};
-ghost use Rattle.tre_zone.specs.Held.{EndBy};
+ghost use Rattle.tre_zone.specs.Held.{EndAt, EndBy};
 ghost use Rattle.tre_zone.specs.Interval.{IntervalEnds};
 ghost use Rattle.tre_zone.specs.declared.zone_bounds.ZoneBounds.{ZoneBounds};
 ghost use Rattle.tre_edges.specs.declared.piece.Piece.{Piece};
-ghost use Rattle.tre_mark.specs.MarkTree.{MarkTree, mark_of, sequence_mark, alternation_mark, intersection_none, restriction_none};
+ghost use Rattle.tre_mark.specs.MarkTree.{MarkTree, mark_of, sequence_mark, alternation_mark, repetition_mark, intersection_none, restriction_none};
 ghost use Rattle.tre_mark.specs.Marked.{EndBetween, IsWellAt};
 ghost use Rattle.tre_edges.specs.Piece.{end_of_piece};
 ghost use Rattle.tre_advance.specs.Advance.{Advances};
 ghost use Rattle.tre_advance.specs.Instances.{IsRestriction, IsIntersection};
-ghost use Rattle.tre_advance.specs.Moves.{AreMomentsFor, IsBriefTree, IsLiteralTree};
+ghost use Rattle.tre_advance.specs.Moves.{AreMomentsFor, IsBriefTree, IsLiteralTree, IsRepetitionTree};
 
 use crate::atoms::{advance_brief, advance_literal};
 use crate::enter::{enter, entered, moments_of, unbegun};
 use crate::instances::{leave_both, leave_lasting, tell_both, tell_lasting};
-use crate::sets::{are_instants, joined};
+use crate::sets::{are_instants, joined, joined_both};
 use crate::stepping::{Advanced, leave_again, repeat, starts_again};
 use std::alloc::{AllocError, Global};
 use tre_edges::Piece;
-use tre_mark::{Mark, alternation, sequence};
+use tre_mark::{Mark, alternation, repetition, sequence};
 use tre_syntax::Expr;
 use tre_zone::Interval;
 use tre_zoneset::ZoneSet;
@@ -292,16 +292,66 @@ fn advance_repetition(
         entering.now piece.now r.told (mark_of r.rest)) }
 {
     match mark {
-        Mark::Star { here, body: inner } => {
-            let none = ZoneSet::new(alloc);
-            let next = advance(alloc, inner, body, &none, piece)?;
-            let starts = starts_again(next.told, here, entering)?;
-            let told = repeat(alloc, starts, body, piece)?;
-            let entered = enter(alloc, next.rest, body, &told, piece)?;
-            leave_again(alloc, none, told, entered.rest, piece)
-        }
+        Mark::Star { here, body: inner } => match body {
+            Expr::Star(_) => advance_nested(alloc, here, inner, body, entering, piece),
+            _ => advance_body(alloc, here, inner, body, entering, piece),
+        },
         _ => unreachable!(),
     }
+}
+
+// A repetition of a repetition means what the inner one does: that goes on alone, behind the pairs
+// that are here too, and keeps what it tells. So each level costs one step.
+#[cycle(advance)]
+fn advance_nested(
+    alloc: Global,
+    here: &ZoneSet,
+    inner: &Mark,
+    body: &Expr,
+    entering: &ZoneSet,
+    piece: &Piece,
+) -> Result<Advanced, AllocError>
+    requires numbers { NumbersBelow NAMES_MAX (tree_of body.now) }
+    requires nested { IsRepetitionTree (tree_of body.now) }
+    requires well { IsWellAt piece.now.begin (mark_of inner.now) (tree_of body.now) }
+    requires ends { EndAt piece.now.begin here.now }
+    requires enter { EndBetween piece.now.begin (end_of_piece piece.now) entering.now }
+    ensures { IfOk result (λ r. Advances (repetition_mark here.now (mark_of inner.now))
+        (repetition (tree_of body.now)) entering.now piece.now r.told (mark_of r.rest)) }
+{
+    let starts = joined_both(alloc, here, entering)?;
+    let next = advance(alloc, inner, body, &starts, piece)?;
+    let none = ZoneSet::new(alloc);
+    let rest = repetition(alloc, none, next.rest)?;
+    Ok(Advanced {
+        told: next.told,
+        rest,
+    })
+}
+
+// The body goes on, and begins again behind each pair behind which it may.
+#[cycle(advance)]
+fn advance_body(
+    alloc: Global,
+    here: &ZoneSet,
+    inner: &Mark,
+    body: &Expr,
+    entering: &ZoneSet,
+    piece: &Piece,
+) -> Result<Advanced, AllocError>
+    requires numbers { NumbersBelow NAMES_MAX (tree_of body.now) }
+    requires well { IsWellAt piece.now.begin (mark_of inner.now) (tree_of body.now) }
+    requires ends { EndAt piece.now.begin here.now }
+    requires enter { EndBetween piece.now.begin (end_of_piece piece.now) entering.now }
+    ensures { IfOk result (λ r. Advances (repetition_mark here.now (mark_of inner.now))
+        (repetition (tree_of body.now)) entering.now piece.now r.told (mark_of r.rest)) }
+{
+    let none = ZoneSet::new(alloc);
+    let next = advance(alloc, inner, body, &none, piece)?;
+    let starts = starts_again(next.told, here, entering)?;
+    let told = repeat(alloc, starts, body, piece)?;
+    let entered = enter(alloc, next.rest, body, &told, piece)?;
+    leave_again(alloc, none, told, entered.rest, piece)
 }
 
 // The second part of a sequence went on with what its first part told.

@@ -4,15 +4,15 @@ ghost use Rattle.tre_pairs.specs.Pairs.{Either};
 ghost use Rattle.tre_state.specs.declared.names.TheConstants.{NAMES_MAX};
 ghost use Rattle.tre_syntax.specs.Expr.{tree_of};
 ghost use Rattle.tre_syntax.specs.PatternTree.{PatternTree, NumbersBelow, sequence, alternation, intersection, repetition, restriction};
-ghost use Rattle.tre_zone.specs.Held.{Held, EndBy, IsSetOf};
+ghost use Rattle.tre_zone.specs.Held.{Held, EndAt, EndBy, IsSetOf};
 ghost use Rattle.tre_zone.specs.Zone.{IsInstantBetween};
 ghost use Rattle.tre_zone.specs.ZoneList.{HoldExactly};
 ghost use Rattle.tre_zone.specs.declared.zone_bounds.ZoneBounds.{ZoneBounds};
-ghost use Rattle.tre_mark.specs.MarkTree.{MarkTree, mark_of};
+ghost use Rattle.tre_mark.specs.MarkTree.{MarkTree, mark_of, repetition_mark};
 ghost use Rattle.tre_mark.specs.Marked.{EndBetween, IsWellAt, IsUnbegun};
 ghost use Rattle.tre_edges.specs.Piece.{end_of_piece};
 ghost use Rattle.tre_advance.specs.Instances.{IsRestriction, IsIntersection};
-ghost use Rattle.tre_advance.specs.Moves.{EntersTo, IsBriefTree, IsLiteralTree};
+ghost use Rattle.tre_advance.specs.Moves.{EntersTo, IsBriefTree, IsLiteralTree, IsRepetitionTree};
 
 use crate::atoms::{enter_brief, enter_literal};
 use crate::instances::{leave_both, leave_lasting, tell_both, tell_lasting};
@@ -20,7 +20,7 @@ use crate::sets::joined_both;
 use crate::stepping::{Advanced, either, enter_in_turn, leave_again, repeat};
 use std::alloc::{AllocError, Global};
 use tre_edges::Piece;
-use tre_mark::{Mark, moments};
+use tre_mark::{Mark, moments, repetition};
 use tre_syntax::Expr;
 use tre_zone::Interval;
 use tre_zoneset::ZoneSet;
@@ -135,12 +135,62 @@ fn enter_repetition(
 {
     match mark {
         Mark::Star { here, body: inner } => {
-            let told = repeat(alloc, zones.try_clone()?, body, piece)?;
-            let entered = enter(alloc, Box::into_inner(inner), body, &told, piece)?;
-            leave_again(alloc, here, told, entered.rest, piece)
+            let inner = Box::into_inner(inner);
+            match body {
+                Expr::Star(_) => enter_nested(alloc, here, inner, body, zones, piece),
+                _ => enter_body(alloc, here, inner, body, zones, piece),
+            }
         }
         _ => unreachable!(),
     }
+}
+
+// A repetition of a repetition is entered as the inner one is, which keeps what it tells.
+#[cycle(enter)]
+fn enter_nested(
+    alloc: Global,
+    here: ZoneSet,
+    inner: Mark,
+    body: &Expr,
+    zones: &ZoneSet,
+    piece: &Piece,
+) -> Result<Advanced, AllocError>
+    requires numbers { NumbersBelow NAMES_MAX (tree_of body.now) }
+    requires nested { IsRepetitionTree (tree_of body.now) }
+    requires well { IsWellAt (end_of_piece piece.now) (mark_of inner) (tree_of body.now) }
+    requires ends { EndAt (end_of_piece piece.now) here }
+    requires enter { EndBetween piece.now.begin (end_of_piece piece.now) zones.now }
+    ensures { IfOk result (λ r. EntersTo (repetition_mark here (mark_of inner))
+        (repetition (tree_of body.now)) zones.now piece.now r.told (mark_of r.rest)) }
+{
+    let entered = enter(alloc, inner, body, zones, piece)?;
+    let rest = repetition(alloc, here, entered.rest)?;
+    Ok(Advanced {
+        told: entered.told,
+        rest,
+    })
+}
+
+// The body is entered behind each pair of the set, and again behind each match of it in the piece.
+#[cycle(enter)]
+fn enter_body(
+    alloc: Global,
+    here: ZoneSet,
+    inner: Mark,
+    body: &Expr,
+    zones: &ZoneSet,
+    piece: &Piece,
+) -> Result<Advanced, AllocError>
+    requires numbers { NumbersBelow NAMES_MAX (tree_of body.now) }
+    requires well { IsWellAt (end_of_piece piece.now) (mark_of inner) (tree_of body.now) }
+    requires ends { EndAt (end_of_piece piece.now) here }
+    requires enter { EndBetween piece.now.begin (end_of_piece piece.now) zones.now }
+    ensures { IfOk result (λ r. EntersTo (repetition_mark here (mark_of inner))
+        (repetition (tree_of body.now)) zones.now piece.now r.told (mark_of r.rest)) }
+{
+    let told = repeat(alloc, zones.try_clone()?, body, piece)?;
+    let entered = enter(alloc, inner, body, &told, piece)?;
+    leave_again(alloc, here, told, entered.rest, piece)
 }
 
 #[cycle(enter)]

@@ -13,6 +13,7 @@ use Rattle.tre_advance.specs.Moves.{AreInstants}
 use Rattle.tre_advance.proofs.CallForms.{IfOk-both}
 use Rattle.tre_advance.proofs.InstanceSteps.{entered_ends, none_ends, restriction_begun, restriction_unbegun, intersection_begun, intersection_unbegun}
 use Rattle.tre_advance.proofs.Onward.{none_between, advances_moved, again_between, repetition_advances}
+use Rattle.tre_advance.proofs.Nested.{nested_advances}
 use Rattle.tre_advance.proofs.Passings.{instants_serve, all_served}
 use Rattle.tre_advance.proofs.ShapeForms.{shape_sequence, shape_alternation, shape_repetition, shape_intersection, shape_restriction}
 use Rattle.tre_advance.proofs.advancing.+advance.Goals as goal
@@ -70,70 +71,59 @@ advance_repetition-unreachable-requires t c =
     shape_repetition c.args.piece.now.begin c.args.mark.now (tree_of c.args.body.now)
     c.requires.well.well c.in_default.not-Star
 
-pub advance_repetition-advance-requires : goal.advance_repetition-advance-requires
-advance_repetition-advance-requires t c =
-    let piece = c.args.piece.now in
-    let here = c.in-Star.here in
-    let body = mark_of c.deref.result.now in
-    let tree = tree_of c.args.body.now in
-    let shape : mark_of c.args.mark.now ≡ repetition_mark here body =
-    ap mark_of c.in-Star.is ∙ ap (λ m. repetition_mark here (mark_of m)) (sym c.deref.ensures) in
-    let well : IsWellAt piece.begin (repetition_mark here body) (repetition tree) =
-    subst (λ (mark : MarkTree). IsWellAt piece.begin mark (repetition tree)) shape
-    c.requires.well in (
+pub advance_body-advance-requires : goal.advance_body-advance-requires
+advance_body-advance-requires t c =
+    let piece = c.args.piece.now in (
       omega arith,
       (
         c.requires.numbers,
         (
-          record { well = well.well.1 },
+          c.requires.well,
           none_between piece.begin (end_of_piece piece) c.new-none.result c.new-none.ensures,
         ),
       ),
     )
 
-pub advance_repetition-repeat-requires-clause-starts :
-    goal.advance_repetition-repeat-requires-clause-starts
-advance_repetition-repeat-requires-clause-starts t c =
-    let piece = c.args.piece.now in
-    let here = c.in-Star.here in
-    let body = mark_of c.deref.result.now in
-    let tree = tree_of c.args.body.now in
-    let shape : mark_of c.args.mark.now ≡ repetition_mark here body =
-    ap mark_of c.in-Star.is ∙ ap (λ m. repetition_mark here (mark_of m)) (sym c.deref.ensures) in
-    let well : IsWellAt piece.begin (repetition_mark here body) (repetition tree) =
-    subst (λ (mark : MarkTree). IsWellAt piece.begin mark (repetition tree)) shape
-    c.requires.well in
-    again_between piece here c.args.entering.now body tree well.well.0 c.requires.enter
-    c.new-none.result c.in_ok-next-in-Star.next.told c.in_ok-starts-in-Star.starts
-    (mark_of c.in_ok-next-in-Star.next.rest) c.new-none.ensures c.in_ok-next-in-Star.ensures
-    c.in_ok-starts-in-Star.ensures
+pub advance_body-repeat-requires-clause-starts : goal.advance_body-repeat-requires-clause-starts
+advance_body-repeat-requires-clause-starts t c =
+    again_between c.args.piece.now c.args.here.now c.args.entering.now (mark_of c.args.inner.now)
+    (tree_of c.args.body.now) c.requires.ends c.requires.enter c.new-none.result
+    c.in_ok-next.next.told c.in_ok-starts.starts (mark_of c.in_ok-next.next.rest)
+    c.new-none.ensures c.in_ok-next.ensures c.in_ok-starts.ensures
 
-pub advance_repetition-returns : goal.advance_repetition-returns
-advance_repetition-returns t c =
+pub advance_body-returns : goal.advance_body-returns
+advance_body-returns t c =
     let piece = c.args.piece.now in
-    let here = c.in-Star.here in
-    let body = mark_of c.deref.result.now in
+    let here = c.args.here.now in
+    let body = mark_of c.args.inner.now in
     let enter = c.args.entering.now in
-    let next = c.in_ok-next-in-Star.next in
-    let starts = c.in_ok-starts-in-Star.starts in
-    let told = c.in_ok-told-in-Star.told in
-    let entered = c.in_ok-entered-in-Star.entered in
+    let next = c.in_ok-next.next in
+    let starts = c.in_ok-starts.starts in
+    let told = c.in_ok-told.told in
+    let entered = c.in_ok-entered.entered in
     let tree = tree_of c.args.body.now in
-    let shape : mark_of c.args.mark.now ≡ repetition_mark here body =
-    ap mark_of c.in-Star.is ∙ ap (λ m. repetition_mark here (mark_of m)) (sym c.deref.ensures) in
-    let well : IsWellAt piece.begin (repetition_mark here body) (repetition tree) =
-    subst (λ (mark : MarkTree). IsWellAt piece.begin mark (repetition tree)) shape
-    c.requires.well in
     IfOk-weaker c.leave_again.result _ _
-    (λ r both. advances_moved shape
-    (subst (λ (list : List ZoneBounds). Advances (repetition_mark here body) (repetition tree)
-    enter piece list (mark_of r.rest)) (sym both.0)
-    (repetition_advances piece here enter body tree well.well.0 c.requires.enter c.new-none.result
-    next.told starts (mark_of next.rest) c.new-none.ensures c.in_ok-next-in-Star.ensures
-    c.in_ok-starts-in-Star.ensures told entered.told (mark_of entered.rest) (mark_of r.rest)
-    c.in_ok-told-in-Star.ensures.tells c.in_ok-told-in-Star.ensures.between
-    c.in_ok-entered-in-Star.ensures both.1)))
+    (λ r both. subst (λ (list : List ZoneBounds). Advances (repetition_mark here body)
+    (repetition tree) enter piece list (mark_of r.rest)) (sym both.0)
+    (repetition_advances piece here enter body tree c.requires.ends c.requires.enter
+    c.new-none.result next.told starts (mark_of next.rest) c.new-none.ensures c.in_ok-next.ensures
+    c.in_ok-starts.ensures told entered.told (mark_of entered.rest) (mark_of r.rest)
+    c.in_ok-told.ensures.tells c.in_ok-told.ensures.between c.in_ok-entered.ensures both.1))
     (IfOk-both c.leave_again.result _ _ c.leave_again.ensures.told c.leave_again.ensures.rest)
+
+pub advance_nested-returns : goal.advance_nested-returns
+advance_nested-returns t c =
+    let piece = c.args.piece.now in
+    let here = c.args.here.now in
+    let body = mark_of c.args.inner.now in
+    let enter = c.args.entering.now in
+    let next = c.in_ok-next.next in
+    let tree = tree_of c.args.body.now in
+    subst (λ (mark : MarkTree). Advances (repetition_mark here body) (repetition tree) enter piece
+    next.told mark) (sym c.in_ok-rest.ensures)
+    (nested_advances piece here enter c.in_ok-starts.starts body c.requires.ends c.requires.enter
+    c.in_ok-starts.ensures c.new-none.result next.told (mark_of next.rest) c.new-none.ensures tree
+    c.requires.nested c.in_ok-next.ensures)
 
 -- ---- an intersection
 

@@ -15,6 +15,12 @@ decreases-advance_alternation l = 3 * max (size-Expr l.left.now) (size-Expr l.ri
 abbrev pub decreases-advance_repetition : goal.decreases-advance_repetition
 decreases-advance_repetition l = 3 * size-Expr l.body.now + 2
 
+abbrev pub decreases-advance_nested : goal.decreases-advance_nested
+decreases-advance_nested l = 3 * size-Expr l.body.now + 1
+
+abbrev pub decreases-advance_body : goal.decreases-advance_body
+decreases-advance_body l = 3 * size-Expr l.body.now + 1
+
 abbrev pub decreases-advance_intersection : goal.decreases-advance_intersection
 decreases-advance_intersection l = 3 * max (size-Expr l.left.now) (size-Expr l.right.now) + 2
 

@@ -14,6 +14,7 @@ use Rattle.tre_advance.proofs.Going.{alone}
 use Rattle.tre_advance.proofs.Steps.{Followed}
 use Rattle.tre_advance.proofs.InstanceSteps.{entered_ends, none_ends, restriction_begun, restriction_unbegun, intersection_begun, intersection_unbegun}
 use Rattle.tre_advance.proofs.CallForms.{IfOk-both, nothing_enters_to, enters_moved, repetition_enters_to}
+use Rattle.tre_advance.proofs.Nested.{nested_enters_to}
 use Rattle.tre_advance.proofs.ShapeForms.{shape_sequence, shape_alternation, shape_repetition, shape_intersection, shape_restriction}
 use Rattle.tre_advance.proofs.enter.+enter.Goals as goal
 
@@ -82,32 +83,38 @@ enter_repetition-unreachable-requires t c =
     shape_repetition (end_of_piece c.args.piece.now) c.args.mark (tree_of c.args.body.now)
     c.requires.well.well c.in_default.not-Star
 
-pub enter_repetition-returns : goal.enter_repetition-returns
-enter_repetition-returns t c =
+pub enter_body-returns : goal.enter_body-returns
+enter_body-returns t c =
     let piece = c.args.piece.now in
     let zones = c.args.zones.now in
-    let old = c.in-Star.here in
-    let body = mark_of c.into_inner.result in
-    let entered = c.in_ok-entered-in-Star.entered in
-    let told = c.in_ok-told-in-Star.told in
+    let old = c.args.here in
+    let body = mark_of c.args.inner in
+    let entered = c.in_ok-entered.entered in
+    let told = c.in_ok-told.told in
     let tree = tree_of c.args.body.now in
-    let shape : mark_of c.args.mark ≡ repetition_mark old body =
-    ap mark_of c.in-Star.is
-    ∙ ap (λ m. repetition_mark old (mark_of m)) (sym c.into_inner.ensures) in
-    let well : IsWellAt (end_of_piece piece) (repetition_mark old body) (repetition tree) =
-    subst (λ (m : MarkTree). IsWellAt (end_of_piece piece) m (repetition tree)) shape
-    c.requires.well in
     let set : IsSetOf told (Followed (Held zones) (repetition tree) (alone piece)) =
     subst (λ (list : List ZoneBounds). IsSetOf told (Followed (Held list) (repetition tree)
-    (alone piece))) c.in_ok-try_clone-in-Star.ensures c.in_ok-told-in-Star.ensures.tells in
+    (alone piece))) c.in_ok-try_clone.ensures c.in_ok-told.ensures.tells in
     IfOk-weaker c.leave_again.result _ _
-    (λ r both. enters_moved piece (repetition_mark old body) (mark_of c.args.mark)
-    (repetition tree) (repetition tree) zones r.told (mark_of r.rest) shape refl
-    (subst (λ (list : List ZoneBounds). EntersTo (repetition_mark old body) (repetition tree) zones
-    piece list (mark_of r.rest)) (sym both.0)
+    (λ r both. subst (λ (list : List ZoneBounds). EntersTo (repetition_mark old body)
+    (repetition tree) zones piece list (mark_of r.rest)) (sym both.0)
     (repetition_enters_to piece old body (mark_of entered.rest) (mark_of r.rest) tree zones told
-    entered.told c.requires.enter well set c.in_ok-entered-in-Star.ensures both.1)))
+    entered.told c.requires.enter (record { well = (c.requires.ends, c.requires.well.well) }) set
+    c.in_ok-entered.ensures both.1))
     (IfOk-both c.leave_again.result _ _ c.leave_again.ensures.told c.leave_again.ensures.rest)
+
+pub enter_nested-returns : goal.enter_nested-returns
+enter_nested-returns t c =
+    let piece = c.args.piece.now in
+    let here = c.args.here in
+    let zones = c.args.zones.now in
+    let body = mark_of c.args.inner in
+    let entered = c.in_ok-entered.entered in
+    let tree = tree_of c.args.body.now in
+    subst (λ (mark : MarkTree). EntersTo (repetition_mark here body) (repetition tree) zones piece
+    entered.told mark) (sym c.in_ok-rest.ensures)
+    (nested_enters_to piece here zones entered.told body (mark_of entered.rest) c.requires.ends
+    tree c.requires.nested c.in_ok-entered.ensures)
 
 -- ---- an intersection
 

@@ -15,6 +15,12 @@ decreases-enter_alternation l = 3 * max (size-Expr l.left.now) (size-Expr l.righ
 abbrev pub decreases-enter_repetition : goal.decreases-enter_repetition
 decreases-enter_repetition l = 3 * size-Expr l.body.now + 2
 
+abbrev pub decreases-enter_nested : goal.decreases-enter_nested
+decreases-enter_nested l = 3 * size-Expr l.body.now + 1
+
+abbrev pub decreases-enter_body : goal.decreases-enter_body
+decreases-enter_body l = 3 * size-Expr l.body.now + 1
+
 abbrev pub decreases-enter_intersection : goal.decreases-enter_intersection
 decreases-enter_intersection l = 3 * max (size-Expr l.left.now) (size-Expr l.right.now) + 2
 
