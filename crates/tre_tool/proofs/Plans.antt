@@ -6,7 +6,7 @@ use Rattle.std.proofs.lemmas.List.{length-map, map-append, take_more}
 use Rattle.std.proofs.lemmas.Option.{get_or_from_slice_get, slice_get_within}
 use Rattle.std.specs.Io.KnownBytes.{Consumes, IsAtEnd}
 use Rattle.std.specs.List.{slice_split}
-use Rattle.tre_feed.specs.Front.{IsFront, StopsFront}
+use Rattle.tre_feed.specs.Front.{IsFront, IsUnreadable, StopsFront}
 use Rattle.tre_feed.specs.Input.{InputTold, AllReadsGood}
 use Rattle.tre_feed.specs.declared.fault.FeedFault.{FeedFault}
 use Rattle.tre_feed.specs.declared.fault.FeedFault.TheVariants.{Trace as FeedTrace, TooLong as FeedTooLong, Read as FeedRead, Memory as FeedMemory}
@@ -22,7 +22,7 @@ use Rattle.tre_watch.specs.declared.fault.WatchFault.{WatchFault}
 use Rattle.tre_watch.specs.declared.fault.WatchFault.TheVariants.{TooLarge, BadLine, TooMany, Twice, Pattern as PatternFault, Empty, Memory as WatchMemory}
 use Rattle.tre_watch.specs.declared.reader.TheConstants.{FILE_MAX}
 use Rattle.tre_tool.specs.Checks.{ChecksWereRead, labelled}
-use Rattle.tre_tool.specs.Parts.{IsUnread, feed_status}
+use Rattle.tre_tool.specs.Parts.{feed_status}
 use Rattle.tre_tool.specs.Request.{CarriesNoMemory, IsRefusalOfFile}
 use Rattle.tre_tool.specs.Status.{watch_status}
 use Rattle.tre_tool.specs.declared.status.Status.TheVariants.{Watch, ReadFault, Memory}
@@ -94,8 +94,8 @@ labelled_as labels names patterns same =
     ap (λ l. sought_by l patterns) same ∙ labelled_by names patterns
 
 -- one more label
-pub labels-push : (labels : List (String Global)) (names : List (List ℕ)) (k : ℕ) (label : String Global)
-    (name : List ℕ)
+pub labels-push : (labels : List (String Global)) (names : List (List ℕ)) (k : ℕ)
+    (label : String Global) (name : List ℕ)
     → map string_bytes labels ≡ map (λ name. name ++ codes " ") (take k names)
     → slice_get names k ≡ Some name → string_bytes label ≡ name ++ codes " "
     → map string_bytes (labels ++ label ∷ [])
@@ -214,12 +214,12 @@ read_though (PatternFault line fault) is = cc
 read_though Empty is = cc
 
 module _ (file : List ℕ) (checks : InputTold) where
-  pub IsUnread-of : (fault : FeedFault) → StopsFront file checks fault
-      → feed_status fault ≡ ReadFault → IsUnread file checks
-  IsUnread-of FeedRead stops is = record { cause = stops.cause; unsound = stops.unsound }
-  IsUnread-of FeedMemory stops is = absurd (cc)
-  IsUnread-of (FeedTrace fault) stops is = absurd stops
-  IsUnread-of FeedTooLong stops is = absurd stops
+  pub is_unreadable : (fault : FeedFault) → StopsFront file checks fault
+      → feed_status fault ≡ ReadFault → IsUnreadable file checks
+  is_unreadable FeedRead stops is = stops
+  is_unreadable FeedMemory stops is = absurd (cc)
+  is_unreadable (FeedTrace fault) stops is = absurd stops
+  is_unreadable FeedTooLong stops is = absurd stops
 
   pub good_unless_unread : (fault : FeedFault) → StopsFront file checks fault
       → feed_status fault ≢ ReadFault → AllReadsGood checks

@@ -1,9 +1,7 @@
 -- What the parts of a run promise each other.
-use Rattle.std.specs.Prelude.{◌≡◌, ◌≢◌, ℕ, List, [], ◌∷◌, Option, None, Some, IsTrue, Result, Ok, Err}
-use Rattle.tre_feed.specs.Input.{InputTold}
+use Rattle.std.specs.Prelude.{List, [], ◌∷◌, Option, None, Some, Result, Ok, Err}
 use Rattle.tre_feed.specs.declared.fault.FeedFault.{FeedFault}
 use Rattle.tre_feed.specs.declared.fault.FeedFault.TheVariants.{Trace as FeedTrace, TooLong as FeedTooLong, Read as FeedRead, Memory as FeedMemory}
-use Rattle.tre_io.specs.Faults.{counted}
 use Rattle.tre_syntax.specs.Pattern.{pattern_tree, names_of}
 use Rattle.tre_syntax.specs.declared.pattern.Pattern.{Pattern}
 use Rattle.tre_tell.specs.Sought.{Sought}
@@ -31,8 +29,3 @@ plain_sought pattern = unlabelled (pattern_tree pattern) (names_of pattern)
 abbrev pub patterns_with : Pattern → Option Pattern → List Sought
 patterns_with pattern None = plain_sought pattern ∷ []
 patterns_with pattern (Some taken) = plain_sought pattern ∷ plain_sought taken ∷ []
-
--- The file of checks of this name couldn't be opened or read.
-pub record IsUnread (file : List ℕ) (checks : InputTold) : Type 0 where
-  pub cause : checks.faults_now ≡ counted checks.faults_before
-  pub unsound : IsTrue checks.sound → checks.name ≢ Some file

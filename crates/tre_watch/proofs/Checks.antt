@@ -84,7 +84,8 @@ found_check content ascii name some first =
     }
 
 -- Without `=` there is none.
-pub no_check-rest : (content : List ℕ) → length (behind is_blank (behind continues_name content)) ≡ 0
+pub no_check-rest : (content : List ℕ)
+    → length (behind is_blank (behind continues_name content)) ≡ 0
     → HasCheck content → ⊥
 no_check-rest content none has =
     let found = check_found content has.name has.text has.is in

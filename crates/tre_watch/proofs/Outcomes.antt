@@ -243,8 +243,8 @@ module _ (scale number : ℕ) (line : List ℕ) (names : List (List ℕ)) (patte
         on = λ lines outcome rest. (
           check name text,
           says,
-          with_room scale (nat_lt (length names) NAMES_MAX) (place_of names name) text number outcome
-              (On lines outcome) (has_room names few)
+          with_room scale (nat_lt (length names) NAMES_MAX) (place_of names name) text number
+              outcome (On lines outcome) (has_room names few)
               (with_new scale (place_of names name) text number outcome (On lines outcome) none
               (record {
                 parsed = spelt pattern.tree pattern.names;

@@ -31,8 +31,8 @@ returns-in_err-watch-clause-ends g c =
     let many : length (readings false []) ≡ length c.args.patterns.now =
     as_many reader.terms c.args.readers.now reader.reading false [] ∙ c.requires.readers in
     let faultless : (common (readings false [])).fault ≡ None =
-    faultless_now reader.terms reader.represents reader.reading g.met.R.TraceReader.faultless c.args.readers.now []
-    c.requires.fresh.fed in
+    faultless_now reader.terms reader.represents reader.reading g.met.R.TraceReader.faultless
+    c.args.readers.now [] c.requires.fresh.fed in
     rw (p.1, p.2) (EndsTelling-unread labels c.args.patterns.now readings c.args.limit c.args.scale
     same many c.requires.nothing c.args.name.now (input_told g.S.Source.file_name g.S.Source.file
     g.S.Source.sound g.S.Source.opened g.S.Source.left g.S.Source.found g.S.Source.faults
@@ -53,8 +53,8 @@ returns-in_err-feed-clause-ends g c =
     let many : length (readings false []) ≡ length c.args.patterns.now =
     as_many reader.terms c.args.readers.now reader.reading false [] ∙ c.requires.readers in
     let faultless : (common (readings false [])).fault ≡ None =
-    faultless_now reader.terms reader.represents reader.reading g.met.R.TraceReader.faultless c.args.readers.now []
-    c.requires.fresh.fed in
+    faultless_now reader.terms reader.represents reader.reading g.met.R.TraceReader.faultless
+    c.args.readers.now [] c.requires.fresh.fed in
     rw (p.1, p.2) (EndsTelling-unread labels c.args.patterns.now readings c.args.limit c.args.scale
     same many c.requires.nothing c.args.name.now (input_told g.S.Source.file_name g.S.Source.file
     g.S.Source.sound g.S.Source.opened g.S.Source.left g.S.Source.found g.S.Source.faults
@@ -132,7 +132,8 @@ tell_blocks-requires-clause-comes g c =
     let grows : GrowEach readings = GrowEach-by readings (all_grow reader.terms reader.reading
     g.met.R.TraceReader.grows c.args.readers.now) in
     let same_readings = c.next-fed.ensures.same ∙ inv.same in
-    let turn : IsTurn watched grows c.requires.alike input tel.bytes waiting c.next-fed.result = record {
+    let turn : IsTurn watched grows c.requires.alike input tel.bytes waiting c.next-fed.result =
+    record {
       old = rows_of c.loop-feed.readers;
       has = rw (inv.same, inv.limit) at c.next-fed.ensures.read file tel.bytes tel.fed;
       empty = inv.empty;
@@ -166,11 +167,13 @@ returns-in_err-watch-2-clause-ends g c =
     let waiting = rows_of c.next-fed.new.readers in
     let input = input_told source.file_name source.file source.sound source.opened source.left
     source.found source.faults c.args.input.now c.next-fed.new.input in
-    let output = output_told g.O.Sink.written g.O.Sink.faults c.args.out.now c.tell_blocks.new.out in
+    let output = output_told g.O.Sink.written g.O.Sink.faults c.args.out.now
+    c.tell_blocks.new.out in
     let grows : GrowEach readings = GrowEach-by readings (all_grow reader.terms reader.reading
     g.met.R.TraceReader.grows c.args.readers.now) in
     let same_readings = c.next-fed.ensures.same ∙ inv.same in
-    let turn : IsTurn watched grows c.requires.alike input tel.bytes waiting c.next-fed.result = record {
+    let turn : IsTurn watched grows c.requires.alike input tel.bytes waiting c.next-fed.result =
+    record {
       old = rows_of c.loop-feed.readers;
       has = rw (inv.same, inv.limit) at c.next-fed.ensures.read file tel.bytes tel.fed;
       empty = inv.empty;
@@ -216,11 +219,13 @@ returns-in_err-fed-clause-ends g c =
     let waiting = rows_of c.next-fed.new.readers in
     let input = input_told source.file_name source.file source.sound source.opened source.left
     source.found source.faults c.args.input.now c.next-fed.new.input in
-    let output = output_told g.O.Sink.written g.O.Sink.faults c.args.out.now c.tell_blocks.new.out in
+    let output = output_told g.O.Sink.written g.O.Sink.faults c.args.out.now
+    c.tell_blocks.new.out in
     let grows : GrowEach readings = GrowEach-by readings (all_grow reader.terms reader.reading
     g.met.R.TraceReader.grows c.args.readers.now) in
     let same_readings = c.next-fed.ensures.same ∙ inv.same in
-    let turn : IsTurn watched grows c.requires.alike input tel.bytes waiting (Err c.in_err-fed.field-0.0) = record {
+    let turn : IsTurn watched grows c.requires.alike input tel.bytes waiting
+    (Err c.in_err-fed.field-0.0) = record {
       old = rows_of c.loop-feed.readers;
       has = rw (inv.same, inv.limit) at c.in_err-fed.ensures.read file tel.bytes tel.fed;
       empty = inv.empty;
@@ -230,11 +235,12 @@ returns-in_err-fed-clause-ends g c =
       opened = c.next-fed.ensures.same_opened ∙ inv.opened;
     } in
     let told = c.in_ok-watch-2.ensures.told watched.patterns
-    (rows_in (readings false (take c.args.limit tel.bytes))) (g.O.Sink.written c.args.out.now) tel.told in
+    (rows_in (readings false (take c.args.limit tel.bytes))) (g.O.Sink.written c.args.out.now)
+    tel.told in
     let none : (common (readings false (take c.args.limit tel.bytes))).fault ≡ None =
     subst (λ all. (common (all false (take c.args.limit tel.bytes))).fault ≡ None) inv.same
-    (faultless_now reader.terms reader.represents reader.reading g.met.R.TraceReader.faultless c.loop-feed.readers
-    (take c.args.limit tel.bytes) tel.fed.fed) in
+    (faultless_now reader.terms reader.represents reader.reading g.met.R.TraceReader.faultless
+    c.loop-feed.readers (take c.args.limit tel.bytes) tel.fed.fed) in
     rw (p.1, p.2) (EndsTelling-stopped watched grows c.requires.alike input tel.bytes waiting
     c.in_err-fed.field-0.0 c.args.name.now output turn
     (HasReadCause-from {T = Bool} _ _ input.faults_now (Err c.in_err-fed.field-0.0) inv.no_fault
@@ -262,7 +268,8 @@ loop-feed-preserved g c =
     let file = source.file c.args.input.now in
     let waiting = rows_of c.next-fed.new.readers in
     let told = c.in_ok-watch-2.ensures.told watched.patterns
-    (rows_in (readings false (take c.args.limit tel.bytes))) (g.O.Sink.written c.args.out.now) tel.told in
+    (rows_in (readings false (take c.args.limit tel.bytes))) (g.O.Sink.written c.args.out.now)
+    tel.told in
     let more = rw (inv.same, inv.limit, c.if-not-branch.false) at
     c.in_ok-fed.ensures.ends file tel.bytes tel.fed in
     record {
@@ -296,11 +303,13 @@ returns-in_err-lasts-clause-ends g c =
     let waiting = rows_of c.next-fed.new.readers in
     let input = input_told source.file_name source.file source.sound source.opened source.left
     source.found source.faults c.args.input.now c.next-fed.new.input in
-    let output = output_told g.O.Sink.written g.O.Sink.faults c.args.out.now c.tell_blocks.new.out in
+    let output = output_told g.O.Sink.written g.O.Sink.faults c.args.out.now
+    c.tell_blocks.new.out in
     let grows : GrowEach readings = GrowEach-by readings (all_grow reader.terms reader.reading
     g.met.R.TraceReader.grows c.args.readers.now) in
     let same_readings = c.next-fed.ensures.same ∙ inv.same in
-    let turn : IsTurn watched grows c.requires.alike input tel.bytes waiting c.next-fed.result = record {
+    let turn : IsTurn watched grows c.requires.alike input tel.bytes waiting c.next-fed.result =
+    record {
       old = rows_of c.loop-feed.readers;
       has = rw (inv.same, inv.limit) at c.next-fed.ensures.read file tel.bytes tel.fed;
       empty = inv.empty;
@@ -310,7 +319,8 @@ returns-in_err-lasts-clause-ends g c =
       opened = c.next-fed.ensures.same_opened ∙ inv.opened;
     } in
     let told = c.in_ok-watch-2.ensures.told watched.patterns
-    (rows_in (readings false (take c.args.limit tel.bytes))) (g.O.Sink.written c.args.out.now) tel.told in
+    (rows_in (readings false (take c.args.limit tel.bytes))) (g.O.Sink.written c.args.out.now)
+    tel.told in
     let ended = rw (inv.same, inv.limit, c.if-not-branch.true) at
     c.in_ok-fed.ensures.ends file tel.bytes tel.fed in
     rw (p.1, p.2) (EndsTelling-cut watched input c.args.name.now tel.bytes
@@ -333,15 +343,13 @@ pub tell_end-requires-clause-reads : goal.tell_end-requires-clause-reads
 tell_end-requires-clause-reads g c =
     let inv = c.loop-feed.invariant in
     let tel = inv.telling in
-    let source = g.S.Source in
     let reader = g.R.TraceReader in
     let readings = readings_in reader.reading reader.terms c.args.readers.now in
     let labels = map string_bytes c.args.labels.now in
     let watched = watched_by labels c.args.patterns.now readings c.args.limit c.args.scale in
-    let file = source.file c.args.input.now in
-    let waiting = rows_of c.next-fed.new.readers in
     let told = c.in_ok-watch-2.ensures.told watched.patterns
-    (rows_in (readings false (take c.args.limit tel.bytes))) (g.O.Sink.written c.args.out.now) tel.told in
+    (rows_in (readings false (take c.args.limit tel.bytes))) (g.O.Sink.written c.args.out.now)
+    tel.told in
     record { rows = _; stands = told.stands }
 
 pub tell_end-requires-clause-count : goal.tell_end-requires-clause-count
@@ -355,14 +363,13 @@ tell_end-requires-clause-count g c =
     let watched = watched_by labels c.args.patterns.now readings c.args.limit c.args.scale in
     let file = source.file c.args.input.now in
     let waiting = rows_of c.next-fed.new.readers in
-    let told = c.in_ok-watch-2.ensures.told watched.patterns
-    (rows_in (readings false (take c.args.limit tel.bytes))) (g.O.Sink.written c.args.out.now) tel.told in
     let input = input_told source.file_name source.file source.sound source.opened source.left
     source.found source.faults c.args.input.now c.next-fed.new.input in
     let grows : GrowEach readings = GrowEach-by readings (all_grow reader.terms reader.reading
     g.met.R.TraceReader.grows c.args.readers.now) in
     let same_readings = c.next-fed.ensures.same ∙ inv.same in
-    let turn : IsTurn watched grows c.requires.alike input tel.bytes waiting c.next-fed.result = record {
+    let turn : IsTurn watched grows c.requires.alike input tel.bytes waiting c.next-fed.result =
+    record {
       old = rows_of c.loop-feed.readers;
       has = rw (inv.same, inv.limit) at c.next-fed.ensures.read file tel.bytes tel.fed;
       empty = inv.empty;
@@ -373,7 +380,8 @@ tell_end-requires-clause-count g c =
     } in
     let many : length (lasts_of c.next-fed.new.readers) ≡ length (trees_of c.loop-feed.watch) =
     lasts_count c.next-fed.new.readers ∙ (turn.count
-    ∙ count_rows c.loop-feed.watch (rows_in (readings false (take c.args.limit tel.bytes))) tel.told.stands) in
+    ∙ count_rows c.loop-feed.watch (rows_in (readings false (take c.args.limit tel.bytes)))
+    tel.told.stands) in
     rw (
       c.deref.ensures.value,
       c.in_ok-lasts.ensures,
@@ -385,15 +393,13 @@ pub tell_end-requires-clause-labels : goal.tell_end-requires-clause-labels
 tell_end-requires-clause-labels g c =
     let inv = c.loop-feed.invariant in
     let tel = inv.telling in
-    let source = g.S.Source in
     let reader = g.R.TraceReader in
     let readings = readings_in reader.reading reader.terms c.args.readers.now in
     let labels = map string_bytes c.args.labels.now in
     let watched = watched_by labels c.args.patterns.now readings c.args.limit c.args.scale in
-    let file = source.file c.args.input.now in
-    let waiting = rows_of c.next-fed.new.readers in
     let told = c.in_ok-watch-2.ensures.told watched.patterns
-    (rows_in (readings false (take c.args.limit tel.bytes))) (g.O.Sink.written c.args.out.now) tel.told in
+    (rows_in (readings false (take c.args.limit tel.bytes))) (g.O.Sink.written c.args.out.now)
+    tel.told in
     sym (length-map c.args.labels.now string_bytes) ∙ labels_count told
 
 pub returns-in_err-tell_end-clause-ends : goal.returns-in_err-tell_end-clause-ends
@@ -411,11 +417,13 @@ returns-in_err-tell_end-clause-ends g c =
     let waiting = rows_of c.next-fed.new.readers in
     let input = input_told source.file_name source.file source.sound source.opened source.left
     source.found source.faults c.args.input.now c.next-fed.new.input in
-    let output = output_told g.O.Sink.written g.O.Sink.faults c.args.out.now c.tell_end.new.out in
+    let output = output_told g.O.Sink.written g.O.Sink.faults c.args.out.now
+    c.tell_end.new.out in
     let grows : GrowEach readings = GrowEach-by readings (all_grow reader.terms reader.reading
     g.met.R.TraceReader.grows c.args.readers.now) in
     let same_readings = c.next-fed.ensures.same ∙ inv.same in
-    let turn : IsTurn watched grows c.requires.alike input tel.bytes waiting c.next-fed.result = record {
+    let turn : IsTurn watched grows c.requires.alike input tel.bytes waiting c.next-fed.result =
+    record {
       old = rows_of c.loop-feed.readers;
       has = rw (inv.same, inv.limit) at c.next-fed.ensures.read file tel.bytes tel.fed;
       empty = inv.empty;
@@ -425,7 +433,8 @@ returns-in_err-tell_end-clause-ends g c =
       opened = c.next-fed.ensures.same_opened ∙ inv.opened;
     } in
     let told = c.in_ok-watch-2.ensures.told watched.patterns
-    (rows_in (readings false (take c.args.limit tel.bytes))) (g.O.Sink.written c.args.out.now) tel.told in
+    (rows_in (readings false (take c.args.limit tel.bytes))) (g.O.Sink.written c.args.out.now)
+    tel.told in
     let ended = rw (inv.same, inv.limit, c.if-not-branch.true) at
     c.in_ok-fed.ensures.ends file tel.bytes tel.fed in
     rw (p.1, p.2) (EndsTelling-cut watched input c.args.name.now tel.bytes
@@ -461,9 +470,11 @@ returns-clause-ends g c =
     let waiting = rows_of c.next-fed.new.readers in
     let input = input_told source.file_name source.file source.sound source.opened source.left
     source.found source.faults c.args.input.now c.next-fed.new.input in
-    let output = output_told g.O.Sink.written g.O.Sink.faults c.args.out.now c.tell_end.new.out in
+    let output = output_told g.O.Sink.written g.O.Sink.faults c.args.out.now
+    c.tell_end.new.out in
     let told = c.in_ok-watch-2.ensures.told watched.patterns
-    (rows_in (readings false (take c.args.limit tel.bytes))) (g.O.Sink.written c.args.out.now) tel.told in
+    (rows_in (readings false (take c.args.limit tel.bytes))) (g.O.Sink.written c.args.out.now)
+    tel.told in
     let ended = rw (inv.same, inv.limit, c.if-not-branch.true) at
     c.in_ok-fed.ensures.ends file tel.bytes tel.fed in
     EndsTelling-done watched input c.args.name.now tel.bytes

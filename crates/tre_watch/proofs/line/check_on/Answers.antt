@@ -9,13 +9,15 @@ use Rattle.tre_watch.proofs.line.check_on.Goals as goal
 
 pub returns-then-is_empty : goal.returns-then-is_empty
 returns-then-is_empty c =
-    let e = c.behind_blanks-sign.ensures ∙ ap (λ bytes. behind is_blank bytes) c.behind_name.ensures in
+    let e = c.behind_blanks-sign.ensures
+    ∙ ap (λ bytes. behind is_blank bytes) c.behind_name.ensures in
     let none : length c.behind_blanks-sign.result.now ≡ 0 = grind (arith, nat_tests) in
     no_check-rest c.args.content.now (ap length (sym e) ∙ none)
 
 pub returns-then-sign-ne61 : goal.returns-then-sign-ne61
 returns-then-sign-ne61 c =
-    let e = c.behind_blanks-sign.ensures ∙ ap (λ bytes. behind is_blank bytes) c.behind_name.ensures in
+    let e = c.behind_blanks-sign.ensures
+    ∙ ap (λ bytes. behind is_blank bytes) c.behind_name.ensures in
     no_check-sign c.args.content.now
     (λ at. c.if-sign-ne61.true (ap (λ (bytes : List ℕ). get_or bytes 0 0) e ∙ at))
 
@@ -42,7 +44,8 @@ ascii_text-text-requires c =
 pub returns : goal.returns
 returns c =
     let content = c.args.content.now in
-    let e = c.behind_blanks-sign.ensures ∙ ap (λ bytes. behind is_blank bytes) c.behind_name.ensures in
+    let e = c.behind_blanks-sign.ensures
+    ∙ ap (λ bytes. behind is_blank bytes) c.behind_name.ensures in
     let same = c.ascii_text-name.ensures ∙ c.name_before.ensures in
     let text = c.ascii_text-text.ensures ∙ c.behind_first.ensures
     ∙ ap (λ (bytes : List ℕ). drop 1 bytes) e in

@@ -80,7 +80,8 @@ returns-in_err-add_line-clause-never_memory c =
     let p = err_from_is_err_and c.from_residual.result c.from_residual.ensures.1 in
     rw (p.1, p.2) c.in_err-add_line.ensures.never_memory
 
-pub returns-in_err-add_line-2-clause-never_memory : goal.returns-in_err-add_line-2-clause-never_memory
+pub returns-in_err-add_line-2-clause-never_memory :
+    goal.returns-in_err-add_line-2-clause-never_memory
 returns-in_err-add_line-2-clause-never_memory c =
     let p = err_from_is_err_and c.from_residual-in_err-add_line-2.result
     c.from_residual-in_err-add_line-2.ensures.1 in
