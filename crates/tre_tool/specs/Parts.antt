@@ -1,7 +1,9 @@
 -- What the parts of a run promise each other.
-use Rattle.std.specs.Prelude.{List, [], ◌∷◌, Option, None, Some, Result, Ok, Err}
+use Rattle.std.specs.Prelude.{ℕ, List, [], ◌∷◌, codes, Option, None, Some, Result, Ok, Err}
 use Rattle.tre_feed.specs.declared.fault.FeedFault.{FeedFault}
 use Rattle.tre_feed.specs.declared.fault.FeedFault.TheVariants.{Trace as FeedTrace, TooLong as FeedTooLong, Read as FeedRead, Memory as FeedMemory}
+use Rattle.tre_parse.specs.declared.fault.ParseFault.{ParseFault}
+use Rattle.tre_parse.specs.declared.fault.ParseFault.TheVariants.{TooLong, BadByte, Number, TooDeep, Syntax, EmptyInterval, TooManyNames, TooLarge, Memory as ParseMemory}
 use Rattle.tre_syntax.specs.Pattern.{pattern_tree, names_of}
 use Rattle.tre_syntax.specs.declared.pattern.Pattern.{Pattern}
 use Rattle.tre_tell.specs.Sought.{Sought}
@@ -29,3 +31,27 @@ plain_sought pattern = unlabelled (pattern_tree pattern) (names_of pattern)
 abbrev pub patterns_with : Pattern → Option Pattern → List Sought
 patterns_with pattern None = plain_sought pattern ∷ []
 patterns_with pattern (Some taken) = plain_sought pattern ∷ plain_sought taken ∷ []
+
+-- the words on a refused pattern, before its number
+abbrev pub fault_words : ParseFault → List ℕ
+fault_words TooLong = codes "TooLong"
+fault_words (BadByte at) = codes "BadByte at "
+fault_words (Number at) = codes "Number at "
+fault_words (TooDeep at) = codes "TooDeep at "
+fault_words (Syntax at) = codes "Syntax at "
+fault_words (EmptyInterval at) = codes "EmptyInterval at "
+fault_words (TooManyNames at) = codes "TooManyNames at "
+fault_words (TooLarge nodes) = codes "TooLarge "
+fault_words ParseMemory = codes "Memory"
+
+-- where a pattern is refused, or how many nodes it has
+abbrev pub fault_number : ParseFault → Option ℕ
+fault_number TooLong = None
+fault_number (BadByte at) = Some at
+fault_number (Number at) = Some at
+fault_number (TooDeep at) = Some at
+fault_number (Syntax at) = Some at
+fault_number (EmptyInterval at) = Some at
+fault_number (TooManyNames at) = Some at
+fault_number (TooLarge nodes) = Some nodes
+fault_number ParseMemory = None

@@ -8,3 +8,5 @@ pub mod Outcomes
 pub mod Answering
 -- that something becomes of every file
 pub mod Existence
+-- that nothing is refused for want of memory
+pub mod NoMemory

@@ -36,6 +36,10 @@ abbrev pub NeverMemoryInside : WatchFault → Type 0
 NeverMemoryInside (PatternFault number fault) = fault ≢ ParseMemory
 NeverMemoryInside _ = Unit {0}
 
+-- It is no want of memory, and carries none.
+abbrev pub IsNoWantOfMemory : WatchFault → Type 0
+IsNoWantOfMemory fault = (fault ≢ Memory) × NeverMemoryInside fault
+
 -- The line has this fault, or there was no memory.
 pub record Stops (scale number : ℕ) (line : List ℕ) (names : List (List ℕ))
     (patterns : List SpeltPattern) (fault : WatchFault) : Type 0 where

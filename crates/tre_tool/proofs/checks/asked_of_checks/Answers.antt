@@ -38,8 +38,7 @@ returns-in_err-plan-clause-refuses g c =
     c.from_residual-in_err-plan.ensures.1 in
     rw (p.1, p.2) (λ never unread. IsRefusalOfFile-read _ c.args.scale _
     c.in_err-plan.field-0.0 c.in_ok-bytes.ensures.read
-    (rw c.deref.ensures.value at c.in_err-plan.ensures.outcome)
-    c.in_err-plan.ensures.never_memory never)
+    (rw c.deref.ensures.value at c.in_err-plan.ensures.outcome) never)
 
 pub returns-in_err-plan-clause-unread : goal.returns-in_err-plan-clause-unread
 returns-in_err-plan-clause-unread g c =

@@ -1,0 +1,137 @@
+-- What is refused is never refused for want of memory.
+use Rattle.std.proofs.Common.{◌≡◌, ◌≢◌, ◌∙◌, ◌⊎◌, ℕ, ◌+◌, nat_lt, Bool, true, false, MatchBool, Option, None, Some, List, [], ◌∷◌, ◌++◌, length, min, refl, sym, subst, inl, inr}
+use Rattle.std.specs.Prelude.{MatchOption, position, if◌then◌else◌}
+use Rattle.std.specs.List.{slice_split}
+use Rattle.std.specs.Option.{option_map}
+use Rattle.tre_parse.specs.Outcome.{Outcome as Parsed, spelt, refused, TextTokens, text_tokens_of, offset_of, is_big, deep_place, byte_fault, limit_fault, past_or, IsOutcomeOfTree, IsOutcomeOfTokens, IsOutcome as ParsesTo}
+use Rattle.tre_parse.specs.Tokens.{bad_byte, earlier}
+use Rattle.tre_parse.specs.declared.fault.ParseFault.{ParseFault}
+use Rattle.tre_parse.specs.declared.fault.ParseFault.TheVariants.{TooLong, BadByte, Number as TooBig, TooDeep, TooLarge as ManyNodes, Memory as ParseMemory}
+use Rattle.tre_parse.specs.declared.limits.TheConstants.{TEXT_MAX, COUNT_MAX}
+use Rattle.tre_state.specs.Names.{place_of}
+use Rattle.tre_state.specs.declared.names.TheConstants.{NAMES_MAX}
+use Rattle.tre_syntax.specs.PatternTree.{PatternTree, node_count}
+use Rattle.tre_syntax.specs.declared.pattern.TheConstants.{NODES_MAX}
+use Rattle.tre_trace.specs.Reading.{Vocabulary}
+use Rattle.tre_watch.specs.Lines.{is_line_end, Said, silence, mistake, check}
+use Rattle.tre_watch.specs.Outcome.{SpeltPattern, Outcome, planned, faulty, AfterText, ParsesOn, AfterName, AfterCount, Follows, ended, IsOutcomeFrom, IsOutcome}
+use Rattle.tre_watch.specs.Steps.{IsNoWantOfMemory}
+use Rattle.tre_watch.specs.declared.fault.WatchFault.{WatchFault}
+use Rattle.tre_watch.specs.declared.fault.WatchFault.TheVariants.{TooLarge, BadLine, TooMany, Twice, Pattern as PatternFault, Empty}
+use Rattle.tre_watch.specs.declared.reader.TheConstants.{FILE_MAX}
+
+-- ---- texts
+
+-- Each fault that may be there is no want of memory.
+abbrev NoneIsMemory : Option ParseFault → Type 0
+NoneIsMemory o = (fault : ParseFault) → o ≡ Some fault → fault ≢ ParseMemory
+
+of_bytes : (long : Bool) (bad : Option ℕ)
+    → NoneIsMemory (if long then Some TooLong else option_map (λ at. BadByte at) bad)
+of_bytes true bad fault is = λ memory. cc
+of_bytes false None fault is = λ memory. cc
+of_bytes false (Some at) fault is = λ memory. cc
+
+of_limits : (words : TextTokens) (big deep : Option ℕ)
+    → NoneIsMemory (earlier (option_map (λ place. TooBig (offset_of words place)) big)
+    (option_map (λ place. TooDeep (offset_of words place)) deep))
+of_limits words (Some at) deep fault is = λ memory. cc
+of_limits words None (Some at) fault is = λ memory. cc
+of_limits words None None fault is = λ memory. cc
+
+of_tree : (past : Option ℕ) (large : Bool) (nodes : ℕ) (tree : PatternTree) (names : Vocabulary)
+    (fault : ParseFault)
+    → refused fault
+    ≡ past_or past (if large then refused (ManyNodes nodes) else spelt tree names)
+    → fault ≢ ParseMemory
+of_tree (Some at) large nodes tree names fault is = λ memory. cc
+of_tree None true nodes tree names fault is = λ memory. cc
+of_tree None false nodes tree names fault is = λ memory. cc
+
+in_tree : (words : TextTokens) (tree : PatternTree) (fault : ParseFault)
+    → IsOutcomeOfTree words tree (refused fault) → fault ≢ ParseMemory
+in_tree words tree fault (inl told) = λ memory. let is = told.2 in cc
+in_tree words tree fault (inr told) =
+    of_tree words.past (nat_lt NODES_MAX (node_count tree)) (min (node_count tree) COUNT_MAX) tree
+    words.names fault told.1
+
+in_tokens : (words : TextTokens) (fault : ParseFault) → IsOutcomeOfTokens words (refused fault)
+    → fault ≢ ParseMemory
+in_tokens words fault (inl told) = λ memory. let is = told.2 in cc
+in_tokens words fault (inr told) = in_tree words told.0 fault told.2
+
+in_either : (o : Option ParseFault) (Others : Type 0) (fault : ParseFault) → NoneIsMemory o
+    → (Others → fault ≢ ParseMemory)
+    → MatchOption o Others (λ found. refused fault ≡ refused found) → fault ≢ ParseMemory
+in_either None Others fault none others told = others told
+in_either (Some found) Others fault none others told =
+    λ memory. let same : found ≡ fault = cc in none found refl (same ∙ memory)
+
+pub text_told : (scale : ℕ) (text : List ℕ) (fault : ParseFault)
+    → ParsesTo scale text (refused fault) → fault ≢ ParseMemory
+text_told scale text fault =
+    let words = text_tokens_of scale text in
+    in_either (byte_fault text) _ fault (of_bytes (nat_lt TEXT_MAX (length text)) (bad_byte text))
+    (in_either (limit_fault words) _ fault
+    (of_limits words (position is_big words.tokens) (deep_place 0 0 words.tokens))
+    (in_tokens words fault))
+
+-- ---- files
+
+module _ (scale number : ℕ) (fault : WatchFault) where
+  told_by : (said : WatchFault) → faulty fault ≡ faulty said → IsNoWantOfMemory said
+      → IsNoWantOfMemory fault
+  told_by said is told = let same : said ≡ fault = cc in subst IsNoWantOfMemory same told
+
+  in_text : (text : List ℕ) (parsed : Parsed) (On : SpeltPattern → Type 0)
+      → ParsesTo scale text parsed → ((pattern : SpeltPattern) → On pattern → IsNoWantOfMemory fault)
+      → AfterText parsed number (faulty fault) On → IsNoWantOfMemory fault
+  in_text text (refused parsed) On parses on is =
+      told_by (PatternFault number parsed) is (λ e. cc, text_told scale text parsed parses)
+  in_text text (spelt tree names) On parses on is = on (record { tree = tree; names = names }) is
+
+  in_name : (place : Option ℕ) (text : List ℕ) (On : SpeltPattern → Type 0)
+      → ((pattern : SpeltPattern) → On pattern → IsNoWantOfMemory fault)
+      → AfterName scale place text number (faulty fault) On → IsNoWantOfMemory fault
+  in_name None text On on is = in_text text is.parsed On is.parses on is.after
+  in_name (Some place) text On on is = told_by (Twice number) is (λ e. cc, tt)
+
+  in_count : (room : Bool) (place : Option ℕ) (text : List ℕ) (On : SpeltPattern → Type 0)
+      → ((pattern : SpeltPattern) → On pattern → IsNoWantOfMemory fault)
+      → AfterCount scale room place text number (faulty fault) On → IsNoWantOfMemory fault
+  in_count true place text On on is = in_name place text On on is
+  in_count false place text On on is = told_by (TooMany number) is (λ e. cc, tt)
+
+  in_line : (said : Said) (names : List (List ℕ)) (before : List SpeltPattern)
+      (On : List (List ℕ) → List SpeltPattern → Type 0)
+      → ((names : List (List ℕ)) (before : List SpeltPattern) → On names before
+      → IsNoWantOfMemory fault)
+      → Follows scale said names before number (faulty fault) On → IsNoWantOfMemory fault
+  in_line silence names before On on is = on names before is
+  in_line mistake names before On on is = told_by (BadLine number) is (λ e. cc, tt)
+  in_line (check name text) names before On on is =
+      in_count (nat_lt (length names) NAMES_MAX) (place_of names name) text
+      (λ pattern. On (names ++ name ∷ []) (before ++ pattern ∷ []))
+      (λ pattern. on (names ++ name ∷ []) (before ++ pattern ∷ [])) is
+
+in_lines : (scale : ℕ) (lines : List (List ℕ)) (names : List (List ℕ))
+    (before : List SpeltPattern) (number : ℕ) (fault : WatchFault)
+    → IsOutcomeFrom scale names before number lines (faulty fault) → IsNoWantOfMemory fault
+unfolding IsOutcomeFrom
+in_lines scale [] [] before number fault is = told_by scale number fault Empty is (λ e. cc, tt)
+in_lines scale [] (name ∷ names) before number fault is = absurd (cc)
+in_lines scale (line ∷ lines) names before number fault is =
+    in_line scale number fault is.0 names before
+    (λ names before. IsOutcomeFrom scale names before (number + 1) lines (faulty fault))
+    (λ names before. in_lines scale lines names before (number + 1) fault) is.2
+
+in_file : (scale : ℕ) (large : Bool) (lines : List (List ℕ)) (fault : WatchFault)
+    → MatchBool large (faulty fault ≡ faulty TooLarge)
+    (IsOutcomeFrom scale [] [] 1 lines (faulty fault)) → IsNoWantOfMemory fault
+in_file scale true lines fault is = told_by scale 1 fault TooLarge is (λ e. cc, tt)
+in_file scale false lines fault is = in_lines scale lines [] [] 1 fault is
+
+pub file_told : (scale : ℕ) (bytes : List ℕ) (fault : WatchFault)
+    → IsOutcome scale bytes (faulty fault) → IsNoWantOfMemory fault
+file_told scale bytes fault =
+    in_file scale (nat_lt FILE_MAX (length bytes)) (slice_split is_line_end bytes) fault
