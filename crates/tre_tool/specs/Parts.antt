@@ -7,7 +7,6 @@ use Rattle.tre_parse.specs.declared.fault.ParseFault.TheVariants.{TooLong, BadBy
 use Rattle.tre_syntax.specs.Pattern.{pattern_tree, names_of}
 use Rattle.tre_syntax.specs.declared.pattern.Pattern.{Pattern}
 use Rattle.tre_tell.specs.Sought.{Sought}
-use Rattle.tre_tool.specs.Request.{unlabelled}
 use Rattle.tre_tool.specs.declared.status.Status.{Status}
 use Rattle.tre_tool.specs.declared.status.Status.TheVariants.{Done, Trace, InputTooLong, ReadFault, Memory}
 
@@ -25,7 +24,8 @@ feed_status FeedMemory = Memory
 
 -- what is looked for by a pattern that has no label
 abbrev pub plain_sought : Pattern → Sought
-plain_sought pattern = unlabelled (pattern_tree pattern) (names_of pattern)
+plain_sought pattern =
+    record { label = []; tree = pattern_tree pattern; names = names_of pattern }
 
 -- a pattern, and another that is taken away from it, if there is one
 abbrev pub patterns_with : Pattern → Option Pattern → List Sought

@@ -20,13 +20,9 @@ use Rattle.tre_tool.specs.Checks.{SayPatterns}
 use Rattle.tre_tool.specs.declared.status.Status.{Status}
 use Rattle.tre_tool.specs.declared.status.Status.TheVariants.{Expression, Minus, Definitions, Watch as WatchStatus}
 
--- a pattern without a label
-abbrev pub unlabelled : PatternTree → Vocabulary → Sought
-unlabelled tree names = record { label = []; tree = tree; names = names }
-
 -- one pattern, without a label
 abbrev pub alone : PatternTree → Vocabulary → List Sought
-alone tree names = unlabelled tree names ∷ []
+alone tree names = record { label = []; tree = tree; names = names } ∷ []
 
 -- Each of the texts spells its pattern at this scale, within the limits. None has a label.
 abbrev pub Spell : ℕ → List (List ℕ) → List Sought → Type 0
