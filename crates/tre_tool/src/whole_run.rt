@@ -1,7 +1,7 @@
 ghost use Rattle.std.specs.Prelude.{◌≡◌, ◌≢◌, ◌+◌, IsTrue, IfSome, List, false, map, string_bytes};
 ghost use Rattle.std.specs.Io.KnownBytes.{Appends};
 ghost use Rattle.tre_answer.specs.Ends.{ReadsInput};
-ghost use Rattle.tre_feed.specs.Input.{InputTold, TakesAtMost, input_told};
+ghost use Rattle.tre_feed.specs.Input.{TakesAtMost, input_told};
 ghost use Rattle.tre_io.specs.Faults.{Rises};
 ghost use Rattle.tre_tell.specs.Outputs.{output_told};
 ghost use Rattle.tre_tool.specs.Checks.{ChecksAreTold};

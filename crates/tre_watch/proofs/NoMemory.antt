@@ -1,5 +1,5 @@
 -- What is refused is never refused for want of memory.
-use Rattle.std.proofs.Common.{◌≡◌, ◌≢◌, ◌∙◌, ◌⊎◌, ℕ, ◌+◌, nat_lt, Bool, true, false, MatchBool, Option, None, Some, List, [], ◌∷◌, ◌++◌, length, min, refl, sym, subst, inl, inr}
+use Rattle.std.proofs.Common.{◌≡◌, ◌≢◌, ◌∙◌, ℕ, ◌+◌, nat_lt, Bool, true, false, MatchBool, Option, None, Some, List, [], ◌∷◌, ◌++◌, length, refl, subst, inl, inr}
 use Rattle.std.specs.Prelude.{MatchOption, position, if◌then◌else◌}
 use Rattle.std.specs.List.{slice_split}
 use Rattle.std.specs.Option.{option_map}
@@ -7,14 +7,14 @@ use Rattle.tre_parse.specs.Outcome.{Outcome as Parsed, spelt, refused, TextToken
 use Rattle.tre_parse.specs.Tokens.{bad_byte, earlier}
 use Rattle.tre_parse.specs.declared.fault.ParseFault.{ParseFault}
 use Rattle.tre_parse.specs.declared.fault.ParseFault.TheVariants.{TooLong, BadByte, Number as TooBig, TooDeep, TooLarge as ManyNodes, Memory as ParseMemory}
-use Rattle.tre_parse.specs.declared.limits.TheConstants.{TEXT_MAX, COUNT_MAX}
+use Rattle.tre_parse.specs.declared.limits.TheConstants.{TEXT_MAX}
 use Rattle.tre_state.specs.Names.{place_of}
 use Rattle.tre_state.specs.declared.names.TheConstants.{NAMES_MAX}
 use Rattle.tre_syntax.specs.PatternTree.{PatternTree, node_count}
 use Rattle.tre_syntax.specs.declared.pattern.TheConstants.{NODES_MAX}
 use Rattle.tre_trace.specs.Reading.{Vocabulary}
 use Rattle.tre_watch.specs.Lines.{is_line_end, Said, silence, mistake, check}
-use Rattle.tre_watch.specs.Outcome.{SpeltPattern, Outcome, planned, faulty, AfterText, ParsesOn, AfterName, AfterCount, Follows, ended, IsOutcomeFrom, IsOutcome}
+use Rattle.tre_watch.specs.Outcome.{SpeltPattern, faulty, AfterText, AfterName, AfterCount, Follows, IsOutcomeFrom, IsOutcome}
 use Rattle.tre_watch.specs.Steps.{IsNoWantOfMemory}
 use Rattle.tre_watch.specs.declared.fault.WatchFault.{WatchFault}
 use Rattle.tre_watch.specs.declared.fault.WatchFault.TheVariants.{TooLarge, BadLine, TooMany, Twice, Pattern as PatternFault, Empty}
@@ -52,8 +52,7 @@ in_tree : (words : TextTokens) (tree : PatternTree) (fault : ParseFault)
     → IsOutcomeOfTree words tree (refused fault) → fault ≢ ParseMemory
 in_tree words tree fault (inl told) = λ memory. let is = told.2 in cc
 in_tree words tree fault (inr told) =
-    of_tree words.past (nat_lt NODES_MAX (node_count tree)) (min (node_count tree) COUNT_MAX) tree
-    words.names fault told.1
+    of_tree words.past (nat_lt NODES_MAX (node_count tree)) _ tree words.names fault told.1
 
 in_tokens : (words : TextTokens) (fault : ParseFault) → IsOutcomeOfTokens words (refused fault)
     → fault ≢ ParseMemory
