@@ -83,7 +83,8 @@ module _ (scale number : ℕ) (fault : WatchFault) where
   told_by said is told = let same : said ≡ fault = cc in subst IsNoWantOfMemory same told
 
   in_text : (text : List ℕ) (parsed : Parsed) (On : SpeltPattern → Type 0)
-      → ParsesTo scale text parsed → ((pattern : SpeltPattern) → On pattern → IsNoWantOfMemory fault)
+      → ParsesTo scale text parsed
+      → ((pattern : SpeltPattern) → On pattern → IsNoWantOfMemory fault)
       → AfterText parsed number (faulty fault) On → IsNoWantOfMemory fault
   in_text text (refused parsed) On parses on is =
       told_by (PatternFault number parsed) is (λ e. cc, text_told scale text parsed parses)
