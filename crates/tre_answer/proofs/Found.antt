@@ -159,8 +159,7 @@ module _ (request : Request) (input : InputTold) (offline : request.job.mode ≡
       stops_decided exceeds output stops unwritten
   StopsAs-unread FeedRead stops = λ output unwritten. record {
     reads_input = reads_here;
-    cause = stops.cause;
-    unsound = stops.unsound;
+    unread = record { cause = stops.cause; unsound = stops.unsound };
     goes_on = stops.goes_on;
     stands = nothing_so_far output _ unwritten;
   }

@@ -86,8 +86,7 @@ module _ (request : Request) (input : InputTold) (output : OutputTold) where
     EndsOver-stopped TellTooLong told = at_fault exceeds told
     EndsOver-stopped TellRead told = record {
       reads_input = told_reads request.job.mode comes;
-      cause = told.cause;
-      unsound = told.unsound;
+      unread = record { cause = told.cause; unsound = told.unsound };
       goes_on = told.goes_on;
       stands = blocks_so_far (way_of request.job.mode) _ comes told.stands;
     }

@@ -1,6 +1,7 @@
 -- How the answering of a request ends, what each end means, and what was written.
-use Rattle.std.specs.Prelude.{◌≡◌, ◌≢◌, ◌⊎◌, ℕ, List, All, IsTrue, Some, ◌++◌, codes, flat_map, Result, Ok, Err}
+use Rattle.std.specs.Prelude.{◌≡◌, ◌⊎◌, ℕ, List, All, IsTrue, ◌++◌, codes, flat_map, Result, Ok, Err}
 use Rattle.std.specs.Io.KnownBytes.{Appends}
+use Rattle.tre_feed.specs.Front.{IsUnreadable}
 use Rattle.tre_feed.specs.Input.{InputTold, AllReadsGood, OfAllBytes, MayGoOn}
 use Rattle.tre_feed.specs.Outcome.{Outcome, IsInputKind, refuses, exceeds}
 use Rattle.tre_feed.specs.Readings.{common_of, readings_within}
@@ -98,13 +99,12 @@ pub record EndsTooMany (zones : ℕ) (request : Request) (input : InputTold) (ou
   pub cause : OfAllBytes input (λ bytes. AreTooMany request bytes zones)
   pub nothing : NothingWritten output
 
--- One failure to open or read was counted, and a source that is sound under the name of the job's
--- input has none. What was read before it has no fault, and is within the limit.
+-- The job's input couldn't be opened or read. What was read before has no fault, and is within the
+-- limit.
 pub record EndsReadFault (request : Request) (input : InputTold) (output : OutputTold) : Type 0
   where
     pub reads_input : ReadsInput request.job.mode
-    pub cause : input.faults_now ≡ counted input.faults_before
-    pub unsound : IsTrue input.sound → input.name ≢ Some request.job.input
+    pub unread : IsUnreadable request.job.input input
     pub goes_on : MayGoOn (common_of (readings_of request)) request.job.max_bytes input
     pub stands : StandsSoFar (way_of request.job.mode) output
         (BlocksSoFarStand (watched_of request) input output)

@@ -1,6 +1,6 @@
 // The matches over a whole input, told at once.
-ghost use Rattle.std.specs.Prelude.{◌≡◌, ◌≤◌, ◌<◌, ◌+◌, ℕ, All, List, false, IsTrue, IfOk, IfErr, IfSome, OnOk, length, string_bytes};
-ghost use Rattle.tre_answer.specs.Parts.{IsFoundFor, IsFound, AreOver, StopsAs};
+ghost use Rattle.std.specs.Prelude.{◌≡◌, ◌≤◌, ◌<◌, ◌+◌, ℕ, All, List, [], false, get_or, IsTrue, IfOk, IfErr, IfSome, OnOk, length, string_bytes};
+ghost use Rattle.tre_answer.specs.Parts.{IsFoundFor, AreOver, StopsAs};
 ghost use Rattle.tre_answer.specs.Readings.{readings_of};
 ghost use Rattle.tre_answer.specs.Request.{FitsJob, request_for};
 ghost use Rattle.tre_answer.specs.Wanted.{AreZonesOf, IsWanted, MatchesSome};
@@ -11,7 +11,7 @@ ghost use Rattle.tre_num.specs.Defined.{Defined};
 ghost use Rattle.tre_pairs.specs.Except.{Except};
 ghost use Rattle.tre_tell.specs.Sought.{sought_by};
 ghost use Rattle.tre_tell.specs.Watched.{SayNothing};
-ghost use Rattle.tre_trace.specs.Trace.{IsTrace};
+ghost use Rattle.tre_trace.specs.Trace.{IsTrace, end_of, quiet};
 ghost use Rattle.tre_words.specs.Job.{IsJob};
 ghost use Rattle.tre_zone.specs.ZoneList.{HoldExactly, SetHolds};
 ghost use Rattle.tre_zoneset.specs.ZoneSet.{IsZoneSet};
@@ -38,25 +38,28 @@ struct Found {
     end: u64,
 }
 
-// The matches of the first pattern that are matches of none of the others, each over its trace. The
-// first trace goes as soon as its matches need it no more.
+// The matches of the first pattern that are matches of none of the others, each over its trace, and
+// where the first trace ends. That goes as soon as its matches need it no more.
 fn wanted_matches(
     alloc: Global,
     patterns: &[Pattern],
     traces: Vec<Trace>,
-) -> Result<ZoneSet, AllocError>
+) -> Result<Found, AllocError>
     requires some { 0 < length patterns.now }
     requires count { length traces.items ≡ length patterns.now }
     requires are_traces { All (λ trace. IsTrace trace.segments) traces.items }
-    ensures { IfOk result (λ set. (labels : List (List ℕ)) →
+    ensures set { IfOk result (λ found. (labels : List (List ℕ)) →
         length labels ≡ length patterns.now →
-        HoldExactly set (IsWanted (sought_by labels patterns.now) traces.items)) }
+        HoldExactly found.set (IsWanted (sought_by labels patterns.now) traces.items)) }
+    ensures end { IfOk result (λ found.
+        found.end ≡ end_of 0 (get_or traces.items 0 (quiet [])).segments) }
 {
     let mut traces = traces;
     let first = traces.remove(0);
+    let end = first.end();
     let set = into_matches(alloc, &patterns[0], first)?;
     let left = without_others(alloc, set, &patterns[1..], &traces)?;
-    Ok(left)
+    Ok(Found { set: left, end })
 }
 
 // What is left of a set without the matches of these patterns, each over its trace.
@@ -78,46 +81,6 @@ fn without_others(
         left = minus(alloc, &left, &others)?;
     }
     Ok(left)
-}
-
-// The matches that are wanted over the job's input.
-fn find<S: Source, R: TraceReader + Drop>(
-    alloc: Global,
-    asked: &Asked,
-    job: &Job,
-    readers: Readers<R>,
-    input: &mut S,
-) -> Result<Found, AnswerFault>
-    requires closed { S.opened input.old ≡ false }
-    requires job { IsJob job.now }
-    requires offline { job.now.mode ≡ Mode.Offline }
-    requires fits { FitsJob job.now asked.now }
-    requires count { how_many readers ≡ length asked.now.patterns.items }
-    requires fresh { AreFresh R.represents readers }
-    requires alike { AgreeAlways (readings_in R.reading R.terms readers) }
-    requires nothing { SayNothing (readings_in R.reading R.terms readers) }
-    ensures found { (lets : List Defined) →
-        readings_in R.reading R.terms readers
-        ≡ readings_of (request_for job.now lets asked.now) →
-        IfOk result (λ found. IsFound (request_for job.now lets asked.now)
-        (input_told S.file_name S.file S.sound S.opened S.left S.found S.faults input.old input.new)
-        found.set found.end) }
-    ensures stops { (lets : List Defined) →
-        readings_in R.reading R.terms readers
-        ≡ readings_of (request_for job.now lets asked.now) →
-        IfErr result (StopsAs (request_for job.now lets asked.now)
-        (input_told S.file_name S.file S.sound S.opened S.left S.found S.faults input.old
-        input.new)) }
-    ensures bounded { IsTrue (S.opened input.new) →
-        TakesAtMost (job.now.max_bytes + 1) (S.file input.old) (S.left input.new) }
-    ensures by_name { IsTrue (S.opened input.new) →
-        IfSome (S.file_name input.old) (λ told. told ≡ job.now.input) }
-{
-    let limit = job.max_bytes as usize;
-    let traces = read_traces(alloc, job.input.text(), limit, readers, input)?;
-    let end = traces[0].end();
-    let set = wanted_matches(alloc, &asked.patterns, traces)?;
-    Ok(Found { set, end })
 }
 
 // The zones that a job asks for of a set: the canonical ones, or those of the set as they are.
@@ -186,7 +149,9 @@ pub fn matches_text<S: Source, R: TraceReader + Drop>(
     ensures by_name { IsTrue (S.opened input.new) →
         IfSome (S.file_name input.old) (λ told. told ≡ job.now.input) }
 {
-    let found = find(alloc, asked, job, readers, input)?;
+    let limit = job.max_bytes as usize;
+    let traces = read_traces(alloc, job.input.text(), limit, readers, input)?;
+    let found = wanted_matches(alloc, &asked.patterns, traces)?;
     let zones = zones_for(alloc, found.set, job.normal)?;
     check_count(&zones, job.max_zones)?;
     let text = offline_text(alloc, &zones, found.end, job.scale)?;

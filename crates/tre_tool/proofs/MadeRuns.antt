@@ -17,7 +17,8 @@ use Rattle.tre_words.specs.declared.job.Mode.{Mode}
 use Rattle.tre_words.specs.declared.job.Mode.TheVariants.{Offline, Generate, Watch as WatchMode}
 use Rattle.tre_tool.specs.Checks.{ChecksWereRead}
 use Rattle.tre_tool.specs.Request.{alone, ArePatterns, IsRefusalIn, AsksFor, IsRefused}
-use Rattle.tre_tool.specs.Run.{AsksForMadeRun, EndsAs, EndsMadeRun}
+use Rattle.tre_tool.specs.MadeRun.{AsksForMadeRun, EndsMadeRun}
+use Rattle.tre_tool.specs.Run.{EndsAs}
 use Rattle.tre_tool.specs.declared.status.Status.{Status}
 use Rattle.tre_tool.proofs.Ended.{Answer, answered_status, Ended, by_usage, by_refusal, by_unread, by_memory, by_answer, ended_of}
 

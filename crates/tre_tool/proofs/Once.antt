@@ -10,7 +10,7 @@ use Rattle.tre_words.specs.declared.job.Job.{Job}
 use Rattle.tre_words.specs.declared.job.Mode.{Mode}
 use Rattle.tre_words.specs.declared.job.Mode.TheVariants.{Offline, Online, Show, Generate, Watch as WatchMode}
 use Rattle.tre_tool.specs.Checks.{SayPatterns, labelled}
-use Rattle.tre_tool.specs.Request.{texts_with, ArePatterns, AreDefinitions, IsRefusedFile, IsRefusalOfFile, IsRefusalIn, AsksFor, Asks, IsRefused, AsksForNothing}
+use Rattle.tre_tool.specs.Request.{texts_with, ArePatterns, AreDefinitions, IsRefusalOfFile, IsRefusalIn, AsksFor, Asks, IsRefused, AsksForNothing}
 use Rattle.tre_tool.specs.declared.status.Status.{Status}
 use Rattle.tre_tool.specs.declared.status.Status.TheVariants.{Done, Usage, Expression, Minus, Definitions, Watch, Trace, InputTooLong, TooManyZones, ReadFault, WriteFault, Memory}
 use Rattle.tre_tool.proofs.Texts.{spell_once, definitions_once, texts_or_refused, text_refusal_once}
@@ -28,7 +28,7 @@ Agree Says Tells =
 
 -- a file is refused
 data RefusesFile (Says : Meaning) (scale : ℕ) (refusal : Status) : Type 0 where
-  of_file : (fault : WatchFault) → refusal ≡ Watch fault → IsRefusedFile Says scale fault
+  of_file : (fault : WatchFault) → refusal ≡ Watch fault → Says scale (faulty fault)
       → RefusesFile Says scale refusal
 
 refuses_file_of : (Says : Meaning) (scale : ℕ) (refusal : Status)
@@ -62,14 +62,14 @@ module _ (Says Tells : Meaning) (same : Agree Says Tells) where
   say_or_refused : (scale : ℕ) (refusal : Status) (patterns : List Sought)
       → SayPatterns Says scale patterns → RefusesFile Tells scale refusal → ⊥
   say_or_refused scale refusal patterns so (of_file fault is told) =
-      let one = same scale (planned so.names so.spelt) (faulty fault) so.says told.refuses in
+      let one = same scale (planned so.names so.spelt) (faulty fault) so.says told in
       cc
 
   -- in one way
   file_refusal_once : (scale : ℕ) (one other : Status) → RefusesFile Says scale one
       → RefusesFile Tells scale other → one ≡ other
   file_refusal_once scale one other (of_file fault is told) (of_file fault' is' told') =
-      let both = same scale (faulty fault) (faulty fault') told.refuses told'.refuses in
+      let both = same scale (faulty fault) (faulty fault') told told' in
       let faults : fault ≡ fault' = cc in
       is ∙ (ap Watch faults ∙ sym is')
 

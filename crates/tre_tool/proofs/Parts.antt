@@ -6,6 +6,7 @@ use Rattle.tre_answer.specs.Request.{Request, request_for, sought_in}
 use Rattle.tre_answer.specs.declared.asked.Asked.{Asked}
 use Rattle.tre_answer.specs.declared.fault.AnswerFault.{AnswerFault}
 use Rattle.tre_answer.specs.declared.fault.AnswerFault.TheVariants.{Trace as AnswerTrace, TooLong as AnswerTooLong, TooManyZones as AnswerTooMany, Read as AnswerRead, Write as AnswerWrite, Memory as AnswerMemory}
+use Rattle.tre_feed.specs.Front.{IsUnreadable}
 use Rattle.tre_feed.specs.Input.{InputTold, AllReadsGood}
 use Rattle.tre_io.specs.Faults.{HasCause}
 use Rattle.tre_io.specs.Written.{AppendsPart}
@@ -21,7 +22,6 @@ use Rattle.tre_words.specs.declared.job.WordsFault.{WordsFault}
 use Rattle.tre_words.specs.declared.job.WordsFault.TheVariants.{Usage as WordsUsage, Memory as WordsMemory}
 use Rattle.tre_words.proofs.Jobs.{job_unique}
 use Rattle.tre_tool.specs.Checks.{ChecksWereRead}
-use Rattle.tre_tool.specs.Parts.{IsUnread}
 use Rattle.tre_tool.specs.Request.{ArePatterns, AreDefinitions, IsRefusalOf, IsRefusalOfFile, IsRefusalIn, AsksFor, GiveNone}
 use Rattle.tre_tool.specs.Run.{ReadsChecks, ComesFirst, NothingDone, EndsRefused, EndsAs, IsLineTold}
 use Rattle.tre_tool.specs.Status.{words_status, answer_status}
@@ -70,7 +70,7 @@ never_refused Says (WatchMode name) job status text file is = file is
 
 -- The file of checks that the job names couldn't be read.
 abbrev pub IsUnreadIn : Job → InputTold → Type 0
-IsUnreadIn job checks = (file : List ℕ) × (job.mode ≡ WatchMode file) × IsUnread file checks
+IsUnreadIn job checks = (file : List ℕ) × (job.mode ≡ WatchMode file) × IsUnreadable file checks
 
 module _ (Gives : Job → Type 0) (checks input : InputTold) (output : OutputTold) (job : Job)
     (gives : Gives job) (nothing : NothingDone input output) where
@@ -97,8 +97,7 @@ module _ (Gives : Job → Type 0) (checks input : InputTold) (output : OutputTol
         gives = gives;
         file = is.0;
         watches = is.1;
-        cause = is.2.cause;
-        unsound = is.2.unsound;
+        unread = is.2;
         nothing = nothing;
       })
   EndsAs-stopped (Expression fault) refuses unread good =

@@ -1,11 +1,15 @@
 -- A text that goes out piece by piece, where a piece fails.
-use Rattle.std.proofs.Common.{ℕ, suc, ◌+◌, ◌<◌, ◌≤◌, List, ◌∷◌, ◌++◌, length, get_or, take, drop, drop-cons, take-append-drop, sym, Option, Result, Ok, Err, OnErr, ap, ◌∙◌, ◌≡◌, flat_map, arith, length-append}
+use Rattle.std.proofs.Common.{ℕ, suc, ◌+◌, ◌<◌, ◌≤◌, List, [], ◌∷◌, ◌++◌, length, get_or, take, drop, drop-cons, take-append-drop, sym, refl, codes, decimal, Option, None, Some, Result, Ok, Err, OnErr, ap, ◌∙◌, ◌≡◌, flat_map, arith, length-append}
 use Rattle.std.specs.Io.KnownBytes.{Appends}
 use Rattle.std.proofs.KnownBytes.{Appends-trans}
 use Rattle.std.proofs.lemmas.List.{take-append-le}
 use Rattle.std.proofs.lemmas.List.Concat.{flat_map-append}
 use Rattle.std.proofs.Math.Seq.{take-append-add}
 use Rattle.tre_io.specs.Written.{AppendsPart}
+use Rattle.tre_parse.specs.declared.fault.ParseFault.{ParseFault}
+use Rattle.tre_parse.specs.declared.fault.ParseFault.TheVariants.{TooLong, BadByte, Number, TooDeep, Syntax, EmptyInterval, TooManyNames, TooLarge, Memory as ParseMemory}
+use Rattle.tre_tool.specs.Parts.{fault_words, fault_number}
+use Rattle.tre_tool.specs.Status.{refusal_words}
 
 -- a part of a text is a part of a longer one
 AppendsPart-longer : {a b : Option (List ℕ)} {xs : List ℕ} → AppendsPart a b xs → (ys : List ℕ)
@@ -32,7 +36,8 @@ split_around : {X : Type 0} (xs : List X) (k : ℕ) (d : X) → k < length xs
 split_around xs k d below =
     sym (take-append-drop k xs) ∙ ap (λ rest. take k xs ++ rest) (drop-cons xs k d below)
 
-text_around : {X : Type 0} (text : X → List ℕ) (pieces : List X) (i : ℕ) (d : X) → i < length pieces
+text_around : {X : Type 0} (text : X → List ℕ) (pieces : List X) (i : ℕ) (d : X)
+    → i < length pieces
     → flat_map text pieces ≡ flat_map text (take i pieces) ++ (text
     (get_or pieces i d) ++ flat_map text (drop (suc i) pieces))
 text_around text pieces i d below =
@@ -51,3 +56,23 @@ AppendsPart-piece text pieces i d a b c below before part =
 pub OnErr-always : {T E : Type 0} (result : Result T E) (A : Type 0) → A → OnErr result A
 OnErr-always (Ok value) A holds = tt
 OnErr-always (Err fault) A holds = holds
+
+-- ---- a refused pattern
+
+-- a number in digits, where there is one
+abbrev pub digits_of : Option ℕ → List ℕ
+digits_of None = []
+digits_of (Some n) = decimal n
+
+-- the words on it are those before its number, its number, and the line's end
+pub refusal_pieces : (fault : ParseFault) → refusal_words fault
+    ≡ fault_words fault ++ (digits_of (fault_number fault) ++ codes "\n")
+refusal_pieces TooLong = refl
+refusal_pieces (BadByte at) = refl
+refusal_pieces (Number at) = refl
+refusal_pieces (TooDeep at) = refl
+refusal_pieces (Syntax at) = refl
+refusal_pieces (EmptyInterval at) = refl
+refusal_pieces (TooManyNames at) = refl
+refusal_pieces (TooLarge nodes) = refl
+refusal_pieces ParseMemory = refl

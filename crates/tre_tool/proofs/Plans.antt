@@ -6,7 +6,7 @@ use Rattle.std.proofs.lemmas.List.{length-map, map-append, take_more}
 use Rattle.std.proofs.lemmas.Option.{get_or_from_slice_get, slice_get_within}
 use Rattle.std.specs.Io.KnownBytes.{Consumes, IsAtEnd}
 use Rattle.std.specs.List.{slice_split}
-use Rattle.tre_feed.specs.Front.{IsFront, StopsFront}
+use Rattle.tre_feed.specs.Front.{IsFront, IsUnreadable, StopsFront}
 use Rattle.tre_feed.specs.Input.{InputTold, AllReadsGood}
 use Rattle.tre_feed.specs.declared.fault.FeedFault.{FeedFault}
 use Rattle.tre_feed.specs.declared.fault.FeedFault.TheVariants.{Trace as FeedTrace, TooLong as FeedTooLong, Read as FeedRead, Memory as FeedMemory}
@@ -17,13 +17,13 @@ use Rattle.tre_syntax.specs.declared.pattern.Pattern.{Pattern}
 use Rattle.tre_tell.specs.Sought.{sought_by}
 use Rattle.tre_watch.specs.Lines.{is_line_end, Said, silence, mistake, check}
 use Rattle.tre_watch.specs.Outcome.{SpeltPattern, Outcome, planned, faulty, AfterText, AfterName, AfterCount, Follows, IsOutcomeFrom, IsOutcome}
-use Rattle.tre_watch.specs.Steps.{NeverMemoryInside, spelt_in}
+use Rattle.tre_watch.specs.Steps.{spelt_in}
 use Rattle.tre_watch.specs.declared.fault.WatchFault.{WatchFault}
 use Rattle.tre_watch.specs.declared.fault.WatchFault.TheVariants.{TooLarge, BadLine, TooMany, Twice, Pattern as PatternFault, Empty, Memory as WatchMemory}
 use Rattle.tre_watch.specs.declared.reader.TheConstants.{FILE_MAX}
 use Rattle.tre_tool.specs.Checks.{ChecksWereRead, labelled}
-use Rattle.tre_tool.specs.Parts.{IsUnread, feed_status}
-use Rattle.tre_tool.specs.Request.{CarriesNoMemory, IsRefusalOfFile}
+use Rattle.tre_tool.specs.Parts.{feed_status}
+use Rattle.tre_tool.specs.Request.{IsRefusalOfFile}
 use Rattle.tre_tool.specs.Status.{watch_status}
 use Rattle.tre_tool.specs.declared.status.Status.TheVariants.{Watch, ReadFault, Memory}
 
@@ -94,8 +94,8 @@ labelled_as labels names patterns same =
     ap (λ l. sought_by l patterns) same ∙ labelled_by names patterns
 
 -- one more label
-pub labels-push : (labels : List (String Global)) (names : List (List ℕ)) (k : ℕ) (label : String Global)
-    (name : List ℕ)
+pub labels-push : (labels : List (String Global)) (names : List (List ℕ)) (k : ℕ)
+    (label : String Global) (name : List ℕ)
     → map string_bytes labels ≡ map (λ name. name ++ codes " ") (take k names)
     → slice_get names k ≡ Some name → string_bytes label ≡ name ++ codes " "
     → map string_bytes (labels ++ label ∷ [])
@@ -177,30 +177,27 @@ some_planned scale bytes [] patterns is =
 -- ---- why there is none
 
 -- memory was wanting, or the fault of the file is told
-watch_faults : (fault : WatchFault) → NeverMemoryInside fault → (fault ≡ WatchMemory)
-    ⊎ ((fault ≢ WatchMemory) × (watch_status fault ≡ Watch fault) × CarriesNoMemory fault)
-watch_faults WatchMemory never = inl refl
-watch_faults TooLarge never = inr (λ e. cc, refl, tt)
-watch_faults (BadLine line) never = inr (λ e. cc, refl, tt)
-watch_faults (TooMany line) never = inr (λ e. cc, refl, tt)
-watch_faults (Twice line) never = inr (λ e. cc, refl, tt)
-watch_faults (PatternFault line fault) never = inr (λ e. cc, refl, never)
-watch_faults Empty never = inr (λ e. cc, refl, tt)
+watch_faults : (fault : WatchFault)
+    → (fault ≡ WatchMemory) ⊎ ((fault ≢ WatchMemory) × (watch_status fault ≡ Watch fault))
+watch_faults WatchMemory = inl refl
+watch_faults TooLarge = inr (λ e. cc, refl)
+watch_faults (BadLine line) = inr (λ e. cc, refl)
+watch_faults (TooMany line) = inr (λ e. cc, refl)
+watch_faults (Twice line) = inr (λ e. cc, refl)
+watch_faults (PatternFault line fault) = inr (λ e. cc, refl)
+watch_faults Empty = inr (λ e. cc, refl)
 
 -- the refusal of the file, from what `read_plan` answers to its front
 pub IsRefusalOfFile-read : (checks : InputTold) (scale : ℕ) (bytes : List ℕ) (fault : WatchFault)
     → IsFront (FILE_MAX + 1) checks bytes
-    → (fault ≡ WatchMemory) ⊎ IsOutcome scale bytes (faulty fault) → NeverMemoryInside fault
+    → (fault ≡ WatchMemory) ⊎ IsOutcome scale bytes (faulty fault)
     → watch_status fault ≢ Memory → IsRefusalOfFile (ChecksWereRead checks) scale
     (watch_status fault)
-IsRefusalOfFile-read checks scale bytes fault front either inside never =
-    elim (watch_faults fault inside) [
+IsRefusalOfFile-read checks scale bytes fault front either never =
+    elim (watch_faults fault) [
       | inl memory ↦ absurd (never (rw memory refl))
-      | inr other ↦ rw other.1 (record {
-        refuses = ChecksWereRead-of checks scale bytes (faulty fault) front
-            (⊎_elim (λ memory. absurd (other.0 memory)) (λ told. told) either);
-        never_memory = other.2;
-      })
+      | inr other ↦ rw other.1 (ChecksWereRead-of checks scale bytes (faulty fault) front
+          (⊎_elim (λ memory. absurd (other.0 memory)) (λ told. told) either))
     ]
 
 -- it isn't that it couldn't be read
@@ -214,12 +211,12 @@ read_though (PatternFault line fault) is = cc
 read_though Empty is = cc
 
 module _ (file : List ℕ) (checks : InputTold) where
-  pub IsUnread-of : (fault : FeedFault) → StopsFront file checks fault
-      → feed_status fault ≡ ReadFault → IsUnread file checks
-  IsUnread-of FeedRead stops is = record { cause = stops.cause; unsound = stops.unsound }
-  IsUnread-of FeedMemory stops is = absurd (cc)
-  IsUnread-of (FeedTrace fault) stops is = absurd stops
-  IsUnread-of FeedTooLong stops is = absurd stops
+  pub is_unreadable : (fault : FeedFault) → StopsFront file checks fault
+      → feed_status fault ≡ ReadFault → IsUnreadable file checks
+  is_unreadable FeedRead stops is = stops
+  is_unreadable FeedMemory stops is = absurd (cc)
+  is_unreadable (FeedTrace fault) stops is = absurd stops
+  is_unreadable FeedTooLong stops is = absurd stops
 
   pub good_unless_unread : (fault : FeedFault) → StopsFront file checks fault
       → feed_status fault ≢ ReadFault → AllReadsGood checks

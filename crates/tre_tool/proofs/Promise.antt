@@ -140,7 +140,7 @@ module _ (request : Request) (input : InputTold) (output : OutputTold) where
       weaker input.file _ _ (λ told is. rw is (many_completes request many.cause.bytes zones
       many.cause.is_so.right.traces many.cause.is_so.right.are)) many.cause.all.whole
   answered_read (Err AnswerRead) found reads read written =
-      absurd (read (one_more _ _ found.cause))
+      absurd (read (one_more _ _ found.unread.cause))
   answered_read (Err AnswerWrite) found reads read written =
       absurd (written (one_more _ _ found.cause))
   answered_read (Err AnswerMemory) found reads read written =
@@ -193,7 +193,7 @@ module _ (Gives : Job → Type 0) (once : GiveOne Gives) (checks input : InputTo
       request status asks ends.refused)
   read_as request status asks (by_unread is ends) reads known read written =
       absurd (known (failed ends.job request.job ends.file ends.gives asks.gives ends.watches
-      ends.cause))
+      ends.unread.cause))
   read_as request status asks (by_memory is ends) reads known read written =
       rw is (free input.file _ (λ bytes. memory_is_free (outcome_for request bytes)))
   read_as request status asks (by_answer answer is some) reads known read written =
@@ -231,7 +231,7 @@ module _ (Gives : Job → Type 0) (once : GiveOne Gives) (checks input : InputTo
       refusal ends.refused told)
   refused_as status refusal (by_unread is ends) told known =
       absurd (known (failed ends.job told.job ends.file ends.gives told.gives ends.watches
-      ends.cause))
+      ends.unread.cause))
   refused_as status refusal (by_memory is ends) told known = inr is
   refused_as status refusal (by_answer answer is some) told known =
       absurd (asked_or_refused Gives once (ChecksWereRead checks) (ChecksAreTold checks) same

@@ -17,7 +17,7 @@ use Rattle.tre_words.specs.declared.job.Job.{Job}
 use Rattle.tre_words.specs.declared.job.Mode.{Mode}
 use Rattle.tre_words.specs.declared.job.Mode.TheVariants.{Offline, Online, Show, Generate, Watch as WatchMode}
 use Rattle.tre_tool.specs.Parts.{plain_sought, patterns_with}
-use Rattle.tre_tool.specs.Request.{Spell, texts_with, AreDefinedBy, AreDefinitions, IsRefusedText, IsRefusedMinus, AreRefusedDefinitions, IsRefusalOf}
+use Rattle.tre_tool.specs.Request.{Spell, texts_with, AreDefinedBy, AreDefinitions, IsRefusedMinus, AreRefusedDefinitions, IsRefusalOf}
 use Rattle.tre_tool.specs.Status.{parse_status, minus_status}
 use Rattle.tre_tool.specs.declared.status.Status.{Status}
 use Rattle.tre_tool.specs.declared.status.Status.TheVariants.{Done, Usage, Expression, Minus, Definitions, Watch, Trace, InputTooLong, TooManyZones, ReadFault, WriteFault, Memory}
@@ -99,12 +99,10 @@ Spell-taken job pattern taken text read given same is first =
 -- a text is refused, from what `parse` answers to it
 refused_by : (scale : ℕ) (text read : List ℕ) (fault : ParseFault) → read ≡ text
     → (fault ≡ ParseMemory) ⊎ IsOutcome scale read (refused fault) → fault ≢ ParseMemory
-    → IsRefusedText scale text fault
-refused_by scale text read fault same either never = record {
-  refuses = subst (λ t. IsOutcome scale t (refused fault)) same
-      (⊎_elim (λ memory. absurd (never memory)) (λ told. told) either);
-  never_memory = never;
-}
+    → IsOutcome scale text (refused fault)
+refused_by scale text read fault same either never =
+    subst (λ t. IsOutcome scale t (refused fault)) same
+    (⊎_elim (λ memory. absurd (never memory)) (λ told. told) either)
 
 -- memory was wanting, or the fault of the first text is told
 parse_faults : (fault : ParseFault)
@@ -161,15 +159,16 @@ IsRefusalOf-taken job text read fault given same either never patterns first =
 
 -- a text that spells a pattern isn't refused
 text_or_refused : (scale : ℕ) (text : List ℕ) (fault : ParseFault) (pattern : Sought)
-    → IsRefusedText scale text fault → IsOutcome scale text (spelt pattern.tree pattern.names) → ⊥
+    → IsOutcome scale text (refused fault)
+    → IsOutcome scale text (spelt pattern.tree pattern.names) → ⊥
 text_or_refused scale text fault pattern told so =
     let wrong = outcome_once scale text (refused fault) (spelt pattern.tree pattern.names)
-    told.refuses so in
+    told so in
     cc
 
 -- the first of the texts spells a pattern, where all do
 first_or_refused : (scale : ℕ) (text : List ℕ) (fault : ParseFault) (texts : List (List ℕ))
-    (patterns : List Sought) → IsRefusedText scale text fault
+    (patterns : List Sought) → IsOutcome scale text (refused fault)
     → Spell scale (text ∷ texts) patterns → ⊥
 first_or_refused scale text fault texts (pattern ∷ patterns) told so =
     text_or_refused scale text fault pattern told so.1
@@ -177,7 +176,7 @@ first_or_refused scale text fault texts [] told so = absurd so
 
 -- and so does the second
 second_or_refused : (scale : ℕ) (first text : List ℕ) (fault : ParseFault)
-    (patterns : List Sought) → IsRefusedText scale text fault
+    (patterns : List Sought) → IsOutcome scale text (refused fault)
     → Spell scale (first ∷ text ∷ []) patterns → ⊥
 second_or_refused scale first text fault (pattern ∷ other ∷ patterns) told so =
     text_or_refused scale text fault other told so.2.1
@@ -185,7 +184,7 @@ second_or_refused scale first text fault (pattern ∷ []) told so = absurd so.2
 second_or_refused scale first text fault [] told so = absurd so
 
 all_or_first : (scale : ℕ) (text : List ℕ) (taken : Option (List ℕ)) (fault : ParseFault)
-    (patterns : List Sought) → IsRefusedText scale text fault
+    (patterns : List Sought) → IsOutcome scale text (refused fault)
     → Spell scale (texts_with text taken) patterns → ⊥
 all_or_first scale text None fault patterns told so =
     first_or_refused scale text fault [] patterns told so
@@ -208,10 +207,10 @@ defined_or_refused job fault lets told so =
     refused-or (parts_of told.text) lets fault defined told.refuses
 
 -- a text is refused in one way
-fault_once : (scale : ℕ) (text : List ℕ) (one other : ParseFault) → IsRefusedText scale text one
-    → IsRefusedText scale text other → one ≡ other
+fault_once : (scale : ℕ) (text : List ℕ) (one other : ParseFault)
+    → IsOutcome scale text (refused one) → IsOutcome scale text (refused other) → one ≡ other
 fault_once scale text one other told told' =
-    let same = outcome_once scale text (refused one) (refused other) told.refuses told'.refuses in
+    let same = outcome_once scale text (refused one) (refused other) told told' in
     cc
 
 given_once : {X : Type 0} {x y : X} (o : Option X) → o ≡ Some x → o ≡ Some y → x ≡ y
@@ -221,7 +220,7 @@ minus_once : (job : Job) (one other : ParseFault) → IsRefusedMinus job one
     → IsRefusedMinus job other → one ≡ other
 minus_once job one other told told' =
     fault_once job.scale told'.text one other
-    (subst (λ text. IsRefusedText job.scale text one)
+    (subst (λ text. IsOutcome job.scale text (refused one))
     (given_once job.minus told.given told'.given) told.refuses) told'.refuses
 
 lets_once : (job : Job) (one other : LetFault) → AreRefusedDefinitions job one
@@ -234,7 +233,7 @@ lets_once job one other told told' =
 -- What a refusal is of.
 data Refuses (job : Job) (refusal : Status) : Type 0 where
   of_expression : (fault : ParseFault) → refusal ≡ Expression fault
-      → IsRefusedText job.scale job.expr fault → Refuses job refusal
+      → IsOutcome job.scale job.expr (refused fault) → Refuses job refusal
   of_minus : (fault : ParseFault) → refusal ≡ Minus fault → IsRefusedMinus job fault
       → Refuses job refusal
   of_definitions : (fault : LetFault) → refusal ≡ Definitions fault

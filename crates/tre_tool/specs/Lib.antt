@@ -4,5 +4,7 @@ pub mod Checks
 pub mod Request
 pub mod Run
 pub mod Status
+-- What follows of a made run.
+pub mod MadeRun
 -- What the functions inside promise each other.
 pub mod Parts

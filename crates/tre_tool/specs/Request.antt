@@ -1,20 +1,17 @@
 -- What words ask for: a job, the patterns that it looks for, and the definitions of their names.
 -- `Gives` is the job that the words give, and `Says` what the file of checks comes to, which the
 -- words of a watch name.
-use Rattle.std.specs.Prelude.{◌≡◌, ◌≢◌, ◌⊎◌, ℕ, List, [], ◌∷◌, Option, None, Some}
+use Rattle.std.specs.Prelude.{◌≡◌, ◌⊎◌, ℕ, List, [], ◌∷◌, Option, None, Some}
 use Rattle.tre_generate.specs.FixedPattern.{fixed_tree, fixed_vocabulary}
 use Rattle.tre_num.specs.Defined.{Defined}
 use Rattle.tre_num.specs.Definitions.{Define, parts_of, IsRefused as IsRefusedAt}
 use Rattle.tre_num.specs.declared.let_fault.LetFault.{LetFault}
 use Rattle.tre_parse.specs.Outcome.{IsOutcome, spelt, refused}
 use Rattle.tre_parse.specs.declared.fault.ParseFault.{ParseFault}
-use Rattle.tre_parse.specs.declared.fault.ParseFault.TheVariants.{Memory as ParseMemory}
 use Rattle.tre_syntax.specs.PatternTree.{PatternTree}
 use Rattle.tre_tell.specs.Sought.{Sought}
 use Rattle.tre_trace.specs.Reading.{Vocabulary}
 use Rattle.tre_watch.specs.Outcome.{Outcome, faulty}
-use Rattle.tre_watch.specs.declared.fault.WatchFault.{WatchFault}
-use Rattle.tre_watch.specs.declared.fault.WatchFault.TheVariants.{Pattern, Memory as WatchMemory}
 use Rattle.tre_words.specs.declared.job.Job.{Job}
 use Rattle.tre_words.specs.declared.job.Mode.{Mode}
 use Rattle.tre_words.specs.declared.job.Mode.TheVariants.{Offline, Generate, Watch}
@@ -23,13 +20,9 @@ use Rattle.tre_tool.specs.Checks.{SayPatterns}
 use Rattle.tre_tool.specs.declared.status.Status.{Status}
 use Rattle.tre_tool.specs.declared.status.Status.TheVariants.{Expression, Minus, Definitions, Watch as WatchStatus}
 
--- a pattern without a label
-abbrev pub unlabelled : PatternTree → Vocabulary → Sought
-unlabelled tree names = record { label = []; tree = tree; names = names }
-
 -- one pattern, without a label
 abbrev pub alone : PatternTree → Vocabulary → List Sought
-alone tree names = unlabelled tree names ∷ []
+alone tree names = record { label = []; tree = tree; names = names } ∷ []
 
 -- Each of the texts spells its pattern at this scale, within the limits. None has a label.
 abbrev pub Spell : ℕ → List (List ℕ) → List Sought → Type 0
@@ -62,18 +55,13 @@ abbrev pub AreDefinitions : Mode → Job → List Defined → Type 0
 AreDefinitions Offline job lets = AreDefinedBy job.lets lets
 AreDefinitions mode job lets = lets ≡ []
 
--- The text is refused with this fault, which is no want of memory.
-pub record IsRefusedText (scale : ℕ) (text : List ℕ) (fault : ParseFault) : Type 0 where
-  pub refuses : IsOutcome scale text (refused fault)
-  pub never_memory : fault ≢ ParseMemory
-
 -- The text of the pattern that is taken away is, and that of the one that is looked for isn't.
 pub record IsRefusedMinus (job : Job) (fault : ParseFault) : Type 0 where
   pub patterns : List Sought
   pub spelt : Spell job.scale (job.expr ∷ []) patterns
   pub text : List ℕ
   pub given : job.minus ≡ Some text
-  pub refuses : IsRefusedText job.scale text fault
+  pub refuses : IsOutcome job.scale text (refused fault)
 
 -- A definition is refused, and no pattern is. Only a run that tells all matches at once reads them.
 pub record AreRefusedDefinitions (job : Job) (fault : LetFault) : Type 0 where
@@ -86,26 +74,14 @@ pub record AreRefusedDefinitions (job : Job) (fault : LetFault) : Type 0 where
 
 -- What a job gives is refused so, before its input is looked at: the first of its texts that is.
 abbrev pub IsRefusalOf : Job → Status → Type 0
-IsRefusalOf job (Expression fault) = IsRefusedText job.scale job.expr fault
+IsRefusalOf job (Expression fault) = IsOutcome job.scale job.expr (refused fault)
 IsRefusalOf job (Minus fault) = IsRefusedMinus job fault
 IsRefusalOf job (Definitions fault) = AreRefusedDefinitions job fault
 IsRefusalOf job refusal = ⊥
 
--- The fault carries no want of memory.
-abbrev pub CarriesNoMemory : WatchFault → Type 0
-CarriesNoMemory WatchMemory = ⊥
-CarriesNoMemory (Pattern line fault) = fault ≢ ParseMemory
-CarriesNoMemory fault = Unit {0}
-
--- A file of checks is refused with this fault.
-pub record IsRefusedFile (Says : ℕ → Outcome → Type 0) (scale : ℕ) (fault : WatchFault) : Type 0
-  where
-    pub refuses : Says scale (faulty fault)
-    pub never_memory : CarriesNoMemory fault
-
 -- A watch at this scale is refused so: its file of checks is.
 abbrev pub IsRefusalOfFile : (ℕ → Outcome → Type 0) → ℕ → Status → Type 0
-IsRefusalOfFile Says scale (WatchStatus fault) = IsRefusedFile Says scale fault
+IsRefusalOfFile Says scale (WatchStatus fault) = Says scale (faulty fault)
 IsRefusalOfFile Says scale refusal = ⊥
 
 -- A job in this mode is. Of a made run nothing is refused.

@@ -1,19 +1,17 @@
 -- The promise of a run: how it ends, what each status means, and what was written. `Gives` is the
 -- job that the words give, and `checks` the source of the file of checks that a watch names.
-use Rattle.std.specs.Prelude.{◌≡◌, ◌≢◌, ◌⊎◌, ℕ, List, IfSome, IsTrue, Some, false, true}
+use Rattle.std.specs.Prelude.{◌≡◌, ◌⊎◌, ℕ, List, IfSome, false}
 use Rattle.std.specs.Io.KnownBytes.{Appends}
 use Rattle.tre_answer.specs.Ends.{ReadsInput, StandsAtMemory, EndsDone, EndsAtInput, EndsTooMany, EndsReadFault, EndsWriteFault}
 use Rattle.tre_answer.specs.Readings.{outcome_for}
 use Rattle.tre_answer.specs.Request.{Request}
+use Rattle.tre_feed.specs.Front.{IsUnreadable}
 use Rattle.tre_feed.specs.Input.{InputTold, AllReadsGood}
 use Rattle.tre_feed.specs.Outcome.{Outcome, completes, refuses, exceeds, IsInputKind}
-use Rattle.tre_generate.specs.FixedPattern.{fixed_tree}
-use Rattle.tre_generate.specs.Summary.{IsSummary}
 use Rattle.tre_io.specs.Faults.{counted, Rises}
 use Rattle.tre_io.specs.Written.{AppendsPart}
 use Rattle.tre_tell.specs.Outputs.{OutputTold, AllWritesGood, NothingWritten}
 use Rattle.tre_watch.specs.Outcome.{Outcome as ChecksOutcome}
-use Rattle.tre_words.specs.Job.{is_made_run, made_count}
 use Rattle.tre_words.specs.declared.job.Job.{Job}
 use Rattle.tre_words.specs.declared.job.Mode.{Mode}
 use Rattle.tre_words.specs.declared.job.Mode.TheVariants.{Watch}
@@ -63,16 +61,14 @@ pub record EndsRefused (Gives : Job → Type 0) (Says : ℕ → ChecksOutcome �
   pub refused : IsRefused Gives Says refusal
   pub nothing : NothingDone input output
 
--- The words name a file of checks that couldn't be opened or read: one failure was counted, and a
--- source that is sound under this name has none. The input wasn't looked at.
+-- The words name a file of checks that couldn't be opened or read. The input wasn't looked at.
 pub record EndsUnread (Gives : Job → Type 0) (checks input : InputTold) (output : OutputTold)
     : Type 0 where
   pub job : Job
   pub gives : Gives job
   pub file : List ℕ
   pub watches : job.mode ≡ Watch file
-  pub cause : checks.faults_now ≡ counted checks.faults_before
-  pub unsound : IsTrue checks.sound → checks.name ≢ Some file
+  pub unread : IsUnreadable file checks
   pub nothing : NothingDone input output
 
 -- `Memory`: it may come at any time. No failure was counted, and either the input wasn't open yet,
@@ -146,29 +142,3 @@ pub record IsComplete (Gives : Job → Type 0) (checks input : InputTold) (outpu
   pub unread : (request : Request) → AsksFor Gives (ChecksAreTold checks) request →
       ¬ ReadsInput request.job.mode → ¬ Rises output.faults_before output.faults_now →
       IsUnlessMemory Done status
-
--- The words ask for a made run of so many segments.
-pub record AsksForMadeRun (words : List (List ℕ)) (count : ℕ) : Type 0 where
-  pub first : is_made_run words ≡ true
-  pub second : made_count words ≡ Some count
-
--- The summary of a made run was written.
-pub record SummaryWritten (count : ℕ) (output : OutputTold) : Type 0 where
-  pub text : List ℕ
-  pub right : IsSummary fixed_tree count text
-  pub writes : AllWritesGood output
-  pub written : Appends output.written_before output.written_now text
-
--- A first part of it was, and one failure to write was counted.
-pub record SummaryIsCut (count : ℕ) (output : OutputTold) : Type 0 where
-  pub text : List ℕ
-  pub right : IsSummary fixed_tree count text
-  pub cause : output.faults_now ≡ counted output.faults_before
-  pub written : AppendsPart output.written_before output.written_now text
-
--- The end of a made run of so many segments, status by status. No other status comes.
-abbrev pub EndsMadeRun : ℕ → OutputTold → Status → Type 0
-EndsMadeRun count output Done = SummaryWritten count output
-EndsMadeRun count output WriteFault = SummaryIsCut count output
-EndsMadeRun count output Memory = NothingWritten output
-EndsMadeRun count output _ = ⊥

@@ -1,5 +1,5 @@
 -- What a run answers, as a number and as a line on standard error.
-use Rattle.std.specs.Prelude.{ℕ, Option, None, Some, List, [], ◌++◌, codes, decimal}
+use Rattle.std.specs.Prelude.{ℕ, List, [], ◌++◌, codes, decimal}
 use Rattle.tre_trace.specs.declared.fault.TraceKind.{TraceKind}
 use Rattle.tre_trace.specs.declared.fault.TraceKind.TheVariants.{LineTooLong, BadNumber, Zero, TooLate, BadName, BadToken, UnknownName, TimeBack, CutShort, Spent, Memory as KindMemory}
 use Rattle.tre_parse.specs.declared.fault.ParseFault.{ParseFault}
@@ -77,45 +77,28 @@ kind_name CutShort = codes "CutShort"
 kind_name Spent = codes "Spent"
 kind_name KindMemory = codes "Memory"
 
--- the words on a refused pattern, before its number
-abbrev pub fault_words : ParseFault → List ℕ
-fault_words TooLong = codes "TooLong"
-fault_words (BadByte at) = codes "BadByte at "
-fault_words (Number at) = codes "Number at "
-fault_words (TooDeep at) = codes "TooDeep at "
-fault_words (Syntax at) = codes "Syntax at "
-fault_words (EmptyInterval at) = codes "EmptyInterval at "
-fault_words (TooManyNames at) = codes "TooManyNames at "
-fault_words (TooLarge nodes) = codes "TooLarge "
-fault_words ParseMemory = codes "Memory"
-
--- where a pattern is refused, or how many nodes it has
-abbrev pub fault_number : ParseFault → Option ℕ
-fault_number TooLong = None
-fault_number (BadByte at) = Some at
-fault_number (Number at) = Some at
-fault_number (TooDeep at) = Some at
-fault_number (Syntax at) = Some at
-fault_number (EmptyInterval at) = Some at
-fault_number (TooManyNames at) = Some at
-fault_number (TooLarge nodes) = Some nodes
-fault_number ParseMemory = None
-
--- the number in digits, where there is one
-abbrev pub digits_of : Option ℕ → List ℕ
-digits_of None = []
-digits_of (Some n) = decimal n
+-- a number in digits, and the line's end
+abbrev pub number_line : ℕ → List ℕ
+number_line n = decimal n ++ codes "\n"
 
 -- the words on a refused pattern, up to the line's end
 abbrev pub refusal_words : ParseFault → List ℕ
-refusal_words fault = fault_words fault ++ (digits_of (fault_number fault) ++ codes "\n")
+refusal_words TooLong = codes "TooLong\n"
+refusal_words (BadByte at) = codes "BadByte at " ++ number_line at
+refusal_words (Number at) = codes "Number at " ++ number_line at
+refusal_words (TooDeep at) = codes "TooDeep at " ++ number_line at
+refusal_words (Syntax at) = codes "Syntax at " ++ number_line at
+refusal_words (EmptyInterval at) = codes "EmptyInterval at " ++ number_line at
+refusal_words (TooManyNames at) = codes "TooManyNames at " ++ number_line at
+refusal_words (TooLarge nodes) = codes "TooLarge " ++ number_line nodes
+refusal_words ParseMemory = codes "Memory\n"
 
 -- the words on a refused file of checks, up to the line's end
 abbrev pub watch_words : WatchFault → List ℕ
 watch_words FileTooLarge = codes "TooLarge\n"
-watch_words (BadLine line) = codes "BadLine at " ++ (decimal line ++ codes "\n")
-watch_words (TooMany line) = codes "TooMany at " ++ (decimal line ++ codes "\n")
-watch_words (NameTwice line) = codes "Twice at " ++ (decimal line ++ codes "\n")
+watch_words (BadLine line) = codes "BadLine at " ++ number_line line
+watch_words (TooMany line) = codes "TooMany at " ++ number_line line
+watch_words (NameTwice line) = codes "Twice at " ++ number_line line
 watch_words (Pattern line fault) =
     codes "Pattern at " ++ (decimal line ++ (codes ": " ++ refusal_words fault))
 watch_words Empty = codes "Empty\n"
@@ -127,17 +110,14 @@ error_line Done = []
 error_line Usage = codes "montre: wrong arguments\n"
 error_line (Expression fault) = codes "montre: expression: " ++ refusal_words fault
 error_line (Minus fault) = codes "montre: minus expression: " ++ refusal_words fault
-error_line (Definitions (BadLet at)) =
-    codes "montre: definitions: BadLet at " ++ (decimal at ++ codes "\n")
-error_line (Definitions (Twice at)) =
-    codes "montre: definitions: Twice at " ++ (decimal at ++ codes "\n")
+error_line (Definitions (BadLet at)) = codes "montre: definitions: BadLet at " ++ number_line at
+error_line (Definitions (Twice at)) = codes "montre: definitions: Twice at " ++ number_line at
 error_line (Definitions LetMemory) = codes "montre: definitions: Memory\n"
 error_line (Watch fault) = codes "montre: watch: " ++ watch_words fault
 error_line (Trace fault) =
     codes "montre: trace: " ++ kind_name fault.kind ++ codes " at " ++ decimal fault.place
     ++ codes "\n"
-error_line (TooManyZones zones) =
-    codes "montre: too many zones " ++ (decimal zones ++ codes "\n")
+error_line (TooManyZones zones) = codes "montre: too many zones " ++ number_line zones
 error_line InputTooLong = codes "montre: input too long\n"
 error_line ReadFault = codes "montre: read fault\n"
 error_line WriteFault = codes "montre: write fault\n"

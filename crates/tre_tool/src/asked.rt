@@ -3,12 +3,13 @@ ghost use Rattle.std.specs.Prelude.{◌≡◌, ◌≢◌, ◌≤◌, ◌+◌, �
 ghost use Rattle.tre_answer.specs.Ends.{ReadsInput};
 ghost use Rattle.tre_answer.specs.Request.{FitsJob, sought_in};
 ghost use Rattle.tre_decimal.specs.declared.TheConstants.{SCALE_MAX};
+ghost use Rattle.tre_feed.specs.Front.{IsUnreadable};
 ghost use Rattle.tre_feed.specs.Input.{AllReadsGood, TakesAtMost, input_told};
 ghost use Rattle.tre_generate.specs.FixedPattern.{fixed_tree, fixed_vocabulary};
 ghost use Rattle.tre_syntax.specs.declared.pattern.Pattern.{Pattern};
 ghost use Rattle.tre_tell.specs.Sought.{Sought};
 ghost use Rattle.tre_tool.specs.Checks.{ChecksWereRead};
-ghost use Rattle.tre_tool.specs.Parts.{IsUnread, plain_sought, patterns_with};
+ghost use Rattle.tre_tool.specs.Parts.{plain_sought, patterns_with};
 ghost use Rattle.tre_tool.specs.Request.{Spell, alone, texts_with, ArePatterns, AreDefinitions, IsRefusalOf, IsRefusalIn};
 ghost use Rattle.tre_tool.specs.Run.{ReadsChecks};
 ghost use Rattle.tre_tool.specs.Status.{minus_status};
@@ -170,7 +171,7 @@ pub fn asked_by<P: Source>(alloc: Global, job: &Job, checks: &mut P) -> Result<Q
         (input_told P.file_name P.file P.sound P.opened P.left P.found P.faults checks.old
         checks.new)) job.now status) }
     ensures unread { IfErr result (λ status. status ≡ Status.ReadFault →
-        (file : List ℕ) × (job.now.mode ≡ Watch file) × IsUnread file
+        (file : List ℕ) × (job.now.mode ≡ Watch file) × IsUnreadable file
         (input_told P.file_name P.file P.sound P.opened P.left P.found P.faults checks.old
         checks.new)) }
     ensures untouched { (ReadsChecks job.now.mode → ⊥) → checks.new ≡ checks.old }

@@ -2,9 +2,9 @@
 ghost use Rattle.std.specs.Prelude.{◌≡◌, ◌≢◌, ◌≤◌, ◌<◌, ◌+◌, ◌++◌, IfOk, IfErr, IfSome, IsTrue, OnOk, codes, false, length, map, string_bytes};
 ghost use Rattle.tre_answer.specs.Request.{sought_in};
 ghost use Rattle.tre_decimal.specs.declared.TheConstants.{SCALE_MAX};
+ghost use Rattle.tre_feed.specs.Front.{IsUnreadable};
 ghost use Rattle.tre_feed.specs.Input.{AllReadsGood, TakesAtMost, input_told};
 ghost use Rattle.tre_tool.specs.Checks.{ChecksWereRead, SayPatterns, labelled};
-ghost use Rattle.tre_tool.specs.Parts.{IsUnread};
 ghost use Rattle.tre_tool.specs.Request.{IsRefusalOfFile};
 ghost use Rattle.tre_watch.specs.Steps.{spelt_in};
 ghost use Rattle.tre_watch.specs.declared.reader.TheConstants.{FILE_MAX};
@@ -82,7 +82,7 @@ pub fn asked_of_checks<P: Source>(
         status ≢ Status.ReadFault → IsRefusalOfFile (ChecksWereRead
         (input_told P.file_name P.file P.sound P.opened P.left P.found P.faults checks.old
         checks.new)) scale status) }
-    ensures unread { IfErr result (λ status. status ≡ Status.ReadFault → IsUnread file.now
+    ensures unread { IfErr result (λ status. status ≡ Status.ReadFault → IsUnreadable file.now
         (input_told P.file_name P.file P.sound P.opened P.left P.found P.faults checks.old
         checks.new)) }
     ensures bounded { IsTrue (P.opened checks.new) →

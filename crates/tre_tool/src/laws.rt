@@ -1,11 +1,15 @@
-//! A law of what words ask for, as a function whose contract it is.
+//! Laws of what words ask for, each as a function whose contract it is.
 
 ghost use Rattle.std.specs.Prelude.{◌≡◌, ℕ, List};
 ghost use Rattle.tre_answer.specs.Request.{Request};
 ghost use Rattle.tre_feed.specs.Input.{InputTold};
+ghost use Rattle.tre_tell.specs.Outputs.{OutputTold};
 ghost use Rattle.tre_tool.specs.Checks.{ChecksAreTold};
+ghost use Rattle.tre_tool.specs.MadeRun.{AsksForMadeRun, EndsMadeRun};
 ghost use Rattle.tre_tool.specs.Request.{AsksFor};
-ghost use Rattle.tre_words.specs.Job.{GivesJob};
+ghost use Rattle.tre_tool.specs.Run.{EndsAs};
+ghost use Rattle.tre_tool.specs.declared.status.Status.{Status};
+ghost use Rattle.tre_words.specs.Job.{GivesJob, made_job};
 
 /// Words and a file of checks ask for one thing at most: one job, one list of patterns with their
 /// labels and names, and one list of definitions.
@@ -13,4 +17,14 @@ pub fn one_request()
     ensures { (words : List (List ℕ)) (checks : InputTold) (one other : Request) →
         AsksFor (GivesJob words) (ChecksAreTold checks) one →
         AsksFor (GivesJob words) (ChecksAreTold checks) other → one ≡ other }
+{}
+
+/// Words that ask for a made run give its job. A run over them writes the summary of its segments,
+/// or a first part of it: of the ends that a run may have there are no others.
+pub fn made_run()
+    ensures job { (words : List (List ℕ)) (count : ℕ) → AsksForMadeRun words count →
+        GivesJob words (made_job count) }
+    ensures ends { (words : List (List ℕ)) (count : ℕ) (checks input : InputTold)
+        (output : OutputTold) (status : Status) → AsksForMadeRun words count →
+        EndsAs (GivesJob words) checks input output status → EndsMadeRun count output status }
 {}

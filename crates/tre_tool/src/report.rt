@@ -2,7 +2,8 @@ ghost use Rattle.std.specs.Prelude.{◌≡◌, ◌++◌, codes, decimal, flat_ma
 ghost use Rattle.std.specs.Io.KnownBytes.{Appends};
 ghost use Rattle.tre_io.specs.Faults.{HasCause};
 ghost use Rattle.tre_io.specs.Written.{AppendsPart};
-ghost use Rattle.tre_tool.specs.Status.{kind_name, fault_words, fault_number, refusal_words, watch_words, error_line};
+ghost use Rattle.tre_tool.specs.Parts.{fault_words, fault_number};
+ghost use Rattle.tre_tool.specs.Status.{kind_name, refusal_words, error_line};
 
 use crate::Status;
 use itoa::Buffer;

@@ -1,13 +1,13 @@
-ghost use Rattle.std.specs.Prelude.{◌≡◌, ◌≢◌, ◌+◌, ℕ, IsTrue, IfSome, List, false, map, string_bytes};
+ghost use Rattle.std.specs.Prelude.{◌≡◌, ◌≢◌, ◌+◌, IsTrue, IfSome, List, false, map, string_bytes};
 ghost use Rattle.std.specs.Io.KnownBytes.{Appends};
 ghost use Rattle.tre_answer.specs.Ends.{ReadsInput};
-ghost use Rattle.tre_feed.specs.Input.{InputTold, TakesAtMost, input_told};
+ghost use Rattle.tre_feed.specs.Input.{TakesAtMost, input_told};
 ghost use Rattle.tre_io.specs.Faults.{Rises};
 ghost use Rattle.tre_tell.specs.Outputs.{output_told};
 ghost use Rattle.tre_tool.specs.Checks.{ChecksAreTold};
 ghost use Rattle.tre_tool.specs.Parts.{status_of};
 ghost use Rattle.tre_tool.specs.Request.{AsksForNothing};
-ghost use Rattle.tre_tool.specs.Run.{AsksForMadeRun, ReadNoChecks, ComesFirst, EndsAs, EndsMadeRun, IsComplete, IsLineTold};
+ghost use Rattle.tre_tool.specs.Run.{ReadNoChecks, ComesFirst, EndsAs, IsComplete, IsLineTold};
 ghost use Rattle.tre_tool.specs.Status.{error_line};
 ghost use Rattle.tre_watch.specs.declared.reader.TheConstants.{FILE_MAX};
 ghost use Rattle.tre_words.specs.Job.{GivesJob, HaveNoFault};
@@ -136,11 +136,6 @@ pub fn run_all<P: Source, S: Source, O: Sink, E: Sink>(
     // Only a watch reads a file of checks.
     ensures checks_untouched { ReadNoChecks (GivesJob (map string_bytes words.now)) →
         checks.new ≡ checks.old }
-
-    // A made run writes the summary of its segments, or a first part of it, and reads nothing.
-    ensures generated { (count : ℕ) → AsksForMadeRun (map string_bytes words.now) count →
-        EndsMadeRun count (output_told O.written O.faults out.old out.new) result
-        × (input.new ≡ input.old) }
 
     // Standard error is told the status. A failure to tell it is one, counted once, and leaves a
     // first part of the line.

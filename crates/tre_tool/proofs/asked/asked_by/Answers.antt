@@ -15,7 +15,8 @@ pub returns-in_ok-question-in-Generate-clause-fits :
     goal.returns-in_ok-question-in-Generate-clause-fits
 returns-in_ok-question-in-Generate-clause-fits g c =
     record {
-      labels = c.in_ok-question-in-Generate.ensures.labels ∙ sym c.in_ok-question-in-Generate.ensures.alone;
+      labels = c.in_ok-question-in-Generate.ensures.labels
+          ∙ sym c.in_ok-question-in-Generate.ensures.alone;
       some = omega (arith, c.in_ok-question-in-Generate.ensures.alone);
       columns = λ columns. c.in_ok-question-in-Generate.ensures.alone;
     }
@@ -42,7 +43,8 @@ pub returns-in_err-question-in-Generate-clause-unread :
 returns-in_err-question-in-Generate-clause-unread g c =
     let p = err_from_is_err_and c.from_residual.result
     c.from_residual.ensures.1 in
-    rw (p.1, p.2) (λ unread. let memory = c.in_err-question-in-Generate.ensures.failed in absurd (cc))
+    let memory = c.in_err-question-in-Generate.ensures.failed in
+    rw (p.1, p.2) (λ unread. absurd (cc))
 
 -- ---- a watch
 
@@ -96,7 +98,8 @@ returns-in_err-asked-in-Watch-clause-unread g c =
     let p = err_from_is_err_and c.from_residual-in_err-asked-in-Watch.result
     c.from_residual-in_err-asked-in-Watch.ensures.1 in
     rw (p.1, p.2) (λ unread.
-    (c.text.result.now, c.in-Watch.is ∙ ap Watch (sym c.text.ensures), c.in_err-asked-in-Watch.ensures.unread unread))
+    (c.text.result.now, c.in-Watch.is ∙ ap Watch (sym c.text.ensures),
+    c.in_err-asked-in-Watch.ensures.unread unread))
 
 pub returns-in_err-asked-in-Watch-clause-untouched :
     goal.returns-in_err-asked-in-Watch-clause-untouched
@@ -120,7 +123,8 @@ returns-in_ok-question-in_default-clause-patterns g c =
 pub returns-in_ok-question-in_default-clause-alone :
     goal.returns-in_ok-question-in_default-clause-alone
 returns-in_ok-question-in_default-clause-alone g c =
-    λ unread. c.in_ok-question-in_default.ensures.alone (nothing_taken c.args.job.now c.requires.job unread)
+    λ unread. c.in_ok-question-in_default.ensures.alone
+    (nothing_taken c.args.job.now c.requires.job unread)
 
 pub returns-in_err-question-in_default-clause-refuses :
     goal.returns-in_err-question-in_default-clause-refuses
@@ -128,7 +132,8 @@ returns-in_err-question-in_default-clause-refuses g c =
     let p = err_from_is_err_and c.from_residual-in_err-question-in_default.result
     c.from_residual-in_err-question-in_default.ensures.1 in
     rw (p.1, p.2) (λ never unread. refusal_of_texts c.args.job.now.mode _ c.args.job.now _
-    c.in_default.not-Generate c.in_default.not-Watch (c.in_err-question-in_default.ensures.refuses never))
+    c.in_default.not-Generate c.in_default.not-Watch
+    (c.in_err-question-in_default.ensures.refuses never))
 
 pub returns-in_err-question-in_default-clause-unread :
     goal.returns-in_err-question-in_default-clause-unread

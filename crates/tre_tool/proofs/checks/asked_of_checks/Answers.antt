@@ -1,7 +1,7 @@
 use Rattle.std.proofs.Common.{arith}
 use Rattle.std.proofs.lemmas.Result.{err_from_is_err_and}
 use Rattle.tre_watch.specs.Steps.{spelt_in}
-use Rattle.tre_tool.proofs.Plans.{ChecksWereRead-of, IsRefusalOfFile-read, IsRefusalOfFile-unread, IsUnread-of, good_unless_unread, read_though, some_planned}
+use Rattle.tre_tool.proofs.Plans.{ChecksWereRead-of, IsRefusalOfFile-read, IsRefusalOfFile-unread, is_unreadable, good_unless_unread, read_though, some_planned}
 use Rattle.tre_tool.proofs.checks.asked_of_checks.Goals as goal
 
 -- ---- the file couldn't be read
@@ -21,7 +21,7 @@ returns-in_err-bytes-clause-refuses g c =
 pub returns-in_err-bytes-clause-unread : goal.returns-in_err-bytes-clause-unread
 returns-in_err-bytes-clause-unread g c =
     let p = err_from_is_err_and c.from_residual.result c.from_residual.ensures.1 in
-    rw (p.1, p.2) (IsUnread-of c.args.file.now _ c.in_err-bytes.field-0.0
+    rw (p.1, p.2) (is_unreadable c.args.file.now _ c.in_err-bytes.field-0.0
     c.in_err-bytes.ensures.stops)
 
 -- ---- it is refused
@@ -38,8 +38,7 @@ returns-in_err-plan-clause-refuses g c =
     c.from_residual-in_err-plan.ensures.1 in
     rw (p.1, p.2) (λ never unread. IsRefusalOfFile-read _ c.args.scale _
     c.in_err-plan.field-0.0 c.in_ok-bytes.ensures.read
-    (rw c.deref.ensures.value at c.in_err-plan.ensures.outcome)
-    c.in_err-plan.ensures.never_memory never)
+    (rw c.deref.ensures.value at c.in_err-plan.ensures.outcome) never)
 
 pub returns-in_err-plan-clause-unread : goal.returns-in_err-plan-clause-unread
 returns-in_err-plan-clause-unread g c =

@@ -1,7 +1,5 @@
 use Rattle.std.proofs.Common.{map, string_bytes}
-use Rattle.tre_words.specs.Job.{made_job}
 use Rattle.tre_words.proofs.Jobs.{job_unique}
-use Rattle.tre_tool.proofs.MadeRuns.{EndsMadeRun-ends, gives_one}
 use Rattle.tre_tool.proofs.Parts.{IsLineTold-of}
 use Rattle.tre_tool.proofs.Promise.{IsComplete-ends}
 use Rattle.tre_tool.proofs.whole_run.run_all.Goals as goal
@@ -14,9 +12,3 @@ returns-clause-complete g c = rw c.ending-status.ensures
 pub returns-clause-error_part : goal.returns-clause-error_part
 returns-clause-error_part g c = IsLineTold-of _ _ c.tell_status.result
     c.tell_status.ensures.cause c.tell_status.ensures.line c.tell_status.ensures.part
-
-pub returns-clause-generated : goal.returns-clause-generated
-returns-clause-generated g c = λ count asks. (
-  rw c.ending-status.ensures (EndsMadeRun-ends _ count asks _ _ _ _ c.run_words.ensures.ends),
-  c.run_words.ensures.source_untouched (made_job count) (gives_one _ count asks) (λ reads. reads),
-)
