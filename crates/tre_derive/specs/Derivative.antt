@@ -84,8 +84,8 @@ pub record ComesBehind (zones : List ZoneBounds) (residual : ResidualTree) (tree
   pub across : ComesAcross zones tree piece begun
   pub builds : Builds whole (either behind begun)
 
--- The whole stands for matches of the expression inside the piece, a pair of the residual across its
--- end, and matches of the expression behind it.
+-- The whole stands for matches of the expression inside the piece, a pair of the residual across
+-- its end, and matches of the expression behind it.
 pub record ComesAround (tree : PatternTree) (piece : Piece) (residual whole : ResidualTree)
     : Type 0 where
   pub behind : ResidualTree
