@@ -109,7 +109,7 @@ const EVENTFUL: Segments<'static> = &[
 /// `1 p / 1 p / @ a / 1 p / @ a / 2 p q / @ b / 2 p`
 const STEADY: Segments<'static> = &[(1, 1, 0), (1, 1, 0), (1, 1, 1), (2, 3, 1), (2, 1, 2)];
 
-const PATTERNS: [&str; 10] = [
+const PATTERNS: [&str; 11] = [
     "event(a)",
     "p;event(a)",
     "(event(a);p)*",
@@ -120,6 +120,7 @@ const PATTERNS: [&str; 10] = [
     "rise(p);event(a)",
     "event(a);(p & (p;event(b)));q",
     "((event(a) | event(b));(p % [1,2]))+ % [2,5]",
+    "((event(a);p)*)*",
 ];
 
 #[test]

@@ -166,7 +166,7 @@ const REPEATED: Lengths<'static> = &[
     (1, 3),
 ];
 
-const PATTERNS: [&str; 19] = [
+const PATTERNS: [&str; 22] = [
     "p",
     "p;q",
     "(p % [1,1]);q",
@@ -186,6 +186,9 @@ const PATTERNS: [&str; 19] = [
     "(p|q) % [2,inf)",
     "(p;q) & (p|q)",
     "((p % [1,2]);(q % [1,2]))+ % [2,5]",
+    "((p;q)*)*",
+    "p***;q",
+    "(((p % [1,1])* | q)*)* & (p|q)+",
 ];
 
 #[test]
