@@ -97,9 +97,11 @@ pub returns-in_err-asked-in-Watch-clause-unread : goal.returns-in_err-asked-in-W
 returns-in_err-asked-in-Watch-clause-unread g c =
     let p = err_from_is_err_and c.from_residual-in_err-asked-in-Watch.result
     c.from_residual-in_err-asked-in-Watch.ensures.1 in
-    rw (p.1, p.2) (λ unread.
-    (c.text.result.now, c.in-Watch.is ∙ ap Watch (sym c.text.ensures),
-    c.in_err-asked-in-Watch.ensures.unread unread))
+    rw (p.1, p.2) (λ unread. (
+      c.text.result.now,
+      c.in-Watch.is ∙ ap Watch (sym c.text.ensures),
+      c.in_err-asked-in-Watch.ensures.unread unread,
+    ))
 
 pub returns-in_err-asked-in-Watch-clause-untouched :
     goal.returns-in_err-asked-in-Watch-clause-untouched
