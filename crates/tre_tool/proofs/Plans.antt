@@ -225,10 +225,10 @@ module _ (file : List ℕ) (checks : InputTold) where
   good_unless_unread (FeedTrace fault) stops other = absurd stops
   good_unless_unread FeedTooLong stops other = absurd stops
 
-  pub IsRefusalOfFile-unread : (Says : ℕ → Outcome → Type 0) (scale : ℕ) (fault : FeedFault)
-      → StopsFront file checks fault → feed_status fault ≢ Memory → feed_status fault ≢ ReadFault
-      → IsRefusalOfFile Says scale (feed_status fault)
-  IsRefusalOfFile-unread Says scale FeedRead stops memory unread = absurd (unread refl)
-  IsRefusalOfFile-unread Says scale FeedMemory stops memory unread = absurd (memory refl)
-  IsRefusalOfFile-unread Says scale (FeedTrace fault) stops memory unread = absurd stops
-  IsRefusalOfFile-unread Says scale FeedTooLong stops memory unread = absurd stops
+  pub IsRefusalOfFile-unread : (scale : ℕ) (fault : FeedFault) → StopsFront file checks fault
+      → feed_status fault ≢ Memory → feed_status fault ≢ ReadFault
+      → IsRefusalOfFile (ChecksWereRead checks) scale (feed_status fault)
+  IsRefusalOfFile-unread scale FeedRead stops memory unread = absurd (unread refl)
+  IsRefusalOfFile-unread scale FeedMemory stops memory unread = absurd (memory refl)
+  IsRefusalOfFile-unread scale (FeedTrace fault) stops memory unread = absurd stops
+  IsRefusalOfFile-unread scale FeedTooLong stops memory unread = absurd stops

@@ -15,7 +15,7 @@ returns-in_err-bytes-clause-wanting g c =
 pub returns-in_err-bytes-clause-refuses : goal.returns-in_err-bytes-clause-refuses
 returns-in_err-bytes-clause-refuses g c =
     let p = err_from_is_err_and c.from_residual.result c.from_residual.ensures.1 in
-    rw (p.1, p.2) (IsRefusalOfFile-unread c.args.file.now _ _ c.args.scale
+    rw (p.1, p.2) (IsRefusalOfFile-unread c.args.file.now _ c.args.scale
     c.in_err-bytes.field-0.0 c.in_err-bytes.ensures.stops)
 
 pub returns-in_err-bytes-clause-unread : goal.returns-in_err-bytes-clause-unread
