@@ -186,8 +186,8 @@ fn events_are_unknown(rt: HostRuntime) -> Result<(), Fail> {
     Ok(())
 }
 
-// Rows with a field of a million bytes and more between two texts.
-fn with_long_field(
+// Between two texts another, so often that it is a million bytes and more.
+fn with_long_middle(
     alloc: Global,
     front: &str,
     pattern: &str,
@@ -218,7 +218,7 @@ const LONG: [(&str, &str, &str, &str); 4] = [
 #[test]
 fn long_fields_are_read(rt: HostRuntime) -> Result<(), Fail> {
     for (front, pattern, back, want) in &LONG {
-        let rows = with_long_field(rt.alloc(), *front, *pattern, *back)?;
+        let rows = with_long_middle(rt.alloc(), *front, *pattern, *back)?;
         for most in [1000, 65_536] {
             assert!(rt;
                 says(rt.alloc(), ("hot", ""), 0, &rows, most, *want)?,
@@ -226,6 +226,23 @@ fn long_fields_are_read(rt: HostRuntime) -> Result<(), Fail> {
             );
         }
     }
+    Ok(())
+}
+
+// How many segments the rows are in one go, and when their trace ends.
+fn size_of(alloc: Global, rows: &[u8]) -> Result<(usize, u64), Fail> {
+    let definitions = definitions(alloc)?;
+    let (names, events) = (names_of(alloc, "hot")?, names_of(alloc, "")?);
+    match read_rows(alloc, rows, definitions, names, events, 0) {
+        Ok(trace) => Ok((trace.segments().len(), trace.end())),
+        Err(_) => Ok((0, 0)),
+    }
+}
+
+#[test]
+fn many_rows_are_read(rt: HostRuntime) -> Result<(), Fail> {
+    let rows = with_long_middle(rt.alloc(), "dt,temp\n", "1,80\n", "2,79\n")?;
+    assert!(rt; size_of(rt.alloc(), &rows)? == (300_001, 300_002));
     Ok(())
 }
 

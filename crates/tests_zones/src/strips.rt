@@ -5,7 +5,7 @@ use tests_support::{are_lines, set_of};
 use tre_strips::strips;
 
 // Zones, and the strips of what they hold.
-const STRIPS: [(&[&str], &[&str]); 9] = [
+const STRIPS: [(&[&str], &[&str]); 10] = [
     (&[], &[]),
     (&["[0,3) (0,3] (0,3]"], &["[0,3) (0,3] (0,3]"]),
     // What lasts up to two ticks, or from one to three: all of the above.
@@ -39,6 +39,14 @@ const STRIPS: [(&[&str], &[&str]); 9] = [
     (
         &["[0,3) (0,3] (0,2]"],
         &["[0,1] (0,3] (0,2]", "[1,3) (1,3] (0,2]"],
+    ),
+    // The same over times that are far apart: no tick between them is looked at.
+    (
+        &["[0,1000000000000) (0,1000000000000] (0,500000000000]"],
+        &[
+            "[0,500000000000] (0,1000000000000] (0,500000000000]",
+            "[500000000000,1000000000000) (500000000000,1000000000000] (0,500000000000]",
+        ],
     ),
     // A time by itself.
     (&["[1,1] (1,3) (0,2)"], &["[1,1] (1,3) (0,2)"]),
