@@ -1,7 +1,9 @@
 -- Readers of different groups couldn't be one.
-use Rattle.std.proofs.Common.{◌≡◌, ◌≢◌, ◌∙◌, ℕ, ◌<◌, inl, inr, List, [], ◌∷◌, ◌++◌, length, map, get_or, sym, subst, arith}
+use Rattle.std.proofs.Common.{◌≡◌, ◌≢◌, ◌∙◌, ◌==◌, ℕ, ◌+◌, ◌<◌, ◌≤◌, false, ap, inl, inr, List, [], ◌∷◌, ◌++◌, length, map, get_or, sym, subst, arith}
 use Rattle.std.specs.Prelude.{All, AllPairs}
 use Rattle.std.proofs.lemmas.Bool.{cases_lt}
+use Rattle.std.proofs.lemmas.Bool.Decides.{nat_tests}
+use Rattle.std.proofs.lemmas.Grind.{get_or_default_zero}
 use Rattle.std.proofs.lemmas.List.{length-map}
 use Rattle.std.proofs.lemmas.List.Elements.{All-push}
 use Rattle.std.proofs.lemmas.List.Quantifiers.{all_pairs_push}
@@ -55,3 +57,13 @@ numbers_push count begun number are below new = record {
   within = All-push (λ other. other < count) begun number are.within below;
   distinct = all_pairs_push (λ one other. one ≢ other) begun number are.distinct new;
 }
+
+-- a place that was looked at isn't the group's
+pub not_here : (begun : List ℕ) (place group k d : ℕ) → (get_or begun place 0 == group) ≡ false
+    → place < length begun → place ≤ k → k < place + 1 → get_or begun k d ≢ group
+not_here begun place group k d differs within low high is =
+    let same : k ≡ place = omega (arith, low, high) in
+    let at : get_or begun place 0 ≡ group =
+    sym (get_or_default_zero begun place d within)
+    ∙ (ap (λ i. get_or begun i d) (sym same) ∙ is) in
+    grind (arith, nat_tests)

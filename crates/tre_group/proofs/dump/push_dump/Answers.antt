@@ -1,4 +1,4 @@
-use Rattle.std.proofs.Common.{length, map}
+use Rattle.std.proofs.Common.{◌<◌, length, map, subst, sym}
 use Rattle.tre_syntax.specs.Pattern.{names_of}
 use Rattle.tre_vcd.specs.VcdReading.{vcd_reading}
 use Rattle.tre_group.specs.Begun.{dump_terms}
@@ -25,4 +25,7 @@ returns-clause-readings c = λ asked is.
 
 pub returns-clause-numbers : goal.returns-clause-numbers
 returns-clause-numbers c = λ are.
-    numbers_push (length c.args.groups.now) c.args.begun.now.items c.group-number.result are ? ?
+    numbers_push (length c.args.groups.now) c.args.begun.now.items c.group-number.result are
+    (subst (λ number. number < length c.args.groups.now) (sym c.group-number.ensures)
+    c.requires.within)
+    (rw c.deref.ensures.value at c.in_default.ensures.none)

@@ -1,4 +1,4 @@
-use Rattle.std.proofs.Common.{length}
+use Rattle.std.proofs.Common.{◌<◌, length, subst, sym}
 use Rattle.tre_text.specs.TextReading.{text_reading}
 use Rattle.tre_group.specs.Begun.{text_terms}
 use Rattle.tre_group.proofs.Few.{numbers_push}
@@ -24,4 +24,7 @@ returns-clause-readings c = λ asked is.
 
 pub returns-clause-numbers : goal.returns-clause-numbers
 returns-clause-numbers c = λ are.
-    numbers_push (length c.args.groups.now) c.args.begun.now.items c.group-number.result are ? ?
+    numbers_push (length c.args.groups.now) c.args.begun.now.items c.group-number.result are
+    (subst (λ number. number < length c.args.groups.now) (sym c.group-number.ensures)
+    c.requires.within)
+    (rw c.deref.ensures.value at c.in_default.ensures.none)
