@@ -1,6 +1,6 @@
 -- Readers of which each reads for a group.
-use Rattle.std.specs.Prelude.{◌≡◌, ℕ, Bool, List, [], map, slice_index_or}
-use Rattle.tre_share.specs.Shares.{Shows}
+use Rattle.std.specs.Prelude.{◌≡◌, ◌≢◌, ℕ, ◌<◌, Bool, List, [], map, slice_index_or, All, AllPairs}
+use Rattle.tre_share.specs.Shares.{AreApart, Shows}
 use Rattle.tre_share.specs.Shown.{shown_reading}
 use Rattle.tre_share.specs.declared.view.View.{View}
 use Rattle.tre_text.specs.TextReading.{Terms as TextTerms}
@@ -33,3 +33,14 @@ dump_terms declared scale names =
 abbrev pub SeesAs : (Vocabulary → Bool → List ℕ → Reading) → Type 0
 SeesAs read = (asked wide : Vocabulary) (view : View) → Shows asked wide view → (closed : Bool)
     (bytes : List ℕ) → read asked closed bytes ≡ shown_reading view (read wide closed bytes)
+
+-- The terms are those of some groups, no two of which could be one.
+pub record AreFew {Terms : Type 0} (terms : Vocabulary → Terms) (read : List Terms) : Type 0 where
+  pub groups : List Vocabulary
+  pub are : read ≡ map terms groups
+  pub apart : AllPairs AreApart groups
+
+-- They are numbers of so many groups, no two of them the same.
+pub record AreNumbers (count : ℕ) (begun : List ℕ) : Type 0 where
+  pub within : All (λ number. number < count) begun
+  pub distinct : AllPairs (λ one other. one ≢ other) begun

@@ -2,7 +2,7 @@
 ghost use Rattle.std.specs.Prelude.{◌≡◌, ◌<◌, ◌≤◌, ◌∷◌, ◌++◌, [], ℕ, Bool, List, length, map, IfOk, OnOk};
 ghost use Rattle.tre_decimal.specs.declared.TheConstants.{SCALE_MAX};
 ghost use Rattle.tre_feed.specs.Readers.{AreFresh, groups_in, readings_in};
-ghost use Rattle.tre_group.specs.Begun.{dump_terms, terms_at};
+ghost use Rattle.tre_group.specs.Begun.{AreFew, AreNumbers, dump_terms, terms_at};
 ghost use Rattle.tre_share.specs.Shares.{IsViewOf, group_of};
 ghost use Rattle.tre_syntax.specs.Pattern.{names_of};
 ghost use Rattle.tre_trace.specs.Reading.{Vocabulary};
@@ -31,6 +31,8 @@ pub fn dump_readers(
         readers closed bytes ≡ map (λ pattern. vcd_reading
         (dump_terms (map names_of patterns.now) scale (names_of pattern)) closed bytes)
         patterns.now) }
+    ensures few { IfOk result (λ readers. AreFew (dump_terms (map names_of patterns.now) scale)
+        (groups_in ⟦<VcdReader as TraceReader>⟧.terms readers)) }
 {
     let shares = share(alloc, patterns)?;
     let (groups, views) = shares.into_parts();
@@ -69,6 +71,8 @@ fn push_dump(
         (AreFresh ⟦<VcdReader as TraceReader>⟧.represents readers.new) }
     ensures begun { OnOk result (groups_in ⟦<VcdReader as TraceReader>⟧.terms readers.new
         ≡ terms_at (dump_terms (map names_of patterns.now) scale) groups.now begun.new.items) }
+    ensures numbers { AreNumbers (length groups.now) begun.old.items →
+        OnOk result (AreNumbers (length groups.now) begun.new.items) }
     ensures readings { (asked : Vocabulary) → IsViewOf groups.now asked view →
         OnOk result ((closed : Bool) (bytes : List ℕ) →
         readings_in ⟦<VcdReader as TraceReader>⟧.reading ⟦<VcdReader as TraceReader>⟧.terms

@@ -2,7 +2,7 @@
 ghost use Rattle.std.specs.Prelude.{◌≡◌, ◌<◌, ◌≤◌, ◌∷◌, ◌++◌, [], ℕ, Bool, List, length, map, IfOk, OnOk};
 ghost use Rattle.tre_decimal.specs.declared.TheConstants.{SCALE_MAX};
 ghost use Rattle.tre_feed.specs.Readers.{AreFresh, groups_in, readings_in};
-ghost use Rattle.tre_group.specs.Begun.{terms_at, text_terms};
+ghost use Rattle.tre_group.specs.Begun.{AreFew, AreNumbers, terms_at, text_terms};
 ghost use Rattle.tre_share.specs.Shares.{IsViewOf, group_of};
 ghost use Rattle.tre_syntax.specs.Pattern.{names_of};
 ghost use Rattle.tre_text.specs.TextReading.{text_reading};
@@ -29,6 +29,8 @@ pub fn text_readers(
         readings_in ⟦<TextReader as TraceReader>⟧.reading ⟦<TextReader as TraceReader>⟧.terms
         readers closed bytes ≡ map (λ pattern. text_reading
         (text_terms scale (names_of pattern)) closed bytes) patterns.now) }
+    ensures few { IfOk result (λ readers. AreFew (text_terms scale)
+        (groups_in ⟦<TextReader as TraceReader>⟧.terms readers)) }
 {
     let shares = share(alloc, patterns)?;
     let (groups, views) = shares.into_parts();
@@ -58,6 +60,8 @@ fn push_text(
         (AreFresh ⟦<TextReader as TraceReader>⟧.represents readers.new) }
     ensures begun { OnOk result (groups_in ⟦<TextReader as TraceReader>⟧.terms readers.new
         ≡ terms_at (text_terms scale) groups.now begun.new.items) }
+    ensures numbers { AreNumbers (length groups.now) begun.old.items →
+        OnOk result (AreNumbers (length groups.now) begun.new.items) }
     ensures readings { (asked : Vocabulary) → IsViewOf groups.now asked view →
         OnOk result ((closed : Bool) (bytes : List ℕ) →
         readings_in ⟦<TextReader as TraceReader>⟧.reading ⟦<TextReader as TraceReader>⟧.terms

@@ -2,6 +2,7 @@ use Rattle.std.proofs.Common.{◌≡◌, ◌∙◌, [], map, sym, rules}
 use Rattle.tre_syntax.specs.Pattern.{names_of}
 use Rattle.tre_vcd.specs.VcdReading.{vcd_reading}
 use Rattle.tre_group.specs.Begun.{dump_terms}
+use Rattle.tre_group.proofs.Few.{few_of}
 use Rattle.tre_group.proofs.Joining.{each_of, left_next, left_none, left_within, none_of}
 use Rattle.tre_group.proofs.dump.dump_readers.Goals as goal
 
@@ -18,6 +19,9 @@ loop-view-preserved c =
       ends = search rules;
       fresh = c.in_ok-push_dump.ensures.fresh;
       begun = rw c.deref.ensures.value at c.in_ok-push_dump.ensures.begun;
+      numbers = rw c.deref.ensures.value at
+          (c.in_ok-push_dump.ensures.numbers (rw (sym c.deref.ensures.value) c.loop-view.invariant.numbers));
+      apart = c.loop-view.invariant.apart;
       left = left_next _ c.in-Some.view _ left
           (rw c.deref.ensures.value at c.in_ok-push_dump.ensures.readings);
     }
@@ -30,3 +34,8 @@ returns-clause-reads c =
     ∙ each_of names_of (λ names. vcd_reading
     (dump_terms (map names_of c.args.patterns.now) c.args.scale names) closed bytes)
     c.args.patterns.now
+
+pub returns-clause-few : goal.returns-clause-few
+returns-clause-few c =
+    few_of (dump_terms (map names_of c.args.patterns.now) c.args.scale) _ _ _ c.loop-view.invariant.begun
+    c.loop-view.invariant.apart c.loop-view.invariant.numbers

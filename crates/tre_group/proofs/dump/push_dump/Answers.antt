@@ -1,7 +1,8 @@
-use Rattle.std.proofs.Common.{map}
+use Rattle.std.proofs.Common.{◌<◌, length, map, subst, sym}
 use Rattle.tre_syntax.specs.Pattern.{names_of}
 use Rattle.tre_vcd.specs.VcdReading.{vcd_reading}
 use Rattle.tre_group.specs.Begun.{dump_terms}
+use Rattle.tre_group.proofs.Few.{numbers_push}
 use Rattle.tre_group.proofs.Joining.{shared_told, shown_in}
 use Rattle.tre_group.proofs.Names.{dump_seen}
 use Rattle.tre_group.proofs.dump.push_dump.Goals as goal
@@ -21,3 +22,10 @@ returns-clause-readings c = λ asked is.
     c.in_ok-reader.ensures.terms (dump_seen c.shared.ensures (map names_of c.args.patterns.now) c.args.scale)
     (shown_in c.args.groups.now c.group-number.result c.index-groups-number.result
     c.index-groups-number.is c.args.view c.group-number.ensures asked is)
+
+pub returns-clause-numbers : goal.returns-clause-numbers
+returns-clause-numbers c = λ are.
+    numbers_push (length c.args.groups.now) c.args.begun.now.items c.group-number.result are
+    (subst (λ number. number < length c.args.groups.now) (sym c.group-number.ensures)
+    c.requires.within)
+    (rw c.deref.ensures.value at c.in_default.ensures.none)

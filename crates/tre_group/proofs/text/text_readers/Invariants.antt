@@ -1,9 +1,11 @@
-use Rattle.std.proofs.Common.{◌≡◌, map}
+use Rattle.std.proofs.Common.{◌≡◌, length, map}
+use Rattle.std.specs.Prelude.{AllPairs}
 use Rattle.tre_feed.specs.Readers.{AreFresh, groups_in, readings_in}
+use Rattle.tre_share.specs.Shares.{AreApart}
 use Rattle.tre_syntax.specs.Pattern.{names_of}
 use Rattle.tre_text.specs.TextReading.{text_reading}
 use Rattle.tre_text.specs.contracts.line_reader.LineReaderPartReader.TheImpl.{ghosts as line_reader}
-use Rattle.tre_group.specs.Begun.{terms_at, text_terms}
+use Rattle.tre_group.specs.Begun.{AreNumbers, terms_at, text_terms}
 use Rattle.tre_group.proofs.Joining.{IsLeft}
 use Rattle.tre_group.proofs.Parts.{parts_reading, parts_represent, parts_terms}
 use Rattle.tre_group.proofs.text.text_readers.Given as goal
@@ -17,6 +19,8 @@ invariant-loop-view l = record {
       l.readers;
   begun : groups_in (parts_terms line_reader.terms) l.readers
       ≡ terms_at (text_terms l.scale) l.groups.items l.begun.items;
+  numbers : AreNumbers (length l.groups.items) l.begun.items;
+  apart : AllPairs AreApart l.groups.items;
   left : IsLeft l.groups.items (λ names. text_reading (text_terms l.scale names))
       (map names_of l.patterns) (readings_in (parts_reading line_reader.format)
       (parts_terms line_reader.terms) l.readers) l.view-iterator.rest.items;
