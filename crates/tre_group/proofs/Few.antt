@@ -1,8 +1,7 @@
 -- Readers of different groups couldn't be one.
-use Rattle.std.proofs.Common.{◌≡◌, ◌≢◌, ◌∙◌, ◌==◌, ℕ, ◌+◌, ◌<◌, ◌≤◌, false, ap, inl, inr, List, [], ◌∷◌, ◌++◌, length, map, get_or, sym, subst, arith}
+use Rattle.std.proofs.Common.{◌≡◌, ◌≢◌, ◌∙◌, ℕ, ◌+◌, ◌<◌, ◌≤◌, ap, inl, inr, List, [], ◌∷◌, ◌++◌, length, map, get_or, sym, subst, arith}
 use Rattle.std.specs.Prelude.{All, AllPairs}
 use Rattle.std.proofs.lemmas.Bool.{cases_lt}
-use Rattle.std.proofs.lemmas.Bool.Decides.{nat_tests}
 use Rattle.std.proofs.lemmas.Grind.{get_or_default_zero}
 use Rattle.std.proofs.lemmas.List.{length-map}
 use Rattle.std.proofs.lemmas.List.Elements.{All-push}
@@ -59,11 +58,11 @@ numbers_push count begun number are below new = record {
 }
 
 -- a place that was looked at isn't the group's
-pub not_here : (begun : List ℕ) (place group k d : ℕ) → (get_or begun place 0 == group) ≡ false
+pub not_here : (begun : List ℕ) (place group k d : ℕ) → get_or begun place 0 ≢ group
     → place < length begun → place ≤ k → k < place + 1 → get_or begun k d ≢ group
 not_here begun place group k d differs within low high is =
     let same : k ≡ place = omega (arith, low, high) in
     let at : get_or begun place 0 ≡ group =
     sym (get_or_default_zero begun place d within)
     ∙ (ap (λ i. get_or begun i d) (sym same) ∙ is) in
-    grind (arith, nat_tests)
+    differs at

@@ -7,7 +7,7 @@ pub loop-place-preserved : goal.loop-place-preserved
 loop-place-preserved c = λ k d below. elim (cases_lt k c.loop-place.place) [
   | inl before ↦ c.loop-place.invariant k d before
   | inr here ↦
-      not_here c.args.begun.now c.loop-place.place c.args.group k d c.if-begun-group.false
+      not_here c.args.begun.now c.loop-place.place c.args.group k d c.if-begun-place.false
       (omega arith) here below
 ]
 

@@ -20,7 +20,7 @@ loop-view-preserved c =
       fresh = c.in_ok-push_dump.ensures.fresh;
       begun = rw c.deref.ensures.value at c.in_ok-push_dump.ensures.begun;
       numbers = rw c.deref.ensures.value at
-          (c.in_ok-push_dump.ensures.numbers (rw (sym c.deref.ensures.value) c.loop-view.invariant.numbers));
+          (c.in_ok-push_dump.ensures.numbers (rw c.deref.ensures.value c.loop-view.invariant.numbers));
       apart = c.loop-view.invariant.apart;
       left = left_next _ c.in-Some.view _ left
           (rw c.deref.ensures.value at c.in_ok-push_dump.ensures.readings);

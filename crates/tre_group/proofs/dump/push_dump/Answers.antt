@@ -25,7 +25,8 @@ returns-clause-readings c = λ asked is.
 
 pub returns-clause-numbers : goal.returns-clause-numbers
 returns-clause-numbers c = λ are.
-    numbers_push (length c.args.groups.now) c.args.begun.now.items c.group-number.result are
+    rw c.in_ok-push.ensures.items
+    (numbers_push (length c.args.groups.now) c.args.begun.now.items c.group-number.result are
     (subst (λ number. number < length c.args.groups.now) (sym c.group-number.ensures)
     c.requires.within)
-    (rw c.deref.ensures.value at c.in_default.ensures.none)
+    (rw c.deref.ensures.value at c.in_default.ensures.none))
