@@ -1,5 +1,6 @@
 -- sets of ordered pairs
 pub mod SetsOf
+pub mod FoundSets
 pub mod Among
 -- what crosses the end of a piece
 pub mod Crossings

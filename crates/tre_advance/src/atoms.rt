@@ -2,22 +2,24 @@
 ghost use Rattle.std.specs.Prelude.{◌≡◌, List, [], IfOk, IsTrue};
 ghost use Rattle.tre_state.specs.declared.names.TheConstants.{NAMES_MAX};
 ghost use Rattle.tre_syntax.specs.Expr.{tree_of};
+ghost use Rattle.tre_syntax.specs.Meaning.{MatchesRest};
 ghost use Rattle.tre_syntax.specs.PatternTree.{NumbersBelow};
 ghost use Rattle.tre_zone.specs.declared.zone_bounds.ZoneBounds.{ZoneBounds};
 ghost use Rattle.tre_mark.specs.MarkTree.{mark_of, atom_mark};
 ghost use Rattle.tre_mark.specs.Marked.{EndBetween, IsWellAt};
-ghost use Rattle.tre_edges.specs.Piece.{end_of_piece};
+ghost use Rattle.tre_edges.specs.Piece.{end_of_piece, rest_of_piece};
 ghost use Rattle.tre_pairs.specs.Pairs.{Composed, Either};
 ghost use Rattle.tre_zone.specs.Held.{Held, IsSetOf};
+ghost use Rattle.tre_zone.specs.ZoneList.{HoldExactly};
 ghost use Rattle.tre_advance.specs.Advance.{Advances};
 ghost use Rattle.tre_advance.specs.Moves.{EntersTo, TellsAtom, AreAmong, IsBriefTree, IsLiteralTree};
 
 use crate::sets::{
-    all_among, ending_at, followed, joined, joined_behind, joined_both, joined_ends,
+    all_among, ending_at, followed, joined, joined_behind, joined_both, joined_ends, set_of,
 };
 use crate::stepping::Advanced;
 use std::alloc::{AllocError, Global};
-use tre_edges::Piece;
+use tre_edges::{Piece, literal_in};
 use tre_mark::atom;
 use tre_offline::local;
 use tre_syntax::Expr;
@@ -145,9 +147,21 @@ fn tell_atom(
     if are_empty(here, begun, entering) {
         return Ok(ZoneSet::new(alloc));
     }
-    let inside = local(alloc, expr, piece)?;
+    let inside = inside_of(alloc, expr, piece)?;
     let going = going_on(alloc, here, begun, entering, &inside)?;
     joined_behind(begun, going)
+}
+
+// The matches of the atom inside the piece.
+fn inside_of(alloc: Global, expr: &Expr, piece: &Piece) -> Result<ZoneSet, AllocError>
+    requires { NumbersBelow NAMES_MAX (tree_of expr.now) }
+    ensures { IfOk result (λ inside.
+        HoldExactly inside (MatchesRest (tree_of expr.now) (rest_of_piece piece.now))) }
+{
+    match expr {
+        Expr::Lit(state) => set_of(alloc, literal_in(state, piece)),
+        _ => local(alloc, expr, piece),
+    }
 }
 
 // Whether nothing is here, has begun or enters.

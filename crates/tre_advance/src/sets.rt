@@ -5,10 +5,13 @@ ghost use Rattle.tre_pairs.specs.declared.TheConstants.{TIME_MAX};
 ghost use Rattle.tre_mark.specs.Marked.{EndBetween};
 ghost use Rattle.tre_zone.specs.Held.{Held, IsSetOf};
 ghost use Rattle.tre_zone.specs.Interval.{LastsWithin};
-ghost use Rattle.tre_zone.specs.Zone.{IsInstantBetween, EndsAt, Includes};
+ghost use Rattle.tre_zone.specs.Zone.{ZoneHolds, IsInstantBetween, EndsAt, Includes};
+ghost use Rattle.tre_zone.specs.ZoneList.{HoldExactly};
+ghost use Rattle.tre_zoneset.specs.ZoneSet.{FoundHolds};
 ghost use Rattle.tre_advance.specs.Moves.{AreAmong, AreInstants};
 
 use std::alloc::{AllocError, Global};
+use tre_compose::compose;
 use tre_star::{closure, compose_sets};
 use tre_zone::{Interval, Zone, latest_end};
 use tre_zoneset::{ZoneSet, are_few};
@@ -24,7 +27,31 @@ pub fn followed(alloc: Global, first: &ZoneSet, second: &ZoneSet) -> Result<Zone
     // For the proof: the calls say that both are sets of zones.
     let _first = first.zones();
     let _second = second.zones();
-    compose_sets(alloc, first, second)
+    match first.zones() {
+        [one] => match second.zones() {
+            [other] => set_of(alloc, compose(one, other)),
+            _ => compose_sets(alloc, first, second),
+        },
+        _ => compose_sets(alloc, first, second),
+    }
+}
+
+/// The set of the zone that was found, empty where there is none.
+pub fn set_of(alloc: Global, found: Option<Zone>) -> Result<ZoneSet, AllocError>
+    ensures { IfOk result (λ zones. HoldExactly zones (FoundHolds found)) }
+{
+    match found {
+        Some(zone) => set_of_one(alloc, zone),
+        None => Ok(ZoneSet::new(alloc)),
+    }
+}
+
+fn set_of_one(alloc: Global, zone: Zone) -> Result<ZoneSet, AllocError>
+    ensures { IfOk result (λ zones. HoldExactly zones (ZoneHolds zone)) }
+{
+    let mut zones = ZoneSet::new(alloc);
+    zones.push_apart(zone)?;
+    Ok(zones)
 }
 
 /// The pairs of either set.
@@ -110,7 +137,10 @@ pub fn ending_at(alloc: Global, zones: &ZoneSet, time: u64) -> Result<ZoneSet, A
     if latest_end(zones.zones()) < time {
         return Ok(ZoneSet::new(alloc));
     }
-    zones.ending_at(time)
+    match zones.zones() {
+        [zone] => set_of(alloc, zone.ending_at(time)),
+        _ => zones.ending_at(time),
+    }
 }
 
 /// The pairs of the set, each of which ends from `begin` to `end`, followed by any number of the
