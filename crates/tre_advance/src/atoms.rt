@@ -79,54 +79,49 @@ pub fn enter_literal(
     })
 }
 
-/// A piece of an atom that lasts no time, into which the pairs of the set enter on the way.
+/// A piece of an atom that lasts no time, into which the pairs of the set enter on the way. Nothing
+/// has begun, or does.
 pub fn advance_brief(
     alloc: Global,
-    here: &ZoneSet,
+    here: &mut ZoneSet,
     begun: &ZoneSet,
     expr: &Expr,
     entering: &ZoneSet,
     piece: &Piece,
-) -> Result<Advanced, AllocError>
+) -> Result<ZoneSet, AllocError>
     requires numbers { NumbersBelow NAMES_MAX (tree_of expr.now) }
     requires brief { IsBriefTree (tree_of expr.now) }
-    requires well { IsWellAt piece.now.begin (atom_mark here.now begun.now) (tree_of expr.now) }
+    requires well { IsWellAt piece.now.begin (atom_mark here.old begun.now) (tree_of expr.now) }
     requires enter { EndBetween piece.now.begin (end_of_piece piece.now) entering.now }
-    ensures { IfOk result (λ r. Advances (atom_mark here.now begun.now) (tree_of expr.now)
-        entering.now piece.now r.told (mark_of r.rest)) }
+    ensures { IfOk result (λ told. Advances (atom_mark here.old begun.now) (tree_of expr.now)
+        entering.now piece.now told (atom_mark here.new begun.now)) }
 {
     let told = tell_atom(alloc, here, begun, expr, entering, piece)?;
-    let last = ending_at(alloc, entering, piece.begin + piece.segment.len)?;
-    Ok(Advanced {
-        told,
-        rest: atom(last, ZoneSet::new(alloc)),
-    })
+    *here = ending_at(alloc, entering, piece.begin + piece.segment.len)?;
+    Ok(told)
 }
 
 /// The same of a literal: what it tells at the end of the piece may hold on.
 pub fn advance_literal(
     alloc: Global,
-    here: &ZoneSet,
-    begun: &ZoneSet,
+    here: &mut ZoneSet,
+    begun: &mut ZoneSet,
     expr: &Expr,
     entering: &ZoneSet,
     piece: &Piece,
-) -> Result<Advanced, AllocError>
+) -> Result<ZoneSet, AllocError>
     requires numbers { NumbersBelow NAMES_MAX (tree_of expr.now) }
     requires literal { IsLiteralTree (tree_of expr.now) }
-    requires well { IsWellAt piece.now.begin (atom_mark here.now begun.now) (tree_of expr.now) }
+    requires well { IsWellAt piece.now.begin (atom_mark here.old begun.old) (tree_of expr.now) }
     requires enter { EndBetween piece.now.begin (end_of_piece piece.now) entering.now }
-    ensures { IfOk result (λ r. Advances (atom_mark here.now begun.now) (tree_of expr.now)
-        entering.now piece.now r.told (mark_of r.rest)) }
+    ensures { IfOk result (λ told. Advances (atom_mark here.old begun.old) (tree_of expr.now)
+        entering.now piece.now told (atom_mark here.new begun.new)) }
 {
     let end = piece.begin + piece.segment.len;
     let told = tell_atom(alloc, here, begun, expr, entering, piece)?;
-    let last = ending_at(alloc, entering, end)?;
-    let held = ending_at(alloc, &told, end)?;
-    Ok(Advanced {
-        told,
-        rest: atom(last, held),
-    })
+    *here = ending_at(alloc, entering, end)?;
+    *begun = ending_at(alloc, &told, end)?;
+    Ok(told)
 }
 
 // What an atom tells over the piece.

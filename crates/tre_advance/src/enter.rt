@@ -19,6 +19,7 @@ use crate::instances::{leave_both, leave_lasting, tell_both, tell_lasting};
 use crate::sets::joined_both;
 use crate::stepping::{Advanced, either, enter_in_turn, leave_again, repeat};
 use std::alloc::{AllocError, Global};
+use std::mem;
 use tre_edges::Piece;
 use tre_mark::{Mark, moments, repetition};
 use tre_syntax::Expr;
@@ -61,6 +62,26 @@ pub fn enter(
             enter_restriction(alloc, mark, body, interval, zones, piece)
         }
     }
+}
+
+/// The same, in place.
+pub fn enter_in_place(
+    alloc: Global,
+    mark: &mut Mark,
+    expr: &Expr,
+    zones: &ZoneSet,
+    piece: &Piece,
+) -> Result<ZoneSet, AllocError>
+    requires numbers { NumbersBelow NAMES_MAX (tree_of expr.now) }
+    requires well { IsWellAt (end_of_piece piece.now) (mark_of mark.old) (tree_of expr.now) }
+    requires enter { EndBetween piece.now.begin (end_of_piece piece.now) zones.now }
+    ensures { IfOk result (λ told. EntersTo (mark_of mark.old) (tree_of expr.now) zones.now
+        piece.now told (mark_of mark.new)) }
+{
+    let old = mem::replace(mark, Mark::NoMeet);
+    let entered = enter(alloc, old, expr, zones, piece)?;
+    *mark = entered.rest;
+    Ok(entered.told)
 }
 
 #[cycle(enter)]
