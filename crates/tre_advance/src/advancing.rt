@@ -15,7 +15,7 @@ ghost use Rattle.tre_advance.specs.Instances.{IsRestriction, IsIntersection};
 ghost use Rattle.tre_advance.specs.Moves.{AreMomentsFor, IsBriefTree, IsLiteralTree, IsRepetitionTree};
 
 use crate::atoms::{advance_brief, advance_literal};
-use crate::enter::{enter_in_place, entered, moments_of, unbegun};
+use crate::enter::{enter, entered, moments_of, unbegun};
 use crate::instances::{leave_both, leave_lasting, tell_both, tell_lasting};
 use crate::sets::{are_instants, ending_at, joined, joined_both};
 use crate::stepping::{Advanced, repeat, starts_again};
@@ -424,7 +424,7 @@ fn advance_body(
     let ended = advance(alloc, inner, body, &none, piece)?;
     let starts = starts_again(ended, here, entering)?;
     let told = repeat(alloc, starts, body, piece)?;
-    enter_in_place(alloc, inner, body, &told, piece)?;
+    enter(alloc, inner, body, &told, piece)?;
     *here = ending_at(alloc, &told, piece.begin + piece.segment.len)?;
     Ok(told)
 }

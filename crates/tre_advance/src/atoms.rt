@@ -4,7 +4,7 @@ ghost use Rattle.tre_state.specs.declared.names.TheConstants.{NAMES_MAX};
 ghost use Rattle.tre_syntax.specs.Expr.{tree_of};
 ghost use Rattle.tre_syntax.specs.PatternTree.{NumbersBelow};
 ghost use Rattle.tre_zone.specs.declared.zone_bounds.ZoneBounds.{ZoneBounds};
-ghost use Rattle.tre_mark.specs.MarkTree.{mark_of, atom_mark};
+ghost use Rattle.tre_mark.specs.MarkTree.{atom_mark};
 ghost use Rattle.tre_mark.specs.Marked.{EndBetween, IsWellAt};
 ghost use Rattle.tre_edges.specs.Piece.{end_of_piece};
 ghost use Rattle.tre_pairs.specs.Pairs.{Composed, Either};
@@ -12,71 +12,60 @@ ghost use Rattle.tre_zone.specs.Held.{Held, IsSetOf};
 ghost use Rattle.tre_advance.specs.Advance.{Advances};
 ghost use Rattle.tre_advance.specs.Moves.{EntersTo, TellsAtom, AreAmong, IsBriefTree, IsLiteralTree};
 
-use crate::sets::{
-    all_among, ending_at, followed, joined, joined_behind, joined_both, joined_ends,
-};
-use crate::stepping::Advanced;
+use crate::sets::{all_among, ending_at, followed, joined, joined_behind, joined_both};
+use crate::stepping::take_ends;
 use std::alloc::{AllocError, Global};
 use tre_edges::Piece;
-use tre_mark::atom;
 use tre_offline::local;
 use tre_syntax::Expr;
 use tre_zoneset::ZoneSet;
 
 /// What enters an atom that lasts no time: at the end of the piece it may begin, and what comes
-/// decides.
+/// decides. Nothing has begun, or does.
 pub fn enter_brief(
     alloc: Global,
-    here: ZoneSet,
-    begun: ZoneSet,
+    here: &mut ZoneSet,
     expr: &Expr,
     enter: &ZoneSet,
     piece: &Piece,
-) -> Result<Advanced, AllocError>
+) -> Result<ZoneSet, AllocError>
     requires numbers { NumbersBelow NAMES_MAX (tree_of expr.now) }
     requires brief { IsBriefTree (tree_of expr.now) }
-    requires well { IsWellAt (end_of_piece piece.now) (atom_mark here begun) (tree_of expr.now) }
     requires enter { EndBetween piece.now.begin (end_of_piece piece.now) enter.now }
-    ensures { IfOk result (λ r. EntersTo (atom_mark here begun) (tree_of expr.now) enter.now
-        piece.now r.told (mark_of r.rest)) }
+    ensures { IfOk result (λ told. (begun : List ZoneBounds)
+        → IsWellAt (end_of_piece piece.now) (atom_mark here.old begun) (tree_of expr.now)
+        → EntersTo (atom_mark here.old begun) (tree_of expr.now) enter.now piece.now told
+        (atom_mark here.new begun)) }
 {
     let inside = local(alloc, expr, piece)?;
     let told = followed(alloc, enter, &inside)?;
-    let last = ending_at(alloc, enter, piece.begin + piece.segment.len)?;
-    let here = joined_ends(alloc, last, here)?;
-    Ok(Advanced {
-        told,
-        rest: atom(here, begun),
-    })
+    take_ends(alloc, here, enter, piece.begin + piece.segment.len)?;
+    Ok(told)
 }
 
-/// What enters a literal.
+/// What enters a literal: what it tells at the end of the piece may hold on.
 pub fn enter_literal(
     alloc: Global,
-    here: ZoneSet,
-    begun: ZoneSet,
+    here: &mut ZoneSet,
+    begun: &mut ZoneSet,
     expr: &Expr,
     enter: &ZoneSet,
     piece: &Piece,
-) -> Result<Advanced, AllocError>
+) -> Result<ZoneSet, AllocError>
     requires numbers { NumbersBelow NAMES_MAX (tree_of expr.now) }
     requires literal { IsLiteralTree (tree_of expr.now) }
-    requires well { IsWellAt (end_of_piece piece.now) (atom_mark here begun) (tree_of expr.now) }
+    requires well { IsWellAt (end_of_piece piece.now) (atom_mark here.old begun.old)
+        (tree_of expr.now) }
     requires enter { EndBetween piece.now.begin (end_of_piece piece.now) enter.now }
-    ensures { IfOk result (λ r. EntersTo (atom_mark here begun) (tree_of expr.now) enter.now
-        piece.now r.told (mark_of r.rest)) }
+    ensures { IfOk result (λ told. EntersTo (atom_mark here.old begun.old) (tree_of expr.now)
+        enter.now piece.now told (atom_mark here.new begun.new)) }
 {
     let end = piece.begin + piece.segment.len;
     let inside = local(alloc, expr, piece)?;
     let told = followed(alloc, enter, &inside)?;
-    let last = ending_at(alloc, enter, end)?;
-    let here = joined_ends(alloc, last, here)?;
-    let held = ending_at(alloc, &told, end)?;
-    let begun = joined_ends(alloc, held, begun)?;
-    Ok(Advanced {
-        told,
-        rest: atom(here, begun),
-    })
+    take_ends(alloc, here, enter, end)?;
+    take_ends(alloc, begun, &told, end)?;
+    Ok(told)
 }
 
 /// A piece of an atom that lasts no time, into which the pairs of the set enter on the way. Nothing

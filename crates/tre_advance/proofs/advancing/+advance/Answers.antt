@@ -5,10 +5,10 @@ use Rattle.tre_zone.specs.declared.zone_bounds.ZoneBounds.{ZoneBounds}
 use Rattle.tre_syntax.specs.Expr.{tree_of}
 use Rattle.tre_syntax.specs.PatternTree.{intersection, restriction}
 use Rattle.tre_edges.specs.Piece.{end_of_piece}
-use Rattle.tre_mark.specs.MarkTree.{mark_of, sequence_mark, alternation_mark, repetition_mark, intersection_none, intersection_one, restriction_none, restriction_one}
+use Rattle.tre_mark.specs.MarkTree.{mark_of, sequence_mark, alternation_mark, intersection_none, intersection_one, restriction_none, restriction_one}
 use Rattle.tre_mark.specs.declared.mark.Mark.{Mark}
 use Rattle.tre_mark.specs.Marked.{IsWell, IsWellAt}
-use Rattle.tre_advance.specs.Moves.{AreInstants, KeepsHere}
+use Rattle.tre_advance.specs.Moves.{AreInstants, TakesEnds}
 use Rattle.tre_advance.proofs.InstanceSteps.{entered_ends, none_ends, restriction_begun, restriction_unbegun, intersection_begun, intersection_unbegun}
 use Rattle.tre_advance.proofs.Onward.{none_between, advances_moved, again_between, repetition_advances, sequence_advances, alternation_advances}
 use Rattle.tre_advance.proofs.Nested.{nested_advances}
@@ -103,19 +103,17 @@ advance_body-returns t c =
     let none = c.new-none.result in
     let told = c.in_ok-told.told in
     let last = c.in_ok-here.field-0 in
-    let body = mark_of c.enter_in_place.new.mark in
-    let kept : KeepsHere (end_of_piece piece) none told body (repetition_mark last body) = record {
+    let body = mark_of c.enter.new.mark in
+    let kept : TakesEnds (end_of_piece piece) none told last = record {
       last = last;
-      here = last;
       ends = c.in_ok-here.ensures;
       union = either_left last none c.new-none.ensures;
-      shape = refl;
     } in
     repetition_advances piece c.args.here.now c.args.entering.now (mark_of c.args.inner.now)
     (tree_of c.args.body.now) c.requires.ends c.requires.enter none c.in_ok-ended.ended
     c.in_ok-starts.starts (mark_of c.advance.new.mark) c.new-none.ensures c.in_ok-ended.ensures
-    c.in_ok-starts.ensures told c.in_ok-enter_in_place.field-0 body (repetition_mark last body)
-    c.in_ok-told.ensures.tells c.in_ok-told.ensures.between c.in_ok-enter_in_place.ensures kept
+    c.in_ok-starts.ensures told c.in_ok-enter.field-0 last body
+    c.in_ok-told.ensures.tells c.in_ok-told.ensures.between c.in_ok-enter.ensures kept
 
 pub advance_nested-returns : goal.advance_nested-returns
 advance_nested-returns t c =
@@ -157,7 +155,8 @@ pass_intersection-pass_both-requires-in-Meet t c =
     let well = subst (λ (m : Mark). IsWell time (mark_of m) (intersection left right)) c.in-Meet.is
     c.requires.well.well in
     let one : IsWellAt time (mark_of c.into_inner-one.result) left = record {
-      well = subst (λ (m : Mark). IsWell time (mark_of m) left) (sym c.into_inner-one.ensures) well.1;
+      well = subst (λ (m : Mark). IsWell time (mark_of m) left) (sym c.into_inner-one.ensures)
+          well.1;
     } in
     let other : IsWellAt time (mark_of c.into_inner-other.result) right = record {
       well = subst (λ (m : Mark). IsWell time (mark_of m) right) (sym c.into_inner-other.ensures)
