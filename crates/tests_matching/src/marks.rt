@@ -22,13 +22,13 @@ fn a_node_for_each_form(rt: HostRuntime) -> Result<(), Fail> {
 #[test]
 fn a_literal_over_a_piece(rt: HostRuntime) -> Result<(), Fail> {
     let pattern = pattern(rt.alloc(), "p")?;
-    let mark = Mark::empty(rt.alloc(), pattern.expr())?;
+    let mut mark = Mark::empty(rt.alloc(), pattern.expr())?;
     let piece = first_piece((2, 1));
     let entering = moments_of(rt.alloc(), &piece)?;
-    let advanced = advance(rt.alloc(), &mark, pattern.expr(), &entering, &piece)?;
-    assert!(rt; advanced.told.holds(0, 2, 1));
-    assert!(rt; advanced.told.holds(1, 3, 2));
-    assert!(rt; !advanced.told.holds(0, 3, 1));
-    assert!(rt; advanced.rest.nodes() == 1);
+    let told = advance(rt.alloc(), &mut mark, pattern.expr(), &entering, &piece)?;
+    assert!(rt; told.holds(0, 2, 1));
+    assert!(rt; told.holds(1, 3, 2));
+    assert!(rt; !told.holds(0, 3, 1));
+    assert!(rt; mark.nodes() == 1);
     Ok(())
 }

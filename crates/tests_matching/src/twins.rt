@@ -54,13 +54,10 @@ fn begun(alloc: Global, expr: &Expr, piece: &Piece) -> Result<Twins, AllocError>
         marks.IsWellAt (end_of_piece piece.now) (mark_of twins.mark) (tree_of expr.now)) }
 {
     let forms = fresh(alloc, expr, piece)?;
-    let empty = Mark::empty(alloc, expr)?;
+    let mut mark = Mark::empty(alloc, expr)?;
     let all = moments_of(alloc, piece)?;
-    let advanced = advance(alloc, &empty, expr, &all, piece)?;
-    Ok(Twins {
-        forms,
-        mark: advanced.rest,
-    })
+    advance(alloc, &mut mark, expr, &all, piece)?;
+    Ok(Twins { forms, mark })
 }
 
 // Whether the sets hold the same pairs, on all thirds of sixteen ticks.
@@ -76,24 +73,26 @@ fn are_same(one: &ZoneSet, other: &ZoneSet) -> bool {
 }
 
 // Reads the piece with both. A failure where they tell other pairs.
-fn read(alloc: Global, twins: &Twins, expr: &Expr, piece: &Piece) -> Result<Twins, Fail>
+fn read(alloc: Global, twins: Twins, expr: &Expr, piece: &Piece) -> Result<Twins, Fail>
     requires numbers { NumbersBelow NAMES_MAX (tree_of expr.now) }
-    requires forms { IsWellAt piece.now.begin (residual_tree twins.now.forms) }
-    requires mark { marks.IsWellAt piece.now.begin (mark_of twins.now.mark) (tree_of expr.now) }
+    requires forms { IsWellAt piece.now.begin (residual_tree twins.forms) }
+    requires mark { marks.IsWellAt piece.now.begin (mark_of twins.mark) (tree_of expr.now) }
     ensures forms { IfOk result (λ twins.
         IsWellAt (end_of_piece piece.now) (residual_tree twins.forms)) }
     ensures mark { IfOk result (λ twins.
         marks.IsWellAt (end_of_piece piece.now) (mark_of twins.mark) (tree_of expr.now)) }
 {
-    let forms = step(alloc, &twins.forms, piece)?;
+    let Twins { forms, mark } = twins;
+    let mut mark = mark;
+    let forms = step(alloc, &forms, piece)?;
     let none = ZoneSet::new(alloc);
-    let mark = advance(alloc, &twins.mark, expr, &none, piece)?;
-    if !are_same(&forms.told, &mark.told) {
+    let told = advance(alloc, &mut mark, expr, &none, piece)?;
+    if !are_same(&forms.told, &told) {
         return Err("they tell other pairs".into());
     }
     Ok(Twins {
         forms: forms.rest,
-        mark: mark.rest,
+        mark,
     })
 }
 
@@ -104,11 +103,11 @@ fn compare(alloc: Global, expr: &Expr, lengths: [Length; 4]) -> Result<(), Fail>
     let one = first_piece(lengths[0]);
     let twins = begun(alloc, expr, &one)?;
     let two = next_piece(&one, lengths[1]);
-    let twins = read(alloc, &twins, expr, &two)?;
+    let twins = read(alloc, twins, expr, &two)?;
     let three = next_piece(&two, lengths[2]);
-    let twins = read(alloc, &twins, expr, &three)?;
+    let twins = read(alloc, twins, expr, &three)?;
     let four = next_piece(&three, lengths[3]);
-    let _twins = read(alloc, &twins, expr, &four)?;
+    let _twins = read(alloc, twins, expr, &four)?;
     Ok(())
 }
 

@@ -1,5 +1,5 @@
 -- The steps of the other forms, as the calls say them.
-use Rattle.std.proofs.Common.{◌≡◌, ◌*◌, List, [], inl, ⊎_elim, Result, Ok, Err, IfOk, sym, subst, arith}
+use Rattle.std.proofs.Common.{◌≡◌, ◌*◌, List, [], inl, ⊎_elim, sym, subst, arith}
 use Rattle.tre_pairs.specs.Pairs.{Composed, Either, Chain}
 use Rattle.tre_zone.specs.Held.{Held, IsSetOf}
 use Rattle.tre_syntax.specs.Meaning.{MatchesRest}
@@ -11,7 +11,7 @@ use Rattle.tre_edges.specs.Piece.{rest_of_piece, end_of_piece}
 use Rattle.tre_edges.specs.declared.piece.Piece.{Piece}
 use Rattle.tre_mark.specs.MarkTree.{MarkTree, sequence_mark, alternation_mark, repetition_mark, intersection_none}
 use Rattle.tre_mark.specs.Marked.{EndBetween, IsWellAt}
-use Rattle.tre_advance.specs.Moves.{EntersTo, KeepsHere}
+use Rattle.tre_advance.specs.Moves.{EntersTo, TakesEnds}
 use Rattle.tre_advance.proofs.AtomForms.{inside_agrees}
 use Rattle.tre_advance.proofs.FormSteps.{sequence_beside, alternation_beside}
 use Rattle.tre_advance.proofs.Going.{alone}
@@ -89,22 +89,21 @@ pub repeat_between : (piece : Piece) (tree : PatternTree) (starts told : List Zo
 repeat_between piece tree starts told set =
     followed_between piece (repetition tree) told intersection_none (Held starts) (set_agrees set)
 
-pub repetition_enters_to : (piece : Piece) (old : List ZoneBounds) (body body' rest : MarkTree)
-    (tree : PatternTree) (enter told told' : List ZoneBounds)
+pub repetition_enters_to : (piece : Piece) (old : List ZoneBounds) (body body' : MarkTree)
+    (tree : PatternTree) (enter told told' here : List ZoneBounds)
     → EndBetween piece.begin (end_of_piece piece) enter
     → IsWellAt (end_of_piece piece) (repetition_mark old body) (repetition tree)
     → IsSetOf told (Followed (Held enter) (repetition tree) (alone piece))
     → EntersTo body tree told piece told' body'
-    → KeepsHere (end_of_piece piece) old told body' rest
-    → EntersTo (repetition_mark old body) (repetition tree) enter piece told rest
-repetition_enters_to piece old body body' rest tree enter told told' between well set e kept =
-    subst (λ (mark : MarkTree). EntersTo (repetition_mark old body) (repetition tree) enter piece
-    told mark) (sym kept.shape)
-    (enters_of piece (repetition tree) told (repetition_mark kept.here body')
-    (repetition_mark old body) enter
-    (repetition_beside piece enter tree between old told told' kept.last kept.here body body' well
+    → TakesEnds (end_of_piece piece) old told here
+    → EntersTo (repetition_mark old body) (repetition tree) enter piece told
+    (repetition_mark here body')
+repetition_enters_to piece old body body' tree enter told told' here between well set e kept =
+    enters_of piece (repetition tree) told (repetition_mark here body') (repetition_mark old body)
+    enter
+    (repetition_beside piece enter tree between old told told' kept.last here body body' well
     (set_agrees set) (set_agrees kept.ends) (set_agrees kept.union)
-    (of_enters piece tree told' body' body told e)))
+    (of_enters piece tree told' body' body told e))
 
 -- ---- moments, and other names
 
@@ -126,9 +125,3 @@ pub enters_moved : (piece : Piece) (mark mark' : MarkTree) (tree tree' : Pattern
 enters_moved piece mark mark' tree tree' enter told rest e f h =
     subst (λ (t : PatternTree). EntersTo mark' t enter piece told rest) (sym f)
     (subst (λ (m : MarkTree). EntersTo m tree enter piece told rest) (sym e) h)
-
--- Two facts of one result.
-pub IfOk-both : {T E : Type 0} (result : Result T E) (P Q : T → Type 0) → IfOk result P
-    → IfOk result Q → IfOk result (λ value. P value × Q value)
-IfOk-both (Ok value) P Q p q = (p, q)
-IfOk-both (Err fault) P Q p q = tt

@@ -23,7 +23,7 @@ use Rattle.tre_mark.proofs.Agreeing.{agree_refl, agree_sym, agree_then, agree_co
 use Rattle.tre_mark.proofs.Growth.{mark_ends, ends_composed, tree_ends}
 use Rattle.tre_mark.proofs.Meanings.{around_present, IsOrdered-Marked}
 use Rattle.tre_advance.specs.Advance.{GoesOver, MarkedBehind, before_piece, with_piece, Advances}
-use Rattle.tre_advance.specs.Moves.{EntersTo, KeepsHere, IsBriefTree, IsLiteralTree}
+use Rattle.tre_advance.specs.Moves.{EntersTo, TakesEnds, IsBriefTree, IsLiteralTree}
 use Rattle.tre_advance.proofs.AtomSteps.{IsBrief, brief_empty, brief_rise, brief_fall, brief_event, literal_tells, brief_tells, brief_leaves, literal_leaves}
 use Rattle.tre_advance.proofs.Crossings.{IsFront, agree_crossing, cross_either, distributes}
 use Rattle.tre_advance.proofs.FormSteps.{cross_second, followed_either}
@@ -467,20 +467,21 @@ module _ (piece : Piece) (here enter : List ZoneBounds) (body : MarkTree) (tree 
           (λ x. between.end a b n some x) ((union.pairs a b n some).0 h);
     }
 
-    pub repetition_advances : (told told' : List ZoneBounds) (body'' rest : MarkTree)
+    pub repetition_advances : (told told' here' : List ZoneBounds) (body'' : MarkTree)
         → IsSetOf told (Followed (Held starts) (repetition tree) (alone piece))
         → EndBetween piece.begin (end_of_piece piece) told
         → EntersTo body' tree told piece told' body''
-        → KeepsHere (end_of_piece piece) none told body'' rest
-        → Advances (repetition_mark here body) (repetition tree) enter piece told rest
-    repetition_advances told told' body'' rest set told_ends e kept =
+        → TakesEnds (end_of_piece piece) none told here'
+        → Advances (repetition_mark here body) (repetition tree) enter piece told
+        (repetition_mark here' body'')
+    repetition_advances told told' here' body'' set told_ends e kept =
         let T' = end_of_piece piece in
         let beside = of_enters piece tree told' body'' body' told e in
         let whole : CanTakeIn (before_piece piece) body tree → Agree (Held told)
         (Composed (From (alone piece)) (MatchesRest (repetition tree) (alone piece))) =
         λ can. agree_then (record { at = set.pairs })
         (agree_composed (starts_are can) (agree_refl (MatchesRest (repetition tree) (alone piece)))) in
-        let last : Agree (Held kept.here) (Both (Held told) (EndsAt T')) =
+        let last : Agree (Held here') (Both (Held told) (EndsAt T')) =
         agree_then (record { at = kept.union.pairs })
         (agree_then (record {
           at = λ a b n some. (
@@ -488,15 +489,13 @@ module _ (piece : Piece) (here enter : List ZoneBounds) (body : MarkTree) (tree 
             (λ h. inl h),
           );
         }) (record { at = kept.ends.pairs })) in
-        subst (λ (mark : MarkTree). Advances (repetition_mark here body) (repetition tree) enter
-        piece told mark) (sym kept.shape)
-        (advances_by piece (repetition_mark here body) (repetition tree) enter told
-        (repetition_mark kept.here body'')
+        advances_by piece (repetition_mark here body) (repetition tree) enter told
+        (repetition_mark here' body'')
         (record {
           tells = λ can. agree_then (whole can) (agree_sym (from_starts (quiet [])));
           leaves = λ can next long.
               agree_then (leaves_repetition piece here enter body tree ends between told
-              kept.here (λ next. Marked (behind piece next) body'' tree) (whole can) last
+              here' (λ next. Marked (behind piece next) body'' tree) (whole can) last
               (λ next long. agree_then (beside.leaves (inner.takes can) next long)
               (agree_either
               (agree_then (inner.leaves can next long)
@@ -512,7 +511,7 @@ module _ (piece : Piece) (here enter : List ZoneBounds) (body : MarkTree) (tree 
               beside.well.well,
             );
           };
-        }))
+        })
 
 -- ---- intersections and restrictions that have not begun, where nothing enters
 

@@ -10,7 +10,7 @@ use Rattle.tre_syntax.specs.Cut.{uncut, back_of}
 use Rattle.tre_syntax.specs.Meaning.{MatchesRest}
 use Rattle.tre_syntax.specs.PatternTree.{PatternTree, empty, literal, rise, fall, event, atom, repetition}
 use Rattle.tre_edges.specs.declared.piece.Piece.{Piece}
-use Rattle.tre_mark.specs.MarkTree.{MarkTree, repetition_mark}
+use Rattle.tre_mark.specs.MarkTree.{MarkTree}
 use Rattle.tre_mark.specs.Marked.{CanTakeIn, Marked, EndBetween, IsWellAt}
 use Rattle.tre_edges.specs.Piece.{end_of_piece, cut_behind}
 use Rattle.tre_advance.specs.Advance.{with_piece}
@@ -54,13 +54,11 @@ pub record AreAmong (zones others : List ZoneBounds) : Type 0 where
 pub record AreInstants (zones : List ZoneBounds) : Type 0 where
   pub same : (a b n : ℕ) → 0 < n → Held zones a b n → a ≡ b
 
--- The mark of a repetition has the pairs that it had and those of the set that end at the time.
-pub record KeepsHere (time : ℕ) (old told : List ZoneBounds) (body rest : MarkTree) : Type 0 where
+-- The new set has the pairs of the old one and those of the others that end at the time.
+pub record TakesEnds (time : ℕ) (old others new : List ZoneBounds) : Type 0 where
   pub last : List ZoneBounds
-  pub here : List ZoneBounds
-  pub ends : IsSetOf last (Both (Held told) (EndsAt time))
-  pub union : IsSetOf here (Either (Held last) (Held old))
-  pub shape : rest ≡ repetition_mark here body
+  pub ends : IsSetOf last (Both (Held others) (EndsAt time))
+  pub union : IsSetOf new (Either (Held last) (Held old))
 
 -- The expression is an atom that lasts no time, or a literal.
 abbrev pub IsBriefTree : PatternTree → Type 0

@@ -7,7 +7,7 @@ ghost use Rattle.tre_zone.specs.Held.{EndAt, EndBy};
 ghost use Rattle.tre_zone.specs.Interval.{IntervalEnds};
 ghost use Rattle.tre_zone.specs.declared.zone_bounds.ZoneBounds.{ZoneBounds};
 ghost use Rattle.tre_edges.specs.declared.piece.Piece.{Piece};
-ghost use Rattle.tre_mark.specs.MarkTree.{MarkTree, mark_of, sequence_mark, alternation_mark, repetition_mark, intersection_none, restriction_none};
+ghost use Rattle.tre_mark.specs.MarkTree.{MarkTree, mark_of, repetition_mark, intersection_none, restriction_none};
 ghost use Rattle.tre_mark.specs.Marked.{EndBetween, IsWellAt};
 ghost use Rattle.tre_edges.specs.Piece.{end_of_piece};
 ghost use Rattle.tre_advance.specs.Advance.{Advances};
@@ -17,11 +17,12 @@ ghost use Rattle.tre_advance.specs.Moves.{AreMomentsFor, IsBriefTree, IsLiteralT
 use crate::atoms::{advance_brief, advance_literal};
 use crate::enter::{enter, entered, moments_of, unbegun};
 use crate::instances::{leave_both, leave_lasting, tell_both, tell_lasting};
-use crate::sets::{are_instants, joined, joined_both};
-use crate::stepping::{Advanced, leave_again, repeat, starts_again};
+use crate::sets::{are_instants, ending_at, joined, joined_both};
+use crate::stepping::{Advanced, repeat, starts_again};
 use std::alloc::{AllocError, Global};
+use std::mem;
 use tre_edges::Piece;
-use tre_mark::{Mark, alternation, repetition, sequence};
+use tre_mark::Mark;
 use tre_syntax::Expr;
 use tre_zone::Interval;
 use tre_zoneset::ZoneSet;
@@ -29,20 +30,21 @@ use tre_zoneset::ZoneSet;
 /// The mark goes over the piece, and the pairs of the set, each of which ends in it, enter on the
 /// way.
 ///
-/// It goes as deep as the expression does. Where memory runs out, the mark is as it was.
+/// It goes as deep as the expression does. Where memory runs out, what is left of the mark is of no
+/// use.
 #[cycle(advance)]
 pub fn advance(
     alloc: Global,
-    mark: &Mark,
+    mark: &mut Mark,
     expr: &Expr,
     entering: &ZoneSet,
     piece: &Piece,
-) -> Result<Advanced, AllocError>
+) -> Result<ZoneSet, AllocError>
     requires numbers { NumbersBelow NAMES_MAX (tree_of expr.now) }
-    requires well { IsWellAt piece.now.begin (mark_of mark.now) (tree_of expr.now) }
+    requires well { IsWellAt piece.now.begin (mark_of mark.old) (tree_of expr.now) }
     requires enter { EndBetween piece.now.begin (end_of_piece piece.now) entering.now }
-    ensures { IfOk result (λ r. Advances (mark_of mark.now) (tree_of expr.now) entering.now
-        piece.now r.told (mark_of r.rest)) }
+    ensures { IfOk result (λ told. Advances (mark_of mark.old) (tree_of expr.now) entering.now
+        piece.now told (mark_of mark.new)) }
 {
     match expr {
         Expr::Eps | Expr::Lit(_) | Expr::Rise(_) | Expr::Fall(_) | Expr::Event(_) => {
@@ -63,25 +65,24 @@ pub fn advance(
 #[cycle(advance)]
 fn advance_sequence(
     alloc: Global,
-    mark: &Mark,
+    mark: &mut Mark,
     left: &Expr,
     right: &Expr,
     entering: &ZoneSet,
     piece: &Piece,
-) -> Result<Advanced, AllocError>
+) -> Result<ZoneSet, AllocError>
     requires numbers { NumbersBelow NAMES_MAX (sequence (tree_of left.now) (tree_of right.now)) }
-    requires well { IsWellAt piece.now.begin (mark_of mark.now)
+    requires well { IsWellAt piece.now.begin (mark_of mark.old)
         (sequence (tree_of left.now) (tree_of right.now)) }
     requires enter { EndBetween piece.now.begin (end_of_piece piece.now) entering.now }
-    ensures { IfOk result (λ r. Advances (mark_of mark.now)
-        (sequence (tree_of left.now) (tree_of right.now)) entering.now piece.now r.told
-        (mark_of r.rest)) }
+    ensures { IfOk result (λ told. Advances (mark_of mark.old)
+        (sequence (tree_of left.now) (tree_of right.now)) entering.now piece.now told
+        (mark_of mark.new)) }
 {
     match mark {
         Mark::Seq(one, other) => {
             let first = advance(alloc, one, left, entering, piece)?;
-            let second = advance(alloc, other, right, &first.told, piece)?;
-            advance_in_turn(alloc, first, second)
+            advance(alloc, other, right, &first, piece)
         }
         _ => unreachable!(),
     }
@@ -90,26 +91,26 @@ fn advance_sequence(
 #[cycle(advance)]
 fn advance_alternation(
     alloc: Global,
-    mark: &Mark,
+    mark: &mut Mark,
     left: &Expr,
     right: &Expr,
     entering: &ZoneSet,
     piece: &Piece,
-) -> Result<Advanced, AllocError>
+) -> Result<ZoneSet, AllocError>
     requires numbers { NumbersBelow NAMES_MAX
         (alternation (tree_of left.now) (tree_of right.now)) }
-    requires well { IsWellAt piece.now.begin (mark_of mark.now)
+    requires well { IsWellAt piece.now.begin (mark_of mark.old)
         (alternation (tree_of left.now) (tree_of right.now)) }
     requires enter { EndBetween piece.now.begin (end_of_piece piece.now) entering.now }
-    ensures { IfOk result (λ r. Advances (mark_of mark.now)
-        (alternation (tree_of left.now) (tree_of right.now)) entering.now piece.now r.told
-        (mark_of r.rest)) }
+    ensures { IfOk result (λ told. Advances (mark_of mark.old)
+        (alternation (tree_of left.now) (tree_of right.now)) entering.now piece.now told
+        (mark_of mark.new)) }
 {
     match mark {
         Mark::Alt(one, other) => {
             let first = advance(alloc, one, left, entering, piece)?;
             let second = advance(alloc, other, right, entering, piece)?;
-            advance_either(alloc, first, second)
+            joined(first, &second)
         }
         _ => unreachable!(),
     }
@@ -118,7 +119,32 @@ fn advance_alternation(
 #[cycle(advance)]
 fn advance_intersection(
     alloc: Global,
-    mark: &Mark,
+    mark: &mut Mark,
+    left: &Expr,
+    right: &Expr,
+    entering: &ZoneSet,
+    piece: &Piece,
+) -> Result<ZoneSet, AllocError>
+    requires numbers { NumbersBelow NAMES_MAX
+        (intersection (tree_of left.now) (tree_of right.now)) }
+    requires well { IsWellAt piece.now.begin (mark_of mark.old)
+        (intersection (tree_of left.now) (tree_of right.now)) }
+    requires enter { EndBetween piece.now.begin (end_of_piece piece.now) entering.now }
+    ensures { IfOk result (λ told. Advances (mark_of mark.old)
+        (intersection (tree_of left.now) (tree_of right.now)) entering.now piece.now told
+        (mark_of mark.new)) }
+{
+    let whole = mem::replace(mark, Mark::NoMeet);
+    let advanced = pass_intersection(alloc, whole, left, right, entering, piece)?;
+    *mark = advanced.rest;
+    Ok(advanced.told)
+}
+
+// The same of a mark that is given away.
+#[cycle(advance)]
+fn pass_intersection(
+    alloc: Global,
+    mark: Mark,
     left: &Expr,
     right: &Expr,
     entering: &ZoneSet,
@@ -126,10 +152,10 @@ fn advance_intersection(
 ) -> Result<Advanced, AllocError>
     requires numbers { NumbersBelow NAMES_MAX
         (intersection (tree_of left.now) (tree_of right.now)) }
-    requires well { IsWellAt piece.now.begin (mark_of mark.now)
+    requires well { IsWellAt piece.now.begin (mark_of mark)
         (intersection (tree_of left.now) (tree_of right.now)) }
     requires enter { EndBetween piece.now.begin (end_of_piece piece.now) entering.now }
-    ensures { IfOk result (λ r. Advances (mark_of mark.now)
+    ensures { IfOk result (λ r. Advances (mark_of mark)
         (intersection (tree_of left.now) (tree_of right.now)) entering.now piece.now r.told
         (mark_of r.rest)) }
 {
@@ -141,14 +167,18 @@ fn advance_intersection(
             let outer = ZoneSet::new(alloc);
             let one = unbegun(alloc, left, piece)?;
             let other = unbegun(alloc, right, piece)?;
-            pass_both(alloc, &outer, &one, &other, left, right, entering, piece)
+            pass_both(alloc, &outer, one, other, left, right, entering, piece)
         }
         Mark::Meet {
             outer,
             left: one,
             right: other,
             ..
-        } => pass_both(alloc, outer, one, other, left, right, entering, piece),
+        } => {
+            let one = Box::into_inner(one);
+            let other = Box::into_inner(other);
+            pass_both(alloc, &outer, one, other, left, right, entering, piece)
+        }
         _ => unreachable!(),
     }
 }
@@ -159,8 +189,8 @@ fn advance_intersection(
 fn pass_both(
     alloc: Global,
     outer: &ZoneSet,
-    one: &Mark,
-    other: &Mark,
+    one: Mark,
+    other: Mark,
     left: &Expr,
     right: &Expr,
     entering: &ZoneSet,
@@ -168,41 +198,65 @@ fn pass_both(
 ) -> Result<Advanced, AllocError>
     requires numbers { NumbersBelow NAMES_MAX
         (intersection (tree_of left.now) (tree_of right.now)) }
-    requires one { IsWellAt piece.now.begin (mark_of one.now) (tree_of left.now) }
-    requires other { IsWellAt piece.now.begin (mark_of other.now) (tree_of right.now) }
+    requires one { IsWellAt piece.now.begin (mark_of one) (tree_of left.now) }
+    requires other { IsWellAt piece.now.begin (mark_of other) (tree_of right.now) }
     requires ends { EndBy piece.now.begin outer.now }
     requires enter { EndBetween piece.now.begin (end_of_piece piece.now) entering.now }
     ensures { IfOk result (λ r. (mark : MarkTree)
-        → IsIntersection (tree_of left.now) (tree_of right.now) outer.now (mark_of one.now)
-        (mark_of other.now) mark
+        → IsIntersection (tree_of left.now) (tree_of right.now) outer.now (mark_of one)
+        (mark_of other) mark
         → Advances mark (intersection (tree_of left.now) (tree_of right.now)) entering.now
         piece.now r.told (mark_of r.rest)) }
 {
     if are_instants(entering.zones()) {
-        let first = advance(alloc, one, left, entering, piece)?;
-        let second = advance(alloc, other, right, entering, piece)?;
+        let first = move_on(alloc, one, left, entering, piece)?;
+        let second = move_on(alloc, other, right, entering, piece)?;
         return go_on_both(alloc, outer, first, second, entering, piece);
     }
     let moments = moments_of(alloc, piece)?;
-    let first = advance(alloc, one, left, &moments, piece)?;
-    let second = advance(alloc, other, right, &moments, piece)?;
+    let first = move_on(alloc, one, left, &moments, piece)?;
+    let second = move_on(alloc, other, right, &moments, piece)?;
     go_on_both(alloc, outer, first, second, entering, piece)
 }
 
 #[cycle(advance)]
 fn advance_restriction(
     alloc: Global,
-    mark: &Mark,
+    mark: &mut Mark,
+    body: &Expr,
+    interval: &Interval,
+    entering: &ZoneSet,
+    piece: &Piece,
+) -> Result<ZoneSet, AllocError>
+    requires numbers { NumbersBelow NAMES_MAX (restriction (tree_of body.now) interval.now) }
+    requires well { IsWellAt piece.now.begin (mark_of mark.old)
+        (restriction (tree_of body.now) interval.now) }
+    requires enter { EndBetween piece.now.begin (end_of_piece piece.now) entering.now }
+    ensures { IfOk result (λ told. Advances (mark_of mark.old)
+        (restriction (tree_of body.now) interval.now) entering.now piece.now told
+        (mark_of mark.new)) }
+{
+    let whole = mem::replace(mark, Mark::NoWithin);
+    let advanced = pass_restriction(alloc, whole, body, interval, entering, piece)?;
+    *mark = advanced.rest;
+    Ok(advanced.told)
+}
+
+// The same of a mark that is given away.
+#[cycle(advance)]
+fn pass_restriction(
+    alloc: Global,
+    mark: Mark,
     body: &Expr,
     interval: &Interval,
     entering: &ZoneSet,
     piece: &Piece,
 ) -> Result<Advanced, AllocError>
     requires numbers { NumbersBelow NAMES_MAX (restriction (tree_of body.now) interval.now) }
-    requires well { IsWellAt piece.now.begin (mark_of mark.now)
+    requires well { IsWellAt piece.now.begin (mark_of mark)
         (restriction (tree_of body.now) interval.now) }
     requires enter { EndBetween piece.now.begin (end_of_piece piece.now) entering.now }
-    ensures { IfOk result (λ r. Advances (mark_of mark.now)
+    ensures { IfOk result (λ r. Advances (mark_of mark)
         (restriction (tree_of body.now) interval.now) entering.now piece.now r.told
         (mark_of r.rest)) }
 {
@@ -213,13 +267,16 @@ fn advance_restriction(
             }
             let outer = ZoneSet::new(alloc);
             let inner = unbegun(alloc, body, piece)?;
-            pass_lasting(alloc, &outer, &inner, body, interval, entering, piece)
+            pass_lasting(alloc, &outer, inner, body, interval, entering, piece)
         }
         Mark::Within {
             outer,
             body: inner,
             ..
-        } => pass_lasting(alloc, outer, inner, body, interval, entering, piece),
+        } => {
+            let inner = Box::into_inner(inner);
+            pass_lasting(alloc, &outer, inner, body, interval, entering, piece)
+        }
         _ => unreachable!(),
     }
 }
@@ -230,43 +287,62 @@ fn advance_restriction(
 fn pass_lasting(
     alloc: Global,
     outer: &ZoneSet,
-    inner: &Mark,
+    inner: Mark,
     body: &Expr,
     interval: &Interval,
     entering: &ZoneSet,
     piece: &Piece,
 ) -> Result<Advanced, AllocError>
     requires numbers { NumbersBelow NAMES_MAX (tree_of body.now) }
-    requires well { IsWellAt piece.now.begin (mark_of inner.now) (tree_of body.now) }
+    requires well { IsWellAt piece.now.begin (mark_of inner) (tree_of body.now) }
     requires ends { EndBy piece.now.begin outer.now }
     requires enter { EndBetween piece.now.begin (end_of_piece piece.now) entering.now }
     ensures { IfOk result (λ r. (mark : MarkTree)
-        → IsRestriction (tree_of body.now) interval.now outer.now (mark_of inner.now) mark
+        → IsRestriction (tree_of body.now) interval.now outer.now (mark_of inner) mark
         → Advances mark (restriction (tree_of body.now) interval.now) entering.now piece.now
         r.told (mark_of r.rest)) }
 {
     if are_instants(entering.zones()) {
-        let next = advance(alloc, inner, body, entering, piece)?;
+        let next = move_on(alloc, inner, body, entering, piece)?;
         return go_on_lasting(alloc, outer, next, interval, entering, piece);
     }
     let moments = moments_of(alloc, piece)?;
-    let next = advance(alloc, inner, body, &moments, piece)?;
+    let next = move_on(alloc, inner, body, &moments, piece)?;
     go_on_lasting(alloc, outer, next, interval, entering, piece)
 }
 
-fn advance_atom(
+// The mark, given away, goes on.
+#[cycle(advance)]
+fn move_on(
     alloc: Global,
-    mark: &Mark,
+    mut mark: Mark,
     expr: &Expr,
     entering: &ZoneSet,
     piece: &Piece,
 ) -> Result<Advanced, AllocError>
     requires numbers { NumbersBelow NAMES_MAX (tree_of expr.now) }
-    requires atom { IsBriefTree (tree_of expr.now) ⊎ IsLiteralTree (tree_of expr.now) }
-    requires well { IsWellAt piece.now.begin (mark_of mark.now) (tree_of expr.now) }
+    requires well { IsWellAt piece.now.begin (mark_of mark) (tree_of expr.now) }
     requires enter { EndBetween piece.now.begin (end_of_piece piece.now) entering.now }
-    ensures { IfOk result (λ r. Advances (mark_of mark.now) (tree_of expr.now) entering.now
-        piece.now r.told (mark_of r.rest)) }
+    ensures { IfOk result (λ r. Advances (mark_of mark) (tree_of expr.now) entering.now piece.now
+        r.told (mark_of r.rest)) }
+{
+    let told = advance(alloc, &mut mark, expr, entering, piece)?;
+    Ok(Advanced { told, rest: mark })
+}
+
+fn advance_atom(
+    alloc: Global,
+    mark: &mut Mark,
+    expr: &Expr,
+    entering: &ZoneSet,
+    piece: &Piece,
+) -> Result<ZoneSet, AllocError>
+    requires numbers { NumbersBelow NAMES_MAX (tree_of expr.now) }
+    requires atom { IsBriefTree (tree_of expr.now) ⊎ IsLiteralTree (tree_of expr.now) }
+    requires well { IsWellAt piece.now.begin (mark_of mark.old) (tree_of expr.now) }
+    requires enter { EndBetween piece.now.begin (end_of_piece piece.now) entering.now }
+    ensures { IfOk result (λ told. Advances (mark_of mark.old) (tree_of expr.now) entering.now
+        piece.now told (mark_of mark.new)) }
 {
     match mark {
         Mark::Atom { here, begun } => match expr {
@@ -280,16 +356,16 @@ fn advance_atom(
 #[cycle(advance)]
 fn advance_repetition(
     alloc: Global,
-    mark: &Mark,
+    mark: &mut Mark,
     body: &Expr,
     entering: &ZoneSet,
     piece: &Piece,
-) -> Result<Advanced, AllocError>
+) -> Result<ZoneSet, AllocError>
     requires numbers { NumbersBelow NAMES_MAX (repetition (tree_of body.now)) }
-    requires well { IsWellAt piece.now.begin (mark_of mark.now) (repetition (tree_of body.now)) }
+    requires well { IsWellAt piece.now.begin (mark_of mark.old) (repetition (tree_of body.now)) }
     requires enter { EndBetween piece.now.begin (end_of_piece piece.now) entering.now }
-    ensures { IfOk result (λ r. Advances (mark_of mark.now) (repetition (tree_of body.now))
-        entering.now piece.now r.told (mark_of r.rest)) }
+    ensures { IfOk result (λ told. Advances (mark_of mark.old) (repetition (tree_of body.now))
+        entering.now piece.now told (mark_of mark.new)) }
 {
     match mark {
         Mark::Star { here, body: inner } => match body {
@@ -305,82 +381,52 @@ fn advance_repetition(
 #[cycle(advance)]
 fn advance_nested(
     alloc: Global,
-    here: &ZoneSet,
-    inner: &Mark,
+    here: &mut ZoneSet,
+    inner: &mut Mark,
     body: &Expr,
     entering: &ZoneSet,
     piece: &Piece,
-) -> Result<Advanced, AllocError>
+) -> Result<ZoneSet, AllocError>
     requires numbers { NumbersBelow NAMES_MAX (tree_of body.now) }
     requires nested { IsRepetitionTree (tree_of body.now) }
-    requires well { IsWellAt piece.now.begin (mark_of inner.now) (tree_of body.now) }
-    requires ends { EndAt piece.now.begin here.now }
+    requires well { IsWellAt piece.now.begin (mark_of inner.old) (tree_of body.now) }
+    requires ends { EndAt piece.now.begin here.old }
     requires enter { EndBetween piece.now.begin (end_of_piece piece.now) entering.now }
-    ensures { IfOk result (λ r. Advances (repetition_mark here.now (mark_of inner.now))
-        (repetition (tree_of body.now)) entering.now piece.now r.told (mark_of r.rest)) }
+    ensures { IfOk result (λ told. Advances (repetition_mark here.old (mark_of inner.old))
+        (repetition (tree_of body.now)) entering.now piece.now told
+        (repetition_mark here.new (mark_of inner.new))) }
 {
     let starts = joined_both(alloc, here, entering)?;
-    let next = advance(alloc, inner, body, &starts, piece)?;
-    let none = ZoneSet::new(alloc);
-    let rest = repetition(alloc, none, next.rest)?;
-    Ok(Advanced {
-        told: next.told,
-        rest,
-    })
+    let told = advance(alloc, inner, body, &starts, piece)?;
+    *here = ZoneSet::new(alloc);
+    Ok(told)
 }
 
 // The body goes on, and begins again behind each pair behind which it may.
 #[cycle(advance)]
 fn advance_body(
     alloc: Global,
-    here: &ZoneSet,
-    inner: &Mark,
+    here: &mut ZoneSet,
+    inner: &mut Mark,
     body: &Expr,
     entering: &ZoneSet,
     piece: &Piece,
-) -> Result<Advanced, AllocError>
+) -> Result<ZoneSet, AllocError>
     requires numbers { NumbersBelow NAMES_MAX (tree_of body.now) }
-    requires well { IsWellAt piece.now.begin (mark_of inner.now) (tree_of body.now) }
-    requires ends { EndAt piece.now.begin here.now }
+    requires well { IsWellAt piece.now.begin (mark_of inner.old) (tree_of body.now) }
+    requires ends { EndAt piece.now.begin here.old }
     requires enter { EndBetween piece.now.begin (end_of_piece piece.now) entering.now }
-    ensures { IfOk result (λ r. Advances (repetition_mark here.now (mark_of inner.now))
-        (repetition (tree_of body.now)) entering.now piece.now r.told (mark_of r.rest)) }
+    ensures { IfOk result (λ told. Advances (repetition_mark here.old (mark_of inner.old))
+        (repetition (tree_of body.now)) entering.now piece.now told
+        (repetition_mark here.new (mark_of inner.new))) }
 {
     let none = ZoneSet::new(alloc);
-    let next = advance(alloc, inner, body, &none, piece)?;
-    let starts = starts_again(next.told, here, entering)?;
+    let ended = advance(alloc, inner, body, &none, piece)?;
+    let starts = starts_again(ended, here, entering)?;
     let told = repeat(alloc, starts, body, piece)?;
-    let entered = enter(alloc, next.rest, body, &told, piece)?;
-    leave_again(alloc, none, told, entered.rest, piece)
-}
-
-// The second part of a sequence went on with what its first part told.
-fn advance_in_turn(alloc: Global, first: Advanced, second: Advanced) -> Result<Advanced, AllocError>
-    ensures { IfOk result (λ r. (one other : MarkTree) (left right : PatternTree) (piece : Piece)
-        (enter : List ZoneBounds) → EndBetween piece.begin (end_of_piece piece) enter
-        → Advances one left enter piece first.told (mark_of first.rest)
-        → Advances other right first.told piece second.told (mark_of second.rest)
-        → Advances (sequence_mark one other) (sequence left right) enter piece r.told
-        (mark_of r.rest)) }
-{
-    let rest = sequence(alloc, first.rest, second.rest)?;
-    Ok(Advanced {
-        told: second.told,
-        rest,
-    })
-}
-
-// Both sides of an alternation went on.
-fn advance_either(alloc: Global, one: Advanced, other: Advanced) -> Result<Advanced, AllocError>
-    ensures { IfOk result (λ r. (x y : MarkTree) (left right : PatternTree) (piece : Piece)
-        (enter : List ZoneBounds) → Advances x left enter piece one.told (mark_of one.rest)
-        → Advances y right enter piece other.told (mark_of other.rest)
-        → Advances (alternation_mark x y) (alternation left right) enter piece r.told
-        (mark_of r.rest)) }
-{
-    let told = joined(one.told, &other.told)?;
-    let rest = alternation(alloc, one.rest, other.rest)?;
-    Ok(Advanced { told, rest })
+    enter(alloc, inner, body, &told, piece)?;
+    *here = ending_at(alloc, &told, piece.begin + piece.segment.len)?;
+    Ok(told)
 }
 
 // A restriction goes on as its body does, behind what was there and what enters.

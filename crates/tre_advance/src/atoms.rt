@@ -5,7 +5,7 @@ ghost use Rattle.tre_syntax.specs.Expr.{tree_of};
 ghost use Rattle.tre_syntax.specs.Meaning.{MatchesRest};
 ghost use Rattle.tre_syntax.specs.PatternTree.{NumbersBelow};
 ghost use Rattle.tre_zone.specs.declared.zone_bounds.ZoneBounds.{ZoneBounds};
-ghost use Rattle.tre_mark.specs.MarkTree.{mark_of, atom_mark};
+ghost use Rattle.tre_mark.specs.MarkTree.{atom_mark};
 ghost use Rattle.tre_mark.specs.Marked.{EndBetween, IsWellAt};
 ghost use Rattle.tre_edges.specs.Piece.{end_of_piece, rest_of_piece};
 ghost use Rattle.tre_pairs.specs.Pairs.{Composed, Either};
@@ -14,121 +14,105 @@ ghost use Rattle.tre_zone.specs.ZoneList.{HoldExactly};
 ghost use Rattle.tre_advance.specs.Advance.{Advances};
 ghost use Rattle.tre_advance.specs.Moves.{EntersTo, TellsAtom, AreAmong, IsBriefTree, IsLiteralTree};
 
-use crate::sets::{
-    all_among, ending_at, followed, joined, joined_behind, joined_both, joined_ends, set_of,
-};
-use crate::stepping::Advanced;
+use crate::sets::{all_among, ending_at, followed, joined, joined_behind, joined_both, set_of};
+use crate::stepping::take_ends;
 use std::alloc::{AllocError, Global};
 use tre_edges::{Piece, literal_in};
-use tre_mark::atom;
 use tre_offline::local;
 use tre_syntax::Expr;
 use tre_zoneset::ZoneSet;
 
 /// What enters an atom that lasts no time: at the end of the piece it may begin, and what comes
-/// decides.
+/// decides. Nothing has begun, or does.
 pub fn enter_brief(
     alloc: Global,
-    here: ZoneSet,
-    begun: ZoneSet,
+    here: &mut ZoneSet,
     expr: &Expr,
     enter: &ZoneSet,
     piece: &Piece,
-) -> Result<Advanced, AllocError>
+) -> Result<ZoneSet, AllocError>
     requires numbers { NumbersBelow NAMES_MAX (tree_of expr.now) }
     requires brief { IsBriefTree (tree_of expr.now) }
-    requires well { IsWellAt (end_of_piece piece.now) (atom_mark here begun) (tree_of expr.now) }
     requires enter { EndBetween piece.now.begin (end_of_piece piece.now) enter.now }
-    ensures { IfOk result (λ r. EntersTo (atom_mark here begun) (tree_of expr.now) enter.now
-        piece.now r.told (mark_of r.rest)) }
+    ensures { IfOk result (λ told. (begun : List ZoneBounds)
+        → IsWellAt (end_of_piece piece.now) (atom_mark here.old begun) (tree_of expr.now)
+        → EntersTo (atom_mark here.old begun) (tree_of expr.now) enter.now piece.now told
+        (atom_mark here.new begun)) }
 {
     let inside = local(alloc, expr, piece)?;
     let told = followed(alloc, enter, &inside)?;
-    let last = ending_at(alloc, enter, piece.begin + piece.segment.len)?;
-    let here = joined_ends(alloc, last, here)?;
-    Ok(Advanced {
-        told,
-        rest: atom(here, begun),
-    })
+    take_ends(alloc, here, enter, piece.begin + piece.segment.len)?;
+    Ok(told)
 }
 
-/// What enters a literal.
+/// What enters a literal: what it tells at the end of the piece may hold on.
 pub fn enter_literal(
     alloc: Global,
-    here: ZoneSet,
-    begun: ZoneSet,
+    here: &mut ZoneSet,
+    begun: &mut ZoneSet,
     expr: &Expr,
     enter: &ZoneSet,
     piece: &Piece,
-) -> Result<Advanced, AllocError>
+) -> Result<ZoneSet, AllocError>
     requires numbers { NumbersBelow NAMES_MAX (tree_of expr.now) }
     requires literal { IsLiteralTree (tree_of expr.now) }
-    requires well { IsWellAt (end_of_piece piece.now) (atom_mark here begun) (tree_of expr.now) }
+    requires well { IsWellAt (end_of_piece piece.now) (atom_mark here.old begun.old)
+        (tree_of expr.now) }
     requires enter { EndBetween piece.now.begin (end_of_piece piece.now) enter.now }
-    ensures { IfOk result (λ r. EntersTo (atom_mark here begun) (tree_of expr.now) enter.now
-        piece.now r.told (mark_of r.rest)) }
+    ensures { IfOk result (λ told. EntersTo (atom_mark here.old begun.old) (tree_of expr.now)
+        enter.now piece.now told (atom_mark here.new begun.new)) }
 {
     let end = piece.begin + piece.segment.len;
     let inside = local(alloc, expr, piece)?;
     let told = followed(alloc, enter, &inside)?;
-    let last = ending_at(alloc, enter, end)?;
-    let here = joined_ends(alloc, last, here)?;
-    let held = ending_at(alloc, &told, end)?;
-    let begun = joined_ends(alloc, held, begun)?;
-    Ok(Advanced {
-        told,
-        rest: atom(here, begun),
-    })
+    take_ends(alloc, here, enter, end)?;
+    take_ends(alloc, begun, &told, end)?;
+    Ok(told)
 }
 
-/// A piece of an atom that lasts no time, into which the pairs of the set enter on the way.
+/// A piece of an atom that lasts no time, into which the pairs of the set enter on the way. Nothing
+/// has begun, or does.
 pub fn advance_brief(
     alloc: Global,
-    here: &ZoneSet,
+    here: &mut ZoneSet,
     begun: &ZoneSet,
     expr: &Expr,
     entering: &ZoneSet,
     piece: &Piece,
-) -> Result<Advanced, AllocError>
+) -> Result<ZoneSet, AllocError>
     requires numbers { NumbersBelow NAMES_MAX (tree_of expr.now) }
     requires brief { IsBriefTree (tree_of expr.now) }
-    requires well { IsWellAt piece.now.begin (atom_mark here.now begun.now) (tree_of expr.now) }
+    requires well { IsWellAt piece.now.begin (atom_mark here.old begun.now) (tree_of expr.now) }
     requires enter { EndBetween piece.now.begin (end_of_piece piece.now) entering.now }
-    ensures { IfOk result (λ r. Advances (atom_mark here.now begun.now) (tree_of expr.now)
-        entering.now piece.now r.told (mark_of r.rest)) }
+    ensures { IfOk result (λ told. Advances (atom_mark here.old begun.now) (tree_of expr.now)
+        entering.now piece.now told (atom_mark here.new begun.now)) }
 {
     let told = tell_atom(alloc, here, begun, expr, entering, piece)?;
-    let last = ending_at(alloc, entering, piece.begin + piece.segment.len)?;
-    Ok(Advanced {
-        told,
-        rest: atom(last, ZoneSet::new(alloc)),
-    })
+    *here = ending_at(alloc, entering, piece.begin + piece.segment.len)?;
+    Ok(told)
 }
 
 /// The same of a literal: what it tells at the end of the piece may hold on.
 pub fn advance_literal(
     alloc: Global,
-    here: &ZoneSet,
-    begun: &ZoneSet,
+    here: &mut ZoneSet,
+    begun: &mut ZoneSet,
     expr: &Expr,
     entering: &ZoneSet,
     piece: &Piece,
-) -> Result<Advanced, AllocError>
+) -> Result<ZoneSet, AllocError>
     requires numbers { NumbersBelow NAMES_MAX (tree_of expr.now) }
     requires literal { IsLiteralTree (tree_of expr.now) }
-    requires well { IsWellAt piece.now.begin (atom_mark here.now begun.now) (tree_of expr.now) }
+    requires well { IsWellAt piece.now.begin (atom_mark here.old begun.old) (tree_of expr.now) }
     requires enter { EndBetween piece.now.begin (end_of_piece piece.now) entering.now }
-    ensures { IfOk result (λ r. Advances (atom_mark here.now begun.now) (tree_of expr.now)
-        entering.now piece.now r.told (mark_of r.rest)) }
+    ensures { IfOk result (λ told. Advances (atom_mark here.old begun.old) (tree_of expr.now)
+        entering.now piece.now told (atom_mark here.new begun.new)) }
 {
     let end = piece.begin + piece.segment.len;
     let told = tell_atom(alloc, here, begun, expr, entering, piece)?;
-    let last = ending_at(alloc, entering, end)?;
-    let held = ending_at(alloc, &told, end)?;
-    Ok(Advanced {
-        told,
-        rest: atom(last, held),
-    })
+    *here = ending_at(alloc, entering, end)?;
+    *begun = ending_at(alloc, &told, end)?;
+    Ok(told)
 }
 
 // What an atom tells over the piece.

@@ -16,38 +16,37 @@ ghost use Rattle.tre_advance.specs.Moves.{EntersTo, IsBriefTree, IsLiteralTree, 
 
 use crate::atoms::{enter_brief, enter_literal};
 use crate::instances::{leave_both, leave_lasting, tell_both, tell_lasting};
-use crate::sets::joined_both;
-use crate::stepping::{Advanced, either, enter_in_turn, leave_again, repeat};
+use crate::sets::{joined, joined_both};
+use crate::stepping::{Advanced, repeat, take_ends};
 use std::alloc::{AllocError, Global};
+use std::mem;
 use tre_edges::Piece;
-use tre_mark::{Mark, moments, repetition};
+use tre_mark::{Mark, moments};
 use tre_syntax::Expr;
 use tre_zone::Interval;
 use tre_zoneset::ZoneSet;
 
-/// What is told of the pairs that enter in the piece, and the mark at its end together with them.
-/// Where nothing enters, the mark stays as it is.
+/// What is told of the pairs that enter in the piece: the mark at its end takes them in. Where
+/// nothing enters, it stays as it is.
 ///
-/// It goes as deep as the expression does.
+/// It goes as deep as the expression does. Where memory runs out, what is left of the mark is of no
+/// use.
 #[cycle(enter)]
 pub fn enter(
     alloc: Global,
-    mark: Mark,
+    mark: &mut Mark,
     expr: &Expr,
     zones: &ZoneSet,
     piece: &Piece,
-) -> Result<Advanced, AllocError>
+) -> Result<ZoneSet, AllocError>
     requires numbers { NumbersBelow NAMES_MAX (tree_of expr.now) }
-    requires well { IsWellAt (end_of_piece piece.now) (mark_of mark) (tree_of expr.now) }
+    requires well { IsWellAt (end_of_piece piece.now) (mark_of mark.old) (tree_of expr.now) }
     requires enter { EndBetween piece.now.begin (end_of_piece piece.now) zones.now }
-    ensures { IfOk result (λ r. EntersTo (mark_of mark) (tree_of expr.now) zones.now piece.now
-        r.told (mark_of r.rest)) }
+    ensures { IfOk result (λ told. EntersTo (mark_of mark.old) (tree_of expr.now) zones.now
+        piece.now told (mark_of mark.new)) }
 {
     if zones.is_empty() {
-        return Ok(Advanced {
-            told: ZoneSet::new(alloc),
-            rest: mark,
-        });
+        return Ok(ZoneSet::new(alloc));
     }
     match expr {
         Expr::Eps | Expr::Lit(_) | Expr::Rise(_) | Expr::Fall(_) | Expr::Event(_) => {
@@ -66,25 +65,24 @@ pub fn enter(
 #[cycle(enter)]
 fn enter_sequence(
     alloc: Global,
-    mark: Mark,
+    mark: &mut Mark,
     left: &Expr,
     right: &Expr,
     zones: &ZoneSet,
     piece: &Piece,
-) -> Result<Advanced, AllocError>
+) -> Result<ZoneSet, AllocError>
     requires numbers { NumbersBelow NAMES_MAX (sequence (tree_of left.now) (tree_of right.now)) }
-    requires well { IsWellAt (end_of_piece piece.now) (mark_of mark)
+    requires well { IsWellAt (end_of_piece piece.now) (mark_of mark.old)
         (sequence (tree_of left.now) (tree_of right.now)) }
     requires enter { EndBetween piece.now.begin (end_of_piece piece.now) zones.now }
-    ensures { IfOk result (λ r. EntersTo (mark_of mark)
-        (sequence (tree_of left.now) (tree_of right.now)) zones.now piece.now r.told
-        (mark_of r.rest)) }
+    ensures { IfOk result (λ told. EntersTo (mark_of mark.old)
+        (sequence (tree_of left.now) (tree_of right.now)) zones.now piece.now told
+        (mark_of mark.new)) }
 {
     match mark {
         Mark::Seq(one, other) => {
-            let first = enter(alloc, Box::into_inner(one), left, zones, piece)?;
-            let second = enter(alloc, Box::into_inner(other), right, &first.told, piece)?;
-            enter_in_turn(alloc, first, second)
+            let first = enter(alloc, one, left, zones, piece)?;
+            enter(alloc, other, right, &first, piece)
         }
         _ => unreachable!(),
     }
@@ -93,25 +91,25 @@ fn enter_sequence(
 #[cycle(enter)]
 fn enter_alternation(
     alloc: Global,
-    mark: Mark,
+    mark: &mut Mark,
     left: &Expr,
     right: &Expr,
     zones: &ZoneSet,
     piece: &Piece,
-) -> Result<Advanced, AllocError>
+) -> Result<ZoneSet, AllocError>
     requires numbers { NumbersBelow NAMES_MAX (alternation (tree_of left.now) (tree_of right.now)) }
-    requires well { IsWellAt (end_of_piece piece.now) (mark_of mark)
+    requires well { IsWellAt (end_of_piece piece.now) (mark_of mark.old)
         (alternation (tree_of left.now) (tree_of right.now)) }
     requires enter { EndBetween piece.now.begin (end_of_piece piece.now) zones.now }
-    ensures { IfOk result (λ r. EntersTo (mark_of mark)
-        (alternation (tree_of left.now) (tree_of right.now)) zones.now piece.now r.told
-        (mark_of r.rest)) }
+    ensures { IfOk result (λ told. EntersTo (mark_of mark.old)
+        (alternation (tree_of left.now) (tree_of right.now)) zones.now piece.now told
+        (mark_of mark.new)) }
 {
     match mark {
         Mark::Alt(one, other) => {
-            let first = enter(alloc, Box::into_inner(one), left, zones, piece)?;
-            let second = enter(alloc, Box::into_inner(other), right, zones, piece)?;
-            either(alloc, first, second)
+            let first = enter(alloc, one, left, zones, piece)?;
+            let second = enter(alloc, other, right, zones, piece)?;
+            joined(first, &second)
         }
         _ => unreachable!(),
     }
@@ -120,27 +118,24 @@ fn enter_alternation(
 #[cycle(enter)]
 fn enter_repetition(
     alloc: Global,
-    mark: Mark,
+    mark: &mut Mark,
     body: &Expr,
     zones: &ZoneSet,
     piece: &Piece,
-) -> Result<Advanced, AllocError>
+) -> Result<ZoneSet, AllocError>
     requires numbers { NumbersBelow NAMES_MAX (repetition (tree_of body.now)) }
-    requires well { IsWellAt (end_of_piece piece.now) (mark_of mark)
+    requires well { IsWellAt (end_of_piece piece.now) (mark_of mark.old)
         (repetition (tree_of body.now)) }
     requires enter { EndBetween piece.now.begin (end_of_piece piece.now) zones.now }
-    ensures { IfOk result (λ r. EntersTo (mark_of mark)
-        (repetition (tree_of body.now)) zones.now piece.now r.told
-        (mark_of r.rest)) }
+    ensures { IfOk result (λ told. EntersTo (mark_of mark.old)
+        (repetition (tree_of body.now)) zones.now piece.now told
+        (mark_of mark.new)) }
 {
     match mark {
-        Mark::Star { here, body: inner } => {
-            let inner = Box::into_inner(inner);
-            match body {
-                Expr::Star(_) => enter_nested(alloc, here, inner, body, zones, piece),
-                _ => enter_body(alloc, here, inner, body, zones, piece),
-            }
-        }
+        Mark::Star { here, body: inner } => match body {
+            Expr::Star(_) => enter_nested(alloc, inner, body, zones, piece),
+            _ => enter_body(alloc, here, inner, body, zones, piece),
+        },
         _ => unreachable!(),
     }
 }
@@ -149,52 +144,74 @@ fn enter_repetition(
 #[cycle(enter)]
 fn enter_nested(
     alloc: Global,
-    here: ZoneSet,
-    inner: Mark,
+    inner: &mut Mark,
     body: &Expr,
     zones: &ZoneSet,
     piece: &Piece,
-) -> Result<Advanced, AllocError>
+) -> Result<ZoneSet, AllocError>
     requires numbers { NumbersBelow NAMES_MAX (tree_of body.now) }
     requires nested { IsRepetitionTree (tree_of body.now) }
-    requires well { IsWellAt (end_of_piece piece.now) (mark_of inner) (tree_of body.now) }
-    requires ends { EndAt (end_of_piece piece.now) here }
+    requires well { IsWellAt (end_of_piece piece.now) (mark_of inner.old) (tree_of body.now) }
     requires enter { EndBetween piece.now.begin (end_of_piece piece.now) zones.now }
-    ensures { IfOk result (λ r. EntersTo (repetition_mark here (mark_of inner))
-        (repetition (tree_of body.now)) zones.now piece.now r.told (mark_of r.rest)) }
+    ensures { IfOk result (λ told. (here : List ZoneBounds)
+        → EndAt (end_of_piece piece.now) here
+        → EntersTo (repetition_mark here (mark_of inner.old)) (repetition (tree_of body.now))
+        zones.now piece.now told (repetition_mark here (mark_of inner.new))) }
 {
-    let entered = enter(alloc, inner, body, zones, piece)?;
-    let rest = repetition(alloc, here, entered.rest)?;
-    Ok(Advanced {
-        told: entered.told,
-        rest,
-    })
+    enter(alloc, inner, body, zones, piece)
 }
 
 // The body is entered behind each pair of the set, and again behind each match of it in the piece.
 #[cycle(enter)]
 fn enter_body(
     alloc: Global,
-    here: ZoneSet,
-    inner: Mark,
+    here: &mut ZoneSet,
+    inner: &mut Mark,
     body: &Expr,
     zones: &ZoneSet,
     piece: &Piece,
-) -> Result<Advanced, AllocError>
+) -> Result<ZoneSet, AllocError>
     requires numbers { NumbersBelow NAMES_MAX (tree_of body.now) }
-    requires well { IsWellAt (end_of_piece piece.now) (mark_of inner) (tree_of body.now) }
-    requires ends { EndAt (end_of_piece piece.now) here }
+    requires well { IsWellAt (end_of_piece piece.now) (mark_of inner.old) (tree_of body.now) }
+    requires ends { EndAt (end_of_piece piece.now) here.old }
     requires enter { EndBetween piece.now.begin (end_of_piece piece.now) zones.now }
-    ensures { IfOk result (λ r. EntersTo (repetition_mark here (mark_of inner))
-        (repetition (tree_of body.now)) zones.now piece.now r.told (mark_of r.rest)) }
+    ensures { IfOk result (λ told. EntersTo (repetition_mark here.old (mark_of inner.old))
+        (repetition (tree_of body.now)) zones.now piece.now told
+        (repetition_mark here.new (mark_of inner.new))) }
 {
     let told = repeat(alloc, zones.try_clone()?, body, piece)?;
-    let entered = enter(alloc, inner, body, &told, piece)?;
-    leave_again(alloc, here, told, entered.rest, piece)
+    enter(alloc, inner, body, &told, piece)?;
+    take_ends(alloc, here, &told, piece.begin + piece.segment.len)?;
+    Ok(told)
 }
 
 #[cycle(enter)]
 fn enter_intersection(
+    alloc: Global,
+    mark: &mut Mark,
+    left: &Expr,
+    right: &Expr,
+    zones: &ZoneSet,
+    piece: &Piece,
+) -> Result<ZoneSet, AllocError>
+    requires numbers { NumbersBelow NAMES_MAX
+        (intersection (tree_of left.now) (tree_of right.now)) }
+    requires well { IsWellAt (end_of_piece piece.now) (mark_of mark.old)
+        (intersection (tree_of left.now) (tree_of right.now)) }
+    requires enter { EndBetween piece.now.begin (end_of_piece piece.now) zones.now }
+    ensures { IfOk result (λ told. EntersTo (mark_of mark.old)
+        (intersection (tree_of left.now) (tree_of right.now)) zones.now piece.now told
+        (mark_of mark.new)) }
+{
+    let whole = mem::replace(mark, Mark::NoMeet);
+    let entered = take_intersection(alloc, whole, left, right, zones, piece)?;
+    *mark = entered.rest;
+    Ok(entered.told)
+}
+
+// The same of a mark that is given away.
+#[cycle(enter)]
+fn take_intersection(
     alloc: Global,
     mark: Mark,
     left: &Expr,
@@ -266,13 +283,37 @@ fn take_both(
         r.told (mark_of r.rest)) }
 {
     let all = moments_of(alloc, piece)?;
-    let first = enter(alloc, one, left, &all, piece)?;
-    let second = enter(alloc, other, right, &all, piece)?;
+    let first = take_on(alloc, one, left, &all, piece)?;
+    let second = take_on(alloc, other, right, &all, piece)?;
     begin_both(alloc, outer, first, second, zones, piece)
 }
 
 #[cycle(enter)]
 fn enter_restriction(
+    alloc: Global,
+    mark: &mut Mark,
+    body: &Expr,
+    interval: &Interval,
+    zones: &ZoneSet,
+    piece: &Piece,
+) -> Result<ZoneSet, AllocError>
+    requires numbers { NumbersBelow NAMES_MAX (restriction (tree_of body.now) interval.now) }
+    requires well { IsWellAt (end_of_piece piece.now) (mark_of mark.old)
+        (restriction (tree_of body.now) interval.now) }
+    requires enter { EndBetween piece.now.begin (end_of_piece piece.now) zones.now }
+    ensures { IfOk result (λ told. EntersTo (mark_of mark.old)
+        (restriction (tree_of body.now) interval.now) zones.now piece.now told
+        (mark_of mark.new)) }
+{
+    let whole = mem::replace(mark, Mark::NoWithin);
+    let entered = take_restriction(alloc, whole, body, interval, zones, piece)?;
+    *mark = entered.rest;
+    Ok(entered.told)
+}
+
+// The same of a mark that is given away.
+#[cycle(enter)]
+fn take_restriction(
     alloc: Global,
     mark: Mark,
     body: &Expr,
@@ -335,28 +376,47 @@ fn take_lasting(
         (mark_of r.rest)) }
 {
     let all = moments_of(alloc, piece)?;
-    let begun = enter(alloc, inner, body, &all, piece)?;
+    let begun = take_on(alloc, inner, body, &all, piece)?;
     begin_lasting(alloc, outer, begun, interval, zones, piece)
 }
 
-fn enter_atom(
+// The mark, given away, is entered.
+#[cycle(enter)]
+fn take_on(
     alloc: Global,
-    mark: Mark,
+    mut mark: Mark,
     expr: &Expr,
     zones: &ZoneSet,
     piece: &Piece,
 ) -> Result<Advanced, AllocError>
     requires numbers { NumbersBelow NAMES_MAX (tree_of expr.now) }
-    requires atom { IsBriefTree (tree_of expr.now) ⊎ IsLiteralTree (tree_of expr.now) }
     requires well { IsWellAt (end_of_piece piece.now) (mark_of mark) (tree_of expr.now) }
     requires enter { EndBetween piece.now.begin (end_of_piece piece.now) zones.now }
     ensures { IfOk result (λ r. EntersTo (mark_of mark) (tree_of expr.now) zones.now piece.now
         r.told (mark_of r.rest)) }
 {
+    let told = enter(alloc, &mut mark, expr, zones, piece)?;
+    Ok(Advanced { told, rest: mark })
+}
+
+fn enter_atom(
+    alloc: Global,
+    mark: &mut Mark,
+    expr: &Expr,
+    zones: &ZoneSet,
+    piece: &Piece,
+) -> Result<ZoneSet, AllocError>
+    requires numbers { NumbersBelow NAMES_MAX (tree_of expr.now) }
+    requires atom { IsBriefTree (tree_of expr.now) ⊎ IsLiteralTree (tree_of expr.now) }
+    requires well { IsWellAt (end_of_piece piece.now) (mark_of mark.old) (tree_of expr.now) }
+    requires enter { EndBetween piece.now.begin (end_of_piece piece.now) zones.now }
+    ensures { IfOk result (λ told. EntersTo (mark_of mark.old) (tree_of expr.now) zones.now
+        piece.now told (mark_of mark.new)) }
+{
     match mark {
         Mark::Atom { here, begun } => match expr {
             Expr::Lit(_) => enter_literal(alloc, here, begun, expr, zones, piece),
-            _ => enter_brief(alloc, here, begun, expr, zones, piece),
+            _ => enter_brief(alloc, here, expr, zones, piece),
         },
         _ => unreachable!(),
     }

@@ -1,7 +1,7 @@
 //! The step of a mark over one more piece of a trace, and what it tells where the trace ends.
 //!
 //! [`advance`] goes once over a mark and its expression. It tells, as zones, exactly the pairs that
-//! are decided by the piece, and leaves the mark at the end of the piece: whatever comes behind it,
+//! are decided by the piece, and moves the mark to the end of the piece: whatever comes behind it,
 //! that mark stands for exactly the pairs that are still open. Pairs may enter on the way, at any
 //! moment of the piece: an intersection or a restriction that has begun takes them in. The layer
 //! above may rely on the cost: that of the expression and of the sets in its mark, however long the
@@ -11,8 +11,7 @@
 //! end.
 //!
 //! ```
-//! let advanced = advance(alloc, &mark, expr, &enter, &piece)?;
-//! let told = advanced.told;
+//! let told = advance(alloc, &mut mark, expr, &enter, &piece)?;
 //! ```
 #![tactic(auto)]
 
@@ -27,4 +26,3 @@ mod stepping;
 
 pub use advancing::advance;
 pub use closing::close;
-pub use stepping::Advanced;

@@ -2,33 +2,42 @@ use Rattle.std.proofs.Common.{◌+◌, ◌*◌, max}
 use Rattle.tre_syntax.specs.declared.expr.Expr.{size-Expr}
 use Rattle.tre_advance.proofs.advancing.+advance.Given as goal
 
--- Each form is a step above its parts, and what passes moments on stands between them.
+-- Each form is a step above its parts, and what takes a mark apart stands between them.
 abbrev pub decreases-advance : goal.decreases-advance
-decreases-advance l = 3 * size-Expr l.expr.now
+decreases-advance l = 5 * size-Expr l.expr.now
 
 abbrev pub decreases-advance_sequence : goal.decreases-advance_sequence
-decreases-advance_sequence l = 3 * max (size-Expr l.left.now) (size-Expr l.right.now) + 2
+decreases-advance_sequence l = 5 * max (size-Expr l.left.now) (size-Expr l.right.now) + 4
 
 abbrev pub decreases-advance_alternation : goal.decreases-advance_alternation
-decreases-advance_alternation l = 3 * max (size-Expr l.left.now) (size-Expr l.right.now) + 2
+decreases-advance_alternation l = 5 * max (size-Expr l.left.now) (size-Expr l.right.now) + 4
 
 abbrev pub decreases-advance_repetition : goal.decreases-advance_repetition
-decreases-advance_repetition l = 3 * size-Expr l.body.now + 2
+decreases-advance_repetition l = 5 * size-Expr l.body.now + 4
 
 abbrev pub decreases-advance_nested : goal.decreases-advance_nested
-decreases-advance_nested l = 3 * size-Expr l.body.now + 1
+decreases-advance_nested l = 5 * size-Expr l.body.now + 2
 
 abbrev pub decreases-advance_body : goal.decreases-advance_body
-decreases-advance_body l = 3 * size-Expr l.body.now + 1
+decreases-advance_body l = 5 * size-Expr l.body.now + 2
 
 abbrev pub decreases-advance_intersection : goal.decreases-advance_intersection
-decreases-advance_intersection l = 3 * max (size-Expr l.left.now) (size-Expr l.right.now) + 2
+decreases-advance_intersection l = 5 * max (size-Expr l.left.now) (size-Expr l.right.now) + 4
 
 abbrev pub decreases-advance_restriction : goal.decreases-advance_restriction
-decreases-advance_restriction l = 3 * size-Expr l.body.now + 2
+decreases-advance_restriction l = 5 * size-Expr l.body.now + 4
 
 abbrev pub decreases-pass_both : goal.decreases-pass_both
-decreases-pass_both l = 3 * max (size-Expr l.left.now) (size-Expr l.right.now) + 1
+decreases-pass_both l = 5 * max (size-Expr l.left.now) (size-Expr l.right.now) + 2
 
 abbrev pub decreases-pass_lasting : goal.decreases-pass_lasting
-decreases-pass_lasting l = 3 * size-Expr l.body.now + 1
+decreases-pass_lasting l = 5 * size-Expr l.body.now + 2
+
+abbrev pub decreases-pass_intersection : goal.decreases-pass_intersection
+decreases-pass_intersection l = 5 * max (size-Expr l.left.now) (size-Expr l.right.now) + 3
+
+abbrev pub decreases-pass_restriction : goal.decreases-pass_restriction
+decreases-pass_restriction l = 5 * size-Expr l.body.now + 3
+
+abbrev pub decreases-move_on : goal.decreases-move_on
+decreases-move_on l = 5 * size-Expr l.expr.now + 1

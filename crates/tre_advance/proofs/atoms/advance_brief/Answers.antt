@@ -1,9 +1,27 @@
-use Rattle.std.proofs.Common.{◌∙◌, ap, sym, subst}
+use Rattle.std.proofs.Common.{◌≡◌, ℕ, List, [], sym, subst}
+use Rattle.tre_zone.specs.declared.zone_bounds.ZoneBounds.{ZoneBounds}
 use Rattle.tre_syntax.specs.Expr.{tree_of}
-use Rattle.tre_mark.specs.MarkTree.{MarkTree, atom_mark}
+use Rattle.tre_syntax.specs.PatternTree.{PatternTree, empty, literal, rise, fall, event, atom, sequence, alternation, intersection, repetition, restriction}
+use Rattle.tre_mark.specs.MarkTree.{atom_mark}
+use Rattle.tre_mark.specs.Marked.{IsWell}
 use Rattle.tre_advance.specs.Advance.{Advances}
+use Rattle.tre_advance.specs.Moves.{IsBriefTree}
 use Rattle.tre_advance.proofs.Onward.{brief_advances}
 use Rattle.tre_advance.proofs.atoms.advance_brief.Goals as goal
+
+-- Of what lasts no time nothing has begun.
+none_begun : (time : ℕ) (here begun : List ZoneBounds) (tree : PatternTree) → IsBriefTree tree
+    → IsWell time (atom_mark here begun) tree → begun ≡ []
+none_begun time here begun (atom empty) is well = well.1
+none_begun time here begun (atom (literal state)) is well = absurd is
+none_begun time here begun (atom (rise state)) is well = well.1
+none_begun time here begun (atom (fall state)) is well = well.1
+none_begun time here begun (atom (event number)) is well = well.1
+none_begun time here begun (sequence left right) is well = absurd is
+none_begun time here begun (alternation left right) is well = absurd is
+none_begun time here begun (intersection left right) is well = absurd is
+none_begun time here begun (repetition tree) is well = absurd is
+none_begun time here begun (restriction tree ends) is well = absurd is
 
 pub returns : goal.returns
 returns c =
@@ -13,8 +31,9 @@ returns c =
     let piece = c.args.piece.now in
     let tree = tree_of c.args.expr.now in
     let told = c.in_ok-told.told in
-    let last = c.in_ok-last.last in
-    subst (λ (mark : MarkTree). Advances (atom_mark here begun) tree enter piece told mark)
-    (sym (c.atom.ensures ∙ ap (λ x. atom_mark last x) c.new.ensures))
-    (brief_advances piece here begun enter told last c.requires.enter c.in_ok-last.ensures tree
+    let last = c.in_ok-here.field-0 in
+    subst (λ (list : List ZoneBounds). Advances (atom_mark here begun) tree enter piece told
+    (atom_mark last list))
+    (sym (none_begun piece.begin here begun tree c.requires.brief c.requires.well.well))
+    (brief_advances piece here begun enter told last c.requires.enter c.in_ok-here.ensures tree
     c.requires.brief c.requires.well c.in_ok-told.ensures.set)

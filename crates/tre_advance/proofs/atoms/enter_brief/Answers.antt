@@ -1,20 +1,11 @@
-use Rattle.std.proofs.Common.{sym, subst}
 use Rattle.tre_syntax.specs.Expr.{tree_of}
-use Rattle.tre_mark.specs.MarkTree.{MarkTree, atom_mark}
-use Rattle.tre_advance.specs.Moves.{EntersTo}
 use Rattle.tre_advance.proofs.AtomForms.{brief_enters_to}
 use Rattle.tre_advance.proofs.atoms.enter_brief.Goals as goal
 
 pub returns : goal.returns
-returns c =
-    let here = c.args.here in
-    let begun = c.args.begun in
-    let enter = c.args.enter.now in
-    let piece = c.args.piece.now in
-    let tree = tree_of c.args.expr.now in
-    let told = c.in_ok-told.told in
-    subst (λ (mark : MarkTree). EntersTo (atom_mark here begun) tree enter piece told mark)
-    (sym c.atom.ensures)
-    (brief_enters_to piece here begun enter c.in_ok-inside.inside told c.in_ok-last.last
-    c.in_ok-here.here c.requires.enter c.in_ok-told.ensures c.in_ok-last.ensures
-    c.in_ok-here.ensures tree c.requires.brief c.requires.well c.in_ok-inside.ensures)
+returns c begun well =
+    let ends = c.in_ok-take_ends.ensures in
+    brief_enters_to c.args.piece.now c.args.here.now begun c.args.enter.now
+    c.in_ok-inside.inside c.in_ok-told.told ends.last c.take_ends.new.here c.requires.enter
+    c.in_ok-told.ensures ends.ends ends.union (tree_of c.args.expr.now) c.requires.brief well
+    c.in_ok-inside.ensures
