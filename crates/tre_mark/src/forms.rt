@@ -81,6 +81,6 @@ pub fn moments(alloc: Global, from: u64, to: u64) -> Result<ZoneSet, AllocError>
     ensures { IfOk result (λ zones. HoldExactly zones (IsInstantBetween from to)) }
 {
     let mut zones = ZoneSet::new(alloc);
-    zones.add(Zone::instants(from, to))?;
+    zones.push_apart(Zone::instants(from, to))?;
     Ok(zones)
 }

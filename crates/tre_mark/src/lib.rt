@@ -11,6 +11,7 @@
 //! ```
 #![tactic(auto)]
 
+mod copy;
 mod empty;
 mod forms;
 pub mod laws;

@@ -1,13 +1,12 @@
 -- Going through the sessions of a watch in turn: what was done for those up to a place, and what is
 -- left, make up what is done for all.
-use Rattle.std.proofs.Common.{◌≡◌, ℕ, ◌+◌, ◌<◌, ◌≤◌, length, get_or, set, take, drop, List, [], ◌∷◌, ◌++◌, refl, sym, ap, subst, inl, inr, arith, append_assoc, ◌∙◌}
-use Rattle.std.proofs.lemmas.List.{append-nil, take_all, drop_all, drop_more, take_more_set, drop-set-lt, length-set}
-use Rattle.std.proofs.lemmas.Grind.{drop_more_same}
+use Rattle.std.proofs.Common.{◌≡◌, ℕ, ◌+◌, ◌<◌, ◌≤◌, length, get_or, drop, List, [], ◌∷◌, ◌++◌, refl, sym, ap, subst, inl, inr, arith, append_assoc, ◌∙◌}
+use Rattle.std.proofs.lemmas.List.{append-nil, drop_all, drop_more}
 use Rattle.tre_syntax.specs.declared.pattern.Pattern.{Pattern}
 use Rattle.tre_trace.specs.declared.fault.PushFault.{PushFault}
 use Rattle.tre_trace.specs.declared.segment.Segment.{Segment}
 use Rattle.tre_zone.specs.declared.zone_bounds.ZoneBounds.{ZoneBounds}
-use Rattle.tre_online.specs.Giving.{IsNewFor, AreNewFor, Goes, GoEach, IsRefusedBy, IsRefusedByOne, TellsAtEnd, TellEachAtEnd}
+use Rattle.tre_online.specs.Giving.{IsNewFor, AreNewFor, IsGivenFirst, GoEach, IsRefusedBy, IsRefusedByOne, TellsAtEnd, TellEachAtEnd}
 use Rattle.tre_online.specs.declared.session.Session.{Session}
 
 -- What is at the place, and what is behind it.
@@ -15,6 +14,11 @@ split_at : {X : Type 0} → (list : List X) (place : ℕ) (d : X) → place < le
     → d ≡ get_or list place d → drop place list ≡ d ∷ drop (place + 1) list
 split_at {X = X} list place d below is =
     drop_more list place d below ∙ ap (λ (x : X). x ∷ drop (place + 1) list) (sym is)
+
+next_at : {X : Type 0} → (list : List X) (place : ℕ) → place < length list
+    → (x : X) × (drop place list ≡ x ∷ drop (place + 1) list)
+next_at [] place below = absurd (omega (arith, below))
+next_at (x ∷ list) place below = (get_or (x ∷ list) place x, drop_more (x ∷ list) place x below)
 
 -- The patterns up to the place have their sessions.
 pub record HaveBegun (patterns : List Pattern) (place : ℕ) (sessions : List Session) : Type 0 where
@@ -43,105 +47,112 @@ HaveBegun-end patterns place sessions begun past =
     (begun.goes_on []
     (subst (λ (list : List Pattern). AreNewFor list []) (sym (drop_all place patterns past)) tt))
 
--- The sessions up to the place have their segments. Those from there on are as they were.
+-- The sessions up to the place have their segments, and were put behind those that have none.
 pub record HaveGone (olds : List Session) (segments : List Segment) (place : ℕ)
-    (now : List Session) (told : List (List ZoneBounds)) : Type 0 where
-  pub count : length segments ≡ length now
-  pub rest : drop place now ≡ drop place olds
+    (queue : List Session) (told : List (List ZoneBounds)) : Type 0 where
+  pub gone : List Session
+  pub order : queue ≡ drop place olds ++ gone
   pub goes_on : (news : List Session) (more : List (List ZoneBounds))
       → GoEach (drop place olds) (drop place segments) news more
-      → GoEach olds segments (take place now ++ news) (told ++ more)
+      → GoEach olds segments (gone ++ news) (told ++ more)
   pub refuses : (fault : PushFault)
       → IsRefusedByOne (drop place olds) (drop place segments) fault
       → IsRefusedByOne olds segments fault
 
 pub HaveGone-start : (olds : List Session) (segments : List Segment)
-    → length segments ≡ length olds → HaveGone olds segments 0 olds []
-HaveGone-start olds segments count = record {
-  count = count;
-  rest = refl;
+    → HaveGone olds segments 0 olds []
+HaveGone-start olds segments = record {
+  gone = [];
+  order = sym (append-nil olds);
   goes_on = λ news more go. go;
   refuses = λ fault one. one;
 }
 
-module _ (olds : List Session) (segments : List Segment) (place : ℕ) (now : List Session)
-    (told : List (List ZoneBounds)) (gone : HaveGone olds segments place now told)
-    (below : place < length now) (session : Session) (segment : Segment)
-    (here : session ≡ get_or now place session) (is : segment ≡ get_or segments place segment) where
-  segments_split : drop place segments ≡ segment ∷ drop (place + 1) segments
-  segments_split =
-      let count = gone.count in
-      split_at segments place segment (omega (arith, below, count)) is
+module _ (olds : List Session) (segments : List Segment) (place : ℕ) (queue : List Session)
+    (told : List (List ZoneBounds)) (count : length segments ≡ length olds)
+    (now : HaveGone olds segments place queue told) (below : place < length segments) where
+  here : (session : Session) × (drop place olds ≡ session ∷ drop (place + 1) olds)
+  here = next_at olds place (omega (arith, below, count))
 
-  olds_split : drop place olds ≡ session ∷ drop (place + 1) now
-  olds_split = sym gone.rest ∙ split_at now place session below here
+  queue_is : queue ≡ here.0 ∷ (drop (place + 1) olds ++ now.gone)
+  queue_is = now.order ∙ ap (λ (list : List Session). list ++ now.gone) here.1
 
-  rest_same : drop (place + 1) now ≡ drop (place + 1) olds
-  rest_same = drop_more_same now olds place gone.rest
+  -- There is a first one.
+  pub some_left : 0 < length queue
+  some_left = subst (λ (list : List Session). 0 < length list) (sym queue_is) (omega arith)
 
-  -- A refusal at the place is one of the sessions.
-  pub refused_here : (fault : PushFault) → IsRefusedBy session segment fault
-      → IsRefusedByOne olds segments fault
-  refused_here fault refused =
-      gone.refuses fault
-      (subst (λ (list : List Session). IsRefusedByOne list (drop place segments) fault)
-      (sym olds_split)
-      (subst (λ (list : List Segment). IsRefusedByOne (session ∷ drop (place + 1) now) list fault)
-      (sym segments_split) (inl refused)))
+  module _ (segment : Segment) (is : segment ≡ get_or segments place segment) where
+    segments_split : drop place segments ≡ segment ∷ drop (place + 1) segments
+    segments_split = split_at segments place segment below is
 
-  pub HaveGone-next : (new : Session) (zones : List ZoneBounds)
-      (next : List (List ZoneBounds)) → Goes session segment new zones
-      → next ≡ told ++ zones ∷ []
-      → HaveGone olds segments (place + 1) (set now place new) next
-  HaveGone-next new zones next goes pushed = record {
-    count = gone.count ∙ sym (length-set now place new);
-    rest = drop-set-lt (place + 1) now place new (omega arith) ∙ rest_same;
-    goes_on = λ news more go.
-        let sessions : take place now ++ new ∷ news ≡ take (place + 1) (set now place new) ++ news =
-        sym (ap (λ (list : List Session). list ++ news) (take_more_set now place new below)
-        ∙ append_assoc (take place now) (new ∷ []) news) in
-        let sets : told ++ zones ∷ more ≡ next ++ more =
-        sym (ap (λ (list : List (List ZoneBounds)). list ++ more) pushed
-        ∙ append_assoc told (zones ∷ []) more) in
-        let both : GoEach (session ∷ drop (place + 1) now) (segment ∷ drop (place + 1) segments)
-        (new ∷ news) (zones ∷ more) = (
-          goes,
-          subst (λ (list : List Session). GoEach list (drop (place + 1) segments) news more)
-              (sym rest_same) go,
-        ) in
-        subst (λ (list : List Session). GoEach olds segments list (next ++ more)) sessions
-        (subst (λ (list : List (List ZoneBounds)).
-        GoEach olds segments (take place now ++ new ∷ news) list) sets
-        (gone.goes_on (new ∷ news) (zones ∷ more)
-        (subst (λ (list : List Session).
-        GoEach list (drop place segments) (new ∷ news) (zones ∷ more)) (sym olds_split)
-        (subst (λ (list : List Segment).
-        GoEach (session ∷ drop (place + 1) now) list (new ∷ news) (zones ∷ more))
-        (sym segments_split) both))));
-    refuses = λ fault one.
-        gone.refuses fault
+    -- A refusal by the first one is by one of the sessions.
+    pub refused_here : (fault : PushFault)
+        → ((session : Session) (others : List Session) → queue ≡ session ∷ others
+        → IsRefusedBy session segment fault)
+        → IsRefusedByOne olds segments fault
+    refused_here fault refused =
+        now.refuses fault
         (subst (λ (list : List Session). IsRefusedByOne list (drop place segments) fault)
-        (sym olds_split)
+        (sym here.1)
         (subst (λ (list : List Segment).
-        IsRefusedByOne (session ∷ drop (place + 1) now) list fault) (sym segments_split)
-        (inr (subst (λ (list : List Session).
-        IsRefusedByOne list (drop (place + 1) segments) fault) (sym rest_same) one))));
-  }
+        IsRefusedByOne (here.0 ∷ drop (place + 1) olds) list fault) (sym segments_split)
+        (inl (refused here.0 (drop (place + 1) olds ++ now.gone) queue_is))))
+
+    pub HaveGone-next : (next : List Session) (sets : List (List ZoneBounds))
+        → IsGivenFirst queue segment next told sets
+        → HaveGone olds segments (place + 1) next sets
+    HaveGone-next next sets first =
+        let new = first.given.next in
+        let zones = first.given.zones in
+        let cut : first.first ∷ first.others ≡ here.0 ∷ (drop (place + 1) olds ++ now.gone) =
+        sym first.was ∙ queue_is in
+        let same : first.first ≡ here.0 = cc in
+        let others : first.others ≡ drop (place + 1) olds ++ now.gone = cc in
+        let old : drop place olds ≡ first.first ∷ drop (place + 1) olds =
+        here.1 ∙ ap (λ (x : Session). x ∷ drop (place + 1) olds) (sym same) in
+        record {
+          gone = now.gone ++ new ∷ [];
+          order = first.given.behind ∙ ap (λ (list : List Session). list ++ new ∷ []) others
+              ∙ append_assoc (drop (place + 1) olds) now.gone (new ∷ []);
+          goes_on = λ news more go.
+              let sessions : now.gone ++ new ∷ news ≡ (now.gone ++ new ∷ []) ++ news =
+              sym (append_assoc now.gone (new ∷ []) news) in
+              let tells : told ++ zones ∷ more ≡ sets ++ more =
+              sym (ap (λ (list : List (List ZoneBounds)). list ++ more) first.given.tells
+              ∙ append_assoc told (zones ∷ []) more) in
+              let both : GoEach (first.first ∷ drop (place + 1) olds)
+              (segment ∷ drop (place + 1) segments) (new ∷ news) (zones ∷ more) =
+              (first.given.goes, go) in
+              subst (λ (list : List Session). GoEach olds segments list (sets ++ more)) sessions
+              (subst (λ (list : List (List ZoneBounds)).
+              GoEach olds segments (now.gone ++ new ∷ news) list) tells
+              (now.goes_on (new ∷ news) (zones ∷ more)
+              (subst (λ (list : List Session).
+              GoEach list (drop place segments) (new ∷ news) (zones ∷ more)) (sym old)
+              (subst (λ (list : List Segment).
+              GoEach (first.first ∷ drop (place + 1) olds) list (new ∷ news) (zones ∷ more))
+              (sym segments_split) both))));
+          refuses = λ fault one.
+              now.refuses fault
+              (subst (λ (list : List Session). IsRefusedByOne list (drop place segments) fault)
+              (sym old)
+              (subst (λ (list : List Segment).
+              IsRefusedByOne (first.first ∷ drop (place + 1) olds) list fault)
+              (sym segments_split) (inr one)));
+        }
 
 pub HaveGone-end : (olds : List Session) (segments : List Segment) (place : ℕ)
-    (now : List Session) (told : List (List ZoneBounds)) → HaveGone olds segments place now told
-    → length now ≤ place → GoEach olds segments now told
-HaveGone-end olds segments place now told gone past =
-    let count = gone.count in
-    let none : drop place olds ≡ [] = sym gone.rest ∙ drop_all place now past in
-    let over : drop place segments ≡ [] =
-    drop_all place segments (omega (arith, past, count)) in
-    let sessions : take place now ++ [] ≡ now =
-    append-nil (take place now) ∙ take_all place now past in
+    (queue : List Session) (told : List (List ZoneBounds)) → HaveGone olds segments place queue told
+    → length segments ≡ length olds → length segments ≤ place → GoEach olds segments queue told
+HaveGone-end olds segments place queue told now count past =
+    let none : drop place olds ≡ [] = drop_all place olds (omega (arith, past, count)) in
+    let over : drop place segments ≡ [] = drop_all place segments past in
+    let sessions : now.gone ++ [] ≡ queue =
+    append-nil now.gone ∙ sym (now.order ∙ ap (λ (list : List Session). list ++ now.gone) none) in
     subst (λ (list : List Session). GoEach olds segments list told) sessions
-    (subst (λ (list : List (List ZoneBounds)). GoEach olds segments (take place now ++ []) list)
+    (subst (λ (list : List (List ZoneBounds)). GoEach olds segments (now.gone ++ []) list)
     (append-nil told)
-    (gone.goes_on [] []
+    (now.goes_on [] []
     (subst (λ (list : List Session). GoEach list (drop place segments) [] []) (sym none)
     (subst (λ (list : List Segment). GoEach [] list [] []) (sym over) tt))))
 

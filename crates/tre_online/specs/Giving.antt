@@ -31,6 +31,23 @@ pub record Goes (old : Session) (segment : Segment) (new : Session) (told : List
   pub ended : ended_of new ≡ told
   pub tree : pattern_tree (pattern_of new) ≡ pattern_tree (pattern_of old)
 
+-- The session has its segment. It was put behind others, and what it tells behind what was told.
+pub record IsGiven (session : Session) (segment : Segment) (old new : List Session)
+    (earlier told : List (List ZoneBounds)) : Type 0 where
+  pub next : Session
+  pub zones : List ZoneBounds
+  pub goes : Goes session segment next zones
+  pub behind : new ≡ old ++ next ∷ []
+  pub tells : told ≡ earlier ++ zones ∷ []
+
+-- The first of the sessions has its segment, and was put behind the others.
+pub record IsGivenFirst (old : List Session) (segment : Segment) (new : List Session)
+    (earlier told : List (List ZoneBounds)) : Type 0 where
+  pub first : Session
+  pub others : List Session
+  pub was : old ≡ first ∷ others
+  pub given : IsGiven first segment others new earlier told
+
 abbrev pub GoEach : List Session → List Segment → List Session → List (List ZoneBounds) → Type 0
 GoEach [] [] [] [] = Unit {0}
 GoEach (old ∷ olds) (segment ∷ segments) (new ∷ news) (zones ∷ told) =

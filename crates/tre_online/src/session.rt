@@ -34,6 +34,7 @@ impl Session {
     ghost use Rattle.tre_trace.specs.Trace.{end_of, Fits, IsRefusedFor};
     ghost use Rattle.tre_trace.specs.declared.segment.Segment.{Segment};
     ghost use Rattle.tre_mark.specs.MarkTree.{mark_of};
+    ghost use Rattle.tre_mark.specs.Marked.{IsWellAt};
     ghost use Rattle.tre_mark.specs.Nodes.{mark_node_count, form_count, HasNoInstances};
     ghost use Rattle.tre_syntax.specs.PatternTree.{node_count};
     ghost use Rattle.tre_syntax.specs.Pattern.{pattern_tree, names_of};
@@ -108,13 +109,56 @@ impl Session {
         ensures unchanged { OnErr result (self.new ≡ self.old) }
     {
         let piece = self.piece(segment)?;
-        match self.read(&piece) {
-            Ok(read) => {
+        match self.read_over_copy(&piece) {
+            Ok((mark, read)) => {
                 self.at = piece.begin + segment.len;
                 self.last = Some(segment.val);
                 self.ended = read.ended;
-                self.mark = read.mark;
+                self.mark = mark;
                 Ok(read.told)
+            }
+            Err(_) => Err(PushFault::Memory),
+        }
+    }
+
+    // Reads a segment as `segment` does, and gives the session back with what is told. It needs no
+    // copy of the mark, since after a refusal the session is given up.
+    pub(crate) fn go_on(self, segment: Segment) -> Result<(Session, ZoneSet), PushFault>
+        ensures stands { (segments : List Segment) → StandsFor self segments →
+            IfOk result (λ both. StandsFor both.0 (segments ++ segment ∷ [])) }
+        ensures fits { (segments : List Segment) → StandsFor self segments →
+            OnOk result (Fits segments segment) }
+        ensures tells { (segments : List Segment) → StandsFor self segments →
+            IfOk result (λ both. TellsNew (pattern_tree (pattern_of self)) segments segment
+            (ended_of self) both.1) }
+        ensures ended { IfOk result (λ both. ended_of both.0 ≡ both.1) }
+        ensures tree { IfOk result (λ both.
+            pattern_tree (pattern_of both.0) ≡ pattern_tree (pattern_of self)) }
+        ensures names { IfOk result (λ both.
+            names_of (pattern_of both.0) ≡ names_of (pattern_of self)) }
+        ensures refused { (segments : List Segment) → StandsFor self segments →
+            IfErr result (IsRefusedFor segments segment) }
+    {
+        let piece = self.piece(segment)?;
+        let Session {
+            alloc,
+            pattern,
+            at: _,
+            last: _,
+            ended,
+            mut mark,
+        } = self;
+        match Session::read(alloc, &pattern, &mut mark, &ended, &piece) {
+            Ok(read) => {
+                let session = Session {
+                    alloc,
+                    pattern,
+                    at: piece.begin + segment.len,
+                    last: Some(segment.val),
+                    ended: read.ended,
+                    mark,
+                };
+                Ok((session, read.told))
             }
             Err(_) => Err(PushFault::Memory),
         }
@@ -159,27 +203,41 @@ impl Session {
         })
     }
 
-    // What is told of the piece, and what is left behind it.
-    fn read(&self, piece: &Piece) -> Result<Read, AllocError>
+    // What is told of the piece by a copy of the mark, and the copy as it is left behind the piece.
+    fn read_over_copy(&self, piece: &Piece) -> Result<(Mark, Read), AllocError>
         requires { IsPieceFor self.now piece.now.segment piece.now }
-        ensures reads { IfOk result (λ read. Reads (mark_of self.now.mark)
-            (pattern_tree (pattern_of self.now)) (ended_of self.now) piece.now read.told
-            (mark_of read.mark)) }
+        ensures reads { IfOk result (λ both. Reads (mark_of self.now.mark)
+            (pattern_tree (pattern_of self.now)) (ended_of self.now) piece.now both.1.told
+            (mark_of both.0)) }
+        ensures twice { IfOk result (λ both. both.1.ended ≡ both.1.told) }
+    {
+        let mut mark = self.mark.try_clone(self.alloc)?;
+        let read = Session::read(self.alloc, &self.pattern, &mut mark, &self.ended, piece)?;
+        Ok((mark, read))
+    }
+
+    // What is told of the piece, where `earlier` was told last. The mark goes over the piece. Where
+    // memory runs out, nothing is said of it.
+    fn read(
+        alloc: Global,
+        pattern: &Pattern,
+        mark: &mut Mark,
+        earlier: &ZoneSet,
+        piece: &Piece,
+    ) -> Result<Read, AllocError>
+        requires { IsWellAt piece.now.begin (mark_of mark.old) (pattern_tree pattern.now) }
+        ensures reads { IfOk result (λ read. Reads (mark_of mark.old) (pattern_tree pattern.now)
+            earlier.now piece.now read.told (mark_of mark.new)) }
         ensures twice { IfOk result (λ read. read.ended ≡ read.told) }
     {
         let end = piece.begin + piece.segment.len;
-        let entering = Session::moments(self.alloc, piece.begin, end)?;
-        let expr = self.pattern.expr();
-        let advanced = advance(self.alloc, &self.mark, expr, &entering, piece)?;
+        let entering = Session::moments(alloc, piece.begin, end)?;
+        let found = advance(alloc, mark, pattern.expr(), &entering, piece)?;
         // For the proof: the call says that it is a set of zones.
-        let _found = advanced.told.zones();
-        let told = not_told(self.alloc, advanced.told, &self.ended)?;
+        let _found = found.zones();
+        let told = not_told(alloc, found, earlier)?;
         let ended = told.try_clone()?;
-        Ok(Read {
-            told,
-            ended,
-            mark: advanced.rest,
-        })
+        Ok(Read { told, ended })
     }
 
     // What is told where the trace ends with these events.
@@ -198,11 +256,9 @@ impl Session {
     }
 }
 
-// What a segment gives to a session.
+// What is told of a segment, twice: for the caller, and to be kept.
 #[derive(Debug, Drop)]
 struct Read {
-    // What is told of the segment, twice: for the caller, and to be kept.
     told: ZoneSet,
     ended: ZoneSet,
-    mark: Mark,
 }

@@ -1,10 +1,12 @@
-ghost use Rattle.std.specs.Prelude.{◌≡◌, ◌++◌, [], ◌∷◌, length, List, OnOk, IfOk, IfErr, slice_get};
+ghost use Rattle.std.specs.Prelude.{◌≡◌, ◌<◌, ◌++◌, [], ◌∷◌, length, List, OnOk, IfOk, IfErr, slice_get};
 ghost use Rattle.std.specs.Option.{option_map};
 ghost use Rattle.tre_zone.specs.declared.zone_bounds.ZoneBounds.{ZoneBounds};
-ghost use Rattle.tre_online.specs.Giving.{IsNewFor, AreNewFor, Goes, GoEach, IsRefusedBy, IsRefusedByOne, TellEachAtEnd};
+ghost use Rattle.tre_online.specs.declared.session.Session.{Session};
+ghost use Rattle.tre_online.specs.Giving.{IsNewFor, AreNewFor, IsGiven, IsGivenFirst, GoEach, IsRefusedBy, IsRefusedByOne, TellEachAtEnd};
 
 use crate::session::Session;
 use std::alloc::{AllocError, Global};
+use std::collections::VecDeque;
 use tre_syntax::Pattern;
 use tre_trace::{PushFault, Segment};
 use tre_zoneset::ZoneSet;
@@ -14,7 +16,9 @@ use tre_zoneset::ZoneSet;
 #[derive(Debug, Drop)]
 pub struct Watch {
     alloc: Global,
-    sessions: Vec<Session>,
+    // In the order of the patterns. Each in turn is taken from the front, goes on, and is put back
+    // behind the others, so that none needs a copy of what it keeps.
+    sessions: VecDeque<Session>,
 }
 
 impl Watch {
@@ -30,7 +34,10 @@ impl Watch {
         ensures trees { IfOk result (λ watch. trees_of watch ≡ map pattern_tree patterns.now) }
     {
         let sessions = sessions_for(alloc, patterns)?;
-        Ok(Watch { alloc, sessions })
+        Ok(Watch {
+            alloc,
+            sessions: VecDeque::from_vec(sessions),
+        })
     }
 
     /// How many patterns there are.
@@ -44,7 +51,7 @@ impl Watch {
     pub fn at(&self) -> u64
         ensures { result ≡ time_of self.now }
     {
-        match self.sessions.first() {
+        match self.sessions.front() {
             Some(session) => session.at(),
             None => 0,
         }
@@ -87,7 +94,7 @@ impl Watch {
             IfOk result (λ told. TellLastEach (trees_of self) traces events.now
             (ended_of_each self) (sets_of told)) }
     {
-        let sets = close_each(self.alloc, &self.sessions, events)?;
+        let sets = close_each(self.alloc, &self.sessions.into_vec(), events)?;
         Ok(Told { sets })
     }
 }
@@ -140,38 +147,71 @@ fn session_for(alloc: Global, pattern: &Pattern) -> Result<Session, AllocError>
 // Gives each session its segment, and collects what they tell.
 fn give_each(
     alloc: Global,
-    sessions: &mut [Session],
+    sessions: &mut VecDeque<Session>,
     segments: &[Segment],
 ) -> Result<Vec<ZoneSet>, PushFault>
-    requires { length segments.now ≡ length sessions.old }
+    requires { length segments.now ≡ length sessions.old.items }
     ensures ok { IfOk result (λ sets.
-        GoEach sessions.old segments.now sessions.new sets.items) }
-    ensures err { IfErr result (IsRefusedByOne sessions.old segments.now) }
+        GoEach sessions.old.items segments.now sessions.new.items sets.items) }
+    ensures err { IfErr result (IsRefusedByOne sessions.old.items segments.now) }
 {
     let mut sets = Vec::new(alloc);
-    for (place, session) in sessions.iter_mut().enumerate() {
-        give(session, segments[place], &mut sets, segments.len())?;
+    for segment in segments {
+        give_first(sessions, *segment, &mut sets, segments.len())?;
     }
     Ok(sets)
 }
 
-// Gives the session a segment, and puts what it tells behind the sets.
-fn give(
-    session: &mut Session,
+// Gives the first session a segment. It goes behind the others, and what it tells behind the sets.
+fn give_first(
+    sessions: &mut VecDeque<Session>,
     segment: Segment,
     sets: &mut Vec<ZoneSet>,
     count: usize,
 ) -> Result<(), PushFault>
-    ensures ok { OnOk result ((told : List ZoneBounds)
-        × (sets.new.items ≡ sets.old.items ++ told ∷ [])
-        × Goes session.old segment session.new told) }
-    ensures err { IfErr result (IsRefusedBy session.old segment) }
+    requires { 0 < length sessions.old.items }
+    ensures ok { OnOk result (IsGivenFirst sessions.old.items segment sessions.new.items
+        sets.old.items sets.new.items) }
+    ensures err { (session : Session) (others : List Session)
+        → sessions.old.items ≡ session ∷ others → IfErr result (IsRefusedBy session segment) }
 {
-    let told = session.segment(segment)?;
-    match put(sets, told, count) {
+    match sessions.pop_front() {
+        Some(session) => give(session, segment, sessions, sets, count),
+        None => unreachable!(),
+    }
+}
+
+// Gives the session a segment, and puts it behind the others, and what it tells behind the sets.
+fn give(
+    session: Session,
+    segment: Segment,
+    sessions: &mut VecDeque<Session>,
+    sets: &mut Vec<ZoneSet>,
+    count: usize,
+) -> Result<(), PushFault>
+    ensures ok { OnOk result (IsGiven session segment sessions.old.items sessions.new.items
+        sets.old.items sets.new.items) }
+    ensures err { IfErr result (IsRefusedBy session segment) }
+{
+    let (session, told) = session.go_on(segment)?;
+    match put_both(session, sessions, told, sets, count) {
         Ok(()) => Ok(()),
         Err(_) => Err(PushFault::Memory),
     }
+}
+
+fn put_both(
+    session: Session,
+    sessions: &mut VecDeque<Session>,
+    told: ZoneSet,
+    sets: &mut Vec<ZoneSet>,
+    count: usize,
+) -> Result<(), AllocError>
+    ensures sessions { OnOk result (sessions.new.items ≡ sessions.old.items ++ session ∷ []) }
+    ensures sets { OnOk result (sets.new.items ≡ sets.old.items ++ told ∷ []) }
+{
+    sessions.push_back(session)?;
+    put(sets, told, count)
 }
 
 // Puts the set behind the others, of which there will be so many. Room for all is made with the

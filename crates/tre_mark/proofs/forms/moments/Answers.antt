@@ -1,12 +1,17 @@
-use Rattle.std.proofs.Common.{⊎_elim, inr, subst}
+use Rattle.std.proofs.Common.{⊎_elim, inr, subst, sym}
 use Rattle.tre_zone.proofs.ZoneListLemmas.{SetHolds-empty}
-use Rattle.tre_zone.specs.ZoneList.{SetHolds}
+use Rattle.tre_zone.specs.ZoneList.{SetHolds, IsApartFrom}
 use Rattle.tre_mark.proofs.forms.moments.Goals as goal
+
+pub push_apart-requires : goal.push_apart-requires
+unfolding IsApartFrom
+push_apart-requires c =
+    subst (λ zones. IsApartFrom c.instants.result zones) (sym c.new-zones.ensures) tt
 
 pub returns : goal.returns
 returns c = record {
   exact = λ a b n some le.
-      let held = c.in_ok-add.ensures.held.exact a b n some le in
+      let held = c.in_ok-push_apart.ensures.held.exact a b n some le in
       let zone = c.instants.ensures.held a b n some in (
         (λ h. ⊎_elim
             (λ x. absurd (SetHolds-empty a b n

@@ -1,12 +1,25 @@
-use Rattle.std.proofs.Common.{arith}
-use Rattle.tre_online.proofs.InTurn.{HaveGone-end}
+use Rattle.tre_online.proofs.InTurn.{HaveGone-start, some_left, refused_here, HaveGone-next, HaveGone-end}
 use Rattle.tre_online.proofs.watch.give_each.Goals as goal
+
+pub loop-segment-init : goal.loop-segment-init
+loop-segment-init c =
+    rw c.new-sets.ensures.items (HaveGone-start c.args.sessions.now.items c.args.segments.now)
+
+pub give_first-requires : goal.give_first-requires
+give_first-requires c =
+    some_left c.args.sessions.now.items c.args.segments.now c.loop-segment.segment-index
+    c.loop-segment.sessions.items c.loop-segment.sets.items c.requires c.loop-segment.invariant
+    c.loop-segment-test.true
+
+pub loop-segment-preserved : goal.loop-segment-preserved
+loop-segment-preserved c =
+    HaveGone-next c.args.sessions.now.items c.args.segments.now c.loop-segment.segment-index
+    c.loop-segment.sessions.items c.loop-segment.sets.items c.requires c.loop-segment.invariant
+    c.loop-segment-test.true c.segment-item.result c.segment-item.is
+    c.give_first.new.sessions.items c.give_first.new.sets.items c.in_ok-give_first.ensures.ok
 
 pub returns-clause-ok : goal.returns-clause-ok
 returns-clause-ok c =
-    let past = c.loop-place-test.false in
-    let before = c.requires in
-    let count = c.loop-place.invariant.count in
-    HaveGone-end c.args.sessions.now c.args.segments.now c.loop-place.place
-    c.loop-place.sessions c.loop-place.sets.items c.loop-place.invariant
-    (omega (arith, past, before, count))
+    HaveGone-end c.args.sessions.now.items c.args.segments.now c.loop-segment.segment-index
+    c.loop-segment.sessions.items c.loop-segment.sets.items c.loop-segment.invariant c.requires
+    c.loop-segment-test.false

@@ -13,18 +13,18 @@ invariant_of-self c =
     record {
       in_time = subst (λ (s : Segment). piece.begin + s.len ≤ TIME_MAX) same piece.in_time;
       well = well_after (mark_of c.args.self.now.mark)
-          (mark_of c.in-Ok.read.mark) (pattern_tree c.args.self.now.pattern)
+          (mark_of c.in-Ok.mark) (pattern_tree c.args.self.now.pattern)
           c.args.self.now.ended c.in-Ok.read.told piece c.args.segment same
           c.in-Ok.ensures.reads;
     }
 
 pub returns-in-Ok-clause-tells : goal.returns-in-Ok-clause-tells
 returns-in-Ok-clause-tells c u standing =
-    tells_after c.args.self.now (mark_of c.in-Ok.read.mark) u c.args.segment
+    tells_after c.args.self.now (mark_of c.in-Ok.mark) u c.args.segment
     c.in_ok-piece.piece c.in-Ok.read.told standing c.in_ok-piece.ensures.ok c.in-Ok.ensures.reads
 
 pub returns-in-Ok-clause-stands : goal.returns-in-Ok-clause-stands
 returns-in-Ok-clause-stands c u standing =
-    stands_after c.args.self.now (mark_of c.in-Ok.read.mark) u c.args.segment
+    stands_after c.args.self.now (mark_of c.in-Ok.mark) u c.args.segment
     c.in_ok-piece.piece c.in-Ok.read.told standing c.in_ok-piece.ensures.ok c.in-Ok.ensures.reads
     _ refl refl refl refl c.in-Ok.ensures.twice
