@@ -1,7 +1,7 @@
 -- The definitions of a text, one part after the other.
 use Rattle.std.proofs.Common.{◌≡◌, ◌≢◌, ℕ, zero, suc, ◌+◌, ◌<◌, Bool, true, false, cond, Option, Some, None, List, [], ◌∷◌, ◌++◌, append_assoc, length, get_or, take, drop, refl, sym, ap, subst, ◌∙◌, arith}
 use Rattle.std.specs.Prelude.{◌==◌, ◌&&◌, if◌then◌else◌}
-use Rattle.std.specs.List.{list_all, position_or_len, prefix_len, slice_split}
+use Rattle.std.specs.List.{AllZip, list_all, position_or_len, prefix_len, slice_split}
 use Rattle.std.specs.Option.{is_some, option_map}
 use Rattle.std.specs.Str.{bytes_eq}
 use Rattle.std.proofs.lemmas.Bool.{false≢true}
@@ -12,7 +12,7 @@ use Rattle.std.proofs.lemmas.List.Splits.{slice_split_first, slice_split_none}
 use Rattle.std.proofs.lemmas.List.Sums.{fails_before_first, position_or_len_is}
 use Rattle.std.proofs.lemmas.Slice.Eq.{bytes_eq-Decides}
 use Rattle.tre_num.specs.Defined.{Defined}
-use Rattle.tre_num.specs.Definitions.{Spells, SpellAll, Define, HasFault, IsRefused, is_semicolon, parts_of}
+use Rattle.tre_num.specs.Definitions.{Spells, Define, HasFault, IsRefused, is_semicolon, parts_of}
 use Rattle.tre_num.specs.Pieces.{is_space, past_spaces}
 use Rattle.tre_num.specs.Rows.{definition_of}
 use Rattle.tre_num.specs.declared.let_fault.LetFault.{LetFault}
@@ -20,7 +20,7 @@ use Rattle.tre_num.specs.declared.let_fault.LetFault.{LetFault}
 -- ---- one more definition
 
 SpellAll-length : (parts : List (List ℕ)) (definitions : List Defined)
-    → SpellAll parts definitions → length parts ≡ length definitions
+    → AllZip Spells parts definitions → length parts ≡ length definitions
 SpellAll-length [] [] all = refl
 SpellAll-length [] (defined ∷ definitions) all = absurd all
 SpellAll-length (part ∷ parts) [] all = absurd all
@@ -28,8 +28,8 @@ SpellAll-length (part ∷ parts) (defined ∷ definitions) all =
     ap suc (SpellAll-length parts definitions all.1)
 
 SpellAll-push : (parts : List (List ℕ)) (definitions : List Defined) (part : List ℕ)
-    (defined : Defined) → SpellAll parts definitions → Spells part defined
-    → SpellAll (parts ++ part ∷ []) (definitions ++ defined ∷ [])
+    (defined : Defined) → AllZip Spells parts definitions → Spells part defined
+    → AllZip Spells (parts ++ part ∷ []) (definitions ++ defined ∷ [])
 SpellAll-push [] [] part defined all one = (one, tt)
 SpellAll-push [] (_ ∷ definitions) part defined all one = absurd all
 SpellAll-push (_ ∷ parts) [] part defined all one = absurd all

@@ -1,10 +1,10 @@
 -- The columns of names, one more at a time.
 use Rattle.std.proofs.Common.{◌≡◌, ℕ, ◌+◌, ◌<◌, Option, Some, None, List, [], ◌∷◌, ◌++◌, length, get_or, drop, append_assoc, refl, sym, ap, ◌∙◌}
-use Rattle.std.specs.Option.{option_map}
+use Rattle.std.specs.Option.{option_and_then, option_map}
 use Rattle.std.proofs.lemmas.List.{drop_more}
 use Rattle.tre_num.specs.declared.column.Column.{Column}
 use Rattle.tre_num.specs.Defined.{Defined}
-use Rattle.tre_num.specs.Rows.{with_column, column_for, columns_of}
+use Rattle.tre_num.specs.Rows.{column_for, columns_of}
 
 -- columns in front of the others, in two steps
 in_front : (items : List Column) (column : Column) (others : Option (List Column))
@@ -26,5 +26,6 @@ module _ (definitions : List Defined) (header names : List (List ℕ)) where
       is
       ∙ ap (λ left. option_map (λ others. items ++ others) (columns_of definitions header left))
       (drop_more names i [] below)
-      ∙ ap (λ one. option_map (λ others. items ++ others) (with_column one rest)) found
+      ∙ ap (λ one. option_map (λ others. items ++ others) (option_and_then
+      (λ column. option_map (λ others. column ∷ others) rest) one)) found
       ∙ in_front items column rest

@@ -1,6 +1,7 @@
 -- A text says one thing.
 use Rattle.std.proofs.Common.{◌≡◌, ◌≢◌, ℕ, suc, ◌+◌, ◌<◌, Bool, true, false, cond, Some, None, List, [], ◌∷◌, ◌++◌, length, get_or, refl, sym, ap, subst, ◌∙◌, arith}
 use Rattle.std.specs.Prelude.{AllPairs}
+use Rattle.std.specs.List.{AllZip}
 use Rattle.std.specs.Str.{bytes_eq}
 use Rattle.std.proofs.Math.ListN.{get_or-append}
 use Rattle.std.proofs.Math.Seq.{get_or-append_seam}
@@ -8,7 +9,7 @@ use Rattle.std.proofs.lemmas.List.{length-append}
 use Rattle.std.proofs.lemmas.Slice.Eq.{bytes_eq-Decides}
 use Rattle.tre_state.specs.Name.{continues_name}
 use Rattle.tre_num.specs.Defined.{Defined}
-use Rattle.tre_num.specs.Definitions.{Spells, SpellAll, Define, HasFault, IsRefused}
+use Rattle.tre_num.specs.Definitions.{Spells, Define, HasFault, IsRefused}
 use Rattle.tre_num.specs.Pieces.{behind_piece, is_whole_byte, piece, sign_in}
 use Rattle.tre_num.specs.Rows.{definition_of}
 use Rattle.tre_num.specs.Whole.{whole_of}
@@ -60,8 +61,8 @@ pub same-definition : (text : List ℕ) (one other : Defined) → Spells text on
 same-definition text one other is also =
     same-parts text one other (parts-are text one is) (parts-are text other also)
 
-pub same-definitions : (parts : List (List ℕ)) (one other : List Defined) → SpellAll parts one
-    → SpellAll parts other → one ≡ other
+pub same-definitions : (parts : List (List ℕ)) (one other : List Defined) → AllZip Spells parts one
+    → AllZip Spells parts other → one ≡ other
 same-definitions [] [] [] is also = refl
 same-definitions [] [] (_ ∷ _) is also = absurd also
 same-definitions [] (_ ∷ _) other is also = absurd is
@@ -121,11 +122,11 @@ record Parted (front : List (List ℕ)) (part : List ℕ) (all : List Defined) :
   defined : Defined
   rest : List Defined
   is : all ≡ definitions ++ defined ∷ rest
-  before : SpellAll front definitions
+  before : AllZip Spells front definitions
   here : Spells part defined
 
 parted : (front back : List (List ℕ)) (part : List ℕ) (all : List Defined)
-    → SpellAll (front ++ part ∷ back) all → Parted front part all
+    → AllZip Spells (front ++ part ∷ back) all → Parted front part all
 parted [] back part [] spelt = absurd spelt
 parted [] back part (defined ∷ rest) spelt = record {
   definitions = [];
@@ -206,7 +207,7 @@ one-fault parts one other is also =
     is.bad))
     (λ e here.
     let same = same-definitions also.front is.definitions also.definitions
-    (subst (λ xs. SpellAll xs is.definitions) e is.good.spelt) also.good.spelt in
+    (subst (λ xs. AllZip Spells xs is.definitions) e is.good.spelt) also.good.spelt in
     let at_front = subst (λ xs. HasFault is.definitions (length xs + 1) is.part one) e is.bad in
     let at_part = subst (λ x. HasFault is.definitions (length also.front + 1) x one) here at_front
     in

@@ -1,13 +1,14 @@
 -- A definition is cut into its parts in one way.
-use Rattle.std.proofs.Common.{◌≡◌, ℕ, zero, suc, ◌+◌, ◌<◌, ◌^◌, ℤ, pos, neg_ℤ, Bool, true, false, cond, Option, Some, None, List, [], ◌∷◌, ◌++◌, length, take, drop, refl, sym, ap, ◌∙◌, arith}
+use Rattle.std.proofs.Common.{◌≡◌, ℕ, zero, suc, ◌+◌, ◌-◌, ◌<◌, ◌^◌, ℤ, pos, neg_ℤ, Bool, true, false, cond, Option, Some, None, List, [], ◌∷◌, ◌++◌, length, take, drop, refl, sym, ap, ◌∙◌, arith}
 use Rattle.std.specs.Prelude.{◌==◌, ◌&&◌, nat_le, nat_lt, if◌then◌else◌}
 use Rattle.std.specs.Char.{is_ascii_digit}
 use Rattle.std.specs.List.{list_all, prefix_len}
+use Rattle.std.specs.Option.{option_map}
 use Rattle.std.specs.Str.{IsAscii}
 use Rattle.std.specs.Str.Parse.{digits_value}
 use Rattle.std.proofs.lemmas.List.Sums.{list_all-from_AllPass}
 use Rattle.tre_decimal.specs.Decimal.{is_numeral}
-use Rattle.tre_num.specs.Whole.{negative_of, positive_of, whole_of}
+use Rattle.tre_num.specs.Whole.{number_up_to, whole_of}
 use Rattle.std.proofs.lemmas.Bool.{false≢true}
 use Rattle.std.proofs.lemmas.Bool.Decides.{nat_tests}
 use Rattle.std.proofs.lemmas.List.{append-nil, drop_at, take-append-drop, take_at}
@@ -238,10 +239,10 @@ digits-pass (byte ∷ bytes) all =
     refl
 
 -- where a choice is some, its test holds
-chosen : {A : Type 0} (a b : Bool) (x y : A) → (if a && b then Some x else None) ≡ Some y
-    → a ≡ true
-chosen true b x y e = refl
-chosen false b x y e = cc
+chosen : {A B : Type 0} (f : A → B) (a b : Bool) (x : A) (y : B)
+    → option_map f (if a && b then Some x else None) ≡ Some y → a ≡ true
+chosen f true b x y e = refl
+chosen f false b x y e = cc
 
 numeral-passes : (digits : List ℕ) → is_numeral digits ≡ true
     → list_all is_whole_byte digits ≡ true
@@ -254,19 +255,20 @@ whole-passes : (number : List ℕ) (value : ℤ) → whole_of number ≡ Some va
 whole-passes [] value is = cc
 whole-passes (byte ∷ bytes) value is = (by (byte == 45) refl is, omega arith) where
   by : (minus : Bool) → (byte == 45) ≡ minus
-      → (if minus then negative_of bytes else positive_of (byte ∷ bytes)) ≡ Some value
+      → (if minus then option_map (λ number. neg_ℤ (pos number)) (number_up_to (2 ^ 63) bytes)
+      else option_map pos (number_up_to (2 ^ 63 - 1) (byte ∷ bytes))) ≡ Some value
       → list_all is_whole_byte (byte ∷ bytes) ≡ true
   by true e is =
       let here : is_whole_byte byte ≡ true = grind (arith, nat_tests) in
       rw (
         here,
-        numeral-passes bytes (chosen (is_numeral bytes)
-            (nat_le (digits_value 10 bytes) (2 ^ 63)) (neg_ℤ (pos (digits_value 10 bytes))) value is),
+        numeral-passes bytes (chosen (λ number. neg_ℤ (pos number)) (is_numeral bytes)
+            (nat_le (digits_value 10 bytes) (2 ^ 63)) (digits_value 10 bytes) value is),
       )
       refl
   by false e is =
-      numeral-passes (byte ∷ bytes) (chosen (is_numeral (byte ∷ bytes))
-      (nat_lt (digits_value 10 (byte ∷ bytes)) (2 ^ 63)) (pos (digits_value 10 (byte ∷ bytes)))
+      numeral-passes (byte ∷ bytes) (chosen pos (is_numeral (byte ∷ bytes))
+      (nat_le (digits_value 10 (byte ∷ bytes)) (2 ^ 63 - 1)) (digits_value 10 (byte ∷ bytes))
       value is)
 
 -- ---- a definition

@@ -1,6 +1,6 @@
 -- The text of definitions.
 use Rattle.std.specs.Prelude.{◌≡◌, ◌≢◌, ℕ, ◌+◌, ◌==◌, Bool, List, [], ◌∷◌, ◌++◌, length, codes, replicate, Some, None, AllPairs, if◌then◌else◌}
-use Rattle.std.specs.List.{list_all, slice_split}
+use Rattle.std.specs.List.{list_all, slice_split, AllZip}
 use Rattle.tre_state.specs.Name.{IsName, IsWord}
 use Rattle.tre_num.specs.declared.comparison.Comparison.{Comparison}
 use Rattle.tre_num.specs.declared.comparison.Comparison.TheVariants.{Less, AtMost, Greater, AtLeast, Equal, Unequal}
@@ -51,10 +51,6 @@ pub record Spells (text : List ℕ) (defined : Defined) : Type 0 where
   pub gaps : Gaps
   pub is : text ≡ definition_text gaps defined number
 
--- The text is no definition.
-abbrev pub SpellsNone : List ℕ → Type 0
-SpellsNone text = (defined : Defined) → Spells text defined → ⊥
-
 -- ---- the definitions of a text
 
 -- the byte between two definitions
@@ -66,21 +62,15 @@ abbrev pub parts_of : List ℕ → List (List ℕ)
 parts_of text =
     if list_all is_space text then [] else slice_split is_semicolon text
 
--- each part is the definition at its place
-abbrev pub SpellAll : List (List ℕ) → List Defined → Type 0
-SpellAll [] [] = Unit {0}
-SpellAll [] (defined ∷ definitions) = ⊥
-SpellAll (part ∷ parts) [] = ⊥
-SpellAll (part ∷ parts) (defined ∷ definitions) = Spells part defined × SpellAll parts definitions
-
--- The parts are these definitions, and no two of one name.
+-- Each part is the definition at its place, and no two are of one name.
 pub record Define (parts : List (List ℕ)) (definitions : List Defined) : Type 0 where
-  pub spelt : SpellAll parts definitions
+  pub spelt : AllZip Spells parts definitions
   pub apart : AllPairs (λ one other. one.name ≢ other.name) definitions
 
 -- Behind these definitions the part has this fault, which is told with a number.
 abbrev pub HasFault : List Defined → ℕ → List ℕ → LetFault → Type 0
-HasFault definitions number part (BadLet at) = (at ≡ number) × SpellsNone part
+HasFault definitions number part (BadLet at) =
+    (at ≡ number) × ((defined : Defined) → ¬ Spells part defined)
 HasFault definitions number part (Twice at) =
     (at ≡ number) × ((defined : Defined) × Spells part defined
     × (definition_of definitions defined.name ≢ None))

@@ -6,6 +6,7 @@ pub mod Rows
 pub mod Definitions
 -- What the functions inside promise each other.
 pub mod Left
+pub mod Durations
 pub mod Pieces
 pub mod Cut
 pub mod Kept

@@ -1,6 +1,7 @@
 -- What comma-separated rows say of a trace.
-use Rattle.std.specs.Prelude.{ℕ, ◌+◌, ◌*◌, nat_lt, nat_le, ◌==◌, Bool, true, false, Option, Some, None, List, [], ◌∷◌, length, drop, find, Result, Ok, Err, option_and_then, option_map, if◌then◌else◌}
+use Rattle.std.specs.Prelude.{ℕ, ◌+◌, ◌*◌, nat_lt, nat_le, ◌==◌, Bool, true, false, cond, Option, Some, None, List, [], ◌∷◌, length, drop, find, Result, Ok, Err, option_and_then, option_map, if◌then◌else◌}
 use Rattle.std.specs.List.{position_from}
+use Rattle.std.specs.Option.{ok_or}
 use Rattle.std.specs.Str.{bytes_eq}
 use Rattle.csv.specs.Reading.{records, default_config, strip_bom}
 use Rattle.csv.specs.Records.{field_at}
@@ -41,15 +42,13 @@ abbrev pub column_for : List Defined → List (List ℕ) → List ℕ → Option
 column_for definitions header name =
     option_and_then (column_in header) (definition_of definitions name)
 
-abbrev pub with_column : Option Column → Option (List Column) → Option (List Column)
-with_column None columns = None
-with_column (Some column) columns = option_map (λ others. column ∷ others) columns
-
 -- What the names compare, in their order; none where one of them isn't defined or has no column.
 abbrev pub columns_of : List Defined → List (List ℕ) → List (List ℕ) → Option (List Column)
 columns_of definitions header [] = Some []
 columns_of definitions header (name ∷ names) =
-    with_column (column_for definitions header name) (columns_of definitions header names)
+    option_and_then
+    (λ column. option_map (λ others. column ∷ others) (columns_of definitions header names))
+    (column_for definitions header name)
 
 -- ---- a row
 
@@ -59,39 +58,29 @@ told_by column fields =
     option_map (λ number. compares column.comparison number column.value)
     (option_and_then whole_of (field_at fields column.place))
 
--- one more bit below those of a valuation
-abbrev pub with_lowest : Option Bool → Option ℕ → Option ℕ
-with_lowest None higher = None
-with_lowest (Some told) higher =
-    option_map (λ bits. (if told then 1 else 0) + 2 * bits) higher
-
 -- The valuation of a row: the comparison of the first name is the lowest bit.
 abbrev pub valuation_of : List Column → List (List ℕ) → Option ℕ
 valuation_of [] fields = Some 0
 valuation_of (column ∷ columns) fields =
-    with_lowest (told_by column fields) (valuation_of columns fields)
+    option_and_then
+    (λ told. option_map (λ higher. cond told 1 0 + 2 * higher) (valuation_of columns fields))
+    (told_by column fields)
 
--- so many units behind a trace that ends at `end`
-abbrev pub units_say : ℕ → Option ℕ → Result ℕ TraceKind
-units_say end None = Err BadNumber
-units_say end (Some len) =
-    if len == 0 then Err Zero else (if nat_le (end + len) TIME_MAX then Ok len else Err TooLate)
+-- so many units and a valuation, where there are both, behind a trace that ends at `end`
+abbrev pub segment_says : ℕ → Option ℕ → Option ℕ → Result Segment TraceKind
+segment_says end None valuation = Err BadNumber
+segment_says end (Some len) valuation =
+    if len == 0 then Err Zero
+    else (if nat_le (end + len) TIME_MAX
+    then ok_or (option_map (plain_segment len) valuation) BadNumber else Err TooLate)
 
--- how long a row lasts: its first field is a decimal
-abbrev pub duration_says : ℕ → ℕ → List (List ℕ) → Result ℕ TraceKind
-duration_says scale end fields =
-    units_say end (option_and_then (units_of scale) (field_at fields 0))
-
-abbrev pub segment_says : Result ℕ TraceKind → Option ℕ → Result Segment TraceKind
-segment_says (Err kind) valuation = Err kind
-segment_says (Ok len) None = Err BadNumber
-segment_says (Ok len) (Some valuation) = Ok (plain_segment len valuation)
-
--- What a row says behind a trace that ends at `end`, under a header of this many fields.
+-- What a row says behind a trace that ends at `end`, under a header of this many fields. Its first
+-- field is a decimal: how long it lasts.
 abbrev pub row_says : List Column → ℕ → ℕ → ℕ → List (List ℕ) → Result Segment TraceKind
 row_says columns width scale end fields =
     if nat_lt (length fields) width then Err CutShort
-    else segment_says (duration_says scale end fields) (valuation_of columns fields)
+    else segment_says end (option_and_then (units_of scale) (field_at fields 0))
+    (valuation_of columns fields)
 
 -- ---- all rows
 
@@ -126,15 +115,12 @@ terms_of definitions names events scale = record {
   scale = scale;
 }
 
--- no columns where there is an event, since rows tell of none
-abbrev pub without_events : List (List ℕ) → Option (List Column) → Option (List Column)
-without_events [] columns = columns
-without_events (event ∷ events) columns = None
-
--- the columns of all names, under this header
+-- The columns of all names, under this header: none where there is an event, since rows tell of
+-- none.
 abbrev pub compared : Terms → List (List ℕ) → Option (List Column)
 compared terms header =
-    without_events terms.names.events (columns_of terms.definitions header terms.names.names)
+    if length terms.names.events == 0
+    then columns_of terms.definitions header terms.names.names else None
 
 -- records: a header and rows; without a record there is no column
 abbrev pub table_says : Terms → List (List (List ℕ)) → Reading

@@ -1,17 +1,18 @@
 -- What rows say is a trace, and stays when more bytes come.
 use Rattle.std.proofs.Common.{◌≡◌, ℕ, ◌+◌, ◌≤◌, nat_le, nat_lt, ◌==◌, Bool, true, false, List, [], ◌∷◌, ◌++◌, length, Option, None, Some, Result, Ok, Err, IfOk, refl, arith, if◌then◌else◌}
-use Rattle.std.specs.Prelude.{option_and_then}
+use Rattle.std.specs.Option.{ok_or, option_and_then, option_map}
 use Rattle.std.proofs.lemmas.Bool.Decides.{nat_tests}
 use Rattle.csv.specs.Records.{field_at}
 use Rattle.csv.specs.Reading.{default_config, records, strip_bom}
 use Rattle.tre_pairs.specs.declared.TheConstants.{TIME_MAX}
 use Rattle.tre_decimal.specs.Decimal.{units_of}
 use Rattle.tre_num.specs.declared.column.Column.{Column}
-use Rattle.tre_num.specs.Rows.{Terms, compared, duration_says, row_says, rows_from, rows_reading, says_on, segment_says, table_says, under_header, units_say, valuation_of}
+use Rattle.tre_num.specs.Rows.{Terms, compared, row_says, rows_from, rows_reading, says_on, segment_says, table_says, under_header, valuation_of}
 use Rattle.tre_trace.specs.Reading.{Grows, Reading}
+use Rattle.tre_trace.specs.Segments.{plain_segment}
 use Rattle.tre_trace.specs.Trace.{AreLong, IsTrace, end_of}
 use Rattle.tre_trace.specs.declared.fault.TraceKind.{TraceKind}
-use Rattle.tre_trace.specs.declared.fault.TraceKind.TheVariants.{CutShort, TooLate, Zero}
+use Rattle.tre_trace.specs.declared.fault.TraceKind.TheVariants.{BadNumber, CutShort, TooLate, Zero}
 use Rattle.tre_trace.specs.declared.segment.Segment.{Segment}
 
 -- The length fits behind a trace that ends at `end`.
@@ -19,20 +20,22 @@ record FitsAt (end len : ℕ) : Type 0 where
   long : 1 ≤ len
   in_time : end + len ≤ TIME_MAX
 
-units-fit : (end : ℕ) (units : Option ℕ) → IfOk (units_say end units) (FitsAt end)
-units-fit end None = tt
-units-fit end (Some len) = by (len == 0) refl (nat_le (end + len) TIME_MAX) refl where
-  by : (none : Bool) → (len == 0) ≡ none → (early : Bool) → nat_le (end + len) TIME_MAX ≡ early
-      → IfOk (if none then Err Zero else (if early then Ok len else Err TooLate)) (FitsAt end)
-  by true e early f = tt
-  by false e false f = tt
-  by false e true f = record { long = grind (arith, nat_tests); in_time = grind (arith, nat_tests) }
-
-segment-fits : (end : ℕ) (len : Result ℕ TraceKind) (valuation : Option ℕ) → IfOk len (FitsAt end)
-    → IfOk (segment_says len valuation) (λ segment. FitsAt end segment.len)
-segment-fits end (Err kind) valuation fits = tt
-segment-fits end (Ok len) None fits = tt
-segment-fits end (Ok len) (Some valuation) fits = fits
+segment-fits : (end : ℕ) (units valuation : Option ℕ)
+    → IfOk (segment_says end units valuation) (λ segment. FitsAt end segment.len)
+segment-fits end None valuation = tt
+segment-fits end (Some len) valuation =
+    by (len == 0) refl (nat_le (end + len) TIME_MAX) refl valuation
+  where
+    by : (none : Bool) → (len == 0) ≡ none → (early : Bool) → nat_le (end + len) TIME_MAX ≡ early
+        → (valuation : Option ℕ)
+        → IfOk (if none then Err Zero else (if early
+        then ok_or (option_map (plain_segment len) valuation) BadNumber else Err TooLate))
+        (λ segment. FitsAt end segment.len)
+    by true e early f valuation = tt
+    by false e false f valuation = tt
+    by false e true f None = tt
+    by false e true f (Some val) =
+        record { long = grind (arith, nat_tests); in_time = grind (arith, nat_tests) }
 
 -- The segments stand behind a trace that ends at `end`.
 record Follows (end : ℕ) (segments : List Segment) : Type 0 where
@@ -53,11 +56,12 @@ module _ (columns : List Column) (width scale : ℕ) where
       → IfOk (row_says columns width scale end fields) (λ segment. FitsAt end segment.len)
   row-fits end fields = by (nat_lt (length fields) width) where
     by : (short : Bool) → IfOk (if short then Err CutShort
-        else segment_says (duration_says scale end fields) (valuation_of columns fields))
+        else segment_says end (option_and_then (units_of scale) (field_at fields 0))
+        (valuation_of columns fields))
         (λ segment. FitsAt end segment.len)
     by true = tt
-    by false = segment-fits end (duration_says scale end fields) (valuation_of columns fields)
-        (units-fit end (option_and_then (units_of scale) (field_at fields 0)))
+    by false = segment-fits end (option_and_then (units_of scale) (field_at fields 0))
+        (valuation_of columns fields)
 
   rows-follow : (number : ℕ) (rows : List (List (List ℕ))) (end : ℕ)
       → Follows end (rows_from columns width scale number rows end).segments

@@ -3,7 +3,8 @@ ghost use Rattle.std.specs.Prelude.{◌≡◌, ◌≤◌, length, IfNone, IfSome
 ghost use Rattle.std.specs.List.{prefix_len};
 ghost use Rattle.std.specs.Option.{option_map};
 ghost use Rattle.tre_state.specs.Name.{continues_name, IsName, IsWord};
-ghost use Rattle.tre_num.specs.Definitions.{Spells, SpellsNone};
+ghost use Rattle.tre_num.specs.Defined.{Defined};
+ghost use Rattle.tre_num.specs.Definitions.{Spells};
 ghost use Rattle.tre_num.specs.Pieces.{behind_equals, behind_piece, is_whole_byte, past_spaces, piece, sign_in};
 
 use crate::comparison::Comparison;
@@ -27,7 +28,7 @@ pub(crate) fn parts_in(text: &[u8]) -> Option<Parts<'_>>
       comparison = parts.comparison;
       value = parts.value;
     })) }
-    ensures none { IfNone result (SpellsNone text.now) }
+    ensures none { IfNone result ((defined : Defined) → ¬ Spells text.now defined) }
 {
     let (name, rest) = next_word(text);
     let name = name_in(name)?;

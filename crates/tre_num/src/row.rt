@@ -5,7 +5,8 @@ ghost use Rattle.csv.specs.Records.{fields_of};
 ghost use Rattle.tre_decimal.specs.declared.TheConstants.{SCALE_MAX};
 ghost use Rattle.tre_pairs.specs.declared.TheConstants.{TIME_MAX};
 ghost use Rattle.tre_state.specs.declared.names.TheConstants.{NAMES_MAX};
-ghost use Rattle.tre_num.specs.Rows.{told_by, valuation_of, duration_says, row_says};
+ghost use Rattle.tre_num.specs.Durations.{duration_says};
+ghost use Rattle.tre_num.specs.Rows.{told_by, valuation_of, row_says};
 
 use crate::column::Column;
 use crate::whole::read_whole;

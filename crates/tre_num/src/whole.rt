@@ -1,6 +1,7 @@
 // Whole numbers in fields and definitions.
-ghost use Rattle.std.specs.Prelude.{◌≡◌};
-ghost use Rattle.tre_num.specs.Whole.{negative_of, positive_of, whole_of};
+ghost use Rattle.std.specs.Prelude.{◌≡◌, ◌-◌, ◌^◌, pos, neg_ℤ};
+ghost use Rattle.std.specs.Option.{option_map};
+ghost use Rattle.tre_num.specs.Whole.{number_up_to, whole_of};
 
 use tre_decimal::read_numeral;
 
@@ -17,7 +18,7 @@ pub fn read_whole(bytes: &[u8]) -> Option<i64>
 
 // The number that digits write, up to 2^63 - 1.
 fn read_positive(digits: &[u8]) -> Option<i64>
-    ensures { result ≡ positive_of digits.now }
+    ensures { result ≡ option_map pos (number_up_to (2 ^ 63 - 1) digits.now) }
 {
     match read_numeral(digits) {
         Some(number) if number <= i64::MAX as u64 => Some(number as i64),
@@ -27,7 +28,8 @@ fn read_positive(digits: &[u8]) -> Option<i64>
 
 // The number that digits behind a minus write, down to -2^63.
 fn read_negative(digits: &[u8]) -> Option<i64>
-    ensures { result ≡ negative_of digits.now }
+    ensures { result
+        ≡ option_map (λ number. neg_ℤ (pos number)) (number_up_to (2 ^ 63) digits.now) }
 {
     match read_numeral(digits) {
         Some(number) if number <= i64::MIN.unsigned_abs() => Some((-i128::from(number)) as i64),

@@ -33,19 +33,11 @@ nothing = record { segments = []; last = 0; fault = None }
 
 -- a fault at this place
 abbrev pub faulty : ℕ → TraceKind → Reading
-faulty place kind = record {
-  segments = [];
-  last = 0;
-  fault = Some (record { place = place; kind = kind });
-}
+faulty place kind = record nothing { fault = Some (record { place = place; kind = kind }) }
 
 -- these segments, and then what was read behind them
 abbrev pub behind : List Segment → Reading → Reading
-behind segments reading = record {
-  segments = segments ++ reading.segments;
-  last = reading.last;
-  fault = reading.fault;
-}
+behind segments reading = record reading { segments = segments ++ reading.segments }
 
 -- a fault ends the reading; behind a part without one it goes on
 abbrev pub read_on : {State : Type 0} → ℕ → Result (Step State) TraceKind → (State → Reading)
@@ -65,7 +57,7 @@ part_says format state part = if nat_le (length part) PART_MAX then format.says 
 
 -- the end of the input, at this offset and with these events, or a fault
 abbrev pub ending : ℕ → ℕ → Option TraceKind → Reading
-ending offset last None = record { segments = []; last = last; fault = None }
+ending offset last None = record nothing { last = last }
 ending offset last (Some kind) = faulty offset kind
 
 -- The part that no separator ends: the end of the input ends it. While more may come it says

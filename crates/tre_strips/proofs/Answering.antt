@@ -3,41 +3,53 @@ use Rattle.std.proofs.Common.{◌≡◌, ℕ, ◌*◌, ◌<◌, ◌↔◌, List,
 use Rattle.std.specs.Prelude.{Contains}
 use Rattle.std.specs.List.Sorted.{IsStrictlySortedBy}
 use Rattle.tre_pairs.specs.Pairs.{Pairs}
-use Rattle.tre_zone.specs.Zone.{IsCanonical}
+use Rattle.tre_zone.specs.Zone.{IsCanonical, IsTight}
 use Rattle.tre_zone.specs.ZoneList.{SetHolds, AreCanonical, HoldExactly}
 use Rattle.tre_zone.specs.declared.zone_bounds.ZoneBounds.{ZoneBounds}
+use Rattle.tre_zone.proofs.TightBounds.{canonical_from_tight}
+use Rattle.tre_zone.proofs.Tightness.{canonical-tight}
 use Rattle.tre_strips.specs.Profile.{Fits}
 use Rattle.tre_strips.specs.Runs.{IsRun, IsInStrip}
 use Rattle.tre_strips.specs.Strips.{IsStripZone, of_run, of_time, AreStrips, compare_lines}
 use Rattle.tre_strips.specs.Spun.{HaveSamePairs, AreFound}
 use Rattle.tre_strips.specs.declared.bar.Bar.{Bar}
-use Rattle.tre_strips.proofs.Apart.{strips_apart}
+use Rattle.tre_strips.proofs.Apart.{strip_some, strips_apart}
 use Rattle.tre_strips.proofs.Listing.{rising_again, apart_again, same_members_held, same_sorted, strictly_again}
 use Rattle.tre_strips.proofs.Spinning.{set_framed}
-use Rattle.tre_strips.proofs.Whole.{IsProfile-pairs}
+use Rattle.tre_strips.proofs.Whole.{IsProfile-pairs, strip_held}
+
+-- A strip zone by its tightest bounds is canonical.
+strip_canonical : (set : List ZoneBounds) → AreCanonical set → (zone : ZoneBounds)
+    → IsStripZone (SetHolds set) zone → IsTight zone → IsCanonical zone
+strip_canonical set canonical zone strip tight =
+    canonical_from_tight zone (strip_some set canonical zone strip) tight
+    (λ a b n some le h.
+    set_framed set canonical a b n some (strip_held set canonical zone strip a b n some le h))
 
 pub AreStrips-found : (set : List ZoneBounds) → AreCanonical set → (found zones : List ZoneBounds)
     → AreFound set found → IsStrictlySortedBy compare_lines zones
     → ((zone : ZoneBounds) → Contains zones zone ↔ Contains found zone)
     → AreStrips (SetHolds set) zones
 AreStrips-found set canonical found zones are order same =
-    let exact : (zone : ZoneBounds) → Contains zones zone
-    ↔ (IsCanonical zone × IsStripZone (SetHolds set) zone) = λ zone. (
-      (λ has. (are.exact zone).0 ((same zone).0 has)),
-      (λ is. (same zone).1 ((are.exact zone).1 is)),
-    ) in
+    let strip : (zone : ZoneBounds) → Contains zones zone
+    → IsCanonical zone × IsStripZone (SetHolds set) zone =
+    λ zone has. (are.exact zone).0 ((same zone).0 has) in
     record {
       rising = rising_again zones order;
       apart = apart_again zones order (λ one other has has' differs.
-          let is = (exact one).0 has in
-          let is' = (exact other).0 has' in
+          let is = strip one has in
+          let is' = strip other has' in
           record {
             left = λ includes. differs
                 (strips_apart set canonical one other is.0 is'.0 is.1 is'.1 includes);
             right = λ includes. differs
                 (sym (strips_apart set canonical other one is'.0 is.0 is'.1 is.1 includes));
           });
-      exact = exact;
+      exact = λ zone. (
+        (λ has. let is = strip zone has in (canonical-tight zone is.0, is.1)),
+        (λ is. (same zone).1 ((are.exact zone).1
+            (strip_canonical set canonical zone is.1 is.0, is.1))),
+      );
     }
 
 pub HoldExactly-found : (set found zones : List ZoneBounds) → AreFound set found

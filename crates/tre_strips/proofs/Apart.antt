@@ -3,7 +3,7 @@ use Rattle.std.proofs.Common.{◌≡◌, ℕ, zero, suc, ◌+◌, ◌*◌, ◌<�
 use Rattle.std.specs.Prelude.{Contains}
 use Rattle.std.proofs.lemmas.List.Elements.{Contains-get_or}
 use Rattle.tre_pairs.specs.Pairs.{Pairs}
-use Rattle.tre_zone.specs.Zone.{Includes, IsCanonical, IsZoneOf}
+use Rattle.tre_zone.specs.Zone.{Includes, IsCanonical, IsZoneOf, HoldsSome}
 use Rattle.tre_zone.specs.ZoneList.{SetHolds, AreCanonical}
 use Rattle.tre_zone.specs.declared.zone_bounds.ZoneBounds.{ZoneBounds}
 use Rattle.tre_strips.specs.Bar.{place_of, BarHolds, RiseFrom}
@@ -92,6 +92,37 @@ time_pair M bars time bar profile has =
     let own = profile.each (time * 1) 1 (omega arith) (inl (refl, refl)) in
     let filled = (rises_from bars 0 (time * 1) 1 own.rising bar has).1 in
     record { begins = omega arith; ends = holds_low bar (time * 1) 1 filled }
+
+module _ (zones : List ZoneBounds) (canonical : AreCanonical zones) where
+  pub strip_some : (zone : ZoneBounds) → IsStripZone (SetHolds zones) zone → HoldsSome zone
+  strip_some zone (of_run bars from until bar run has is) =
+      let a : ℕ = 2 * (2 * from + 1) in
+      let b : ℕ = place_of bar.low (2 * from + 1) 2 in
+      let pair = run_pair (SetHolds zones) bars from until bar run.profile run.rising has in
+      let frame = set_framed zones canonical a b 4 (omega arith)
+      (block_held (SetHolds zones) bars from until bar run.profile has a b 4 (omega arith) pair) in
+      record {
+        a = a;
+        b = b;
+        n = 4;
+        some = omega arith;
+        rising = frame.rising;
+        held = (is.exact a b 4 (omega arith) frame.rising).1 pair;
+      }
+  strip_some zone (of_time bars time bar alone own has is) =
+      let a : ℕ = 2 * (time * 1) in
+      let b : ℕ = place_of bar.low (time * 1) 1 in
+      let pair = time_pair (SetHolds zones) bars time bar own has in
+      let frame = set_framed zones canonical a b 2 (omega arith)
+      (column_held (SetHolds zones) bars time bar own has a b 2 (omega arith) pair) in
+      record {
+        a = a;
+        b = b;
+        n = 2;
+        some = omega arith;
+        rising = frame.rising;
+        held = (is.exact a b 2 (omega arith) frame.rising).1 pair;
+      }
 
 -- ---- two strip zones
 

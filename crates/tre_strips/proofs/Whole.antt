@@ -77,6 +77,15 @@ no_bars_at M bars time own none =
     (((own.each (2 * (time * 1)) 2 (omega arith) (inl (refl, twice))).exact p).0 h)))
 
 module _ (zones : List ZoneBounds) (canonical : AreCanonical zones) where
+  pub strip_held : (zone : ZoneBounds) → IsStripZone (SetHolds zones) zone → (a b n : ℕ) → 0 < n
+      → a ≤ b → ZoneHolds zone a b n → SetHolds zones a b n
+  strip_held zone (of_run others start end bar run has is) a b n some le h =
+      block_held (SetHolds zones) others start end bar run.profile has a b n some
+      ((is.exact a b n some le).0 h)
+  strip_held zone (of_time others moment bar alone own has is) a b n some le h =
+      column_held (SetHolds zones) others moment bar own has a b n some
+      ((is.exact a b n some le).0 h)
+
   none_past : (a b n : ℕ) → 0 < n → TIME_MAX * n < a → SetHolds zones a b n → ⊥
   none_past a b n some past h =
       let frame = set_framed zones canonical a b n some h in
@@ -164,15 +173,6 @@ module _ (zones : List ZoneBounds) (canonical : AreCanonical zones) where
         found_run others start end bar zone run has is_canonical is
     complete zone (is_canonical, of_time others moment bar alone own has is) =
         found_time others moment bar zone alone own has is_canonical is
-
-    strip_held : (zone : ZoneBounds) → IsStripZone (SetHolds zones) zone → (a b n : ℕ) → 0 < n
-        → a ≤ b → ZoneHolds zone a b n → SetHolds zones a b n
-    strip_held zone (of_run others start end bar run has is) a b n some le h =
-        block_held (SetHolds zones) others start end bar run.profile has a b n some
-        ((is.exact a b n some le).0 h)
-    strip_held zone (of_time others moment bar alone own has is) a b n some le h =
-        column_held (SetHolds zones) others moment bar own has a b n some
-        ((is.exact a b n some le).0 h)
 
     held_back : (a b n : ℕ) → 0 < n → SetHolds zones a b n → SetHolds found a b n
     held_back a b n some h =

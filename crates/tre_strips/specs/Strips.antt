@@ -5,7 +5,7 @@ use Rattle.std.specs.List.Sorted.{IsSortedByKey}
 use Rattle.std.specs.Ordering.{int_cmp}
 use Rattle.std.specs.declared.cmp.Ordering.{Ordering}
 use Rattle.tre_pairs.specs.Pairs.{Pairs}
-use Rattle.tre_zone.specs.Zone.{IsCanonical, IsZoneOf}
+use Rattle.tre_zone.specs.Zone.{IsTight, IsZoneOf}
 use Rattle.tre_zone.specs.ZoneList.{IsApart}
 use Rattle.tre_zone.specs.declared.zone_bounds.ZoneBounds.{ZoneBounds}
 use Rattle.tre_strips.specs.Profile.{IsProfile}
@@ -31,8 +31,9 @@ line_key zone =
 abbrev pub compare_lines : ZoneBounds → ZoneBounds → Ordering
 compare_lines one other = slice_cmp int_cmp (line_key one) (line_key other)
 
--- The list is the strips of M: each of them, once, in the order in which they are printed.
+-- The list is the strips of M, each by its tightest bounds: all of them, each once, in the order in
+-- which they are printed.
 pub record AreStrips (M : Pairs) (zones : List ZoneBounds) : Type 0 where
   pub rising : IsSortedByKey line_key (slice_cmp int_cmp) zones
   pub apart : IsApart zones
-  pub exact : (zone : ZoneBounds) → Contains zones zone ↔ (IsCanonical zone × IsStripZone M zone)
+  pub exact : (zone : ZoneBounds) → Contains zones zone ↔ (IsTight zone × IsStripZone M zone)

@@ -1,11 +1,13 @@
 -- What a line says, by what stands on it.
-use Rattle.std.proofs.Common.{◌≡◌, ◌≢◌, ℕ, ◌+◌, ◌<◌, ◌≤◌, nat_le, ◌==◌, true, false, None, Some, List, [], ◌∷◌, length, get_or, Ok, Err, refl, ap, ◌∙◌, arith}
+use Rattle.std.proofs.Common.{◌≡◌, ◌≢◌, ℕ, ◌+◌, ◌<◌, ◌≤◌, nat_le, ◌==◌, true, false, None, Some, List, [], ◌∷◌, length, get_or, Ok, Err, codes, refl, ap, subst, ◌∙◌, arith}
+use Rattle.std.proofs.lemmas.Bool.{false_from_ne_true}
 use Rattle.std.proofs.lemmas.Bool.Decides.{nat_tests}
+use Rattle.std.proofs.lemmas.Slice.Eq.{bytes_eq-Decides}
 use Rattle.std.specs.List.{list_all}
 use Rattle.std.specs.Char.{is_ascii_digit}
 use Rattle.tre_pairs.specs.declared.TheConstants.{TIME_MAX}
 use Rattle.tre_decimal.specs.Decimal.{units_of}
-use Rattle.tre_text.specs.TextReading.{Terms, begins_comment, begins_events, spells_word, valuation_of, valuation_after, known_at, no_segment, one_segment, entry_says, duration_says, fields_say, fields_of, line_says}
+use Rattle.tre_text.specs.TextReading.{Terms, begins_comment, begins_events, spells_word, valuation_of, valuation_after, known_at, no_segment, one_segment, entry_says, fields_say, fields_of, line_says}
 use Rattle.tre_text.specs.declared.known.Known.{Known}
 use Rattle.tre_trace.specs.declared.fault.TraceKind.TheVariants.{BadNumber, Zero, TooLate, BadName}
 
@@ -22,13 +24,11 @@ pub beyond : (a b : ℕ) → b < a → nat_le a b ≡ false
 beyond a b h = grind (arith, nat_tests)
 
 comment : (first : List ℕ) → 0 < length first → get_or first 0 0 ≡ 35 → begins_comment first ≡ true
-comment [] some is = absurd (omega (arith, some))
-comment (byte ∷ bytes) some is = equals byte 35 is
+comment first some is = equals (get_or first 0 0) 35 is
 
 pub no_comment : (first : List ℕ) → 0 < length first → get_or first 0 0 ≢ 35 → begins_comment first
     ≡ false
-no_comment [] some other = absurd (omega (arith, some))
-no_comment (byte ∷ bytes) some other = differs byte 35 other
+no_comment first some other = differs (get_or first 0 0) 35 other
 
 pub says-nothing : (terms : Terms) (known : Known) (line : List ℕ) → fields_of line ≡ []
     → line_says terms known line ≡ Ok (no_segment known)
@@ -56,18 +56,18 @@ unfolding line_says
 says-no_number terms known line first fields entry bad =
     ap (fields_say terms known) entry.is
     ∙ rw (entry.no_comment, entry.no_events)
-    (ap (λ units. duration_says terms.names known units fields) bad)
+    (ap (λ units. entry_says terms.names known units fields) bad)
 
 -- what a line says that begins with a number of units
 module _ (terms : Terms) (known : Known) (line first : List ℕ) (fields : List (List ℕ))
     (entry : IsEntryOf line first fields) (len : ℕ) (is : units_of terms.scale first ≡ Some len)
   where
-    says-entry : line_says terms known line ≡ entry_says terms.names known len fields
+    says-entry : line_says terms known line ≡ entry_says terms.names known (Some len) fields
     unfolding line_says
     says-entry =
         ap (fields_say terms known) entry.is
         ∙ rw (entry.no_comment, entry.no_events)
-        (ap (λ units. duration_says terms.names known units fields) is)
+        (ap (λ units. entry_says terms.names known units fields) is)
 
     pub says-zero : len ≡ 0 → line_says terms known line ≡ Err Zero
     says-zero zero = says-entry ∙ rw (equals len 0 zero) refl
@@ -112,7 +112,7 @@ module _ (terms : Terms) (known : Known) (first : List ℕ) (fields : List (List
 pub fields-duration : (terms : Terms) (known : Known) (first : List ℕ)
     (fields : List (List ℕ)) → begins_comment first ≡ false → begins_events first ≡ false
     → fields_say terms known (first ∷ fields)
-    ≡ duration_says terms.names known (units_of terms.scale first) fields
+    ≡ entry_says terms.names known (units_of terms.scale first) fields
 fields-duration terms known first fields no_comment no_events =
     rw (no_comment, no_events) refl
 
@@ -122,20 +122,13 @@ pub says-fields : (terms : Terms) (known : Known) (line : List ℕ)
 unfolding line_says
 says-fields terms known line fields is = ap (fields_say terms known) is
 
-sign-other : (byte : ℕ) → (byte == 64) ≡ true → (byte == 35) ≡ false
-sign-other byte sign = grind (arith, nat_tests)
-
 -- the sign of events is no comment
 pub sign-no_comment : (first : List ℕ) → begins_events first ≡ true → begins_comment first ≡ false
-sign-no_comment [] sign = refl
-sign-no_comment (byte ∷ []) sign = sign-other byte sign
-sign-no_comment (byte ∷ next ∷ bytes) sign = cc
+sign-no_comment first sign =
+    ap begins_comment ((bytes_eq-Decides first (codes "@")).0 sign)
 
 digit-other : (byte : ℕ) → is_ascii_digit byte ≡ true → (byte == 35) ≡ false
 digit-other byte digit = grind (arith, nat_tests)
-
-digit-no_sign : (byte : ℕ) → is_ascii_digit byte ≡ true → (byte == 64) ≡ false
-digit-no_sign byte digit = grind (arith, nat_tests)
 
 -- What is a number of units begins with a digit: tre_decimal has this law.
 abbrev pub BeginWithDigits : Type 0
@@ -152,7 +145,9 @@ number-no_comment digits scale units (byte ∷ bytes) is =
 -- and no sign of events
 pub number-no_events : BeginWithDigits → (scale units : ℕ) (first : List ℕ)
     → units_of scale first ≡ Some units → begins_events first ≡ false
-number-no_events digits scale units [] is = refl
-number-no_events digits scale units (byte ∷ []) is =
-    digit-no_sign byte (digits scale byte units [] is)
-number-no_events digits scale units (byte ∷ next ∷ bytes) is = refl
+number-no_events digits scale units first is =
+    false_from_ne_true (begins_events first) (λ sign.
+    let digit = digits scale 64 units []
+    (subst (λ text. units_of scale text ≡ Some units)
+    ((bytes_eq-Decides first (codes "@")).0 sign) is) in
+    cc (digit))

@@ -1,73 +1,60 @@
 -- How a line is cut into fields.
-use Rattle.std.proofs.Common.{◌≡◌, ◌≢◌, ℕ, suc, ◌+◌, ◌-◌, ◌<◌, ◌≤◌, nat_lt, Bool, true, false, not, ◌&&◌, ◌==◌, List, [], ◌∷◌, ◌++◌, append-nil, length, get_or, take, drop, refl, sym, ap, subst, ◌∙◌, arith, drop-cons, take-append-drop, length-take}
-use Rattle.std.proofs.Math.Seq.{drop-length, take-length}
-use Rattle.std.specs.List.{slice_split, position_or_len}
+use Rattle.std.proofs.Common.{◌≡◌, ◌≢◌, ℕ, ◌+◌, ◌-◌, ◌<◌, ◌≤◌, nat_lt, Bool, true, false, not, cond, ◌&&◌, ◌==◌, if◌then◌else◌, List, [], ◌∷◌, ◌++◌, append-nil, length, get_or, take, drop, refl, sym, ap, subst, ◌∙◌, arith, length-take}
+use Rattle.std.proofs.Math.Seq.{get_or-append_seam, take-append_seam, take-length}
+use Rattle.std.specs.List.{filter, slice_split, position_or_len}
+use Rattle.std.specs.Str.Lines.{strip_carriage_return}
 use Rattle.std.proofs.lemmas.Bool.{and_parts}
 use Rattle.std.proofs.lemmas.Bool.Decides.{nat_tests}
-use Rattle.std.proofs.lemmas.List.{get_or-take, length-drop, take-take}
+use Rattle.std.proofs.lemmas.List.{get_or-take, length-drop, length_push, take-take}
 use Rattle.std.proofs.lemmas.List.Elements.{All-from_get_or}
 use Rattle.std.proofs.lemmas.List.Splits.{slice_split-cons_yes, slice_split_none, slice_split_first}
 use Rattle.std.proofs.lemmas.List.Sums.{fails_before_first}
 use Rattle.tre_parts.specs.Walk.{IsInside, EndsAt}
 use Rattle.tre_parts.specs.Joins.{join_parts, HasFirst, slice_split-has, slice_split-append}
 use Rattle.tre_text.specs.TraceLines.{IsField}
-use Rattle.tre_text.specs.TextReading.{is_blank, without_return, with_bytes, fields_among}
+use Rattle.tre_text.specs.TextReading.{is_blank, fields_among}
 
--- a line without a byte, and one with a last byte
-pub no_return : (bytes : List ℕ) (last : ℕ) → (last == 13) ≡ false → without_return
-    (bytes ++ last ∷ []) ≡ bytes ++ last ∷ []
-no_return [] last other = rw other refl
-no_return (byte ∷ []) last other = rw other refl
-no_return (byte ∷ next ∷ bytes) last other = ap (λ rest. byte ∷ rest) (no_return (next ∷ bytes) last
-    other)
-
-pub with_return : (bytes : List ℕ) (last : ℕ) → (last == 13) ≡ true → without_return
-    (bytes ++ last ∷ []) ≡ bytes
-with_return [] last return = rw return refl
-with_return (byte ∷ []) last return = rw return refl
-with_return (byte ∷ next ∷ bytes) last return = ap (λ rest. byte ∷ rest) (with_return (next ∷ bytes)
-    last return)
-
--- a line with bytes is its front and its last byte
-pub front_and_last : (line : List ℕ) → 0 < length line → line ≡ take (length line - 1) line ++
-    get_or line (length line - 1) 0 ∷ []
-front_and_last line some =
-    let one : suc (length line - 1) ≡ length line = omega arith in
-    sym (take-append-drop (length line - 1) line)
-    ∙ ap (λ rest. take (length line - 1) line ++ rest)
-    (drop-cons line (length line - 1) 0 (omega arith)
-    ∙ ap (λ (rest : List ℕ). get_or line (length line - 1) 0 ∷ rest) (ap (λ n. drop n line) one
-    ∙ drop-length line))
-
-is_return : (byte : ℕ) → byte ≡ 13 → (byte == 13) ≡ true
-is_return byte is = rw is refl
+-- ---- the carriage return at the end of a line
 
 is_other : (byte : ℕ) → byte ≢ 13 → (byte == 13) ≡ false
 is_other byte other = grind (arith, nat_tests)
 
-pub without_return-last : (line : List ℕ) → 0 < length line → get_or line (length line - 1) 0 ≡ 13
-    → without_return line ≡ take (length line - 1) line
-without_return-last line some return =
-    ap without_return (front_and_last line some)
-    ∙ with_return (take (length line - 1) line) (get_or line (length line - 1) 0)
-    (is_return (get_or line (length line - 1) 0) return)
+pub without_return-last : (line : List ℕ) → get_or line (length line - 1) 0 ≡ 13
+    → strip_carriage_return line ≡ take (length line - 1) line
+without_return-last line return =
+    ap (λ (byte : ℕ). if byte == 13 then take (length line - 1) line else line) return
 
-pub without_return-empty : (line : List ℕ) → length line ≤ 0 → without_return line ≡ line
+pub without_return-empty : (line : List ℕ) → length line ≤ 0 → strip_carriage_return line ≡ line
 without_return-empty [] none = refl
 without_return-empty (byte ∷ bytes) none = absurd (omega (arith, none))
 
-pub without_return-none : (line : List ℕ) → 0 < length line → get_or line (length line - 1) 0 ≢ 13
-    → without_return line ≡ line
-without_return-none line some other =
-    ap without_return (front_and_last line some)
-    ∙ no_return (take (length line - 1) line) (get_or line (length line - 1) 0)
+pub without_return-none : (line : List ℕ) → get_or line (length line - 1) 0 ≢ 13
+    → strip_carriage_return line ≡ line
+without_return-none line other =
+    ap (λ (is : Bool). if is then take (length line - 1) line else line)
     (is_other (get_or line (length line - 1) 0) other)
-    ∙ sym (front_and_last line some)
+
+pub with_return : (line : List ℕ) → strip_carriage_return (line ++ 13 ∷ []) ≡ line
+with_return line =
+    let last : length (line ++ 13 ∷ []) - 1 ≡ length line = omega (arith, length_push line 13) in
+    without_return-last (line ++ 13 ∷ [])
+    (ap (λ n. get_or (line ++ 13 ∷ []) n 0) last ∙ get_or-append_seam line 13 [] 0)
+    ∙ ap (λ n. take n (line ++ 13 ∷ [])) last ∙ take-append_seam line (13 ∷ [])
+
+-- ---- fields
+
+-- those of the parts that have bytes
+abbrev with_bytes : List (List ℕ) → List (List ℕ)
+with_bytes parts = filter (λ part. nat_lt 0 (length part)) parts
+
+positive : (n : ℕ) → 0 < n → nat_lt 0 n ≡ true
+positive n some = grind (arith, nat_tests)
 
 with_bytes-cons : (part : List ℕ) (parts : List (List ℕ)) → 0 < length part → with_bytes
     (part ∷ parts) ≡ part ∷ with_bytes parts
-with_bytes-cons [] parts some = absurd (omega (arith, some))
-with_bytes-cons (byte ∷ bytes) parts some = refl
+with_bytes-cons part parts some =
+    ap (λ (has : Bool). cond has (part ∷ with_bytes parts) (with_bytes parts))
+    (positive (length part) some)
 
 -- bytes without a blank are one field
 pub fields-one : (bytes : List ℕ) → 0 < length bytes → position_or_len is_blank bytes ≡ length bytes
@@ -116,15 +103,20 @@ take-rest i xs = rw (← length-drop i xs) (take-length (drop i xs))
 
 with_bytes-append : (part : List ℕ) (parts others : List (List ℕ)) → with_bytes (part ∷ others)
     ≡ with_bytes (part ∷ []) ++ with_bytes others
-with_bytes-append [] parts others = refl
-with_bytes-append (byte ∷ bytes) parts others = refl
+with_bytes-append part parts others = by (nat_lt 0 (length part)) where
+  by : (has : Bool) → cond has (part ∷ with_bytes others) (with_bytes others)
+      ≡ cond has (part ∷ []) [] ++ with_bytes others
+  by true = refl
+  by false = refl
 
 with_bytes-later : (part : List ℕ) (front back rest : List (List ℕ)) → with_bytes rest ≡ with_bytes
     front ++ with_bytes back
     → with_bytes (part ∷ rest) ≡ with_bytes (part ∷ front) ++ with_bytes back
-with_bytes-later [] front back rest is = is
-with_bytes-later (byte ∷ bytes) front back rest is = ap (λ (parts : List (List ℕ)). (byte ∷ bytes) ∷
-    parts) is
+with_bytes-later part front back rest is = by (nat_lt 0 (length part)) where
+  by : (has : Bool) → cond has (part ∷ with_bytes rest) (with_bytes rest)
+      ≡ cond has (part ∷ with_bytes front) (with_bytes front) ++ with_bytes back
+  by true = ap (λ (parts : List (List ℕ)). part ∷ parts) is
+  by false = is
 
 with_bytes-join : (parts others : List (List ℕ)) → HasFirst parts → with_bytes
     (join_parts parts ([] ∷ others)) ≡ with_bytes parts ++ with_bytes others

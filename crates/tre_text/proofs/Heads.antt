@@ -5,7 +5,7 @@ use Rattle.std.specs.Option.{option_map}
 use Rattle.tre_decimal.specs.Decimal.{units_of}
 use Rattle.tre_pairs.specs.declared.TheConstants.{TIME_MAX}
 use Rattle.tre_text.specs.Lines.{IsLength, Heads, list_of, said_of}
-use Rattle.tre_text.specs.TextReading.{Terms, begins_comment, begins_events, spells_word, valuation_after, known_at, no_segment, one_segment, duration_says, fields_say, fields_of, line_says}
+use Rattle.tre_text.specs.TextReading.{Terms, begins_comment, begins_events, spells_word, valuation_after, known_at, no_segment, one_segment, entry_says, fields_say, fields_of, line_says}
 use Rattle.tre_text.specs.declared.found.Head.{Head}
 use Rattle.tre_text.specs.declared.found.Head.TheVariants.{Events, Entry}
 use Rattle.tre_text.specs.declared.known.Known.{Known}
@@ -33,9 +33,9 @@ module _ (digits : BeginWithDigits) (scale : ℕ) (known : Known) (first : List 
 
   first-says : (names : Vocabulary) (fields : List (List ℕ))
       → fields_say (record { names = names; scale = scale }) known (first ∷ fields)
-      ≡ duration_says names known (Some told.whole) fields
+      ≡ entry_says names known (Some told.whole) fields
   first-says names fields =
-      rw (no_comment, no_events) (ap (λ units. duration_says names known units fields) told.is)
+      rw (no_comment, no_events) (ap (λ units. entry_says names known units fields) told.is)
 
   pub heads-zero : number ≡ 0 → (names : Vocabulary) (fields : List (List ℕ))
       → fields_say (record { names = names; scale = scale }) known (first ∷ fields) ≡ Err Zero

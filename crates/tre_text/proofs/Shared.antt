@@ -13,8 +13,8 @@ use Rattle.tre_pairs.specs.declared.TheConstants.{TIME_MAX}
 use Rattle.tre_parts.proofs.Shared.{not_among, name_at, few, low_bit, other_bits, seen-none, seen_said, IsSeenFormat, seen-readings}
 use Rattle.tre_parts.specs.Shared.{AreAmong, AreDistinct, bit_there, seen, seen_reading}
 use Rattle.tre_state.specs.Names.{place_of}
-use Rattle.tre_text.proofs.Valuations.{set_same, set_other}
-use Rattle.tre_text.specs.TextReading.{Terms, begins_comment, begins_events, spells_word, with_bit, with_name, valuation_of, valuation_after, known_at, no_segment, one_segment, events_say, duration_says, fields_say, fields_of, line_says, text_format, text_reading}
+use Rattle.tre_text.proofs.Valuations.{set_same, set_other, with_bit}
+use Rattle.tre_text.specs.TextReading.{Terms, begins_comment, begins_events, spells_word, with_name, valuation_of, valuation_after, known_at, no_segment, one_segment, events_say, entry_says, fields_say, fields_of, line_says, text_format, text_reading}
 use Rattle.tre_text.specs.declared.known.Known.{Known}
 use Rattle.tre_trace.specs.Reading.{Vocabulary}
 use Rattle.tre_trace.specs.Segments.{segment_with}
@@ -194,8 +194,8 @@ module _ (asked all : Vocabulary) (among : AreAmong asked all) (distinct : AreDi
   entry-seen len val value false false words is = refl
 
   duration-seen : (units : Option ℕ) (fields : List (List ℕ))
-      → duration_says asked (see asked all known) units fields
-      ≡ seen_said asked all (see asked all) (duration_says all known units fields)
+      → entry_says asked (see asked all known) units fields
+      ≡ seen_said asked all (see asked all) (entry_says all known units fields)
   duration-seen None fields = refl
   duration-seen (Some len) fields =
       entry-seen len (valuation_of asked.names fields) (valuation_of all.names fields) (len == 0)
@@ -214,10 +214,10 @@ module _ (asked all : Vocabulary) (among : AreAmong asked all) (distinct : AreDi
   first-seen : (comment events : Bool) (units : Option ℕ) (fields : List (List ℕ))
       → (if comment then Ok (no_segment (see asked all known))
       else (if events then events_say asked (see asked all known) fields
-      else duration_says asked (see asked all known) units fields))
+      else entry_says asked (see asked all known) units fields))
       ≡ seen_said asked all (see asked all) (if comment then Ok (no_segment known)
       else (if events then events_say all known fields
-      else duration_says all known units fields))
+      else entry_says all known units fields))
   first-seen true events units fields = refl
   first-seen false true units fields =
       said-seen (valuation_after asked.events (seen asked.events all.events known.pending) fields)

@@ -1,6 +1,7 @@
 -- What a text reads as, by its lines.
 use Rattle.std.proofs.Common.{◌≡◌, ◌≢◌, ⊎_elim, ℕ, ◌+◌, ◌≤◌, Bool, true, false, List, [], ◌∷◌, ◌++◌, append_assoc, append-nil, length, None, Some, Result, Ok, Err, refl, sym, ap, ◌∙◌, subst, arith, inl, inr}
 use Rattle.std.proofs.lemmas.List.Elements.{All-nil}
+use Rattle.std.specs.Char.{is_newline}
 use Rattle.tre_decimal.specs.Decimal.{units_of}
 use Rattle.tre_pairs.specs.declared.TheConstants.{TIME_MAX}
 use Rattle.tre_parts.proofs.Walks.{reading-part, reading-last}
@@ -9,7 +10,7 @@ use Rattle.tre_parts.specs.Format.{Step, nothing, faulty, behind, read_on, after
 use Rattle.tre_parts.specs.declared.TheConstants.{PART_MAX}
 use Rattle.tre_parts.specs.declared.spot.Spot.{Spot}
 use Rattle.tre_text.proofs.Entries.{BeginWithDigits, IsEntryOf, number-no_comment, number-no_events, sign-no_comment, within, fields-events, fields-no_event, says-fields, says-nothing, says-marked, says-no_number, says-zero, says-late, says-no_name, says-segment}
-use Rattle.tre_text.specs.TextReading.{Terms, is_line_end, valuation_of, valuation_after, known_at, no_segment, fields_of, line_says, text_format, text_reading}
+use Rattle.tre_text.specs.TextReading.{Terms, valuation_of, valuation_after, known_at, no_segment, fields_of, line_says, text_format, text_reading}
 use Rattle.tre_text.specs.TraceLines.{IsLine, IsOverlong, AreLines, ended, HasFields, IsSilent, SaysEvents, IsEntry, Say, HasNoName, HasNoEvent, HasFault}
 use Rattle.tre_trace.proofs.Segments.{end_of-le}
 use Rattle.tre_text.specs.declared.known.Known.{Known}
@@ -161,13 +162,13 @@ read_end : (terms : Terms) (known : Known) (spot : Spot)
     ≡ record { segments = []; last = known.pending; fault = None }
 read_end terms known spot =
     reading-last (text_format terms) true known spot []
-    (All-nil (λ byte. is_line_end byte ≡ false))
+    (All-nil (λ byte. is_newline byte ≡ false))
     ∙ rw (says-nothing terms known [] refl) refl
 
 read_none : (terms : Terms) (known : Known) (spot : Spot)
     → reading_from (text_format terms) false known spot [] ≡ nothing
 read_none terms known spot = reading-last (text_format terms) false known spot []
-    (All-nil (λ byte. is_line_end byte ≡ false))
+    (All-nil (λ byte. is_newline byte ≡ false))
 
 -- lines that say segments and events, behind which nothing stands
 read_all : BeginWithDigits → (terms : Terms) (closed : Bool) (lines : List (List ℕ))

@@ -2,11 +2,12 @@
 use Rattle.std.proofs.Common.{◌≡◌, ◌≢◌, ◌↔◌, ◌⊎◌, ℕ, zero, suc, ◌<◌, ◌^◌, List, [], ◌∷◌, length, get_or, Option, None, Some, IsBitSet, refl, sym, ap, ◌∙◌, subst, inl, inr, ⊎_elim, arith}
 use Rattle.std.specs.Int.{bit_at}
 use Rattle.std.specs.Int.Bits.{bit_or}
+use Rattle.std.specs.Option.{option_map_or}
 use Rattle.std.proofs.lemmas.Bool.{cases_eq}
 use Rattle.std.proofs.lemmas.Nat.Bits.{bit_at_or, bit_at-pow_same, bit_at-pow_other, bit_at-zero}
 use Rattle.tre_state.proofs.Bits.{bit_is}
 use Rattle.tre_state.specs.Names.{place_of}
-use Rattle.tre_text.specs.TextReading.{with_bit, with_name, valuation_after, valuation_of, IsNamed}
+use Rattle.tre_text.specs.TextReading.{with_name, valuation_after, valuation_of, IsNamed}
 
 no_bit : (i : ℕ) → IsBitSet 0 i → ⊥
 no_bit i set =
@@ -23,6 +24,10 @@ set_other valuation place i apart = omega (
   bit_at_or valuation (2 ^ place) i,
   bit_at-pow_other place i apart,
 )
+
+-- the valuation, with this bit set besides, where there is one
+abbrev pub with_bit : ℕ → Option ℕ → ℕ
+with_bit valuation place = option_map_or (λ bit. bit_or valuation (2 ^ bit)) place valuation
 
 -- a bit that is set besides is set, and the others stay
 with_bit-is : (valuation : ℕ) (place : Option ℕ) (i : ℕ) → IsBitSet (with_bit valuation place) i ↔

@@ -5,7 +5,7 @@ use Rattle.std.specs.List.{list_all}
 use Rattle.tre_pairs.specs.declared.TheConstants.{TIME_MAX}
 use Rattle.tre_parts.specs.Format.{Step, Leads, KeepsTime}
 use Rattle.tre_decimal.specs.Decimal.{units_of}
-use Rattle.tre_text.specs.TextReading.{Terms, begins_comment, begins_events, spells_word, valuation_of, valuation_after, known_at, no_segment, one_segment, duration_says, events_say, fields_say, fields_of, line_says, text_format}
+use Rattle.tre_text.specs.TextReading.{Terms, begins_comment, begins_events, spells_word, valuation_of, valuation_after, known_at, no_segment, one_segment, entry_says, events_say, fields_say, fields_of, line_says, text_format}
 use Rattle.tre_text.specs.declared.known.Known.{Known}
 use Rattle.tre_trace.specs.Reading.{Vocabulary}
 use Rattle.tre_trace.specs.declared.fault.TraceKind.{TraceKind}
@@ -63,7 +63,7 @@ leads-events known pending step false is = cc
 
 leads-duration : (vocabulary : Vocabulary) (known : Known) (fields : List (List ℕ))
     (step : Step Known) → (units : Option ℕ)
-    → duration_says vocabulary known units fields ≡ Ok step
+    → entry_says vocabulary known units fields ≡ Ok step
     → Leads known.end step.segments step.state.end
 leads-duration vocabulary known fields step None is = cc
 leads-duration vocabulary known fields step (Some len) is =
@@ -73,7 +73,7 @@ leads-duration vocabulary known fields step (Some len) is =
 leads-first : (vocabulary : Vocabulary) (known : Known) (fields : List (List ℕ))
     (step : Step Known) → (comment events : Bool) (units : Option ℕ)
     → (if comment then Ok (no_segment known) else (if events then events_say vocabulary known fields
-    else duration_says vocabulary known units fields)) ≡ Ok step
+    else entry_says vocabulary known units fields)) ≡ Ok step
     → Leads known.end step.segments step.state.end
 leads-first vocabulary known fields step true events units is =
     leads-nothing known known step refl is

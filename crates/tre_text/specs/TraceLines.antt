@@ -1,22 +1,23 @@
 -- The bytes of a text trace, said of its lines.
 use Rattle.std.specs.Prelude.{◌≡◌, ◌≢◌, ◌⊎◌, ℕ, ◌+◌, ◌<◌, ◌≤◌, true, false, None, Some, List, [], ◌∷◌, ◌++◌, length}
 use Rattle.std.specs.List.{All, list_all}
+use Rattle.std.specs.Char.{is_newline}
 use Rattle.tre_pairs.specs.declared.TheConstants.{TIME_MAX}
 use Rattle.tre_parts.specs.declared.TheConstants.{PART_MAX}
 use Rattle.tre_decimal.specs.Decimal.{units_of}
-use Rattle.tre_text.specs.TextReading.{Terms, is_line_end, is_blank, fields_of, begins_comment, begins_events, spells_word, valuation_of, valuation_after}
+use Rattle.tre_text.specs.TextReading.{Terms, is_blank, fields_of, begins_comment, begins_events, spells_word, valuation_of, valuation_after}
 use Rattle.tre_trace.specs.declared.segment.Segment.{Segment}
 use Rattle.tre_trace.specs.declared.fault.TraceKind.{TraceKind}
 use Rattle.tre_trace.specs.declared.fault.TraceKind.TheVariants.{BadNumber, Zero, TooLate, BadName}
 
 -- No line end stands in the line, and it has no more bytes than a line may have.
 pub record IsLine (line : List ℕ) : Type 0 where
-  pub unbroken : All (λ byte. is_line_end byte ≡ false) line
+  pub unbroken : All (λ byte. is_newline byte ≡ false) line
   pub short : length line ≤ PART_MAX
 
 -- No line end stands in the bytes, and they are more than a line may have.
 pub record IsOverlong (bytes : List ℕ) : Type 0 where
-  pub unbroken : All (λ byte. is_line_end byte ≡ false) bytes
+  pub unbroken : All (λ byte. is_newline byte ≡ false) bytes
   pub long : PART_MAX < length bytes
 
 abbrev pub AreLines : List (List ℕ) → Type 0

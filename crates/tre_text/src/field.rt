@@ -1,7 +1,8 @@
 // The fields of a line.
 ghost use Rattle.std.specs.Prelude.{◌≡◌, ◌<◌, ◌≤◌, nat_lt, not, ◌&&◌, [], ◌∷◌, length, true, false, IfNone, IfSome, slice_index, slice_index_or};
 ghost use Rattle.std.specs.List.{position_or_len};
-ghost use Rattle.tre_text.specs.TextReading.{is_blank, without_return, fields_among};
+ghost use Rattle.std.specs.Str.Lines.{strip_carriage_return};
+ghost use Rattle.tre_text.specs.TextReading.{is_blank, fields_among};
 ghost use Rattle.tre_text.specs.Words.{IsRest};
 
 /// Whether the byte parts fields.
@@ -15,7 +16,7 @@ pub fn is_blank(byte: u8) -> bool
 /// The line without the one carriage return at its end, where there is one.
 #[inline(always)]
 pub fn without_return(line: &[u8]) -> &[u8]
-    ensures { result.now ≡ without_return line.now }
+    ensures { result.now ≡ strip_carriage_return line.now }
 {
     let len = line.len();
     if len > 0 && line[len - 1] == b'\r' {

@@ -58,7 +58,7 @@ fn read_names(names: &Names, bits: u64, fields: &[u8]) -> Option<u64>
 fn is_events(first: &[u8]) -> bool
     ensures { result ≡ begins_events first.now }
 {
-    first.len() == 1 && first[0] == b'@'
+    first == "@".as_bytes()
 }
 
 // The number of units that the field is. Most are one digit, and need no loop where a unit is a

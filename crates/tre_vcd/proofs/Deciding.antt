@@ -6,8 +6,9 @@ use Rattle.std.proofs.Math.Nat.{pow-suc}
 use Rattle.std.proofs.lemmas.Bool.Decides.{nat_tests}
 use Rattle.std.proofs.lemmas.Nat.Bits.{bit_at-zero, bit_at_lowest, bit_at-suc}
 use Rattle.std.proofs.lemmas.Slice.Eq.{bytes_eq-Decides}
+use Rattle.std.specs.Option.{option_or, option_map_or}
 use Rattle.tre_state.proofs.Bits.{bit_is}
-use Rattle.tre_vcd.specs.VcdReading.{Form, scalar, wide, Statement, scope, upscope, var, definitions, time, change, dump, dump_end, time_at, scopes_at, in_dump, value_at, happened_at, is_signal, is_event, identifier_in, identifier_of, first_of, passes, mask_from, valuation_at, events_at}
+use Rattle.tre_vcd.specs.VcdReading.{Form, scalar, wide, Statement, scope, upscope, var, definitions, time, change, dump, dump_end, time_at, scopes_at, in_dump, value_at, happened_at, is_signal, is_event, identifier_in, identifier_of, mask_from, valuation_at, events_at}
 use Rattle.tre_vcd.specs.Deciding.{Keeps, LastChange, StaysInTime, Happened, Leaves, FirstDeclaration, IsHigh, HasHappened}
 
 eq-same : (bytes : List ℕ) → bytes_eq bytes bytes ≡ true
@@ -256,7 +257,7 @@ declared-none test [] name leaves = refl
 declared-none test (scope other ∷ past) name leaves = declared-none test past name leaves
 declared-none test (upscope ∷ past) name leaves = declared-none test past name leaves
 declared-none test (var tokens ∷ past) name leaves =
-    ap (λ (o : Option (List ℕ)). first_of o (identifier_in test (scopes_at past) name tokens))
+    ap (λ (o : Option (List ℕ)). option_or o (identifier_in test (scopes_at past) name tokens))
     (declared-none test past name leaves.1) ∙ leaves.0
 declared-none test (definitions ∷ past) name leaves = declared-none test past name leaves
 declared-none test (time ticks ∷ past) name leaves = declared-none test past name leaves
@@ -273,7 +274,7 @@ declared-behind test (scope other ∷ later) earlier name identifier is =
 declared-behind test (upscope ∷ later) earlier name identifier is =
     declared-behind test later earlier name identifier is
 declared-behind test (var tokens ∷ later) earlier name identifier is =
-    ap (λ (o : Option (List ℕ)). first_of o (identifier_in test (scopes_at (later ++ earlier)) name
+    ap (λ (o : Option (List ℕ)). option_or o (identifier_in test (scopes_at (later ++ earlier)) name
     tokens))
     (declared-behind test later earlier name identifier is)
 declared-behind test (definitions ∷ later) earlier name identifier is =
@@ -292,7 +293,7 @@ declared-first : (test : List ℕ → List ℕ → Bool) (past : List Statement)
 declared-first test past name identifier found =
     ap (λ (p : List Statement). identifier_of test p name) found.parts
     ∙ declared-behind test found.later (var found.tokens ∷ found.earlier) name identifier
-    (ap (λ (o : Option (List ℕ)). first_of o (identifier_in test (scopes_at found.earlier) name
+    (ap (λ (o : Option (List ℕ)). option_or o (identifier_in test (scopes_at found.earlier) name
     found.tokens))
     (declared-none test found.earlier name found.first) ∙ found.declares)
 
@@ -310,7 +311,7 @@ first-later test statement past name identifier found = record {
 leaves-var : (test : List ℕ → List ℕ → Bool) (past : List Statement) (name : List ℕ) (tokens : List (List ℕ))
     (before : Option (List ℕ)) → identifier_of test past name ≡ before
     → (identifier_of test past name ≡ None → Leaves test name past)
-    → first_of before (identifier_in test (scopes_at past) name tokens) ≡ None
+    → option_or before (identifier_in test (scopes_at past) name tokens) ≡ None
     → Leaves test name (var tokens ∷ past)
 leaves-var test past name tokens None e leaves is = (is, leaves e)
 leaves-var test past name tokens (Some own) e leaves is = cc (is)
@@ -331,7 +332,7 @@ leaves-none test (dump_end ∷ past) name is = leaves-none test past name is
 first-var : (test : List ℕ → List ℕ → Bool) (past : List Statement) (name identifier : List ℕ) (tokens : List (List ℕ))
     (before : Option (List ℕ)) → identifier_of test past name ≡ before
     → (identifier_of test past name ≡ Some identifier → FirstDeclaration test past name identifier)
-    → first_of before (identifier_in test (scopes_at past) name tokens) ≡ Some identifier
+    → option_or before (identifier_in test (scopes_at past) name tokens) ≡ Some identifier
     → FirstDeclaration test (var tokens ∷ past) name identifier
 first-var test past name identifier tokens None e more is = record {
   later = [];
@@ -372,6 +373,10 @@ declared-is test past name identifier = (
 )
 
 -- ---- masks
+
+-- whether there is an identifier, and it passes the test
+abbrev pub passes : (List ℕ → Bool) → Option (List ℕ) → Bool
+passes test identifier = option_map_or test identifier false
 
 -- whether the name at the place has an identifier that passes the test
 abbrev pub passes_at : (List ℕ → Option (List ℕ)) → (List ℕ → Bool) → List (List ℕ) → ℕ → Bool

@@ -12,7 +12,8 @@ use Rattle.tre_trace.specs.Segments.{segment_with}
 use Rattle.tre_trace.specs.declared.fault.TraceKind.{TraceKind}
 use Rattle.tre_trace.specs.declared.segment.Segment.{Segment}
 use Rattle.tre_vcd.specs.Dumps.{AreInner, section_of, IsScalar, is_vector, is_number, IsVector, Write, AreSilent, Belongs, Fits, Bring, SayNext, Say, tokens_in}
-use Rattle.tre_vcd.specs.VcdReading.{is, is_end, is_dump, is_scalar, ends_true, is_defined, scopes_at, time_at, valuation_at, events_at, segment_until, Terms, scalar, wide, Statement, scope, upscope, var, definitions, time, change, dump, dump_end, Open, nothing, section, comment, vector, number, Place, goes_to, scope_says, section_says, command_says, time_says, dump_says, scalar_says, vector_says, value_says}
+use Rattle.tre_vcd.specs.VcdReading.{is_end, is_dump, is_scalar, ends_true, is_defined, scopes_at, time_at, valuation_at, events_at, segment_until, Terms, scalar, wide, Statement, scope, upscope, var, definitions, time, change, dump, dump_end, Open, nothing, section, comment, vector, number, Place, goes_to, scope_says, section_says, command_says, time_says, scalar_says, vector_says, value_says}
+use Rattle.tre_vcd.specs.Sections.{dump_says}
 use Rattle.tre_vcd.proofs.TokenRuns.{with_front, with_front-none, then_run, stay, run, run-append}
 
 abbrev pub at : List Statement → Open → Place
@@ -207,13 +208,13 @@ dump_value terms past token opens =
     (λ other. ⊎_elim
     (λ all. rw (is_word token (codes "$dumpall") all) refl)
     (λ off. rw (is_word token (codes "$dumpoff") off) refl)
-    (or_cases (is token (codes "$dumpall")) (is token (codes "$dumpoff")) other))
+    (or_cases (bytes_eq token (codes "$dumpall")) (bytes_eq token (codes "$dumpoff")) other))
     (λ on. rw (is_word token (codes "$dumpon") on) refl)
-    (or_cases (is token (codes "$dumpall") || is token (codes "$dumpoff"))
-    (is token (codes "$dumpon")) first))
+    (or_cases (bytes_eq token (codes "$dumpall") || bytes_eq token (codes "$dumpoff"))
+    (bytes_eq token (codes "$dumpon")) first))
     (λ vars. rw (is_word token (codes "$dumpvars") vars) refl)
-    (or_cases (is token (codes "$dumpall") || is token (codes "$dumpoff")
-    || is token (codes "$dumpon")) (is token (codes "$dumpvars")) opens)
+    (or_cases (bytes_eq token (codes "$dumpall") || bytes_eq token (codes "$dumpoff")
+    || bytes_eq token (codes "$dumpon")) (bytes_eq token (codes "$dumpvars")) opens)
 
 scalar_run : (terms : Terms) (past : List Statement) (identifier : List ℕ) (value : Bool)
     (tokens : List (List ℕ)) → IsScalar identifier value tokens → is_defined past ≡ true

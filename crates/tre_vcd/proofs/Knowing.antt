@@ -1,10 +1,9 @@
 -- What is kept of the identifiers of names, one declaration later.
 use Rattle.std.proofs.Common.{◌≡◌, ◌≢◌, ◌⊎◌, ℕ, zero, suc, ◌<◌, ◌≤◌, Bool, true, false, ◌&&◌, List, [], ◌∷◌, ◌++◌, length, get_or, set, Option, None, Some, refl, sym, ap, ◌∙◌, inl, inr, arith, if◌then◌else◌}
 use Rattle.std.specs.List.{list_all}
-use Rattle.std.specs.Option.{is_some, option_map}
+use Rattle.std.specs.Option.{is_some, option_map, option_or}
 use Rattle.std.specs.Str.{bytes_eq}
 use Rattle.std.proofs.lemmas.Bool.{cases_lt}
-use Rattle.tre_vcd.specs.VcdReading.{first_of}
 use Rattle.tre_vcd.specs.Kept.{AreKnown, IsSieveOf, KeepsNames, and_declared, identifier_kept}
 use Rattle.tre_vcd.specs.declared.variable.Variable.{Variable}
 use Rattle.tre_vcd.specs.declared.variables.Variables.{Variables}
@@ -97,22 +96,22 @@ known-undeclared identified (name ∷ names) (variable ∷ variables) other know
 
 -- ---- a declaration
 
-pub first_of-none : (o : Option (List ℕ)) → first_of o None ≡ o
-first_of-none None = refl
-first_of-none (Some identifier) = refl
+pub option_or-none : (o : Option (List ℕ)) → option_or o None ≡ o
+option_or-none None = refl
+option_or-none (Some identifier) = refl
 
 -- the declaration of another name
 declared-other : (identified : List ℕ → Option (List ℕ)) (bytes identifier name : List ℕ)
     → bytes_eq name bytes ≡ false → and_declared identified bytes identifier name ≡ identified name
 declared-other identified bytes identifier name other =
-    ap (λ (b : Bool). first_of (identified name) (if b then Some identifier else None)) other
-    ∙ first_of-none (identified name)
+    ap (λ (b : Bool). option_or (identified name) (if b then Some identifier else None)) other
+    ∙ option_or-none (identified name)
 
 declared-own : (identified : List ℕ → Option (List ℕ)) (bytes identifier name : List ℕ)
     → bytes_eq name bytes ≡ true
-    → and_declared identified bytes identifier name ≡ first_of (identified name) (Some identifier)
+    → and_declared identified bytes identifier name ≡ option_or (identified name) (Some identifier)
 declared-own identified bytes identifier name same =
-    ap (λ (b : Bool). first_of (identified name) (if b then Some identifier else None)) same
+    ap (λ (b : Bool). option_or (identified name) (if b then Some identifier else None)) same
 
 pub known-other : (identified : List ℕ → Option (List ℕ)) (bytes identifier : List ℕ)
     (names : List (List ℕ)) (variables : List Variable)
@@ -135,7 +134,7 @@ pub known-set : (identified : List ℕ → Option (List ℕ)) (bytes identifier 
     (names : List (List ℕ)) (variables : List Variable) (i : ℕ) (d new : Variable)
     → i < length variables → bytes_eq (get_or names i []) bytes ≡ true
     → ((k : ℕ) → k < length names → k ≢ i → bytes_eq (get_or names k []) bytes ≡ false)
-    → identifier_kept new ≡ first_of (identifier_kept (get_or variables i d)) (Some identifier)
+    → identifier_kept new ≡ option_or (identifier_kept (get_or variables i d)) (Some identifier)
     → AreKnown identified names variables
     → AreKnown (and_declared identified bytes identifier) names (set variables i new)
 known-set identified bytes identifier [] variables i d new below one others made known =
@@ -144,7 +143,7 @@ known-set identified bytes identifier (name ∷ names) [] i d new below one othe
     absurd (omega (arith, below))
 known-set identified bytes identifier (name ∷ names) (variable ∷ variables) zero d new below one
     others made known = (
-      made ∙ ap (λ o. first_of o (Some identifier)) known.0
+      made ∙ ap (λ o. option_or o (Some identifier)) known.0
           ∙ sym (declared-own identified bytes identifier name one),
       known-other identified bytes identifier names variables
           (λ k within. others (suc k) (omega (arith, within)) (λ e. cc)) known.1,

@@ -3,6 +3,7 @@ use Rattle.std.proofs.Common.{◌≡◌, inl, inr, ⊎_elim, ℕ, ◌*◌, ◌^�
 use Rattle.std.proofs.lemmas.Bool.{cases_Bool, or_parts}
 use Rattle.std.proofs.lemmas.Bool.Decides.{nat_tests}
 use Rattle.std.proofs.lemmas.List.Elements.{All-nil, All-head, All-tail, All-replicate}
+use Rattle.std.specs.Str.{bytes_eq}
 use Rattle.std.specs.Str.Parse.{digits_value}
 use Rattle.tre_pairs.specs.declared.TheConstants.{TIME_MAX}
 use Rattle.tre_parts.specs.Format.{Step}
@@ -10,7 +11,8 @@ use Rattle.tre_decimal.specs.Decimal.{is_numeral}
 use Rattle.tre_trace.specs.declared.fault.TraceKind.{TraceKind}
 use Rattle.tre_trace.specs.declared.fault.TraceKind.TheVariants.{LineTooLong, BadNumber, Zero, TooLate, BadName, BadToken, UnknownName, TimeBack, CutShort, Spent, Memory}
 use Rattle.tre_vcd.specs.Dumps.{AreInner, IsTime, is_vector, is_number, AreSilent, FitsNoRule, EndsEarly, LacksName, HasFault}
-use Rattle.tre_vcd.specs.VcdReading.{is, is_end, is_dump, is_command, is_scalar, ends_true, is_defined, in_dump, scopes_at, time_at, Terms, scalar, wide, Statement, scope, upscope, var, definitions, time, change, dump, dump_end, Open, nothing, section, Place, goes_to, scope_says, section_says, command_says, time_says, ticks_say, dump_says, dump_end_says, keyword_says, scalar_says, vector_says, value_says, first_says, token_at}
+use Rattle.tre_vcd.specs.VcdReading.{is_end, is_dump, is_command, is_scalar, ends_true, is_defined, in_dump, scopes_at, time_at, Terms, scalar, wide, Statement, scope, upscope, var, definitions, time, change, dump, dump_end, Open, nothing, section, Place, goes_to, scope_says, section_says, command_says, time_says, ticks_say, keyword_says, scalar_says, vector_says, value_says, token_at}
+use Rattle.tre_vcd.specs.Sections.{dump_says, dump_end_says}
 use Rattle.tre_vcd.proofs.Groups.{at, is_word}
 use Rattle.tre_vcd.proofs.TokenRuns.{with_front-none, then_run, stay, run}
 
@@ -34,7 +36,7 @@ blanks_inner count = All-replicate (λ t. is_end t ≡ false) count [] refl
 
 module _ (terms : Terms) (past : List Statement) (token : List ℕ)
     (defined : is_defined past ≡ false) (none : FitsNoRule terms.scale past token) where
-  never_scope : is token (codes "$scope") ≡ false
+  never_scope : bytes_eq token (codes "$scope") ≡ false
   never_scope =
       ⊎_elim
       (λ is_one. absurd (none.says_nothing ([] ∷ [] ∷ codes "$end" ∷ []) (scope []) (record {
@@ -44,10 +46,10 @@ module _ (terms : Terms) (past : List Statement) (token : List ℕ)
         holds = record { kind = []; more = []; is = refl };
       }) defined))
       (λ other. other)
-      (cases_Bool (is token (codes "$scope")))
+      (cases_Bool (bytes_eq token (codes "$scope")))
 
-  never_upscope : (is token (codes "$upscope") && length (scopes_at past) == 0) ≡ false
-      → is token (codes "$upscope") ≡ false
+  never_upscope : (bytes_eq token (codes "$upscope") && length (scopes_at past) == 0) ≡ false
+      → bytes_eq token (codes "$upscope") ≡ false
   never_upscope inside =
       ⊎_elim
       (λ is_one. absurd (none.says_nothing (codes "$end" ∷ []) upscope (record {
@@ -55,11 +57,11 @@ module _ (terms : Terms) (past : List Statement) (token : List ℕ)
         is = ap (λ t. t ∷ codes "$end" ∷ []) (is_word token (codes "$upscope") is_one);
         closed = All-nil (λ t. is_end t ≡ false);
         holds = tt;
-      }) (defined, some_scope (scopes_at past) (is token (codes "$upscope")) is_one inside)))
+      }) (defined, some_scope (scopes_at past) (bytes_eq token (codes "$upscope")) is_one inside)))
       (λ other. other)
-      (cases_Bool (is token (codes "$upscope")))
+      (cases_Bool (bytes_eq token (codes "$upscope")))
 
-  never_var : is token (codes "$var") ≡ false
+  never_var : bytes_eq token (codes "$var") ≡ false
   never_var =
       ⊎_elim
       (λ is_one. absurd (none.says_nothing ([] ∷ [] ∷ [] ∷ [] ∷ codes "$end" ∷ [])
@@ -71,9 +73,9 @@ module _ (terms : Terms) (past : List Statement) (token : List ℕ)
         holds = record { is = refl; enough = omega arith };
       }) defined))
       (λ other. other)
-      (cases_Bool (is token (codes "$var")))
+      (cases_Bool (bytes_eq token (codes "$var")))
 
-  never_definitions : is token (codes "$enddefinitions") ≡ false
+  never_definitions : bytes_eq token (codes "$enddefinitions") ≡ false
   never_definitions =
       ⊎_elim
       (λ is_one. absurd (none.says_nothing (codes "$end" ∷ []) definitions (record {
@@ -83,10 +85,10 @@ module _ (terms : Terms) (past : List Statement) (token : List ℕ)
         holds = tt;
       }) defined))
       (λ other. other)
-      (cases_Bool (is token (codes "$enddefinitions")))
+      (cases_Bool (bytes_eq token (codes "$enddefinitions")))
 
   never_other : (is_command token ≡ true) → (is_end token ≡ false) → (is_dump token ≡ false)
-      → (is token (codes "$upscope") && length (scopes_at past) == 0) ≡ false → ⊥
+      → (bytes_eq token (codes "$upscope") && length (scopes_at past) == 0) ≡ false → ⊥
   never_other command no_end no_dump inside =
       none.not_silent (codes "$end" ∷ []) (subst (λ d. AreSilent d (token ∷ codes "$end" ∷ []))
       (sym defined) (record {
@@ -116,7 +118,7 @@ module _ (terms : Terms) (past : List Statement) (token : List ℕ)
   opens_nothing =
       by_cases (not (is_command token) || is_end token || is_dump token) _ _ (Err BadToken)
       (λ misplaced. refl)
-      (λ placed. by_cases (is token (codes "$upscope") && length (scopes_at past) == 0) _ _
+      (λ placed. by_cases (bytes_eq token (codes "$upscope") && length (scopes_at past) == 0) _ _
       (Err BadToken) (λ outside. refl)
       (λ inside.
       let parts = or_parts (not (is_command token) || is_end token) (is_dump token) placed in
@@ -162,7 +164,7 @@ module _ (terms : Terms) (past : List Statement) (byte : ℕ) (bytes : List ℕ)
   no_keyword =
       by_cases (is_dump (byte ∷ bytes)) _ _ (Err BadToken) no_dump
       (λ _. by_cases (is_end (byte ∷ bytes)) _ _ (Err BadToken) no_end
-      (λ _. by_cases (is (byte ∷ bytes) (codes "$comment")) _ _ (Err BadToken)
+      (λ _. by_cases (bytes_eq (byte ∷ bytes) (codes "$comment")) _ _ (Err BadToken)
       (λ remark. absurd (no_silence (codes "$end" ∷ []) (inl (record {
         inner = [];
         is = ap (λ t. t ∷ codes "$end" ∷ []) (is_word (byte ∷ bytes) (codes "$comment") remark);
@@ -226,7 +228,7 @@ pub record Stops (terms : Terms) (past : List Statement) (begun : List (List ℕ
 
 no_rule : (terms : Terms) (past : List Statement) (token : List ℕ) (defined : Bool)
     → is_defined past ≡ defined → 0 < length token → FitsNoRule terms.scale past token
-    → first_says terms past token ≡ Err BadToken
+    → token_at terms past nothing token ≡ Err BadToken
 no_rule terms past token false defined some none =
     rw defined (opens_nothing terms past token defined none)
 no_rule terms past [] true defined some none = absurd (omega (arith, some))
@@ -234,7 +236,7 @@ no_rule terms past (byte ∷ bytes) true defined some none =
     rw defined (says_no_value terms past byte bytes defined none)
 
 first_stops : (terms : Terms) (past : List Statement) (begun : List (List ℕ))
-    (token : List ℕ) (kind : TraceKind) → begun ≡ [] → first_says terms past token ≡ Err kind
+    (token : List ℕ) (kind : TraceKind) → begun ≡ [] → token_at terms past nothing token ≡ Err kind
     → Stops terms past begun token kind
 first_stops terms past begun token kind none stops = record {
   inside = nothing;
@@ -299,7 +301,7 @@ early_stops terms past begun token early =
     early.short
 
 lacks_name : (terms : Terms) (past : List Statement) (token : List ℕ)
-    → LacksName terms.declared past token → first_says terms past token ≡ Err UnknownName
+    → LacksName terms.declared past token → token_at terms past nothing token ≡ Err UnknownName
 lacks_name terms past token lacks = rw (lacks.defined, lacks.ends, lacks.lacks) refl
 
 below : (a b : ℕ) → a < b → nat_lt a b ≡ true
@@ -310,7 +312,7 @@ not_below a b le = grind (arith, nat_tests)
 
 timed : (terms : Terms) (past : List Statement) (token : List ℕ) (ticks : ℕ)
     (said : Result (Step Place) TraceKind) → is_defined past ≡ true → IsTime terms.scale ticks (token ∷ [])
-    → time_says terms.names past ticks ≡ said → first_says terms past token ≡ said
+    → time_says terms.names past ticks ≡ said → token_at terms past nothing token ≡ said
 timed terms past token ticks said defined one says =
     let token_is : token ≡ 35 ∷ one.digits = cc (one.is) in
     rw (defined, token_is, one.numeral, ← one.value) says

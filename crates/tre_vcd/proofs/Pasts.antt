@@ -4,12 +4,13 @@ use Rattle.std.specs.Int.{bit_at}
 use Rattle.std.specs.Str.{bytes_eq}
 use Rattle.std.proofs.lemmas.Slice.Eq.{bytes_eq-Decides}
 use Rattle.std.proofs.lemmas.Bool.Decides.{nat_tests}
-use Rattle.tre_vcd.specs.VcdReading.{Form, Statement, var, time, change, scalar, is_defined, time_at, scopes_at, in_dump, value_at, happened_at, is_signal, is_event, identifier_of, first_of, path, valuation_at, events_at}
+use Rattle.std.specs.Option.{option_or}
+use Rattle.tre_vcd.specs.VcdReading.{Form, Statement, var, time, change, scalar, is_defined, time_at, scopes_at, in_dump, value_at, happened_at, is_signal, is_event, identifier_of, path, valuation_at, events_at}
 use Rattle.tre_vcd.specs.Kept.{Knows, IsQuiet, AreScopes, AreKnown, KeepsNames, AreHaving, Declares, DeclaresNone, and_declared}
 use Rattle.tre_vcd.specs.declared.scopes.Scopes.{Scopes}
 use Rattle.tre_vcd.specs.declared.past.Past.{Past}
 use Rattle.tre_vcd.specs.declared.variables.Variables.{Variables}
-use Rattle.tre_vcd.proofs.Knowing.{keeps-same, first_of-none, false_of}
+use Rattle.tre_vcd.proofs.Knowing.{keeps-same, option_or-none, false_of}
 use Rattle.tre_vcd.proofs.Valuing.{mask-same, mask-quiet, mask-empty, mask-changed}
 
 -- Looking back from two pasts, the same is found.
@@ -334,7 +335,7 @@ pub keeps-declared : (test : List ℕ → List ℕ → Bool) (past : List Statem
 keeps-declared test past tokens names identifier path kept declares keeps =
     keeps-same (and_declared (identifier_of test past) path identifier)
     (identifier_of test (var tokens ∷ past)) names kept
-    (λ name. ap (first_of (identifier_of test past name)) (declares.is name)) keeps
+    (λ name. ap (option_or (identifier_of test past name)) (declares.is name)) keeps
 
 pub keeps-undeclared : (test : List ℕ → List ℕ → Bool) (past : List Statement)
     (tokens names : List (List ℕ)) (kept : Variables) → DeclaresNone test (scopes_at past) tokens
@@ -342,8 +343,8 @@ pub keeps-undeclared : (test : List ℕ → List ℕ → Bool) (past : List Stat
     → KeepsNames (identifier_of test (var tokens ∷ past)) names kept
 keeps-undeclared test past tokens names kept none keeps =
     keeps-same (identifier_of test past) (identifier_of test (var tokens ∷ past)) names kept
-    (λ name. ap (first_of (identifier_of test past name)) (none.is name)
-    ∙ first_of-none (identifier_of test past name)) keeps
+    (λ name. ap (option_or (identifier_of test past name)) (none.is name)
+    ∙ option_or-none (identifier_of test past name)) keeps
 
 -- a declaration changes no value
 pub knows-declared : (names event_names : List (List ℕ)) (kept : Past) (past : List Statement)

@@ -13,9 +13,9 @@ use Rattle.tre_trace.specs.Segments.{segment_with}
 use Rattle.tre_trace.specs.declared.segment.Segment.{Segment}
 use Rattle.tre_trace.specs.declared.fault.TraceKind.{TraceKind}
 use Rattle.tre_trace.specs.declared.fault.TraceKind.TheVariants.{BadToken, TimeBack, TooLate}
-use Rattle.tre_vcd.proofs.Deciding.{passes_at, split-bits, bit_in}
+use Rattle.tre_vcd.proofs.Deciding.{passes, passes_at, split-bits, bit_in}
 use Rattle.tre_vcd.specs.Times.{IsSilent, silent-command, silent-open, silent-value}
-use Rattle.tre_vcd.specs.VcdReading.{Terms, Statement, time, Open, nothing, section, comment, vector, number, Place, time_at, is_defined, is_whole, is_signal, is_event, value_at, happened_at, identifier_of, passes, mask_from, valuation_at, events_at, segment_until, goes_to, ticks_say, value_says, command_says, first_says, token_at, token_says, vcd_format, vcd_reading}
+use Rattle.tre_vcd.specs.VcdReading.{Terms, Statement, time, Open, nothing, section, comment, vector, number, Place, time_at, is_defined, is_whole, is_signal, is_event, value_at, happened_at, identifier_of, mask_from, valuation_at, events_at, segment_until, goes_to, ticks_say, value_says, command_says, token_at, token_says, vcd_format, vcd_reading}
 
 -- ---- masks
 
@@ -138,8 +138,8 @@ module _ (asked all : Vocabulary) (among : AreAmong asked all) (declared : List 
       (none-seen asked all past _ (silent-value past byte bytes))
 
   first-seen : (token : List ℕ)
-      → first_says (asking asked declared scale) past token
-      ≡ seen_said asked all same (first_says (asking all declared scale) past token)
+      → token_at (asking asked declared scale) past nothing token
+      ≡ seen_said asked all same (token_at (asking all declared scale) past nothing token)
   first-seen token =
       if-seen (is_defined past) _ _ (command_says (asking all declared scale) past token)
       (value-seen token)

@@ -1,24 +1,15 @@
 -- What stands in a token.
-use Rattle.std.proofs.Common.{◌≡◌, ℕ, suc, ◌-◌, ◌==◌, ◌<◌, ◌≤◌, nat_lt, Bool, true, false, not, ◌||◌, ◌&&◌, List, [], ◌∷◌, length, length-take, map, get_or, take, subst, None, Some, codes, Result, refl, sym, ap, ◌∙◌, arith, if◌then◌else◌}
+use Rattle.std.proofs.Common.{◌≡◌, ℕ, ◌<◌, ◌≤◌, nat_lt, Bool, true, false, not, ◌||◌, ◌&&◌, List, [], ◌∷◌, length, length-take, map, get_or, take, subst, None, Some, codes, Result, refl, sym, ap, ◌∙◌, arith, if◌then◌else◌}
 use Rattle.std.specs.Str.{bytes_eq}
 use Rattle.std.proofs.lemmas.List.{get_or-map}
 use Rattle.std.proofs.lemmas.Bool.Decides.{nat_tests}
-use Rattle.tre_vcd.specs.VcdReading.{Statement, Place, scope, upscope, var, definitions, nothing, path, is_signal, is_event, identifier_in, goes_to, scope_says, declaration_says, section_says, ends_true}
+use Rattle.tre_vcd.specs.VcdReading.{Statement, Place, scope, upscope, var, definitions, nothing, path, is_signal, is_event, identifier_in, goes_to, scope_says, declaration_says, section_says}
 use Rattle.tre_vcd.specs.Sections.{command_of}
 use Rattle.tre_vcd.specs.declared.command.Command.{Command}
 use Rattle.tre_vcd.specs.declared.command.Command.TheVariants.{Scope, Upscope, Var, EndDefinitions, Other}
 use Rattle.tre_parts.specs.Format.{Step}
 use Rattle.tre_trace.specs.declared.fault.TraceKind.{TraceKind}
 use Rattle.tre_vcd.specs.Kept.{Declares, DeclaresNone}
-
-pub ends_true-last : (value : List ℕ) → 0 < length value
-    → (get_or value (length value - 1) 0 == 49) ≡ ends_true value
-ends_true-last [] some = absurd (omega (arith, some))
-ends_true-last (byte ∷ []) some = refl
-ends_true-last (byte ∷ next ∷ bytes) some =
-    let one : suc (suc (length bytes)) - 1 ≡ suc (suc (length bytes) - 1) = omega arith in
-    ap (λ n. get_or (byte ∷ next ∷ bytes) n 0 == 49) one
-    ∙ ends_true-last (next ∷ bytes) (omega arith)
 
 -- ---- sections, by their first five tokens
 

@@ -5,11 +5,12 @@ use Rattle.std.specs.Str.{bytes_eq}
 use Rattle.std.proofs.lemmas.Bool.{cases_eq}
 use Rattle.std.proofs.lemmas.Nat.Bits.{same_from_bits}
 use Rattle.std.proofs.lemmas.Slice.Eq.{bytes_eq-Decides}
+use Rattle.std.specs.Option.{option_or}
 use Rattle.tre_state.specs.Sieve.{MayBe}
-use Rattle.tre_vcd.specs.VcdReading.{first_of, passes, mask_from}
+use Rattle.tre_vcd.specs.VcdReading.{mask_from}
 use Rattle.tre_vcd.specs.Kept.{AreKnown, IsSieveOf, AreHaving, identifier_kept, has_identifier, identifier_at}
 use Rattle.tre_vcd.specs.declared.variable.Variable.{Variable}
-use Rattle.tre_vcd.proofs.Deciding.{passes_at, bit_in}
+use Rattle.tre_vcd.proofs.Deciding.{passes, passes_at, bit_in}
 
 -- ---- the identifier at a place
 
@@ -76,14 +77,14 @@ sieve-push variables variable sieve none is = record {
   each = λ k identifier at. is.each k identifier (sym (at-push variables variable k none) ∙ at);
 }
 
-one-of : (o : Option (List ℕ)) (identifier own : List ℕ) → first_of o (Some identifier) ≡ Some own
+one-of : (o : Option (List ℕ)) (identifier own : List ℕ) → option_or o (Some identifier) ≡ Some own
     → (o ≡ Some own) ⊎ (identifier ≡ own)
 one-of None identifier own is = inr cc
 one-of (Some other) identifier own is = inl is
 
 pub sieve-set : (variables : List Variable) (i : ℕ) (d new : Variable) (identifier : List ℕ)
     (old now : List ℕ) → i < length variables
-    → identifier_kept new ≡ first_of (identifier_kept (get_or variables i d)) (Some identifier)
+    → identifier_kept new ≡ option_or (identifier_kept (get_or variables i d)) (Some identifier)
     → IsSieveOf variables old → MayBe now identifier i
     → ((other : List ℕ) (k : ℕ) → MayBe old other k → MayBe now other k)
     → IsSieveOf (set variables i new) now

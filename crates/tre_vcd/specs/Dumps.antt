@@ -2,6 +2,7 @@
 use Rattle.std.specs.Prelude.{◌≡◌, ◌⊎◌, ℕ, ◌+◌, ◌*◌, ◌^◌, ◌<◌, ◌≤◌, nat_le, Bool, true, false, ◌||◌, ◌==◌, List, [], ◌∷◌, ◌++◌, length, codes, if◌then◌else◌}
 use Rattle.std.specs.Option.{option_map}
 use Rattle.std.specs.List.{All, list_all, list_any}
+use Rattle.std.specs.Str.{bytes_eq}
 use Rattle.std.specs.Str.Parse.{digits_value}
 use Rattle.tre_pairs.specs.declared.TheConstants.{TIME_MAX}
 use Rattle.tre_decimal.specs.Decimal.{is_numeral}
@@ -10,7 +11,7 @@ use Rattle.tre_trace.specs.Reading.{Reading, Vocabulary}
 use Rattle.tre_trace.specs.declared.fault.TraceKind.{TraceKind}
 use Rattle.tre_trace.specs.declared.fault.TraceKind.TheVariants.{TooLate, BadToken, UnknownName, TimeBack}
 use Rattle.tre_trace.specs.declared.segment.Segment.{Segment}
-use Rattle.tre_vcd.specs.VcdReading.{is_white, is, is_end, is_dump, is_command, is_scalar, ends_true, are_declared, is_defined, in_dump, scopes_at, time_at, valuation_at, events_at, Terms, scalar, wide, Statement, scope, upscope, var, definitions, time, change, dump, dump_end}
+use Rattle.tre_vcd.specs.VcdReading.{is_white, is_end, is_dump, is_command, is_scalar, ends_true, are_declared, is_defined, in_dump, scopes_at, time_at, valuation_at, events_at, Terms, scalar, wide, Statement, scope, upscope, var, definitions, time, change, dump, dump_end}
 
 -- ---- tokens and white space
 
@@ -134,10 +135,10 @@ pub record IsOther (command : List ℕ) : Type 0 where
   pub begins : is_command command ≡ true
   pub no_end : is_end command ≡ false
   pub no_dump : is_dump command ≡ false
-  pub no_scope : is command (codes "$scope") ≡ false
-  pub no_upscope : is command (codes "$upscope") ≡ false
-  pub no_var : is command (codes "$var") ≡ false
-  pub no_definitions : is command (codes "$enddefinitions") ≡ false
+  pub no_scope : bytes_eq command (codes "$scope") ≡ false
+  pub no_upscope : bytes_eq command (codes "$upscope") ≡ false
+  pub no_var : bytes_eq command (codes "$var") ≡ false
+  pub no_definitions : bytes_eq command (codes "$enddefinitions") ≡ false
 
 -- A section of the declarations that says nothing.
 pub record IsRemark (tokens : List (List ℕ)) : Type 0 where

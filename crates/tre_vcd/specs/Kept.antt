@@ -1,11 +1,11 @@
 -- What the reader keeps of the past: each field is what a look back over it finds.
 use Rattle.std.specs.Prelude.{◌≡◌, ℕ, zero, suc, Bool, false, List, [], ◌∷◌, ◌++◌, length, Option, None, Some, if◌then◌else◌}
-use Rattle.std.specs.Option.{option_map}
+use Rattle.std.specs.Option.{option_map, option_or}
 use Rattle.std.specs.Str.{bytes_eq}
 use Rattle.std.specs.Int.{bit_at}
 use Rattle.tre_state.specs.Sieve.{MayBe}
 use Rattle.tre_trace.specs.Reading.{Vocabulary}
-use Rattle.tre_vcd.specs.VcdReading.{Statement, is_defined, time_at, scopes_at, in_dump, value_at, happened_at, is_signal, is_event, identifier_of, identifier_in, first_of, valuation_at, events_at}
+use Rattle.tre_vcd.specs.VcdReading.{Statement, is_defined, time_at, scopes_at, in_dump, value_at, happened_at, is_signal, is_event, identifier_of, identifier_in, valuation_at, events_at}
 use Rattle.tre_vcd.specs.declared.variable.Variable.{Variable}
 use Rattle.tre_vcd.specs.declared.variables.Variables.{Variables}
 use Rattle.tre_vcd.specs.declared.past.Past.{Past}
@@ -65,7 +65,7 @@ pub record KeepsNames (identified : List ℕ → Option (List ℕ)) (names : Lis
 abbrev pub and_declared : (List ℕ → Option (List ℕ)) → List ℕ → List ℕ → List ℕ
     → Option (List ℕ)
 and_declared identified name identifier other =
-    first_of (identified other) (if bytes_eq other name then Some identifier else None)
+    option_or (identified other) (if bytes_eq other name then Some identifier else None)
 
 -- The bits are those of the variables that have this identifier.
 pub record AreHaving (variables : List Variable) (identifier : List ℕ) (bits : ℕ) : Type 0 where

@@ -1,7 +1,11 @@
 -- What the reader keeps of what is open.
-use Rattle.std.specs.Prelude.{◌≡◌, ℕ, Bool, true, false, List, [], codes, map, take, if◌then◌else◌}
+use Rattle.std.specs.Prelude.{◌≡◌, ℕ, Bool, true, false, List, [], ◌∷◌, codes, map, take, Result, Err, if◌then◌else◌}
+use Rattle.std.specs.Str.{bytes_eq}
+use Rattle.tre_parts.specs.Format.{Step}
 use Rattle.tre_trace.specs.Reading.{Vocabulary}
-use Rattle.tre_vcd.specs.VcdReading.{Terms, Open, nothing, section, comment, vector, number, Place, is, is_defined}
+use Rattle.tre_trace.specs.declared.fault.TraceKind.{TraceKind}
+use Rattle.tre_trace.specs.declared.fault.TraceKind.TheVariants.{BadToken}
+use Rattle.tre_vcd.specs.VcdReading.{Terms, Statement, dump, dump_end, Open, nothing, section, comment, vector, number, Place, is_defined, in_dump, goes_to}
 use Rattle.tre_vcd.specs.Kept.{Knows, KnowsAll, vocabulary_of}
 use Rattle.tre_vcd.specs.declared.command.Command.{Command}
 use Rattle.tre_vcd.specs.declared.command.Command.TheVariants.{Scope, Upscope, Var, EndDefinitions, Other}
@@ -12,10 +16,17 @@ use Rattle.tre_vcd.specs.declared.token_reader.TokenReader.{TokenReader}
 
 abbrev pub command_of : List ℕ → Command
 command_of token =
-    if is token (codes "$scope") then Scope
-    else (if is token (codes "$upscope") then Upscope
-    else (if is token (codes "$var") then Var
-    else (if is token (codes "$enddefinitions") then EndDefinitions else Other)))
+    if bytes_eq token (codes "$scope") then Scope
+    else (if bytes_eq token (codes "$upscope") then Upscope
+    else (if bytes_eq token (codes "$var") then Var
+    else (if bytes_eq token (codes "$enddefinitions") then EndDefinitions else Other)))
+
+-- a dump section opens or closes
+abbrev pub dump_says : List Statement → Result (Step Place) TraceKind
+dump_says past = if in_dump past then Err BadToken else goes_to (dump ∷ past) nothing
+
+abbrev pub dump_end_says : List Statement → Result (Step Place) TraceKind
+dump_end_says past = if in_dump past then goes_to (dump_end ∷ past) nothing else Err BadToken
 
 abbrev pub inside_of : Open → Inside
 inside_of nothing = Nothing

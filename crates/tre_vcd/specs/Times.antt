@@ -2,6 +2,7 @@
 use Rattle.std.proofs.Common.{◌≡◌, ℕ, ◌*◌, ◌^◌, ◌<◌, ◌≤◌, nat_lt, ◌==◌, ◌||◌, ◌&&◌, not, Bool, true, false, List, [], ◌∷◌, ◌++◌, length, codes, Result, Ok, Err, refl, sym, arith, subst, if◌then◌else◌}
 use Rattle.std.proofs.lemmas.Bool.Decides.{nat_tests}
 use Rattle.std.specs.List.{list_all, list_any}
+use Rattle.std.specs.Str.{bytes_eq}
 use Rattle.std.specs.Str.Parse.{digits_value}
 use Rattle.tre_pairs.specs.declared.TheConstants.{TIME_MAX}
 use Rattle.tre_decimal.specs.Decimal.{is_numeral}
@@ -10,7 +11,7 @@ use Rattle.tre_trace.specs.declared.fault.TraceKind.{TraceKind}
 use Rattle.tre_trace.specs.declared.fault.TraceKind.TheVariants.{TooLate, BadToken, UnknownName, TimeBack}
 use Rattle.tre_trace.specs.Reading.{Vocabulary}
 use Rattle.tre_trace.specs.declared.segment.Segment.{Segment}
-use Rattle.tre_vcd.specs.VcdReading.{is, is_command, is_dump, is_scalar, are_declared, is_defined, in_dump, scopes_at, Terms, scalar, wide, Statement, scope, upscope, var, definitions, time, change, dump, dump_end, Open, nothing, section, comment, vector, number, Place, time_at, segment_until, goes_to, is_end, is_whole, scope_says, section_says, command_says, ticks_say, keyword_says, scalar_says, ends_true, vector_says, value_says, token_at, token_says, vcd_format}
+use Rattle.tre_vcd.specs.VcdReading.{is_command, is_dump, is_scalar, are_declared, is_defined, in_dump, scopes_at, Terms, scalar, wide, Statement, scope, upscope, var, definitions, time, change, dump, dump_end, Open, nothing, section, comment, vector, number, Place, time_at, segment_until, goes_to, is_end, is_whole, scope_says, section_says, command_says, ticks_say, keyword_says, scalar_says, ends_true, vector_says, value_says, token_at, token_says, vcd_format}
 
 -- No segment is said, and no other time is reached.
 pub record IsSilent (past : List Statement) (said : Result (Step Place) TraceKind) : Type 0 where
@@ -44,12 +45,13 @@ silent-scope past (kind ∷ name ∷ tokens) = silent-goes past (scope name ∷ 
 silent-section : (past : List Statement) (command : List ℕ) (tokens : List (List ℕ))
     → IsSilent past (section_says past command tokens)
 silent-section past command tokens =
-    silent-if past (is command (codes "$scope")) _ _ (silent-scope past tokens)
-    (silent-if past (is command (codes "$upscope")) _ _ (silent-goes past (upscope ∷ past) nothing
-    refl)
-    (silent-if past (is command (codes "$var")) _ _ (silent-if past (nat_lt (length tokens) 4) _ _
+    silent-if past (bytes_eq command (codes "$scope")) _ _ (silent-scope past tokens)
+    (silent-if past (bytes_eq command (codes "$upscope")) _ _
+    (silent-goes past (upscope ∷ past) nothing refl)
+    (silent-if past (bytes_eq command (codes "$var")) _ _
+    (silent-if past (nat_lt (length tokens) 4) _ _
     (silent-err past BadToken) (silent-goes past (var tokens ∷ past) nothing refl))
-    (silent-if past (is command (codes "$enddefinitions")) _ _
+    (silent-if past (bytes_eq command (codes "$enddefinitions")) _ _
     (silent-goes past (definitions ∷ past) nothing refl) (silent-goes past past nothing refl))))
 
 pub silent-command : (terms : Terms) (past : List Statement) (token : List ℕ) → IsSilent past
@@ -57,11 +59,12 @@ pub silent-command : (terms : Terms) (past : List Statement) (token : List ℕ) 
 silent-command terms past token =
     silent-if past (not (is_command token) || is_end token || is_dump token) _ _
     (silent-err past BadToken)
-    (silent-if past (is token (codes "$upscope") && length (scopes_at past) == 0) _ _
+    (silent-if past (bytes_eq token (codes "$upscope") && length (scopes_at past) == 0) _ _
     (silent-err past BadToken)
     (silent-if past
-    (is token (codes "$enddefinitions") && not (list_all (are_declared past) terms.declared)) _
-    _ (silent-err past UnknownName) (silent-goes past past (section token []) refl)))
+    (bytes_eq token (codes "$enddefinitions")
+    && not (list_all (are_declared past) terms.declared))
+    _ _ (silent-err past UnknownName) (silent-goes past past (section token []) refl)))
 
 silent-keyword : (past : List Statement) (token : List ℕ) → IsSilent past (keyword_says past token)
 silent-keyword past token =
@@ -69,7 +72,7 @@ silent-keyword past token =
     (silent-goes past (dump ∷ past) nothing refl))
     (silent-if past (is_end token) _ _ (silent-if past (in_dump past) _ _
     (silent-goes past (dump_end ∷ past) nothing refl) (silent-err past BadToken))
-    (silent-if past (is token (codes "$comment")) _ _ (silent-goes past past comment refl)
+    (silent-if past (bytes_eq token (codes "$comment")) _ _ (silent-goes past past comment refl)
     (silent-err past BadToken)))
 
 silent-scalar : (past : List Statement) (letter : ℕ) (identifier : List ℕ) → IsSilent past

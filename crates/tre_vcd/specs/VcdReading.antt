@@ -1,9 +1,9 @@
 -- What the tokens of a value change dump say (IEEE Std 1364-2005, clause 18).
-use Rattle.std.specs.Prelude.{ℕ, ◌+◌, ◌-◌, ◌*◌, ◌^◌, nat_le, nat_lt, Bool, true, false, not, ◌&&◌, ◌||◌, ◌==◌, List, [], ◌∷◌, ◌++◌, drop, length, Option, None, Some, Result, Ok, Err, codes, if◌then◌else◌}
+use Rattle.std.specs.Prelude.{ℕ, ◌+◌, ◌-◌, ◌*◌, ◌^◌, nat_le, nat_lt, Bool, true, false, not, ◌&&◌, ◌||◌, ◌==◌, List, [], ◌∷◌, ◌++◌, drop, length, Option, None, Some, Result, Ok, Err, codes, slice_index, if◌then◌else◌}
 use Rattle.std.specs.List.{list_all, list_any}
 use Rattle.std.specs.Str.{bytes_eq}
 use Rattle.std.specs.Str.Parse.{digits_value}
-use Rattle.std.specs.Option.{is_some}
+use Rattle.std.specs.Option.{is_some, option_or, option_map_or}
 use Rattle.tre_pairs.specs.declared.TheConstants.{TIME_MAX}
 use Rattle.tre_decimal.specs.Decimal.{is_numeral}
 use Rattle.tre_parts.specs.Format.{Format, Step, reading_of}
@@ -136,28 +136,19 @@ identifier_in test scopes name (kind ∷ size ∷ identifier ∷ reference ∷ [
     if test kind size && bytes_eq name (path scopes reference) then Some identifier else None
 identifier_in test scopes name _ = None
 
--- the first of two, where there is one, and else the second
-abbrev pub first_of : Option (List ℕ) → Option (List ℕ) → Option (List ℕ)
-first_of (Some identifier) other = Some identifier
-first_of None other = other
-
 -- the identifier of this name among the variables that pass the test: that of its first declaration
 abbrev pub identifier_of : (List ℕ → List ℕ → Bool) → List Statement → List ℕ → Option (List ℕ)
 identifier_of test [] name = None
 identifier_of test (var tokens ∷ past) name =
-    first_of (identifier_of test past name) (identifier_in test (scopes_at past) name tokens)
+    option_or (identifier_of test past name) (identifier_in test (scopes_at past) name tokens)
 identifier_of test (_ ∷ past) name = identifier_of test past name
 
--- whether there is an identifier, and it passes the test
-abbrev pub passes : (List ℕ → Bool) → Option (List ℕ) → Bool
-passes test None = false
-passes test (Some identifier) = test identifier
-
--- The names whose identifiers pass the test, the first of which has bit i.
+-- The names that have an identifier which passes the test, the first of which has bit i.
 abbrev pub mask_from : (List ℕ → Option (List ℕ)) → (List ℕ → Bool) → ℕ → List (List ℕ) → ℕ
 mask_from identified test i [] = 0
 mask_from identified test i (name ∷ names) =
-    (if passes test (identified name) then 2 ^ i else 0) + mask_from identified test (i + 1) names
+    (if option_map_or test (identified name) false then 2 ^ i else 0)
+    + mask_from identified test (i + 1) names
 
 -- The valuation of the propositions of these names, the first of which has bit 0.
 abbrev pub valuation_at : List Statement → List (List ℕ) → ℕ
@@ -167,15 +158,11 @@ valuation_at past names = mask_from (identifier_of is_signal past) (value_at pas
 abbrev pub events_at : List Statement → List (List ℕ) → ℕ
 events_at past names = mask_from (identifier_of is_event past) (happened_at past) 0 names
 
--- the name has a declaration whose type and size pass the test
-abbrev pub is_declared : (List ℕ → List ℕ → Bool) → List Statement → List ℕ → Bool
-is_declared test past name = is_some (identifier_of test past name)
-
 -- each of the names is declared, as a proposition or as an event
 abbrev pub are_declared : List Statement → Vocabulary → Bool
 are_declared past needed =
-    list_all (is_declared is_signal past) needed.names
-    && list_all (is_declared is_event past) needed.events
+    list_all (λ name. is_some (identifier_of is_signal past name)) needed.names
+    && list_all (λ name. is_some (identifier_of is_event past name)) needed.events
 
 -- ---- what a token says
 
@@ -183,21 +170,17 @@ are_declared past needed =
 abbrev pub goes_to : List Statement → Open → Result (Step Place) TraceKind
 goes_to past inside = Ok (record { segments = []; state = record { past = past; inside = inside } })
 
-abbrev pub is : List ℕ → List ℕ → Bool
-is token word = bytes_eq token word
-
 abbrev pub is_end : List ℕ → Bool
 is_end token = bytes_eq token (codes "$end")
 
 abbrev pub is_dump : List ℕ → Bool
 is_dump token =
-    is token (codes "$dumpall") || is token (codes "$dumpoff") || is token (codes "$dumpon")
-    || is token (codes "$dumpvars")
+    bytes_eq token (codes "$dumpall") || bytes_eq token (codes "$dumpoff")
+    || bytes_eq token (codes "$dumpon") || bytes_eq token (codes "$dumpvars")
 
 -- it begins with `$` (36)
 abbrev pub is_command : List ℕ → Bool
-is_command [] = false
-is_command (byte ∷ bytes) = byte == 36
+is_command token = slice_index token 0 == 36
 
 -- the end of a `$scope` section
 abbrev pub scope_says : List Statement → List (List ℕ) → Result (Step Place) TraceKind
@@ -212,18 +195,19 @@ declaration_says past tokens =
 -- the end of a section of the declarations
 abbrev pub section_says : List Statement → List ℕ → List (List ℕ) → Result (Step Place) TraceKind
 section_says past command tokens =
-    if is command (codes "$scope") then scope_says past tokens
-    else (if is command (codes "$upscope") then goes_to (upscope ∷ past) nothing
-    else (if is command (codes "$var") then declaration_says past tokens
-    else (if is command (codes "$enddefinitions") then goes_to (definitions ∷ past) nothing
+    if bytes_eq command (codes "$scope") then scope_says past tokens
+    else (if bytes_eq command (codes "$upscope") then goes_to (upscope ∷ past) nothing
+    else (if bytes_eq command (codes "$var") then declaration_says past tokens
+    else (if bytes_eq command (codes "$enddefinitions") then goes_to (definitions ∷ past) nothing
     else goes_to past nothing)))
 
 -- a token among the declarations, where no section is open
 abbrev pub command_says : Terms → List Statement → List ℕ → Result (Step Place) TraceKind
 command_says terms past token =
     if not (is_command token) || is_end token || is_dump token then Err BadToken
-    else (if is token (codes "$upscope") && length (scopes_at past) == 0 then Err BadToken
-    else (if is token (codes "$enddefinitions") && not (list_all (are_declared past) terms.declared)
+    else (if bytes_eq token (codes "$upscope") && length (scopes_at past) == 0 then Err BadToken
+    else (if bytes_eq token (codes "$enddefinitions")
+    && not (list_all (are_declared past) terms.declared)
     then Err UnknownName else goes_to past (section token [])))
 
 -- the segment from the last time to this one: its values, and the events at its begin
@@ -243,19 +227,13 @@ time_says asked past ticks =
       state = record { past = time ticks ∷ past; inside = nothing };
     })))
 
--- a dump section opens or closes
-abbrev pub dump_says : List Statement → Result (Step Place) TraceKind
-dump_says past = if in_dump past then Err BadToken else goes_to (dump ∷ past) nothing
-
-abbrev pub dump_end_says : List Statement → Result (Step Place) TraceKind
-dump_end_says past = if in_dump past then goes_to (dump_end ∷ past) nothing else Err BadToken
-
--- a command among the values
+-- a command among the values: a dump section opens or closes, or a comment begins
 abbrev pub keyword_says : List Statement → List ℕ → Result (Step Place) TraceKind
 keyword_says past token =
-    if is_dump token then dump_says past
-    else (if is_end token then dump_end_says past
-    else (if is token (codes "$comment") then goes_to past comment else Err BadToken))
+    if is_dump token then (if in_dump past then Err BadToken else goes_to (dump ∷ past) nothing)
+    else (if is_end token
+    then (if in_dump past then goes_to (dump_end ∷ past) nothing else Err BadToken)
+    else (if bytes_eq token (codes "$comment") then goes_to past comment else Err BadToken))
 
 -- the letters of scalar values, of which `1` alone is true
 abbrev pub is_scalar : ℕ → Bool
@@ -269,9 +247,7 @@ scalar_says past letter identifier =
 
 -- whether the last byte is `1` (49)
 abbrev pub ends_true : List ℕ → Bool
-ends_true [] = false
-ends_true (byte ∷ []) = byte == 49
-ends_true (byte ∷ next ∷ bytes) = ends_true (next ∷ bytes)
+ends_true bytes = slice_index bytes (length bytes - 1) == 49
 
 -- a vector: its letter, and one byte at least
 abbrev pub vector_says : List Statement → List ℕ → Result (Step Place) TraceKind
@@ -296,14 +272,10 @@ value_says terms past (byte ∷ bytes) =
     else (if list_any (λ letter. byte == letter) (codes "rRsS") then goes_to past number
     else (if is_scalar byte then scalar_says past byte bytes else Err BadToken))))
 
--- a token where nothing is open
-abbrev pub first_says : Terms → List Statement → List ℕ → Result (Step Place) TraceKind
-first_says terms past token =
-    if is_defined past then value_says terms past token else command_says terms past token
-
 -- what a token says at a place
 abbrev pub token_at : Terms → List Statement → Open → List ℕ → Result (Step Place) TraceKind
-token_at terms past nothing token = first_says terms past token
+token_at terms past nothing token =
+    if is_defined past then value_says terms past token else command_says terms past token
 token_at terms past (section command tokens) token =
     if is_end token then section_says past command tokens
     else goes_to past (section command (tokens ++ token ∷ []))

@@ -1,11 +1,12 @@
 // What stands in a token.
 ghost use Rattle.std.specs.Prelude.{◌≡◌, ◌==◌, ◌||◌, ℕ, List, not};
+ghost use Rattle.std.specs.Str.{bytes_eq};
 ghost use Rattle.tre_vcd.specs.Letters.{letter_of};
-ghost use Rattle.tre_vcd.specs.VcdReading.{is, is_end, is_dump, is_command, is_signal, is_event, ends_true};
+ghost use Rattle.tre_vcd.specs.VcdReading.{is_end, is_dump, is_command, is_signal, is_event, ends_true};
 
 // Whether the token is this word.
 pub fn is(token: &[u8], word: &str) -> bool
-    ensures { result ≡ is token.now word.now }
+    ensures { result ≡ bytes_eq token.now word.now }
 {
     token == word.as_bytes()
 }

@@ -1,8 +1,7 @@
 ghost use Rattle.std.specs.Prelude.{◌≡◌, ◌≢◌, ◌↔◌, ◌<◌, ℕ, Some, true, if◌then◌else◌, OnOk};
 ghost use Rattle.std.specs.Int.{bit_at};
 ghost use Rattle.std.specs.List.{list_all};
-ghost use Rattle.std.specs.Option.{is_some};
-ghost use Rattle.tre_vcd.specs.VcdReading.{first_of};
+ghost use Rattle.std.specs.Option.{is_some, option_or};
 ghost use Rattle.tre_vcd.specs.Kept.{identifier_kept, has_identifier, identifier_at};
 
 use std::alloc::{AllocError, Global};
@@ -25,7 +24,7 @@ impl Variable {
     // It is declared with this identifier. The first declaration counts.
     pub fn declare(&mut self, alloc: Global, identifier: &[u8]) -> Result<(), AllocError>
         ensures { OnOk result (identifier_kept self.new
-            ≡ first_of (identifier_kept self.old) (Some identifier.now)) }
+            ≡ option_or (identifier_kept self.old) (Some identifier.now)) }
     {
         if self.identifier.is_none() {
             self.identifier = Some(Vec::from_slice(alloc, identifier)?);

@@ -8,5 +8,5 @@ returns c = record {
   blank = fields-parted;
   field = fields-field;
   none = refl;
-  carriage_return = λ line. ap fields_among (with_return line 13 refl);
+  carriage_return = λ line. ap fields_among (with_return line);
 }

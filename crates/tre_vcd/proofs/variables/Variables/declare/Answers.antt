@@ -1,7 +1,7 @@
 use Rattle.std.proofs.Common.{◌≡◌, ◌<◌, [], get_or, length, ap, sym, ◌∙◌, subst, arith, Some}
 use Rattle.std.specs.Str.{bytes_eq}
+use Rattle.std.specs.Option.{option_or}
 use Rattle.tre_state.specs.Sieve.{MayBe}
-use Rattle.tre_vcd.specs.VcdReading.{first_of}
 use Rattle.tre_vcd.specs.Kept.{KeepsNames, identifier_kept}
 use Rattle.tre_vcd.proofs.Knowing.{known-other, known-set}
 use Rattle.tre_vcd.proofs.Naming.{named-at, named-none}
@@ -23,9 +23,9 @@ returns-in_ok-declare c = λ identified keeps.
     let old = c.index_mut.result.now in
     let below : number < length kept.list.items = omega (arith, at, len, named.within) in
     let made : identifier_kept c.declare.new.self
-    ≡ first_of (identifier_kept (get_or kept.list.items number old)) (Some identifier) =
+    ≡ option_or (identifier_kept (get_or kept.list.items number old)) (Some identifier) =
     c.in_ok-declare.ensures
-    ∙ ap (λ variable. first_of (identifier_kept variable) (Some identifier))
+    ∙ ap (λ variable. option_or (identifier_kept variable) (Some identifier))
     c.index_mut.ensures.value in
     record {
       known =
