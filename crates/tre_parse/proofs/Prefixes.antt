@@ -358,9 +358,3 @@ completes _ _ (begin.primary_begins xs h) =
       spells =
           grammar.primary_begins _ _ c.spells;
     }
-
--- A front of what begins an expression begins one.
-pub begins_shorter : (xs ys : List Token) → Begins expr (xs ++ ys) → Begins expr xs
-begins_shorter xs ys h =
-    let c = completes expr (xs ++ ys) h in front_begins expr _ c.tree c.spells xs (ys ++ c.rest)
-    (append_assoc xs ys c.rest)

@@ -1,19 +1,20 @@
 -- All the tokens: what is read is the one expression that they spell, and where reading stops is
 -- their syntax fault.
 use Rattle.std.proofs.Common.{◌≡◌, ℕ, ◌+◌, ◌-◌, ◌<◌, ◌≤◌, zero, suc, List, [], ◌∷◌, ◌++◌, length, take, ◌⊎◌, inl, inr, refl, sym, ◌∙◌, ap, subst, arith, append_assoc, length-append}
-use Rattle.std.proofs.lemmas.List.{append-nil}
+use Rattle.std.proofs.Math.Seq.{take-append_seam}
+use Rattle.std.proofs.lemmas.List.{append-nil, take_all}
 use Rattle.tre_syntax.specs.PatternTree.{PatternTree}
 use Rattle.tre_parse.specs.declared.token.Token.{Token}
 use Rattle.tre_parse.specs.declared.connective.Join.TheVariants.{Alternation}
 use Rattle.tre_parse.specs.Grammar.{expr, Spells}
 use Rattle.tre_parse.specs.Begins.{Begins}
 use Rattle.tre_parse.specs.Front.{front}
-use Rattle.tre_parse.specs.Outcome.{IsSyntaxFaultAt}
+use Rattle.tre_parse.specs.Outcome.{BeginsExpression, IsSyntaxFaultAt}
 use Rattle.tre_parse.specs.Reader.{Reading, got, stop, expression_by, of_pattern, read_pattern}
 use Rattle.tre_parse.proofs.Fixpoint.{left}
 use Rattle.tre_parse.proofs.Says.{before, Says}
 use Rattle.tre_parse.proofs.Rules.{task_says, begun}
-use Rattle.tre_parse.proofs.Prefixes.{pattern_whole, completes, begins_shorter}
+use Rattle.tre_parse.proofs.Prefixes.{pattern_whole, completes}
 
 -- A whole expression, as it is read.
 abbrev pub read_whole : List Token → Reading PatternTree
@@ -40,38 +41,40 @@ spelt_read tokens e q =
 
 -- ---- the place of a fault
 
-take_front : (xs ys : List Token) → take (length xs) (xs ++ ys) ≡ xs
-take_front [] ys = refl
-take_front (x ∷ xs) ys = ap (λ l. x ∷ l) (take_front xs ys)
-
 take_one_more : (xs : List Token) (y : Token) (ys : List Token)
     → take (length xs + 1) (xs ++ y ∷ ys) ≡ xs ++ y ∷ []
 take_one_more xs y ys = ap (λ n. take n (xs ++ y ∷ ys)) (sym (length-append xs (y ∷ [])))
     ∙ ap (take (length (xs ++ y ∷ []))) (sym (append_assoc xs (y ∷ []) ys))
-    ∙ take_front (xs ++ y ∷ []) ys
+    ∙ take-append_seam (xs ++ y ∷ []) ys
 
--- Fewer tokens of a front that begins an expression begin one.
-record Cut (n : ℕ) (xs : List Token) : Type 0 where
+-- What begins the rule begins an expression.
+begins_one : (xs : List Token) → Begins expr xs → BeginsExpression xs
+begins_one xs h = let c = completes expr xs h in
+    record { more = c.rest; tree = c.tree; spells = c.spells }
+
+-- Fewer tokens than those that begin an expression begin one.
+record Cut (m n : ℕ) (ts : List Token) : Type 0 where
   rest : List Token
-  whole : take n xs ++ rest ≡ xs
+  whole : take n ts ≡ take m ts ++ rest
 
-cut : (n : ℕ) (xs : List Token) → Cut n xs
-cut zero xs = record { rest = xs; whole = refl }
-cut (suc n) [] = record { rest = []; whole = refl }
-cut (suc n) (x ∷ xs) = let c = cut n xs in record { rest = c.rest; whole = ap (λ l. x ∷ l) c.whole }
+cut : (m n : ℕ) (ts : List Token) → m ≤ n → Cut m n ts
+cut zero n ts le = record { rest = take n ts; whole = refl }
+cut (suc m) zero ts le = absurd (omega arith)
+cut (suc m) (suc n) [] le = record { rest = []; whole = refl }
+cut (suc m) (suc n) (t ∷ ts) le = let c = cut m n ts (omega arith) in
+    record { rest = c.rest; whole = ap (λ l. t ∷ l) c.whole }
 
-take_fewer : (n : ℕ) (xs ys : List Token) → n ≤ length xs → take n (xs ++ ys) ≡ take n xs
-take_fewer zero xs ys le = refl
-take_fewer (suc n) [] ys le = absurd (omega arith)
-take_fewer (suc n) (x ∷ xs) ys le = ap (λ l. x ∷ l) (take_fewer n xs ys (omega arith))
-
-fewer_begin : (n : ℕ) (xs ys : List Token) → Begins expr xs → n ≤ length xs
-    → Begins expr (take n (xs ++ ys))
-fewer_begin n xs ys h le =
-    let c = cut n xs in
-    let P = λ (ts : List Token). Begins expr ts in
-    subst P (sym (take_fewer n xs ys le))
-    (begins_shorter (take n xs) c.rest (subst P (sym c.whole) h))
+fewer_begin : (m n : ℕ) (ts : List Token) → m ≤ n → BeginsExpression (take n ts)
+    → BeginsExpression (take m ts)
+fewer_begin m n ts le h =
+    let c = cut m n ts le in
+    let P = λ (us : List Token). Spells expr us h.tree in
+    record {
+      more = c.rest ++ h.more;
+      tree = h.tree;
+      spells = subst P (ap (λ us. us ++ h.more) c.whole ∙ append_assoc (take m ts) c.rest h.more)
+          h.spells;
+    }
 
 -- A reading that is not a whole expression: it stops, or leaves tokens.
 abbrev pub IsCut : Reading PatternTree → Type 0
@@ -95,22 +98,14 @@ front_begun xs (got e rest) h = begun expr xs e h
 
 wrong_rest : (tokens taken rest : List Token) (o : Reading PatternTree) → tokens ≡ taken ++ rest →
     ((other : List Token) → front other ≡ front rest → read_whole (taken ++ other) ≡ before other o)
-    → ((length taken < length tokens) × (Begins expr (take (length taken + 1) tokens) → ⊥))
-    ⊎ (length taken ≡ length tokens)
-wrong_rest tokens taken [] o e alike = inr (sym (ap length (e ∙ append-nil taken)))
-wrong_rest tokens taken (t ∷ rest) o e alike =
-    let count = length-append taken (t ∷ rest) in
-    let n = ap length e in
-    inl (
-      omega (arith, count, n),
-      λ h.
-          let P = λ (ts : List Token). Begins expr ts in
-          let c = completes expr (taken ++ t ∷ [])
-          (subst P (ap (take (length taken + 1)) e ∙ take_one_more taken t rest) h) in
-          cut_before o t c.rest c.tree (sym (alike (t ∷ c.rest) refl)
-          ∙ ap (λ ts. read_whole ts) (sym (append_assoc taken (t ∷ []) c.rest))
-          ∙ read_spelt ((taken ++ t ∷ []) ++ c.rest) c.tree c.spells),
-    )
+    → BeginsExpression (take (length taken + 1) tokens) → length taken ≡ length tokens
+wrong_rest tokens taken [] o e alike h = sym (ap length (e ∙ append-nil taken))
+wrong_rest tokens taken (t ∷ rest) o e alike h =
+    let P = λ (ts : List Token). BeginsExpression ts in
+    let c = subst P (ap (take (length taken + 1)) e ∙ take_one_more taken t rest) h in
+    absurd (cut_before o t c.more c.tree (sym (alike (t ∷ c.more) refl)
+    ∙ ap (λ ts. read_whole ts) (sym (append_assoc taken (t ∷ []) c.more))
+    ∙ read_spelt ((taken ++ t ∷ []) ++ c.more) c.tree c.spells))
 
 -- Where reading comes to no whole expression, the fault is at the tokens that it leaves.
 pub fault_at : (tokens : List Token) → IsCut (read_whole tokens)
@@ -122,12 +117,14 @@ fault_at tokens h =
     let n = ap length s.split in
     let here : length s.taken ≡ length tokens - length rest = omega (arith, count, n) in
     let P = λ (k : ℕ). IsSyntaxFaultAt tokens k in
-    let Q = λ (k : ℕ) (ts : List Token). Begins expr (take k ts) in
+    let Q = λ (ts : List Token). BeginsExpression ts in
+    let taken : s.taken ≡ take (length s.taken) tokens =
+    sym (ap (take (length s.taken)) s.split ∙ take-append_seam s.taken rest) in
     subst P here
     (record {
       none = λ e k. not_whole (read_whole tokens) e h (read_spelt tokens e k);
-      begins = λ k le. subst (Q k) (sym s.split) (fewer_begin k s.taken rest
-          (front_begun s.taken (read_whole tokens) s.says) le);
+      begins = subst Q taken
+          (begins_one s.taken (front_begun s.taken (read_whole tokens) s.says));
       wrong = wrong_rest tokens s.taken rest (read_whole tokens) s.split s.alike;
     })
 
@@ -139,13 +136,16 @@ fault_once tokens i j f g =
     let right = before_none tokens j i g f in
     omega (arith, left, right)
   where
-    past_end : (ts : List Token) (n : ℕ) → IsSyntaxFaultAt ts n → n ≤ length ts
-    past_end ts n h = elim h.wrong [ inl w ↦ omega (arith, w.0) | inr w ↦ omega (arith, w) ]
+    -- No token is left at the place, and all of them are no more than those before it.
+    past_end : (ts : List Token) (n : ℕ) → IsSyntaxFaultAt ts n → length ts < n → ⊥
+    past_end ts n h lt =
+        let P = λ (us : List Token). BeginsExpression us in
+        let same = take_all n ts (omega arith) ∙ sym (take_all (n + 1) ts (omega arith)) in
+        let all = h.wrong (subst P same h.begins) in
+        omega (arith, all, lt)
 
     before_none : (ts : List Token) (m n : ℕ) → IsSyntaxFaultAt ts m → IsSyntaxFaultAt ts n → m < n
         → ⊥
-    before_none ts m n h k lt = elim h.wrong [
-      | inl w ↦ w.1 (k.begins (m + 1) (omega arith))
-      | inr w
-          ↦ (let le = past_end ts n k in omega (arith, w, le))
-    ]
+    before_none ts m n h k lt =
+        let all = h.wrong (fewer_begin (m + 1) n ts (omega arith) k.begins) in
+        past_end ts n k (omega (arith, all, lt))

@@ -1,5 +1,5 @@
--- Which lists of tokens begin a rule: those that some further tokens could complete. The empty list
--- begins every rule.
+-- Which lists of tokens begin a rule, rule by rule: those that some further tokens could complete.
+-- The empty list begins every rule.
 use Rattle.std.specs.Prelude.{ℕ, List, [], ◌∷◌, ◌++◌}
 use Rattle.tre_state.specs.StateTree.{StateTree}
 use Rattle.tre_zone.specs.Interval.{IntervalEnds}

@@ -1,11 +1,10 @@
--- What a reader must believe: the grammar, which tokens begin a rule, the tokens of a text, and
--- what becomes of it.
+-- What a reader must believe: the grammar, the tokens of a text, and what becomes of it.
 pub mod Grammar
-pub mod Begins
 pub mod Lexeme
 pub mod Tokens
 pub mod Outcome
 -- What the laws say in other words.
+pub mod Begins
 pub mod Signs
 pub mod Numbering
 pub mod Strength

@@ -12,7 +12,6 @@ use Rattle.tre_parse.specs.declared.token.Token.TheVariants.{Number, LeftParen, 
 use Rattle.tre_parse.specs.declared.fault.ParseFault.{ParseFault}
 use Rattle.tre_parse.specs.declared.fault.ParseFault.TheVariants.{TooLong, BadByte, Number as TooBig, TooDeep, Syntax, EmptyInterval, TooManyNames, TooLarge}
 use Rattle.tre_parse.specs.Grammar.{expr, Spells, SpellsInterval}
-use Rattle.tre_parse.specs.Begins.{Begins}
 use Rattle.tre_parse.specs.Parts.{IsEmptyInterval}
 use Rattle.tre_parse.specs.Tokens.{earlier, nothing_known, raw_tokens_of, bad_byte, tokens_of, names_of, past_from, offsets_of}
 
@@ -87,13 +86,18 @@ limit_fault words =
     earlier (option_map (λ place. TooBig (offset_of words place)) (position is_big words.tokens))
     (option_map (λ place. TooDeep (offset_of words place)) (deep_place 0 0 words.tokens))
 
+-- The tokens begin an expression: with some more behind them they spell one.
+pub record BeginsExpression (tokens : List Token) : Type 0 where
+  pub more : List Token
+  pub tree : PatternTree
+  pub spells : Spells expr (tokens ++ more) tree
+
 -- The tokens are no expression, and this is the place where that is seen: those before it begin an
--- expression, and with the one there they don't, or there is none there.
+-- expression, and with one more they don't, or there is no more.
 pub record IsSyntaxFaultAt (tokens : List Token) (place : ℕ) : Type 0 where
   pub none : (tree : PatternTree) → Spells expr tokens tree → ⊥
-  pub begins : (n : ℕ) → n ≤ place → Begins expr (take n tokens)
-  pub wrong : ((place < length tokens) × (Begins expr (take (place + 1) tokens) →
-      ⊥)) ⊎ (place ≡ length tokens)
+  pub begins : BeginsExpression (take place tokens)
+  pub wrong : BeginsExpression (take (place + 1) tokens) → place ≡ length tokens
 
 -- An interval with these ends stands at a place of the tokens, right after a `%`.
 pub record IsIntervalAt (tokens : List Token) (place : ℕ) (ends : IntervalEnds) : Type 0 where
