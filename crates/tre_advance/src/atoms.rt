@@ -39,7 +39,7 @@ pub fn enter_brief(
         → EntersTo (atom_mark here.old begun) (tree_of expr.now) enter.now piece.now told
         (atom_mark here.new begun)) }
 {
-    let inside = local(alloc, expr, piece)?;
+    let inside = inside_of(alloc, expr, piece)?;
     let told = followed(alloc, enter, &inside)?;
     take_ends(alloc, here, enter, piece.begin + piece.segment.len)?;
     Ok(told)
@@ -63,7 +63,7 @@ pub fn enter_literal(
         enter.now piece.now told (atom_mark here.new begun.new)) }
 {
     let end = piece.begin + piece.segment.len;
-    let inside = local(alloc, expr, piece)?;
+    let inside = inside_of(alloc, expr, piece)?;
     let told = followed(alloc, enter, &inside)?;
     take_ends(alloc, here, enter, end)?;
     take_ends(alloc, begun, &told, end)?;
