@@ -81,9 +81,12 @@ module _ (olds : List Session) (segments : List Segment) (place : ℕ) (queue : 
   pub some_left : 0 < length queue
   some_left = subst (λ (list : List Session). 0 < length list) (sym queue_is) (omega arith)
 
-  module _ (segment : Segment) (is : segment ≡ get_or segments place segment) where
+  module _ (d : Segment) where
+    abbrev segment : Segment
+    segment = get_or segments place d
+
     segments_split : drop place segments ≡ segment ∷ drop (place + 1) segments
-    segments_split = split_at segments place segment below is
+    segments_split = drop_more segments place d below
 
     -- A refusal by the first one is by one of the sessions.
     pub refused_here : (fault : PushFault)
