@@ -1,6 +1,6 @@
 -- Going through the sessions of a watch in turn: what was done for those up to a place, and what is
 -- left, make up what is done for all.
-use Rattle.std.proofs.Common.{◌≡◌, ℕ, ◌+◌, ◌<◌, ◌≤◌, length, get_or, drop, List, [], ◌∷◌, ◌++◌, refl, sym, ap, subst, inl, inr, arith, append_assoc, ◌∙◌}
+use Rattle.std.proofs.Common.{◌≡◌, ℕ, ◌+◌, ◌<◌, ◌≤◌, length, get_or, drop, List, [], ◌∷◌, ◌++◌, sym, ap, subst, inl, inr, arith, append_assoc, ◌∙◌}
 use Rattle.std.proofs.lemmas.List.{append-nil, drop_all, drop_more}
 use Rattle.tre_syntax.specs.declared.pattern.Pattern.{Pattern}
 use Rattle.tre_trace.specs.declared.fault.PushFault.{PushFault}
@@ -81,9 +81,12 @@ module _ (olds : List Session) (segments : List Segment) (place : ℕ) (queue : 
   pub some_left : 0 < length queue
   some_left = subst (λ (list : List Session). 0 < length list) (sym queue_is) (omega arith)
 
-  module _ (segment : Segment) (is : segment ≡ get_or segments place segment) where
+  module _ (d : Segment) where
+    abbrev segment : Segment
+    segment = get_or segments place d
+
     segments_split : drop place segments ≡ segment ∷ drop (place + 1) segments
-    segments_split = split_at segments place segment below is
+    segments_split = drop_more segments place d below
 
     -- A refusal by the first one is by one of the sessions.
     pub refused_here : (fault : PushFault)
