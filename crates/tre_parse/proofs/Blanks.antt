@@ -1,5 +1,5 @@
 -- A blank parts tokens and says nothing.
-use Rattle.std.proofs.Common.{◌≡◌, ℕ, ◌+◌, ◌-◌, ◌≤◌, zero, suc, true, Option, Some, None, List, [], ◌∷◌, ◌++◌, length, take, refl, sym, ◌∙◌, ap, subst, arith, append-nil}
+use Rattle.std.proofs.Common.{◌≡◌, ℕ, ◌+◌, ◌-◌, ◌≤◌, zero, suc, true, Option, Some, None, List, [], ◌∷◌, ◌++◌, length, take, map, refl, sym, ◌∙◌, ap, subst, arith, append-nil}
 use Rattle.std.specs.Prelude.{if◌then◌else◌, is_none}
 use Rattle.std.specs.Option.{option_map}
 use Rattle.std.specs.Char.{is_ascii_digit}
@@ -9,7 +9,8 @@ use Rattle.tre_syntax.specs.PatternTree.{PatternTree}
 use Rattle.tre_parse.specs.declared.lexeme.Lexeme.{Lexeme}
 use Rattle.tre_parse.specs.declared.lexeme.Lexeme.TheVariants.{Blank, Wrong, Name, Number, Sign}
 use Rattle.tre_parse.specs.Lexeme.{is_blank, word_lexeme, number_lexeme, sign_lexeme, lexeme_of, FitsIn}
-use Rattle.tre_parse.specs.Tokens.{RawToken, name, number, sign, RawTokenAt, RawTokens, nothing_left, raw_tokens_from, scanned, with_raw_token, Known, nothing_known, token_of, known_after, tokens_from, names_from, raw_tokens_of, bad_byte}
+use Rattle.tre_syntax.specs.declared.name_kind.NameKind.TheVariants.{Proposition, Event as EventKind}
+use Rattle.tre_parse.specs.Tokens.{RawToken, name, number, sign, RawTokenAt, RawTokens, nothing_left, raw_tokens_from, scanned, with_raw_token, raw_tokens_of, bad_byte, with_events, words_of, names_in, names_of, token_of}
 use Rattle.tre_parse.specs.Grammar.{expr, Spells}
 use Rattle.tre_parse.specs.Outcome.{IsSpelling}
 use Rattle.tre_parse.specs.Blanks.{counted_on, SaysAs}
@@ -146,75 +147,56 @@ bad_before front rest blank at h bad =
     ∙ ap (λ b. (joined_at (raw_tokens_of front) b (further (length front + 1)
     (raw_tokens_from 0 0 rest))).bad) bad
 
--- What words say, wherever they stand.
-record SaySame (words other : RawTokens) : Type 0 where
-  tokens : (scale : ℕ) (known : Known) → tokens_from scale known words.raw_tokens
-      ≡ tokens_from scale known other.raw_tokens
-  names : (known : Known) → names_from known words.raw_tokens
-      ≡ names_from known other.raw_tokens
-  bad : is_none words.bad ≡ is_none other.bad
+-- What raw tokens say, wherever they stand.
+abbrev said : RawTokens → List RawToken
+said words = map (λ raw. raw.word) words.raw_tokens
+
+record SaySame (one other : RawTokens) : Type 0 where
+  words : said one ≡ said other
+  bad : is_none one.bad ≡ is_none other.bad
 
 same_text : (text other : List ℕ) (words others : RawTokens) → raw_tokens_from 0 0 text ≡ words
     → raw_tokens_from 0 0 other ≡ others → SaySame words others → SaysAs text other
-same_text text other words others e f same = record {
-  tokens = λ scale. ap (λ (l : RawTokens). tokens_from scale nothing_known l.raw_tokens) e
-      ∙ same.tokens scale nothing_known
-      ∙ ap (λ (l : RawTokens). tokens_from scale nothing_known l.raw_tokens) (sym f);
-  names = ap (λ (l : RawTokens). names_from nothing_known l.raw_tokens) e ∙ same.names nothing_known
-      ∙ ap (λ (l : RawTokens). names_from nothing_known l.raw_tokens) (sym f);
-  bad = ap (λ (l : RawTokens). is_none l.bad) e ∙ same.bad
-      ∙ ap (λ (l : RawTokens). is_none l.bad) (sym f);
-}
+same_text text other words others e f same =
+    let says : words_of text ≡ words_of other =
+    ap with_events (ap said e ∙ same.words ∙ sym (ap said f)) in
+    let names : names_of text ≡ names_of other = ap
+    (λ l. record { names = names_in Proposition l; events = names_in EventKind l }) says in
+    record {
+      tokens = λ scale. ap (map (token_of scale (names_of text))) says
+          ∙ ap (λ known. map (token_of scale known) (words_of other)) names;
+      names = names;
+      bad = ap (λ (l : RawTokens). is_none l.bad) e ∙ same.bad
+          ∙ ap (λ (l : RawTokens). is_none l.bad) (sym f);
+    }
 
 none_moved : (n : ℕ) (bad : Option ℕ) → is_none (option_map (λ at. at + n) bad) ≡ is_none bad
 none_moved n None = refl
 none_moved n (Some at) = refl
 
-tokens_moved : (scale n : ℕ) (raw_tokens : List RawTokenAt) (known : Known)
-    → tokens_from scale known (counted_on n raw_tokens) ≡ tokens_from scale known raw_tokens
-tokens_moved scale n [] known = refl
-tokens_moved scale n (raw ∷ rest) known = ap (λ l. token_of scale known raw.word ∷ l)
-    (tokens_moved scale n rest (known_after known raw.word))
-
-names_moved : (n : ℕ) (raw_tokens : List RawTokenAt) (known : Known)
-    → names_from known (counted_on n raw_tokens) ≡ names_from known raw_tokens
-names_moved n [] known = refl
-names_moved n (raw ∷ rest) known = names_moved n rest (known_after known raw.word)
+words_moved : (n : ℕ) (raw_tokens : List RawTokenAt) → map (λ raw. raw.word)
+    (counted_on n raw_tokens) ≡ map (λ raw. raw.word) raw_tokens
+words_moved n [] = refl
+words_moved n (raw ∷ rest) = ap (λ l. raw.word ∷ l) (words_moved n rest)
 
 same_moved : (n m : ℕ) (words : RawTokens) → SaySame (further n words) (further m words)
 same_moved n m words = record {
-  tokens = λ scale known. tokens_moved scale n words.raw_tokens known
-      ∙ sym (tokens_moved scale m words.raw_tokens known);
-  names = λ known. names_moved n words.raw_tokens known
-      ∙ sym (names_moved m words.raw_tokens known);
+  words = words_moved n words.raw_tokens ∙ sym (words_moved m words.raw_tokens);
   bad = none_moved n words.bad ∙ sym (none_moved m words.bad);
 }
 
-tokens_behind : (scale : ℕ) (front raw_tokens others : List RawTokenAt)
-    → ((known : Known) → tokens_from scale known raw_tokens ≡ tokens_from scale known others)
-    → (known : Known) →
-    tokens_from scale known (front ++ raw_tokens) ≡ tokens_from scale known (front ++ others)
-tokens_behind scale [] raw_tokens others same known = same known
-tokens_behind scale (raw ∷ rest) raw_tokens others same known =
-    ap (λ l. token_of scale known raw.word ∷ l) (tokens_behind scale rest raw_tokens others same
-    (known_after known raw.word))
-
-names_behind : (front raw_tokens others : List RawTokenAt)
-    → ((known : Known) → names_from known raw_tokens ≡ names_from known others)
-    → (known : Known) →
-    names_from known (front ++ raw_tokens) ≡ names_from known (front ++ others)
-names_behind [] raw_tokens others same known = same known
-names_behind (raw ∷ rest) raw_tokens others same known =
-    names_behind rest raw_tokens others same (known_after known raw.word)
+words_behind : (front raw_tokens others : List RawTokenAt)
+    → map (λ raw. raw.word) raw_tokens ≡ map (λ raw. raw.word) others
+    → map (λ raw. raw.word) (front ++ raw_tokens) ≡ map (λ raw. raw.word) (front ++ others)
+words_behind [] raw_tokens others same = same
+words_behind (raw ∷ rest) raw_tokens others same =
+    ap (λ l. raw.word ∷ l) (words_behind rest raw_tokens others same)
 
 same_behind : (front : List RawTokenAt) (bad : Option ℕ) (words others : RawTokens)
     → SaySame words others → SaySame (joined_at front bad words) (joined_at front bad others)
-same_behind front (Some at) words others same = record
-    { tokens = λ scale known. refl; names = λ known. refl; bad = refl }
+same_behind front (Some at) words others same = record { words = refl; bad = refl }
 same_behind front None words others same = record {
-  tokens = λ scale. tokens_behind scale front words.raw_tokens others.raw_tokens
-      (same.tokens scale);
-  names = names_behind front words.raw_tokens others.raw_tokens same.names;
+  words = words_behind front words.raw_tokens others.raw_tokens same.words;
   bad = same.bad;
 }
 
@@ -258,7 +240,7 @@ pub at_end : (text : List ℕ) (blank : ℕ) → is_blank blank ≡ true → Say
 at_end text blank h =
     same_text (text ++ blank ∷ []) text _ _ (text_parts text [] blank h
     ∙ joined_none (raw_tokens_of text) (bad_byte text)) refl
-    (record { tokens = λ scale known. refl; names = λ known. refl; bad = refl })
+    (record { words = refl; bad = refl })
 
 none_same : (bad other : Option ℕ) → is_none bad ≡ is_none other → bad ≡ None → other ≡ None
 none_same bad None e h = refl

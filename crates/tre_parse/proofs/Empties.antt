@@ -10,7 +10,8 @@ use Rattle.tre_parse.specs.Grammar.{SpellsInterval}
 use Rattle.tre_parse.specs.Begins.{BeginsInterval}
 use Rattle.tre_parse.specs.Parts.{IsEmptyInterval, IsFineInterval}
 use Rattle.tre_parse.specs.Reader.{Reading, got, stop, of_interval, read}
-use Rattle.tre_parse.specs.Outcome.{IsIntervalAt, HasEmptyAt, NoneEmptyBefore, NoneEmpty}
+use Rattle.tre_parse.specs.Outcome.{HasEmptyAt}
+use Rattle.tre_parse.specs.Unkept.{IsIntervalAt, NoneEmptyBefore, NoneEmpty}
 use Rattle.tre_parse.proofs.Fixpoint.{left}
 use Rattle.tre_parse.proofs.Spelt.{interval_is_read}
 use Rattle.tre_parse.proofs.Says.{Says}
@@ -50,6 +51,31 @@ fronts tokens ends e = let s = task_says of_interval tokens in
         let P = λ (i : IntervalEnds). SpellsInterval taken i in
         record { body = taken; rest = rest; split = split; spelt = subst P same says }
 
+-- An empty interval is an interval that is empty.
+pub stands : (tokens : List Token) (place : ℕ) (h : HasEmptyAt tokens place)
+    → IsIntervalAt tokens place h.ends
+stands tokens place h = record {
+  front = h.front;
+  body = h.body;
+  rest = h.rest;
+  split = h.split;
+  spelt = h.spelt;
+  here = h.here;
+}
+
+pub stands_empty : (tokens : List Token) (place : ℕ) (ends : IntervalEnds)
+    → IsIntervalAt tokens place ends → IsEmptyInterval ends → HasEmptyAt tokens place
+stands_empty tokens place ends s empty = record {
+  front = s.front;
+  body = s.body;
+  rest = s.rest;
+  ends = ends;
+  split = s.split;
+  here = s.here;
+  spelt = s.spelt;
+  empty = empty;
+}
+
 -- An interval stands right after a `%` exactly where it is read there.
 pub stands_read : (tokens : List Token) (place : ℕ) (ends : IntervalEnds) (d : Token)
     → place < length tokens → IsIntervalAt tokens (place + 1) ends →
@@ -84,35 +110,27 @@ read_stands tokens place ends d h e q =
       here = ap (λ n. n + 1) (sym (length-take-le place tokens (omega arith)));
     }
 
--- A place where an interval stands is among the tokens, after the first.
-pub place_within : (tokens : List Token) (place : ℕ) (ends : IntervalEnds)
-    → IsIntervalAt tokens place ends → (0 < place) × (place ≤ length tokens)
-place_within tokens place ends s = (
-  omega (arith, s.here),
-  omega (
-    arith,
-    s.here,
-    ap length s.split,
-    length-append s.front
-        (Percent ∷ (s.body ++ s.rest)),
-  ),
-)
+-- A place where an empty interval stands is among the tokens, after the first.
+place_within : (tokens : List Token) (place : ℕ) → HasEmptyAt tokens place
+    → (0 < place) × (place ≤ length tokens)
+place_within tokens place h =
+    let count = length-append h.front (Percent ∷ (h.body ++ h.rest)) in
+    (omega (arith, h.here), omega (arith, h.here, ap length h.split, count))
 
 pub none_before_one : (tokens : List Token) → NoneEmptyBefore tokens (0 + 1)
-none_before_one tokens = λ k ends lt s h. omega (arith, (place_within tokens k ends s).0)
+none_before_one tokens = λ k lt h. omega (arith, (place_within tokens k h).0)
 
 pub none_before_more : (tokens : List Token) (place : ℕ) → NoneEmptyBefore tokens (place + 1)
     → (HasEmptyAt tokens (place + 1) → ⊥) → NoneEmptyBefore tokens (place + 1 + 1)
-none_before_more tokens place none here = λ k ends lt s h.
-    let P = λ (n : ℕ). IsIntervalAt tokens n ends in
+none_before_more tokens place none here = λ k lt h.
+    let P = λ (n : ℕ). HasEmptyAt tokens n in
     let same : (k < place + 1 → ⊥) → k ≡ place + 1 = λ no. omega (arith, no) in
-    let no : k < place + 1 → ⊥ = λ below. none k ends below s h in
-    here (record { ends = ends; stands = subst P (same no) s; empty = h })
+    let no : k < place + 1 → ⊥ = λ below. none k below h in
+    here (subst P (same no) h)
 
 pub none_empty : (tokens : List Token) (place : ℕ) → length tokens ≤ place
     → NoneEmptyBefore tokens (place + 1) → NoneEmpty tokens
-none_empty tokens place le none = λ k ends s h. none k ends
-    (omega (arith, (place_within tokens k ends s).1)) s h
+none_empty tokens place le none = λ k h. none k (omega (arith, (place_within tokens k h).1)) h
 
 -- An interval that can't be kept is empty, where no number is too big.
 pub unkept_empty : (ends : IntervalEnds) → IsIntervalWithin TIME_MAX ends

@@ -1,6 +1,7 @@
 -- Every text has an outcome.
 use Rattle.std.proofs.Common.{◌≡◌, ℕ, ◌+◌, ◌<◌, ◌≤◌, zero, suc, Bool, true, false, Option, Some, None, List, [], ◌∷◌, length, ◌-◌, drop, get_or, ◌⊎◌, inl, inr, refl, sym, subst, arith}
 use Rattle.std.specs.Prelude.{MatchOption}
+use Rattle.std.specs.Option.{option_or}
 use Rattle.std.proofs.lemmas.Bool.{cases_lt}
 use Rattle.tre_zone.specs.Interval.{IntervalEnds, HasRoom}
 use Rattle.tre_zone.proofs.Durations.{Lasts, no_end, room, no_room}
@@ -11,8 +12,9 @@ use Rattle.tre_parse.specs.declared.fault.ParseFault.{ParseFault}
 use Rattle.tre_parse.specs.declared.fault.ParseFault.TheVariants.{Syntax, EmptyInterval}
 use Rattle.tre_parse.specs.Reader.{Reading, got, stop}
 use Rattle.tre_parse.specs.Parts.{IsEmptyInterval}
-use Rattle.tre_parse.specs.Outcome.{Outcome, refused, TextTokens, text_tokens_of, offset_of, byte_fault, limit_fault, HasEmptyAt, NoneEmptyBefore, IsFirstEmpty, limited_outcome, IsOutcomeOfTree, IsOutcomeOfTokens, IsOutcomeWithin, IsOutcome}
-use Rattle.tre_parse.proofs.Empties.{interval_from, stands_read, read_stands, none_before_one, none_before_more, none_empty}
+use Rattle.tre_parse.specs.Outcome.{Outcome, spelt, refused, TextTokens, text_tokens_of, offset_of, byte_fault, limit_fault, size_fault, HasEmptyAt, IsFirstEmpty, IsOutcomeOfTree, IsOutcomeOfTokens, IsOutcome}
+use Rattle.tre_parse.specs.Unkept.{NoneEmptyBefore}
+use Rattle.tre_parse.proofs.Empties.{interval_from, stands, stands_empty, stands_read, read_stands, none_before_one, none_before_more, none_empty}
 use Rattle.tre_parse.proofs.Fixpoint.{left}
 use Rattle.tre_parse.proofs.Whole.{read_whole, IsCut, fault_at, spelt_read}
 
@@ -77,15 +79,11 @@ here_or tokens place lt = after (percent_or (get_or tokens place Percent))
     judge : get_or tokens place Percent ≡ Percent → (ends : IntervalEnds)
         → interval_from (drop (place + 1) tokens) ≡ Some ends
         → Decided (IsEmptyInterval ends) → Decided (HasEmptyAt tokens (place + 1))
-    judge e ends q (inl empty) = inl (record {
-      ends = ends;
-      stands =
-          read_stands tokens place ends Percent lt e q;
-      empty = empty;
-    })
+    judge e ends q (inl empty) = inl (stands_empty tokens (place + 1) ends
+        (read_stands tokens place ends Percent lt e q) empty)
     judge e ends q (inr lasts) =
         inr (λ k.
-        let s = (stands_read tokens place k.ends Percent lt k.stands).1 in
+        let s = (stands_read tokens place k.ends Percent lt (stands tokens (place + 1) k)).1 in
         let same : k.ends ≡ ends = cc in
         let P = λ (i : IntervalEnds). IsEmptyInterval i in
         lasts (subst P same k.empty))
@@ -93,14 +91,16 @@ here_or tokens place lt = after (percent_or (get_or tokens place Percent))
     read : get_or tokens place Percent ≡ Percent → (made : Option IntervalEnds)
         → interval_from (drop (place + 1) tokens) ≡ made
         → Decided (HasEmptyAt tokens (place + 1))
-    read e None q = inr (λ k. let s = (stands_read tokens place k.ends Percent lt k.stands).1 in
+    read e None q = inr (λ k.
+        let s = (stands_read tokens place k.ends Percent lt (stands tokens (place + 1) k)).1 in
         (cc))
     read e (Some ends) q = judge e ends q (empty_or ends)
 
     after : Decided (get_or tokens place Percent ≡ Percent)
         → Decided (HasEmptyAt tokens (place + 1))
     after (inl e) = read e (interval_from (drop (place + 1) tokens)) refl
-    after (inr never) = inr (λ k. never (stands_read tokens place k.ends Percent lt k.stands).0)
+    after (inr never) = inr (λ k. never
+        (stands_read tokens place k.ends Percent lt (stands tokens (place + 1) k)).0)
 
 -- The first empty interval that stands no further than a place, or that there is none.
 abbrev FirstOr : List Token → ℕ → Type 0
@@ -109,7 +109,7 @@ FirstOr tokens n = ((place : ℕ) × IsFirstEmpty tokens place) ⊎ NoneEmptyBef
 further : (tokens : List Token) (n : ℕ) → n < length tokens → FirstOr tokens n
     → Decided (HasEmptyAt tokens (n + 1)) → FirstOr tokens (suc n)
 further tokens n lt (inl k) here = inl k
-further tokens n lt (inr none) (inl k) = inl (n + 1, record { here = k; first = none })
+further tokens n lt (inr none) (inl k) = inl (n + 1, (k, none))
 further tokens n lt (inr none) (inr never) =
     let P = λ (m : ℕ). NoneEmptyBefore tokens m in
     let e : n + 1 + 1 ≡ suc n + 1 = omega arith in
@@ -121,14 +121,20 @@ first_or tokens (suc n) le =
     let lt : n < length tokens = omega arith in
     further tokens n lt (first_or tokens n (omega arith)) (here_or tokens n lt)
 
+fault_or : (made : Option ParseFault) (Rest : Outcome → Type 0) → (outcome : Outcome) × Rest outcome
+    → (outcome : Outcome) × MatchOption made (Rest outcome) (λ fault. outcome ≡ refused fault)
+fault_or None Rest rest = rest
+fault_or (Some fault) Rest rest = (refused fault, refl)
+
 judged_as : (words : TextTokens) (tree : PatternTree) → FirstOr words.tokens (length words.tokens)
     → (outcome : Outcome) × IsOutcomeOfTree words tree outcome
 judged_as words tree (inl k) = (refused (EmptyInterval (offset_of words k.0)), inl (k.0, k.1, refl))
-judged_as words tree (inr none) = (
-  limited_outcome words tree,
-  inr
-      (none_empty words.tokens (length words.tokens) (omega arith) none, refl),
-)
+judged_as words tree (inr none) =
+    let judged = fault_or (size_fault words tree) (λ outcome. outcome ≡ spelt tree words.names)
+    (spelt tree words.names, refl) in (
+      judged.0,
+      inr (none_empty words.tokens (length words.tokens) (omega arith) none, judged.1),
+    )
 
 cut_as : (words : TextTokens) → IsCut (read_whole words.tokens)
     → (outcome : Outcome) × IsOutcomeOfTokens words outcome
@@ -144,16 +150,8 @@ read_as words (got tree []) e =
     let judged = judged_as words tree (first_or words.tokens (length words.tokens) (omega arith)) in
     (judged.0, inr (tree, spelt_read words.tokens tree e, judged.1))
 
-fault_or : (made : Option ParseFault) (Rest : Outcome → Type 0) → (outcome : Outcome) × Rest outcome
-    → (outcome : Outcome) × MatchOption made (Rest outcome) (λ fault. outcome ≡ refused fault)
-fault_or None Rest rest = rest
-fault_or (Some fault) Rest rest = (refused fault, refl)
-
 pub outcome_is : (scale : ℕ) (text : List ℕ) → (outcome : Outcome) × IsOutcome scale text outcome
 outcome_is scale text =
-    let read = read_as (text_tokens_of scale text) (read_whole
-    (text_tokens_of scale text).tokens) refl in
-    fault_or (byte_fault text) (IsOutcomeWithin (text_tokens_of scale text))
-    (fault_or (limit_fault (text_tokens_of scale text)) (IsOutcomeOfTokens
-    (text_tokens_of scale text))
-    read)
+    let words = text_tokens_of scale text in
+    fault_or (option_or (byte_fault text) (limit_fault words)) (IsOutcomeOfTokens words)
+    (read_as words (read_whole words.tokens) refl)

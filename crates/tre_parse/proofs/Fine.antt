@@ -12,7 +12,8 @@ use Rattle.tre_parse.specs.declared.token.Token.TheVariants.{Number, LeftParen, 
 use Rattle.tre_parse.specs.Grammar.{opening, closing, SpellsInterval, with_high, without_high, Rule, expr, meet, seq, post, primary, Spells, expr_meet, expr_bar, meet_seq, meet_ampersand, seq_post, seq_semicolon, post_primary, post_star, post_plus, post_question, post_percent, primary_eps, primary_parens, primary_rise, primary_fall, primary_event, primary_lit, primary_begins, primary_ends, primary_begins_ends}
 use Rattle.tre_parse.specs.Parts.{IsFineInterval}
 use Rattle.tre_parse.specs.Operands.{HasFineIntervals}
-use Rattle.tre_parse.specs.Outcome.{is_big, NoneEmpty}
+use Rattle.tre_parse.specs.Outcome.{is_big}
+use Rattle.tre_parse.specs.Unkept.{NoneEmpty}
 
 -- Each interval that stands among the tokens is fine.
 pub record StandFine (tokens : List Token) : Type 0 where
@@ -134,9 +135,16 @@ pub stand_fine : (tokens : List Token) → NoneBig tokens → NoneEmpty tokens �
 stand_fine tokens b h = record {
   fine = λ front body rest ends e s.
       record {
-        lasts = λ k. h (length front + 1) ends
-            (record { front = front; body = body; rest = rest; split = e; spelt = s; here = refl })
-            k;
+        lasts = λ k. h (length front + 1) (record {
+          front = front;
+          body = body;
+          rest = rest;
+          ends = ends;
+          split = e;
+          here = refl;
+          spelt = s;
+          empty = k;
+        });
         within = ends_within tokens front body rest ends b e s;
       };
 }

@@ -1,7 +1,7 @@
 -- Which outcome each step of parsing comes to.
 use Rattle.std.proofs.Common.{◌≡◌, ℕ, ◌<◌, ◌≤◌, ◌-◌, Bool, true, false, Option, Some, None, Ok, Err, List, [], ◌∷◌, length, ◌⊎◌, inl, inr, refl, sym, ◌∙◌, ap, subst, arith}
 use Rattle.std.specs.Prelude.{IsSome, Result, MatchOption, position, nat_lt, min, if◌then◌else◌}
-use Rattle.std.specs.Option.{option_map}
+use Rattle.std.specs.Option.{option_map, option_or}
 use Rattle.std.proofs.lemmas.Bool.Decides.{nat_tests}
 use Rattle.tre_trace.specs.Reading.{Vocabulary}
 use Rattle.tre_syntax.specs.declared.name_kind.NameKind.{NameKind}
@@ -23,7 +23,8 @@ use Rattle.tre_parse.proofs.Fixpoint.{left}
 use Rattle.tre_parse.proofs.Whole.{read_whole, IsCut, fault_at, spelt_read}
 use Rattle.tre_parse.specs.declared.cursor.Stop.{Stop}
 use Rattle.tre_parse.specs.declared.cursor.Stop.TheVariants.{Syntax as Stuck, Memory as Lacking}
-use Rattle.tre_parse.specs.Tokens.{RawTokenAt, names_of_kind, Known, nothing_known, token_of, known_after, tokens_from, offsets_of, raw_tokens_of, earlier, bad_byte}
+use Rattle.tre_parse.specs.Tokens.{RawTokenAt, raw_tokens_of, bad_byte}
+use Rattle.tre_parse.specs.Known.{names_of_kind, Known, nothing_known, next_token, known_after, tokens_from, offsets_of}
 use Rattle.tre_syntax.specs.Expr.{tree_of}
 use Rattle.tre_syntax.specs.declared.expr.Expr.{Expr}
 use Rattle.tre_parse.specs.Joins.{Keeps}
@@ -31,12 +32,13 @@ use Rattle.tre_parse.proofs.Counts.{kept_is}
 use Rattle.tre_parse.specs.Scan.{placed_from, IsScan}
 use Rattle.tre_parse.specs.Front.{tokens_in, offsets_in}
 use Rattle.tre_parse.specs.Numbering.{IsNumberedByUse}
-use Rattle.tre_parse.specs.Outcome.{Outcome, spelt, refused, TextTokens, text_tokens_of, offset_of, is_big, deep_place, byte_fault, limit_fault, IsSyntaxFaultAt, IsFirstEmpty, NoneEmpty, past_or, limited_outcome, IsOutcomeOfTokens, IsOutcomeWithin, IsOutcome}
-use Rattle.tre_parse.specs.Answers.{Answers, text_tokens_in, IsFaultOf}
+use Rattle.tre_parse.specs.Outcome.{Outcome, spelt, refused, TextTokens, text_tokens_of, offset_of, is_big, is_past, deep_place, byte_fault, limit_fault, size_fault, IsSyntaxFaultAt, IsFirstEmpty, IsOutcomeOfTokens, IsOutcome}
+use Rattle.tre_parse.specs.Answers.{Answers, text_tokens_in, IsFaultOf, IsOutcomeWithin}
 use Rattle.tre_parse.proofs.Numbers.{counts_alike}
+use Rattle.tre_parse.proofs.Named.{names_run, tokens_run}
 use Rattle.tre_parse.proofs.NumberedWords.{text_numbered}
 use Rattle.tre_parse.proofs.Fine.{none_big, stand_fine, fine_intervals}
-use Rattle.tre_parse.specs.Unkept.{FindsUpTo}
+use Rattle.tre_parse.specs.Unkept.{NoneEmpty, FindsUpTo}
 use Rattle.tre_parse.proofs.Unkept.{IsFound, finds_first}
 use Rattle.tre_parse.proofs.Outcomes.{outcome_once}
 
@@ -94,7 +96,7 @@ is_whole words operand h = record {
 }
 
 first_none : (words : TextTokens) (place : Option ℕ) (later : Option ParseFault)
-    → earlier (option_map (λ at. Number (offset_of words at)) place) later ≡ None → place ≡ None
+    → option_or (option_map (λ at. Number (offset_of words at)) place) later ≡ None → place ≡ None
 first_none words None later e = refl
 first_none words (Some at) later e = absurd (cc)
 
@@ -116,8 +118,9 @@ first_found words operand left e k some = subst (IsFound words.tokens) some
 -- The limits of an expression that is spelt.
 
 judged : (words : TextTokens) (operand : Operand) (outcome : Outcome) → limit_fault words ≡ None
-    → (w : IsRepresented words operand) → NoneEmpty words.tokens → outcome
-    ≡ limited_outcome words w.tree → IsOutcomeWithin words outcome
+    → (w : IsRepresented words operand) → NoneEmpty words.tokens →
+    MatchOption (size_fault words w.tree) (outcome ≡ spelt w.tree words.names)
+    (λ fault. outcome ≡ refused fault) → IsOutcomeWithin words outcome
 judged words operand outcome e w h q = read_outcome words outcome e
     (inr (w.tree, w.spells, inr (h, q)))
 
@@ -127,37 +130,58 @@ pub empty_outcome : (words : TextTokens) (operand : Operand) (place at : ℕ) �
 empty_outcome words operand place at e w h q = read_outcome words _ e
     (inr (w.tree, w.spells, inl (place, h, ap (λ n. refused (EmptyInterval n)) q)))
 
-pub past_outcome : (words : TextTokens) (operand : Operand) (at : ℕ) → limit_fault words ≡ None
-    → IsRepresented words operand → NoneEmpty words.tokens → words.past ≡ Some at →
+-- A name too many, where one is.
+past_first : (words : TextTokens) (tree : PatternTree) (place : ℕ)
+    → position is_past words.tokens ≡ Some place
+    → size_fault words tree ≡ Some (TooManyNames (offset_of words place))
+past_first words tree place e = ap (λ past. option_or
+    (option_map (λ at. TooManyNames (offset_of words at)) past) (if nat_lt NODES_MAX
+    (node_count tree) then Some (TooLarge (min (node_count tree) COUNT_MAX)) else None)) e
+
+-- Without one, the nodes.
+nodes_next : (words : TextTokens) (tree : PatternTree) → position is_past words.tokens ≡ None
+    → size_fault words tree ≡ (if nat_lt NODES_MAX (node_count tree) then Some (TooLarge (min
+    (node_count tree) COUNT_MAX)) else None)
+nodes_next words tree e = ap (λ past. option_or
+    (option_map (λ at. TooManyNames (offset_of words at)) past) (if nat_lt NODES_MAX
+    (node_count tree) then Some (TooLarge (min (node_count tree) COUNT_MAX)) else None)) e
+
+along_some : (made : Option ParseFault) (P : Type 0) (Q : ParseFault → Type 0)
+    (fault : ParseFault) → made ≡ Some fault → Q fault → MatchOption made P Q
+along_some made P Q fault e h = let R = λ (m : Option ParseFault). MatchOption m P Q in
+    subst R (sym e) h
+
+pub past_outcome : (words : TextTokens) (operand : Operand) (place at : ℕ) → limit_fault words
+    ≡ None → IsRepresented words operand → NoneEmpty words.tokens
+    → position is_past words.tokens ≡ Some place → at ≡ offset_of words place →
     IsOutcomeWithin words (refused (TooManyNames at))
-past_outcome words operand at e w h q =
+past_outcome words operand place at e w h q same =
     judged words operand (refused (TooManyNames at)) e w h
-    (sym (ap (λ past. past_or past (if nat_lt NODES_MAX (node_count w.tree) then refused
-    (TooLarge (min (node_count w.tree) COUNT_MAX)) else spelt w.tree words.names)) q))
+    (along_some (size_fault words w.tree) _ _ (TooManyNames (offset_of words place))
+    (past_first words w.tree place q) (ap (λ n. refused (TooManyNames n)) same))
 
-size_large : (is : Bool) (n : ℕ) (whole : Outcome) → nat_lt NODES_MAX n ≡ is → NODES_MAX < n
-    → (if is then refused (TooLarge (min n COUNT_MAX)) else whole)
-    ≡ refused (TooLarge (min n COUNT_MAX))
-size_large true n whole t lt = refl
-size_large false n whole t lt = absurd (grind (arith, nat_tests))
+size_large : (is : Bool) (n : ℕ) → nat_lt NODES_MAX n ≡ is → NODES_MAX < n
+    → (if is then Some (TooLarge (min n COUNT_MAX)) else None)
+    ≡ Some (TooLarge (min n COUNT_MAX))
+size_large true n t lt = refl
+size_large false n t lt = absurd (grind (arith, nat_tests))
 
-size_small : (is : Bool) (n : ℕ) (large whole : Outcome) → nat_lt NODES_MAX n ≡ is → n ≤ NODES_MAX
-    → (if is then large else whole) ≡ whole
-size_small true n large whole t le = absurd (grind (arith, nat_tests))
-size_small false n large whole t le = refl
+size_small : (is : Bool) (n : ℕ) (large : Option ParseFault) → nat_lt NODES_MAX n ≡ is
+    → n ≤ NODES_MAX → (if is then large else None) ≡ None
+size_small true n large t le = absurd (grind (arith, nat_tests))
+size_small false n large t le = refl
 
 pub large_outcome : (words : TextTokens) (operand : Operand) (nodes : ℕ) → limit_fault words ≡ None
-    → (w : IsRepresented words operand) → NoneEmpty words.tokens → words.past ≡ None → nodes
-    ≡ operand.nodes → NODES_MAX < nodes →
+    → IsRepresented words operand → NoneEmpty words.tokens → position is_past words.tokens ≡ None
+    → nodes ≡ operand.nodes → NODES_MAX < nodes →
     IsOutcomeWithin words (refused (TooLarge nodes))
 large_outcome words operand nodes e w h q same lt =
     let count = w.represents.nodes in
     judged words operand (refused (TooLarge nodes)) e w h
-    (ap (λ n. refused (TooLarge n)) (same ∙ count)
-    ∙ sym (size_large (nat_lt NODES_MAX (node_count w.tree)) (node_count w.tree)
-    (spelt w.tree words.names) refl (omega (arith, count)))
-    ∙ sym (ap (λ past. past_or past (if nat_lt NODES_MAX (node_count w.tree) then refused
-    (TooLarge (min (node_count w.tree) COUNT_MAX)) else spelt w.tree words.names)) q))
+    (along_some (size_fault words w.tree) _ _ (TooLarge (min (node_count w.tree) COUNT_MAX))
+    (nodes_next words w.tree q ∙ size_large (nat_lt NODES_MAX (node_count w.tree))
+    (node_count w.tree) refl (omega (arith, count, same)))
+    (ap (λ n. refused (TooLarge n)) (same ∙ count)))
 
 -- What was read is a pattern with these names.
 pub record IsBuildable (names : Vocabulary) (operand : Operand) (tree : PatternTree) : Type 0 where
@@ -168,8 +192,8 @@ pub record IsBuildable (names : Vocabulary) (operand : Operand) (tree : PatternT
 
 -- What is within all limits can be built, and is the pattern.
 pub is_buildable : (words : TextTokens) (operand : Operand) → limit_fault words ≡ None
-    → (w : IsRepresented words operand) → NoneEmpty words.tokens → words.past ≡ None
-    → operand.nodes ≤ NODES_MAX → IsNumberedByUse words →
+    → (w : IsRepresented words operand) → NoneEmpty words.tokens
+    → position is_past words.tokens ≡ None → operand.nodes ≤ NODES_MAX → IsNumberedByUse words →
     IsBuildable words.names operand w.tree
 is_buildable words operand e w h q le n =
     let count = w.represents.nodes in
@@ -210,22 +234,25 @@ pattern_some names operand tree built b e =
 
 pub spelt_outcome : (words : TextTokens) (operand : Operand) (tree : PatternTree)
     (names : Vocabulary) → limit_fault words ≡ None → (w : IsRepresented words operand)
-    → NoneEmpty words.tokens → words.past ≡ None → operand.nodes ≤ NODES_MAX →
+    → NoneEmpty words.tokens → position is_past words.tokens ≡ None → operand.nodes ≤ NODES_MAX →
     tree ≡ w.tree → names ≡ words.names → IsOutcomeWithin words (spelt tree names)
 spelt_outcome words operand tree names e w h q le same kept =
     let count = w.represents.nodes in
     judged words operand (spelt tree names) e w h
-    (ap (λ t. spelt t names) same ∙ ap (λ n. spelt w.tree n) kept
-    ∙ sym (size_small (nat_lt NODES_MAX (node_count w.tree)) (node_count w.tree)
-    (refused (TooLarge (min (node_count w.tree) COUNT_MAX))) (spelt w.tree words.names) refl
-    (omega (arith, count)))
-    ∙ sym (ap (λ past. past_or past (if nat_lt NODES_MAX (node_count w.tree) then refused
-    (TooLarge (min (node_count w.tree) COUNT_MAX)) else spelt w.tree words.names)) q))
+    (along_none (size_fault words w.tree) _ _
+    (nodes_next words w.tree q ∙ size_small (nat_lt NODES_MAX (node_count w.tree))
+    (node_count w.tree) (Some (TooLarge (min (node_count w.tree) COUNT_MAX))) refl
+    (omega (arith, count, le)))
+    (ap (λ t. spelt t names) same ∙ ap (λ n. spelt w.tree n) kept))
 
 -- The text as a whole.
 pub words_outcome : (scale : ℕ) (text : List ℕ) (outcome : Outcome) → byte_fault text ≡ None
     → IsOutcomeWithin (text_tokens_of scale text) outcome → IsOutcome scale text outcome
-words_outcome scale text outcome e h = along_none (byte_fault text) _ _ e h
+words_outcome scale text outcome e h =
+    let words = text_tokens_of scale text in
+    let R = λ (m : Option ParseFault). MatchOption (option_or m (limit_fault words))
+    (IsOutcomeOfTokens words outcome) (λ fault. outcome ≡ refused fault) in
+    subst R (sym e) h
 
 short_by : (is : Bool) (n : ℕ) (first later : Option ParseFault) → nat_lt TEXT_MAX n ≡ is
     → n ≤ TEXT_MAX → (if is then first else later) ≡ later
@@ -241,7 +268,7 @@ good_bytes text le e = short_by (nat_lt TEXT_MAX (length text)) (length text) (S
 placed_tokens : (scale : ℕ) (known : Known) (raw_tokens : List RawTokenAt)
     → tokens_in (placed_from scale known raw_tokens) ≡ tokens_from scale known raw_tokens
 placed_tokens scale known [] = refl
-placed_tokens scale known (raw ∷ rest) = ap (λ ts. token_of scale known raw.word ∷ ts)
+placed_tokens scale known (raw ∷ rest) = ap (λ ts. next_token scale known raw.word ∷ ts)
     (placed_tokens scale (known_after known raw.word) rest)
 
 placed_offsets : (scale : ℕ) (known : Known) (raw_tokens : List RawTokenAt)
@@ -256,8 +283,10 @@ pub same_words : (scale : ℕ) (text : List ℕ) (scan : Scan) → IsScan scale 
     ≡ text_tokens_of scale text
 same_words scale text scan s =
     let raw_tokens = raw_tokens_of text in
-    let z = s.size in let c = s.names in let d = s.past in
-    let a = ap tokens_in s.tokens ∙ placed_tokens scale nothing_known raw_tokens in
+    let z = s.size in
+    let c = s.names ∙ sym (names_run text) in
+    let a = ap tokens_in s.tokens ∙ placed_tokens scale nothing_known raw_tokens
+    ∙ sym (tokens_run scale text) in
     let b = ap offsets_in s.tokens ∙ placed_offsets scale nothing_known raw_tokens in
     (cc)
 
@@ -291,6 +320,6 @@ answered scale text outcome (Err fault) (inr h) k = inr (outcome_once scale text
 
 pub limits_met : (words : TextTokens) → position is_big words.tokens ≡ None
     → deep_place 0 0 words.tokens ≡ None → limit_fault words ≡ None
-limits_met words p q = ap (λ big. earlier (option_map (λ at. Number (offset_of words at)) big)
+limits_met words p q = ap (λ big. option_or (option_map (λ at. Number (offset_of words at)) big)
     (option_map (λ at. TooDeep (offset_of words at)) (deep_place 0 0 words.tokens))) p
-    ∙ ap (λ deep. earlier None (option_map (λ at. TooDeep (offset_of words at)) deep)) q
+    ∙ ap (λ deep. option_or None (option_map (λ at. TooDeep (offset_of words at)) deep)) q

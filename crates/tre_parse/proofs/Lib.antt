@@ -14,6 +14,8 @@ pub mod Unkept
 pub mod Outcomes
 pub mod Numbers
 pub mod Fine
+pub mod Plain
+pub mod Named
 pub mod NumberedWords
 pub mod Judging
 pub mod Spelling

@@ -12,8 +12,9 @@ use Rattle.tre_trace.specs.Reading.{Vocabulary}
 use Rattle.tre_syntax.specs.declared.name_kind.NameKind.{NameKind}
 use Rattle.tre_syntax.specs.declared.name_kind.NameKind.TheVariants.{Proposition, Event as EventKind}
 use Rattle.tre_parse.specs.declared.token.Token.{Token}
-use Rattle.tre_parse.specs.Tokens.{RawToken, name, number, sign, RawTokenAt, kind_behind, names_of_kind, names_with, vocabulary_with, Known, nothing_known, numbered, token_of, vocabulary_after, known_after, tokens_from, names_from, raw_tokens_of, tokens_of, names_of}
-use Rattle.tre_parse.specs.Past.{before_from, kind_after}
+use Rattle.tre_parse.specs.Tokens.{RawToken, name, event_name, number, sign, RawTokenAt}
+use Rattle.tre_parse.specs.Known.{kind_behind, names_of_kind, names_with, vocabulary_with, Known, numbered, next_token, vocabulary_after, known_after, tokens_from, names_from}
+use Rattle.tre_parse.specs.Past.{before_from}
 use Rattle.tre_parse.specs.Numbering.{HasTokenAt}
 
 -- A name that is held keeps its place when one more is put at the end.
@@ -38,7 +39,7 @@ kept_place known bytes other i e =
     found same more lt = grind (arith, nat_tests)
 
 -- A name has its place for good, where it has one or no more names are taken.
-abbrev HasPlace : List (List ℕ) → List ℕ → Type 0
+abbrev pub HasPlace : List (List ℕ) → List ℕ → Type 0
 HasPlace known bytes = ((i : ℕ) × (place_of known bytes ≡ Some i)) ⊎
     (nat_lt (length known) NAMES_MAX ≡ false)
 
@@ -88,13 +89,14 @@ word_on : (kind : NameKind) (known : Known) (word : RawToken) (bytes : List ℕ)
     ≡ place_of (names_of_kind kind known.vocabulary) bytes)
 word_on kind known (number digits) bytes h = (h, refl)
 word_on kind known (sign token) bytes h = (h, refl)
+word_on kind known (event_name other) bytes h = (h, refl)
 word_on kind known (name other) bytes h =
     let P = λ (names : List (List ℕ)). HasPlace names bytes
     × (place_of names bytes ≡ place_of (names_of_kind kind known.vocabulary) bytes) in
     kind_by P kind (kind_behind known.before) known.vocabulary other (h, refl)
     (name_on (names_of_kind kind known.vocabulary) bytes other h)
 
-for_good : (kind : NameKind) (known : Known) (raw_tokens : List RawTokenAt) (bytes : List ℕ)
+pub for_good : (kind : NameKind) (known : Known) (raw_tokens : List RawTokenAt) (bytes : List ℕ)
     → HasPlace (names_of_kind kind known.vocabulary) bytes
     → place_of (names_of_kind kind (names_from known raw_tokens)) bytes
     ≡ place_of (names_of_kind kind known.vocabulary) bytes
@@ -104,7 +106,7 @@ for_good kind known (raw ∷ rest) bytes h =
     for_good kind (known_after known raw.word) rest bytes w.0 ∙ w.1
 
 -- After a name was read it has its place.
-placed : (known : List (List ℕ)) (bytes : List ℕ) (found : Option ℕ) (room : Bool)
+pub placed : (known : List (List ℕ)) (bytes : List ℕ) (found : Option ℕ) (room : Bool)
     → place_of known bytes ≡ found → nat_lt (length known) NAMES_MAX ≡ room →
     HasPlace (if is_none found && room then known ++ bytes ∷ [] else known) bytes
 placed known bytes (Some i) room e f = inl (i, e)
@@ -112,13 +114,13 @@ placed known bytes None true e f = inl (length known, place_of-push known bytes 
 placed known bytes None false e f = inr f
 
 -- The token of a name in the end, by what stands before the words in front of it.
-abbrev final : Known → List RawTokenAt → List RawTokenAt → ℕ → List ℕ → Token
+abbrev pub final : Known → List RawTokenAt → List RawTokenAt → ℕ → List ℕ → Token
 final known front back at bytes =
     let kind = kind_behind (before_from known.before front) in
     numbered kind (unwrap_or (place_of (names_of_kind kind (names_from known
     (front ++ (record { at = at; word = name bytes }) ∷ back))) bytes) NAMES_MAX)
 
-number_from : (scale : ℕ) (front back : List RawTokenAt) (at : ℕ) (bytes : List ℕ) (known : Known) →
+pub number_from : (scale : ℕ) (front back : List RawTokenAt) (at : ℕ) (bytes : List ℕ) (known : Known) →
     HasTokenAt (tokens_from scale known (front ++ (record { at = at; word = name bytes }) ∷ back))
     (length front) (final known front back at bytes)
 number_from scale [] back at bytes known =
@@ -139,20 +141,8 @@ number_from scale [] back at bytes known =
 number_from scale (raw ∷ front) back at bytes known =
     let h = number_from scale front back at bytes (known_after known raw.word) in
     record {
-      before = token_of scale known raw.word ∷ h.before;
+      before = next_token scale known raw.word ∷ h.before;
       after = h.after;
-      split = ap (λ ts. token_of scale known raw.word ∷ ts) h.split;
+      split = ap (λ ts. next_token scale known raw.word ∷ ts) h.split;
       here = ap suc h.here;
     }
-
-pub name_number : (scale : ℕ) (text bytes : List ℕ) (front back : List RawTokenAt) (at : ℕ)
-    → raw_tokens_of text ≡ front ++ (record { at = at; word = name bytes }) ∷ back →
-    HasTokenAt (tokens_of scale text) (length front) (numbered (kind_after front) (unwrap_or
-    (place_of (names_of_kind (kind_after front) (names_of text)) bytes) NAMES_MAX))
-name_number scale text bytes front back at e =
-    let kind = kind_after front in
-    let P = λ (raw_tokens : List RawTokenAt). HasTokenAt
-    (tokens_from scale nothing_known raw_tokens)
-    (length front) (numbered kind (unwrap_or (place_of (names_of_kind kind
-    (names_from nothing_known raw_tokens)) bytes) NAMES_MAX)) in
-    subst P (sym e) (number_from scale front back at bytes nothing_known)

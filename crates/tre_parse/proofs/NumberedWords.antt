@@ -1,13 +1,11 @@
 -- The words of a text number its names by first use from the left.
-use Rattle.std.proofs.Common.{◌≡◌, ℕ, ◌+◌, ◌-◌, zero, suc, Bool, true, false, cond, ◌&&◌, Option, Some, None, List, [], ◌∷◌, ◌++◌, length, refl, sym, ◌∙◌, ap, length-append}
-use Rattle.std.specs.Prelude.{nat_lt, nat_eq, if◌then◌else◌, is_none, unwrap_or, IfSome, codes}
-use Rattle.std.specs.List.{take_while, starts_with}
+use Rattle.std.proofs.Common.{◌≡◌, ℕ, ◌+◌, Bool, true, false, ◌&&◌, Option, Some, None, List, [], ◌∷◌, ◌++◌, length, refl, sym, ◌∙◌, ap, subst, length-append}
+use Rattle.std.specs.Prelude.{nat_lt, if◌then◌else◌, is_none, unwrap_or}
+use Rattle.std.specs.Option.{option_map}
 use Rattle.std.specs.Str.{bytes_eq}
-use Rattle.std.specs.Char.{is_ascii_digit}
 use Rattle.std.proofs.lemmas.List.Quantifiers.{position-Some}
 use Rattle.tre_state.specs.declared.names.TheConstants.{NAMES_MAX}
 use Rattle.tre_state.specs.Names.{place_of}
-use Rattle.tre_state.specs.Name.{starts_name, continues_name}
 use Rattle.tre_state.proofs.Places.{place_of-push}
 use Rattle.tre_syntax.specs.PatternTree.{seen_after}
 use Rattle.tre_syntax.proofs.FirstUses.{seen_old, seen_new}
@@ -15,136 +13,13 @@ use Rattle.tre_trace.specs.Reading.{Vocabulary}
 use Rattle.tre_syntax.specs.declared.name_kind.NameKind.{NameKind}
 use Rattle.tre_syntax.specs.declared.name_kind.NameKind.TheVariants.{Proposition, Event as EventKind}
 use Rattle.tre_parse.specs.declared.token.Token.{Token}
-use Rattle.tre_parse.specs.declared.token.Token.TheVariants.{Name as Numbered, EventName, Number as Units, Eps, Rise, Fall, Inf, True, Event}
-use Rattle.tre_parse.specs.declared.lexeme.Lexeme.{Lexeme}
-use Rattle.tre_parse.specs.declared.lexeme.Lexeme.TheVariants.{Blank, Wrong, Name, Number, Sign}
-use Rattle.tre_parse.specs.Lexeme.{is_blank, reserved, named, first_sign, word_lexeme, number_lexeme, sign_lexeme, lexeme_of}
-use Rattle.tre_parse.specs.declared.lexeme.TheConstants.{SIGNS}
-use Rattle.tre_parse.proofs.Table.{Each}
-use Rattle.tre_parse.specs.Tokens.{RawToken, name, number, sign, RawTokenAt, RawTokens, raw_tokens_from, scanned, kind_behind, names_of_kind, names_with, vocabulary_with, Known, nothing_known, numbered, units_within, token_of, vocabulary_after, known_after, tokens_from, names_from, past_from, is_past, raw_tokens_of}
+use Rattle.tre_parse.specs.declared.token.Token.TheVariants.{Name as Numbered, EventName, Number as Units}
+use Rattle.tre_parse.specs.Tokens.{RawToken, name, event_name, number, sign, RawTokenAt, units_within, raw_tokens_of}
+use Rattle.tre_parse.specs.Known.{kind_behind, names_of_kind, names_with, vocabulary_with, Known, nothing_known, numbered, next_token, vocabulary_after, known_after, tokens_from, names_from, past_from, word_is_past}
 use Rattle.tre_parse.specs.Numbering.{numbers_in, IsNumberedByUse}
-use Rattle.tre_parse.specs.Outcome.{text_tokens_of}
-
--- A token that is no name.
-abbrev IsNoName : Token → Type 0
-IsNoName (Numbered i) = ⊥
-IsNoName (EventName i) = ⊥
-IsNoName _ = Unit {0}
-
-reserved_by : (a b c d e f : Bool) → IfSome (if a then Some Eps else
-    (if b then Some Rise else (if c then Some Fall else
-    (if d then Some Inf else (if e then Some True else (if f then Some Event else None))))))
-    IsNoName
-reserved_by true _ _ _ _ _ = tt
-reserved_by false true _ _ _ _ = tt
-reserved_by false false true _ _ _ = tt
-reserved_by false false false true _ _ = tt
-reserved_by false false false false true _ = tt
-reserved_by false false false false false true = tt
-reserved_by false false false false false false = tt
-
-reserved_no_name : (word : List ℕ) → IfSome (reserved word) IsNoName
-reserved_no_name word =
-    reserved_by (bytes_eq (codes "eps") word) (bytes_eq (codes "rise") word)
-    (bytes_eq (codes "fall") word) (bytes_eq (codes "inf") word) (bytes_eq (codes "true") word)
-    (bytes_eq (codes "event") word)
-
-abbrev SaysNoName : Lexeme → Type 0
-SaysNoName (Sign token len) = IsNoName token
-SaysNoName _ = Unit {0}
-
-named_no_name : (n : ℕ) (o : Option Token) → IfSome o IsNoName → SaysNoName (named n o)
-named_no_name n None h = tt
-named_no_name n (Some t) h = h
-
-first_no_name : {A : Type 0} (text : A → List ℕ) (token : A → Token) (signs : List A) (xs : List ℕ)
-    → Each (λ s. IsNoName (token s)) signs → SaysNoName (first_sign text token signs xs)
-first_no_name text token [] xs h = tt
-first_no_name text token (s ∷ more) xs h = by (first_no_name text token more xs h.1)
-    (starts_with nat_eq xs (text s))
-  where
-    by : SaysNoName (first_sign text token more xs) → (is : Bool)
-        → SaysNoName (cond is (Sign (token s) (length (text s))) (first_sign text token more xs))
-    by next true = h.0
-    by next false = next
-
-sign_no_name : (rest : List ℕ) → SaysNoName (sign_lexeme rest)
-sign_no_name rest = first_no_name (λ sign. sign.0.now) (λ sign. sign.1) SIGNS rest
-    ((
-      tt,
-      (
-        tt,
-        (
-          tt,
-          (
-            tt,
-            (
-              tt,
-              (
-                tt,
-                (
-                  tt,
-                  (
-                    tt,
-                    (
-                      tt,
-                      (
-                        tt,
-                        (tt, (tt, (tt, (tt, (tt, (tt, (tt, (tt, (tt, tt))))))))),
-                      ),
-                    ),
-                  ),
-                ),
-              ),
-            ),
-          ),
-        ),
-      ),
-    ))
-
-lexeme_by : (blank starts digit : Bool) (word decimal other : Lexeme) → SaysNoName word
-    → SaysNoName decimal → SaysNoName other →
-    SaysNoName (if blank then Blank else (if starts then word else
-    (if digit then decimal else other)))
-lexeme_by true starts digit word decimal other h k m = tt
-lexeme_by false true digit word decimal other h k m = h
-lexeme_by false false true word decimal other h k m = k
-lexeme_by false false false word decimal other h k m = m
-
-lexeme_no_name : (rest : List ℕ) → SaysNoName (lexeme_of rest)
-lexeme_no_name [] = tt
-lexeme_no_name (b ∷ bs) =
-    lexeme_by (is_blank b) (starts_name b) (is_ascii_digit b) (word_lexeme (b ∷ bs))
-    (number_lexeme (b ∷ bs)) (sign_lexeme (b ∷ bs))
-    (named_no_name _ _ (reserved_no_name (take_while continues_name (b ∷ bs)))) tt
-    (sign_no_name (b ∷ bs))
-
--- Names stand among the words by their bytes alone.
-abbrev IsPlain : RawToken → Type 0
-IsPlain (name bytes) = Unit {0}
-IsPlain (number bytes) = Unit {0}
-IsPlain (sign token) = IsNoName token
-
-abbrev ArePlain : List RawTokenAt → Type 0
-ArePlain [] = Unit {0}
-ArePlain (raw ∷ rest) = IsPlain raw.word × ArePlain rest
-
-scanned_plain : (lexeme : Lexeme) (at : ℕ) (bytes : List ℕ) (next : ℕ → RawTokens)
-    → SaysNoName lexeme → ((k : ℕ) → ArePlain (next k).raw_tokens)
-    → ArePlain (scanned lexeme at bytes next).raw_tokens
-scanned_plain Blank at bytes next h go = go 0
-scanned_plain Wrong at bytes next h go = tt
-scanned_plain (Name len) at bytes next h go = (tt, go (len - 1))
-scanned_plain (Number len) at bytes next h go = (tt, go (len - 1))
-scanned_plain (Sign token len) at bytes next h go = (h, go (len - 1))
-
-raw_tokens_plain : (skip at : ℕ) (bytes : List ℕ) → ArePlain
-    (raw_tokens_from skip at bytes).raw_tokens
-raw_tokens_plain skip at [] = tt
-raw_tokens_plain (suc skip) at (b ∷ bs) = raw_tokens_plain skip (at + 1) bs
-raw_tokens_plain zero at (b ∷ bs) = scanned_plain (lexeme_of (b ∷ bs)) at (b ∷ bs)
-    (λ skip. raw_tokens_from skip (at + 1) bs) (lexeme_no_name (b ∷ bs))
-    (λ skip. raw_tokens_plain skip (at + 1) bs)
+use Rattle.tre_parse.specs.Outcome.{text_tokens_of, offset_of}
+use Rattle.tre_parse.proofs.Plain.{IsNoName, IsPlain, ArePlain, raw_tokens_plain}
+use Rattle.tre_parse.proofs.Named.{names_run, tokens_run, past_run}
 
 no_name_numbers : (kind : NameKind) (token : Token) (rest : List Token) → IsNoName token
     → numbers_in kind (token ∷ rest) ≡ numbers_in kind rest
@@ -198,14 +73,15 @@ kind_seen EventKind Proposition known bytes rest m p e = e
 spot_numbered : (scale : ℕ) (kind : NameKind) (word : RawToken) (at : ℕ) (known : Known)
     (rest : List Token)
     (later : Option ℕ) (m : ℕ) → IsPlain word →
-    (if is_past known word then Some at else later) ≡ None →
+    (if word_is_past known word then Some at else later) ≡ None →
     (later ≡ None → seen_after (length (names_of_kind kind (vocabulary_after known word)))
     (numbers_in kind rest) ≡ Some m) →
     seen_after (length (names_of_kind kind known.vocabulary))
-    (numbers_in kind (token_of scale known word ∷ rest)) ≡ Some m
+    (numbers_in kind (next_token scale known word ∷ rest)) ≡ Some m
 spot_numbered scale kind (name bytes) at known rest later m h e go =
-    let split = past_none (is_past known (name bytes)) at later e in
+    let split = past_none (word_is_past known (name bytes)) at later e in
     kind_seen kind (kind_behind known.before) known.vocabulary bytes rest m split.0 (go split.1)
+spot_numbered scale kind (event_name bytes) at known rest later m h e go = absurd h
 spot_numbered scale kind (number bytes) at known rest later m h e go =
     ap (seen_after (length (names_of_kind kind known.vocabulary)))
     (no_name_numbers kind (Units (units_within scale bytes)) rest tt) ∙ go e
@@ -238,5 +114,11 @@ numbered_all scale EventKind raw_tokens h e =
 
 -- The words of a text are numbered by use.
 pub text_numbered : (scale : ℕ) (text : List ℕ) → IsNumberedByUse (text_tokens_of scale text)
-text_numbered scale text = λ e kind. numbered_all scale kind (raw_tokens_of text)
-    (raw_tokens_plain 0 0 text) e
+text_numbered scale text = λ e kind.
+    let none = sym (past_run scale text) ∙ ap (option_map (offset_of (text_tokens_of scale text))) e in
+    let P = λ (tokens : List Token) (names : Vocabulary). seen_after 0 (numbers_in kind tokens)
+    ≡ Some (length (names_of_kind kind names)) in
+    subst (λ names. P (text_tokens_of scale text).tokens names) (sym (names_run text))
+    (subst (λ tokens. P tokens (names_from nothing_known (raw_tokens_of text)))
+    (sym (tokens_run scale text))
+    (numbered_all scale kind (raw_tokens_of text) (raw_tokens_plain 0 0 text) none))

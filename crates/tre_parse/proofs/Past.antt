@@ -16,7 +16,8 @@ use Rattle.tre_syntax.specs.declared.name_kind.NameKind.{NameKind}
 use Rattle.tre_syntax.specs.declared.name_kind.NameKind.TheVariants.{Proposition, Event as EventKind}
 use Rattle.tre_parse.specs.declared.before.Before.{Before}
 use Rattle.tre_parse.specs.declared.before.Before.TheVariants.{Other}
-use Rattle.tre_parse.specs.Tokens.{RawToken, name, number, sign, RawTokenAt, before_next, kind_behind, names_of_kind, names_with, vocabulary_with, Known, nothing_known, vocabulary_after, known_after, is_past, past_from, raw_tokens_of}
+use Rattle.tre_parse.specs.Tokens.{RawToken, name, event_name, number, sign, RawTokenAt, raw_tokens_of}
+use Rattle.tre_parse.specs.Known.{before_next, kind_behind, names_of_kind, names_with, vocabulary_with, Known, nothing_known, vocabulary_after, known_after, word_is_past, past_from}
 use Rattle.tre_parse.specs.Past.{before_from, use_of, use_at, uses_from, uses_in, AreNamesOf, UsesFew, IsOneTooMany}
 
 -- ---- uses
@@ -138,16 +139,17 @@ record Stands (front : List RawTokenAt) (known : Known) : Type 0 where
 
 word_used : (kind : NameKind) (front : List RawTokenAt) (known : Known) (word : RawToken)
     → AreKnown (uses_in kind front) (names_of_kind kind known.vocabulary)
-    → is_past known word ≡ false →
+    → word_is_past known word ≡ false →
     AreKnown (uses_in kind front ++ use_at kind known.before word)
     (names_of_kind kind (vocabulary_after known word))
 word_used kind front known (name bytes) h q =
     kind_used kind (kind_behind known.before) (uses_in kind front) known.vocabulary bytes h q
+word_used kind front known (event_name bytes) h q = unused (uses_in kind front) _ h
 word_used kind front known (number bytes) h q = unused (uses_in kind front) _ h
 word_used kind front known (sign token) h q = unused (uses_in kind front) _ h
 
 stands_on : (front : List RawTokenAt) (raw : RawTokenAt) (known : Known) → Stands front known
-    → is_past known raw.word ≡ false → Stands (front ++ raw ∷ []) (known_after known raw.word)
+    → word_is_past known raw.word ≡ false → Stands (front ++ raw ∷ []) (known_after known raw.word)
 stands_on front raw known h q = record {
   before = ap (λ b. before_next b raw.word) h.before ∙ sym (before_last Other front raw);
   kinds = λ kind. subst (λ l. AreKnown l (names_of_kind kind (vocabulary_after known raw.word)))
@@ -159,7 +161,7 @@ stands_on front raw known h q = record {
 }
 
 one_too_many : (front rest : List RawTokenAt) (at : ℕ) (word : RawToken) (known : Known)
-    → Stands front known → is_past known word ≡ true
+    → Stands front known → word_is_past known word ≡ true
     → IsOneTooMany ((front ++ (record { at = at; word = word }) ∷ []) ++ rest) at
 one_too_many front rest at (name bytes) known h q =
     let kind = kind_behind known.before in
@@ -177,6 +179,7 @@ one_too_many front rest at (name bytes) known h q =
       full = f.0;
       none = not_among names bytes f.1;
     }
+one_too_many front rest at (event_name bytes) known h q = absurd (cc)
 one_too_many front rest at (number bytes) known h q = absurd (cc)
 one_too_many front rest at (sign token) known h q = absurd (cc)
 
@@ -186,7 +189,7 @@ abbrev Law : List RawTokenAt → Option ℕ → Type 0
 Law raw_tokens past = MatchOption past (UsesFew raw_tokens) (IsOneTooMany raw_tokens)
 
 past_word : (front rest : List RawTokenAt) (raw : RawTokenAt) (known : Known) (is : Bool)
-    → is_past known raw.word ≡ is → Stands front known →
+    → word_is_past known raw.word ≡ is → Stands front known →
     (Stands (front ++ raw ∷ []) (known_after known raw.word)
     → Law ((front ++ raw ∷ []) ++ rest) (past_from (known_after known raw.word) rest)) →
     Law ((front ++ raw ∷ []) ++ rest)
@@ -205,7 +208,7 @@ past_on front [] known h = subst (λ l. UsesFew l) (sym (append-nil front)) (λ 
 past_on front (raw ∷ rest) known h =
     let P = λ (l : List RawTokenAt). Law l (past_from known (raw ∷ rest)) in
     subst P (append_assoc front (raw ∷ []) rest)
-    (past_word front rest raw known (is_past known raw.word) refl h
+    (past_word front rest raw known (word_is_past known raw.word) refl h
     (λ next. past_on (front ++ raw ∷ []) rest (known_after known raw.word) next))
 
 nothing_used : AreKnown [] []

@@ -1,12 +1,12 @@
 -- Steps of a scan: what is read from an offset on, once the word there is read.
-use Rattle.std.proofs.Common.{◌≡◌, ℕ, ◌+◌, ◌-◌, ◌<◌, ◌≤◌, zero, suc, Bool, true, false, Option, Some, None, List, [], ◌∷◌, ◌++◌, length, drop, take, get_or, refl, sym, ◌∙◌, ap, subst, arith, append_assoc, add-one, drop-cons}
-use Rattle.std.specs.Prelude.{if◌then◌else◌}
+use Rattle.std.proofs.Common.{◌≡◌, ℕ, ◌+◌, ◌-◌, ◌<◌, ◌≤◌, zero, suc, List, [], ◌∷◌, ◌++◌, length, drop, take, get_or, refl, sym, ◌∙◌, ap, subst, arith, append_assoc, add-one, drop-cons}
 use Rattle.std.proofs.lemmas.List.{drop-drop, length-drop}
 use Rattle.tre_parse.specs.declared.token.Token.{Token}
 use Rattle.tre_parse.specs.declared.lexeme.Lexeme.TheVariants.{Blank, Name, Number, Sign}
 use Rattle.tre_parse.specs.declared.scan.Scan.{Scan}
 use Rattle.tre_parse.specs.Lexeme.{lexeme_of}
-use Rattle.tre_parse.specs.Tokens.{RawToken, name, number, sign, RawTokens, raw_tokens_from, scanned, with_raw_token, known_after, names_from, past_from, is_past, earlier}
+use Rattle.tre_parse.specs.Tokens.{RawToken, name, number, sign, RawTokens, raw_tokens_from, scanned, with_raw_token}
+use Rattle.tre_parse.specs.Known.{known_after, names_from}
 use Rattle.tre_parse.specs.Scan.{rest_from, known_in, placed, placed_from, TakesToken, LeadsTo}
 
 -- The bytes of a word are passed over.
@@ -76,13 +76,6 @@ rest_sign bytes at len token h p q e =
     (λ skip. raw_tokens_from skip (at + 1) (drop (at + 1) bytes))) e
     ∙ ap (with_raw_token at (sign token)) (rest_after bytes at len p q)
 
-earlier_first : (old later : Option ℕ) (is : Bool) (at : ℕ)
-    → earlier old (if is then Some at else later) ≡ earlier
-    (earlier old (if is then Some at else None)) later
-earlier_first (Some n) later is at = refl
-earlier_first None later true at = refl
-earlier_first None later false at = refl
-
 -- A word that the scan takes leads to what follows it.
 pub leads_word : (bytes : List ℕ) (old new : Scan) (at next : ℕ) (word : RawToken)
     → TakesToken old new at word →
@@ -101,11 +94,6 @@ leads_word bytes old new at next word t e =
           ∙ ap (λ n. new.tokens.items ++ placed_from n (known_in new) rest) (sym t.same_scale);
       names = ap (λ s. names_from (known_in old) s) raw_tokens
           ∙ ap (λ k. names_from k rest) (sym t.known);
-      past = ap (λ s. earlier old.past (past_from (known_in old) s)) raw_tokens
-          ∙ earlier_first old.past (past_from (known_after (known_in old) word) rest)
-          (is_past (known_in old) word) at
-          ∙ ap (λ p. earlier p (past_from (known_after (known_in old) word) rest)) (sym t.past)
-          ∙ ap (λ k. earlier new.past (past_from k rest)) (sym t.known);
       bad = ap (λ (l : RawTokens). l.bad) e;
       size = t.size;
       same_scale = t.same_scale;
@@ -123,7 +111,6 @@ leads_same bytes scan at next e =
       tokens = ap (λ (l : RawTokens). scan.tokens.items ++ placed_from scan.scale (known_in scan)
           l.raw_tokens) e;
       names = ap (λ (l : RawTokens). names_from (known_in scan) l.raw_tokens) e;
-      past = ap (λ (l : RawTokens). earlier scan.past (past_from (known_in scan) l.raw_tokens)) e;
       bad = ap (λ (l : RawTokens). l.bad) e;
       size = refl;
       same_scale = refl;

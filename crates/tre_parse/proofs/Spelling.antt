@@ -1,7 +1,7 @@
 -- An outcome that is a pattern is the one that the text spells.
 use Rattle.std.proofs.Common.{◌≡◌, ℕ, Bool, true, false, Option, Some, None, Ok, Err, List, inl, inr, refl, sym, subst}
 use Rattle.std.specs.Prelude.{Result, MatchOption, IfOk, if◌then◌else◌}
-use Rattle.std.specs.Option.{option_map}
+use Rattle.std.specs.Option.{option_map, option_or}
 use Rattle.tre_trace.specs.Reading.{Vocabulary}
 use Rattle.tre_syntax.specs.declared.pattern.Pattern.{Pattern}
 use Rattle.tre_syntax.specs.Pattern.{pattern_tree, names_of}
@@ -10,7 +10,7 @@ use Rattle.tre_parse.specs.declared.fault.ParseFault.{ParseFault}
 use Rattle.tre_parse.specs.declared.fault.ParseFault.TheVariants.{TooLong, BadByte}
 use Rattle.tre_parse.specs.Grammar.{expr, Spells}
 use Rattle.tre_parse.specs.Tokens.{bad_byte, tokens_of}
-use Rattle.tre_parse.specs.Outcome.{IsSpelling, spelt, refused, text_tokens_of, byte_fault, limit_fault, past_or, IsOutcomeOfTree, IsOutcomeOfTokens, IsOutcomeWithin, IsOutcome}
+use Rattle.tre_parse.specs.Outcome.{IsSpelling, spelt, refused, text_tokens_of, byte_fault, limit_fault, size_fault, IsOutcomeOfTree, IsOutcomeOfTokens, IsOutcome}
 use Rattle.tre_parse.specs.Answers.{Answers}
 
 -- A pattern is no refusal.
@@ -25,13 +25,13 @@ none_bad true bad e = absurd (cc)
 none_bad false None e = refl
 none_bad false (Some at) e = absurd (cc)
 
-verdict_spells : (past : Option ℕ) (large : Bool) (fault : ParseFault) (t tree : PatternTree)
-    (kept names : Vocabulary) →
-    spelt tree names ≡ past_or past (if large then refused fault else spelt t kept) → (tree ≡ t)
-    × (names ≡ kept)
-verdict_spells (Some at) large fault t tree kept names e = absurd (cc)
-verdict_spells None true fault t tree kept names e = absurd (cc)
-verdict_spells None false fault t tree kept names e = (cc, cc)
+first_none : (first later : Option ParseFault) → option_or first later ≡ None → first ≡ None
+first_none None later e = refl
+first_none (Some fault) later e = absurd (cc)
+
+verdict_spells : (t tree : PatternTree) (kept names : Vocabulary)
+    → spelt tree names ≡ spelt t kept → (tree ≡ t) × (names ≡ kept)
+verdict_spells t tree kept names e = (cc, cc)
 
 judged_spells : (scale : ℕ) (text : List ℕ) (t tree : PatternTree) (names : Vocabulary)
     → bad_byte text
@@ -39,7 +39,10 @@ judged_spells : (scale : ℕ) (text : List ℕ) (t tree : PatternTree) (names : 
     (spelt tree names) → IsSpelling scale text tree names
 judged_spells scale text t tree names good h (inl k) = let no = k.2 in absurd (cc)
 judged_spells scale text t tree names good h (inr k) =
-    let same = verdict_spells _ _ _ t tree _ names k.1 in
+    let words = text_tokens_of scale text in
+    let small = unrefused (size_fault words t) (spelt tree names ≡ spelt t words.names) tree names
+    k.1 in
+    let same = verdict_spells t tree words.names names small.1 in
     let P = λ (u : PatternTree). Spells expr (tokens_of scale text) u in
     record { tokens_alone = good; spells = subst P (sym same.0) h; numbered = same.1 }
 
@@ -54,11 +57,11 @@ read_spells scale text tree names good (inr h) = judged_spells scale text h.0 tr
 pub outcome_spells : (scale : ℕ) (text : List ℕ) (tree : PatternTree) (names : Vocabulary)
     → IsOutcome scale text (spelt tree names) → IsSpelling scale text tree names
 outcome_spells scale text tree names h =
-    let bytes = unrefused (byte_fault text) (IsOutcomeWithin (text_tokens_of scale text)
-    (spelt tree names)) tree names h in
-    let words = unrefused (limit_fault (text_tokens_of scale text))
-    (IsOutcomeOfTokens (text_tokens_of scale text) (spelt tree names)) tree names bytes.1 in
-    read_spells scale text tree names (none_bad _ (bad_byte text) bytes.0) words.1
+    let words = text_tokens_of scale text in
+    let read = unrefused (option_or (byte_fault text) (limit_fault words))
+    (IsOutcomeOfTokens words (spelt tree names)) tree names h in
+    let good = first_none (byte_fault text) (limit_fault words) read.0 in
+    read_spells scale text tree names (none_bad _ (bad_byte text) good) read.1
 
 pub answer_spells : (scale : ℕ) (text : List ℕ) (result : Result Pattern ParseFault)
     → Answers (IsOutcome scale text) result → IfOk result (λ pattern. IsSpelling scale text

@@ -2,6 +2,7 @@
 -- another; and that where no number is too big it is the first empty one.
 use Rattle.std.proofs.Common.{◌≡◌, ◌≢◌, ℕ, ◌+◌, ◌-◌, Bool, true, false, Option, Some, None, List, [], ◌∷◌, ◌++◌, length, inl, inr, refl, sym, ◌∙◌, ap, subst, arith, append_assoc, length-append}
 use Rattle.std.specs.Prelude.{MatchOption, position}
+use Rattle.std.specs.Option.{option_or}
 use Rattle.std.proofs.lemmas.List.{append-nil}
 use Rattle.tre_state.specs.StateTree.{StateTree}
 use Rattle.tre_zone.specs.Interval.{IntervalEnds}
@@ -13,12 +14,11 @@ use Rattle.tre_parse.specs.Joins.{join_sign, edge_sign}
 use Rattle.tre_parse.specs.Grammar.{StateRule, lit, state, conj, neg, SpellsState, lit_name, lit_true, lit_braces, lit_bang, state_conj, state_bars, conj_neg, conj_ampersands, neg_name, neg_true, neg_parens, neg_bang, SpellsInterval, with_high, without_high}
 use Rattle.tre_parse.specs.Begins.{BeginsInterval}
 use Rattle.tre_parse.specs.Parts.{IsFineInterval, IsMadeOf}
-use Rattle.tre_parse.specs.Tokens.{earlier}
 use Rattle.tre_parse.specs.Operands.{Formula, RepresentsState}
-use Rattle.tre_parse.specs.Outcome.{is_big, HasEmptyAt, NoneEmptyBefore, NoneEmpty, IsFirstEmpty}
+use Rattle.tre_parse.specs.Outcome.{is_big, HasEmptyAt, IsFirstEmpty}
 use Rattle.tre_parse.specs.Reader.{Reading, got, StateTask, of_state, of_interval, read, read_state}
 use Rattle.tre_parse.specs.Reading.{Goes, Accepts}
-use Rattle.tre_parse.specs.Unkept.{BeginsUnkept, Finds, FindsUpTo, unkept_at}
+use Rattle.tre_parse.specs.Unkept.{NoneEmptyBefore, NoneEmpty, BeginsUnkept, Finds, FindsUpTo, unkept_at}
 use Rattle.tre_parse.proofs.Empties.{none_before_one, none_before_more, none_empty, unkept_empty, same_ends}
 use Rattle.tre_parse.proofs.Fine.{none_big, ends_within}
 use Rattle.tre_parse.proofs.Fixpoint.{left}
@@ -30,13 +30,13 @@ finds_past : (t : Token) (rest : List Token) (found : Option ℕ) → t ≢ Perc
 finds_past Percent rest found n h = absurd (n refl)
 finds_past _ rest found n h = h
 
-earlier_grouped : (a b c : Option ℕ) → earlier (earlier a b) c ≡ earlier a (earlier b c)
-earlier_grouped None b c = refl
-earlier_grouped (Some n) b c = refl
+or_grouped : (a b c : Option ℕ) → option_or (option_or a b) c ≡ option_or a (option_or b c)
+or_grouped None b c = refl
+or_grouped (Some n) b c = refl
 
-pub earlier_none : (a : Option ℕ) → earlier a None ≡ a
-earlier_none None = refl
-earlier_none (Some n) = refl
+pub or_none : (a : Option ℕ) → option_or a None ≡ a
+or_none None = refl
+or_none (Some n) = refl
 
 pub join_no_percent : (how : Join) → join_sign how ≢ Percent
 join_no_percent Sequence q = cc
@@ -52,20 +52,20 @@ edge_no_percent false q = cc
 pub up_to_past : (t : Token) (old us new : List Token) (found : Option ℕ) → old ≡ t ∷ us
     → t ≢ Percent → FindsUpTo us new found → FindsUpTo old new found
 up_to_past t old us new found e n k = λ later h.
-    subst (λ l. Finds l (earlier found later)) (sym e)
-    (finds_past t us (earlier found later) n (k later h))
+    subst (λ l. Finds l (option_or found later)) (sym e)
+    (finds_past t us (option_or found later) n (k later h))
 
 pub up_to_end : (t : Token) (old ts new : List Token) (found now : Option ℕ)
     → FindsUpTo old ts found → ts ≡ t ∷ new → t ≢ Percent → now ≡ found → FindsUpTo old new now
 up_to_end t old ts new found now k e n same = λ later h.
-    subst (λ o. Finds old (earlier o later)) (sym same)
+    subst (λ o. Finds old (option_or o later)) (sym same)
     (k later (subst (λ l. Finds l later) (sym e) (finds_past t new later n h)))
 
 pub up_to_joined : (old ts new : List Token) (a b c : Option ℕ) → FindsUpTo old ts a
-    → FindsUpTo ts new b → c ≡ earlier a b → FindsUpTo old new c
+    → FindsUpTo ts new b → c ≡ option_or a b → FindsUpTo old new c
 up_to_joined old ts new a b c k m e = λ later h.
-    subst (λ o. Finds old o) (sym (ap (λ x. earlier x later) e ∙ earlier_grouped a b later))
-    (k (earlier b later) (m later h))
+    subst (λ o. Finds old o) (sym (ap (λ x. option_or x later) e ∙ or_grouped a b later))
+    (k (option_or b later) (m later h))
 
 pub up_to_accept : (t : Token) (is : Bool) (old us new : List Token) (found : Option ℕ)
     → Accepts t is old us → t ≢ Percent → FindsUpTo us new found → FindsUpTo old new found
@@ -175,17 +175,16 @@ IsFound tokens found = MatchOption found (NoneEmpty tokens)
 no_empty_at : (front rest : List Token) (t : Token) → (t ≡ Percent → BeginsUnkept rest → ⊥)
     → HasEmptyAt (front ++ t ∷ rest) (length front + 1) → ⊥
 no_empty_at front rest t never k =
-    let s = k.stands in
-    let same = same_place front s.front (t ∷ rest) (Percent ∷ (s.body ++ s.rest)) s.split
-    (omega (arith, s.here)) in
+    let same = same_place front k.front (t ∷ rest) (Percent ∷ (k.body ++ k.rest)) k.split
+    (omega (arith, k.here)) in
     let first : t ≡ Percent = cc in
-    let later : rest ≡ s.body ++ s.rest = cc in
+    let later : rest ≡ k.body ++ k.rest = cc in
     never first (record {
       ends = k.ends;
-      body = s.body;
-      rest = s.rest;
+      body = k.body;
+      rest = k.rest;
       split = later;
-      spells = s.spelt;
+      spells = k.spelt;
       unkept = λ fine. fine.lasts k.empty;
     })
 
@@ -197,23 +196,22 @@ empty_at front rest big none u =
     let split = ap (λ l. front ++ Percent ∷ l) u.split in
     let count = length-append front (Percent ∷ rest) in
     let here : length front + 1 ≡ length tokens - length rest = omega (arith, count) in
-    subst (IsFirstEmpty tokens) here (record {
-      here = record {
+    let P = λ (n : ℕ). IsFirstEmpty tokens n in
+    subst P here (
+      record {
+        front = front;
+        body = u.body;
+        rest = u.rest;
         ends = u.ends;
-        stands = record {
-          front = front;
-          body = u.body;
-          rest = u.rest;
-          split = split;
-          spelt = u.spells;
-          here = refl;
-        };
+        split = split;
+        here = refl;
+        spelt = u.spells;
         empty = unkept_empty u.ends
             (ends_within tokens front u.body u.rest u.ends (none_big tokens big) split u.spells)
             u.unkept;
-      };
-      first = none;
-    })
+      },
+      none,
+    )
 
 -- One token further.
 finds_more : (front rest : List Token) (t : Token) (found : Option ℕ)
@@ -253,4 +251,4 @@ pub finds_first : (tokens : List Token) (found : Option ℕ) → position is_big
     → FindsUpTo tokens [] found → IsFound tokens found
 finds_first tokens found big k =
     finds_on [] tokens found big (none_before_one tokens)
-    (subst (Finds tokens) (earlier_none found) (k None refl))
+    (subst (Finds tokens) (or_none found) (k None refl))

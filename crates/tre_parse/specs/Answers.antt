@@ -1,5 +1,5 @@
 -- What `parse` answers, against the outcome of the text.
-use Rattle.std.specs.Prelude.{◌≡◌, ◌-◌, ◌⊎◌, Result, Ok, Err, length}
+use Rattle.std.specs.Prelude.{◌≡◌, ◌-◌, ◌⊎◌, Result, Ok, Err, MatchOption, length}
 use Rattle.tre_syntax.specs.declared.pattern.Pattern.{Pattern}
 use Rattle.tre_syntax.specs.Pattern.{pattern_tree, names_of}
 use Rattle.tre_parse.specs.declared.fault.ParseFault.{ParseFault}
@@ -9,12 +9,18 @@ use Rattle.tre_parse.specs.declared.cursor.Stop.TheVariants.{Syntax as Stuck, Me
 use Rattle.tre_parse.specs.declared.scan.Scan.{Scan}
 use Rattle.tre_parse.specs.Front.{tokens_in, offsets_in}
 use Rattle.tre_parse.specs.Scan.{vocabulary_in}
-use Rattle.tre_parse.specs.Outcome.{Outcome, spelt, refused, TextTokens, offset_of}
+use Rattle.tre_parse.specs.Outcome.{Outcome, spelt, refused, TextTokens, offset_of, limit_fault, IsOutcomeOfTokens}
 
 -- The answer is an outcome of which this is so, or want of memory.
 abbrev pub Answers : (Outcome → Type 0) → Result Pattern ParseFault → Type 0
 Answers IsIt (Ok pattern) = IsIt (spelt (pattern_tree pattern) (names_of pattern))
 Answers IsIt (Err fault) = (fault ≡ Memory) ⊎ IsIt (refused fault)
+
+-- What becomes of words that have no fault in their bytes.
+abbrev pub IsOutcomeWithin : TextTokens → Outcome → Type 0
+IsOutcomeWithin words outcome =
+    MatchOption (limit_fault words) (IsOutcomeOfTokens words outcome)
+    (λ fault. outcome ≡ refused fault)
 
 -- The words that a scan holds.
 abbrev pub text_tokens_in : Scan → TextTokens
@@ -24,7 +30,6 @@ text_tokens_in scan =
       tokens = tokens_in scan.tokens.items;
       offsets = offsets_in scan.tokens.items;
       names = vocabulary_in scan;
-      past = scan.past;
     }
 
 -- The fault where reading stops.

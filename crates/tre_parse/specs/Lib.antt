@@ -14,6 +14,7 @@ pub mod Ends
 pub mod Past
 -- What the functions inside promise each other.
 pub mod Front
+pub mod Known
 pub mod Scan
 pub mod Joins
 pub mod Parts

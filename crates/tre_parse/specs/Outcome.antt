@@ -1,6 +1,7 @@
 -- What becomes of a text: the pattern that it spells, or the refusal that comes first.
-use Rattle.std.specs.Prelude.{◌≡◌, ℕ, ◌+◌, ◌-◌, ◌<◌, ◌≤◌, Bool, false, ◌⊎◌, nat_lt, if◌then◌else◌, min, Option, Some, None, MatchOption, List, [], ◌∷◌, ◌++◌, length, take, slice_index_or, position}
-use Rattle.std.specs.Option.{option_map}
+use Rattle.std.specs.Prelude.{◌≡◌, ℕ, ◌+◌, ◌-◌, ◌<◌, Bool, false, ◌⊎◌, ◌==◌, nat_lt, if◌then◌else◌, min, Option, Some, None, MatchOption, List, [], ◌∷◌, ◌++◌, length, take, map, slice_index_or, position}
+use Rattle.std.specs.Option.{option_map, option_or}
+use Rattle.tre_state.specs.declared.names.TheConstants.{NAMES_MAX}
 use Rattle.tre_trace.specs.Reading.{Vocabulary}
 use Rattle.tre_zone.specs.Interval.{IntervalEnds}
 use Rattle.tre_syntax.specs.PatternTree.{PatternTree, node_count}
@@ -8,12 +9,12 @@ use Rattle.tre_pairs.specs.declared.TheConstants.{TIME_MAX}
 use Rattle.tre_syntax.specs.declared.pattern.TheConstants.{NODES_MAX}
 use Rattle.tre_parse.specs.declared.limits.TheConstants.{TEXT_MAX, DEPTH_MAX, COUNT_MAX}
 use Rattle.tre_parse.specs.declared.token.Token.{Token}
-use Rattle.tre_parse.specs.declared.token.Token.TheVariants.{Number, LeftParen, RightParen, LeftBracket, RightBracket, LeftBrace, RightBrace, Percent}
+use Rattle.tre_parse.specs.declared.token.Token.TheVariants.{Name, EventName, Number, LeftParen, RightParen, LeftBracket, RightBracket, LeftBrace, RightBrace, Percent}
 use Rattle.tre_parse.specs.declared.fault.ParseFault.{ParseFault}
 use Rattle.tre_parse.specs.declared.fault.ParseFault.TheVariants.{TooLong, BadByte, Number as TooBig, TooDeep, Syntax, EmptyInterval, TooManyNames, TooLarge}
 use Rattle.tre_parse.specs.Grammar.{expr, Spells, SpellsInterval}
 use Rattle.tre_parse.specs.Parts.{IsEmptyInterval}
-use Rattle.tre_parse.specs.Tokens.{earlier, nothing_known, raw_tokens_of, bad_byte, tokens_of, names_of, past_from, offsets_of}
+use Rattle.tre_parse.specs.Tokens.{raw_tokens_of, bad_byte, tokens_of, names_of}
 
 -- The text spells the expression at the scale, and its names are these.
 pub record IsSpelling (scale : ℕ) (text : List ℕ) (tree : PatternTree) (names : Vocabulary)
@@ -27,23 +28,20 @@ pub data Outcome : Type 0 where
   spelt : PatternTree → Vocabulary → Outcome
   refused : ParseFault → Outcome
 
--- What a text is made of: how many bytes, its tokens, the offset of each, its names of each
--- kind by first use, and the offset of the first name past the first NAMES_MAX of its kind.
+-- What a text is made of: how many bytes, its tokens, the offset of each, and its names.
 pub record TextTokens : Type 0 where
   pub size : ℕ
   pub tokens : List Token
   pub offsets : List ℕ
   pub names : Vocabulary
-  pub past : Option ℕ
 
 abbrev pub text_tokens_of : ℕ → List ℕ → TextTokens
 text_tokens_of scale text =
     record {
       size = length text;
       tokens = tokens_of scale text;
-      offsets = offsets_of (raw_tokens_of text);
+      offsets = map (λ raw. raw.at) (raw_tokens_of text);
       names = names_of text;
-      past = past_from nothing_known (raw_tokens_of text);
     }
 
 -- The offset of the token at a place, and the length of the text past the last.
@@ -54,6 +52,12 @@ offset_of words place = slice_index_or words.offsets place words.size
 abbrev pub is_big : Token → Bool
 is_big (Number n) = nat_lt TIME_MAX n
 is_big _ = false
+
+-- A name past the first NAMES_MAX of its kind.
+abbrev pub is_past : Token → Bool
+is_past (Name i) = i == NAMES_MAX
+is_past (EventName i) = i == NAMES_MAX
+is_past _ = false
 
 -- How many brackets are open after one more token. Those that close take one away, but never below
 -- zero.
@@ -83,7 +87,7 @@ byte_fault text =
 -- brackets.
 abbrev pub limit_fault : TextTokens → Option ParseFault
 limit_fault words =
-    earlier (option_map (λ place. TooBig (offset_of words place)) (position is_big words.tokens))
+    option_or (option_map (λ place. TooBig (offset_of words place)) (position is_big words.tokens))
     (option_map (λ place. TooDeep (offset_of words place)) (deep_place 0 0 words.tokens))
 
 -- The tokens begin an expression: with some more behind them they spell one.
@@ -99,54 +103,38 @@ pub record IsSyntaxFaultAt (tokens : List Token) (place : ℕ) : Type 0 where
   pub begins : BeginsExpression (take place tokens)
   pub wrong : BeginsExpression (take (place + 1) tokens) → place ≡ length tokens
 
--- An interval with these ends stands at a place of the tokens, right after a `%`.
-pub record IsIntervalAt (tokens : List Token) (place : ℕ) (ends : IntervalEnds) : Type 0 where
+-- An interval that no duration is in stands at a place of the tokens, right after a `%`.
+pub record HasEmptyAt (tokens : List Token) (place : ℕ) : Type 0 where
   pub front : List Token
   pub body : List Token
   pub rest : List Token
-  pub split : tokens ≡ front ++ Percent ∷ (body ++ rest)
-  pub spelt : SpellsInterval body ends
-  pub here : place ≡ length front + 1
-
--- An interval that no duration is in stands at the place.
-pub record HasEmptyAt (tokens : List Token) (place : ℕ) : Type 0 where
   pub ends : IntervalEnds
-  pub stands : IsIntervalAt tokens place ends
+  pub split : tokens ≡ front ++ Percent ∷ (body ++ rest)
+  pub here : place ≡ length front + 1
+  pub spelt : SpellsInterval body ends
   pub empty : IsEmptyInterval ends
 
--- No interval that stands before the place is empty.
-abbrev pub NoneEmptyBefore : List Token → ℕ → Type 0
-NoneEmptyBefore tokens place =
-    (earlier : ℕ) (ends : IntervalEnds) → earlier < place → IsIntervalAt tokens earlier ends →
-    IsEmptyInterval ends → ⊥
+-- The first of them stands at the place.
+abbrev pub IsFirstEmpty : List Token → ℕ → Type 0
+IsFirstEmpty tokens place =
+    HasEmptyAt tokens place × ((n : ℕ) → n < place → HasEmptyAt tokens n → ⊥)
 
--- The first interval that no duration is in stands at the place.
-pub record IsFirstEmpty (tokens : List Token) (place : ℕ) : Type 0 where
-  pub here : HasEmptyAt tokens place
-  pub first : NoneEmptyBefore tokens place
-
-abbrev pub NoneEmpty : List Token → Type 0
-NoneEmpty tokens =
-    (place : ℕ) (ends : IntervalEnds) → IsIntervalAt tokens place ends → IsEmptyInterval ends → ⊥
-
-abbrev pub past_or : Option ℕ → Outcome → Outcome
-past_or (Some at) _ = refused (TooManyNames at)
-past_or None outcome = outcome
-
--- What becomes of words without an empty interval that spell the expression: the names and the
--- nodes have limits.
-abbrev pub limited_outcome : TextTokens → PatternTree → Outcome
-limited_outcome words tree =
-    past_or words.past
-    (if nat_lt NODES_MAX (node_count tree) then refused (TooLarge (min
-    (node_count tree) COUNT_MAX)) else spelt tree words.names)
+-- A name past the first NAMES_MAX of its kind, or else too many nodes.
+abbrev pub size_fault : TextTokens → PatternTree → Option ParseFault
+size_fault words tree =
+    option_or
+    (option_map (λ place. TooManyNames (offset_of words place)) (position is_past words.tokens))
+    (if nat_lt NODES_MAX (node_count tree)
+    then Some (TooLarge (min (node_count tree) COUNT_MAX)) else None)
 
 -- What becomes of words that spell the expression.
 abbrev pub IsOutcomeOfTree : TextTokens → PatternTree → Outcome → Type 0
 IsOutcomeOfTree words tree outcome =
     ((place : ℕ) × IsFirstEmpty words.tokens place
     × (outcome ≡ refused (EmptyInterval (offset_of words place))))
-    ⊎ (NoneEmpty words.tokens × (outcome ≡ limited_outcome words tree))
+    ⊎ (((place : ℕ) → HasEmptyAt words.tokens place → ⊥)
+    × MatchOption (size_fault words tree) (outcome ≡ spelt tree words.names)
+    (λ fault. outcome ≡ refused fault))
 
 -- What becomes of words within the limits on numbers and brackets.
 abbrev pub IsOutcomeOfTokens : TextTokens → Outcome → Type 0
@@ -155,14 +143,9 @@ IsOutcomeOfTokens words outcome =
     × (outcome ≡ refused (Syntax (offset_of words place))))
     ⊎ ((tree : PatternTree) × Spells expr words.tokens tree × IsOutcomeOfTree words tree outcome)
 
-abbrev pub IsOutcomeWithin : TextTokens → Outcome → Type 0
-IsOutcomeWithin words outcome =
-    MatchOption (limit_fault words) (IsOutcomeOfTokens words outcome)
-    (λ fault. outcome ≡ refused fault)
-
 -- The text has this outcome at the scale. It has exactly one, and want of memory aside it is what
 -- `parse` answers.
 abbrev pub IsOutcome : ℕ → List ℕ → Outcome → Type 0
 IsOutcome scale text outcome =
-    MatchOption (byte_fault text) (IsOutcomeWithin (text_tokens_of scale text) outcome)
-    (λ fault. outcome ≡ refused fault)
+    MatchOption (option_or (byte_fault text) (limit_fault (text_tokens_of scale text)))
+    (IsOutcomeOfTokens (text_tokens_of scale text) outcome) (λ fault. outcome ≡ refused fault)

@@ -6,7 +6,8 @@ use Rattle.tre_syntax.specs.declared.name_kind.NameKind.{NameKind}
 use Rattle.tre_syntax.specs.declared.name_kind.NameKind.TheVariants.{Proposition, Event}
 use Rattle.tre_parse.specs.declared.before.Before.{Before}
 use Rattle.tre_parse.specs.declared.before.Before.TheVariants.{Other}
-use Rattle.tre_parse.specs.Tokens.{RawToken, RawTokenAt, name, number, sign, before_next, kind_behind}
+use Rattle.tre_parse.specs.Tokens.{RawToken, RawTokenAt, name}
+use Rattle.tre_parse.specs.Known.{before_next, kind_behind}
 
 -- What stands before the token behind these.
 abbrev pub before_from : Before → List RawTokenAt → Before
@@ -25,8 +26,7 @@ use_of _ _ bytes = []
 
 abbrev pub use_at : NameKind → Before → RawToken → List (List ℕ)
 use_at kind before (name bytes) = use_of kind (kind_behind before) bytes
-use_at kind before (number bytes) = []
-use_at kind before (sign token) = []
+use_at kind before _ = []
 
 abbrev pub uses_from : NameKind → Before → List RawTokenAt → List (List ℕ)
 uses_from kind before [] = []

@@ -1,5 +1,5 @@
 -- A scan: what is kept of the words read so far, against the words of the text.
-use Rattle.std.specs.Prelude.{◌≡◌, ℕ, Result, Ok, Err, ◌≤◌, ◌<◌, ◌⊎◌, if◌then◌else◌, Some, None, List, [], ◌∷◌, ◌++◌, length, drop}
+use Rattle.std.specs.Prelude.{◌≡◌, ℕ, Result, Ok, Err, ◌≤◌, ◌<◌, ◌⊎◌, Some, None, List, [], ◌∷◌, ◌++◌, length, drop}
 use Rattle.tre_state.specs.declared.names.NameFault.{NameFault}
 use Rattle.tre_state.specs.declared.names.NameFault.TheVariants.{TooMany, Memory as Lacking}
 use Rattle.tre_trace.specs.Reading.{Vocabulary}
@@ -8,7 +8,8 @@ use Rattle.tre_parse.specs.declared.fault.ParseFault.TheVariants.{BadByte, Memor
 use Rattle.tre_parse.specs.declared.scan.Scan.{Scan}
 use Rattle.tre_parse.specs.declared.token.TokenAt.{TokenAt}
 use Rattle.tre_parse.specs.declared.token.Token.{Token}
-use Rattle.tre_parse.specs.Tokens.{RawToken, RawTokenAt, RawTokens, name, raw_tokens_from, Known, nothing_known, kind_behind, number_of, token_of, known_after, names_from, past_from, is_past, names_of, raw_tokens_of, bad_byte, earlier}
+use Rattle.tre_parse.specs.Tokens.{RawToken, RawTokenAt, RawTokens, name, raw_tokens_from, raw_tokens_of, bad_byte}
+use Rattle.tre_parse.specs.Known.{Known, nothing_known, kind_behind, number_of, next_token, known_after, names_from}
 
 -- The words from an offset on.
 abbrev pub rest_from : List ℕ → ℕ → RawTokens
@@ -23,7 +24,7 @@ known_in scan = record { vocabulary = vocabulary_in scan; before = scan.before }
 
 -- Each word's token at a scale, with its offset.
 abbrev pub placed : ℕ → Known → ℕ → RawToken → TokenAt
-placed scale known at word = record { token = token_of scale known word; at = at }
+placed scale known at word = record { token = next_token scale known word; at = at }
 
 abbrev pub placed_from : ℕ → Known → List RawTokenAt → List TokenAt
 placed_from scale known [] = []
@@ -34,7 +35,6 @@ placed_from scale known (raw ∷ rest) =
 pub record Puts (old new : Scan) (at : ℕ) (token : Token) : Type 0 where
   pub tokens : new.tokens.items ≡ old.tokens.items ++ record { token = token; at = at } ∷ []
   pub known : known_in new ≡ known_in old
-  pub past : new.past ≡ old.past
   pub size : new.size ≡ old.size
   pub same_scale : new.scale ≡ old.scale
 
@@ -42,7 +42,6 @@ pub record Puts (old new : Scan) (at : ℕ) (token : Token) : Type 0 where
 pub record Numbers (old new : Scan) (bytes : List ℕ) : Type 0 where
   pub tokens : new.tokens.items ≡ old.tokens.items
   pub known : known_in new ≡ known_after (known_in old) (name bytes)
-  pub past : new.past ≡ old.past
   pub size : new.size ≡ old.size
   pub same_scale : new.scale ≡ old.scale
 
@@ -58,7 +57,6 @@ IsNumbered old new bytes (Err Lacking) = Unit {0}
 pub record TakesToken (old new : Scan) (at : ℕ) (word : RawToken) : Type 0 where
   pub tokens : new.tokens.items ≡ old.tokens.items ++ placed old.scale (known_in old) at word ∷ []
   pub known : known_in new ≡ known_after (known_in old) word
-  pub past : new.past ≡ earlier old.past (if is_past (known_in old) word then Some at else None)
   pub size : new.size ≡ old.size
   pub same_scale : new.scale ≡ old.scale
 
@@ -69,9 +67,6 @@ pub record LeadsTo (bytes : List ℕ) (old : Scan) (at : ℕ) (new : Scan) (next
       (rest_from bytes next).raw_tokens
   pub names : names_from (known_in old) (rest_from bytes at).raw_tokens ≡ names_from
       (known_in new) (rest_from bytes next).raw_tokens
-  pub past : earlier old.past (past_from (known_in old)
-      (rest_from bytes at).raw_tokens) ≡ earlier new.past (past_from (known_in new)
-      (rest_from bytes next).raw_tokens)
   pub bad : (rest_from bytes at).bad ≡ (rest_from bytes next).bad
   pub size : new.size ≡ old.size
   pub same_scale : new.scale ≡ old.scale
@@ -89,7 +84,6 @@ IsBadByte bytes at fault =
 -- The scan of a whole text at a scale.
 pub record IsScan (scale : ℕ) (text : List ℕ) (scan : Scan) : Type 0 where
   pub tokens : scan.tokens.items ≡ placed_from scale nothing_known (raw_tokens_of text)
-  pub names : vocabulary_in scan ≡ names_of text
-  pub past : scan.past ≡ past_from nothing_known (raw_tokens_of text)
+  pub names : vocabulary_in scan ≡ names_from nothing_known (raw_tokens_of text)
   pub good : bad_byte text ≡ None
   pub size : scan.size ≡ length text

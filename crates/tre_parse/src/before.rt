@@ -1,5 +1,5 @@
 ghost use Rattle.std.specs.Prelude.{◌≡◌};
-ghost use Rattle.tre_parse.specs.Tokens.{numbered, kind_behind, before_sign, behind_paren};
+ghost use Rattle.tre_parse.specs.Known.{numbered, kind_behind, before_sign, behind_paren};
 
 use crate::token::Token;
 use tre_syntax::NameKind;

@@ -19,8 +19,9 @@ ghost use Rattle.tre_parse.specs.Lexeme.{is_blank, sign_lexeme, lexeme_of};
 ghost use Rattle.tre_parse.specs.Signs.{IsSign, TakesSign};
 ghost use Rattle.tre_parse.specs.declared.lexeme.Lexeme.TheVariants.{Sign};
 ghost use Rattle.tre_state.specs.Names.{place_of};
-ghost use Rattle.tre_parse.specs.Numbering.{HasTokenAt, IsNumberedByUse};
-ghost use Rattle.tre_parse.specs.Tokens.{RawTokenAt, name, names_of_kind, numbered, raw_tokens_of, bad_byte, tokens_of, names_of};
+ghost use Rattle.tre_parse.specs.Numbering.{past_of, HasTokenAt, IsNumberedByUse};
+ghost use Rattle.tre_parse.specs.Tokens.{RawTokenAt, name, raw_tokens_of, bad_byte, tokens_of, names_of};
+ghost use Rattle.tre_parse.specs.Known.{names_of_kind, numbered};
 ghost use Rattle.tre_parse.specs.Blanks.{counted_on, SaysAs};
 ghost use Rattle.tre_parse.specs.declared.token.Token.{Token};
 ghost use Rattle.tre_parse.specs.Outcome.{text_tokens_of, deep_place, IsSpelling, Outcome, spelt, IsOutcome};
@@ -162,6 +163,6 @@ pub fn numbers_of_names()
 /// `NAMES_MAX` different ones used before it, and no name is where no more than `NAMES_MAX` of
 /// either kind are used.
 pub fn one_name_too_many()
-    ensures { (scale : ℕ) (text : List ℕ) → MatchOption (text_tokens_of scale text).past
+    ensures { (scale : ℕ) (text : List ℕ) → MatchOption (past_of (text_tokens_of scale text))
         (UsesFew (raw_tokens_of text)) (IsOneTooMany (raw_tokens_of text)) }
 {}

@@ -1,7 +1,8 @@
 ghost use Rattle.std.specs.Prelude.{◌≡◌, ◌≤◌, position};
 ghost use Rattle.tre_parse.specs.Front.{tokens_in};
-ghost use Rattle.tre_parse.specs.Outcome.{is_big, open_after, deep_place};
+ghost use Rattle.tre_parse.specs.Outcome.{is_big, is_past, open_after, deep_place};
 
+use crate::scan::PAST;
 use crate::token::{Token, TokenAt};
 use tre_pairs::TIME_MAX;
 
@@ -24,6 +25,20 @@ pub(crate) fn first_big(tokens: &[TokenAt]) -> Option<usize>
         .map(|placed| placed.token)
         .position(|token| match token {
             Token::Number(number) => number > TIME_MAX,
+            _ => false,
+        })
+}
+
+/// The place of the first name past the first `NAMES_MAX` of its kind.
+pub(crate) fn first_past(tokens: &[TokenAt]) -> Option<usize>
+    ensures { result ≡ position is_past (tokens_in tokens.now) }
+{
+    tokens
+        .iter()
+        .map(|placed| placed.token)
+        .position(|token| match token {
+            Token::Name(number) => number == PAST,
+            Token::EventName(number) => number == PAST,
             _ => false,
         })
 }

@@ -1,4 +1,5 @@
 ghost use Rattle.std.specs.Prelude.{◌≡◌, None, IfOk};
+ghost use Rattle.std.specs.Option.{option_or};
 ghost use Rattle.tre_state.specs.State.{tree_of as state_tree};
 ghost use Rattle.tre_state.specs.StateTree.{StateTree};
 ghost use Rattle.tre_zone.specs.Interval.{IntervalEnds};
@@ -7,7 +8,6 @@ ghost use Rattle.tre_syntax.specs.PatternTree.{PatternTree, atom, literal, seque
 ghost use Rattle.tre_parse.specs.Joins.{edge_of, joined_by};
 ghost use Rattle.tre_parse.specs.Operands.{RepresentsState, Represents, Turns};
 ghost use Rattle.tre_parse.specs.Parts.{IsMadeOf};
-ghost use Rattle.tre_parse.specs.Tokens.{earlier};
 ghost use Rattle.tre_parse.specs.Unkept.{unkept_at};
 
 use crate::connective::Join;
@@ -67,7 +67,7 @@ pub(crate) fn joined(
 ) -> Result<Operand, AllocError>
     ensures stands { IfOk result (λ r. (e f : PatternTree) → Represents left e →
         Represents right f → Represents r (joined_by how e f)) }
-    ensures unkept { IfOk result (λ r. r.unkept ≡ earlier left.unkept right.unkept) }
+    ensures unkept { IfOk result (λ r. r.unkept ≡ option_or left.unkept right.unkept) }
 {
     let nodes = (left.nodes + right.nodes + 1).min(COUNT_MAX);
     let unkept = left.unkept.or(right.unkept);
@@ -145,7 +145,8 @@ pub(crate) fn restricted(
 ) -> Result<Operand, AllocError>
     ensures stands { IfOk result (λ r. (e : PatternTree) (ends : IntervalEnds) →
         IsMadeOf interval ends → Represents operand e → Represents r (restriction e ends)) }
-    ensures unkept { IfOk result (λ r. r.unkept ≡ earlier operand.unkept (unkept_at interval at)) }
+    ensures unkept { IfOk result (λ r. r.unkept ≡ option_or operand.unkept
+        (unkept_at interval at)) }
 {
     let nodes = (operand.nodes + 1).min(COUNT_MAX);
     let unkept = operand.unkept.or(unkept_at(&interval, at));

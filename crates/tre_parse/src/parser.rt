@@ -6,14 +6,14 @@ ghost use Rattle.tre_parse.specs.Reader.{PatternTask};
 ghost use Rattle.tre_parse.specs.Reading.{Reads};
 ghost use Rattle.tre_parse.specs.Unkept.{FindsUpTo};
 ghost use Rattle.tre_parse.specs.Numbering.{IsNumberedByUse};
-ghost use Rattle.tre_parse.specs.Outcome.{IsSpelling, Outcome, limit_fault, IsOutcomeWithin, IsOutcome};
-ghost use Rattle.tre_parse.specs.Answers.{text_tokens_in, IsFaultOf, Answers};
+ghost use Rattle.tre_parse.specs.Outcome.{IsSpelling, Outcome, limit_fault, IsOutcome};
+ghost use Rattle.tre_parse.specs.Answers.{text_tokens_in, IsFaultOf, IsOutcomeWithin, Answers};
 
 use crate::connective::Join;
 use crate::cursor::{Cursor, Stop};
 use crate::expression::expression;
 use crate::fault::ParseFault;
-use crate::limits::{TEXT_MAX, first_big, first_deep};
+use crate::limits::{TEXT_MAX, first_big, first_deep, first_past};
 use crate::operand::Operand;
 use crate::scan::{Scan, scan_text};
 use std::alloc::Global;
@@ -90,7 +90,8 @@ fn judge(scan: Scan, whole: Operand) -> Result<Pattern, ParseFault>
         let at = scan.offset(scan.place_of_left(left));
         return Err(ParseFault::EmptyInterval { at });
     }
-    if let Some(at) = scan.past {
+    if let Some(place) = first_past(&scan.tokens) {
+        let at = scan.offset(place);
         return Err(ParseFault::TooManyNames { at });
     }
     let nodes = whole.nodes;

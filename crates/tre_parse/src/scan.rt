@@ -2,7 +2,8 @@ ghost use Rattle.std.specs.Prelude.{◌≡◌, ◌-◌, ◌<◌, ◌≤◌, ℕ,
 ghost use Rattle.tre_state.specs.Name.{IsName};
 ghost use Rattle.tre_state.specs.Names.{place_of};
 ghost use Rattle.tre_decimal.specs.declared.TheConstants.{SCALE_MAX};
-ghost use Rattle.tre_parse.specs.Tokens.{name, number, sign, names_with, units_within};
+ghost use Rattle.tre_parse.specs.Tokens.{name, number, sign, units_within};
+ghost use Rattle.tre_parse.specs.Known.{names_with};
 ghost use Rattle.tre_parse.specs.Outcome.{offset_of};
 ghost use Rattle.tre_parse.specs.Answers.{text_tokens_in};
 ghost use Rattle.tre_parse.specs.Scan.{Puts, IsNumbered, TakesToken, GoesOn, IsBadByte, IsScan};
@@ -33,8 +34,6 @@ pub(crate) struct Scan {
     pub(crate) events: Names,
     /// What stands before the next token.
     pub(crate) before: Before,
-    /// Where the first name past the first `NAMES_MAX` of its kind stands, if there is one.
-    pub(crate) past: Option<u64>,
     /// How many bytes the text has.
     pub(crate) size: u64,
     /// The scale of its numbers.
@@ -108,11 +107,7 @@ impl Scan {
         let kind = self.before.kind();
         match self.number(word) {
             Ok(number) => Ok(self.put(numbered(kind, number), at)?),
-            Err(NameFault::TooMany) => {
-                self.put(numbered(kind, PAST), at)?;
-                self.past = self.past.or(Some(at as u64));
-                Ok(())
-            }
+            Err(NameFault::TooMany) => Ok(self.put(numbered(kind, PAST), at)?),
             Err(NameFault::Memory) => Err(ParseFault::Memory),
         }
     }
@@ -173,7 +168,6 @@ pub(crate) fn scan_text(alloc: Global, text: &str, scale: u8) -> Result<Scan, Pa
         names: Names::new(alloc),
         events: Names::new(alloc),
         before: Before::Other,
-        past: None,
         size: text.len() as u64,
         scale,
     };

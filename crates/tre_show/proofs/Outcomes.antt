@@ -3,7 +3,7 @@ use Rattle.std.proofs.Common.{◌≡◌, ℕ, ◌+◌, ◌≤◌, Bool, true, fa
 use Rattle.std.proofs.Common.{Option, Some, None, List, [], ◌∷◌, ◌++◌, length, refl, sym, ap, ◌∙◌, subst, arith, append-nil}
 use Rattle.std.specs.Prelude.{nat_lt, min, MatchOption, if◌then◌else◌, position}
 use Rattle.std.specs.List.{position_or_len}
-use Rattle.std.specs.Option.{option_map}
+use Rattle.std.specs.Option.{option_map, option_or}
 use Rattle.std.proofs.lemmas.Bool.{cond_above}
 use Rattle.std.proofs.lemmas.Bool.Decides.{nat_tests}
 use Rattle.tre_state.specs.Names.{IsNameList}
@@ -15,10 +15,14 @@ use Rattle.tre_parse.specs.declared.token.Token.{Token}
 use Rattle.tre_parse.specs.declared.before.Before.{Before}
 use Rattle.tre_parse.specs.declared.before.Before.TheVariants.{Other}
 use Rattle.tre_parse.specs.declared.token.Token.TheVariants.{Number, Percent}
-use Rattle.tre_parse.specs.declared.fault.ParseFault.TheVariants.{TooLong, BadByte, Number as TooBig, TooDeep, TooLarge}
+use Rattle.tre_parse.specs.declared.fault.ParseFault.{ParseFault}
+use Rattle.tre_parse.specs.declared.fault.ParseFault.TheVariants.{TooLong, BadByte, Number as TooBig, TooDeep, TooManyNames, TooLarge}
 use Rattle.tre_parse.specs.Grammar.{expr, Spells}
-use Rattle.tre_parse.specs.Tokens.{raw_tokens_from, earlier, before_sign, nothing_known, tokens_of, bad_byte}
-use Rattle.tre_parse.specs.Outcome.{IsSpelling, Outcome, spelt, refused, TextTokens, text_tokens_of, is_big, deep_place, offset_of, past_or, NoneEmpty, IsOutcomeOfTokens, IsOutcome}
+use Rattle.tre_parse.specs.Tokens.{raw_tokens_from, tokens_of, bad_byte}
+use Rattle.tre_parse.specs.Known.{before_sign, nothing_known}
+use Rattle.tre_parse.specs.Unkept.{NoneEmpty}
+use Rattle.tre_parse.specs.Outcome.{IsSpelling, Outcome, spelt, refused, TextTokens, text_tokens_of, is_big, is_past, deep_place, offset_of, size_fault, IsOutcomeOfTokens, IsOutcome}
+use Rattle.tre_parse.proofs.Named.{names_run, tokens_run, past_run}
 use Rattle.tre_show.specs.Intervals.{HasIntervals}
 use Rattle.tre_show.specs.PatternText.{expression_text}
 use Rattle.tre_show.specs.ReadBack.{IsReadBack}
@@ -61,20 +65,20 @@ module _ (scale : ℕ) (names : Vocabulary) where
       well_behind (before_sign before other) front others rest stand.1 (cc)
 
   none_empty : (tokens : List Token) → Stand scale names tokens → NoneEmpty tokens
-  none_empty tokens stand = λ place ends at none.
-      well_behind Other at.front tokens (at.body ++ at.rest) stand at.split at.body at.rest ends
-      refl at.spelt none
+  none_empty tokens stand = λ place at.
+      well_behind Other at.front tokens (at.body ++ at.rest) stand at.split at.body at.rest at.ends
+      refl at.spelt at.empty
 
 -- ---- the outcome
 
 -- Words of which nothing is refused but the length and the brackets.
 judged : (long : Bool) (bad big deep : Option ℕ) (words : TextTokens) (tree : PatternTree)
     (names : Vocabulary) (outcome : Outcome) → bad ≡ None → big ≡ None
-    → let is = λ (o : Outcome). MatchOption (if long then Some TooLong
-    else option_map (λ at. BadByte at) bad) (MatchOption (earlier
+    → let is = λ (o : Outcome). MatchOption (option_or (if long then Some TooLong
+    else option_map (λ at. BadByte at) bad) (option_or
     (option_map (λ place. TooBig (offset_of words place)) big)
-    (option_map (λ place. TooDeep (offset_of words place)) deep)) (IsOutcomeOfTokens words o)
-    (λ fault. o ≡ refused fault)) (λ fault. o ≡ refused fault) in
+    (option_map (λ place. TooDeep (offset_of words place)) deep))) (IsOutcomeOfTokens words o)
+    (λ fault. o ≡ refused fault) in
     IsOutcomeOfTokens words (spelt tree names) → ((o : Outcome) → is o → o ≡ outcome) → is outcome
     → IsReadBack tree names outcome
 judged true bad big deep words tree names outcome p q read once is = inr (inl is)
@@ -85,13 +89,18 @@ judged false None None None words tree names outcome p q read once is =
 judged false None (Some place) deep words tree names outcome p q read once is = absurd (cc)
 judged false (Some at) big deep words tree names outcome p q read once is = absurd (cc)
 
-limited : (past : Option ℕ) (tree : PatternTree) (names : Vocabulary) → past ≡ None
-    → node_count tree ≤ 1000
-    → spelt tree names ≡ past_or past (if nat_lt 1000 (node_count tree)
-    then refused (TooLarge (min (node_count tree) 1000000000)) else spelt tree names)
-limited past tree names none small =
+none_mapped : {A B : Type 0} (f : A → B) (o : Option A) → option_map f o ≡ None → o ≡ None
+none_mapped f None e = refl
+none_mapped f (Some x) e = absurd (cc)
+
+limited : (words : TextTokens) (tree : PatternTree) → position is_past words.tokens ≡ None
+    → node_count tree ≤ 1000 → size_fault words tree ≡ None
+limited words tree none small =
     let few : nat_lt 1000 (node_count tree) ≡ false = grind (arith, nat_tests) in
-    rw (none, few) refl
+    let large = λ (is : Bool). if is then Some (TooLarge (min (node_count tree) 1000000000))
+    else None in
+    ap (λ past. option_or (option_map (λ place. TooManyNames (offset_of words place)) past)
+    (large (nat_lt 1000 (node_count tree)))) none ∙ ap large few
 
 -- What is so of the text of a pattern at a scale.
 pub record IsTextOf (scale : ℕ) (text : List ℕ) (tree : PatternTree) (names : Vocabulary)
@@ -116,22 +125,28 @@ text_of_tree scale writes names tree list events pattern fine once =
     subst (λ t. AreRead scale names nothing_known tokens (raw_tokens_from 0 0 t)) says.text_same
     (all_read scale writes names list events tokens 0 0 Other 0 stand (omega arith) (omega arith)
     numbered events_numbered) in
+    let tokens_same = tokens_run scale text ∙ is.tokens_same in
+    let names_same = names_run text ∙ is.names_same in
     let spells : Spells expr (tokens_of scale text) tree =
-    subst (λ (ts : List Token). Spells expr ts tree) (sym is.tokens_same) printed.spells in
+    subst (λ (ts : List Token). Spells expr ts tree) (sym tokens_same) printed.spells in
     let words = text_tokens_of scale text in
     let big : position is_big (tokens_of scale text) ≡ None =
-    ap (position is_big) is.tokens_same ∙ none_big scale names tokens stand in
+    ap (position is_big) tokens_same ∙ none_big scale names tokens stand in
+    let past : position is_past (tokens_of scale text) ≡ None =
+    none_mapped (offset_of words) (position is_past (tokens_of scale text))
+    (past_run scale text ∙ is.few) in
+    let tells = λ (fault : Option ParseFault). MatchOption fault
+    (spelt tree names ≡ spelt tree words.names) (λ why. spelt tree names ≡ refused why) in
     let read : IsOutcomeOfTokens words (spelt tree names) = inr (
       tree,
       spells,
       inr (
-        subst NoneEmpty (sym is.tokens_same) (none_empty scale names tokens stand),
-        ap (spelt tree) (sym is.names_same)
-            ∙ limited words.past tree words.names is.few pattern.small,
+        subst NoneEmpty (sym tokens_same) (none_empty scale names tokens stand),
+        subst tells (sym (limited words tree past pattern.small)) (ap (spelt tree) (sym names_same)),
       ),
     ) in
     record {
-      spelling = record { tokens_alone = is.good; spells = spells; numbered = sym is.names_same };
+      spelling = record { tokens_alone = is.good; spells = spells; numbered = sym names_same };
       outcome = λ outcome said. judged (nat_lt 16384 (length text)) (bad_byte text)
           (position is_big words.tokens) (deep_place 0 0 words.tokens) words tree names outcome
           is.good big read (λ o so. once text o outcome so said) said;

@@ -29,7 +29,8 @@ use Rattle.tre_parse.specs.Lexeme.{is_blank, reserved, named, word_lexeme, numbe
 use Rattle.tre_parse.specs.declared.before.Before.{Before}
 use Rattle.tre_parse.specs.declared.before.Before.TheVariants.{Other}
 use Rattle.tre_parse.specs.Numbering.{numbers_in}
-use Rattle.tre_parse.specs.Tokens.{RawToken, name, number, sign, RawTokens, raw_tokens_from, scanned, with_raw_token, kind_behind, before_sign, names_with, vocabulary_with, Known, number_of, numbered, token_of, known_after, is_past, tokens_from, names_from, past_from}
+use Rattle.tre_parse.specs.Tokens.{RawToken, name, number, sign, RawTokens, raw_tokens_from, scanned, with_raw_token}
+use Rattle.tre_parse.specs.Known.{kind_behind, before_sign, names_with, vocabulary_with, Known, number_of, numbered, next_token, known_after, word_is_past, tokens_from, names_from, past_from}
 use Rattle.tre_show.specs.StateText.{name_text}
 use Rattle.tre_show.proofs.TreeTokens.{printed, text_of, IsCut, StandsHere, StandFrom}
 use Rattle.tre_show.proofs.Written.{WritesNumbers, prefix_whole, cut_stops, written_len, units_read}
@@ -334,9 +335,9 @@ pub record AreRead (scale : ℕ) (names : Vocabulary) (known : Known) (tokens : 
 
 -- A word whose token is this one, and behind which this much is known.
 record IsWordOf (scale : ℕ) (known next : Known) (token : Token) (word : RawToken) : Type 0 where
-  token_same : token_of scale known word ≡ token
+  token_same : next_token scale known word ≡ token
   next_same : known_after known word ≡ next
-  few : is_past known word ≡ false
+  few : word_is_past known word ≡ false
 
 -- A name in its place, of this kind.
 named_word : (scale : ℕ) (kind : NameKind) (known : Known) (bytes : List ℕ) (i : ℕ)

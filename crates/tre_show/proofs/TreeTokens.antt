@@ -20,7 +20,7 @@ use Rattle.tre_parse.specs.Grammar.{Rule, Spells, expr, meet, seq, post, primary
 use Rattle.tre_parse.specs.declared.before.Before.{Before}
 use Rattle.tre_parse.specs.declared.before.Before.TheVariants.{Other}
 use Rattle.tre_parse.specs.Numbering.{numbers_at, numbers_in}
-use Rattle.tre_parse.specs.Tokens.{kind_behind, before_sign}
+use Rattle.tre_parse.specs.Known.{kind_behind, before_sign}
 use Rattle.tre_decimal.specs.Decimal.{number_text}
 use Rattle.tre_show.specs.Interval.{lower_text, end_text}
 use Rattle.tre_show.specs.Intervals.{HasIntervals}

@@ -2,17 +2,16 @@
 use Rattle.std.proofs.Common.{◌≡◌, ◌≢◌, ◌∙◌, ℕ, ◌+◌, nat_lt, Bool, true, false, MatchBool, Option, None, Some, List, [], ◌∷◌, ◌++◌, length, refl, subst, inl, inr}
 use Rattle.std.specs.Prelude.{MatchOption, position, if◌then◌else◌}
 use Rattle.std.specs.List.{slice_split}
-use Rattle.std.specs.Option.{option_map}
-use Rattle.tre_parse.specs.Outcome.{Outcome as Parsed, spelt, refused, TextTokens, text_tokens_of, offset_of, is_big, deep_place, byte_fault, limit_fault, past_or, IsOutcomeOfTree, IsOutcomeOfTokens, IsOutcome as ParsesTo}
-use Rattle.tre_parse.specs.Tokens.{bad_byte, earlier}
+use Rattle.std.specs.Option.{option_map, option_or}
+use Rattle.tre_parse.specs.Outcome.{Outcome as Parsed, spelt, refused, TextTokens, text_tokens_of, offset_of, is_big, is_past, deep_place, byte_fault, limit_fault, size_fault, IsOutcomeOfTree, IsOutcomeOfTokens, IsOutcome as ParsesTo}
+use Rattle.tre_parse.specs.Tokens.{bad_byte}
 use Rattle.tre_parse.specs.declared.fault.ParseFault.{ParseFault}
-use Rattle.tre_parse.specs.declared.fault.ParseFault.TheVariants.{TooLong, BadByte, Number as TooBig, TooDeep, TooLarge as ManyNodes, Memory as ParseMemory}
+use Rattle.tre_parse.specs.declared.fault.ParseFault.TheVariants.{TooLong, BadByte, Number as TooBig, TooDeep, TooManyNames, TooLarge as ManyNodes, Memory as ParseMemory}
 use Rattle.tre_parse.specs.declared.limits.TheConstants.{TEXT_MAX}
 use Rattle.tre_state.specs.Names.{place_of}
 use Rattle.tre_state.specs.declared.names.TheConstants.{NAMES_MAX}
 use Rattle.tre_syntax.specs.PatternTree.{PatternTree, node_count}
 use Rattle.tre_syntax.specs.declared.pattern.TheConstants.{NODES_MAX}
-use Rattle.tre_trace.specs.Reading.{Vocabulary}
 use Rattle.tre_watch.specs.Lines.{is_line_end, Said, silence, mistake, check}
 use Rattle.tre_watch.specs.Outcome.{SpeltPattern, faulty, AfterText, AfterName, AfterCount, Follows, IsOutcomeFrom, IsOutcome}
 use Rattle.tre_watch.specs.Steps.{IsNoWantOfMemory}
@@ -33,31 +32,23 @@ of_bytes false None fault is = λ memory. cc
 of_bytes false (Some at) fault is = λ memory. cc
 
 of_limits : (words : TextTokens) (big deep : Option ℕ)
-    → NoneIsMemory (earlier (option_map (λ place. TooBig (offset_of words place)) big)
+    → NoneIsMemory (option_or (option_map (λ place. TooBig (offset_of words place)) big)
     (option_map (λ place. TooDeep (offset_of words place)) deep))
 of_limits words (Some at) deep fault is = λ memory. cc
 of_limits words None (Some at) fault is = λ memory. cc
 of_limits words None None fault is = λ memory. cc
 
-of_tree : (past : Option ℕ) (large : Bool) (nodes : ℕ) (tree : PatternTree) (names : Vocabulary)
-    (fault : ParseFault)
-    → refused fault
-    ≡ past_or past (if large then refused (ManyNodes nodes) else spelt tree names)
-    → fault ≢ ParseMemory
-of_tree (Some at) large nodes tree names fault is = λ memory. cc
-of_tree None true nodes tree names fault is = λ memory. cc
-of_tree None false nodes tree names fault is = λ memory. cc
+of_size : (words : TextTokens) (past : Option ℕ) (large : Bool) (nodes : ℕ)
+    → NoneIsMemory (option_or (option_map (λ place. TooManyNames (offset_of words place)) past)
+    (if large then Some (ManyNodes nodes) else None))
+of_size words (Some at) large nodes fault is = λ memory. cc
+of_size words None true nodes fault is = λ memory. cc
+of_size words None false nodes fault is = λ memory. cc
 
-in_tree : (words : TextTokens) (tree : PatternTree) (fault : ParseFault)
-    → IsOutcomeOfTree words tree (refused fault) → fault ≢ ParseMemory
-in_tree words tree fault (inl told) = λ memory. let is = told.2 in cc
-in_tree words tree fault (inr told) =
-    of_tree words.past (nat_lt NODES_MAX (node_count tree)) _ tree words.names fault told.1
-
-in_tokens : (words : TextTokens) (fault : ParseFault) → IsOutcomeOfTokens words (refused fault)
-    → fault ≢ ParseMemory
-in_tokens words fault (inl told) = λ memory. let is = told.2 in cc
-in_tokens words fault (inr told) = in_tree words told.0 fault told.2
+of_either : (first later : Option ParseFault) → NoneIsMemory first → NoneIsMemory later
+    → NoneIsMemory (option_or first later)
+of_either None later h k = k
+of_either (Some fault) later h k = h
 
 in_either : (o : Option ParseFault) (Others : Type 0) (fault : ParseFault) → NoneIsMemory o
     → (Others → fault ≢ ParseMemory)
@@ -66,14 +57,28 @@ in_either None Others fault none others told = others told
 in_either (Some found) Others fault none others told =
     λ memory. let same : found ≡ fault = cc in none found refl (same ∙ memory)
 
+in_tree : (words : TextTokens) (tree : PatternTree) (fault : ParseFault)
+    → IsOutcomeOfTree words tree (refused fault) → fault ≢ ParseMemory
+in_tree words tree fault (inl told) = λ memory. let is = told.2 in cc
+in_tree words tree fault (inr told) =
+    in_either (size_fault words tree) _ fault
+    (of_size words (position is_past words.tokens) (nat_lt NODES_MAX (node_count tree)) _)
+    (λ is memory. cc) told.1
+
+in_tokens : (words : TextTokens) (fault : ParseFault) → IsOutcomeOfTokens words (refused fault)
+    → fault ≢ ParseMemory
+in_tokens words fault (inl told) = λ memory. let is = told.2 in cc
+in_tokens words fault (inr told) = in_tree words told.0 fault told.2
+
 pub text_told : (scale : ℕ) (text : List ℕ) (fault : ParseFault)
     → ParsesTo scale text (refused fault) → fault ≢ ParseMemory
 text_told scale text fault =
     let words = text_tokens_of scale text in
-    in_either (byte_fault text) _ fault (of_bytes (nat_lt TEXT_MAX (length text)) (bad_byte text))
-    (in_either (limit_fault words) _ fault
-    (of_limits words (position is_big words.tokens) (deep_place 0 0 words.tokens))
-    (in_tokens words fault))
+    in_either (option_or (byte_fault text) (limit_fault words)) _ fault
+    (of_either (byte_fault text) (limit_fault words)
+    (of_bytes (nat_lt TEXT_MAX (length text)) (bad_byte text))
+    (of_limits words (position is_big words.tokens) (deep_place 0 0 words.tokens)))
+    (in_tokens words fault)
 
 -- ---- files
 

@@ -1,5 +1,6 @@
 use Rattle.std.proofs.Common.{None, length, subst, arith, ◌∙◌, ◌∷◌, refl, sym, ap}
 use Rattle.std.proofs.lemmas.Result.{err_from_is_err_and}
+use Rattle.std.specs.Option.{option_or}
 use Rattle.tre_syntax.specs.PatternTree.{PatternTree, atom, empty, sequence, alternation, repetition, restriction}
 use Rattle.tre_parse.specs.declared.token.Token.TheVariants.{Eps, LeftParen, RightParen, Star, Plus, Question, Percent}
 use Rattle.tre_parse.specs.declared.connective.Join.TheVariants.{Alternation}
@@ -9,9 +10,8 @@ use Rattle.tre_parse.specs.Reader.{got, give, expect, expression_by, expression_
 use Rattle.tre_parse.proofs.Counts.{leaf_counts}
 use Rattle.tre_parse.proofs.Equations.{not_sign, passed, unpassed, expression_begins, expression_goes_on, expression_ends, operand_begins, star_read, plus_read, question_read, percent_read, operand_ends, ends_stop, eps_read, parens_read, no_sign_behind}
 use Rattle.tre_parse.proofs.Steps.{goes_past, one_shorter, goes_here, goes_first, goes_turned, goes_on, goes_joined, stops_first, stops_joined, stops_at}
-use Rattle.tre_parse.specs.Tokens.{earlier}
 use Rattle.tre_parse.specs.Unkept.{FindsUpTo, unkept_at}
-use Rattle.tre_parse.proofs.Unkept.{earlier_none, up_to_past, up_to_end, up_to_joined, up_to_interval, join_no_percent}
+use Rattle.tre_parse.proofs.Unkept.{or_none, up_to_past, up_to_end, up_to_joined, up_to_interval, join_no_percent}
 use Rattle.tre_parse.proofs.expression.+expression.Goals as goal
 
 pub expression-returns-in_err-whole-clause-reads : goal.expression-returns-in_err-whole-clause-reads
@@ -234,8 +234,8 @@ operand-loop-tokens-preserved-in-Question t c =
           c.advance-in-Question.new.self c.loop-tokens.whole.unkept
           c.in_ok-whole-in-Question.whole.unkept c.loop-tokens.invariant.unkept e (λ q. cc)
           (c.in_ok-whole-in-Question.ensures.unkept
-          ∙ ap (earlier c.loop-tokens.whole.unkept) c.leaf-empty.ensures.unkept
-          ∙ earlier_none c.loop-tokens.whole.unkept);
+          ∙ ap (option_or c.loop-tokens.whole.unkept) c.leaf-empty.ensures.unkept
+          ∙ or_none c.loop-tokens.whole.unkept);
     }
 
 pub operand-returns-in_err-within-in-Percent-clause-reads
@@ -280,7 +280,7 @@ operand-loop-tokens-preserved t c =
           (sym e) (up_to_interval c.in_ok-within-in-Percent.within c.advance-in-Percent.new.self
           c.interval.new.tokens c.in_ok-within-in-Percent.ensures.reads))
           (c.in_ok-whole-in-Percent.ensures.unkept
-          ∙ ap (λ k. earlier c.loop-tokens.whole.unkept
+          ∙ ap (λ k. option_or c.loop-tokens.whole.unkept
           (unkept_at c.in_ok-within-in-Percent.within k)) c.left-at.ensures);
     }
 

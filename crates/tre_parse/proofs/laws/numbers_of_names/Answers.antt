@@ -1,4 +1,4 @@
-use Rattle.tre_parse.proofs.NameNumbers.{name_number}
+use Rattle.tre_parse.proofs.Named.{name_number}
 use Rattle.tre_parse.proofs.NumberedWords.{text_numbered}
 use Rattle.tre_parse.proofs.laws.numbers_of_names.Goals as goal
 
