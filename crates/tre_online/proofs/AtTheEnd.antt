@@ -160,10 +160,10 @@ module _ (tree : PatternTree) (u : List Segment) (long : AreLong u) (events time
 pub tells_at_end : (session : Session) (u : List Segment) (events : ℕ)
     (found told : List ZoneBounds) → StandsFor session u → IsZoneSet found
     → Without (WasTold session.ended) found told
-    → Closes (mark_of session.mark) (pattern_tree session.pattern) session.at events found
+    → Closes (mark_of session.mark) (pattern_tree session.pattern.value) session.at events found
     → (events ≡ 0 → ⊥)
-    → TellsLast (pattern_tree session.pattern) u events session.ended told
+    → TellsLast (pattern_tree session.pattern.value) u events session.ended told
 tells_at_end session u events found told standing set without closes happens =
-    tells_last (pattern_tree session.pattern) u standing.trace.long events session.at
+    tells_last (pattern_tree session.pattern.value) u standing.trace.long events session.at
     (mark_of session.mark) found standing.at standing.awaits closes session.ended told set without
     standing.ended standing.unstarted happens

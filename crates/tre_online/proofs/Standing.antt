@@ -337,7 +337,7 @@ AreMoments-of from to zones exact = record {
 -- A session that has read nothing.
 pub stands_at_start : (session : Session) (tree : PatternTree) (zones : List ZoneBounds)
     → AreMoments 0 0 zones → IsStart 0 zones (mark_of session.mark) tree
-    → pattern_tree session.pattern ≡ tree → session.at ≡ 0 → session.last ≡ None
+    → pattern_tree session.pattern.value ≡ tree → session.at ≡ 0 → session.last ≡ None
     → session.ended ≡ [] → StandsFor session []
 stands_at_start session tree zones moments start pattern at last ended = record {
   trace = record { long = tt; in_time = omega arith };
@@ -353,21 +353,21 @@ stands_at_start session tree zones moments start pattern at last ended = record 
 module _ (old : Session) (whole : MarkTree) (u : List Segment) (segment : Segment)
     (piece : Piece) (told : List ZoneBounds) (standing : StandsFor old u)
     (is_piece : IsPieceFor old segment piece)
-    (reads : Reads (mark_of old.mark) (pattern_tree old.pattern) old.ended piece told
+    (reads : Reads (mark_of old.mark) (pattern_tree old.pattern.value) old.ended piece told
     whole) where
   -- What begins in the piece can be taken in.
-  can_here : CanTakeIn (before_piece piece) (mark_of old.mark) (pattern_tree old.pattern)
+  can_here : CanTakeIn (before_piece piece) (mark_of old.mark) (pattern_tree old.pattern.value)
   can_here = subst (λ (time : ℕ). CanTakeIn (since time piece.before []) (mark_of old.mark)
-      (pattern_tree old.pattern)) (sym is_piece.begin)
+      (pattern_tree old.pattern.value)) (sym is_piece.begin)
       (subst (λ (before : Option ℕ). CanTakeIn (since old.at before []) (mark_of old.mark)
-      (pattern_tree old.pattern)) (sym is_piece.before) standing.takes)
+      (pattern_tree old.pattern.value)) (sym is_piece.before) standing.takes)
 
   -- A session that has read one more segment.
-  pub tells_after : TellsNew (pattern_tree old.pattern) u segment old.ended told
+  pub tells_after : TellsNew (pattern_tree old.pattern.value) u segment old.ended told
   tells_after =
-      subst (λ (s : Segment). TellsNew (pattern_tree old.pattern) u s old.ended told)
+      subst (λ (s : Segment). TellsNew (pattern_tree old.pattern.value) u s old.ended told)
       is_piece.same
-      (tells_new (pattern_tree old.pattern) u piece (mark_of old.mark)
+      (tells_new (pattern_tree old.pattern.value) u piece (mark_of old.mark)
       (is_piece.begin ∙ standing.at) (is_piece.before ∙ standing.last) standing.trace.long
       standing.awaits reads.entering reads.found whole reads.moments reads.advances can_here old.ended
       told reads.set reads.without
@@ -383,7 +383,7 @@ module _ (old : Session) (whole : MarkTree) (u : List Segment) (segment : Segmen
       subst (λ (s : Segment). Fits u s) is_piece.same fits
 
   pub stands_after : (new : Session) → mark_of new.mark ≡ whole
-      → pattern_tree new.pattern ≡ pattern_tree old.pattern
+      → pattern_tree new.pattern.value ≡ pattern_tree old.pattern.value
       → new.at ≡ piece.begin + segment.len → new.last ≡ Some segment.val → new.ended ≡ told
       → StandsFor new (u ++ segment ∷ [])
   stands_after new mark pattern at last ended =
@@ -397,12 +397,12 @@ module _ (old : Session) (whole : MarkTree) (u : List Segment) (segment : Segmen
         last = last ∙ sym value;
         takes = rw (pattern, mark, at, last)
             (subst (λ (s : Segment). CanTakeIn (since (piece.begin + s.len) (Some s.val) []) whole
-            (pattern_tree old.pattern)) is_piece.same
-            (all_later piece whole (pattern_tree old.pattern) (reads.advances.takes can_here)));
+            (pattern_tree old.pattern.value)) is_piece.same
+            (all_later piece whole (pattern_tree old.pattern.value) (reads.advances.takes can_here)));
         awaits = rw (pattern, mark)
             (subst (λ (s : Segment). AwaitsMatches whole
-            (pattern_tree old.pattern) (u ++ s ∷ [])) is_piece.same
-            (awaits_after (pattern_tree old.pattern) u piece (mark_of old.mark)
+            (pattern_tree old.pattern.value) (u ++ s ∷ [])) is_piece.same
+            (awaits_after (pattern_tree old.pattern.value) u piece (mark_of old.mark)
             (is_piece.begin ∙ standing.at) (is_piece.before ∙ standing.last) standing.trace.long
             standing.awaits reads.entering reads.found whole reads.moments reads.advances can_here));
         ended = λ a b n some le h. rw pattern

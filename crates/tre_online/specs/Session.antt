@@ -17,7 +17,7 @@ use Rattle.tre_online.specs.declared.session.Session.{Session}
 
 -- The pattern that the session matches.
 abbrev pub pattern_of : Session → Pattern
-pattern_of session = session.pattern
+pattern_of session = session.pattern.value
 
 -- When its trace ends so far, in ticks.
 abbrev pub at_of : Session → ℕ

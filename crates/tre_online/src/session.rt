@@ -1,4 +1,4 @@
-ghost use Rattle.std.specs.Prelude.{◌≡◌, ◌≤◌};
+ghost use Rattle.std.specs.Prelude.{◌≡◌, ◌≤◌, box_value};
 ghost use Rattle.tre_pairs.specs.declared.TheConstants.{TIME_MAX};
 ghost use Rattle.tre_online.specs.Well.{IsWellNow, IsProp-IsWellNow};
 
@@ -19,13 +19,14 @@ use tre_zoneset::ZoneSet;
 #[derive(Debug, Drop)]
 pub struct Session {
     alloc: Global,
-    pattern: Pattern,
+    // In a box, since a watch moves its sessions.
+    pattern: Box<Pattern>,
     at: u64,
     last: Option<u64>,
     ended: ZoneSet,
     mark: Mark,
     ghost in_time: { at ≤ TIME_MAX },
-    ghost well: { IsWellNow at mark pattern } by { IsProp-IsWellNow at mark pattern },
+    ghost well: { IsWellNow at mark (box_value pattern) } by { IsProp-IsWellNow at mark (box_value pattern) },
 }
 
 impl Session {
@@ -51,12 +52,14 @@ impl Session {
     {
         let start = Session::moments(alloc, 0, 0)?;
         let mark = Mark::start(alloc, pattern.expr(), &start, 0)?;
+        let pattern = Box::new(alloc, pattern)?;
+        let ended = ZoneSet::new(alloc);
         Ok(Session {
             alloc,
             pattern,
             at: 0,
             last: None,
-            ended: ZoneSet::new(alloc),
+            ended,
             mark,
         })
     }

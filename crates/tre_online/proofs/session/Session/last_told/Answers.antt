@@ -1,4 +1,4 @@
-use Rattle.std.proofs.Common.{subst}
+use Rattle.std.proofs.Common.{◌∙◌, ap, subst}
 use Rattle.std.proofs.lemmas.Result.{IfOk-weaker}
 use Rattle.tre_syntax.specs.Pattern.{pattern_tree}
 use Rattle.tre_syntax.specs.PatternTree.{PatternTree}
@@ -9,7 +9,7 @@ use Rattle.tre_online.proofs.session.Session.last_told.Goals as goal
 
 pub returns-then-events-eq0 : goal.returns-then-events-eq0
 returns-then-events-eq0 c u standing =
-    tells_nothing (pattern_tree c.args.self.now.pattern) u c.args.events c.args.self.now.ended
+    tells_nothing (pattern_tree c.args.self.now.pattern.value) u c.args.events c.args.self.now.ended
     c.new.result c.if-events-eq0.true c.new.ensures
 
 pub returns : goal.returns
@@ -19,7 +19,7 @@ returns c u standing =
     let found = c.in_ok-found.found in
     let closes = subst (λ (tree : PatternTree).
     Closes (mark_of session.mark) tree session.at events found)
-    c.expr.ensures.tree c.in_ok-found.ensures in
+    (c.expr.ensures.tree ∙ ap pattern_tree c.deref.ensures) c.in_ok-found.ensures in
     IfOk-weaker c.not_told.result _ _
     (λ told without. tells_at_end session u events found told standing c.zones-found.ensures.set
     without closes c.if-events-eq0.false) c.not_told.ensures

@@ -1,4 +1,4 @@
-use Rattle.std.proofs.Common.{refl, subst}
+use Rattle.std.proofs.Common.{ap, refl, subst}
 use Rattle.tre_syntax.specs.Pattern.{pattern_tree}
 use Rattle.tre_syntax.specs.PatternTree.{PatternTree}
 use Rattle.tre_mark.specs.MarkTree.{mark_of}
@@ -10,4 +10,5 @@ pub returns-clause-stands : goal.returns-clause-stands
 returns-clause-stands c =
     stands_at_start _ (pattern_tree c.args.pattern) c.in_ok-start.start c.in_ok-start.ensures
     (subst (λ (tree : PatternTree). IsStart 0 c.in_ok-start.start (mark_of c.in_ok-mark.mark) tree)
-    c.expr.ensures.tree c.in_ok-mark.ensures) refl refl refl c.new.ensures
+    c.expr.ensures.tree c.in_ok-mark.ensures) (ap pattern_tree c.in_ok-pattern.ensures.ok) refl refl
+    c.new-ended.ensures

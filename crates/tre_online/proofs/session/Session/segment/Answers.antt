@@ -13,7 +13,7 @@ invariant_of-self c =
     record {
       in_time = subst (λ (s : Segment). piece.begin + s.len ≤ TIME_MAX) same piece.in_time;
       well = well_after (mark_of c.args.self.now.mark)
-          (mark_of c.in-Ok.mark) (pattern_tree c.args.self.now.pattern)
+          (mark_of c.in-Ok.mark) (pattern_tree c.args.self.now.pattern.value)
           c.args.self.now.ended c.in-Ok.read.told piece c.args.segment same
           c.in-Ok.ensures.reads;
     }
