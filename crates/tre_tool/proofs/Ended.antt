@@ -8,7 +8,8 @@ use Rattle.tre_feed.specs.Input.{InputTold}
 use Rattle.tre_tell.specs.Outputs.{OutputTold}
 use Rattle.tre_words.specs.declared.job.Job.{Job}
 use Rattle.tre_tool.specs.Checks.{ChecksWereRead}
-use Rattle.tre_tool.specs.Run.{EndsUsage, EndsRefused, EndsUnread, EndsMemory, AsksAs, EndsAs}
+use Rattle.tre_tool.specs.Request.{IsRefused, GiveNone}
+use Rattle.tre_tool.specs.Run.{EndsUnread, EndsMemory, AsksAs, EndsAs}
 use Rattle.tre_tool.specs.Status.{answer_status}
 use Rattle.tre_tool.specs.declared.status.Status.{Status}
 use Rattle.tre_tool.specs.declared.status.Status.TheVariants.{Done, Usage, Expression, Minus, Definitions, Watch, Trace, InputTooLong, TooManyZones, ReadFault, WriteFault, Memory}
@@ -24,8 +25,8 @@ answered_status (Err fault) = answer_status fault
 
 module _ (Gives : Job → Type 0) (checks input : InputTold) (output : OutputTold) where
   pub data Ended (status : Status) : Type 0 where
-    by_usage : status ≡ Usage → EndsUsage Gives input output → Ended status
-    by_refusal : EndsRefused Gives (ChecksWereRead checks) status input output → Ended status
+    by_usage : status ≡ Usage → GiveNone Gives → Ended status
+    by_refusal : IsRefused Gives (ChecksWereRead checks) status → Ended status
     by_unread : status ≡ ReadFault → EndsUnread Gives checks input output → Ended status
     by_memory : status ≡ Memory → EndsMemory Gives checks input output → Ended status
     by_answer : (answer : Answer) → status ≡ answered_status answer
@@ -33,11 +34,11 @@ module _ (Gives : Job → Type 0) (checks input : InputTold) (output : OutputTol
 
   pub ended_of : (status : Status) → EndsAs Gives checks input output status → Ended status
   ended_of Done ends = by_answer (Ok tt) refl ends
-  ended_of Usage ends = by_usage refl ends
-  ended_of (Expression fault) ends = by_refusal ends
-  ended_of (Minus fault) ends = by_refusal ends
-  ended_of (Definitions fault) ends = by_refusal ends
-  ended_of (Watch fault) ends = by_refusal ends
+  ended_of Usage ends = by_usage refl ends.0
+  ended_of (Expression fault) ends = by_refusal ends.0
+  ended_of (Minus fault) ends = by_refusal ends.0
+  ended_of (Definitions fault) ends = by_refusal ends.0
+  ended_of (Watch fault) ends = by_refusal ends.0
   ended_of (Trace fault) ends = by_answer (Err (AnswerTrace fault)) refl (record {
     request = ends.1.request;
     asks = ends.1.asks;

@@ -121,9 +121,9 @@ module _ (words : List (List ℕ)) (count : ℕ) (asks : AsksForMadeRun words co
   module _ (checks input : InputTold) (output : OutputTold) where
     made_by : (status : Status) → Ended (GivesJob words) checks input output status
         → EndsMadeRun count output status
-    made_by status (by_usage is ends) = absurd (ends.no_job (made_job count) gives_one)
+    made_by status (by_usage is ends) = absurd (ends (made_job count) gives_one)
     made_by status (by_refusal ends) =
-        absurd (never_refused (ChecksWereRead checks) status ends.refused)
+        absurd (never_refused (ChecksWereRead checks) status ends)
     made_by status (by_unread is ends) =
         let modes : Generate count ≡ WatchMode ends.file =
         sym (mode_given ends.job ends.gives) ∙ ends.watches in

@@ -22,8 +22,8 @@ use Rattle.tre_words.specs.declared.job.WordsFault.{WordsFault}
 use Rattle.tre_words.specs.declared.job.WordsFault.TheVariants.{Usage as WordsUsage, Memory as WordsMemory}
 use Rattle.tre_words.proofs.Jobs.{job_unique}
 use Rattle.tre_tool.specs.Checks.{ChecksWereRead}
-use Rattle.tre_tool.specs.Request.{ArePatterns, AreDefinitions, IsRefusalOf, IsRefusalOfFile, IsRefusalIn, AsksFor, GiveNone}
-use Rattle.tre_tool.specs.Run.{ReadsChecks, ComesFirst, NothingDone, EndsRefused, EndsAs, IsLineTold}
+use Rattle.tre_tool.specs.Request.{ArePatterns, AreDefinitions, IsRefusalOf, IsRefusalOfFile, IsRefusalIn, AsksFor, IsRefused, GiveNone}
+use Rattle.tre_tool.specs.Run.{ReadsChecks, ComesFirst, NothingDone, EndsAs, IsLineTold}
 use Rattle.tre_tool.specs.Status.{words_status, answer_status}
 use Rattle.tre_tool.specs.declared.status.Status.{Status}
 use Rattle.tre_tool.specs.declared.status.Status.TheVariants.{Done, Usage, Expression, Minus, Definitions, Watch, Trace, InputTooLong, TooManyZones, ReadFault, WriteFault, Memory}
@@ -35,7 +35,7 @@ pub EndsAs-words : (Gives : Job → Type 0) (checks input : InputTold) (output :
     (fault : WordsFault) → (fault ≡ WordsUsage → GiveNone Gives) → AllReadsGood checks
     → NothingDone input output → EndsAs Gives checks input output (words_status fault)
 EndsAs-words Gives checks input output WordsUsage none good nothing =
-    record { no_job = none refl; nothing = nothing }
+    (none refl, nothing)
 EndsAs-words Gives checks input output WordsMemory none good nothing =
     record { checks_read = good; reads = nothing.reads; stands = inl nothing }
 
@@ -75,11 +75,8 @@ IsUnreadIn job checks = (file : List ℕ) × (job.mode ≡ WatchMode file) × Is
 module _ (Gives : Job → Type 0) (checks input : InputTold) (output : OutputTold) (job : Job)
     (gives : Gives job) (nothing : NothingDone input output) where
   refused_by : (refusal : Status) → IsRefusalIn job.mode (ChecksWereRead checks) job refusal
-      → EndsRefused Gives (ChecksWereRead checks) refusal input output
-  refused_by refusal is = record {
-    refused = record { job = job; gives = gives; refuses = is };
-    nothing = nothing;
-  }
+      → IsRefused Gives (ChecksWereRead checks) refusal × NothingDone input output
+  refused_by refusal is = (record { job = job; gives = gives; refuses = is }, nothing)
 
   -- what a job asks for wasn't found
   pub EndsAs-stopped : (status : Status)

@@ -187,10 +187,10 @@ module _ (Gives : Job → Type 0) (once : GiveOne Gives) (checks input : InputTo
       → ¬ Rises output.faults_before output.faults_now
       → IfSome input.file (λ bytes. IsStatusFor (outcome_for request bytes) status)
   read_as request status asks (by_usage is ends) reads known read written =
-      absurd (ends.no_job request.job asks.gives)
+      absurd (ends request.job asks.gives)
   read_as request status asks (by_refusal ends) reads known read written =
       absurd (asked_or_refused Gives once (ChecksAreTold checks) (ChecksWereRead checks) back
-      request status asks ends.refused)
+      request status asks ends)
   read_as request status asks (by_unread is ends) reads known read written =
       absurd (known (failed ends.job request.job ends.file ends.gives asks.gives ends.watches
       ends.unread.cause))
@@ -206,10 +206,10 @@ module _ (Gives : Job → Type 0) (once : GiveOne Gives) (checks input : InputTo
       → ¬ ReadsInput request.job.mode → ¬ Rises output.faults_before output.faults_now
       → IsUnlessMemory Done status
   unread_as request status asks (by_usage is ends) unread written =
-      absurd (ends.no_job request.job asks.gives)
+      absurd (ends request.job asks.gives)
   unread_as request status asks (by_refusal ends) unread written =
       absurd (asked_or_refused Gives once (ChecksAreTold checks) (ChecksWereRead checks) back
-      request status asks ends.refused)
+      request status asks ends)
   unread_as request status asks (by_unread is ends) unread written =
       let watches = subst (λ (j : Job). j.mode ≡ WatchMode ends.file)
       (once ends.job request.job ends.gives asks.gives) ends.watches in
@@ -225,10 +225,10 @@ module _ (Gives : Job → Type 0) (once : GiveOne Gives) (checks input : InputTo
       → (told : IsRefused Gives (ChecksAreTold checks) refusal)
       → ¬ ChecksFailed told.job.mode checks → IsUnlessMemory refusal status
   refused_as status refusal (by_usage is ends) told known =
-      absurd (ends.no_job told.job told.gives)
+      absurd (ends told.job told.gives)
   refused_as status refusal (by_refusal ends) told known =
       inl (refused_once Gives once (ChecksWereRead checks) (ChecksAreTold checks) same status
-      refusal ends.refused told)
+      refusal ends told)
   refused_as status refusal (by_unread is ends) told known =
       absurd (known (failed ends.job told.job ends.file ends.gives told.gives ends.watches
       ends.unread.cause))
@@ -241,7 +241,7 @@ module _ (Gives : Job → Type 0) (once : GiveOne Gives) (checks input : InputTo
   no_job_as : (status : Status) → Ended Gives checks input output status → GiveNone Gives
       → IsUnlessMemory Usage status
   no_job_as status (by_usage is ends) none = inl is
-  no_job_as status (by_refusal ends) none = absurd (none ends.refused.job ends.refused.gives)
+  no_job_as status (by_refusal ends) none = absurd (none ends.job ends.gives)
   no_job_as status (by_unread is ends) none = absurd (none ends.job ends.gives)
   no_job_as status (by_memory is ends) none = inr is
   no_job_as status (by_answer answer is some) none =

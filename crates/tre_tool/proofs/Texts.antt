@@ -1,5 +1,6 @@
 -- What the texts of a job spell, and how they are refused: each text in one way at most.
 use Rattle.std.proofs.Common.{◌≡◌, ◌≢◌, ℕ, List, [], ◌∷◌, Option, None, Some, refl, sym, ◌∙◌, subst, inl, inr, ⊎_elim, ap, ◌⊎◌}
+use Rattle.std.specs.Option.{MatchOption}
 use Rattle.tre_num.specs.Defined.{Defined}
 use Rattle.tre_num.specs.Definitions.{Define, parts_of, IsRefused as IsRefusedAt}
 use Rattle.tre_num.specs.declared.let_fault.LetFault.{LetFault}
@@ -17,7 +18,7 @@ use Rattle.tre_words.specs.declared.job.Job.{Job}
 use Rattle.tre_words.specs.declared.job.Mode.{Mode}
 use Rattle.tre_words.specs.declared.job.Mode.TheVariants.{Offline, Online, Show, Generate, Watch as WatchMode}
 use Rattle.tre_tool.specs.Parts.{plain_sought, patterns_with}
-use Rattle.tre_tool.specs.Request.{Spell, texts_with, AreDefinedBy, AreDefinitions, IsRefusedMinus, AreRefusedDefinitions, IsRefusalOf}
+use Rattle.tre_tool.specs.Request.{Spell, texts_with, AreDefinitions, IsRefusedMinus, AreRefusedDefinitions, IsRefusalOf}
 use Rattle.tre_tool.specs.Status.{parse_status, minus_status}
 use Rattle.tre_tool.specs.declared.status.Status.{Status}
 use Rattle.tre_tool.specs.declared.status.Status.TheVariants.{Done, Usage, Expression, Minus, Definitions, Watch, Trace, InputTooLong, TooManyZones, ReadFault, WriteFault, Memory}
@@ -51,6 +52,10 @@ spell_once scale [] (one ∷ some) others so so' = absurd so
 spell_once scale [] [] (other ∷ others) so so' = absurd so'
 spell_once scale (text ∷ texts) [] others so so' = absurd so
 spell_once scale (text ∷ texts) (one ∷ some) [] so so' = absurd so'
+
+-- A text of definitions is these, and where there is none there are none.
+abbrev AreDefinedBy : Option (List ℕ) → List Defined → Type 0
+AreDefinedBy text lets = MatchOption text (lets ≡ []) (λ text. Define (parts_of text) lets)
 
 -- a text is one list of definitions
 defined_once : (text : Option (List ℕ)) (some others : List Defined) → AreDefinedBy text some

@@ -1,7 +1,8 @@
 -- What words ask for: a job, the patterns that it looks for, and the definitions of their names.
 -- `Gives` is the job that the words give, and `Says` what the file of checks comes to, which the
 -- words of a watch name.
-use Rattle.std.specs.Prelude.{◌≡◌, ◌⊎◌, ℕ, List, [], ◌∷◌, Option, None, Some}
+use Rattle.std.specs.Prelude.{◌≡◌, ◌⊎◌, ℕ, List, [], ◌∷◌, Option, Some}
+use Rattle.std.specs.Option.{MatchOption, option_to_list}
 use Rattle.tre_generate.specs.FixedPattern.{fixed_tree, fixed_vocabulary}
 use Rattle.tre_num.specs.Defined.{Defined}
 use Rattle.tre_num.specs.Definitions.{Define, parts_of, IsRefused as IsRefusedAt}
@@ -35,8 +36,7 @@ Spell scale texts patterns = ⊥
 -- the texts of patterns: of the one that is looked for, and of the one that is taken away, if there
 -- is one
 abbrev pub texts_with : List ℕ → Option (List ℕ) → List (List ℕ)
-texts_with text None = text ∷ []
-texts_with text (Some taken) = text ∷ taken ∷ []
+texts_with text taken = text ∷ option_to_list taken
 
 -- The patterns of a job in this mode: those of its texts, or of the file of checks that a watch
 -- names. A made run has one of its own, whatever the text is.
@@ -45,14 +45,11 @@ ArePatterns (Generate count) Says job patterns = patterns ≡ alone fixed_tree f
 ArePatterns (Watch file) Says job patterns = SayPatterns Says job.scale patterns
 ArePatterns mode Says job patterns = Spell job.scale (texts_with job.expr job.minus) patterns
 
--- A text of definitions is these, and where there is none there are none.
-abbrev pub AreDefinedBy : Option (List ℕ) → List Defined → Type 0
-AreDefinedBy None lets = lets ≡ []
-AreDefinedBy (Some text) lets = Define (parts_of text) lets
-
--- The definitions of a job in this mode: only a run that tells all matches at once reads them.
+-- The definitions of a job in this mode, none where it has no text of them: only a run that tells
+-- all matches at once reads it.
 abbrev pub AreDefinitions : Mode → Job → List Defined → Type 0
-AreDefinitions Offline job lets = AreDefinedBy job.lets lets
+AreDefinitions Offline job lets =
+    MatchOption job.lets (lets ≡ []) (λ text. Define (parts_of text) lets)
 AreDefinitions mode job lets = lets ≡ []
 
 -- The text of the pattern that is taken away is, and that of the one that is looked for isn't.

@@ -11,7 +11,6 @@ use Rattle.tre_feed.specs.Outcome.{Outcome, completes, refuses, exceeds, IsInput
 use Rattle.tre_io.specs.Faults.{counted, Rises}
 use Rattle.tre_io.specs.Written.{AppendsPart}
 use Rattle.tre_tell.specs.Outputs.{OutputTold, AllWritesGood, NothingWritten}
-use Rattle.tre_watch.specs.Outcome.{Outcome as ChecksOutcome}
 use Rattle.tre_words.specs.declared.job.Job.{Job}
 use Rattle.tre_words.specs.declared.job.Mode.{Mode}
 use Rattle.tre_words.specs.declared.job.Mode.TheVariants.{Watch}
@@ -49,18 +48,6 @@ pub record NothingDone (input : InputTold) (output : OutputTold) : Type 0 where
   pub reads : AllReadsGood input
   pub unwritten : NothingWritten output
 
--- `Usage`: the words have a fault, or give no job.
-pub record EndsUsage (Gives : Job → Type 0) (input : InputTold) (output : OutputTold) : Type 0
-  where
-    pub no_job : GiveNone Gives
-    pub nothing : NothingDone input output
-
--- The words give a job that is refused so, before its input is looked at.
-pub record EndsRefused (Gives : Job → Type 0) (Says : ℕ → ChecksOutcome → Type 0)
-    (refusal : Status) (input : InputTold) (output : OutputTold) : Type 0 where
-  pub refused : IsRefused Gives Says refusal
-  pub nothing : NothingDone input output
-
 -- The words name a file of checks that couldn't be opened or read. The input wasn't looked at.
 pub record EndsUnread (Gives : Job → Type 0) (checks input : InputTold) (output : OutputTold)
     : Type 0 where
@@ -71,6 +58,10 @@ pub record EndsUnread (Gives : Job → Type 0) (checks input : InputTold) (outpu
   pub unread : IsUnreadable file checks
   pub nothing : NothingDone input output
 
+-- What the words ask for, as the file of checks that was read says, is so.
+abbrev pub AsksAs : (Job → Type 0) → InputTold → (Request → Type 0) → Type 0
+AsksAs Gives checks IsSo = Asks Gives (ChecksWereRead checks) IsSo
+
 -- `Memory`: it may come at any time. No failure was counted, and either the input wasn't open yet,
 -- or in the output stands what stands there in the mode that the words ask for.
 pub record EndsMemory (Gives : Job → Type 0) (checks input : InputTold) (output : OutputTold)
@@ -78,7 +69,7 @@ pub record EndsMemory (Gives : Job → Type 0) (checks input : InputTold) (outpu
   pub checks_read : AllReadsGood checks
   pub reads : AllReadsGood input
   pub stands : NothingDone input output
-      ⊎ Asks Gives (ChecksWereRead checks) (λ request. StandsAtMemory request input output)
+      ⊎ AsksAs Gives checks (λ request. StandsAtMemory request input output)
 
 -- A line was told whole, or one failure to tell it was counted, and a first part of it was told.
 abbrev pub IsLineTold : OutputTold → List ℕ → Type 0
@@ -87,15 +78,12 @@ IsLineTold output line =
     ⊎ ((output.faults_now ≡ counted output.faults_before)
     × AppendsPart output.written_before output.written_now line)
 
--- What the words ask for, as the file of checks that was read says, is so.
-abbrev pub AsksAs : (Job → Type 0) → InputTold → (Request → Type 0) → Type 0
-AsksAs Gives checks IsSo = Asks Gives (ChecksWereRead checks) IsSo
-
--- The end of a run, status by status.
+-- The end of a run, status by status. Words that give no job, and a job that is refused, are told
+-- before the input is looked at.
 abbrev pub EndsAs : (Job → Type 0) → InputTold → InputTold → OutputTold → Status → Type 0
 EndsAs Gives checks input output Done =
     AsksAs Gives checks (λ request. EndsDone request input output)
-EndsAs Gives checks input output Usage = EndsUsage Gives input output
+EndsAs Gives checks input output Usage = GiveNone Gives × NothingDone input output
 EndsAs Gives checks input output (Trace fault) = IsInputKind fault.kind
     × AsksAs Gives checks (λ request. EndsAtInput (refuses fault) request input output)
 EndsAs Gives checks input output InputTooLong =
@@ -108,7 +96,7 @@ EndsAs Gives checks input output WriteFault =
     AsksAs Gives checks (λ request. EndsWriteFault request input output)
 EndsAs Gives checks input output Memory = EndsMemory Gives checks input output
 EndsAs Gives checks input output refusal =
-    EndsRefused Gives (ChecksWereRead checks) refusal input output
+    IsRefused Gives (ChecksWereRead checks) refusal × NothingDone input output
 
 -- The status is this one, or memory was wanting.
 abbrev pub IsUnlessMemory : Status → Status → Type 0
