@@ -36,8 +36,7 @@ pub fn parse(alloc: Global, text: &str, scale: u8) -> Result<Pattern, ParseFault
         return Err(ParseFault::TooLong);
     }
     let scan = scan_text(alloc, text, scale)?;
-    let pattern = parse_words(alloc, scan)?;
-    Ok(pattern)
+    parse_words(alloc, scan)
 }
 
 // The pattern that the words of a text spell.
