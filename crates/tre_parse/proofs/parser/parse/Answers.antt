@@ -16,4 +16,5 @@ returns c =
       spelling = answer_spells c.args.scale c.args.text.now answer answers;
       outcome = answers;
       only = λ outcome h. answered c.args.scale c.args.text.now outcome answer answers h;
+      too_long = λ long. absurd (omega (arith, long));
     }
