@@ -33,15 +33,6 @@ use Rattle.tre_derive.proofs.Standing.{stands_for, stands_built, stands_nothing,
 -- ---- the pairs that end at a time or later
 
 module _ (time : ℕ) (R S : Pairs) where
-  Agree-from : Agree R S → Agree (EndingFrom time R) (EndingFrom time S)
-  Agree-from same = record {
-    at = λ a b n some.
-        let both = same.at a b n some in (
-          (λ h. record { related = both.0 h.related; end = h.end }),
-          (λ h. record { related = both.1 h.related; end = h.end }),
-        );
-  }
-
   ending_composed : Agree (Composed R (EndingFrom time S)) (EndingFrom time (Composed R S))
   ending_composed = record {
     at = λ a b n some. (

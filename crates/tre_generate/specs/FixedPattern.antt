@@ -3,7 +3,6 @@ use Rattle.std.specs.Prelude.{[], ◌∷◌, Some, true, codes}
 use Rattle.tre_state.specs.StateTree.{proposition, negation}
 use Rattle.tre_syntax.specs.PatternTree.{PatternTree, atom, literal, rise, fall, sequence, repetition, restriction}
 use Rattle.tre_trace.specs.Reading.{Vocabulary}
-use Rattle.tre_zone.specs.Interval.{ends_of}
 
 -- A pulse of p: it rises, holds for some time, and falls.
 abbrev pub pulse : PatternTree
@@ -13,7 +12,9 @@ pulse =
 
 -- A pause: p is false for one tick, for two, or for any time between.
 abbrev pub pause : PatternTree
-pause = restriction (atom (literal (negation (proposition 0)))) (ends_of 1 true (Some 2) true)
+pause =
+    restriction (atom (literal (negation (proposition 0))))
+    (record { low = 1; low_weak = true; high = Some 2; high_weak = true })
 
 -- A pulse and then a pause, once or any number of times, one after another.
 abbrev pub fixed_tree : PatternTree

@@ -55,8 +55,7 @@ fn push_number_line(text: &mut String, word: &str, value: u64) -> Result<(), All
 {
     text.push_str(word)?;
     push_units(text, value, 0)?;
-    text.push_str("\n")?;
-    Ok(())
+    text.push_str("\n")
 }
 
 fn push_share_line(text: &mut String, word: &str, part: u64, all: u64) -> Result<(), AllocError>
@@ -67,6 +66,5 @@ fn push_share_line(text: &mut String, word: &str, part: u64, all: u64) -> Result
     push_units(text, part, 0)?;
     text.push_str(" of ")?;
     push_units(text, all, 0)?;
-    text.push_str("\n")?;
-    Ok(())
+    text.push_str("\n")
 }

@@ -10,7 +10,7 @@ use Rattle.tre_parse.specs.declared.lexeme.Lexeme.{Lexeme}
 use Rattle.tre_parse.specs.declared.lexeme.Lexeme.TheVariants.{Blank, Wrong, Name, Number, Sign}
 use Rattle.tre_parse.specs.Lexeme.{is_blank, word_lexeme, number_lexeme, sign_lexeme, lexeme_of, FitsIn}
 use Rattle.tre_syntax.specs.declared.name_kind.NameKind.TheVariants.{Proposition, Event as EventKind}
-use Rattle.tre_parse.specs.Tokens.{RawToken, name, number, sign, RawTokenAt, RawTokens, nothing_left, raw_tokens_from, scanned, with_raw_token, raw_tokens_of, bad_byte, with_events, words_of, names_in, names_of, token_of}
+use Rattle.tre_parse.specs.Tokens.{RawToken, name, number, sign, RawTokenAt, RawTokens, raw_tokens_from, scanned, with_raw_token, raw_tokens_of, bad_byte, with_events, words_of, names_in, names_of, token_of}
 use Rattle.tre_parse.specs.Grammar.{expr, Spells}
 use Rattle.tre_parse.specs.Outcome.{IsSpelling}
 use Rattle.tre_parse.specs.Blanks.{counted_on, SaysAs}
@@ -205,7 +205,8 @@ lexed_moved : (n : ℕ) (bytes : List ℕ) → raw_tokens_from 0 n bytes
 lexed_moved n bytes = let e : n ≡ 0 + n = omega arith in
     ap (λ m. raw_tokens_from 0 m bytes) e ∙ lexed_further 0 0 n bytes
 
-joined_none : (front : List RawTokenAt) (bad : Option ℕ) → joined_at front bad nothing_left
+joined_none : (front : List RawTokenAt) (bad : Option ℕ)
+    → joined_at front bad (record { raw_tokens = []; bad = None })
     ≡ record { raw_tokens = front; bad = bad }
 joined_none front (Some at) = refl
 joined_none front None = ap (λ (raw_tokens : List RawTokenAt). record

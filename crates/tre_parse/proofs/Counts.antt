@@ -1,5 +1,5 @@
 -- How many nodes joined trees have.
-use Rattle.std.proofs.Common.{◌≡◌, ℕ, ◌+◌, zero, suc, Bool, true, false, Option, Some, None, inl, inr, refl, sym, ◌∙◌, add-one, arith, subst}
+use Rattle.std.proofs.Common.{◌≡◌, ℕ, ◌+◌, Bool, true, false, Option, Some, None, inl, inr, refl, sym, ◌∙◌, add-one, subst}
 use Rattle.std.specs.Prelude.{IfSome, IsSome}
 use Rattle.std.proofs.lemmas.Bool.{cases_lt}
 use Rattle.tre_syntax.specs.declared.pattern.TheConstants.{NODES_MAX}
@@ -43,11 +43,6 @@ edge_count false s = refl
 
 pub negated_more : (n : ℕ) (s : StateTree) → negated (n + 1) s ≡ negation (negated n s)
 negated_more n s = rw add-one refl
-
-pub negated_count : (n : ℕ) (s : StateTree) → state.node_count (negated n s)
-    ≡ n + state.node_count s
-negated_count zero s = omega arith
-negated_count (suc n) s = omega (arith, negated_count n s)
 
 whole_is : {T : Type 0} (whole : Option T) (x : T) (IsIt : T → Type 0) → whole ≡ Some x
     → IfSome whole IsIt → IsIt x

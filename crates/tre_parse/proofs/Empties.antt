@@ -3,12 +3,12 @@ use Rattle.std.proofs.Common.{◌≡◌, ℕ, ◌+◌, ◌<◌, ◌≤◌, Optio
 use Rattle.std.proofs.Math.Seq.{drop-append_seam}
 use Rattle.std.proofs.lemmas.List.{take-append-drop, length-take-le}
 use Rattle.tre_pairs.specs.declared.TheConstants.{TIME_MAX}
-use Rattle.tre_zone.specs.Interval.{IntervalEnds, IsIntervalWithin}
+use Rattle.tre_zone.specs.Interval.{IntervalEnds, HasNoDuration, IsIntervalWithin}
 use Rattle.tre_parse.specs.declared.token.Token.{Token}
 use Rattle.tre_parse.specs.declared.token.Token.TheVariants.{Percent}
 use Rattle.tre_parse.specs.Grammar.{SpellsInterval}
 use Rattle.tre_parse.specs.Begins.{BeginsInterval}
-use Rattle.tre_parse.specs.Parts.{IsEmptyInterval, IsFineInterval}
+use Rattle.tre_parse.specs.Parts.{IsFineInterval}
 use Rattle.tre_parse.specs.Reader.{Reading, got, stop, of_interval, read}
 use Rattle.tre_parse.specs.Outcome.{HasEmptyAt}
 use Rattle.tre_parse.specs.Unkept.{IsIntervalAt, NoneEmptyBefore, NoneEmpty}
@@ -64,7 +64,7 @@ stands tokens place h = record {
 }
 
 pub stands_empty : (tokens : List Token) (place : ℕ) (ends : IntervalEnds)
-    → IsIntervalAt tokens place ends → IsEmptyInterval ends → HasEmptyAt tokens place
+    → IsIntervalAt tokens place ends → HasNoDuration ends → HasEmptyAt tokens place
 stands_empty tokens place ends s empty = record {
   front = s.front;
   body = s.body;
@@ -135,7 +135,7 @@ none_empty tokens place le none = λ k h. none k (omega (arith, (place_within to
 -- An interval that can't be kept is empty, where no number is too big.
 pub unkept_empty : (ends : IntervalEnds) → IsIntervalWithin TIME_MAX ends
     → (IsFineInterval ends → ⊥)
-    → IsEmptyInterval ends
+    → HasNoDuration ends
 unkept_empty ends w h = λ d n some within. h (record
     { lasts = λ empty. empty d n some within; within = w })
 

@@ -3,7 +3,7 @@ use Rattle.std.proofs.Common.{◌≡◌, ℕ, ◌+◌, ◌<◌, ◌≤◌, zero,
 use Rattle.std.specs.Prelude.{MatchOption}
 use Rattle.std.specs.Option.{option_or}
 use Rattle.std.proofs.lemmas.Bool.{cases_lt}
-use Rattle.tre_zone.specs.Interval.{IntervalEnds, HasRoom}
+use Rattle.tre_zone.specs.Interval.{IntervalEnds, HasNoDuration, HasRoom}
 use Rattle.tre_zone.proofs.Durations.{Lasts, no_end, room, no_room}
 use Rattle.tre_syntax.specs.PatternTree.{PatternTree}
 use Rattle.tre_parse.specs.declared.token.Token.{Token}
@@ -11,7 +11,6 @@ use Rattle.tre_parse.specs.declared.token.Token.TheVariants.{Percent}
 use Rattle.tre_parse.specs.declared.fault.ParseFault.{ParseFault}
 use Rattle.tre_parse.specs.declared.fault.ParseFault.TheVariants.{Syntax, EmptyInterval}
 use Rattle.tre_parse.specs.Reader.{Reading, got, stop}
-use Rattle.tre_parse.specs.Parts.{IsEmptyInterval}
 use Rattle.tre_parse.specs.Outcome.{Outcome, spelt, refused, TextTokens, text_tokens_of, offset_of, byte_fault, limit_fault, size_fault, HasEmptyAt, IsFirstEmpty, IsOutcomeOfTree, IsOutcomeOfTokens, IsOutcome}
 use Rattle.tre_parse.specs.Unkept.{NoneEmptyBefore}
 use Rattle.tre_parse.proofs.Empties.{interval_from, stands, stands_empty, stands_read, read_stands, none_before_one, none_before_more, none_empty}
@@ -37,12 +36,12 @@ room_or low true high false = less low high (cases_lt low high)
 room_or low false high true = less low high (cases_lt low high)
 room_or low false high false = less low high (cases_lt low high)
 
-lasting : (ends : IntervalEnds) → Lasts ends → Decided (IsEmptyInterval ends)
+lasting : (ends : IntervalEnds) → Lasts ends → Decided (HasNoDuration ends)
 lasting ends l = inr (λ h. h l.d l.n l.some l.within)
 
 with_room : (low : ℕ) (low_weak : Bool) (high : ℕ) (high_weak : Bool)
     → Decided (HasRoom low low_weak high high_weak)
-    → Decided (IsEmptyInterval (record {
+    → Decided (HasNoDuration (record {
       low = low;
       low_weak = low_weak;
       high =
@@ -53,7 +52,7 @@ with_room low low_weak high high_weak (inl h) = lasting _ (room low low_weak hig
 with_room low low_weak high high_weak (inr h) = inl (no_room low low_weak high high_weak h)
 
 ends_or : (low : ℕ) (low_weak : Bool) (high : Option ℕ) (high_weak : Bool)
-    → Decided (IsEmptyInterval (record {
+    → Decided (HasNoDuration (record {
       low = low;
       low_weak = low_weak;
       high = high;
@@ -64,7 +63,7 @@ ends_or low low_weak None high_weak = lasting _ (no_end low low_weak high_weak)
 ends_or low low_weak (Some high) high_weak = with_room low low_weak high high_weak
     (room_or low low_weak high high_weak)
 
-empty_or : (ends : IntervalEnds) → Decided (IsEmptyInterval ends)
+empty_or : (ends : IntervalEnds) → Decided (HasNoDuration ends)
 empty_or ends = ends_or ends.low ends.low_weak ends.high ends.high_weak
 
 percent_or : (token : Token) → Decided (token ≡ Percent)
@@ -78,14 +77,14 @@ here_or tokens place lt = after (percent_or (get_or tokens place Percent))
   where
     judge : get_or tokens place Percent ≡ Percent → (ends : IntervalEnds)
         → interval_from (drop (place + 1) tokens) ≡ Some ends
-        → Decided (IsEmptyInterval ends) → Decided (HasEmptyAt tokens (place + 1))
+        → Decided (HasNoDuration ends) → Decided (HasEmptyAt tokens (place + 1))
     judge e ends q (inl empty) = inl (stands_empty tokens (place + 1) ends
         (read_stands tokens place ends Percent lt e q) empty)
     judge e ends q (inr lasts) =
         inr (λ k.
         let s = (stands_read tokens place k.ends Percent lt (stands tokens (place + 1) k)).1 in
         let same : k.ends ≡ ends = cc in
-        let P = λ (i : IntervalEnds). IsEmptyInterval i in
+        let P = λ (i : IntervalEnds). HasNoDuration i in
         lasts (subst P same k.empty))
 
     read : get_or tokens place Percent ≡ Percent → (made : Option IntervalEnds)

@@ -3,7 +3,7 @@ use Rattle.std.specs.Prelude.{◌≡◌, ℕ, ◌+◌, ◌-◌, ◌<◌, Bool, f
 use Rattle.std.specs.Option.{option_map, option_or}
 use Rattle.tre_state.specs.declared.names.TheConstants.{NAMES_MAX}
 use Rattle.tre_trace.specs.Reading.{Vocabulary}
-use Rattle.tre_zone.specs.Interval.{IntervalEnds}
+use Rattle.tre_zone.specs.Interval.{IntervalEnds, HasNoDuration}
 use Rattle.tre_syntax.specs.PatternTree.{PatternTree, node_count}
 use Rattle.tre_pairs.specs.declared.TheConstants.{TIME_MAX}
 use Rattle.tre_syntax.specs.declared.pattern.TheConstants.{NODES_MAX}
@@ -13,7 +13,6 @@ use Rattle.tre_parse.specs.declared.token.Token.TheVariants.{Name, EventName, Nu
 use Rattle.tre_parse.specs.declared.fault.ParseFault.{ParseFault}
 use Rattle.tre_parse.specs.declared.fault.ParseFault.TheVariants.{TooLong, BadByte, Number as TooBig, TooDeep, Syntax, EmptyInterval, TooManyNames, TooLarge}
 use Rattle.tre_parse.specs.Grammar.{expr, Spells, SpellsInterval}
-use Rattle.tre_parse.specs.Parts.{IsEmptyInterval}
 use Rattle.tre_parse.specs.Tokens.{raw_tokens_of, bad_byte, tokens_of, names_of}
 
 -- The text spells the expression at the scale, and its names are these.
@@ -112,7 +111,7 @@ pub record HasEmptyAt (tokens : List Token) (place : ℕ) : Type 0 where
   pub split : tokens ≡ front ++ Percent ∷ (body ++ rest)
   pub here : place ≡ length front + 1
   pub spelt : SpellsInterval body ends
-  pub empty : IsEmptyInterval ends
+  pub empty : HasNoDuration ends
 
 -- The first of them stands at the place.
 abbrev pub IsFirstEmpty : List Token → ℕ → Type 0

@@ -1,15 +1,11 @@
 -- Intervals: which of them can be kept.
-use Rattle.std.specs.Prelude.{◌≡◌, ℕ, ◌<◌, Option, IsSome, IfSome}
-use Rattle.tre_zone.specs.Interval.{IntervalEnds, LastsWithin, IsIntervalWithin}
+use Rattle.std.specs.Prelude.{◌≡◌, Option, IsSome, IfSome}
+use Rattle.tre_zone.specs.Interval.{IntervalEnds, HasNoDuration, IsIntervalWithin}
 use Rattle.tre_pairs.specs.declared.TheConstants.{TIME_MAX}
-
--- No duration is in the interval.
-abbrev pub IsEmptyInterval : IntervalEnds → Type 0
-IsEmptyInterval ends = (d n : ℕ) → 0 < n → LastsWithin ends d n → ⊥
 
 -- Some duration is in the interval, and its ends are no later than the latest time.
 pub record IsFineInterval (ends : IntervalEnds) : Type 0 where
-  pub lasts : ¬ IsEmptyInterval ends
+  pub lasts : ¬ HasNoDuration ends
   pub within : IsIntervalWithin TIME_MAX ends
 
 -- What the program makes of the ends of an interval: the interval, and none exactly where it is not

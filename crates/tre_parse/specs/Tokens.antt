@@ -32,9 +32,6 @@ pub record RawTokens : Type 0 where
   pub raw_tokens : List RawTokenAt
   pub bad : Option ℕ
 
-abbrev pub nothing_left : RawTokens
-nothing_left = record { raw_tokens = []; bad = None }
-
 abbrev pub with_raw_token : ℕ → RawToken → RawTokens → RawTokens
 with_raw_token at word rest =
     record { raw_tokens = (record { at = at; word = word }) ∷ rest.raw_tokens; bad = rest.bad }
@@ -49,7 +46,7 @@ scanned (Sign token len) at bytes next = with_raw_token at (sign token) (next (l
 
 -- The raw tokens of bytes at an offset, the first `skip` of which belong to the one before.
 abbrev pub raw_tokens_from : ℕ → ℕ → List ℕ → RawTokens
-raw_tokens_from skip at [] = nothing_left
+raw_tokens_from skip at [] = record { raw_tokens = []; bad = None }
 raw_tokens_from (suc skip) at (byte ∷ rest) = raw_tokens_from skip (at + 1) rest
 raw_tokens_from zero at (byte ∷ rest) =
     scanned (lexeme_of (byte ∷ rest)) at (byte ∷ rest) (λ skip. raw_tokens_from skip (at + 1) rest)

@@ -1,6 +1,5 @@
 //! Expressions, one function for each kind of rule.
 ghost use Rattle.std.specs.Prelude.{◌≡◌, ◌≤◌, None, length, IfOk};
-ghost use Rattle.tre_state.specs.StateTree.{StateTree};
 ghost use Rattle.tre_parse.specs.Joins.{edge_sign, plain_literal, edged_literal};
 ghost use Rattle.tre_parse.specs.Operands.{RepresentsState, Represents, Turns};
 ghost use Rattle.tre_parse.specs.Front.{front};
@@ -175,8 +174,7 @@ fn edged(alloc: Global, begins: bool, formula: Formula, ends: bool) -> Result<Op
         let both = joined(alloc, Join::Sequence, body, operand::edge(false, again))?;
         return Ok(both);
     }
-    let body = plain(alloc, begins, formula)?;
-    Ok(body)
+    plain(alloc, begins, formula)
 }
 
 fn plain(alloc: Global, begins: bool, formula: Formula) -> Result<Operand, AllocError>

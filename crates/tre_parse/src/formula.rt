@@ -1,5 +1,4 @@
-ghost use Rattle.std.specs.Prelude.{◌≡◌, IfOk};
-ghost use Rattle.tre_state.specs.State.{tree_of};
+ghost use Rattle.std.specs.Prelude.{IfOk};
 ghost use Rattle.tre_state.specs.StateTree.{StateTree, negation};
 ghost use Rattle.tre_parse.specs.Joins.{connected};
 ghost use Rattle.tre_parse.specs.Operands.{RepresentsState, Turns};

@@ -1,9 +1,6 @@
 ghost use Rattle.std.specs.Prelude.{◌≡◌, None, IfOk};
 ghost use Rattle.std.specs.Option.{option_or};
-ghost use Rattle.tre_state.specs.State.{tree_of as state_tree};
-ghost use Rattle.tre_state.specs.StateTree.{StateTree};
 ghost use Rattle.tre_zone.specs.Interval.{IntervalEnds};
-ghost use Rattle.tre_syntax.specs.Expr.{tree_of};
 ghost use Rattle.tre_syntax.specs.PatternTree.{PatternTree, atom, literal, sequence, repetition, restriction};
 ghost use Rattle.tre_parse.specs.Joins.{edge_of, joined_by};
 ghost use Rattle.tre_parse.specs.Operands.{RepresentsState, Represents, Turns};

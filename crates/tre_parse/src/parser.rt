@@ -1,4 +1,5 @@
-ghost use Rattle.std.specs.Prelude.{◌≡◌, ◌≤◌, [], Ok, Some, None, IfOk, MatchResult};
+ghost use Rattle.std.specs.Prelude.{◌≡◌, ◌≤◌, ◌<◌, [], Ok, Err, Some, None, IfOk, length};
+ghost use Rattle.tre_parse.specs.declared.limits.TheConstants.{TEXT_MAX};
 ghost use Rattle.tre_decimal.specs.declared.TheConstants.{SCALE_MAX};
 ghost use Rattle.tre_syntax.specs.Pattern.{pattern_tree, names_of};
 ghost use Rattle.tre_parse.specs.Front.{tokens_in};
@@ -23,7 +24,8 @@ use tre_syntax::{NODES_MAX, Pattern};
 /// which is 10^-scale.
 ///
 /// The refusals come in the order of the variants of `ParseFault`, each over the whole text before
-/// the next. Want of memory may come at any point.
+/// the next. Want of memory may come at any point, except that a text that is too long is told to
+/// be, whatever memory there is.
 pub fn parse(alloc: Global, text: &str, scale: u8) -> Result<Pattern, ParseFault>
     requires { scale ≤ SCALE_MAX }
     ensures spelling { IfOk result (λ pattern. IsSpelling scale text.now (pattern_tree pattern)
@@ -31,13 +33,13 @@ pub fn parse(alloc: Global, text: &str, scale: u8) -> Result<Pattern, ParseFault
     ensures outcome { Answers (IsOutcome scale text.now) result }
     ensures only { (outcome : Outcome) → IsOutcome scale text.now outcome →
         Answers (λ answer. outcome ≡ answer) result }
+    ensures too_long { TEXT_MAX < length text.now → result ≡ Err ParseFault.TooLong }
 {
     if text.len() > TEXT_MAX {
         return Err(ParseFault::TooLong);
     }
     let scan = scan_text(alloc, text, scale)?;
-    let pattern = parse_words(alloc, scan)?;
-    Ok(pattern)
+    parse_words(alloc, scan)
 }
 
 // The pattern that the words of a text spell.

@@ -1,9 +1,7 @@
-ghost use Rattle.std.specs.Prelude.{◌≡◌, ◌-◌, ◌<◌, ◌≤◌, ℕ, ◌+◌, ◌++◌, [], ◌∷◌, Some, None, length, take, drop, OnOk, IfOk, IfErr};
+ghost use Rattle.std.specs.Prelude.{◌≡◌, ◌-◌, ◌<◌, ◌≤◌, ◌+◌, Some, None, length, take, drop, OnOk, IfOk, IfErr};
 ghost use Rattle.tre_state.specs.Name.{IsName};
-ghost use Rattle.tre_state.specs.Names.{place_of};
 ghost use Rattle.tre_decimal.specs.declared.TheConstants.{SCALE_MAX};
 ghost use Rattle.tre_parse.specs.Tokens.{name, number, sign, units_within};
-ghost use Rattle.tre_parse.specs.Known.{names_with};
 ghost use Rattle.tre_parse.specs.Outcome.{offset_of};
 ghost use Rattle.tre_parse.specs.Answers.{text_tokens_in};
 ghost use Rattle.tre_parse.specs.Scan.{Puts, IsNumbered, TakesToken, GoesOn, IsBadByte, IsScan};

@@ -1,5 +1,5 @@
 -- The bytes of a line: they are ASCII, and a whole number has at most 20 of them.
-use Rattle.std.proofs.Common.{◌≡◌, ℕ, zero, suc, ◌-◌, ◌+◌, ◌/◌, ◌%◌, ◌<◌, ◌≤◌, ◌^◌, length, decimal, Bool, true, false, List, [], ◌∷◌, ◌++◌, append_assoc, refl, sym, ap, ◌∙◌, codes, IsAscii, if◌then◌else◌, arith}
+use Rattle.std.proofs.Common.{◌≡◌, ℕ, zero, suc, ◌-◌, ◌+◌, ◌/◌, ◌%◌, ◌<◌, ◌≤◌, ◌^◌, length, decimal, Bool, true, false, Some, List, [], ◌∷◌, ◌++◌, append_assoc, refl, sym, ap, ◌∙◌, codes, IsAscii, if◌then◌else◌, arith}
 use Rattle.std.proofs.Math.Nat.{div-le_self}
 use Rattle.std.proofs.lemmas.Fmt.{IsAscii-decimal, length-decimal-le}
 use Rattle.std.proofs.lemmas.Str.{IsAscii-append}
@@ -54,10 +54,10 @@ closing_ascii false = one_ascii 41 (omega arith)
 
 pub between_ascii : (scale low high : ℕ) (low_weak high_weak : Bool)
     → IsAscii (number_text scale low) → IsAscii (number_text scale high)
-    → IsAscii (lower_text scale low low_weak ++ upper_text scale high high_weak)
+    → IsAscii (lower_text scale low low_weak ++ upper_text scale (Some high) high_weak)
 between_ascii scale low high low_weak high_weak ascii ascii' =
     let opens = if low_weak then codes "[" else codes "(" in
-    IsAscii-append (lower_text scale low low_weak) (upper_text scale high high_weak)
+    IsAscii-append (lower_text scale low low_weak) (upper_text scale (Some high) high_weak)
     (IsAscii-append (opens ++ number_text scale low) (codes ",")
     (IsAscii-append opens (number_text scale low) (opening_ascii low_weak) ascii)
     (one_ascii 44 (omega arith)))

@@ -22,7 +22,7 @@ use Rattle.tre_parse.specs.declared.before.Before.TheVariants.{Other}
 use Rattle.tre_parse.specs.Numbering.{numbers_at, numbers_in}
 use Rattle.tre_parse.specs.Known.{kind_behind, before_sign}
 use Rattle.tre_decimal.specs.Decimal.{number_text}
-use Rattle.tre_show.specs.Interval.{lower_text, end_text}
+use Rattle.tre_show.specs.Interval.{lower_text, upper_text}
 use Rattle.tre_show.specs.Intervals.{HasIntervals}
 use Rattle.tre_show.specs.StateText.{in_parens, name_text, state_operand_text, state_text, literal_text}
 use Rattle.tre_show.specs.PatternText.{atom_text, operand_text}
@@ -488,7 +488,7 @@ module _ (scale : ℕ) (names : Vocabulary) where
   number_says n small = one (Number n) (λ more cut rest. ((small, cut), rest))
 
   end_says : (high : Option ℕ) (weak : Bool) → MatchOption high (Unit {0}) (λ h. h ≤ 2 ^ 40)
-      → Say scale names (end_tokens high weak) (end_text scale high weak) no_numbers
+      → Say scale names (end_tokens high weak) (upper_text scale high weak) no_numbers
   end_says None weak small =
       behind RightParen _ (λ _. refl) (λ _. refl) (λ _ rest. (tt, rest))
       (one Inf (λ more cut rest. (cut, rest)))

@@ -9,15 +9,12 @@ abbrev pub lower_text : ℕ → ℕ → Bool → List ℕ
 lower_text scale low weak =
     (if weak then codes "[" else codes "(") ++ number_text scale low ++ codes ","
 
--- The upper end.
-abbrev pub upper_text : ℕ → ℕ → Bool → List ℕ
-upper_text scale high weak = number_text scale high ++ (if weak then codes "]" else codes ")")
-
 -- The upper end, or `inf` where there is none.
-abbrev pub end_text : ℕ → Option ℕ → Bool → List ℕ
-end_text scale None weak = codes "inf)"
-end_text scale (Some high) weak = upper_text scale high weak
+abbrev pub upper_text : ℕ → Option ℕ → Bool → List ℕ
+upper_text scale None weak = codes "inf)"
+upper_text scale (Some high) weak =
+    number_text scale high ++ (if weak then codes "]" else codes ")")
 
 abbrev pub interval_text : ℕ → IntervalEnds → List ℕ
 interval_text scale ends =
-    lower_text scale ends.low ends.low_weak ++ end_text scale ends.high ends.high_weak
+    lower_text scale ends.low ends.low_weak ++ upper_text scale ends.high ends.high_weak

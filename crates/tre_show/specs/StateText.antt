@@ -36,5 +36,4 @@ abbrev pub literal_text : List (List ℕ) → StateTree → List ℕ
 literal_text names always = codes "true"
 literal_text names (proposition i) = name_text names i
 literal_text names (negation s) = codes "!" ++ literal_text names s
-literal_text names (conjunction s t) = codes "{" ++ state_text names (conjunction s t) ++ codes "}"
-literal_text names (disjunction s t) = codes "{" ++ state_text names (disjunction s t) ++ codes "}"
+literal_text names state = codes "{" ++ state_text names state ++ codes "}"

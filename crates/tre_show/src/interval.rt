@@ -1,9 +1,9 @@
 // The text of an interval.
-ghost use Rattle.std.specs.Prelude.{◌≡◌, ◌≤◌, ◌++◌, codes, string_bytes, OnOk};
+ghost use Rattle.std.specs.Prelude.{◌≡◌, ◌≤◌, ◌++◌, Some, codes, string_bytes, OnOk};
 ghost use Rattle.std.specs.Prelude.{if◌then◌else◌};
 ghost use Rattle.tre_decimal.specs.declared.TheConstants.{SCALE_MAX};
 ghost use Rattle.tre_zone.specs.Interval.{IsInterval};
-ghost use Rattle.tre_show.specs.Interval.{lower_text, upper_text, end_text, interval_text};
+ghost use Rattle.tre_show.specs.Interval.{lower_text, upper_text, interval_text};
 
 use std::alloc::AllocError;
 use tre_decimal::push_units;
@@ -17,18 +17,7 @@ fn push_lower(text: &mut String, low: u64, weak: bool, scale: u8) -> Result<(), 
 {
     text.push_str(opening(weak))?;
     push_units(text, low, scale)?;
-    text.push_str(sign::COMMA)?;
-    Ok(())
-}
-
-fn push_upper(text: &mut String, high: u64, weak: bool, scale: u8) -> Result<(), AllocError>
-    requires { scale ≤ SCALE_MAX }
-    ensures { OnOk result (string_bytes text.new
-        ≡ string_bytes text.old ++ upper_text scale high weak) }
-{
-    push_units(text, high, scale)?;
-    text.push_str(closing(weak))?;
-    Ok(())
+    text.push_str(sign::COMMA)
 }
 
 /// The text of an interval.
@@ -43,18 +32,17 @@ pub(crate) fn push_interval(
     ensures interval { OnOk result (IsInterval interval.now) }
 {
     push_lower(text, interval.low(), interval.low_weak(), scale)?;
-    push_end(text, interval.high(), interval.high_weak(), scale)?;
-    Ok(())
+    push_upper(text, interval.high(), interval.high_weak(), scale)
 }
 
-fn push_end(text: &mut String, high: Option<u64>, weak: bool, scale: u8) -> Result<(), AllocError>
+fn push_upper(text: &mut String, high: Option<u64>, weak: bool, scale: u8) -> Result<(), AllocError>
     requires { scale ≤ SCALE_MAX }
     ensures { OnOk result (string_bytes text.new
-        ≡ string_bytes text.old ++ end_text scale high weak) }
+        ≡ string_bytes text.old ++ upper_text scale high weak) }
 {
     match high {
         None => push_infinite(text),
-        Some(high) => push_upper(text, high, weak, scale),
+        Some(high) => push_high(text, high, weak, scale),
     }
 }
 
@@ -62,8 +50,16 @@ fn push_infinite(text: &mut String) -> Result<(), AllocError>
     ensures { OnOk result (string_bytes text.new ≡ string_bytes text.old ++ codes "inf)") }
 {
     text.push_str("inf")?;
-    text.push_str(sign::RIGHT_PAREN)?;
-    Ok(())
+    text.push_str(sign::RIGHT_PAREN)
+}
+
+fn push_high(text: &mut String, high: u64, weak: bool, scale: u8) -> Result<(), AllocError>
+    requires { scale ≤ SCALE_MAX }
+    ensures { OnOk result (string_bytes text.new
+        ≡ string_bytes text.old ++ upper_text scale (Some high) weak) }
+{
+    push_units(text, high, scale)?;
+    text.push_str(closing(weak))
 }
 
 fn opening(weak: bool) -> &'static str

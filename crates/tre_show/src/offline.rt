@@ -1,5 +1,5 @@
 // The text of a whole match.
-ghost use Rattle.std.specs.Prelude.{◌≡◌, ◌≤◌, ◌++◌, string_bytes, IfOk, OnOk};
+ghost use Rattle.std.specs.Prelude.{◌≡◌, ◌≤◌, ◌++◌, ℕ, take, string_bytes, IfOk, OnOk, OnErr};
 ghost use Rattle.tre_decimal.specs.declared.TheConstants.{SCALE_MAX};
 ghost use Rattle.tre_show.specs.Line.{lines_of, offline_text};
 
@@ -13,8 +13,10 @@ use tre_zone::Zone;
 /// before it stay.
 pub fn zone_lines(zones: &[Zone], scale: u8, out: &mut String) -> Result<(), AllocError>
     requires { scale ≤ SCALE_MAX }
-    ensures { OnOk result
+    ensures lines { OnOk result
         (string_bytes out.new ≡ string_bytes out.old ++ lines_of scale zones.now) }
+    ensures err { OnErr result ((count : ℕ)
+        × (string_bytes out.new ≡ string_bytes out.old ++ lines_of scale (take count zones.now))) }
 {
     let mut buffer = [0; LINE_MAX];
     for zone in zones {

@@ -1,5 +1,5 @@
 // The text of a state.
-ghost use Rattle.std.specs.Prelude.{◌≡◌, ◌++◌, Bool, codes, nat_lt, string_bytes, OnOk};
+ghost use Rattle.std.specs.Prelude.{◌≡◌, ◌++◌, codes, string_bytes, OnOk};
 ghost use Rattle.std.specs.Prelude.{if◌then◌else◌};
 ghost use Rattle.tre_state.specs.State.{tree_of};
 ghost use Rattle.tre_show.specs.StateText.{name_text, state_operand_text, state_text, literal_text};

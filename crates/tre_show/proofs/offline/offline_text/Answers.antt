@@ -9,6 +9,6 @@ returns c =
       c.in_ok-push_str-2.ensures.bytes,
       c.in_ok-push_units.ensures,
       c.in_ok-push_str.ensures.bytes,
-      c.in_ok-zone_lines.ensures,
+      c.in_ok-zone_lines.ensures.lines,
       c.in_ok-text.ensures.bytes,
     ) (simp append_assoc)
