@@ -29,8 +29,8 @@ AfterText (refused fault) number outcome On =
 AfterText (spelt tree names) number outcome On = On (record { tree = tree; names = names })
 
 -- What becomes of a line behind the checks with these names and patterns, by what it says. A check
--- is refused where there are as many as may be, or one of its name; else by the grammar of patterns,
--- at the scale. Where the line has no fault, On goes on.
+-- is refused where there are as many as may be, or one of its name; else its text comes to
+-- something by the grammar of patterns, at the scale. Where the line has no fault, On goes on.
 abbrev pub Follows : ℕ → Said → List (List ℕ) → List SpeltPattern → ℕ → Outcome
     → (List (List ℕ) → List SpeltPattern → Type 0) → Type 0
 Follows scale silence names patterns number outcome On = On names patterns
