@@ -6,3 +6,4 @@ mod NameColumns
 mod Pieces
 mod Defining
 pub mod OneReading
+pub mod SomeReading

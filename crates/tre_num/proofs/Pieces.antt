@@ -1,5 +1,5 @@
 -- A definition is cut into its parts in one way.
-use Rattle.std.proofs.Common.{◌≡◌, ℕ, zero, suc, ◌+◌, ◌-◌, ◌<◌, ◌^◌, ℤ, pos, neg_ℤ, Bool, true, false, cond, Option, Some, None, List, [], ◌∷◌, ◌++◌, length, take, drop, refl, sym, ap, ◌∙◌, arith}
+use Rattle.std.proofs.Common.{codes, ◌≡◌, ℕ, zero, suc, ◌+◌, ◌-◌, ◌<◌, ◌^◌, ℤ, pos, neg_ℤ, Bool, true, false, cond, Option, Some, None, List, [], ◌∷◌, ◌++◌, length, take, drop, replicate, refl, sym, ap, subst, ◌∙◌, arith}
 use Rattle.std.specs.Prelude.{◌==◌, ◌&&◌, nat_le, nat_lt, if◌then◌else◌}
 use Rattle.std.specs.Char.{is_ascii_digit}
 use Rattle.std.specs.List.{list_all, prefix_len}
@@ -16,7 +16,7 @@ use Rattle.tre_state.specs.Name.{continues_name, starts_name, IsName, IsWord}
 use Rattle.tre_num.specs.declared.comparison.Comparison.{Comparison}
 use Rattle.tre_num.specs.declared.comparison.Comparison.TheVariants.{Less, AtMost, Greater, AtLeast, Equal, Unequal}
 use Rattle.tre_num.specs.Defined.{Defined}
-use Rattle.tre_num.specs.Definitions.{Spells, spaces, sign_text}
+use Rattle.tre_num.specs.Definitions.{IsSpaced, Spells, sign_text}
 use Rattle.tre_num.specs.Pieces.{Signed, behind_equals, behind_piece, double_sign, is_space, is_whole_byte, past_spaces, piece, sign_in, single_sign}
 
 -- ---- the longest run
@@ -55,6 +55,9 @@ run-dropped : (test : ℕ → Bool) (run rest : List ℕ) → list_all test run 
 run-dropped test run rest all stops =
     ap (λ n. drop n (run ++ rest)) (run-length test run rest all stops)
     ∙ drop_at run rest (length run) refl
+
+abbrev spaces : ℕ → List ℕ
+spaces count = replicate count 32
 
 spaces-pass : (count : ℕ) → list_all is_space (spaces count) ≡ true
 spaces-pass zero = refl
@@ -306,34 +309,44 @@ no_equals (byte ∷ run) rest all some =
 
 pub parts-are : (text : List ℕ) (defined : Defined) → Spells text defined → AreParts text defined
 parts-are text defined is =
-    let gaps = is.gaps in
     let number = is.number in
     let sign = sign_text defined.comparison in
     let word = word-passes defined.name is.name.0 in
     let column = word-passes defined.column is.column in
     let whole = whole-passes number defined.value is.value in
-    let tail = spaces gaps.number ++ (number ++ spaces gaps.end) in
-    let behind = spaces gaps.column ++ (defined.column ++ (spaces gaps.sign ++ (sign ++ tail))) in
-    let one = piece-is continues_name gaps.name gaps.equals defined.name (61 ∷ behind) refl word.0
+    let at_name = is.spaced in
+    let at_equals = at_name.3 in
+    let at_column = at_equals.3 in
+    let at_sign = at_column.3 in
+    let at_number = at_sign.3 in
+    let at_end = at_number.3 in
+    let behind = at_equals.1 in
+    let tail = at_sign.1 in
+    let one = piece-is continues_name at_name.0 at_equals.0 defined.name (61 ∷ behind) refl word.0
     word.1 refl refl in
     let stops = sign-stops defined.comparison tail in
-    let two = piece-is continues_name gaps.column gaps.sign defined.column (sign ++ tail) refl
+    let two = piece-is continues_name at_column.0 at_sign.0 defined.column (sign ++ tail) refl
     column.0 column.1 stops.0 stops.1 in
-    let whole_tail : tail ≡ spaces gaps.number ++ (number ++ (spaces gaps.end ++ [])) =
-    ap (λ end. spaces gaps.number ++ (number ++ end)) (sym (append-nil (spaces gaps.end))) in
-    let three = piece-is is_whole_byte gaps.number gaps.end number [] refl whole.0 whole.1 tt tt in
+    let three = piece-is is_whole_byte at_number.0 at_end.0 number [] refl whole.0 whole.1 tt tt in
+    let text_is = at_name.2 ∙ ap (λ rest. spaces at_name.0 ++ (defined.name ++ rest)) at_equals.2 in
+    let behind_is = at_column.2
+    ∙ ap (λ rest. spaces at_column.0 ++ (defined.column ++ rest)) at_sign.2 in
+    let tail_is = at_number.2
+    ∙ ap (λ end. spaces at_number.0 ++ (number ++ end))
+    (at_end.1 ∙ sym (append-nil (spaces at_end.0))) in
     record {
       behind = behind;
       tail = tail;
-      name = ap (piece continues_name) is.is ∙ one.run_is;
-      equals = ap (behind_piece continues_name) is.is ∙ one.rest_is;
-      column = two.run_is;
-      sign = ap sign_in two.rest_is
+      name = ap (piece continues_name) text_is ∙ one.run_is;
+      equals = ap (behind_piece continues_name) text_is ∙ one.rest_is;
+      column = ap (piece continues_name) behind_is ∙ two.run_is;
+      sign = ap sign_in (ap (behind_piece continues_name) behind_is ∙ two.rest_is)
           ∙ sign-is defined.comparison tail
-          (stops-spaces (λ byte. byte == 61) gaps.number (number ++ spaces gaps.end) refl
-          (no_equals number (spaces gaps.end) whole.0 whole.1));
-      value = ap whole_of (ap (piece is_whole_byte) whole_tail ∙ three.run_is) ∙ is.value;
-      end = ap (behind_piece is_whole_byte) whole_tail ∙ three.rest_is;
+          (subst (λ rest. Stops (λ byte. byte == 61) rest) (sym at_number.2)
+          (stops-spaces (λ byte. byte == 61) at_number.0 (number ++ at_number.1) refl
+          (no_equals number at_number.1 whole.0 whole.1)));
+      value = ap whole_of (ap (piece is_whole_byte) tail_is ∙ three.run_is) ∙ is.value;
+      end = ap (behind_piece is_whole_byte) tail_is ∙ three.rest_is;
     }
 
 pub equals-is : (bytes behind : List ℕ) → behind_equals bytes ≡ Some behind → bytes ≡ 61 ∷ behind
@@ -384,38 +397,43 @@ parts-spell text defined parts name column =
     let sign = sign-splits (behind_piece continues_name parts.behind)
     (record { comparison = defined.comparison; rest = parts.tail }) parts.sign in
     let number = piece is_whole_byte parts.tail in
-    let tail : parts.tail ≡ spaces three.gap ++ (number ++ spaces three.after) =
-    three.is
-    ∙ ap (λ end. spaces three.gap ++ (number ++ (spaces three.after ++ end))) parts.end
-    ∙ ap (λ end. spaces three.gap ++ (number ++ end)) (append-nil (spaces three.after)) in
-    let behind : parts.behind ≡ spaces two.gap ++ (defined.column ++ (spaces two.after
-    ++ (sign_text defined.comparison ++ (spaces three.gap ++ (number ++ spaces three.after))))) =
-    two.is
-    ∙ ap (λ word. spaces two.gap ++ (word ++ (spaces two.after
-    ++ behind_piece continues_name parts.behind))) parts.column
-    ∙ ap (λ rest. spaces two.gap ++ (defined.column ++ (spaces two.after ++ rest))) sign
-    ∙ ap (λ rest. spaces two.gap ++ (defined.column ++ (spaces two.after
-    ++ (sign_text defined.comparison ++ rest)))) tail in
+    let sign_word = sign_text defined.comparison in
+    let at_number : IsSpaced (number ∷ []) parts.tail = (
+      three.gap,
+      spaces three.after ++ behind_piece is_whole_byte parts.tail,
+      three.is,
+      (
+        three.after,
+        ap (λ end. spaces three.after ++ end) parts.end ∙ append-nil (spaces three.after),
+      ),
+    ) in
+    let at_sign : IsSpaced (sign_word ∷ number ∷ [])
+    (spaces two.after ++ behind_piece continues_name parts.behind) =
+    (two.after, parts.tail, ap (λ rest. spaces two.after ++ rest) sign, at_number) in
+    let at_column : IsSpaced (defined.column ∷ sign_word ∷ number ∷ []) parts.behind = (
+      two.gap,
+      spaces two.after ++ behind_piece continues_name parts.behind,
+      two.is
+          ∙ ap (λ word. spaces two.gap ++ (word ++ (spaces two.after
+          ++ behind_piece continues_name parts.behind))) parts.column,
+      at_sign,
+    ) in
+    let at_equals : IsSpaced (codes "=" ∷ defined.column ∷ sign_word ∷ number ∷ [])
+    (spaces one.after ++ behind_piece continues_name text) =
+    (one.after, parts.behind, ap (λ rest. spaces one.after ++ rest) parts.equals, at_column) in
     record {
       name = name;
       column = column;
       number = number;
       value = parts.value;
-      gaps = record {
-        name = one.gap;
-        equals = one.after;
-        column = two.gap;
-        sign = two.after;
-        number = three.gap;
-        end = three.after;
-      };
-      is = one.is
-          ∙ ap (λ word. spaces one.gap ++ (word ++ (spaces one.after
-          ++ behind_piece continues_name text))) parts.name
-          ∙ ap (λ rest. spaces one.gap ++ (defined.name ++ (spaces one.after ++ rest)))
-          parts.equals
-          ∙ ap (λ rest. spaces one.gap ++ (defined.name ++ (spaces one.after ++ (61 ∷ rest))))
-          behind;
+      spaced = (
+        one.gap,
+        spaces one.after ++ behind_piece continues_name text,
+        one.is
+            ∙ ap (λ word. spaces one.gap ++ (word ++ (spaces one.after
+            ++ behind_piece continues_name text))) parts.name,
+        at_equals,
+      );
     }
 
 -- ---- names are ASCII

@@ -13,10 +13,6 @@ use Rattle.tre_num.specs.Whole.{whole_of}
 
 -- ---- one definition
 
--- so many spaces (32)
-abbrev pub spaces : ℕ → List ℕ
-spaces count = replicate count 32
-
 -- how a comparison is written
 abbrev pub sign_text : Comparison → List ℕ
 sign_text Less = codes "<"
@@ -26,21 +22,13 @@ sign_text AtLeast = codes ">="
 sign_text Equal = codes "=="
 sign_text Unequal = codes "!="
 
--- how many spaces stand before each part, and at the end
-pub record Gaps : Type 0 where
-  pub name : ℕ
-  pub equals : ℕ
-  pub column : ℕ
-  pub sign : ℕ
-  pub number : ℕ
-  pub end : ℕ
-
--- The name, `=`, the column, the sign and the number, with spaces round them.
-abbrev pub definition_text : Gaps → Defined → List ℕ → List ℕ
-definition_text gaps defined number =
-    spaces gaps.name ++ (defined.name ++ (spaces gaps.equals ++ (codes "=" ++ (spaces gaps.column
-    ++ (defined.column ++ (spaces gaps.sign ++ (sign_text defined.comparison
-    ++ (spaces gaps.number ++ (number ++ spaces gaps.end)))))))))
+-- The text is these parts in their order, with any number of spaces (32) before each of them and at
+-- the end.
+abbrev pub IsSpaced : List (List ℕ) → List ℕ → Type 0
+IsSpaced [] text = (count : ℕ) × (text ≡ replicate count 32)
+IsSpaced (part ∷ parts) text =
+    (count : ℕ) × (rest : List ℕ) × (text ≡ replicate count 32 ++ (part ++ rest))
+    × IsSpaced parts rest
 
 -- The text is this definition: of a name, of the numbers of a column, and with a whole number.
 pub record Spells (text : List ℕ) (defined : Defined) : Type 0 where
@@ -48,8 +36,8 @@ pub record Spells (text : List ℕ) (defined : Defined) : Type 0 where
   pub column : IsWord defined.column
   pub number : List ℕ
   pub value : whole_of number ≡ Some defined.value
-  pub gaps : Gaps
-  pub is : text ≡ definition_text gaps defined number
+  pub spaced : IsSpaced
+      (defined.name ∷ codes "=" ∷ defined.column ∷ sign_text defined.comparison ∷ number ∷ []) text
 
 -- ---- the definitions of a text
 

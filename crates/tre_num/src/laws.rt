@@ -1,8 +1,15 @@
 //! Laws of definitions, each as a function whose contract it is.
-ghost use Rattle.std.specs.Prelude.{◌≡◌, ℕ, List};
+ghost use Rattle.std.specs.Prelude.{◌≡◌, ◌⊎◌, ℕ, List};
 ghost use Rattle.tre_num.specs.Defined.{Defined};
 ghost use Rattle.tre_num.specs.Definitions.{Define, IsRefused, parts_of};
 ghost use Rattle.tre_num.specs.declared.let_fault.LetFault.{LetFault};
+
+/// A text has a reading: it is some definitions, or has a first fault.
+pub fn some_reading()
+    ensures { (text : List ℕ) →
+        ((definitions : List Defined) × Define (parts_of text) definitions)
+        ⊎ ((fault : LetFault) × IsRefused (parts_of text) fault) }
+{}
 
 /// A text has one reading: it is these definitions, or others, and not both.
 pub fn one_reading()

@@ -1,6 +1,7 @@
 -- What words of a made run give, and how such a run ends.
-use Rattle.std.proofs.Common.{◌≡◌, ◌∙◌, ℕ, Bool, true, List, [], All, Some, Ok, Err, ap, sym, subst, ⊎_elim, arith}
+use Rattle.std.proofs.Common.{◌≡◌, ◌∙◌, ℕ, List, [], All, Some, Ok, Err, ap, sym, subst, ⊎_elim, arith}
 use Rattle.std.specs.Prelude.{option_map}
+use Rattle.std.proofs.lemmas.Bool.Decides.{when_true}
 use Rattle.tre_answer.specs.Ends.{ReadsInput, at_once, way_of, IsAnswerIn, StandsSoFar, IsCut, EndsOver, StandsAtMemory}
 use Rattle.tre_answer.specs.Readings.{watched_of}
 use Rattle.tre_answer.specs.Request.{Request}
@@ -11,7 +12,7 @@ use Rattle.tre_generate.specs.Summary.{IsSummary}
 use Rattle.tre_tell.specs.Outputs.{OutputTold, NothingWritten}
 use Rattle.tre_tell.specs.Standing.{FirstBlocksStand}
 use Rattle.tre_watch.specs.Outcome.{Outcome}
-use Rattle.tre_words.specs.Job.{GivesWhere, GivesJob, HaveNoFaultWhere, HaveNoFault, is_watch, made_job}
+use Rattle.tre_words.specs.Job.{GivesJob, made_count, made_job}
 use Rattle.tre_words.specs.declared.job.Job.{Job}
 use Rattle.tre_words.specs.declared.job.Mode.{Mode}
 use Rattle.tre_words.specs.declared.job.Mode.TheVariants.{Offline, Generate, Watch as WatchMode}
@@ -28,25 +29,14 @@ one_value e = cc
 module _ (words : List (List ℕ)) (count : ℕ) (asks : AsksForMadeRun words count) where
   job_given : (job : Job) → GivesJob words job → job ≡ made_job count
   job_given job gives =
-      let here : GivesWhere true (is_watch words) words job =
-      subst (λ (made : Bool). GivesWhere made (is_watch words) words job) asks.first
+      let here = when_true (option_map made_job (made_count words) ≡ Some job) _ asks.first
       gives.gives in
       one_value (sym here ∙ ap (option_map made_job) asks.second)
 
-  have_no_fault : HaveNoFault words
-  have_no_fault =
-      let here : HaveNoFaultWhere true (is_watch words) words = tt in
-      subst (λ (made : Bool). HaveNoFaultWhere made (is_watch words) words) (sym asks.first) here
-
   pub gives_one : GivesJob words (made_job count)
-  gives_one =
-      let here : GivesWhere true (is_watch words) words (made_job count) =
-      ap (option_map made_job) asks.second in
-      record {
-        faultless = have_no_fault;
-        gives = subst (λ (made : Bool). GivesWhere made (is_watch words) words (made_job count))
-            (sym asks.first) here;
-      }
+  gives_one = record {
+    gives = rw asks.first (ap (option_map made_job) asks.second);
+  }
 
   mode_given : (job : Job) → GivesJob words job → job.mode ≡ Generate count
   mode_given job gives = ap (λ (j : Job). j.mode) (job_given job gives)

@@ -39,12 +39,6 @@ EndsAs-words Gives checks input output WordsUsage none good nothing =
 EndsAs-words Gives checks input output WordsMemory none good nothing =
     record { checks_read = good; reads = nothing.reads; stands = inl nothing }
 
--- words give no job where memory was wanting, or else are told as such
-pub told_as_such : (fault : WordsFault) → words_status fault ≢ Usage
-    → words_status fault ≢ Memory → ⊥
-told_as_such WordsUsage usage memory = usage refl
-told_as_such WordsMemory usage memory = memory refl
-
 -- what they ask for, from what is found of a job
 pub AsksFor-of : (Gives : Job → Type 0) (Says : ℕ → Outcome → Type 0) (job : Job)
     (lets : List Defined) (asked : Asked) → Gives job

@@ -1,22 +1,23 @@
 -- What a file of checks comes to, from what was read of it.
-use Rattle.std.proofs.Common.{◌≡◌, ◌≢◌, ◌⊎◌, ℕ, ◌+◌, ◌<◌, nat_lt, Bool, true, false, MatchBool, Option, None, Some, IfSome, List, [], ◌∷◌, ◌++◌, codes, length, take, map, slice_get, string_bytes, String, Global, refl, sym, ◌∙◌, ap, subst, inl, inr, ⊎_elim, append-nil, length-append, arith}
+use Rattle.std.proofs.Common.{◌≡◌, ◌≢◌, ◌⊎◌, ℕ, ◌+◌, ◌<◌, nat_le, nat_lt, Bool, true, false, MatchBool, Option, None, Some, is_some, IfSome, List, [], ◌∷◌, ◌++◌, codes, length, take, map, slice_get, string_bytes, String, Global, refl, sym, ◌∙◌, ap, subst, inl, inr, ⊎_elim, append-nil, length-append, arith}
 use Rattle.std.proofs.lemmas.Bool.{cases_lt}
 use Rattle.std.proofs.lemmas.Bool.Decides.{nat_tests}
 use Rattle.std.proofs.lemmas.List.{length-map, map-append, take_more}
 use Rattle.std.proofs.lemmas.Option.{get_or_from_slice_get, slice_get_within}
 use Rattle.std.specs.Io.KnownBytes.{Consumes, IsAtEnd}
+use Rattle.std.specs.Char.{is_newline}
 use Rattle.std.specs.List.{slice_split}
 use Rattle.tre_feed.specs.Front.{IsFront, IsUnreadable, StopsFront}
 use Rattle.tre_feed.specs.Input.{InputTold, AllReadsGood}
 use Rattle.tre_feed.specs.declared.fault.FeedFault.{FeedFault}
 use Rattle.tre_feed.specs.declared.fault.FeedFault.TheVariants.{Trace as FeedTrace, TooLong as FeedTooLong, Read as FeedRead, Memory as FeedMemory}
-use Rattle.tre_parse.specs.Outcome.{Outcome as Parsed, spelt, refused}
+use Rattle.tre_parse.specs.Outcome.{Outcome as Parsed, spelt, refused, IsOutcome as ParsesTo}
 use Rattle.tre_state.specs.Names.{place_of}
 use Rattle.tre_state.specs.declared.names.TheConstants.{NAMES_MAX}
 use Rattle.tre_syntax.specs.declared.pattern.Pattern.{Pattern}
 use Rattle.tre_tell.specs.Sought.{sought_by}
-use Rattle.tre_watch.specs.Lines.{is_line_end, Said, silence, mistake, check}
-use Rattle.tre_watch.specs.Outcome.{SpeltPattern, Outcome, planned, faulty, AfterText, AfterName, AfterCount, Follows, IsOutcomeFrom, IsOutcome}
+use Rattle.tre_watch.specs.Lines.{Said, silence, mistake, check}
+use Rattle.tre_watch.specs.Outcome.{SpeltPattern, Outcome, planned, faulty, AfterText, Follows, IsOutcomeFrom, IsOutcome}
 use Rattle.tre_watch.specs.Steps.{spelt_in}
 use Rattle.tre_watch.specs.declared.fault.WatchFault.{WatchFault}
 use Rattle.tre_watch.specs.declared.fault.WatchFault.TheVariants.{TooLarge, BadLine, TooMany, Twice, Pattern as PatternFault, Empty, Memory as WatchMemory}
@@ -45,10 +46,10 @@ still_large : (scale : ℕ) (bytes rest : List ℕ) (outcome : Outcome) → FILE
     → IsOutcome scale bytes outcome → IsOutcome scale (bytes ++ rest) outcome
 still_large scale bytes rest outcome large comes =
     to_true (nat_lt FILE_MAX (length (bytes ++ rest))) (outcome ≡ faulty TooLarge)
-    (IsOutcomeFrom scale [] [] 1 (slice_split is_line_end (bytes ++ rest)) outcome)
+    (IsOutcomeFrom scale [] [] 1 (slice_split is_newline (bytes ++ rest)) outcome)
     (is_more FILE_MAX (length (bytes ++ rest)) (omega (arith, length-append bytes rest)))
     (of_true (nat_lt FILE_MAX (length bytes)) (outcome ≡ faulty TooLarge)
-    (IsOutcomeFrom scale [] [] 1 (slice_split is_line_end bytes) outcome)
+    (IsOutcomeFrom scale [] [] 1 (slice_split is_newline bytes) outcome)
     (is_more FILE_MAX (length bytes) large) comes)
 
 -- all bytes come to what the front of them does
@@ -126,17 +127,15 @@ module _ (number : ℕ) (patterns : List SpeltPattern) where
   none_in_text (refused fault) On never is = cc
   none_in_text (spelt tree names) On never is = never (record { tree = tree; names = names }) is
 
-  none_in_name : (scale : ℕ) (place : Option ℕ) (text : List ℕ) (On : SpeltPattern → Type 0)
+  none_in_check : (scale : ℕ) (full there : Bool) (text : List ℕ) (On : SpeltPattern → Type 0)
       → ((pattern : SpeltPattern) → On pattern → ⊥)
-      → AfterName scale place text number (planned [] patterns) On → ⊥
-  none_in_name scale None text On never is = none_in_text is.parsed On never is.after
-  none_in_name scale (Some place) text On never is = cc
-
-  none_in_count : (scale : ℕ) (room : Bool) (place : Option ℕ) (text : List ℕ)
-      (On : SpeltPattern → Type 0) → ((pattern : SpeltPattern) → On pattern → ⊥)
-      → AfterCount scale room place text number (planned [] patterns) On → ⊥
-  none_in_count scale true place text On never is = none_in_name scale place text On never is
-  none_in_count scale false place text On never is = cc
+      → MatchBool full (planned [] patterns ≡ faulty (TooMany number))
+      (MatchBool there (planned [] patterns ≡ faulty (Twice number))
+      ((parsed : Parsed) × ParsesTo scale text parsed
+      × AfterText parsed number (planned [] patterns) On)) → ⊥
+  none_in_check scale true there text On never is = cc
+  none_in_check scale false true text On never is = cc
+  none_in_check scale false false text On never is = none_in_text is.0 On never is.2
 
   none_in_line : (scale : ℕ) (said : Said) (names : List (List ℕ)) (before : List SpeltPattern)
       (On : List (List ℕ) → List SpeltPattern → Type 0)
@@ -145,7 +144,7 @@ module _ (number : ℕ) (patterns : List SpeltPattern) where
   none_in_line scale silence names before On never is = never names before is
   none_in_line scale mistake names before On never is = cc
   none_in_line scale (check name text) names before On never is =
-      none_in_count scale (nat_lt (length names) NAMES_MAX) (place_of names name) text
+      none_in_check scale (nat_le NAMES_MAX (length names)) (is_some (place_of names name)) text
       (λ pattern. On (names ++ name ∷ []) (before ++ pattern ∷ []))
       (λ pattern. never (names ++ name ∷ []) (before ++ pattern ∷ [])) is
 
@@ -171,7 +170,7 @@ pub some_planned : (scale : ℕ) (bytes : List ℕ) (names : List (List ℕ))
     → 0 < length names
 some_planned scale bytes (name ∷ names) patterns is = omega arith
 some_planned scale bytes [] patterns is =
-    absurd (none_in_file scale (nat_lt FILE_MAX (length bytes)) (slice_split is_line_end bytes)
+    absurd (none_in_file scale (nat_lt FILE_MAX (length bytes)) (slice_split is_newline bytes)
     patterns is)
 
 -- ---- why there is none

@@ -1,18 +1,18 @@
 -- How a made run ends: a run over words that ask for a trace of so many segments.
-use Rattle.std.specs.Prelude.{◌≡◌, ℕ, List, Some, true}
+use Rattle.std.specs.Prelude.{◌≡◌, ℕ, List, Some, true, codes}
 use Rattle.std.specs.Io.KnownBytes.{Appends}
 use Rattle.tre_generate.specs.FixedPattern.{fixed_tree}
 use Rattle.tre_generate.specs.Summary.{IsSummary}
 use Rattle.tre_io.specs.Faults.{counted}
 use Rattle.tre_io.specs.Written.{AppendsPart}
 use Rattle.tre_tell.specs.Outputs.{OutputTold, AllWritesGood, NothingWritten}
-use Rattle.tre_words.specs.Job.{is_made_run, made_count}
+use Rattle.tre_words.specs.Job.{begins_with, made_count}
 use Rattle.tre_tool.specs.declared.status.Status.{Status}
 use Rattle.tre_tool.specs.declared.status.Status.TheVariants.{Done, WriteFault, Memory}
 
 -- The words ask for a made run of so many segments.
 pub record AsksForMadeRun (words : List (List ℕ)) (count : ℕ) : Type 0 where
-  pub first : is_made_run words ≡ true
+  pub first : begins_with (codes "--generate") words ≡ true
   pub second : made_count words ≡ Some count
 
 -- The summary of a made run was written.

@@ -1,4 +1,4 @@
-ghost use Rattle.std.specs.Prelude.{◌≡◌, ◌≢◌, ◌+◌, ℕ, IsTrue, IfSome, List, false, map, string_bytes};
+ghost use Rattle.std.specs.Prelude.{◌≡◌, ◌+◌, ℕ, IsTrue, IfSome, List, false, map, string_bytes};
 ghost use Rattle.std.specs.Io.KnownBytes.{Appends};
 ghost use Rattle.tre_answer.specs.Ends.{ReadsInput};
 ghost use Rattle.tre_feed.specs.Input.{TakesAtMost, input_told};
@@ -10,7 +10,7 @@ ghost use Rattle.tre_tool.specs.Request.{AsksForNothing};
 ghost use Rattle.tre_tool.specs.Run.{ReadNoChecks, ComesFirst, EndsAs, IsComplete, IsLineTold};
 ghost use Rattle.tre_tool.specs.Status.{error_line};
 ghost use Rattle.tre_watch.specs.declared.reader.TheConstants.{FILE_MAX};
-ghost use Rattle.tre_words.specs.Job.{GivesJob, HaveNoFault};
+ghost use Rattle.tre_words.specs.Job.{GivesJob};
 ghost use Rattle.tre_words.specs.declared.job.Job.{Job};
 ghost use Rattle.tre_words.specs.declared.job.Mode.TheVariants.{Watch};
 
@@ -59,8 +59,6 @@ fn run_words<P: Source, S: Source, O: Sink>(
         IfSome (P.file_name checks.old) (λ told. told ≡ file) }
     ensures checks_at_most { IsTrue (P.opened checks.new) →
         TakesAtMost (FILE_MAX + 1) (P.file checks.old) (P.left checks.new) }
-    ensures faultless { status_of result ≢ Status.Usage → status_of result ≢ Status.Memory →
-        HaveNoFault (map string_bytes words.now) }
 {
     let job = read_words(alloc, words)?;
     let question = asked_by(alloc, &job, checks)?;
@@ -116,10 +114,6 @@ pub fn run_all<P: Source, S: Source, O: Sink, E: Sink>(
         checks.new)
         (input_told S.file_name S.file S.sound S.opened S.left S.found S.faults input.old input.new)
         (output_told O.written O.faults out.old out.new) result }
-
-    // Words of which `clap` has a fault are told as such, whatever else they give.
-    ensures faultless { result ≢ Status.Usage → result ≢ Status.Memory →
-        HaveNoFault (map string_bytes words.now) }
 
     // Words that ask for nothing, also by their file of checks, leave the input and the output as
     // they were. So does every run that says that they do.

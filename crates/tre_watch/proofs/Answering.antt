@@ -1,5 +1,5 @@
 -- What is answered of one check.
-use Rattle.std.proofs.Common.{◌≡◌, ℕ, ◌<◌, ◌⊎◌, ◌≢◌, true, false, Option, Some, None, is_some, List, [], ◌∷◌, ◌++◌, length, refl, sym, ap, subst, ◌∙◌, ⊎_elim}
+use Rattle.std.proofs.Common.{◌≡◌, ℕ, ◌<◌, ◌⊎◌, ◌≢◌, false, is_some, List, [], ◌∷◌, ◌++◌, length, refl, sym, ap, subst, ◌∙◌, ⊎_elim}
 use Rattle.tre_state.specs.Names.{place_of}
 use Rattle.tre_state.specs.declared.names.TheConstants.{NAMES_MAX}
 use Rattle.tre_parse.specs.Outcome.{spelt, refused, IsOutcome as ParsesTo}
@@ -13,14 +13,6 @@ use Rattle.tre_watch.specs.Outcome.{SpeltPattern}
 use Rattle.tre_watch.specs.Steps.{spelt_of, spelt_in, Leads, Stops}
 use Rattle.tre_watch.proofs.Outcomes.{stops_memory, stops_text, leads_check}
 
-pub is_there : (place : Option ℕ) → is_some place ≡ true → (k : ℕ) × (place ≡ Some k)
-is_there None e = absurd (cc)
-is_there (Some k) e = (k, refl)
-
-pub is_absent : (place : Option ℕ) → is_some place ≡ false → place ≡ None
-is_absent None e = refl
-is_absent (Some k) e = absurd (cc)
-
 spelt_in-push : (patterns : List Pattern) (pattern : Pattern)
     → spelt_in (patterns ++ pattern ∷ []) ≡ spelt_in patterns ++ spelt_of pattern ∷ []
 spelt_in-push [] pattern = refl
@@ -29,7 +21,7 @@ spelt_in-push (first ∷ patterns) pattern =
 
 module _ (scale number : ℕ) (line : List ℕ) (names : List (List ℕ)) (patterns : List Pattern)
     (name text : List ℕ) (says : Says line (check name text)) (few : length names < NAMES_MAX)
-    (none : place_of names name ≡ None) where
+    (none : is_some (place_of names name) ≡ false) where
   -- the text's pattern was added
   pub found_leads : (pattern : Pattern) → ParsesTo scale text (spelt (spelt_of pattern).tree
       (spelt_of pattern).names)

@@ -6,7 +6,7 @@ use Rattle.std.specs.Cmp.Derive.{both_true}
 use Rattle.std.specs.List.{list_all, prefix_len}
 use Rattle.std.specs.Str.{IsAscii}
 use Rattle.tre_state.specs.Name.{starts_name, continues_name, IsName}
-use Rattle.tre_watch.specs.Lines.{is_blank, behind, IsCheck, HasCheck}
+use Rattle.tre_watch.specs.Lines.{is_blank, behind, IsCheck}
 use Rattle.tre_watch.proofs.Fronts.{Stops, and_parts, behind_seam, front_seam, front_passes}
 
 starts_continues : (byte : ℕ) → starts_name byte ≡ true → continues_name byte ≡ true
@@ -86,21 +86,22 @@ found_check content ascii name some first =
 -- Without `=` there is none.
 pub no_check-rest : (content : List ℕ)
     → length (behind is_blank (behind continues_name content)) ≡ 0
-    → HasCheck content → ⊥
-no_check-rest content none has =
-    let found = check_found content has.name has.text has.is in
+    → (name text : List ℕ) → ¬ IsCheck content name text
+no_check-rest content none name text is =
+    let found = check_found content name text is in
     let one = ap length found.back in
     absurd (omega (arith, one))
 
 pub no_check-sign : (content : List ℕ)
-    → (get_or (behind is_blank (behind continues_name content)) 0 0 ≡ 61 → ⊥) → HasCheck content
-    → ⊥
-no_check-sign content other has =
-    let found = check_found content has.name has.text has.is in
+    → (get_or (behind is_blank (behind continues_name content)) 0 0 ≡ 61 → ⊥)
+    → (name text : List ℕ) → ¬ IsCheck content name text
+no_check-sign content other name text is =
+    let found = check_found content name text is in
     other (ap (λ bytes. get_or bytes 0 0) found.back)
 
 pub no_check-name : (content : List ℕ)
-    → (IsName (take (prefix_len continues_name content) content) → ⊥) → HasCheck content → ⊥
-no_check-name content none has =
-    let found = check_found content has.name has.text has.is in
-    none (subst (λ (bytes : List ℕ). IsName bytes) (sym found.front) has.is.is_name)
+    → (IsName (take (prefix_len continues_name content) content) → ⊥)
+    → (name text : List ℕ) → ¬ IsCheck content name text
+no_check-name content none name text is =
+    let found = check_found content name text is in
+    none (subst (λ (bytes : List ℕ). IsName bytes) (sym found.front) is.is_name)

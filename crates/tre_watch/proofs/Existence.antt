@@ -1,8 +1,9 @@
 -- Every file has an outcome.
-use Rattle.std.proofs.Common.{◌≡◌, ℕ, suc, ◌+◌, ◌<◌, ◌≤◌, ◌⊎◌, IsTrue, Bool, true, false, nat_lt, MatchBool, Option, Some, None, List, [], ◌∷◌, ◌++◌, length, get_or, take, drop, refl, inl, inr, arith}
+use Rattle.std.proofs.Common.{◌≡◌, ℕ, suc, ◌+◌, ◌<◌, ◌≤◌, ◌⊎◌, IsTrue, Bool, true, false, nat_le, nat_lt, MatchBool, is_some, List, [], ◌∷◌, ◌++◌, length, get_or, take, drop, refl, inl, inr, arith}
 use Rattle.std.proofs.lemmas.Bool.{cases_Bool, cases_eq, cases_lt}
 use Rattle.std.proofs.lemmas.List.Sums.{AllPass-from_list_all, list_all-from_AllPass}
 use Rattle.std.proofs.lemmas.Str.Ascii.{IsAscii-nil, IsAscii-cons}
+use Rattle.std.specs.Char.{is_newline}
 use Rattle.std.specs.List.{AllPass, list_all, prefix_len, slice_split}
 use Rattle.std.specs.Str.{IsAscii}
 use Rattle.tre_state.specs.Name.{starts_name, continues_name, is_reserved, IsWord, IsName}
@@ -12,8 +13,8 @@ use Rattle.tre_parse.specs.Outcome.{Outcome as Parsed, spelt, refused, IsOutcome
 use Rattle.tre_parse.proofs.Existence.{outcome_is as text_outcome}
 use Rattle.tre_watch.specs.declared.fault.WatchFault.TheVariants.{TooLarge, BadLine, TooMany, Twice, Pattern}
 use Rattle.tre_watch.specs.declared.reader.TheConstants.{FILE_MAX}
-use Rattle.tre_watch.specs.Lines.{is_line_end, is_blank, behind, is_silent, content_of, HasCheck, Said, silence, mistake, check, Says}
-use Rattle.tre_watch.specs.Outcome.{SpeltPattern, Outcome, faulty, ParsesOn, AfterName, AfterCount, Follows, ended, IsOutcomeFrom, IsOutcome}
+use Rattle.tre_watch.specs.Lines.{is_blank, behind, is_silent, content_of, IsCheck, Said, silence, mistake, check, Says}
+use Rattle.tre_watch.specs.Outcome.{SpeltPattern, Outcome, faulty, AfterText, Follows, ended, IsOutcomeFrom, IsOutcome}
 use Rattle.tre_watch.proofs.Checks.{found_check, no_check-sign, no_check-name}
 
 -- ---- whether a line has a check
@@ -64,6 +65,12 @@ some_first : (bytes : List ℕ) → get_or bytes 0 0 ≡ 61 → 0 < length bytes
 some_first [] is = absurd (omega (arith, is))
 some_first (byte ∷ bytes) is = omega arith
 
+-- Some check stands there.
+record HasCheck (content : List ℕ) : Type 0 where
+  name : List ℕ
+  text : List ℕ
+  is : IsCheck content name text
+
 check_or : (content : List ℕ) → Decided (HasCheck content)
 check_or content = judge (ascii_or content) (name_or front) (cases_eq (get_or back 0 0) 61)
   where
@@ -80,8 +87,10 @@ check_or content = judge (ascii_or content) (name_or front) (cases_eq (get_or ba
       text = drop 1 back;
       is = found_check content ascii name (some_first back sign) sign;
     })
-    judge (inl ascii) (inl name) (inr never) = inr (no_check-sign content never)
-    judge (inl ascii) (inr never) _ = inr (no_check-name content never)
+    judge (inl ascii) (inl name) (inr never) = inr
+        (λ has. no_check-sign content never has.name has.text has.is)
+    judge (inl ascii) (inr never) _ = inr
+        (λ has. no_check-name content never has.name has.text has.is)
     judge (inr never) _ _ = inr (λ has. never has.is.ascii)
 
 something_said : (line : List ℕ)
@@ -89,7 +98,8 @@ something_said : (line : List ℕ)
     → Decided (HasCheck (content_of line)) → (said : Said) × Says line said
 something_said line (inl silent) _ = (silence, silent)
 something_said line (inr spoken) (inl has) = (check has.name has.text, (spoken, has.is))
-something_said line (inr spoken) (inr never) = (mistake, (spoken, never))
+something_said line (inr spoken) (inr never) =
+    (mistake, (spoken, λ name text is. never (record { name = name; text = text; is = is })))
 
 -- Every line says something.
 says_some : (line : List ℕ) → (said : Said) × Says line said
@@ -100,27 +110,21 @@ says_some line =
 
 module _ (scale number : ℕ) (On : Outcome → SpeltPattern → Type 0)
     (on : (pattern : SpeltPattern) → (outcome : Outcome) × On outcome pattern) where
-  parsed_some : (text : List ℕ) (parsed : Parsed) → ParsesTo scale text parsed
-      → (outcome : Outcome) × ParsesOn scale text number outcome (On outcome)
-  parsed_some text (refused fault) parses = (
-    faulty (Pattern number fault),
-    record { parsed = refused fault; parses = parses; after = refl },
-  )
-  parsed_some text (spelt tree names) parses =
-      let next = on (record { tree = tree; names = names }) in (
-        next.0,
-        record { parsed = spelt tree names; parses = parses; after = next.1 },
-      )
+  parsed_some : (parsed : Parsed) → (outcome : Outcome) × AfterText parsed number outcome (On outcome)
+  parsed_some (refused fault) = (faulty (Pattern number fault), refl)
+  parsed_some (spelt tree names) = on (record { tree = tree; names = names })
 
-  found_some : (place : Option ℕ) (text : List ℕ)
-      → (outcome : Outcome) × AfterName scale place text number outcome (On outcome)
-  found_some None text = let made = text_outcome scale text in parsed_some text made.0 made.1
-  found_some (Some place) text = (faulty (Twice number), refl)
-
-  counted_some : (room : Bool) (place : Option ℕ) (text : List ℕ)
-      → (outcome : Outcome) × AfterCount scale room place text number outcome (On outcome)
-  counted_some true place text = found_some place text
-  counted_some false place text = (faulty (TooMany number), refl)
+  check_some : (full there : Bool) (text : List ℕ) → (outcome : Outcome)
+      × MatchBool full (outcome ≡ faulty (TooMany number))
+      (MatchBool there (outcome ≡ faulty (Twice number))
+      ((parsed : Parsed) × ParsesTo scale text parsed
+      × AfterText parsed number outcome (On outcome)))
+  check_some true there text = (faulty (TooMany number), refl)
+  check_some false true text = (faulty (Twice number), refl)
+  check_some false false text =
+      let made = text_outcome scale text in
+      let next = parsed_some made.0 in
+      (next.0, (made.0, made.1, next.1))
 
 follows_some : (scale : ℕ) (said : Said) (names : List (List ℕ)) (patterns : List SpeltPattern)
     (number : ℕ)
@@ -131,10 +135,10 @@ follows_some : (scale : ℕ) (said : Said) (names : List (List ℕ)) (patterns :
 follows_some scale silence names patterns number On on = on names patterns
 follows_some scale mistake names patterns number On on = (faulty (BadLine number), refl)
 follows_some scale (check name text) names patterns number On on =
-    counted_some scale number
+    check_some scale number
     (λ outcome pattern. On outcome (names ++ name ∷ []) (patterns ++ pattern ∷ []))
     (λ pattern. on (names ++ name ∷ []) (patterns ++ pattern ∷ []))
-    (nat_lt (length names) NAMES_MAX) (place_of names name) text
+    (nat_le NAMES_MAX (length names)) (is_some (place_of names name)) text
 
 lines_some : (scale : ℕ) (lines : List (List ℕ)) (names : List (List ℕ))
     (patterns : List SpeltPattern)
@@ -150,9 +154,9 @@ lines_some scale (line ∷ lines) names patterns number =
 
 file_some : (scale : ℕ) (large : Bool) (bytes : List ℕ)
     → (outcome : Outcome) × MatchBool large (outcome ≡ faulty TooLarge)
-    (IsOutcomeFrom scale [] [] 1 (slice_split is_line_end bytes) outcome)
+    (IsOutcomeFrom scale [] [] 1 (slice_split is_newline bytes) outcome)
 file_some scale true bytes = (faulty TooLarge, refl)
-file_some scale false bytes = lines_some scale (slice_split is_line_end bytes) [] [] 1
+file_some scale false bytes = lines_some scale (slice_split is_newline bytes) [] [] 1
 
 pub outcome_is : (scale : ℕ) (bytes : List ℕ) → (outcome : Outcome) × IsOutcome scale bytes outcome
 outcome_is scale bytes = file_some scale (nat_lt FILE_MAX (length bytes)) bytes

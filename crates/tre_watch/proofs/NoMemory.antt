@@ -1,6 +1,7 @@
 -- What is refused is never refused for want of memory.
-use Rattle.std.proofs.Common.{◌≡◌, ◌≢◌, ◌∙◌, ℕ, ◌+◌, nat_lt, Bool, true, false, MatchBool, Option, None, Some, List, [], ◌∷◌, ◌++◌, length, refl, subst, inl, inr}
+use Rattle.std.proofs.Common.{◌≡◌, ◌≢◌, ◌∙◌, ℕ, ◌+◌, nat_le, nat_lt, Bool, true, false, MatchBool, Option, None, Some, is_some, List, [], ◌∷◌, ◌++◌, length, refl, subst, inl, inr}
 use Rattle.std.specs.Prelude.{MatchOption, position, if◌then◌else◌}
+use Rattle.std.specs.Char.{is_newline}
 use Rattle.std.specs.List.{slice_split}
 use Rattle.std.specs.Option.{option_map, option_or}
 use Rattle.tre_parse.specs.Outcome.{Outcome as Parsed, spelt, refused, TextTokens, text_tokens_of, offset_of, is_big, is_past, deep_place, byte_fault, limit_fault, size_fault, IsOutcomeOfTree, IsOutcomeOfTokens, IsOutcome as ParsesTo}
@@ -12,8 +13,8 @@ use Rattle.tre_state.specs.Names.{place_of}
 use Rattle.tre_state.specs.declared.names.TheConstants.{NAMES_MAX}
 use Rattle.tre_syntax.specs.PatternTree.{PatternTree, node_count}
 use Rattle.tre_syntax.specs.declared.pattern.TheConstants.{NODES_MAX}
-use Rattle.tre_watch.specs.Lines.{is_line_end, Said, silence, mistake, check}
-use Rattle.tre_watch.specs.Outcome.{SpeltPattern, faulty, AfterText, AfterName, AfterCount, Follows, IsOutcomeFrom, IsOutcome}
+use Rattle.tre_watch.specs.Lines.{Said, silence, mistake, check}
+use Rattle.tre_watch.specs.Outcome.{SpeltPattern, faulty, AfterText, Follows, IsOutcomeFrom, IsOutcome}
 use Rattle.tre_watch.specs.Steps.{IsNoWantOfMemory}
 use Rattle.tre_watch.specs.declared.fault.WatchFault.{WatchFault}
 use Rattle.tre_watch.specs.declared.fault.WatchFault.TheVariants.{TooLarge, BadLine, TooMany, Twice, Pattern as PatternFault, Empty}
@@ -95,17 +96,16 @@ module _ (scale number : ℕ) (fault : WatchFault) where
       told_by (PatternFault number parsed) is (λ e. cc, text_told scale text parsed parses)
   in_text text (spelt tree names) On parses on is = on (record { tree = tree; names = names }) is
 
-  in_name : (place : Option ℕ) (text : List ℕ) (On : SpeltPattern → Type 0)
+  in_check : (full there : Bool) (text : List ℕ) (On : SpeltPattern → Type 0)
       → ((pattern : SpeltPattern) → On pattern → IsNoWantOfMemory fault)
-      → AfterName scale place text number (faulty fault) On → IsNoWantOfMemory fault
-  in_name None text On on is = in_text text is.parsed On is.parses on is.after
-  in_name (Some place) text On on is = told_by (Twice number) is (λ e. cc, tt)
-
-  in_count : (room : Bool) (place : Option ℕ) (text : List ℕ) (On : SpeltPattern → Type 0)
-      → ((pattern : SpeltPattern) → On pattern → IsNoWantOfMemory fault)
-      → AfterCount scale room place text number (faulty fault) On → IsNoWantOfMemory fault
-  in_count true place text On on is = in_name place text On on is
-  in_count false place text On on is = told_by (TooMany number) is (λ e. cc, tt)
+      → MatchBool full (faulty fault ≡ faulty (TooMany number))
+      (MatchBool there (faulty fault ≡ faulty (Twice number))
+      ((parsed : Parsed) × ParsesTo scale text parsed
+      × AfterText parsed number (faulty fault) On))
+      → IsNoWantOfMemory fault
+  in_check true there text On on is = told_by (TooMany number) is (λ e. cc, tt)
+  in_check false true text On on is = told_by (Twice number) is (λ e. cc, tt)
+  in_check false false text On on is = in_text text is.0 On is.1 on is.2
 
   in_line : (said : Said) (names : List (List ℕ)) (before : List SpeltPattern)
       (On : List (List ℕ) → List SpeltPattern → Type 0)
@@ -115,7 +115,7 @@ module _ (scale number : ℕ) (fault : WatchFault) where
   in_line silence names before On on is = on names before is
   in_line mistake names before On on is = told_by (BadLine number) is (λ e. cc, tt)
   in_line (check name text) names before On on is =
-      in_count (nat_lt (length names) NAMES_MAX) (place_of names name) text
+      in_check (nat_le NAMES_MAX (length names)) (is_some (place_of names name)) text
       (λ pattern. On (names ++ name ∷ []) (before ++ pattern ∷ []))
       (λ pattern. on (names ++ name ∷ []) (before ++ pattern ∷ [])) is
 
@@ -139,4 +139,4 @@ in_file scale false lines fault is = in_lines scale lines [] [] 1 fault is
 pub file_told : (scale : ℕ) (bytes : List ℕ) (fault : WatchFault)
     → IsOutcome scale bytes (faulty fault) → IsNoWantOfMemory fault
 file_told scale bytes fault =
-    in_file scale (nat_lt FILE_MAX (length bytes)) (slice_split is_line_end bytes) fault
+    in_file scale (nat_lt FILE_MAX (length bytes)) (slice_split is_newline bytes) fault

@@ -1,11 +1,12 @@
 -- What becomes of a file: it is one thing, and what the lines lead to.
-use Rattle.std.proofs.Common.{◌≡◌, ℕ, ◌+◌, ◌<◌, ◌≤◌, ◌⊎◌, ◌≢◌, ◌↔◌, IsTrue, Bool, true, false, nat_lt, MatchBool, Option, Some, None, List, [], ◌∷◌, ◌++◌, length, get_or, take, drop, Result, Ok, Err, refl, sym, subst, ◌∙◌, inl, inr, ⊎_elim, arith}
+use Rattle.std.proofs.Common.{◌≡◌, ℕ, ◌+◌, ◌<◌, ◌≤◌, ◌⊎◌, ◌≢◌, ◌↔◌, IsTrue, Bool, true, false, nat_le, nat_lt, MatchBool, is_some, List, [], ◌∷◌, ◌++◌, length, get_or, take, drop, Result, Ok, Err, refl, sym, subst, ◌∙◌, inl, inr, ⊎_elim, arith}
 use Rattle.std.proofs.lemmas.Bool.{cases_lt}
 use Rattle.std.proofs.lemmas.Bool.Decides.{nat_tests}
 use Rattle.std.proofs.lemmas.List.{length_push}
 use Rattle.std.proofs.lemmas.List.Elements.{All-from_get_or}
 use Rattle.std.proofs.lemmas.List.Splits.{slice_split_none, slice_split_first}
 use Rattle.std.proofs.lemmas.List.Sums.{position_or_len_is}
+use Rattle.std.specs.Char.{is_newline}
 use Rattle.std.specs.List.{slice_split, position_or_len}
 use Rattle.memchr.specs.Find.{is_byte, Passes, Nowhere, NoneBefore}
 use Rattle.tre_state.specs.Names.{place_of}
@@ -19,9 +20,9 @@ use Rattle.tre_watch.specs.declared.reader.TheConstants.{FILE_MAX}
 use Rattle.tre_parse.specs.declared.fault.ParseFault.{ParseFault}
 use Rattle.tre_parse.specs.declared.fault.ParseFault.TheVariants.{Memory as ParseMemory}
 use Rattle.tre_watch.specs.Steps.{Answers, Leads, Stops}
-use Rattle.tre_watch.specs.Lines.{is_line_end, content_of, Said, silence, mistake, check, Says}
-use Rattle.tre_watch.specs.Outcome.{SpeltPattern, Outcome, planned, faulty, AfterText, ParsesOn, AfterName, AfterCount, Follows, ended, IsOutcomeFrom, IsOutcome}
-use Rattle.tre_watch.proofs.Checks.{check_once}
+use Rattle.tre_watch.specs.Lines.{content_of, Said, silence, mistake, check, Says}
+use Rattle.tre_watch.specs.Outcome.{SpeltPattern, Outcome, planned, faulty, AfterText, Follows, ended, IsOutcomeFrom, IsOutcome}
+use Rattle.tre_watch.proofs.Checks.{check_once as one_check}
 
 -- ---- at most one
 
@@ -35,12 +36,12 @@ says_once line silence (check name text) one two = apart _ one two.0
 says_once line mistake silence one two = apart _ two one.0
 says_once line mistake mistake one two = refl
 says_once line mistake (check name text) one two =
-    absurd (one.1 (record { name = name; text = text; is = two.1 }))
+    absurd (one.1 name text two.1)
 says_once line (check name text) silence one two = apart _ two one.0
 says_once line (check name text) mistake one two =
-    absurd (two.1 (record { name = name; text = text; is = one.1 }))
+    absurd (two.1 name text one.1)
 says_once line (check name text) (check other others) one two =
-    let same = check_once (content_of line) name text other others one.1 two.1 in
+    let same = one_check (content_of line) name text other others one.1 two.1 in
     let e = same.0 in
     let f = same.1 in
     cc
@@ -53,30 +54,21 @@ module _ (scale number : ℕ) (one other : Outcome) where
   after_once (spelt tree names) On On' once first second =
       once (record { tree = tree; names = names }) first second
 
-  parses_once : (text : List ℕ) (On On' : SpeltPattern → Type 0)
+  check_once : (full there : Bool) (text : List ℕ) (On On' : SpeltPattern → Type 0)
       → ((pattern : SpeltPattern) → On pattern → On' pattern → one ≡ other)
-      → ParsesOn scale text number one On → ParsesOn scale text number other On' → one ≡ other
-  parses_once text On On' once first second =
-      after_once first.parsed On On' once first.after
+      → MatchBool full (one ≡ faulty (TooMany number))
+      (MatchBool there (one ≡ faulty (Twice number))
+      ((parsed : Parsed) × ParsesTo scale text parsed × AfterText parsed number one On))
+      → MatchBool full (other ≡ faulty (TooMany number))
+      (MatchBool there (other ≡ faulty (Twice number))
+      ((parsed : Parsed) × ParsesTo scale text parsed × AfterText parsed number other On'))
+      → one ≡ other
+  check_once true there text On On' once first second = first ∙ sym second
+  check_once false true text On On' once first second = first ∙ sym second
+  check_once false false text On On' once first second =
+      after_once first.0 On On' once first.2
       (subst (λ (parsed : Parsed). AfterText parsed number other On')
-      (sym (outcome_once scale text first.parsed second.parsed first.parses second.parses))
-      second.after)
-
-  found_once : (place : Option ℕ) (text : List ℕ) (On On' : SpeltPattern → Type 0)
-      → ((pattern : SpeltPattern) → On pattern → On' pattern → one ≡ other)
-      → AfterName scale place text number one On → AfterName scale place text number other On'
-      → one ≡ other
-  found_once None text On On' once first second = parses_once text On On' once first second
-  found_once (Some place) text On On' once first second = first ∙ sym second
-
-  counted_once : (room : Bool) (place : Option ℕ) (text : List ℕ) (On On' : SpeltPattern → Type 0)
-      → ((pattern : SpeltPattern) → On pattern → On' pattern → one ≡ other)
-      → AfterCount scale room place text number one On
-      → AfterCount scale room place text number other On'
-      → one ≡ other
-  counted_once true place text On On' once first second =
-      found_once place text On On' once first second
-  counted_once false place text On On' once first second = first ∙ sym second
+      (sym (outcome_once scale text first.0 second.0 first.1 second.1)) second.2)
 
   follows_once : (said : Said) (names : List (List ℕ)) (patterns : List SpeltPattern)
       (On On' : List (List ℕ) → List SpeltPattern → Type 0)
@@ -88,7 +80,7 @@ module _ (scale number : ℕ) (one other : Outcome) where
   follows_once silence names patterns On On' once first second = once names patterns first second
   follows_once mistake names patterns On On' once first second = first ∙ sym second
   follows_once (check name text) names patterns On On' once first second =
-      counted_once (nat_lt (length names) NAMES_MAX) (place_of names name) text
+      check_once (nat_le NAMES_MAX (length names)) (is_some (place_of names name)) text
       (λ pattern. On (names ++ name ∷ []) (patterns ++ pattern ∷ []))
       (λ pattern. On' (names ++ name ∷ []) (patterns ++ pattern ∷ []))
       (λ pattern. once (names ++ name ∷ []) (patterns ++ pattern ∷ [])) first second
@@ -112,13 +104,13 @@ lines_once scale (line ∷ lines) names patterns number one other first second =
 
 file_once : (scale : ℕ) (large : Bool) (bytes : List ℕ) (one other : Outcome)
     → MatchBool large (one ≡ faulty TooLarge)
-    (IsOutcomeFrom scale [] [] 1 (slice_split is_line_end bytes) one)
+    (IsOutcomeFrom scale [] [] 1 (slice_split is_newline bytes) one)
     → MatchBool large (other ≡ faulty TooLarge)
-    (IsOutcomeFrom scale [] [] 1 (slice_split is_line_end bytes) other)
+    (IsOutcomeFrom scale [] [] 1 (slice_split is_newline bytes) other)
     → one ≡ other
 file_once scale true bytes one other first second = first ∙ sym second
 file_once scale false bytes one other first second =
-    lines_once scale (slice_split is_line_end bytes) [] [] 1 one other first second
+    lines_once scale (slice_split is_newline bytes) [] [] 1 one other first second
 
 pub one_outcome : (scale : ℕ) (bytes : List ℕ) (one other : Outcome) → IsOutcome scale bytes one
     → IsOutcome scale bytes other → one ≡ other
@@ -127,39 +119,21 @@ one_outcome scale bytes one other first second =
 
 -- ---- one line
 
-with_room : (scale : ℕ) (room : Bool) (place : Option ℕ) (text : List ℕ) (number : ℕ)
-    (outcome : Outcome)
-    (On : SpeltPattern → Type 0) → room ≡ true → AfterName scale place text number outcome On
-    → AfterCount scale room place text number outcome On
-with_room scale true place text number outcome On e a = a
-with_room scale false place text number outcome On e a = absurd (cc)
+at_true : (test : Bool) (Then Else : Type 0) → test ≡ true → Then → MatchBool test Then Else
+at_true true Then Else e is = is
+at_true false Then Else e is = absurd (cc)
 
-without_room : (scale : ℕ) (room : Bool) (place : Option ℕ) (text : List ℕ) (number : ℕ)
-    (outcome : Outcome)
-    (On : SpeltPattern → Type 0) → room ≡ false → outcome ≡ faulty (TooMany number)
-    → AfterCount scale room place text number outcome On
-without_room scale true place text number outcome On e a = absurd (cc)
-without_room scale false place text number outcome On e a = a
+at_false : (test : Bool) (Then Else : Type 0) → test ≡ false → Else → MatchBool test Then Else
+at_false true Then Else e is = absurd (cc)
+at_false false Then Else e is = is
 
-with_new : (scale : ℕ) (place : Option ℕ) (text : List ℕ) (number : ℕ) (outcome : Outcome)
-    (On : SpeltPattern → Type 0) → place ≡ None → ParsesOn scale text number outcome On
-    → AfterName scale place text number outcome On
-with_new scale None text number outcome On e a = a
-with_new scale (Some place) text number outcome On e a = absurd (cc)
-
-with_old : (scale : ℕ) (place : Option ℕ) (k : ℕ) (text : List ℕ) (number : ℕ) (outcome : Outcome)
-    (On : SpeltPattern → Type 0) → place ≡ Some k → outcome ≡ faulty (Twice number)
-    → AfterName scale place text number outcome On
-with_old scale None k text number outcome On e a = absurd (cc)
-with_old scale (Some place) k text number outcome On e a = a
+is_full : (names : List (List ℕ)) → NAMES_MAX ≤ length names
+    → nat_le NAMES_MAX (length names) ≡ true
+is_full names many = grind (arith, nat_tests)
 
 has_room : (names : List (List ℕ)) → length names < NAMES_MAX
-    → nat_lt (length names) NAMES_MAX ≡ true
+    → nat_le NAMES_MAX (length names) ≡ false
 has_room names few = grind (arith, nat_tests)
-
-has_no_room : (names : List (List ℕ)) → NAMES_MAX ≤ length names
-    → nat_lt (length names) NAMES_MAX ≡ false
-has_no_room names many = grind (arith, nat_tests)
 
 module _ (scale number : ℕ) (line : List ℕ) (names : List (List ℕ)) (patterns : List SpeltPattern)
   where
@@ -182,12 +156,6 @@ module _ (scale number : ℕ) (line : List ℕ) (names : List (List ℕ)) (patte
     stops_memory fault e = record { why = inl e; never_memory = rw e tt }
 
     module _ (name text : List ℕ) (says : Says line (check name text)) where
-      -- what becomes of the lines behind it
-      abbrev On : List (List ℕ) → Outcome → SpeltPattern → Type 0
-      On lines outcome pattern =
-          IsOutcomeFrom scale (names ++ name ∷ []) (patterns ++ pattern ∷ [])
-          (number + 1) lines outcome
-
       pub stops_many : NAMES_MAX ≤ length names → Stops scale number line names patterns
           (TooMany number)
       unfolding IsOutcomeFrom
@@ -195,47 +163,40 @@ module _ (scale number : ℕ) (line : List ℕ) (names : List (List ℕ)) (patte
         why = inr (λ lines. (
           check name text,
           says,
-          without_room scale (nat_lt (length names) NAMES_MAX) (place_of names name) text number
-              (faulty (TooMany number)) (On lines (faulty (TooMany number)))
-              (has_no_room names many) refl,
+          at_true (nat_le NAMES_MAX (length names)) _ _ (is_full names many) refl,
         ));
         never_memory = tt;
       }
 
-      pub stops_twice : length names < NAMES_MAX → (place : ℕ) → place_of names name ≡ Some place
+      pub stops_twice : length names < NAMES_MAX → is_some (place_of names name) ≡ true
           → Stops scale number line names patterns (Twice number)
       unfolding IsOutcomeFrom
-      stops_twice few place is = record {
+      stops_twice few there = record {
         why = inr (λ lines. (
           check name text,
           says,
-          with_room scale (nat_lt (length names) NAMES_MAX) (place_of names name) text number
-              (faulty (Twice number)) (On lines (faulty (Twice number))) (has_room names few)
-              (with_old scale (place_of names name) place text number (faulty (Twice number))
-              (On lines (faulty (Twice number))) is refl),
+          at_false (nat_le NAMES_MAX (length names)) _ _ (has_room names few)
+              (at_true (is_some (place_of names name)) _ _ there refl),
         ));
         never_memory = tt;
       }
 
-      pub stops_text : length names < NAMES_MAX → place_of names name ≡ None → (fault : ParseFault)
-          → ParsesTo scale text (refused fault) → fault ≢ ParseMemory
+      pub stops_text : length names < NAMES_MAX → is_some (place_of names name) ≡ false
+          → (fault : ParseFault) → ParsesTo scale text (refused fault) → fault ≢ ParseMemory
           → Stops scale number line names patterns (Pattern number fault)
       unfolding IsOutcomeFrom
       stops_text few none fault parses other = record {
         why = inr (λ lines. (
           check name text,
           says,
-          with_room scale (nat_lt (length names) NAMES_MAX) (place_of names name) text number
-              (faulty (Pattern number fault)) (On lines (faulty (Pattern number fault)))
-              (has_room names few)
-              (with_new scale (place_of names name) text number (faulty (Pattern number fault))
-              (On lines (faulty (Pattern number fault))) none
-              (record { parsed = refused fault; parses = parses; after = refl })),
+          at_false (nat_le NAMES_MAX (length names)) _ _ (has_room names few)
+              (at_false (is_some (place_of names name)) _ _ none
+              (refused fault, parses, refl)),
         ));
         never_memory = other;
       }
 
-      pub leads_check : length names < NAMES_MAX → place_of names name ≡ None
+      pub leads_check : length names < NAMES_MAX → is_some (place_of names name) ≡ false
           → (pattern : SpeltPattern) → ParsesTo scale text (spelt pattern.tree pattern.names)
           → Leads scale number line names patterns (names ++ name ∷ []) (patterns ++ pattern ∷ [])
       unfolding IsOutcomeFrom
@@ -243,14 +204,9 @@ module _ (scale number : ℕ) (line : List ℕ) (names : List (List ℕ)) (patte
         on = λ lines outcome rest. (
           check name text,
           says,
-          with_room scale (nat_lt (length names) NAMES_MAX) (place_of names name) text number
-              outcome (On lines outcome) (has_room names few)
-              (with_new scale (place_of names name) text number outcome (On lines outcome) none
-              (record {
-                parsed = spelt pattern.tree pattern.names;
-                parses = parses;
-                after = rest;
-              })),
+          at_false (nat_le NAMES_MAX (length names)) _ _ (has_room names few)
+              (at_false (is_some (place_of names name)) _ _ none
+              (spelt pattern.tree pattern.names, parses, rest)),
         );
         paired = λ e. omega (arith, length_push names name, length_push patterns pattern);
       }
@@ -263,30 +219,30 @@ not_true false never = refl
 
 lines_next : (rest : List ℕ) (end : ℕ)
     → NoneBefore (Passes (is_byte 10) rest) 0 (length rest) end → Passes (is_byte 10) rest end
-    → slice_split is_line_end rest
-    ≡ take end rest ∷ slice_split is_line_end (drop (end + 1) rest)
+    → slice_split is_newline rest
+    ≡ take end rest ∷ slice_split is_newline (drop (end + 1) rest)
 lines_next rest end before at =
     let high = before.high in
-    let place : position_or_len is_line_end rest ≡ end =
-    position_or_len_is is_line_end rest end 0 (omega arith)
-    (λ k below. not_true (is_line_end (get_or rest k 0)) (before.before k (omega arith) below))
+    let place : position_or_len is_newline rest ≡ end =
+    position_or_len_is is_newline rest end 0 (omega arith)
+    (λ k below. not_true (is_newline (get_or rest k 0)) (before.before k (omega arith) below))
     (λ _. at) in
-    let split = slice_split_first is_line_end rest 0 (omega arith) in
+    let split = slice_split_first is_newline rest 0 (omega arith) in
     rw place at split
 
 lines_last : (rest : List ℕ) → Nowhere (Passes (is_byte 10) rest) 0 (length rest)
-    → slice_split is_line_end rest ≡ rest ∷ []
+    → slice_split is_newline rest ≡ rest ∷ []
 lines_last rest none =
-    slice_split_none is_line_end rest
-    (All-from_get_or (λ byte. is_line_end byte ≡ false) rest 0
-    (λ k below. not_true (is_line_end (get_or rest k 0)) (none k (omega arith) below)))
+    slice_split_none is_newline rest
+    (All-from_get_or (λ byte. is_newline byte ≡ false) rest 0
+    (λ k below. not_true (is_newline (get_or rest k 0)) (none k (omega arith) below)))
 
 -- What becomes of the rest of the file with these checks becomes of the file.
 pub record Reaches (scale : ℕ) (bytes : List ℕ) (names : List (List ℕ))
     (patterns : List SpeltPattern) (number : ℕ) (rest : List ℕ) : Type 0 where
   pub on : (outcome : Outcome)
-      → IsOutcomeFrom scale names patterns number (slice_split is_line_end rest) outcome
-      → IsOutcomeFrom scale [] [] 1 (slice_split is_line_end bytes) outcome
+      → IsOutcomeFrom scale names patterns number (slice_split is_newline rest) outcome
+      → IsOutcomeFrom scale [] [] 1 (slice_split is_newline bytes) outcome
   pub paired : length names ≡ length patterns
 
 pub Reaches-start : (scale : ℕ) (bytes : List ℕ) → Reaches scale bytes [] [] 1 bytes
@@ -303,7 +259,7 @@ module _ (scale : ℕ) (bytes : List ℕ) (names : List (List ℕ)) (patterns : 
     on = λ outcome h. reaches.on outcome
         (subst (λ (lines : List (List ℕ)). IsOutcomeFrom scale names patterns number lines outcome)
         (sym (lines_next rest end before at))
-        (leads.on (slice_split is_line_end (drop (end + 1) rest)) outcome h));
+        (leads.on (slice_split is_newline (drop (end + 1) rest)) outcome h));
     paired = leads.paired reaches.paired;
   }
 
@@ -311,20 +267,20 @@ module _ (scale : ℕ) (bytes : List ℕ) (names : List (List ℕ)) (patterns : 
       → Passes (is_byte 10) rest end → (fault : WatchFault)
       → Stops scale number (take end rest) names patterns fault
       → (fault ≡ Memory)
-      ⊎ IsOutcomeFrom scale [] [] 1 (slice_split is_line_end bytes) (faulty fault)
+      ⊎ IsOutcomeFrom scale [] [] 1 (slice_split is_newline bytes) (faulty fault)
   Reaches-stop end before at fault stops =
       ⊎_elim (λ e. inl e)
       (λ why. inr (reaches.on (faulty fault)
       (subst (λ (lines : List (List ℕ)). IsOutcomeFrom scale names patterns number lines
       (faulty fault))
       (sym (lines_next rest end before at))
-      (why (slice_split is_line_end (drop (end + 1) rest))))))
+      (why (slice_split is_newline (drop (end + 1) rest))))))
       stops.why
 
   pub Reaches-last_stop : Nowhere (Passes (is_byte 10) rest) 0 (length rest)
       → (fault : WatchFault) → Stops scale number rest names patterns fault
       → (fault ≡ Memory)
-      ⊎ IsOutcomeFrom scale [] [] 1 (slice_split is_line_end bytes) (faulty fault)
+      ⊎ IsOutcomeFrom scale [] [] 1 (slice_split is_newline bytes) (faulty fault)
   Reaches-last_stop none fault stops =
       ⊎_elim (λ e. inl e)
       (λ why. inr (reaches.on (faulty fault)
@@ -336,7 +292,7 @@ module _ (scale : ℕ) (bytes : List ℕ) (names : List (List ℕ)) (patterns : 
   pub Reaches-end : Nowhere (Passes (is_byte 10) rest) 0 (length rest)
       → (new_names : List (List ℕ)) (new_patterns : List SpeltPattern)
       → Leads scale number rest names patterns new_names new_patterns
-      → IsOutcomeFrom scale [] [] 1 (slice_split is_line_end bytes) (ended new_names new_patterns)
+      → IsOutcomeFrom scale [] [] 1 (slice_split is_newline bytes) (ended new_names new_patterns)
   unfolding IsOutcomeFrom
   Reaches-end none new_names new_patterns leads =
       reaches.on (ended new_names new_patterns)
@@ -356,9 +312,9 @@ ended_some (name ∷ names) patterns some = refl
 -- ---- the answer
 
 small_file : (scale : ℕ) (large : Bool) (bytes : List ℕ) (outcome : Outcome) → large ≡ false
-    → IsOutcomeFrom scale [] [] 1 (slice_split is_line_end bytes) outcome
+    → IsOutcomeFrom scale [] [] 1 (slice_split is_newline bytes) outcome
     → MatchBool large (outcome ≡ faulty TooLarge)
-    (IsOutcomeFrom scale [] [] 1 (slice_split is_line_end bytes) outcome)
+    (IsOutcomeFrom scale [] [] 1 (slice_split is_newline bytes) outcome)
 small_file scale true bytes outcome e is = absurd (cc)
 small_file scale false bytes outcome e is = is
 
@@ -368,7 +324,7 @@ not_large bytes small = grind (arith, nat_tests)
 
 pub answers_file : (scale : ℕ) (bytes : List ℕ) → length bytes ≤ FILE_MAX
     → (answer : Result Plan WatchFault)
-    → Answers (IsOutcomeFrom scale [] [] 1 (slice_split is_line_end bytes)) answer
+    → Answers (IsOutcomeFrom scale [] [] 1 (slice_split is_newline bytes)) answer
     → Answers (IsOutcome scale bytes) answer
 answers_file scale bytes small (Ok plan) is =
     small_file scale (nat_lt FILE_MAX (length bytes)) bytes _ (not_large bytes small) is

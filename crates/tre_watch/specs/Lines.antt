@@ -1,31 +1,24 @@
 -- What one line of a plan says.
-use Rattle.std.specs.Prelude.{◌≡◌, ℕ, ◌-◌, Bool, true, false, ◌||◌, ◌==◌, List, [], ◌∷◌, ◌++◌, length, take, drop, if◌then◌else◌, slice_index}
+use Rattle.std.specs.Prelude.{◌≡◌, ℕ, Bool, true, false, ◌||◌, ◌==◌, List, [], ◌∷◌, ◌++◌, drop}
 use Rattle.std.specs.List.{list_all, prefix_len}
 use Rattle.std.specs.Str.{IsAscii}
+use Rattle.std.specs.Str.Lines.{strip_carriage_return}
 use Rattle.tre_state.specs.Name.{IsName}
 use Rattle.tre_watch.specs.declared.line.Line.{Line}
 use Rattle.tre_watch.specs.declared.line.Line.TheVariants.{Silent, Bad, Check}
-
--- Lines are parted by the byte 10.
-abbrev pub is_line_end : ℕ → Bool
-is_line_end byte = byte == 10
 
 -- A space or a tab.
 abbrev pub is_blank : ℕ → Bool
 is_blank byte = byte == 32 || byte == 9
 
--- A line without the one carriage return (the byte 13) at its end, where there is one.
-abbrev pub without_return : List ℕ → List ℕ
-without_return line =
-    if slice_index line (length line - 1) == 13 then take (length line - 1) line else line
-
 -- What stands behind the first bytes that pass.
 abbrev pub behind : (ℕ → Bool) → List ℕ → List ℕ
 behind passes bytes = drop (prefix_len passes bytes) bytes
 
--- What stands on a line, from its first byte on that is no blank.
+-- What stands on a line, from its first byte on that is no blank, and without the one carriage
+-- return (the byte 13) at its end, where there is one.
 abbrev pub content_of : List ℕ → List ℕ
-content_of line = behind is_blank (without_return line)
+content_of line = behind is_blank (strip_carriage_return line)
 
 -- Nothing stands there, or a comment: `#` (the byte 35), and any bytes.
 abbrev pub is_silent : List ℕ → Bool
@@ -41,12 +34,6 @@ pub record IsCheck (content name text : List ℕ) : Type 0 where
   pub blank : list_all is_blank blanks ≡ true
   pub is : content ≡ name ++ (blanks ++ 61 ∷ text)
 
--- Some check stands there.
-pub record HasCheck (content : List ℕ) : Type 0 where
-  pub name : List ℕ
-  pub text : List ℕ
-  pub is : IsCheck content name text
-
 -- What a line says: nothing, a check of this name with this text, or nothing that it may say.
 pub data Said : Type 0 where
   silence : Said
@@ -56,7 +43,9 @@ pub data Said : Type 0 where
 -- A line that says nothing has no fault, whatever its bytes.
 abbrev pub Says : List ℕ → Said → Type 0
 Says line silence = is_silent (content_of line) ≡ true
-Says line mistake = (is_silent (content_of line) ≡ false) × (HasCheck (content_of line) → ⊥)
+Says line mistake =
+    (is_silent (content_of line) ≡ false)
+    × ((name text : List ℕ) → ¬ IsCheck (content_of line) name text)
 Says line (check name text) =
     (is_silent (content_of line) ≡ false) × IsCheck (content_of line) name text
 

@@ -1,5 +1,6 @@
 -- What becomes of a file: the plan that it says, or the fault of the first line that has one.
-use Rattle.std.specs.Prelude.{◌≡◌, ℕ, ◌+◌, nat_lt, Bool, true, false, MatchBool, Option, None, Some, List, [], ◌∷◌, ◌++◌, length}
+use Rattle.std.specs.Prelude.{◌≡◌, ℕ, ◌+◌, nat_le, nat_lt, MatchBool, is_some, List, [], ◌∷◌, ◌++◌, length}
+use Rattle.std.specs.Char.{is_newline}
 use Rattle.std.specs.List.{slice_split}
 use Rattle.tre_state.specs.Names.{place_of}
 use Rattle.tre_state.specs.declared.names.TheConstants.{NAMES_MAX}
@@ -9,7 +10,7 @@ use Rattle.tre_parse.specs.Outcome.{Outcome as Parsed, spelt, refused, IsOutcome
 use Rattle.tre_watch.specs.declared.fault.WatchFault.{WatchFault}
 use Rattle.tre_watch.specs.declared.fault.WatchFault.TheVariants.{TooLarge, BadLine, TooMany, Twice, Pattern, Empty}
 use Rattle.tre_watch.specs.declared.reader.TheConstants.{FILE_MAX}
-use Rattle.tre_watch.specs.Lines.{is_line_end, Said, silence, mistake, check, Says}
+use Rattle.tre_watch.specs.Lines.{Said, silence, mistake, check, Says}
 
 -- A pattern, by its tree and the names of its propositions and events.
 pub record SpeltPattern : Type 0 where
@@ -27,33 +28,20 @@ AfterText (refused fault) number outcome On =
     outcome ≡ faulty (Pattern number fault)
 AfterText (spelt tree names) number outcome On = On (record { tree = tree; names = names })
 
--- The text comes to this by the grammar of patterns, at the scale.
-pub record ParsesOn (scale : ℕ) (text : List ℕ) (number : ℕ) (outcome : Outcome)
-    (On : SpeltPattern → Type 0) : Type 0 where
-  pub parsed : Parsed
-  pub parses : ParsesTo scale text parsed
-  pub after : AfterText parsed number outcome On
-
--- What becomes of a check, by the place of an earlier one of its name.
-abbrev pub AfterName : ℕ → Option ℕ → List ℕ → ℕ → Outcome → (SpeltPattern → Type 0) → Type 0
-AfterName scale None text number outcome On = ParsesOn scale text number outcome On
-AfterName scale (Some place) text number outcome On = outcome ≡ faulty (Twice number)
-
--- What becomes of a check, by whether there may be one more.
-abbrev pub AfterCount : ℕ → Bool → Option ℕ → List ℕ → ℕ → Outcome → (SpeltPattern → Type 0)
-    → Type 0
-AfterCount scale true place text number outcome On = AfterName scale place text number outcome On
-AfterCount scale false place text number outcome On = outcome ≡ faulty (TooMany number)
-
--- What becomes of a line behind the checks with these names and patterns, by what it says. Where it
--- has no fault, On goes on.
+-- What becomes of a line behind the checks with these names and patterns, by what it says. A check
+-- is refused where there are as many as may be, or one of its name; else its text comes to
+-- something by the grammar of patterns, at the scale. Where the line has no fault, On goes on.
 abbrev pub Follows : ℕ → Said → List (List ℕ) → List SpeltPattern → ℕ → Outcome
     → (List (List ℕ) → List SpeltPattern → Type 0) → Type 0
 Follows scale silence names patterns number outcome On = On names patterns
 Follows scale mistake names patterns number outcome On = outcome ≡ faulty (BadLine number)
 Follows scale (check name text) names patterns number outcome On =
-    AfterCount scale (nat_lt (length names) NAMES_MAX) (place_of names name) text number outcome
-    (λ pattern. On (names ++ name ∷ []) (patterns ++ pattern ∷ []))
+    MatchBool (nat_le NAMES_MAX (length names))
+    (outcome ≡ faulty (TooMany number))
+    (MatchBool (is_some (place_of names name))
+    (outcome ≡ faulty (Twice number))
+    ((parsed : Parsed) × ParsesTo scale text parsed × AfterText parsed number outcome
+    (λ pattern. On (names ++ name ∷ []) (patterns ++ pattern ∷ []))))
 
 -- What becomes of no more lines.
 abbrev pub ended : List (List ℕ) → List SpeltPattern → Outcome
@@ -75,4 +63,4 @@ abbrev pub IsOutcome : ℕ → List ℕ → Outcome → Type 0
 IsOutcome scale bytes outcome =
     MatchBool (nat_lt FILE_MAX (length bytes))
     (outcome ≡ faulty TooLarge)
-    (IsOutcomeFrom scale [] [] 1 (slice_split is_line_end bytes) outcome)
+    (IsOutcomeFrom scale [] [] 1 (slice_split is_newline bytes) outcome)

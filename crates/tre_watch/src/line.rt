@@ -1,9 +1,10 @@
 // What one line of a plan says.
-ghost use Rattle.std.specs.Prelude.{◌≡◌, ◌<◌, ◌≤◌, length, take, drop, MatchOption};
+ghost use Rattle.std.specs.Prelude.{◌≡◌, ◌<◌, ◌≤◌, ℕ, List, length, take, drop, MatchOption};
 ghost use Rattle.std.specs.List.{prefix_len};
 ghost use Rattle.std.specs.Str.{IsAscii};
+ghost use Rattle.std.specs.Str.Lines.{strip_carriage_return};
 ghost use Rattle.tre_state.specs.Name.{continues_name};
-ghost use Rattle.tre_watch.specs.Lines.{is_blank, without_return, behind, is_silent, IsCheck, HasCheck, Says, said_on};
+ghost use Rattle.tre_watch.specs.Lines.{is_blank, behind, is_silent, IsCheck, Says, said_on};
 
 use std::str;
 use tre_state::{continues_name, is_name};
@@ -32,7 +33,7 @@ pub(crate) fn read_line(line: &[u8]) -> Line<'_>
 
 // The line without the one carriage return at its end, where there is one.
 fn without_return(line: &[u8]) -> &[u8]
-    ensures { result.now ≡ without_return line.now }
+    ensures { result.now ≡ strip_carriage_return line.now }
 {
     let len = line.len();
     if len > 0 && line[len - 1] == b'\r' {
@@ -88,7 +89,7 @@ fn is_silent(content: &[u8]) -> bool
 
 // The name and the text of the check that stands there.
 fn check_on(content: &[u8]) -> Option<(&str, &str)>
-    ensures { MatchOption result (HasCheck content.now → ⊥)
+    ensures { MatchOption result ((name text : List ℕ) → ¬ IsCheck content.now name text)
         (λ check. IsCheck content.now check.0.now check.1.now) }
 {
     if !content.is_ascii() {

@@ -1,7 +1,7 @@
 ghost use Rattle.std.specs.Prelude.{◌≡◌, ◌+◌, ◌≤◌, ◌↔◌, ◌<◌, length, drop, IsTrue, [], IfErr};
+ghost use Rattle.std.specs.Char.{is_newline};
 ghost use Rattle.std.specs.List.{slice_split};
 ghost use Rattle.tre_decimal.specs.declared.TheConstants.{SCALE_MAX};
-ghost use Rattle.tre_watch.specs.Lines.{is_line_end};
 ghost use Rattle.tre_watch.specs.Outcome.{Outcome, IsOutcome, IsOutcomeFrom};
 ghost use Rattle.tre_watch.specs.Steps.{Answers, NeverMemoryInside};
 
@@ -43,7 +43,7 @@ fn read_lines(alloc: Global, bytes: &[u8], scale: u8) -> Result<Plan, WatchFault
     requires small { length bytes.now ≤ FILE_MAX }
     requires scale { scale ≤ SCALE_MAX }
     ensures outcome { Answers
-        (IsOutcomeFrom scale [] [] 1 (slice_split is_line_end bytes.now)) result }
+        (IsOutcomeFrom scale [] [] 1 (slice_split is_newline bytes.now)) result }
     ensures never_memory { IfErr result NeverMemoryInside }
 {
     let mut names = Names::new(alloc);

@@ -1,19 +1,23 @@
 -- Words give one job at most, and what is true of it.
-use Rattle.std.proofs.Common.{◌≡◌, ◌≢◌, ◌∙◌, ℕ, ◌≤◌, Bool, true, false, ◌&&◌, List, [], ◌∷◌, Option, Some, None, IfSome, if◌then◌else◌, codes, drop, ap, refl, sym, subst, arith}
+use Rattle.std.proofs.Common.{◌≡◌, ◌≢◌, ◌∙◌, ℕ, ◌≤◌, Bool, true, false, MatchBool, ◌&&◌, List, [], ◌∷◌, Option, Some, None, IfSome, if◌then◌else◌, codes, drop, ap, refl, sym, subst, arith}
 use Rattle.std.specs.Prelude.{option_and_then, option_map, is_some, nat_le}
 use Rattle.std.specs.Str.Parse.{digits_value}
 use Rattle.std.proofs.lemmas.Bool.Decides.{nat_tests}
-use Rattle.clap.specs.Words.{Row, Text, first_of, matches_of}
+use Rattle.clap.specs.Words.{Row, Text, fault_of, first_of, matches_of}
 use Rattle.tre_decimal.specs.Decimal.{is_numeral}
 use Rattle.tre_decimal.specs.declared.TheConstants.{SCALE_MAX}
 use Rattle.tre_words.specs.CommandLine.{command_line}
-use Rattle.tre_words.specs.Job.{GivesFrom, GivesJob, GivesWatch, GivesWhere, HaveNoFault, IsCount, IsJob, MayWatch, SaysJob, format_named, is_given, is_made_run, is_watch, made_count, made_job, mode_for, mode_in, number_written, watch_job}
+use Rattle.tre_words.specs.Job.{GivesJob, GivesPlain, GivesWatch, IsCount, IsJob, MayWatch, SaysJob, StandsTogether, begins_with, format_named, is_given, made_count, made_job, mode_in, number_written, watch_job}
 use Rattle.tre_words.specs.declared.job.TheConstants.{COUNT_MAX, LIMIT_MAX}
 use Rattle.tre_words.specs.declared.job.Format.{Format}
 use Rattle.tre_words.specs.declared.job.Format.TheVariants.{Csv}
 use Rattle.tre_words.specs.declared.job.Job.{Job}
 use Rattle.tre_words.specs.declared.job.Mode.{Mode}
-use Rattle.tre_words.specs.declared.job.Mode.TheVariants.{Offline, Online, Generate, Watch}
+use Rattle.tre_words.specs.declared.job.Mode.TheVariants.{Offline, Online, Show, Generate, Watch}
+
+-- what `clap` finds in words
+abbrev pub rows_in : List Text → List Row
+rows_in words = matches_of command_line words
 
 one_value : {X : Type 0} {x y : X} → Some x ≡ Some y → x ≡ y
 one_value e = cc
@@ -66,25 +70,34 @@ said_once rows job other says says' =
     let parts' = job_parts other in
     cc
 
-watched_once : (rows : List Row) (job other : Job) → GivesWatch rows job → GivesWatch rows other
-    → job ≡ other
-watched_once rows job other gives gives' =
+watched_once : (words : List Text) (job other : Job) → GivesWatch words job
+    → GivesWatch words other → job ≡ other
+watched_once words job other gives gives' =
     gives.watched
-    ∙ (ap watch_job (said_once rows gives.plain gives'.plain gives.gives.says gives'.gives.says)
+    ∙ (ap watch_job
+    (said_once (rows_in words) gives.plain gives'.plain gives.gives.says gives'.gives.says)
     ∙ sym gives'.watched)
+
+-- Words give this job where the first says that it is that of a made run, or of a watch.
+abbrev GivesWhere : Bool → Bool → List Text → Job → Type 0
+GivesWhere made watched words job =
+    MatchBool made
+    (option_map made_job (made_count words) ≡ Some job)
+    (MatchBool watched (GivesWatch (drop 1 words) job) (GivesPlain words job))
 
 given_once : (made watched : Bool) (words : List Text) (job other : Job)
     → GivesWhere made watched words job → GivesWhere made watched words other → job ≡ other
 given_once true watched words job other gives gives' = one_value (sym gives ∙ gives')
 given_once false true words job other gives gives' =
-    watched_once (matches_of command_line (drop 1 words)) job other gives gives'
+    watched_once (drop 1 words) job other gives gives'
 given_once false false words job other gives gives' =
-    said_once (matches_of command_line words) job other gives.says gives'.says
+    said_once (rows_in words) job other gives.says gives'.says
 
 pub job_unique : (words : List Text) (job other : Job) → GivesJob words job
     → GivesJob words other → job ≡ other
 job_unique words job other gives gives' =
-    given_once (is_made_run words) (is_watch words) words job other gives.gives gives'.gives
+    given_once (begins_with (codes "--generate") words) (begins_with (codes "--watch") words) words
+    job other gives.gives gives'.gives
 
 -- ---- numbers within their limits
 
@@ -124,6 +137,9 @@ limit_within least most None (Some number) e = cc
 
 -- ---- jobs of options
 
+abbrev mode_for : Bool → Bool → Mode
+mode_for show online = if show then Show else (if online then Online else Offline)
+
 flags_never_generate : (show online : Bool) (count : ℕ) → mode_for show online ≡ Generate count → ⊥
 flags_never_generate true online count e = cc
 flags_never_generate false true count e = cc
@@ -139,8 +155,21 @@ flags_never_watch true online file e = cc
 flags_never_watch false true file e = cc
 flags_never_watch false false file e = cc
 
-pub from_options : (rows : List Row) (job : Job) → GivesFrom rows job → IsJob job
-from_options rows job gives =
+-- what `clap` finds in words gives their job
+pub plain_from : (words : List Text) (rows : List Row) (job : Job) → rows ≡ rows_in words
+    → fault_of command_line words ≡ [] → SaysJob rows job
+    → StandsTogether job × (job.format ≡ Csv → is_given (codes "online") rows ≡ false)
+    → GivesPlain words job
+plain_from words rows job same faultless says stands = record {
+  faultless = faultless;
+  says = subst (λ (rows : List Row). SaysJob rows job) same says;
+  together = stands.0;
+  offline = λ csv. ap (is_given (codes "online")) (sym same) ∙ stands.1 csv;
+}
+
+pub from_options : (words : List Text) (job : Job) → GivesPlain words job → IsJob job
+from_options words job gives =
+    let rows = rows_in words in
     let says = gives.says in
     let show = is_given (codes "show") rows in
     let online = is_given (codes "online") rows in
@@ -202,52 +231,46 @@ watch_is_job plain is may = record {
   zones = is.zones;
   counted = λ count mode. cc;
   together = record {
-    normal = λ given. let false_true : true ≡ false = sym given ∙ may.bare.normal in cc;
+    normal = λ given. let false_true : true ≡ false = sym given ∙ may.normal in cc;
     max_zones = is.together.max_zones;
     minus = λ given.
-        let false_true : true ≡ false = sym given ∙ ap is_some may.bare.minus in cc;
+        let false_true : true ≡ false = sym given ∙ ap is_some may.minus in cc;
     columns = is.together.columns;
     lets = is.together.lets;
   };
   offline = λ mode csv. cc;
-  watched = λ file mode. record {
-    format = may.bare.format;
-    normal = may.bare.normal;
-    max_zones = may.bare.max_zones;
-    minus = may.bare.minus;
-    lets = may.bare.lets;
-  };
+  watched = λ file mode. may.format;
 }
 
-from_watch : (rows : List Row) (job : Job) → GivesWatch rows job → IsJob job
-from_watch rows job gives =
+from_watch : (words : List Text) (job : Job) → GivesWatch words job → IsJob job
+from_watch words job gives =
     subst IsJob (sym gives.watched)
-    (watch_is_job gives.plain (from_options rows gives.plain gives.gives) gives.may)
+    (watch_is_job gives.plain (from_options words gives.plain gives.gives) gives.may)
 
 -- ---- jobs of words
 
 from_words : (made watched : Bool) (words : List Text) (job : Job)
     → GivesWhere made watched words job → IsJob job
 from_words true watched words job gives = from_made words (made_count words) job refl gives
-from_words false true words job gives =
-    from_watch (matches_of command_line (drop 1 words)) job gives
-from_words false false words job gives = from_options (matches_of command_line words) job gives
+from_words false true words job gives = from_watch (drop 1 words) job gives
+from_words false false words job gives = from_options words job gives
 
 -- what is true of each job that words give
 pub IsJob-given : (words : List Text) (job : Job) → GivesJob words job → IsJob job
 IsJob-given words job gives =
-    from_words (is_made_run words) (is_watch words) words job gives.gives
+    from_words (begins_with (codes "--generate") words) (begins_with (codes "--watch") words) words
+    job gives.gives
 
 -- ---- options that stand apart
 
-pub apart-normal : (rows : List Row) (job : Job) → GivesFrom rows job
-    → is_given (codes "normal") rows ≡ true → mode_in rows ≢ Offline → ⊥
-apart-normal rows job gives given other =
+pub apart-normal : (words : List Text) (job : Job) → GivesPlain words job
+    → is_given (codes "normal") (rows_in words) ≡ true → mode_in (rows_in words) ≢ Offline → ⊥
+apart-normal words job gives given other =
     other (gives.says.mode ∙ gives.together.normal (sym gives.says.normal ∙ given))
 
-pub apart-minus : (rows : List Row) (job : Job) → GivesFrom rows job
-    → is_some (first_of (codes "minus") rows) ≡ true → mode_in rows ≢ Offline → ⊥
-apart-minus rows job gives given other =
+pub apart-minus : (words : List Text) (job : Job) → GivesPlain words job
+    → is_some (first_of (codes "minus") (rows_in words)) ≡ true → mode_in (rows_in words) ≢ Offline → ⊥
+apart-minus words job gives given other =
     other (gives.says.mode ∙ gives.together.minus (ap is_some (sym gives.says.minus) ∙ given))
 
 some_told : (told : Option (Option ℕ)) (limit : Option ℕ) → told ≡ option_map Some limit
@@ -255,48 +278,49 @@ some_told : (told : Option (Option ℕ)) (limit : Option ℕ) → told ≡ optio
 some_told told None e = ap is_some e
 some_told told (Some number) e = ap is_some e
 
-pub apart-max_zones : (rows : List Row) (job : Job) → GivesFrom rows job
-    → is_some (option_map (number_written 0 LIMIT_MAX) (first_of (codes "max-zones") rows)) ≡ true
-    → is_given (codes "normal") rows ≡ false → ⊥
-apart-max_zones rows job gives given without =
+pub apart-max_zones : (words : List Text) (job : Job) → GivesPlain words job
+    → is_some (option_map (number_written 0 LIMIT_MAX) (first_of (codes "max-zones") (rows_in words))) ≡ true
+    → is_given (codes "normal") (rows_in words) ≡ false → ⊥
+apart-max_zones words job gives given without =
     let some = some_told (option_map (number_written 0 LIMIT_MAX)
-    (first_of (codes "max-zones") rows)) job.max_zones gives.says.max_zones in
+    (first_of (codes "max-zones") (rows_in words))) job.max_zones gives.says.max_zones in
     let normal = gives.together.max_zones (sym some ∙ given) in
     let false_true : false ≡ true = sym without ∙ (gives.says.normal ∙ normal) in
     cc
 
-pub apart-lets : (rows : List Row) (job : Job) (format : Format) → GivesFrom rows job
-    → is_some (first_of (codes "let") rows) ≡ true → Some format ≡ Some job.format
+pub apart-lets : (words : List Text) (job : Job) (format : Format) → GivesPlain words job
+    → is_some (first_of (codes "let") (rows_in words)) ≡ true → Some format ≡ Some job.format
     → format ≢ Csv → ⊥
-apart-lets rows job format gives given told other =
+apart-lets words job format gives given told other =
     other (one_value told ∙ gives.together.lets (ap is_some (sym gives.says.lets) ∙ given))
 
-pub apart-columns : (rows : List Row) (job : Job) → GivesFrom rows job
-    → is_given (codes "online") rows ≡ true → Some Csv ≡ Some job.format → ⊥
-apart-columns rows job gives given told =
+pub apart-columns : (words : List Text) (job : Job) → GivesPlain words job
+    → is_given (codes "online") (rows_in words) ≡ true → Some Csv ≡ Some job.format → ⊥
+apart-columns words job gives given told =
     let false_true : true ≡ false = sym given ∙ gives.offline (sym (one_value told)) in
     cc
 
 -- ---- what stands behind `--watch`
 
-pub watch-mode : (rows : List Row) (job : Job) → GivesWatch rows job → mode_in rows ≡ Offline
-watch-mode rows job gives = gives.gives.says.mode ∙ gives.may.offline
+pub watch-mode : (words : List Text) (job : Job) → GivesWatch words job → mode_in (rows_in words) ≡ Offline
+watch-mode words job gives = gives.gives.says.mode ∙ gives.may.mode
 
-pub watch-normal : (rows : List Row) (job : Job) → GivesWatch rows job
-    → is_given (codes "normal") rows ≡ false
-watch-normal rows job gives = gives.gives.says.normal ∙ gives.may.bare.normal
+pub watch-normal : (words : List Text) (job : Job) → GivesWatch words job
+    → is_given (codes "normal") (rows_in words) ≡ false
+watch-normal words job gives = gives.gives.says.normal ∙ gives.may.normal
 
-pub watch-format : (rows : List Row) (job : Job) → GivesWatch rows job
-    → option_and_then format_named (first_of (codes "format") rows) ≢ Some Csv
-watch-format rows job gives told =
-    gives.may.bare.format (one_value (sym gives.gives.says.format ∙ told))
+pub watch-format : (words : List Text) (job : Job) → GivesWatch words job
+    → option_and_then format_named (first_of (codes "format") (rows_in words)) ≢ Some Csv
+watch-format words job gives told =
+    gives.may.format (one_value (sym gives.gives.says.format ∙ told))
 
-pub watch-apart : (rows : List Row) (job : Job) → GivesWatch rows job
-    → first_of (codes "EXPR") rows ≡ Some (codes "-")
-    → first_of (codes "input") rows ≢ Some (codes "-")
-watch-apart rows job gives file input =
+pub watch-apart : (words : List Text) (job : Job) → GivesWatch words job
+    → first_of (codes "EXPR") (rows_in words) ≡ Some (codes "-")
+    → first_of (codes "input") (rows_in words) ≢ Some (codes "-")
+watch-apart words job gives file input =
     gives.may.apart (one_value (sym gives.gives.says.expr ∙ file))
     (one_value (sym gives.gives.says.input ∙ input))
 
-pub faulty : {words : List Text} {job : Job} → (HaveNoFault words → ⊥) → GivesJob words job → ⊥
-faulty fault gives = fault gives.faultless
+pub faulty : {words : List Text} {job : Job} → fault_of command_line words ≢ []
+    → GivesWatch words job → ⊥
+faulty fault gives = fault gives.gives.faultless

@@ -1,11 +1,11 @@
 -- Words as they are typed give a job where that is computed: what the values of the options say is
 -- compared with the parts of the job, and what may stand together is tested.
-use Rattle.std.proofs.Common.{◌≡◌, ℕ, Bool, true, false, not, drop, List, Option, Some, None, codes, refl, sym, ap, subst}
+use Rattle.std.proofs.Common.{◌≡◌, ℕ, Bool, true, false, not, List, [], Option, Some, None, codes, refl, ap}
 use Rattle.std.specs.Prelude.{option_and_then, option_map, is_some, is_none}
-use Rattle.clap.specs.Words.{Row, Text, first_of, matches_of}
+use Rattle.clap.specs.Words.{Row, Text, fault_of, first_of, matches_of}
 use Rattle.tre_decimal.specs.declared.TheConstants.{SCALE_MAX}
 use Rattle.tre_words.specs.CommandLine.{command_line}
-use Rattle.tre_words.specs.Job.{GivesFrom, GivesJob, GivesWhere, HaveNoFault, MayWatch, SaysJob, StandsTogether, format_named, is_given, is_made_run, is_watch, mode_in, number_written, watch_job}
+use Rattle.tre_words.specs.Job.{GivesPlain, GivesWatch, MayWatch, SaysJob, StandsTogether, format_named, is_given, mode_in, number_written, watch_job}
 use Rattle.tre_words.specs.declared.job.TheConstants.{LIMIT_MAX}
 use Rattle.tre_words.specs.declared.job.Format.{Format}
 use Rattle.tre_words.specs.declared.job.Format.TheVariants.{Text as TextFormat, Vcd, Csv}
@@ -131,42 +131,24 @@ together rows job stands = record {
   lets = λ given. csv_is job.format (implied stands.4 given);
 }
 
-given : (rows : List Row) (job : Job) → values_in rows ≡ values_of job → Stands rows job
-    → GivesFrom rows job
-given rows job same stands = record {
-  says = said rows job same;
-  together = together rows job stands;
-  offline = λ csv. never_is (is_given (codes "online") rows)
+-- words that pass the tests and say the job give it
+pub typed : (words : List Text) (job : Job) → fault_of command_line words ≡ []
+    → values_in (matches_of command_line words) ≡ values_of job
+    → Stands (matches_of command_line words) job → GivesPlain words job
+typed words job faultless same stands = record {
+  faultless = faultless;
+  says = said (matches_of command_line words) job same;
+  together = together (matches_of command_line words) job stands;
+  offline = λ csv. never_is (is_given (codes "online") (matches_of command_line words))
       (implied stands.5 (ap is_csv csv));
 }
 
--- ---- words
-
--- words that pass the tests and say the job give it
-pub typed : (words : List Text) (job : Job) → is_made_run words ≡ false → is_watch words ≡ false
-    → HaveNoFault words → values_in (matches_of command_line words) ≡ values_of job
-    → Stands (matches_of command_line words) job → GivesJob words job
-typed words job options unwatched faultless same stands = record {
-  faultless = faultless;
-  gives = subst (λ watched. GivesWhere (is_made_run words) watched words job) (sym unwatched)
-      (subst (λ made. GivesWhere made false words job) (sym options)
-      (given (matches_of command_line words) job same stands));
-}
-
 -- those behind `--watch` give the watch of a job that may be one
-pub typed_watch : (words : List Text) (plain : Job) → is_made_run words ≡ false
-    → is_watch words ≡ true → HaveNoFault words
-    → values_in (matches_of command_line (drop 1 words)) ≡ values_of plain
-    → Stands (matches_of command_line (drop 1 words)) plain → MayWatch plain
-    → GivesJob words (watch_job plain)
-typed_watch words plain options watched faultless same stands may = record {
-  faultless = faultless;
-  gives = subst (λ watch. GivesWhere (is_made_run words) watch words (watch_job plain))
-      (sym watched) (subst (λ made. GivesWhere made true words (watch_job plain)) (sym options)
-      (record {
-        plain = plain;
-        gives = given (matches_of command_line (drop 1 words)) plain same stands;
-        may = may;
-        watched = refl;
-      }));
+pub typed_watch : (words : List Text) (plain : Job) → GivesPlain words plain → MayWatch plain
+    → GivesWatch words (watch_job plain)
+typed_watch words plain gives may = record {
+  plain = plain;
+  gives = gives;
+  may = may;
+  watched = refl;
 }

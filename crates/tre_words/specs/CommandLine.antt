@@ -1,5 +1,6 @@
 -- The command line as `clap` sees it.
 use Rattle.std.specs.Prelude.{true, [], ◌∷◌, Some, codes}
+use Rattle.std.specs.List.{fold}
 use Rattle.clap.specs.Simple.{on_top}
 use Rattle.clap.specs.Words.{App, Rule, Text, new_app, new_rule, with_rule}
 use Rattle.clap.specs.declared.builder.action.ArgAction.TheVariants.{Set, SetTrue}
@@ -14,8 +15,7 @@ option_rule name = record (new_rule name) { long = Some name; action = Some Set 
 
 -- an option with one value, as `--input NAME`, and the value where it isn't given
 abbrev pub default_rule : Text → Text → Rule
-default_rule name default =
-    record (new_rule name) { long = Some name; action = Some Set; defaults = default ∷ [] }
+default_rule name default = record (option_rule name) { defaults = default ∷ [] }
 
 -- a word that must be there and is no option
 abbrev pub operand_rule : Text → Rule
@@ -30,16 +30,16 @@ bare_command =
 -- The command line as `clap` sees it.
 unfoldable pub command_line : App
 command_line =
-    with_rule (with_rule (with_rule (with_rule (with_rule (with_rule
-    (with_rule (with_rule (with_rule (with_rule (with_rule bare_command
-    (flag_rule (codes "online")))
-    (flag_rule (codes "show")))
-    (default_rule (codes "format") (codes "text")))
-    (default_rule (codes "input") (codes "-")))
-    (default_rule (codes "max-bytes") (codes "1073741824")))
-    (default_rule (codes "scale") (codes "0")))
-    (flag_rule (codes "normal")))
-    (option_rule (codes "max-zones")))
-    (option_rule (codes "minus")))
-    (option_rule (codes "let")))
-    (operand_rule (codes "EXPR"))
+    fold with_rule bare_command
+    (flag_rule (codes "online")
+    ∷ flag_rule (codes "show")
+    ∷ default_rule (codes "format") (codes "text")
+    ∷ default_rule (codes "input") (codes "-")
+    ∷ default_rule (codes "max-bytes") (codes "1073741824")
+    ∷ default_rule (codes "scale") (codes "0")
+    ∷ flag_rule (codes "normal")
+    ∷ option_rule (codes "max-zones")
+    ∷ option_rule (codes "minus")
+    ∷ option_rule (codes "let")
+    ∷ operand_rule (codes "EXPR")
+    ∷ [])

@@ -1,5 +1,5 @@
 -- What the words of the command line ask for.
-use Rattle.std.specs.Prelude.{◌≡◌, ◌≢◌, ℕ, ◌≤◌, nat_le, Bool, true, false, ◌&&◌, List, [], ◌∷◌, Option, None, Some, IfSome, is_some, codes, drop, option_and_then, option_map, if◌then◌else◌}
+use Rattle.std.specs.Prelude.{◌≡◌, ◌≢◌, ℕ, ◌≤◌, nat_le, Bool, true, false, MatchBool, ◌&&◌, List, [], ◌∷◌, Option, None, Some, IfSome, is_some, codes, drop, option_and_then, option_map, if◌then◌else◌}
 use Rattle.std.specs.Option.{option_map_or}
 use Rattle.std.specs.Str.{bytes_eq}
 use Rattle.std.specs.Str.Parse.{digits_value}
@@ -29,15 +29,6 @@ pub record StandsTogether (job : Job) : Type 0 where
   pub columns : job.format ≡ Csv → job.minus ≡ None
   pub lets : is_some job.lets ≡ true → job.format ≡ Csv
 
--- It has none of what a watch never has: columns, strips, and a pattern whose matches are taken
--- away.
-pub record IsBare (job : Job) : Type 0 where
-  pub format : job.format ≢ Csv
-  pub normal : job.normal ≡ false
-  pub max_zones : job.max_zones ≡ None
-  pub minus : job.minus ≡ None
-  pub lets : job.lets ≡ None
-
 -- What is true of each job that words give: its numbers are within their limits, and what it has
 -- may stand together. Columns aren't read online, and not in a watch.
 pub record IsJob (job : Job) : Type 0 where
@@ -47,7 +38,7 @@ pub record IsJob (job : Job) : Type 0 where
   pub counted : (count : ℕ) → job.mode ≡ Generate count → IsCount count
   pub together : StandsTogether job
   pub offline : job.mode ≡ Online → job.format ≢ Csv
-  pub watched : (file : List ℕ) → job.mode ≡ Watch file → IsBare job
+  pub watched : (file : List ℕ) → job.mode ≡ Watch file → job.format ≢ Csv
 
 -- a job of which no option says anything but the mode and the input
 abbrev pub plain_job : Mode → Text → Text → Job
@@ -71,13 +62,10 @@ abbrev pub is_given : Text → List Row → Bool
 is_given name rows = option_map_or (λ text. bytes_eq text (codes "true")) (first_of name rows) false
 
 -- `--show` counts where both flags are given
-abbrev pub mode_for : Bool → Bool → Mode
-mode_for true online = Show
-mode_for false true = Online
-mode_for false false = Offline
-
 abbrev pub mode_in : List Row → Mode
-mode_in rows = mode_for (is_given (codes "show") rows) (is_given (codes "online") rows)
+mode_in rows =
+    if is_given (codes "show") rows then Show
+    else (if is_given (codes "online") rows then Online else Offline)
 
 abbrev pub format_named : Text → Option Format
 format_named text =
@@ -111,47 +99,39 @@ pub record SaysJob (rows : List Row) (job : Job) : Type 0 where
   pub lets : first_of (codes "let") rows ≡ job.lets
   pub expr : first_of (codes "EXPR") rows ≡ Some job.expr
 
--- They say this job, and it may stand so. Columns stand beside no `--online`, also where `--show`
--- counts.
-pub record GivesFrom (rows : List Row) (job : Job) : Type 0 where
-  pub says : SaysJob rows job
+-- Words that are options and a pattern's text give this job: `clap` has no fault of its own for
+-- them, the values of the options that it finds say this job, and it may stand so. Columns stand
+-- beside no `--online`, also where `--show` counts.
+pub record GivesPlain (words : List Text) (job : Job) : Type 0 where
+  pub faultless : fault_of command_line words ≡ []
+  pub says : SaysJob (matches_of command_line words) job
   pub together : StandsTogether job
-  pub offline : job.format ≡ Csv → is_given (codes "online") rows ≡ false
+  pub offline :
+      job.format ≡ Csv → is_given (codes "online") (matches_of command_line words) ≡ false
 
 -- ---- watches
 
--- The job of the words behind `--watch` may be that of a watch, and at most one of its file and its
--- input is standard input.
+-- The job of the words behind `--watch` may be that of a watch: one without columns, strips, and a
+-- pattern whose matches are taken away. At most one of its file and its input is standard input.
 pub record MayWatch (plain : Job) : Type 0 where
-  pub offline : plain.mode ≡ Offline
-  pub bare : IsBare plain
+  pub mode : plain.mode ≡ Offline
+  pub format : plain.format ≢ Csv
+  pub normal : plain.normal ≡ false
+  pub minus : plain.minus ≡ None
   pub apart : plain.expr ≡ codes "-" → plain.input ≢ codes "-"
 
 -- the watch whose file stands where the pattern's text does in other words
 abbrev pub watch_job : Job → Job
 watch_job plain = record plain { mode = Watch plain.expr; expr = [] }
 
--- What the values of the options behind `--watch` say gives the watch of a job that may be one.
-pub record GivesWatch (rows : List Row) (job : Job) : Type 0 where
+-- The words behind `--watch` give the watch of a job that may be one.
+pub record GivesWatch (words : List Text) (job : Job) : Type 0 where
   pub plain : Job
-  pub gives : GivesFrom rows plain
+  pub gives : GivesPlain words plain
   pub may : MayWatch plain
   pub watched : job ≡ watch_job plain
 
--- ---- words
-
--- the first word is this
-abbrev pub begins_with : Text → List Text → Bool
-begins_with word [] = false
-begins_with word (first ∷ words) = bytes_eq first word
-
--- the first word is `--generate`
-abbrev pub is_made_run : List Text → Bool
-is_made_run words = begins_with (codes "--generate") words
-
--- the first word is `--watch`
-abbrev pub is_watch : List Text → Bool
-is_watch words = begins_with (codes "--watch") words
+-- ---- made runs
 
 -- how many segments the words of a made run write, which are just two
 abbrev pub made_count : List Text → Option ℕ
@@ -162,29 +142,22 @@ made_count words = None
 abbrev pub made_job : ℕ → Job
 made_job count = plain_job (Generate count) (codes "-") []
 
--- What words of a made run give is this job, or what those of a watch do, or what others do. The
--- parts of the last two are the matches that `clap` promises of these words, of a watch without the
--- first.
-abbrev pub GivesWhere : Bool → Bool → List Text → Job → Type 0
-GivesWhere true watched words job = option_map made_job (made_count words) ≡ Some job
-GivesWhere false true words job = GivesWatch (matches_of command_line (drop 1 words)) job
-GivesWhere false false words job = GivesFrom (matches_of command_line words) job
+-- ---- words
 
--- `clap` has no fault of its own for words that it reads. Words of a made run it doesn't read.
-abbrev pub HaveNoFaultWhere : Bool → Bool → List Text → Type 0
-HaveNoFaultWhere true watched words = Unit {0}
-HaveNoFaultWhere false true words = fault_of command_line (drop 1 words) ≡ []
-HaveNoFaultWhere false false words = fault_of command_line words ≡ []
+-- the first word is this
+abbrev pub begins_with : Text → List Text → Bool
+begins_with word [] = false
+begins_with word (first ∷ words) = bytes_eq first word
 
--- The words have no fault.
-abbrev pub HaveNoFault : List Text → Type 0
-HaveNoFault words = HaveNoFaultWhere (is_made_run words) (is_watch words) words
-
--- The words have no fault, and give this job.
+-- The words give this job: the first says whether it is that of a made run, of a watch, or neither.
 pub record GivesJob (words : List Text) (job : Job) : Type 0 where
-  pub faultless : HaveNoFault words
-  pub gives : GivesWhere (is_made_run words) (is_watch words) words job
+  pub gives :
+      MatchBool (begins_with (codes "--generate") words)
+      (option_map made_job (made_count words) ≡ Some job)
+      (MatchBool (begins_with (codes "--watch") words)
+      (GivesWatch (drop 1 words) job)
+      (GivesPlain words job))
 
--- The words have a fault, or give no job.
+-- The words give no job.
 abbrev pub GivesNoJob : List Text → Type 0
 GivesNoJob words = (job : Job) → GivesJob words job → ⊥

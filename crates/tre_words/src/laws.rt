@@ -1,7 +1,9 @@
 //! Laws of the words of a command line, each as a function whose contract it is.
 
-ghost use Rattle.std.specs.Prelude.{◌≡◌, ◌∷◌, ℕ, true, List, [], None, Some, codes};
-ghost use Rattle.tre_words.specs.Job.{IsJob, GivesJob, GivesNoJob, HaveNoFault, plain_job, watch_job};
+ghost use Rattle.std.specs.Prelude.{◌≡◌, ◌≢◌, ◌∷◌, ℕ, true, List, [], None, Some, codes};
+ghost use Rattle.clap.specs.Words.{fault_of};
+ghost use Rattle.tre_words.specs.CommandLine.{command_line};
+ghost use Rattle.tre_words.specs.Job.{IsJob, GivesJob, GivesNoJob, plain_job, watch_job};
 ghost use Rattle.tre_words.specs.declared.job.Format.TheVariants.{Csv, Vcd};
 ghost use Rattle.tre_words.specs.declared.job.Job.{Job};
 ghost use Rattle.tre_words.specs.declared.job.Mode.TheVariants.{Offline, Online, Show};
@@ -18,17 +20,17 @@ pub fn given_is_job()
     ensures { (words : List (List ℕ)) (job : Job) → GivesJob words job → IsJob job }
 {}
 
-/// Words as they are typed: the job of some, and that others have a fault.
+/// Words as they are typed: the job of some, and that `clap` has a fault of others.
 pub fn typed_words()
     ensures pattern { GivesJob (codes "p" ∷ []) (plain_job Offline (codes "-") (codes "p")) }
     ensures online { GivesJob (codes "--online" ∷ codes "p" ∷ [])
         (plain_job Online (codes "-") (codes "p")) }
     ensures dashes { GivesJob (codes "--input=a" ∷ codes "--" ∷ codes "-p" ∷ [])
         (plain_job Offline (codes "a") (codes "-p")) }
-    ensures no_words { ¬ HaveNoFault [] }
-    ensures two_patterns { ¬ HaveNoFault (codes "p" ∷ codes "q" ∷ []) }
-    ensures flag_twice { ¬ HaveNoFault
-        (codes "--online" ∷ codes "--online" ∷ codes "p" ∷ []) }
+    ensures no_words { fault_of command_line [] ≢ [] }
+    ensures two_patterns { fault_of command_line (codes "p" ∷ codes "q" ∷ []) ≢ [] }
+    ensures flag_twice { fault_of command_line
+        (codes "--online" ∷ codes "--online" ∷ codes "p" ∷ []) ≢ [] }
 {}
 
 /// Options as they are typed.

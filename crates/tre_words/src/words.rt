@@ -1,8 +1,8 @@
 // The words of the command line.
-ghost use Rattle.std.specs.Prelude.{◌≡◌, ◌↔◌, drop, map, string_bytes, IfOk, OnOk, IsErrOf, Some, None, [], true, false, codes, option_map};
-ghost use Rattle.clap.specs.Words.{found_of, rows_of, matches_of, fault_of};
-ghost use Rattle.tre_words.specs.CommandLine.{command_line};
-ghost use Rattle.tre_words.specs.Job.{begins_with, made_count, made_job, watch_job, SaysJob, StandsTogether, IsBare, IsJob, MayWatch, GivesFrom, GivesWatch, GivesJob, GivesNoJob};
+ghost use Rattle.std.specs.Prelude.{◌≡◌, ◌↔◌, map, string_bytes, IfOk, IsErrOf, Some, None, true, false, codes, option_map};
+ghost use Rattle.clap.specs.Words.{found_of, rows_of};
+ghost use Rattle.tre_words.specs.Job.{begins_with, is_given, made_count, made_job, watch_job, StandsTogether, IsJob, MayWatch, GivesPlain, GivesWatch, GivesJob, GivesNoJob};
+ghost use Rattle.tre_words.specs.declared.job.Format.TheVariants.{Csv};
 ghost use Rattle.tre_words.specs.declared.job.Job.{Job};
 
 use crate::command_line::{is_given, parse_words};
@@ -31,8 +31,8 @@ fn stands_together(job: &Job) -> bool
 
 // Whether what the values of the options say may stand so.
 fn may_stand(matches: &ArgMatches, job: &Job) -> bool
-    requires { SaysJob (rows_of (found_of matches.now)) job.now }
-    ensures { result ≡ true ↔ GivesFrom (rows_of (found_of matches.now)) job.now }
+    ensures { result ≡ true ↔ StandsTogether job.now × (job.now.format ≡ Csv →
+        is_given (codes "online") (rows_of (found_of matches.now)) ≡ false) }
 {
     if job.format == Format::Csv && is_given(matches, "online") {
         return false;
@@ -42,12 +42,10 @@ fn may_stand(matches: &ArgMatches, job: &Job) -> bool
 
 // Reads words that `clap` reads.
 fn read_options(alloc: Global, words: &[String]) -> Result<Job, WordsFault>
-    ensures ok { IfOk result (GivesFrom (matches_of command_line (map string_bytes words.now))) }
+    ensures ok { IfOk result (GivesPlain (map string_bytes words.now)) }
     ensures is_job { IfOk result IsJob }
-    ensures usage { IsErrOf result WordsFault.Usage →
-        fault_of command_line (map string_bytes words.now) ≡ [] → (job : Job) →
-        GivesFrom (matches_of command_line (map string_bytes words.now)) job → ⊥ }
-    ensures faultless { OnOk result (fault_of command_line (map string_bytes words.now) ≡ []) }
+    ensures usage { IsErrOf result WordsFault.Usage → (job : Job) →
+        ¬ GivesPlain (map string_bytes words.now) job }
 {
     let matches = parse_words(alloc, words)?;
     let job = job_in(alloc, &matches)?;
@@ -57,16 +55,6 @@ fn read_options(alloc: Global, words: &[String]) -> Result<Job, WordsFault>
     Ok(job)
 }
 
-// Whether the job has none of what a watch never has.
-fn is_bare(job: &Job) -> bool
-    ensures { result ≡ true ↔ IsBare job.now }
-{
-    if job.format == Format::Csv || job.normal || job.max_zones.is_some() {
-        return false;
-    }
-    job.minus.is_none() && job.lets.is_none()
-}
-
 // Whether the job of the words behind `--watch` may be that of a watch.
 fn may_watch(plain: &Job) -> bool
     ensures { result ≡ true ↔ MayWatch plain.now }
@@ -74,7 +62,10 @@ fn may_watch(plain: &Job) -> bool
     if plain.expr.text() == "-" && plain.input.text() == "-" {
         return false;
     }
-    matches!(plain.mode, Mode::Offline) && is_bare(plain)
+    if plain.format == Format::Csv || plain.normal || plain.minus.is_some() {
+        return false;
+    }
+    matches!(plain.mode, Mode::Offline)
 }
 
 fn watch_job(alloc: Global, plain: Job) -> Result<Job, AllocError>
@@ -89,12 +80,10 @@ fn watch_job(alloc: Global, plain: Job) -> Result<Job, AllocError>
 
 // Reads the words behind `--watch`.
 fn read_watch(alloc: Global, words: &[String]) -> Result<Job, WordsFault>
-    ensures ok { IfOk result (GivesWatch (matches_of command_line (map string_bytes words.now))) }
+    ensures ok { IfOk result (GivesWatch (map string_bytes words.now)) }
     ensures is_job { IfOk result IsJob }
-    ensures usage { IsErrOf result WordsFault.Usage →
-        fault_of command_line (map string_bytes words.now) ≡ [] → (job : Job) →
-        GivesWatch (matches_of command_line (map string_bytes words.now)) job → ⊥ }
-    ensures faultless { OnOk result (fault_of command_line (map string_bytes words.now) ≡ []) }
+    ensures usage { IsErrOf result WordsFault.Usage → (job : Job) →
+        ¬ GivesWatch (map string_bytes words.now) job }
 {
     let plain = read_options(alloc, words)?;
     if !may_watch(&plain) {

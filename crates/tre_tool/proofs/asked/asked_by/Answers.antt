@@ -58,7 +58,7 @@ returns-in_ok-asked-in-Watch-clause-fits g c =
     record {
       labels = c.in_ok-asked-in-Watch.ensures.labels;
       some = c.in_ok-asked-in-Watch.ensures.some;
-      columns = λ columns. absurd ((c.requires.job.watched _ c.in-Watch.is).format columns);
+      columns = λ columns. absurd (c.requires.job.watched _ c.in-Watch.is columns);
     }
 
 pub returns-in_ok-asked-in-Watch-clause-alone : goal.returns-in_ok-asked-in-Watch-clause-alone

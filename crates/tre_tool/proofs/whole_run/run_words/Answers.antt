@@ -3,7 +3,7 @@ use Rattle.std.proofs.lemmas.Result.{err_from_is_err_and}
 use Rattle.tre_words.proofs.Jobs.{job_unique}
 use Rattle.tre_feed.specs.Input.{TakesAtMost}
 use Rattle.tre_tool.proofs.Once.{nothing_asked}
-use Rattle.tre_tool.proofs.Parts.{EndsAs-words, EndsAs-stopped, EndsAs-answered, EndsAs-done, AsksFor-of, never_first, told_as_such, of_job, of_file, kept_as, kept_by}
+use Rattle.tre_tool.proofs.Parts.{EndsAs-words, EndsAs-stopped, EndsAs-answered, EndsAs-done, AsksFor-of, never_first, of_job, of_file, kept_as, kept_by}
 use Rattle.tre_tool.proofs.Promise.{read_as_told}
 use Rattle.tre_tool.proofs.whole_run.run_words.Goals as goal
 
@@ -19,11 +19,6 @@ returns-in_err-job-clause-ends g c =
       reads = refl;
       unwritten = record { unwritten = refl; writes = refl };
     }))
-
-pub returns-in_err-job-clause-faultless : goal.returns-in_err-job-clause-faultless
-returns-in_err-job-clause-faultless g c =
-    let p = err_from_is_err_and c.from_residual.result c.from_residual.ensures.1 in
-    rw (p.1, p.2) (λ usage memory. absurd (told_as_such c.in_err-job.field-0.0 usage memory))
 
 -- ---- words that ask for nothing
 

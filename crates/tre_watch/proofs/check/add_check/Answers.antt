@@ -1,8 +1,8 @@
-use Rattle.std.proofs.Common.{sym, ◌∙◌, arith}
+use Rattle.std.proofs.Common.{ap, is_some, sym, ◌∙◌, arith}
 use Rattle.std.proofs.lemmas.Result.{MatchResult-weaker}
 use Rattle.tre_watch.specs.Steps.{spelt_in}
 use Rattle.tre_watch.proofs.Outcomes.{stops_memory, stops_many, stops_twice}
-use Rattle.tre_watch.proofs.Answering.{is_there, is_absent, found_leads, found_stops}
+use Rattle.tre_watch.proofs.Answering.{found_leads, found_stops}
 use Rattle.tre_watch.proofs.check.add_check.Goals as goal
 
 pub returns-then-len-ge-NAMES_MAX : goal.returns-then-len-ge-NAMES_MAX
@@ -12,11 +12,10 @@ returns-then-len-ge-NAMES_MAX c = λ line says.
 
 pub returns-then-is_some : goal.returns-then-is_some
 returns-then-is_some c = λ line says.
-    let some = is_there c.find.result (sym c.if-is_some.ensures) in
     stops_twice c.args.scale c.args.number line c.args.names.now
     (spelt_in c.args.patterns.now.items)
-    c.args.name.now c.args.text.now says (omega (arith, c.len.ensures.len)) some.0
-    (sym c.find.ensures ∙ some.1)
+    c.args.name.now c.args.text.now says (omega (arith, c.len.ensures.len))
+    (ap is_some (sym c.find.ensures) ∙ sym c.if-is_some.ensures)
 
 pub returns-in-Ok : goal.returns-in-Ok
 returns-in-Ok c = λ line says.
@@ -25,7 +24,7 @@ returns-in-Ok c = λ line says.
     found_leads c.args.scale c.args.number line c.args.names.now c.args.patterns.now.items
     c.args.name.now
     c.args.text.now says (omega (arith, c.len.ensures.len))
-    (sym c.find.ensures ∙ is_absent c.find.result (sym c.if-is_some.ensures)) c.in-Ok.pattern
+    (ap is_some (sym c.find.ensures) ∙ sym c.if-is_some.ensures) c.in-Ok.pattern
     c.in-Ok.ensures c.add_pair.new.names c.add_pair.new.patterns.items h.0 h.1)
     (λ fault e. stops_memory c.args.scale c.args.number line c.args.names.now
     (spelt_in c.args.patterns.now.items) fault e)
@@ -35,5 +34,5 @@ returns-in-Err c = λ line says.
     found_stops c.args.scale c.args.number line c.args.names.now c.args.patterns.now.items
     c.args.name.now
     c.args.text.now says (omega (arith, c.len.ensures.len))
-    (sym c.find.ensures ∙ is_absent c.find.result (sym c.if-is_some.ensures)) c.in-Err.fault
+    (ap is_some (sym c.find.ensures) ∙ sym c.if-is_some.ensures) c.in-Err.fault
     c.in-Err.ensures

@@ -1,8 +1,8 @@
 use Rattle.std.proofs.Common.{◌≡◌, ◌+◌, ◌-◌, [], length, ap, subst, ◌∙◌, inr, arith}
 use Rattle.std.proofs.lemmas.List.{length-drop}
 use Rattle.std.proofs.lemmas.Result.{err_from_is_err_and}
+use Rattle.std.specs.Char.{is_newline}
 use Rattle.std.specs.List.{slice_split}
-use Rattle.tre_watch.specs.Lines.{is_line_end}
 use Rattle.tre_watch.specs.Outcome.{Outcome, IsOutcomeFrom}
 use Rattle.tre_watch.specs.Steps.{spelt_in}
 use Rattle.tre_watch.proofs.Outcomes.{Reaches-start, Reaches-next, Reaches-stop, Reaches-last_stop, Reaches-end, ended_empty, ended_some}
@@ -56,7 +56,7 @@ pub returns-then-is_empty-clause-outcome : goal.returns-then-is_empty-clause-out
 returns-then-is_empty-clause-outcome c =
     let none = c.is_empty.ensures.0 c.if-is_empty.true in
     inr (subst (λ (outcome : Outcome).
-    IsOutcomeFrom c.args.scale [] [] 1 (slice_split is_line_end c.args.bytes.now) outcome)
+    IsOutcomeFrom c.args.scale [] [] 1 (slice_split is_newline c.args.bytes.now) outcome)
     (ended_empty c.add_line-2.new.names (spelt_in c.add_line-2.new.patterns.items) none)
     (Reaches-end c.args.scale c.args.bytes.now c.loop-end.names (spelt_in c.loop-end.patterns.items)
     c.loop-end.number c.loop-end.rest.now c.loop-end.invariant.reaches c.in_default.ensures
@@ -68,7 +68,7 @@ returns-clause-outcome c =
     let some : c.add_line-2.new.names ≡ [] → ⊥ =
     λ none. let told = c.is_empty.ensures.1 none in absurd (cc) in
     subst (λ (outcome : Outcome).
-    IsOutcomeFrom c.args.scale [] [] 1 (slice_split is_line_end c.args.bytes.now) outcome)
+    IsOutcomeFrom c.args.scale [] [] 1 (slice_split is_newline c.args.bytes.now) outcome)
     (ended_some c.add_line-2.new.names (spelt_in c.add_line-2.new.patterns.items) some)
     (Reaches-end c.args.scale c.args.bytes.now c.loop-end.names (spelt_in c.loop-end.patterns.items)
     c.loop-end.number c.loop-end.rest.now c.loop-end.invariant.reaches c.in_default.ensures

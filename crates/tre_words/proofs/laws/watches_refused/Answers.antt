@@ -6,7 +6,8 @@ use Rattle.tre_words.proofs.laws.watches_refused.Goals as goal
 
 pub returns-clause-no_file : goal.returns-clause-no_file
 unfolding command_line clap_on_literals
-returns-clause-no_file c = λ job. faulty (λ none. cc)
+returns-clause-no_file c = λ job gives.
+    faulty (λ none. cc) gives.gives
 
 pub returns-clause-online : goal.returns-clause-online
 unfolding command_line clap_on_literals
@@ -15,11 +16,13 @@ returns-clause-online c = λ job gives.
 
 pub returns-clause-twice : goal.returns-clause-twice
 unfolding command_line clap_on_literals
-returns-clause-twice c = λ job. faulty (λ none. cc)
+returns-clause-twice c = λ job gives.
+    faulty (λ none. cc) gives.gives
 
 pub returns-clause-pattern : goal.returns-clause-pattern
 unfolding command_line clap_on_literals
-returns-clause-pattern c = λ job. faulty (λ none. cc)
+returns-clause-pattern c = λ job gives.
+    faulty (λ none. cc) gives.gives
 
 pub returns-clause-normal : goal.returns-clause-normal
 unfolding command_line clap_on_literals
@@ -36,4 +39,5 @@ returns-clause-both_standard_input c = λ job gives. watch-apart _ job gives.giv
 
 pub returns-clause-made_run : goal.returns-clause-made_run
 unfolding command_line clap_on_literals
-returns-clause-made_run c = λ job. faulty (λ none. cc)
+returns-clause-made_run c = λ job gives.
+    faulty (λ none. cc) gives.gives
