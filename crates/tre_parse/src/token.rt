@@ -9,31 +9,56 @@ pub enum Token {
     /// A number of units. One above the latest time, or a decimal that is no number of units, is
     /// the one number after that.
     Number(u64),
-    LeftParen, // `(`
-    RightParen, // `)`
-    LeftBracket, // `[`
-    RightBracket, // `]`
-    LeftBrace, // `{`
-    RightBrace, // `}`
-    Comma, // `,`
-    Semicolon, // `;`
-    Bar, // `|`
-    DoubleBar, // `||`
-    Ampersand, // `&`
-    DoubleAmpersand, // `&&`
-    Bang, // `!`
-    Star, // `*`
-    Plus, // `+`
-    Question, // `?`
-    Percent, // `%`
-    Begins, // `<:`
-    Ends, // `:>`
-    Eps, // `eps`
-    Rise, // `rise`
-    Fall, // `fall`
-    Inf, // `inf`
-    True, // `true`
-    Event, // `event`
+    /// `(`
+    LeftParen,
+    /// `)`
+    RightParen,
+    /// `[`
+    LeftBracket,
+    /// `]`
+    RightBracket,
+    /// `{`
+    LeftBrace,
+    /// `}`
+    RightBrace,
+    /// `,`
+    Comma,
+    /// `;`
+    Semicolon,
+    /// `|`
+    Bar,
+    /// `||`
+    DoubleBar,
+    /// `&`
+    Ampersand,
+    /// `&&`
+    DoubleAmpersand,
+    /// `!`
+    Bang,
+    /// `*`
+    Star,
+    /// `+`
+    Plus,
+    /// `?`
+    Question,
+    /// `%`
+    Percent,
+    /// `<:`
+    Begins,
+    /// `:>`
+    Ends,
+    /// `eps`
+    Eps,
+    /// `rise`
+    Rise,
+    /// `fall`
+    Fall,
+    /// `inf`
+    Inf,
+    /// `true`
+    True,
+    /// `event`
+    Event,
     /// No token: the text is at its end.
     EndOfText,
 }
