@@ -1,6 +1,6 @@
 -- How a run ended: the words ask for nothing, the file of checks couldn't be read, memory was
 -- wanting, or what they ask for was answered.
-use Rattle.std.proofs.Common.{◌≡◌, Result, Ok, Err, refl, inl, inr}
+use Rattle.std.proofs.Common.{◌≡◌, ◌≢◌, Result, Ok, Err, refl, inl, inr}
 use Rattle.tre_answer.specs.Ends.{EndsOver}
 use Rattle.tre_answer.specs.declared.fault.AnswerFault.{AnswerFault}
 use Rattle.tre_answer.specs.declared.fault.AnswerFault.TheVariants.{Trace as AnswerTrace, TooLong as AnswerTooLong, TooManyZones as AnswerTooMany, Read as AnswerRead, Write as AnswerWrite}
@@ -31,6 +31,16 @@ module _ (Gives : Job → Type 0) (checks input : InputTold) (output : OutputTol
     by_memory : status ≡ Memory → EndsMemory Gives checks input output → Ended status
     by_answer : (answer : Answer) → status ≡ answered_status answer
         → AsksAs Gives checks (λ request. EndsOver request input output answer) → Ended status
+
+  -- Words that give no job end as such, or for want of memory.
+  pub given_of : (status : Status) → Ended status → status ≢ Usage → status ≢ Memory
+      → (job : Job) × Gives job
+  given_of status (by_usage is ends) usage memory = absurd (usage is)
+  given_of status (by_refusal ends) usage memory = (ends.job, ends.gives)
+  given_of status (by_unread is ends) usage memory = (ends.job, ends.gives)
+  given_of status (by_memory is ends) usage memory = absurd (memory is)
+  given_of status (by_answer answer is ends) usage memory =
+      (ends.request.job, ends.asks.gives)
 
   pub ended_of : (status : Status) → EndsAs Gives checks input output status → Ended status
   ended_of Done ends = by_answer (Ok tt) refl ends

@@ -1,6 +1,6 @@
 //! Laws of what words ask for, each as a function whose contract it is.
 
-ghost use Rattle.std.specs.Prelude.{◌≡◌, ℕ, List};
+ghost use Rattle.std.specs.Prelude.{◌≡◌, ◌≢◌, ℕ, List};
 ghost use Rattle.tre_answer.specs.Request.{Request};
 ghost use Rattle.tre_feed.specs.Input.{InputTold};
 ghost use Rattle.tre_tell.specs.Outputs.{OutputTold};
@@ -10,6 +10,7 @@ ghost use Rattle.tre_tool.specs.Request.{AsksFor};
 ghost use Rattle.tre_tool.specs.Run.{EndsAs};
 ghost use Rattle.tre_tool.specs.declared.status.Status.{Status};
 ghost use Rattle.tre_words.specs.Job.{GivesJob, made_job};
+ghost use Rattle.tre_words.specs.declared.job.Job.{Job};
 
 /// Words and a file of checks ask for one thing at most: one job, one list of patterns with their
 /// labels and names, and one list of definitions.
@@ -17,6 +18,13 @@ pub fn one_request()
     ensures { (words : List (List ℕ)) (checks : InputTold) (one other : Request) →
         AsksFor (GivesJob words) (ChecksAreTold checks) one →
         AsksFor (GivesJob words) (ChecksAreTold checks) other → one ≡ other }
+{}
+
+/// Every end but `Usage` and `Memory` is that of words that give a job, of which `clap` has no fault.
+pub fn given_job()
+    ensures { (words : List (List ℕ)) (checks input : InputTold) (output : OutputTold)
+        (status : Status) → EndsAs (GivesJob words) checks input output status →
+        status ≢ Status.Usage → status ≢ Status.Memory → (job : Job) × GivesJob words job }
 {}
 
 /// Words that ask for a made run give its job. A run over them writes the summary of its segments,
