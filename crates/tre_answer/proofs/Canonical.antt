@@ -1,14 +1,15 @@
 -- Where the canonical zones are asked for, an input has one answer.
-use Rattle.std.proofs.Common.{◌≡◌, ℕ, ◌≤◌, Bool, true, List, [], ◌∷◌, length, map, Option, Some, IfSome, refl, sym, subst, ap, ◌∙◌, arith}
+use Rattle.std.proofs.Common.{◌≡◌, ℕ, ◌<◌, ◌≤◌, Bool, true, List, [], ◌∷◌, length, map, Option, None, Some, IfSome, IsSomeAnd, refl, sym, subst, ap, ◌∙◌, arith}
 use Rattle.tre_pairs.specs.Pairs.{Pairs}
-use Rattle.tre_strips.specs.Strips.{AreStrips}
+use Rattle.tre_show.specs.Order.{IsRising}
+use Rattle.tre_strips.specs.Listed.{AreListed}
+use Rattle.tre_strips.proofs.Listing.{same_listed}
 use Rattle.tre_trace.specs.Reading.{Reading}
 use Rattle.tre_trace.specs.Trace.{Timeline, timeline_of}
 use Rattle.tre_zone.specs.declared.zone_bounds.ZoneBounds.{ZoneBounds}
 use Rattle.tre_feed.specs.Outcome.{whole_reading}
 use Rattle.tre_answer.specs.Request.{Request}
-use Rattle.tre_answer.specs.Wanted.{IsWanted, AreAsAsked, AreZonesFor, IsOfflineAnswer, AreTooMany}
-use Rattle.tre_answer.proofs.Strips.{strips_once}
+use Rattle.tre_answer.specs.Wanted.{IsWanted, AreZonesOf, AreZonesFor, IsOfflineAnswer, AreTooMany}
 
 one_value : {X : Type 0} {x y : X} → Some x ≡ Some y → x ≡ y
 one_value e = cc
@@ -31,10 +32,23 @@ traces_once (one ∷ some) (other ∷ others) e =
     let rest = traces_once some others tails in
     cc
 
-strips_asked : (normal : Bool) (wanted : Pairs) (zones : List ZoneBounds) → normal ≡ true
-    → AreAsAsked normal wanted zones → AreStrips wanted zones
-strips_asked normal wanted zones is asked =
-    subst (λ (flag : Bool). AreAsAsked flag wanted zones) is asked
+are_listed : (normal : Bool) (wanted : Pairs) (zones : List ZoneBounds)
+    → AreZonesOf normal wanted zones → AreListed zones
+unfolding IsRising
+are_listed normal wanted zones of =
+    record { rising = of.rising; apart = of.apart; tight = of.tight }
+
+-- zones for the same pairs are one list
+one_strips : (normal : Bool) (wanted : Pairs) (zones others : List ZoneBounds) → normal ≡ true
+    → AreZonesOf normal wanted zones → AreZonesOf normal wanted others → zones ≡ others
+one_strips normal wanted zones others is one other =
+    let strips = (one.strips is).exact in
+    let strips' = (other.strips is).exact in
+    same_listed zones others (are_listed normal wanted zones one)
+    (are_listed normal wanted others other) (λ zone. (
+      (λ has. (strips' zone).1 ((strips zone).0 has)),
+      (λ has. (strips zone).1 ((strips' zone).0 has)),
+    ))
 
 -- the zones for the same bytes are the same
 zones_once : (request : Request) (bytes : List ℕ) (zones others : List ZoneBounds)
@@ -43,12 +57,9 @@ zones_once : (request : Request) (bytes : List ℕ) (zones others : List ZoneBou
 zones_once request bytes zones others normal one other =
     let same : other.traces ≡ one.traces =
     traces_once other.traces one.traces (sym other.are.read ∙ one.are.read) in
-    strips_once (IsWanted request.patterns one.traces) zones others
-    (strips_asked request.job.normal (IsWanted request.patterns one.traces) zones normal
-    one.found.as_asked)
-    (subst (λ (traces : List Timeline). AreStrips (IsWanted request.patterns traces) others) same
-    (strips_asked request.job.normal (IsWanted request.patterns other.traces) others normal
-    other.found.as_asked))
+    one_strips request.job.normal (IsWanted request.patterns one.traces) zones others normal one.found
+    (subst (λ (traces : List Timeline). AreZonesOf request.job.normal
+    (IsWanted request.patterns traces) others) same other.found)
 
 pub canonical_text : (request : Request) (bytes text other : List ℕ) → request.job.normal ≡ true
     → IsOfflineAnswer request bytes text → IsOfflineAnswer request bytes other → text ≡ other
@@ -64,13 +75,14 @@ canonical_count request bytes one other are are' =
     let same = zones_once request bytes are.zones are'.zones are.normal are.right are'.right in
     sym are.counted ∙ (ap length same ∙ are'.counted)
 
+few_or_many : (most : Option ℕ) (zones count : ℕ) → zones ≡ count
+    → IfSome most (λ limit. zones ≤ limit) → IsSomeAnd most (λ limit. limit < count) → ⊥
+few_or_many None zones count same few many = many
+few_or_many (Some limit) zones count same few many = omega (arith, same, few, many)
+
 pub never_both : (request : Request) (bytes text : List ℕ) (count : ℕ)
     → IsOfflineAnswer request bytes text → AreTooMany request bytes count → ⊥
 never_both request bytes text count one many =
     let same = zones_once request bytes one.zones many.zones many.normal one.right many.right in
-    let few : length one.zones ≤ many.most =
-    subst (λ (most : Option ℕ). IfSome most (λ limit. length one.zones ≤ limit)) many.limited
-    one.few in
-    let counted : length one.zones ≡ count = ap length same ∙ many.counted in
-    let more = many.many in
-    omega (arith, few, counted, more)
+    few_or_many request.job.max_zones (length one.zones) count (ap length same ∙ many.counted)
+    one.few many.many

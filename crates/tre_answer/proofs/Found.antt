@@ -1,5 +1,5 @@
 -- What was found over a whole input, and the text that tells it.
-use Rattle.std.proofs.Common.{◌≡◌, ◌∙◌, ℕ, ◌≤◌, ◌<◌, Bool, true, List, [], ◌∷◌, length, get_or, map, Some, IfSome, is_some, refl, sym, ap, subst, arith}
+use Rattle.std.proofs.Common.{◌≡◌, ◌∙◌, ℕ, ◌≤◌, ◌<◌, Bool, true, List, [], ◌∷◌, length, get_or, map, Option, None, Some, IfSome, IsSomeAnd, is_some, refl, sym, ap, subst, arith}
 use Rattle.std.proofs.lemmas.List.{length-map}
 use Rattle.tre_feed.specs.Input.{InputTold, AllReadsGood}
 use Rattle.tre_feed.specs.Outcome.{Outcome, whole_reading, refuses, exceeds}
@@ -20,8 +20,8 @@ use Rattle.tre_zone.specs.ZoneList.{SetHolds, HoldExactly}
 use Rattle.tre_zone.specs.declared.zone_bounds.ZoneBounds.{ZoneBounds}
 use Rattle.tre_zoneset.specs.ZoneSet.{IsZoneSet}
 use Rattle.tre_tell.specs.Outputs.{OutputTold, NothingWritten}
-use Rattle.tre_answer.specs.Ends.{IsAnswerIn, ReadsInput, StandsSoFar, EndsAtInput, way_of}
-use Rattle.tre_answer.specs.Parts.{AreOver, IsFound, IsFoundFor, StopsAs, feed_fault}
+use Rattle.tre_answer.specs.Ends.{IsAnswerIn, ReadsInput, StandsSoFar, EndsAtInput}
+use Rattle.tre_answer.specs.Parts.{IsFound, IsFoundFor, StopsAs, feed_fault}
 use Rattle.tre_answer.specs.Readings.{readings_of}
 use Rattle.tre_answer.specs.Request.{Request}
 use Rattle.tre_answer.specs.Wanted.{IsWanted, AreZonesOf, AreZonesFor}
@@ -29,9 +29,14 @@ use Rattle.tre_answer.specs.declared.fault.AnswerFault.TheVariants.{TooManyZones
 use Rattle.tre_answer.proofs.Wanted.{AreZonesOf-wanted}
 
 -- a limit of zones is one of canonical ones
-pub normal_limit : (job : Job) → IsJob job → (most : ℕ) → job.max_zones ≡ Some most
-    → job.normal ≡ true
-normal_limit job is most limited = is.together.max_zones (ap is_some limited)
+pub normal_limit : (job : Job) → IsJob job → (count : ℕ)
+    → IsSomeAnd job.max_zones (λ most. most < count) → job.normal ≡ true
+normal_limit job is count many = is.together.max_zones (is_limited job.max_zones many)
+  where
+    is_limited : (most : Option ℕ) → IsSomeAnd most (λ limit. limit < count)
+        → is_some most ≡ true
+    is_limited None many = absurd many
+    is_limited (Some limit) many = refl
 
 -- there is a trace for each reader
 pub a_trace_each : {R Terms : Type 0} (terms : R → Terms)
@@ -105,9 +110,9 @@ module _ (request : Request) (input : InputTold) (set zones : List ZoneBounds) (
 
   -- there are too many zones
   pub StopsAs-over : request.job.mode ≡ Offline → request.job.normal ≡ true
-      → AreOver request.job.max_zones (length zones)
+      → IsSomeAnd request.job.max_zones (λ most. most < length zones)
       → StopsAs request input (TooManyZones (length zones))
-  StopsAs-over offline normal over = λ output unwritten. record {
+  StopsAs-over offline normal many = λ output unwritten. record {
     offline = offline;
     reads = found.reads;
     cause = record {
@@ -118,9 +123,7 @@ module _ (request : Request) (input : InputTold) (set zones : List ZoneBounds) (
         zones = zones;
         right = right_zones;
         counted = refl;
-        most = over.limit;
-        limited = over.limited;
-        many = over.many;
+        many = many;
       };
     };
     nothing = unwritten;
@@ -131,7 +134,7 @@ module _ (request : Request) (input : InputTold) (offline : request.job.mode ≡
   reads_here = rw offline tt
 
   nothing_so_far : (output : OutputTold) (blocks : Type 0) → NothingWritten output
-      → StandsSoFar (way_of request.job.mode) output blocks
+      → StandsSoFar request.job.mode output blocks
   nothing_so_far output blocks unwritten = rw offline unwritten
 
   -- memory was wanting

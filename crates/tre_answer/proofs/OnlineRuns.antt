@@ -1,10 +1,10 @@
 -- The end of an answer that is told as its input comes.
-use Rattle.std.proofs.Common.{◌≡◌, ◌⊎◌, ℕ, Bool, List, map, string_bytes, Ok, Err, refl, ◌∙◌, ap, subst}
+use Rattle.std.proofs.Common.{◌≡◌, ◌⊎◌, ℕ, Bool, true, MatchBool, List, map, string_bytes, Ok, Err, refl, sym, ◌∙◌, ap, subst}
 use Rattle.tre_feed.specs.Input.{InputTold, OfAllBytes}
 use Rattle.tre_feed.specs.Outcome.{Outcome, refuses, exceeds}
 use Rattle.tre_syntax.specs.declared.pattern.Pattern.{Pattern}
 use Rattle.tre_tell.specs.Ends.{EndsTelling, IsTold, IsToldToFault}
-use Rattle.tre_tell.specs.Outputs.{OutputTold}
+use Rattle.tre_tell.specs.Outputs.{OutputTold, NothingWritten}
 use Rattle.tre_tell.specs.Watched.{watched_by}
 use Rattle.tre_tell.specs.Standing.{BlockIsCut, EndIsCut, IsOnlineAnswer}
 use Rattle.tre_tell.specs.declared.fault.TellFault.{TellFault}
@@ -14,14 +14,14 @@ use Rattle.tre_trace.specs.Reading.{Reading}
 use Rattle.tre_words.specs.declared.job.Job.{Job}
 use Rattle.tre_words.specs.declared.job.Mode.{Mode}
 use Rattle.tre_words.specs.declared.job.Mode.TheVariants.{Offline, Online, Show, Generate, Watch}
-use Rattle.tre_answer.specs.Ends.{ReadsInput, Way, as_it_comes, way_of, IsAnswerIn, StandsSoFar, IsCut, EndsAtInput, EndsOver}
+use Rattle.tre_answer.specs.Ends.{ReadsInput, as_it_comes, IsAnswerIn, StandsSoFar, PartIsWritten, EndsAtInput, EndsOver}
 use Rattle.tre_answer.specs.Parts.{tell_fault}
 use Rattle.tre_answer.specs.Readings.{readings_of, watched_of}
 use Rattle.tre_answer.specs.Request.{Request, request_for}
 use Rattle.tre_answer.specs.declared.asked.Asked.{Asked}
 
 -- a mode that reads its input, and not as a whole
-pub told_way : (mode : Mode) → ReadsInput mode → (mode ≡ Offline → ⊥) → way_of mode ≡ as_it_comes
+pub told_way : (mode : Mode) → ReadsInput mode → (mode ≡ Offline → ⊥) → as_it_comes mode ≡ true
 told_way Offline reads other = absurd (other refl)
 told_way Online reads other = refl
 told_way Show reads other = absurd reads
@@ -29,7 +29,7 @@ told_way (Generate count) reads other = absurd reads
 told_way (Watch file) reads other = refl
 
 -- it reads its input
-told_reads : (mode : Mode) → way_of mode ≡ as_it_comes → ReadsInput mode
+told_reads : (mode : Mode) → as_it_comes mode ≡ true → ReadsInput mode
 told_reads Offline comes = tt
 told_reads Online comes = tt
 told_reads Show comes = absurd (cc)
@@ -37,7 +37,7 @@ told_reads (Generate count) comes = absurd (cc)
 told_reads (Watch file) comes = tt
 
 module _ (request : Request) (input : InputTold) (output : OutputTold) where
-  told_answer : (mode : Mode) (text : List ℕ) → way_of mode ≡ as_it_comes
+  told_answer : (mode : Mode) (text : List ℕ) → as_it_comes mode ≡ true
       → OfAllBytes input (λ bytes. IsOnlineAnswer (watched_of request) bytes text)
       → IsAnswerIn mode request input text
   told_answer Offline text comes right = absurd (cc)
@@ -46,16 +46,12 @@ module _ (request : Request) (input : InputTold) (output : OutputTold) where
   told_answer (Generate count) text comes right = absurd (cc)
   told_answer (Watch file) text comes right = right
 
-  blocks_so_far : (way : Way) (blocks : Type 0) → way ≡ as_it_comes → blocks
-      → StandsSoFar way output blocks
-  blocks_so_far way blocks comes stands = rw comes stands
+  blocks_so_far : (mode : Mode) (blocks : Type 0) → as_it_comes mode ≡ true → blocks
+      → StandsSoFar mode output blocks
+  blocks_so_far mode blocks comes stands =
+      subst (λ told. MatchBool told blocks (NothingWritten output)) (sym comes) stands
 
-  cut_so_far : (way : Way) → way ≡ as_it_comes
-      → BlockIsCut (watched_of request) input output ⊎ EndIsCut (watched_of request) input output
-      → IsCut way request input output
-  cut_so_far way comes cut = rw comes cut
-
-  module _ (comes : way_of request.job.mode ≡ as_it_comes) where
+  module _ (comes : as_it_comes request.job.mode ≡ true) where
     at_fault : (outcome : Outcome)
         → IsToldToFault (watched_of request) input output outcome
         → EndsAtInput outcome request input output
@@ -64,7 +60,7 @@ module _ (request : Request) (input : InputTold) (output : OutputTold) where
       opened = told.opened;
       cause = told.cause;
       reads = told.reads;
-      stands = blocks_so_far (way_of request.job.mode) _ comes told.stands;
+      stands = blocks_so_far request.job.mode _ comes told.stands;
     }
 
     -- the input was told to its end
@@ -88,15 +84,18 @@ module _ (request : Request) (input : InputTold) (output : OutputTold) where
       reads_input = told_reads request.job.mode comes;
       unread = record { cause = told.cause; unsound = told.unsound };
       goes_on = told.goes_on;
-      stands = blocks_so_far (way_of request.job.mode) _ comes told.stands;
+      stands = blocks_so_far request.job.mode _ comes told.stands;
     }
     EndsOver-stopped TellWrite told = record {
       cause = told.cause;
       reads = told.reads;
-      stands = cut_so_far (way_of request.job.mode) comes told.stands;
+      stands = subst (λ told. MatchBool told
+          (BlockIsCut (watched_of request) input output
+          ⊎ EndIsCut (watched_of request) input output)
+          (PartIsWritten request input output)) (sym comes) told.stands;
     }
     EndsOver-stopped TellMemory told =
-        (told.reads, blocks_so_far (way_of request.job.mode) _ comes told.stands)
+        (told.reads, blocks_so_far request.job.mode _ comes told.stands)
 
 -- What was told of these patterns by their readers is what was asked for.
 module _ (job : Job) (lets : List Defined) (asked : Asked) (texts : List (List ℕ))

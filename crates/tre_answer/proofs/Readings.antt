@@ -56,51 +56,6 @@ All-mapped P f (x ∷ xs) each zero d below = each x
 All-mapped P f (x ∷ xs) each (suc k) d below =
     All-mapped P f xs each k d (omega (arith, below))
 
-module _ (job : Job) (lets : List Defined) (declared : List Vocabulary) (names : Vocabulary) where
-  reading_in-faultless : (format : Format)
-      → (reading_in format job lets declared names false []).fault ≡ None
-  reading_in-faultless Text =
-      text_reading-faultless (record { names = names; scale = job.scale })
-  reading_in-faultless Vcd = vcd_reading-faultless
-      (record { names = names; declared = declared; scale = job.scale })
-  reading_in-faultless Csv = rows_reading-faultless
-      (record { definitions = lets; names = names; scale = job.scale })
-
-  reading_in-nothing : (format : Format)
-      → (reading_in format job lets declared names false []).segments ≡ []
-  reading_in-nothing Text = text_reading-nothing (record { names = names; scale = job.scale })
-  reading_in-nothing Vcd =
-      vcd_reading-nothing (record { names = names; declared = declared; scale = job.scale })
-  reading_in-nothing Csv =
-      rows_reading-nothing (record { definitions = lets; names = names; scale = job.scale })
-
-pub nothing_said : (request : Request) → SayNothing (readings_of request)
-nothing_said request = All-mapped (λ reading. reading.segments ≡ []) _ request.patterns
-    (λ pattern. reading_in-nothing request.job request.lets (all_names request.patterns)
-    pattern.names request.job.format)
-
--- a reading that they have in common has no fault, where none has
-common_faultless : {X : Type 0} (f : X → Reading) (xs : List X) → ((x : X) → (f x).fault ≡ None)
-    → (common (map f xs)).fault ≡ None
-common_faultless f [] each = refl
-common_faultless f (x ∷ xs) each = each x
-
-pub faultless_at_first : (request : Request) → (common (readings_of request false [])).fault ≡ None
-faultless_at_first request = common_faultless _ request.patterns
-    (λ pattern. reading_in-faultless request.job request.lets (all_names request.patterns)
-    pattern.names request.job.format)
-
--- ---- what readers read
-
--- two lists of names are a vocabulary
-pub vocabulary_same : (names events : List (List ℕ)) (other : Vocabulary) → names ≡ other.names
-    → events ≡ other.events → record { names = names; events = events } ≡ other
-vocabulary_same names events other same same' =
-    ap (λ all. vocabulary_of all events) same ∙ ap (vocabulary_of other.names) same'
-  where
-    vocabulary_of : List (List ℕ) → List (List ℕ) → Vocabulary
-    vocabulary_of all more = record { names = all; events = more }
-
 -- the terms of readers
 
 abbrev pub text_terms_of : Vocabulary → ℕ → TextTerms
@@ -115,6 +70,48 @@ dump_terms_of names declared scale = record {
 
 abbrev pub rows_terms_of : List Defined → Vocabulary → ℕ → RowTerms
 rows_terms_of lets names scale = record { definitions = lets; names = names; scale = scale }
+
+module _ (request : Request) (names : Vocabulary) where
+  reading_in-faultless : (format : Format)
+      → (reading_in format request names false []).fault ≡ None
+  reading_in-faultless Text = text_reading-faultless (text_terms_of names request.job.scale)
+  reading_in-faultless Vcd = vcd_reading-faultless
+      (dump_terms_of names (all_names request.patterns) request.job.scale)
+  reading_in-faultless Csv =
+      rows_reading-faultless (rows_terms_of request.lets names request.job.scale)
+
+  reading_in-nothing : (format : Format)
+      → (reading_in format request names false []).segments ≡ []
+  reading_in-nothing Text = text_reading-nothing (text_terms_of names request.job.scale)
+  reading_in-nothing Vcd = vcd_reading-nothing
+      (dump_terms_of names (all_names request.patterns) request.job.scale)
+  reading_in-nothing Csv =
+      rows_reading-nothing (rows_terms_of request.lets names request.job.scale)
+
+pub nothing_said : (request : Request) → SayNothing (readings_of request)
+nothing_said request = All-mapped (λ reading. reading.segments ≡ []) _ request.patterns
+    (λ pattern. reading_in-nothing request pattern.names request.job.format)
+
+-- a reading that they have in common has no fault, where none has
+common_faultless : {X : Type 0} (f : X → Reading) (xs : List X) → ((x : X) → (f x).fault ≡ None)
+    → (common (map f xs)).fault ≡ None
+common_faultless f [] each = refl
+common_faultless f (x ∷ xs) each = each x
+
+pub faultless_at_first : (request : Request) → (common (readings_of request false [])).fault ≡ None
+faultless_at_first request = common_faultless _ request.patterns
+    (λ pattern. reading_in-faultless request pattern.names request.job.format)
+
+-- ---- what readers read
+
+-- two lists of names are a vocabulary
+pub vocabulary_same : (names events : List (List ℕ)) (other : Vocabulary) → names ≡ other.names
+    → events ≡ other.events → record { names = names; events = events } ≡ other
+vocabulary_same names events other same same' =
+    ap (λ all. vocabulary_of all events) same ∙ ap (vocabulary_of other.names) same'
+  where
+    vocabulary_of : List (List ℕ) → List (List ℕ) → Vocabulary
+    vocabulary_of all more = record { names = all; events = more }
 
 -- the only reading
 pub one_read : {all front : List Reading} {one other : Reading} → all ≡ front ++ one ∷ []
@@ -146,10 +143,28 @@ sought_count (label ∷ labels) (pattern ∷ patterns) count =
 sought_count [] (pattern ∷ patterns) count = absurd (omega (arith, count))
 sought_count (label ∷ labels) [] count = absurd (omega (arith, count))
 
+-- What bytes in this format say for these names, where all of `declared` must be declared.
+abbrev reading_with : Format → Job → List Defined → List Vocabulary → Bool → List ℕ → Vocabulary →
+    Reading
+reading_with Text job lets declared closed bytes names =
+    text_reading (text_terms_of names job.scale) closed bytes
+reading_with Vcd job lets declared closed bytes names =
+    vcd_reading (dump_terms_of names declared job.scale) closed bytes
+reading_with Csv job lets declared closed bytes names =
+    rows_reading (rows_terms_of lets names job.scale) closed bytes
+
+reading_with-in : (format : Format) (request : Request) (closed : Bool) (bytes : List ℕ)
+    (names : Vocabulary)
+    → reading_with format request.job request.lets (all_names request.patterns) closed bytes names
+    ≡ reading_in format request names closed bytes
+reading_with-in Text request closed bytes names = refl
+reading_with-in Vcd request closed bytes names = refl
+reading_with-in Csv request closed bytes names = refl
+
 -- What bytes in this format say for each of the patterns of what is asked.
 abbrev pub readings_for : Format → Job → List Defined → Asked → Bool → List ℕ → List Reading
-readings_for format job lets asked closed bytes = map (λ pattern. reading_in format job lets
-    (map names_of asked.patterns.items) (names_of pattern) closed bytes) asked.patterns.items
+readings_for format job lets asked closed bytes = map (λ pattern. reading_with format job lets
+    (map names_of asked.patterns.items) closed bytes (names_of pattern)) asked.patterns.items
 
 module _ (job : Job) (lets : List Defined) (asked : Asked) (fits : FitsJob job asked) where
   pub labels_fit : length (map string_bytes asked.labels.items) ≡ length asked.patterns.items
@@ -169,11 +184,14 @@ module _ (job : Job) (lets : List Defined) (asked : Asked) (fits : FitsJob job a
   readings_are format readings is reads = fun_ext (λ closed. fun_ext (λ bytes.
       reads closed bytes
       ∙ (ap (λ f. readings_for f job lets asked closed bytes) (sym is)
-      ∙ (ap (λ declared. map (λ pattern. reading_in job.format job lets declared
-      (names_of pattern) closed bytes) asked.patterns.items) (sym names_sought)
-      ∙ sym (map_sought (λ names. reading_in job.format job lets
-      (all_names (request_for job lets asked).patterns) names closed bytes)
-      (map string_bytes asked.labels.items) asked.patterns.items labels_fit)))))
+      ∙ (ap (λ declared. map (λ pattern. reading_with job.format job lets declared closed bytes
+      (names_of pattern)) asked.patterns.items) (sym names_sought)
+      ∙ (sym (map_sought (reading_with job.format job lets
+      (all_names (request_for job lets asked).patterns) closed bytes)
+      (map string_bytes asked.labels.items) asked.patterns.items labels_fit)
+      ∙ ap (λ (f : Vocabulary → Reading). map (λ (sought : Sought). f sought.names)
+      (request_for job lets asked).patterns)
+      (fun_ext (reading_with-in job.format (request_for job lets asked) closed bytes)))))))
 
   pub readings_many : length (readings_of (request_for job lets asked) false [])
       ≡ length asked.patterns.items

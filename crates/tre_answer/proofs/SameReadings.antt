@@ -11,39 +11,36 @@ use Rattle.tre_tell.specs.Watched.{SayNothing}
 use Rattle.tre_words.specs.declared.job.Format.{Format}
 use Rattle.tre_words.specs.declared.job.Format.TheVariants.{Text, Vcd, Csv}
 use Rattle.tre_words.specs.declared.job.Job.{Job}
-use Rattle.tre_answer.specs.Readings.{reading_in, reading_of, readings_of}
+use Rattle.tre_answer.specs.Readings.{reading_in, readings_of}
 use Rattle.tre_answer.specs.Request.{Request, all_names, request_for}
 use Rattle.tre_answer.specs.declared.asked.Asked.{Asked}
-use Rattle.tre_answer.proofs.Readings.{All-mapped, nothing_said}
+use Rattle.tre_answer.proofs.Readings.{All-mapped, nothing_said, text_terms_of, dump_terms_of}
 
 -- readings for any names
-for_names : (format : Format) (job : Job) (lets : List Defined) (declared : List Vocabulary)
-    (one other : Vocabulary) (closed : Bool) (bytes : List ℕ) → format ≢ Csv
-    → AreAlike (reading_in format job lets declared one closed bytes)
-    (reading_in format job lets declared other closed bytes)
-for_names Text job lets declared one other closed bytes never =
-    texts-alike (record { names = one; scale = job.scale })
-    (record { names = other; scale = job.scale }) closed bytes refl
-for_names Vcd job lets declared one other closed bytes never =
-    dumps-alike (record { names = one; declared = declared; scale = job.scale })
-    (record { names = other; declared = declared; scale = job.scale }) closed bytes refl refl
-for_names Csv job lets declared one other closed bytes never = absurd (never refl)
+for_names : (format : Format) (request : Request) (one other : Vocabulary) (closed : Bool)
+    (bytes : List ℕ) → format ≢ Csv
+    → AreAlike (reading_in format request one closed bytes)
+    (reading_in format request other closed bytes)
+for_names Text request one other closed bytes never =
+    texts-alike (text_terms_of one request.job.scale) (text_terms_of other request.job.scale) closed
+    bytes refl
+for_names Vcd request one other closed bytes never =
+    let declared = all_names request.patterns in
+    dumps-alike (dump_terms_of one declared request.job.scale)
+    (dump_terms_of other declared request.job.scale) closed bytes refl refl
+for_names Csv request one other closed bytes never = absurd (never refl)
 
 module _ (request : Request) (closed : Bool) (bytes : List ℕ)
     (never : request.job.format ≢ Csv) where
-  for_patterns : (one other : Sought)
-      → AreAlike (reading_of request one.names closed bytes)
-      (reading_of request other.names closed bytes)
-  for_patterns one other = for_names request.job.format request.job request.lets
-      (all_names request.patterns) one.names other.names closed bytes never
+  abbrev read_for : Sought → Reading
+  read_for pattern = reading_in request.job.format request pattern.names closed bytes
 
   each_alike : All (λ one. All (AreAlike one) (readings_of request closed bytes))
       (readings_of request closed bytes)
   each_alike = All-mapped (λ one. All (AreAlike one) (readings_of request closed bytes))
-      (λ (pattern : Sought). reading_of request pattern.names closed bytes) request.patterns
-      (λ one. All-mapped (AreAlike (reading_of request one.names closed bytes))
-      (λ (pattern : Sought). reading_of request pattern.names closed bytes) request.patterns
-      (λ other. for_patterns one other))
+      read_for request.patterns
+      (λ one. All-mapped (AreAlike (read_for one)) read_for request.patterns
+      (λ other. for_names request.job.format request one.names other.names closed bytes never))
 
 -- what is so of each member is so of what they have in common
 of_common : (readings : List Reading)

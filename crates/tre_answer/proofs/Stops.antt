@@ -1,43 +1,42 @@
 -- How an answer ends that is written at once.
-use Rattle.std.proofs.Common.{◌≡◌, ℕ, List, Result, Ok, Err, OnOk, OnErr, IfErr, refl, sym, ap, subst}
+use Rattle.std.proofs.Common.{◌≡◌, ◌⊎◌, ℕ, false, MatchBool, List, Result, Ok, Err, OnOk, OnErr, IfErr, refl, sym, ap, subst}
 use Rattle.std.specs.Io.KnownBytes.{Appends}
 use Rattle.tre_feed.specs.Input.{InputTold}
 use Rattle.tre_io.specs.Faults.{counted}
 use Rattle.tre_io.specs.Written.{AppendsPart}
 use Rattle.tre_tell.specs.Outputs.{OutputTold, AllWritesGood}
+use Rattle.tre_tell.specs.Standing.{BlockIsCut, EndIsCut}
 use Rattle.tre_words.specs.declared.job.Mode.{Mode}
 use Rattle.tre_words.specs.declared.job.Mode.TheVariants.{Offline, Online, Show, Generate, Watch}
-use Rattle.tre_answer.specs.Ends.{ReadsInput, Way, at_once, way_of, PartIsWritten, IsCut, EndsOver}
+use Rattle.tre_answer.specs.Ends.{ReadsInput, as_it_comes, PartIsWritten, EndsOver}
 use Rattle.tre_answer.specs.Parts.{IsFoundFor}
+use Rattle.tre_answer.specs.Readings.{watched_of}
 use Rattle.tre_answer.specs.Request.{Request}
 use Rattle.tre_answer.specs.declared.fault.AnswerFault.{AnswerFault}
 use Rattle.tre_answer.specs.declared.fault.AnswerFault.TheVariants.{Write}
 
--- a first part of an answer that is written at once
-cut_at_once : (way : Way) (request : Request) (input : InputTold) (output : OutputTold)
-    → way ≡ at_once → PartIsWritten request input output → IsCut way request input output
-cut_at_once way request input output once part = rw once part
+-- the modes in which an answer is written at once
+pub offline_once : (mode : Mode) → mode ≡ Offline → as_it_comes mode ≡ false
+offline_once mode offline = ap as_it_comes offline
 
--- the modes in which it is
-pub offline_once : (mode : Mode) → mode ≡ Offline → way_of mode ≡ at_once
-offline_once mode offline = ap way_of offline
+pub show_once : (mode : Mode) → mode ≡ Show → as_it_comes mode ≡ false
+show_once mode shows = ap as_it_comes shows
 
-pub show_once : (mode : Mode) → mode ≡ Show → way_of mode ≡ at_once
-show_once mode shows = ap way_of shows
-
-pub made_once : (mode : Mode) (count : ℕ) → mode ≡ Generate count → way_of mode ≡ at_once
-made_once mode count makes = ap way_of makes
+pub made_once : (mode : Mode) (count : ℕ) → mode ≡ Generate count → as_it_comes mode ≡ false
+made_once mode count makes = ap as_it_comes makes
 
 -- an answer that is written at once, and of which a write failed
 EndsOver-cut : (request : Request) (input : InputTold) (output : OutputTold) (text : List ℕ)
-    → way_of request.job.mode ≡ at_once → IsFoundFor request input text
+    → as_it_comes request.job.mode ≡ false → IsFoundFor request input text
     → output.faults_now ≡ counted output.faults_before
     → AppendsPart output.written_before output.written_now text
     → EndsOver {T = Unit {0}} request input output (Err Write)
 EndsOver-cut request input output text once found cause part = record {
   cause = cause;
   reads = found.reads;
-  stands = cut_at_once (way_of request.job.mode) request input output once
+  stands = subst (λ comes. MatchBool comes
+      (BlockIsCut (watched_of request) input output ⊎ EndIsCut (watched_of request) input output)
+      (PartIsWritten request input output)) (sym once)
       (record { text = text; right = found.right; written = part });
 }
 
@@ -56,7 +55,7 @@ EndsOver-done request input output text value found writes written = record {
 
 -- an answer of which all, or a first part, was written at once
 pub EndsOver-written : (request : Request) (input : InputTold) (output : OutputTold)
-    (text given : List ℕ) → given ≡ text → way_of request.job.mode ≡ at_once
+    (text given : List ℕ) → given ≡ text → as_it_comes request.job.mode ≡ false
     → IsFoundFor request input text → (result : Result (Unit {0}) AnswerFault)
     → OnOk result (Appends output.written_before output.written_now given)
     → OnOk result (AllWritesGood output)

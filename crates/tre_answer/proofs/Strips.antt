@@ -1,9 +1,8 @@
--- Strips of pairs that agree, and that there is one list of them.
-use Rattle.std.proofs.Common.{◌≡◌, ℕ, ◌<◌, ◌↔◌, List}
+-- Strips of pairs that agree.
+use Rattle.std.proofs.Common.{ℕ, ◌<◌, ◌↔◌, List}
 use Rattle.tre_pairs.specs.Pairs.{Pairs}
 use Rattle.tre_strips.specs.Strips.{AreStrips}
 use Rattle.tre_strips.proofs.Answering.{IsStripZone-pairs}
-use Rattle.tre_strips.proofs.Listing.{same_sorted, strictly_again}
 use Rattle.tre_zone.specs.declared.zone_bounds.ZoneBounds.{ZoneBounds}
 
 -- pairs that agree have the same strips
@@ -13,21 +12,9 @@ AreStrips-pairs M N same zones are =
     let back : (a b n : ℕ) → 0 < n → N a b n ↔ M a b n =
     λ a b n some. ((same a b n some).1, (same a b n some).0) in
     record {
-      rising = are.rising;
-      apart = are.apart;
       exact = λ zone.
           let own = are.exact zone in (
             (λ has. let is = own.0 has in (is.0, IsStripZone-pairs M N same back zone is.1)),
             (λ is. own.1 (is.0, IsStripZone-pairs N M back same zone is.1)),
           );
     }
-
--- pairs have one list of strips
-pub strips_once : (M : Pairs) (zones others : List ZoneBounds) → AreStrips M zones
-    → AreStrips M others → zones ≡ others
-strips_once M zones others are are' =
-    same_sorted zones others (strictly_again zones are.rising are.apart)
-    (strictly_again others are'.rising are'.apart) (λ zone. (
-      (λ has. (are'.exact zone).1 ((are.exact zone).0 has)),
-      (λ has. (are.exact zone).1 ((are'.exact zone).0 has)),
-    ))

@@ -1,5 +1,5 @@
 -- The answer to what is asked, before the input is opened and where none is read.
-use Rattle.std.proofs.Common.{◌≡◌, ◌∙◌, ℕ, zero, suc, List, [], ◌∷◌, ◌++◌, All, length, get_or, flat_map, map, codes, false, string_bytes, Err, refl, sym, ap, subst, append-nil, arith}
+use Rattle.std.proofs.Common.{◌≡◌, ◌∙◌, ℕ, zero, suc, List, [], ◌∷◌, ◌++◌, All, length, get_or, flat_map, map, codes, Bool, true, false, MatchBool, string_bytes, Err, refl, sym, ap, subst, append-nil, arith}
 use Rattle.tre_feed.specs.Input.{InputTold, AllReadsGood}
 use Rattle.tre_feed.specs.declared.fault.FeedFault.TheVariants.{Memory as FeedMemory}
 use Rattle.tre_generate.specs.Summary.{IsSummary}
@@ -14,7 +14,7 @@ use Rattle.tre_tell.proofs.Loop.{EndsTelling-unread}
 use Rattle.tre_words.specs.declared.job.Job.{Job}
 use Rattle.tre_words.specs.declared.job.Mode.{Mode}
 use Rattle.tre_words.specs.declared.job.Mode.TheVariants.{Show, Generate}
-use Rattle.tre_answer.specs.Ends.{Way, at_once, as_it_comes, way_of, IsAnswerIn, StandsSoFar, EndsOver}
+use Rattle.tre_answer.specs.Ends.{as_it_comes, IsAnswerIn, EndsOver}
 use Rattle.tre_answer.specs.Parts.{IsFoundFor}
 use Rattle.tre_answer.specs.Readings.{readings_of, watched_of}
 use Rattle.tre_answer.specs.Request.{FitsJob, request_for}
@@ -26,11 +26,11 @@ use Rattle.tre_answer.proofs.Readings.{nothing_said, faultless_at_first, labels_
 
 module _ (job : Job) (lets : List Defined) (asked : Asked) (fits : FitsJob job asked)
     (input : InputTold) (output : OutputTold) where
-  early_by : (way : Way) → input.opened ≡ false → AllReadsGood input → NothingWritten output
-      → StandsSoFar way output
-      (FirstBlocksStand (watched_of (request_for job lets asked)) input output)
-  early_by at_once closed reads unwritten = unwritten
-  early_by as_it_comes closed reads unwritten =
+  early_by : (comes : Bool) → input.opened ≡ false → AllReadsGood input → NothingWritten output
+      → MatchBool comes (FirstBlocksStand (watched_of (request_for job lets asked)) input output)
+      (NothingWritten output)
+  early_by false closed reads unwritten = unwritten
+  early_by true closed reads unwritten =
       let request = request_for job lets asked in
       (EndsTelling-unread (map string_bytes asked.labels.items) asked.patterns.items
       (readings_of request) job.max_bytes job.scale (labels_fit job lets asked fits)
@@ -43,7 +43,7 @@ module _ (job : Job) (lets : List Defined) (asked : Asked) (fits : FitsJob job a
       → EndsOver {T = Unit {0}} (request_for job lets asked) input output (Err Memory)
   EndsOver-early closed reads unwritten = (
     reads,
-    early_by (way_of job.mode) closed reads unwritten,
+    early_by (as_it_comes job.mode) closed reads unwritten,
   )
 
 -- ---- where no input is read

@@ -1,5 +1,5 @@
 -- What is wanted of patterns over their traces, and the zones that hold it.
-use Rattle.std.proofs.Common.{◌≡◌, ◌↔◌, ◌⊎◌, ⊎_elim, inl, inr, ℕ, ◌<◌, ◌≤◌, ◌+◌, Bool, true, false, List, [], ◌∷◌, length, take, drop, get_or, sym, ap, subst, arith}
+use Rattle.std.proofs.Common.{◌≡◌, ◌↔◌, ◌⊎◌, ⊎_elim, inl, inr, ℕ, ◌<◌, ◌≤◌, ◌+◌, Bool, List, [], ◌∷◌, length, take, drop, get_or, sym, ap, subst, arith}
 use Rattle.std.proofs.lemmas.List.{drop_more, length-drop}
 use Rattle.std.proofs.Math.ListN.{drop_of_length-le}
 use Rattle.std.proofs.Math.Seq.{take-length}
@@ -17,7 +17,7 @@ use Rattle.tre_trace.specs.Trace.{Timeline}
 use Rattle.tre_zone.specs.ZoneList.{SetHolds, AreCanonical, HoldExactly}
 use Rattle.tre_zone.specs.declared.zone_bounds.ZoneBounds.{ZoneBounds}
 use Rattle.tre_zone.proofs.Scaling.{SetHolds-rising}
-use Rattle.tre_answer.specs.Wanted.{MatchesSome, IsWanted, AreAsAsked, AreZonesOf}
+use Rattle.tre_answer.specs.Wanted.{MatchesSome, IsWanted, AreZonesOf}
 use Rattle.tre_answer.proofs.Strips.{AreStrips-pairs}
 
 -- the first time of a pair that is wanted isn't after the second
@@ -49,14 +49,12 @@ AreZonesOf-wanted normal patterns traces set zones canonical held of = record {
         let wanted = held.exact a b n positive rises in
         ((λ h. wanted.0 (told.0 h)), (λ h. told.1 (wanted.1 h)));
   };
-  as_asked = as_asked_of normal of.as_asked;
+  apart = of.apart;
+  tight = of.tight;
+  rising = of.rising;
+  strips = λ asked. AreStrips-pairs (SetHolds set) (IsWanted patterns traces)
+      (wanted_same patterns traces set canonical held) zones (of.strips asked);
 }
-  where
-    as_asked_of : (normal : Bool) → AreAsAsked normal (SetHolds set) zones
-        → AreAsAsked normal (IsWanted patterns traces) zones
-    as_asked_of true strips = AreStrips-pairs (SetHolds set) (IsWanted patterns traces)
-        (wanted_same patterns traces set canonical held) zones strips
-    as_asked_of false tidy = tidy
 
 -- a match of one of the patterns from this place on, behind these labels
 abbrev IsStill : List (List ℕ) → List Pattern → List Timeline → ℕ → Pairs

@@ -1,10 +1,10 @@
 -- How the answering of a request ends, what each end means, and what was written.
-use Rattle.std.specs.Prelude.{◌≡◌, ◌⊎◌, ℕ, List, All, IsTrue, ◌++◌, codes, flat_map, Result, Ok, Err}
+use Rattle.std.specs.Prelude.{◌≡◌, ◌⊎◌, ℕ, Bool, true, false, List, All, IsTrue, MatchBool, ◌++◌, codes, flat_map, Result, Ok, Err}
 use Rattle.std.specs.Io.KnownBytes.{Appends}
 use Rattle.tre_feed.specs.Front.{IsUnreadable}
 use Rattle.tre_feed.specs.Input.{InputTold, AllReadsGood, OfAllBytes, MayGoOn}
-use Rattle.tre_feed.specs.Outcome.{Outcome, IsInputKind, refuses, exceeds}
-use Rattle.tre_feed.specs.Readings.{common_of, readings_within}
+use Rattle.tre_feed.specs.Outcome.{Outcome, IsInputKind, refuses, exceeds, reading_within}
+use Rattle.tre_feed.specs.Readings.{ComesTo, common_of}
 use Rattle.tre_generate.specs.Summary.{IsSummary}
 use Rattle.tre_io.specs.Faults.{counted}
 use Rattle.tre_io.specs.Written.{AppendsPart}
@@ -13,7 +13,7 @@ use Rattle.tre_tell.specs.Outputs.{OutputTold, AllWritesGood, NothingWritten}
 use Rattle.tre_tell.specs.Standing.{AllStand, BlocksSoFarStand, FirstBlocksStand, BlockIsCut, IsOnlineAnswer, EndIsCut}
 use Rattle.tre_words.specs.declared.job.Mode.{Mode}
 use Rattle.tre_words.specs.declared.job.Mode.TheVariants.{Offline, Online, Show, Generate, Watch}
-use Rattle.tre_answer.specs.Readings.{readings_of, watched_of, InputComesTo}
+use Rattle.tre_answer.specs.Readings.{readings_of, watched_of}
 use Rattle.tre_answer.specs.Request.{Request}
 use Rattle.tre_answer.specs.Wanted.{IsOfflineAnswer, AreTooMany}
 use Rattle.tre_answer.specs.declared.fault.AnswerFault.{AnswerFault}
@@ -21,42 +21,32 @@ use Rattle.tre_answer.specs.declared.fault.AnswerFault.TheVariants.{Trace, TooLo
 
 -- The modes in which the input is read.
 abbrev pub ReadsInput : Mode → Type 0
-ReadsInput Offline = Unit {0}
-ReadsInput Online = Unit {0}
 ReadsInput Show = ⊥
 ReadsInput (Generate count) = ⊥
-ReadsInput (Watch file) = Unit {0}
+ReadsInput mode = Unit {0}
 
--- The whole text is written at once, or as the input comes.
-pub data Way : Type 0 where
-  at_once : Way
-  as_it_comes : Way
-
--- what is done in this mode
-abbrev pub way_of : Mode → Way
-way_of Online = as_it_comes
-way_of (Watch file) = as_it_comes
-way_of mode = at_once
+-- whether the text is written as the input comes, and not at once
+abbrev pub as_it_comes : Mode → Bool
+as_it_comes Online = true
+as_it_comes (Watch file) = true
+as_it_comes mode = false
 
 -- This is all that is written for a request in this mode, once all that is read was.
 abbrev pub IsAnswerIn : Mode → Request → InputTold → List ℕ → Type 0
 IsAnswerIn Offline request input text =
     OfAllBytes input (λ bytes. IsOfflineAnswer request bytes text)
-IsAnswerIn Online request input text =
-    OfAllBytes input (λ bytes. IsOnlineAnswer (watched_of request) bytes text)
 IsAnswerIn Show request input text = text ≡ flat_map
     (λ pattern. expression_text request.job.scale pattern.names pattern.tree ++ codes "\n")
     request.patterns
 IsAnswerIn (Generate count) request input text =
     All (λ pattern. IsSummary pattern.tree count text) request.patterns
-IsAnswerIn (Watch file) request input text =
+IsAnswerIn mode request input text =
     OfAllBytes input (λ bytes. IsOnlineAnswer (watched_of request) bytes text)
 
 -- What stands in the output where it stopped before the end of its text: nothing, or these blocks
 -- where it is written as the input comes.
-abbrev pub StandsSoFar : Way → OutputTold → Type 0 → Type 0
-StandsSoFar at_once output blocks = NothingWritten output
-StandsSoFar as_it_comes output blocks = blocks
+abbrev pub StandsSoFar : Mode → OutputTold → Type 0 → Type 0
+StandsSoFar mode output blocks = MatchBool (as_it_comes mode) blocks (NothingWritten output)
 
 -- A first part of a right answer was written, once all that is read was.
 pub record PartIsWritten (request : Request) (input : InputTold) (output : OutputTold) : Type 0
@@ -64,13 +54,6 @@ pub record PartIsWritten (request : Request) (input : InputTold) (output : Outpu
     pub text : List ℕ
     pub right : IsAnswerIn request.job.mode request input text
     pub written : AppendsPart output.written_before output.written_now text
-
--- What stands in the output where a write failed: a part of the whole text, of the block of a
--- segment, or of the end behind all blocks.
-abbrev pub IsCut : Way → Request → InputTold → OutputTold → Type 0
-IsCut at_once request input output = PartIsWritten request input output
-IsCut as_it_comes request input output =
-    BlockIsCut (watched_of request) input output ⊎ EndIsCut (watched_of request) input output
 
 -- The input was read to its end, and the right answer was written.
 pub record EndsDone (request : Request) (input : InputTold) (output : OutputTold) : Type 0 where
@@ -86,10 +69,10 @@ pub record EndsAtInput (outcome : Outcome) (request : Request) (input : InputTol
     (output : OutputTold) : Type 0 where
   pub reads_input : ReadsInput request.job.mode
   pub opened : IsTrue input.opened
-  pub cause : InputComesTo request input outcome
+  pub cause : ComesTo (readings_of request) request.job.max_bytes input.file input.left outcome
   pub reads : AllReadsGood input
-  pub stands : StandsSoFar (way_of request.job.mode) output (AllStand (watched_of request)
-      (readings_within (readings_of request) request.job.max_bytes cause.bytes) output)
+  pub stands : StandsSoFar request.job.mode output (AllStand (watched_of request)
+      (reading_within (readings_of request) request.job.max_bytes cause.bytes) output)
 
 -- The input was read to its end, its zones are so many, and more than there may be.
 pub record EndsTooMany (zones : ℕ) (request : Request) (input : InputTold) (output : OutputTold)
@@ -106,20 +89,23 @@ pub record EndsReadFault (request : Request) (input : InputTold) (output : Outpu
     pub reads_input : ReadsInput request.job.mode
     pub unread : IsUnreadable request.job.input input
     pub goes_on : MayGoOn (common_of (readings_of request)) request.job.max_bytes input
-    pub stands : StandsSoFar (way_of request.job.mode) output
+    pub stands : StandsSoFar request.job.mode output
         (BlocksSoFarStand (watched_of request) input output)
 
--- One failure to write was counted.
+-- One failure to write was counted. There stands a part of the whole text, or of the block of a
+-- segment, or of the end behind all blocks.
 pub record EndsWriteFault (request : Request) (input : InputTold) (output : OutputTold) : Type 0
   where
     pub cause : output.faults_now ≡ counted output.faults_before
     pub reads : AllReadsGood input
-    pub stands : IsCut (way_of request.job.mode) request input output
+    pub stands : MatchBool (as_it_comes request.job.mode)
+        (BlockIsCut (watched_of request) input output ⊎ EndIsCut (watched_of request) input output)
+        (PartIsWritten request input output)
 
 -- Where memory was wanting there stand the blocks of some first segments of those read, which may
 -- be all of them and are at least those that were complete when the last read began, and no end.
 abbrev pub StandsAtMemory : Request → InputTold → OutputTold → Type 0
-StandsAtMemory request input output = StandsSoFar (way_of request.job.mode) output
+StandsAtMemory request input output = StandsSoFar request.job.mode output
     (FirstBlocksStand (watched_of request) input output)
 
 -- The end of the answering of a request.

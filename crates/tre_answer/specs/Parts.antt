@@ -1,17 +1,18 @@
 -- What the parts of an answer promise each other.
-use Rattle.std.specs.Prelude.{◌≡◌, ℕ, ◌<◌, true, List, Option, Some, Err}
+use Rattle.std.specs.Prelude.{◌≡◌, ℕ, true, List, Err}
 use Rattle.tre_feed.specs.Input.{InputTold, AllReadsGood, AreAllBytes}
 use Rattle.tre_feed.specs.declared.fault.FeedFault.{FeedFault}
 use Rattle.tre_feed.specs.declared.fault.FeedFault.TheVariants.{Trace as FeedTrace, TooLong as FeedTooLong, Read as FeedRead, Memory as FeedMemory}
+use Rattle.tre_feed.specs.Readings.{common_of}
 use Rattle.tre_tell.specs.Outputs.{OutputTold, NothingWritten}
-use Rattle.tre_tell.specs.Watched.{reading_for, AreTraces}
+use Rattle.tre_tell.specs.Watched.{AreTraces}
 use Rattle.tre_tell.specs.declared.fault.TellFault.{TellFault}
 use Rattle.tre_tell.specs.declared.fault.TellFault.TheVariants.{Trace as TellTrace, TooLong as TellTooLong, Read as TellRead, Write as TellWrite, Memory as TellMemory}
 use Rattle.tre_trace.specs.Trace.{Timeline, end_of}
 use Rattle.tre_zone.specs.ZoneList.{HoldExactly}
 use Rattle.tre_zone.specs.declared.zone_bounds.ZoneBounds.{ZoneBounds}
 use Rattle.tre_answer.specs.Ends.{EndsOver, IsAnswerIn}
-use Rattle.tre_answer.specs.Readings.{watched_of}
+use Rattle.tre_answer.specs.Readings.{readings_of, watched_of}
 use Rattle.tre_answer.specs.Request.{Request}
 use Rattle.tre_answer.specs.Wanted.{IsWanted}
 use Rattle.tre_answer.specs.declared.fault.AnswerFault.{AnswerFault}
@@ -51,10 +52,4 @@ pub record IsFound (request : Request) (input : InputTold) (zones : List ZoneBou
   pub traces : List Timeline
   pub are : AreTraces (watched_of request) bytes traces
   pub exact : HoldExactly zones (IsWanted request.patterns traces)
-  pub ends : end ≡ end_of 0 (reading_for (watched_of request) true bytes).segments
-
--- So many zones are more than there may be.
-pub record AreOver (most : Option ℕ) (count : ℕ) : Type 0 where
-  pub limit : ℕ
-  pub limited : most ≡ Some limit
-  pub many : limit < count
+  pub ends : end ≡ end_of 0 (common_of (readings_of request) true bytes).segments

@@ -1,5 +1,6 @@
 -- The pairs that a request asks for, and the text that tells all of them at once.
-use Rattle.std.specs.Prelude.{◌≡◌, ℕ, ◌<◌, ◌≤◌, ◌⊎◌, Bool, true, false, List, ◌∷◌, length, Some, IfSome}
+use Rattle.std.specs.Prelude.{◌≡◌, ℕ, ◌<◌, ◌≤◌, ◌⊎◌, Bool, true, List, ◌∷◌, length, IfSome, IsSomeAnd}
+use Rattle.tre_feed.specs.Readings.{common_of}
 use Rattle.tre_pairs.specs.Pairs.{Pairs}
 use Rattle.tre_show.specs.Line.{offline_text}
 use Rattle.tre_show.specs.Order.{IsRising}
@@ -9,8 +10,8 @@ use Rattle.tre_trace.specs.Trace.{Timeline, end_of}
 use Rattle.tre_zone.specs.ZoneList.{IsApart, AreTight, HoldExactly}
 use Rattle.tre_zone.specs.declared.zone_bounds.ZoneBounds.{ZoneBounds}
 use Rattle.tre_tell.specs.Sought.{Sought}
-use Rattle.tre_tell.specs.Watched.{reading_for, AreTraces}
-use Rattle.tre_answer.specs.Readings.{watched_of}
+use Rattle.tre_tell.specs.Watched.{AreTraces}
+use Rattle.tre_answer.specs.Readings.{readings_of, watched_of}
 use Rattle.tre_answer.specs.Request.{Request}
 
 -- A match of one of the patterns, each over its own trace.
@@ -25,23 +26,15 @@ IsWanted (pattern ∷ others) (trace ∷ traces) a b n =
     Matches pattern.tree trace a b n × ¬ MatchesSome others traces a b n
 IsWanted patterns traces a b n = ⊥
 
--- None of the zones is included in another, each has the tightest bounds, and they are in the order
--- in which they are printed.
-pub record AreInOrder (zones : List ZoneBounds) : Type 0 where
+-- The zones hold just the pairs that are wanted. None of them is included in another, each has the
+-- tightest bounds, and they are in the order in which they are printed. Where the canonical ones
+-- are asked for, they are the strips of these pairs.
+pub record AreZonesOf (normal : Bool) (wanted : Pairs) (zones : List ZoneBounds) : Type 0 where
+  pub exact : HoldExactly zones wanted
   pub apart : IsApart zones
   pub tight : AreTight zones
   pub rising : IsRising zones
-
--- What more is said of zones that hold just the pairs that are wanted: where the canonical ones are
--- asked for, they are the strips of these pairs.
-abbrev pub AreAsAsked : Bool → Pairs → List ZoneBounds → Type 0
-AreAsAsked true wanted zones = AreStrips wanted zones
-AreAsAsked false wanted zones = AreInOrder zones
-
--- The zones are right for a job that asks for canonical ones or not.
-pub record AreZonesOf (normal : Bool) (wanted : Pairs) (zones : List ZoneBounds) : Type 0 where
-  pub exact : HoldExactly zones wanted
-  pub as_asked : AreAsAsked normal wanted zones
+  pub strips : normal ≡ true → AreStrips wanted zones
 
 -- The zones are right for an input of these bytes.
 pub record AreZonesFor (request : Request) (bytes : List ℕ) (zones : List ZoneBounds) : Type 0
@@ -57,7 +50,7 @@ pub record IsOfflineAnswer (request : Request) (bytes text : List ℕ) : Type 0 
   pub right : AreZonesFor request bytes zones
   pub few : IfSome request.job.max_zones (λ most. length zones ≤ most)
   pub printed : text ≡ offline_text request.job.scale zones
-      (end_of 0 (reading_for (watched_of request) true bytes).segments)
+      (end_of 0 (common_of (readings_of request) true bytes).segments)
 
 -- The canonical zones for an input of these bytes are so many, and more than there may be.
 pub record AreTooMany (request : Request) (bytes : List ℕ) (count : ℕ) : Type 0 where
@@ -65,6 +58,4 @@ pub record AreTooMany (request : Request) (bytes : List ℕ) (count : ℕ) : Typ
   pub zones : List ZoneBounds
   pub right : AreZonesFor request bytes zones
   pub counted : length zones ≡ count
-  pub most : ℕ
-  pub limited : request.job.max_zones ≡ Some most
-  pub many : most < count
+  pub many : IsSomeAnd request.job.max_zones (λ most. most < count)

@@ -1,6 +1,6 @@
 // The matches over a whole input, told at once.
-ghost use Rattle.std.specs.Prelude.{◌≡◌, ◌≤◌, ◌<◌, ◌+◌, ℕ, All, List, [], false, get_or, IsTrue, IfOk, IfErr, IfSome, OnOk, length, string_bytes};
-ghost use Rattle.tre_answer.specs.Parts.{IsFoundFor, AreOver, StopsAs};
+ghost use Rattle.std.specs.Prelude.{◌≡◌, ◌≤◌, ◌<◌, ◌+◌, ℕ, All, List, [], false, get_or, IsTrue, IfOk, IfErr, IfSome, IsSomeAnd, OnOk, length, string_bytes};
+ghost use Rattle.tre_answer.specs.Parts.{IsFoundFor, StopsAs};
 ghost use Rattle.tre_answer.specs.Readings.{readings_of};
 ghost use Rattle.tre_answer.specs.Request.{FitsJob, request_for};
 ghost use Rattle.tre_answer.specs.Wanted.{AreZonesOf, IsWanted, MatchesSome};
@@ -102,7 +102,7 @@ fn check_count(zones: &[Zone], most: Option<u64>) -> Result<(), AnswerFault>
     ensures few { OnOk result (IfSome most (λ most. length zones.now ≤ most)) }
     ensures fault { IfErr result (λ fault.
         fault ≡ AnswerFault.TooManyZones (length zones.now)) }
-    ensures over { IfErr result (λ _. AreOver most (length zones.now)) }
+    ensures over { IfErr result (λ _. IsSomeAnd most (λ most. most < length zones.now)) }
 {
     match most {
         None => Ok(()),

@@ -8,8 +8,8 @@ use Rattle.tre_trace.specs.Reading.{Reading, Grows}
 use Rattle.tre_trace.specs.declared.segment.Segment.{Segment}
 use Rattle.tre_trace.specs.declared.fault.TraceFault.{TraceFault}
 use Rattle.tre_feed.specs.Feeding.{TellsAll}
-use Rattle.tre_feed.specs.Outcome.{refuses, exceeds, outcome_of, outcome_of_reading}
-use Rattle.tre_feed.specs.Readings.{AddsEach, common, common_of, readings_within, rows_in}
+use Rattle.tre_feed.specs.Outcome.{refuses, exceeds, outcome_of, outcome_of_reading, reading_within}
+use Rattle.tre_feed.specs.Readings.{AddsEach, common, common_of, rows_in}
 use Rattle.tre_feed.proofs.Changed.{All-first, All-rest}
 use Rattle.tre_feed.proofs.Cuts.{take-over, take_split}
 
@@ -56,7 +56,7 @@ too_long reading e = rw e refl
 outcome_within : (readings : Bool → List ℕ → List Reading) (limit : ℕ) (bytes : List ℕ)
     → outcome_of (common_of readings) limit bytes
     ≡ outcome_of_reading (nat_le (length bytes) limit)
-    (common (readings_within readings limit bytes))
+    (common (reading_within readings limit bytes))
 unfolding outcome_of
 outcome_within readings limit bytes = refl
 
@@ -71,7 +71,7 @@ IfSome-front (Some whole) (Some rest) taken P front all = subst P (sym front) (a
 fault_within : (readings : Bool → List ℕ → List Reading) → AllGrow readings
     → (limit : ℕ) (taken rest : List ℕ) (fault : TraceFault)
     → All (HaveFault (Some fault)) (readings false (take limit taken))
-    → readings_within readings limit (taken ++ rest) ≡ readings false (take limit taken)
+    → reading_within readings limit (taken ++ rest) ≡ readings false (take limit taken)
 fault_within readings grows limit taken rest fault told =
     let grown = grows (nat_le (length (taken ++ rest)) limit) (take limit taken)
     (take (limit - length taken) rest) in
@@ -80,7 +80,7 @@ fault_within readings grows limit taken rest fault told =
 -- so do more bytes than the limit
 exceed_within : (readings : Bool → List ℕ → List Reading) (limit : ℕ) (taken rest : List ℕ)
     → limit < length taken
-    → readings_within readings limit (taken ++ rest) ≡ readings false (take limit taken)
+    → reading_within readings limit (taken ++ rest) ≡ readings false (take limit taken)
 exceed_within readings limit taken rest over =
     let longer : limit < length (taken ++ rest) = omega (arith, over, length-append taken rest) in
     let inside : limit ≤ length taken = omega (arith, over) in
@@ -91,20 +91,20 @@ exceed_within readings limit taken rest over =
 
 -- of the bytes that were read themselves
 here : (readings : Bool → List ℕ → List Reading) (limit : ℕ) (taken : List ℕ)
-    (others : List Reading) → readings_within readings limit (taken ++ []) ≡ others
-    → readings_within readings limit taken ≡ others
+    (others : List Reading) → reading_within readings limit (taken ++ []) ≡ others
+    → reading_within readings limit taken ≡ others
 here readings limit taken others same =
-    subst (λ bytes. readings_within readings limit bytes ≡ others) (append-nil taken) same
+    subst (λ bytes. reading_within readings limit bytes ≡ others) (append-nil taken) same
 
 -- all bytes, closed
 closed_within : (readings : Bool → List ℕ → List Reading) (limit : ℕ) (bytes : List ℕ)
-    → length bytes ≤ limit → readings_within readings limit bytes ≡ readings true bytes
+    → length bytes ≤ limit → reading_within readings limit bytes ≡ readings true bytes
 closed_within readings limit bytes inside =
     rw (within (length bytes) limit inside, take-over limit bytes inside) refl
 
 -- a fault that they have in common is what they come to
 refuses_here : (readings : Bool → List ℕ → List Reading) (limit : ℕ) (bytes : List ℕ)
-    (nows : List Reading) (fault : TraceFault) → readings_within readings limit bytes ≡ nows
+    (nows : List Reading) (fault : TraceFault) → reading_within readings limit bytes ≡ nows
     → (common nows).fault ≡ Some fault
     → outcome_of (common_of readings) limit bytes ≡ refuses fault
 refuses_here readings limit bytes nows fault same told = outcome_within readings limit bytes
@@ -114,7 +114,7 @@ refuses_here readings limit bytes nows fault same told = outcome_within readings
 
 -- no fault, and more bytes than the limit
 exceeds_here : (readings : Bool → List ℕ → List Reading) (limit : ℕ) (bytes : List ℕ)
-    (nows : List Reading) → readings_within readings limit bytes ≡ nows
+    (nows : List Reading) → reading_within readings limit bytes ≡ nows
     → (common nows).fault ≡ None → limit < length bytes
     → outcome_of (common_of readings) limit bytes ≡ exceeds
 exceeds_here readings limit bytes nows same none over = outcome_within readings limit bytes
@@ -132,7 +132,7 @@ pub TellsAll-fault : (readings : Bool → List ℕ → List Reading) → AllGrow
     → (common (readings false (take limit taken))).fault ≡ Some fault
     → TellsAll readings limit file left bytes old new (refuses fault)
 TellsAll-fault readings grows limit file left bytes taken old new fault front all have told =
-    let alike : readings_within readings limit taken ≡ readings false (take limit taken) =
+    let alike : reading_within readings limit taken ≡ readings false (take limit taken) =
     here readings limit taken _ (fault_within readings grows limit taken [] fault have) in
     record {
       cause = record {
@@ -155,7 +155,7 @@ pub TellsAll-exceeds : (readings : Bool → List ℕ → List Reading) (limit : 
     → AddsEach rows rows (readings false (take limit bytes)) (readings false (take limit bytes))
     → TellsAll readings limit file left bytes rows rows exceeds
 TellsAll-exceeds readings limit file left bytes rows front over none all =
-    let alike : readings_within readings limit bytes ≡ readings false (take limit bytes) =
+    let alike : reading_within readings limit bytes ≡ readings false (take limit bytes) =
     here readings limit bytes _ (exceed_within readings limit bytes [] over) in
     record {
       cause = record {

@@ -5,8 +5,8 @@ use Rattle.std.specs.Prelude.{◌≡◌, ℕ, ◌+◌, ◌≤◌, Bool, true, fa
 use Rattle.std.specs.Io.KnownBytes.{Consumes, IsAtEnd}
 use Rattle.tre_trace.specs.Reading.{Reading}
 use Rattle.tre_trace.specs.declared.segment.Segment.{Segment}
-use Rattle.tre_feed.specs.Outcome.{Outcome, IsInputKind, refuses, exceeds}
-use Rattle.tre_feed.specs.Readings.{AddsEach, AreLevel, ComesTo, readings_within}
+use Rattle.tre_feed.specs.Outcome.{Outcome, IsInputKind, refuses, exceeds, reading_within}
+use Rattle.tre_feed.specs.Readings.{AddsEach, AreLevel, ComesTo}
 use Rattle.tre_feed.specs.declared.TheConstants.{PIECE}
 use Rattle.tre_feed.specs.declared.fault.FeedFault.{FeedFault}
 use Rattle.tre_feed.specs.declared.fault.FeedFault.TheVariants.{Trace, TooLong, Read, Memory}
@@ -81,7 +81,7 @@ pub record TellsAll (readings : Bool → List ℕ → List Reading) (limit : ℕ
     (outcome : Outcome) : Type 0 where
   pub cause : ComesTo readings limit file left outcome
   pub all : AddsEach old new
-      (readings false (take limit bytes)) (readings_within readings limit cause.bytes)
+      (readings false (take limit bytes)) (reading_within readings limit cause.bytes)
 
 -- A turn of which the read failed: the bytes before it are within the limit.
 pub record HasFailed (limit : ℕ) (file left : Option (List ℕ)) (bytes : List ℕ)

@@ -35,9 +35,9 @@ abbrev pub outcome_of_reading : Bool → Reading → Outcome
 outcome_of_reading closed reading =
     outcome_from closed (timeline_of reading.segments reading.last) reading.fault
 
--- What the bytes of an input say that may have `limit` of them. Bytes past the limit are not
--- judged, and the input is closed only where there are none past it.
-abbrev pub reading_within : (Bool → List ℕ → Reading) → ℕ → List ℕ → Reading
+-- What the bytes of an input say that may have `limit` of them, to one reader or to several. Bytes
+-- past the limit are not judged, and the input is closed only where there are none past it.
+abbrev pub reading_within : {Said : Type 0} → (Bool → List ℕ → Said) → ℕ → List ℕ → Said
 reading_within reading limit bytes =
     reading (nat_le (length bytes) limit) (take limit bytes)
 

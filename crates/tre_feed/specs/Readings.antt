@@ -1,10 +1,10 @@
 -- What the bytes of an input say for each of several readers.
-use Rattle.std.specs.Prelude.{◌≡◌, ℕ, nat_le, Bool, List, [], ◌∷◌, length, take, map, All, Option, None, IfSome}
+use Rattle.std.specs.Prelude.{◌≡◌, ℕ, Bool, List, [], ◌∷◌, length, map, All, Option, None, IfSome}
 use Rattle.std.specs.Io.KnownBytes.{Consumes}
 use Rattle.tre_parts.specs.Alike.{AreAlike}
 use Rattle.tre_trace.specs.Reading.{Reading, Adds}
 use Rattle.tre_trace.specs.declared.segment.Segment.{Segment}
-use Rattle.tre_feed.specs.Outcome.{Outcome, outcome_of}
+use Rattle.tre_feed.specs.Outcome.{Outcome, reading_within, outcome_of}
 
 -- The readings of the bytes, closed or not yet: one for each of these terms.
 abbrev pub readings_by : {Terms : Type 0} → (Terms → Bool → List ℕ → Reading) → List Terms → Bool →
@@ -32,12 +32,6 @@ rows_in readings = map (λ reading. reading.segments) readings
 abbrev pub common_of : (Bool → List ℕ → List Reading) → Bool → List ℕ → Reading
 common_of readings closed bytes = common (readings closed bytes)
 
--- The readings of an input that has these bytes, of which it may have `limit`. Bytes past the limit
--- are not judged, and the input is closed only where there are none past it.
-abbrev pub readings_within : (Bool → List ℕ → List Reading) → ℕ → List ℕ → List Reading
-readings_within readings limit bytes =
-    readings (nat_le (length bytes) limit) (take limit bytes)
-
 -- Behind the old segments of each reader stand just those that its reading has beyond the earlier.
 pub data AddsEach : List (List Segment) → List (List Segment) → List Reading → List Reading →
     Type 0 where
@@ -64,5 +58,5 @@ pub record ComesTo (readings : Bool → List ℕ → List Reading) (limit : ℕ)
   pub front : Consumes file left bytes
   pub comes : outcome_of (common_of readings) limit bytes ≡ outcome
   pub whole : IfSome file (λ all. outcome_of (common_of readings) limit all ≡ outcome)
-  pub same : IfSome file (λ all. rows_in (readings_within readings limit all)
-      ≡ rows_in (readings_within readings limit bytes))
+  pub same : IfSome file (λ all. rows_in (reading_within readings limit all)
+      ≡ rows_in (reading_within readings limit bytes))

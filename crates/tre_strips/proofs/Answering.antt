@@ -10,11 +10,12 @@ use Rattle.tre_zone.proofs.TightBounds.{canonical_from_tight}
 use Rattle.tre_zone.proofs.Tightness.{canonical-tight}
 use Rattle.tre_strips.specs.Profile.{Fits}
 use Rattle.tre_strips.specs.Runs.{IsRun, IsInStrip}
-use Rattle.tre_strips.specs.Strips.{IsStripZone, of_run, of_time, AreStrips, compare_lines}
+use Rattle.tre_strips.specs.Listed.{AreListed, compare_lines}
+use Rattle.tre_strips.specs.Strips.{IsStripZone, of_run, of_time, AreStrips}
 use Rattle.tre_strips.specs.Spun.{HaveSamePairs, AreFound}
 use Rattle.tre_strips.specs.declared.bar.Bar.{Bar}
 use Rattle.tre_strips.proofs.Apart.{strip_some, strips_apart}
-use Rattle.tre_strips.proofs.Listing.{rising_again, apart_again, same_members_held, same_sorted, strictly_again}
+use Rattle.tre_strips.proofs.Listing.{rising_again, apart_again, tight_again, same_members_held, same_listed}
 use Rattle.tre_strips.proofs.Spinning.{set_framed}
 use Rattle.tre_strips.proofs.Whole.{IsProfile-pairs, strip_held}
 
@@ -26,31 +27,38 @@ strip_canonical set canonical zone strip tight =
     (λ a b n some le h.
     set_framed set canonical a b n some (strip_held set canonical zone strip a b n some le h))
 
-pub AreStrips-found : (set : List ZoneBounds) → AreCanonical set → (found zones : List ZoneBounds)
-    → AreFound set found → IsStrictlySortedBy compare_lines zones
-    → ((zone : ZoneBounds) → Contains zones zone ↔ Contains found zone)
-    → AreStrips (SetHolds set) zones
-AreStrips-found set canonical found zones are order same =
-    let strip : (zone : ZoneBounds) → Contains zones zone
-    → IsCanonical zone × IsStripZone (SetHolds set) zone =
-    λ zone has. (are.exact zone).0 ((same zone).0 has) in
-    record {
-      rising = rising_again zones order;
-      apart = apart_again zones order (λ one other has has' differs.
-          let is = strip one has in
-          let is' = strip other has' in
-          record {
-            left = λ includes. differs
-                (strips_apart set canonical one other is.0 is'.0 is.1 is'.1 includes);
-            right = λ includes. differs
-                (sym (strips_apart set canonical other one is'.0 is.0 is'.1 is.1 includes));
-          });
-      exact = λ zone. (
-        (λ has. let is = strip zone has in (canonical-tight zone is.0, is.1)),
-        (λ is. (same zone).1 ((are.exact zone).1
-            (strip_canonical set canonical zone is.1 is.0, is.1))),
-      );
-    }
+module _ (set : List ZoneBounds) (canonical : AreCanonical set) (found zones : List ZoneBounds)
+    (are : AreFound set found)
+    (same : (zone : ZoneBounds) → Contains zones zone ↔ Contains found zone) where
+  strip : (zone : ZoneBounds) → Contains zones zone
+      → IsCanonical zone × IsStripZone (SetHolds set) zone
+  strip zone has = (are.exact zone).0 ((same zone).0 has)
+
+  pub AreStrips-found : AreStrips (SetHolds set) zones
+  AreStrips-found = record {
+    exact = λ zone. (
+      (λ has. let is = strip zone has in (canonical-tight zone is.0, is.1)),
+      (λ is. (same zone).1 ((are.exact zone).1
+          (strip_canonical set canonical zone is.1 is.0, is.1))),
+    );
+  }
+
+  pub AreListed-found : IsStrictlySortedBy compare_lines zones → AreListed zones
+  AreListed-found order = record {
+    rising = rising_again zones order;
+    apart = apart_again zones order (λ one other has has' differs.
+        let is = strip one has in
+        let is' = strip other has' in
+        record {
+          left = λ includes. differs
+              (strips_apart set canonical one other is.0 is'.0 is.1 is'.1 includes);
+          right = λ includes. differs
+              (sym (strips_apart set canonical other one is'.0 is.0 is'.1 is.1 includes));
+        });
+    tight = tight_again zones (λ zone has.
+        let is = strip zone has in
+        (strip_some set canonical zone is.1, canonical-tight zone is.0));
+  }
 
 pub HoldExactly-found : (set found zones : List ZoneBounds) → AreFound set found
     → ((zone : ZoneBounds) → Contains zones zone ↔ Contains found zone)
@@ -119,14 +127,13 @@ module _ (M N : Pairs) (same : (a b n : ℕ) → 0 < n → M a b n ↔ N a b n)
       }) (IsProfile-pairs M N same bars time time own) has is
 
 same_strips : (one other : List ZoneBounds) → HaveSamePairs one other
-    → (zones zones' : List ZoneBounds) → AreStrips (SetHolds one) zones
-    → AreStrips (SetHolds other) zones' → zones ≡ zones'
-same_strips one other same zones zones' are are' =
+    → (zones zones' : List ZoneBounds) → AreListed zones → AreListed zones'
+    → AreStrips (SetHolds one) zones → AreStrips (SetHolds other) zones' → zones ≡ zones'
+same_strips one other same zones zones' listed listed' are are' =
     let there : (a b n : ℕ) → 0 < n → SetHolds one a b n ↔ SetHolds other a b n = same.same in
     let back : (a b n : ℕ) → 0 < n → SetHolds other a b n ↔ SetHolds one a b n =
     λ a b n some. ((same.same a b n some).1, (same.same a b n some).0) in
-    same_sorted zones zones' (strictly_again zones are.rising are.apart)
-    (strictly_again zones' are'.rising are'.apart) (λ zone. (
+    same_listed zones zones' listed listed' (λ zone. (
       (λ has. let is = (are.exact zone).0 has in
           (are'.exact zone).1 (
             is.0,
@@ -143,6 +150,7 @@ same_strips one other same zones zones' are are' =
 
 pub one_list : (set other : List ZoneBounds) → AreCanonical set → AreCanonical other
     → HoldExactly set (SetHolds other) → (zones others : List ZoneBounds)
+    → AreListed zones → AreListed others
     → AreStrips (SetHolds set) zones → AreStrips (SetHolds other) others → zones ≡ others
 one_list set other canonical canonical' held zones others =
     same_strips set other (record {

@@ -17,12 +17,12 @@ use Rattle.std.proofs.lemmas.List.Elements.{All-from_recursion, All-get_or, All-
 use Rattle.std.proofs.lemmas.List.Kept.{IsStrictlySortedBy-dedup, Contains-dedup, Contains-from_dedup}
 use Rattle.std.proofs.lemmas.List.Sorted.{Contains-permutation, IsPermutation-sym, ranks_by, sorted_far}
 use Rattle.std.proofs.lemmas.Slice.Eq.{slice_eq-Decides}
-use Rattle.tre_zone.specs.Zone.{Includes}
-use Rattle.tre_zone.specs.ZoneList.{SetHolds, IsApart, IsApartFrom, AreApart}
+use Rattle.tre_zone.specs.Zone.{Includes, HoldsSome, IsTight}
+use Rattle.tre_zone.specs.ZoneList.{SetHolds, IsApart, IsApartFrom, AreApart, AreTight}
 use Rattle.tre_zone.specs.declared.zone_bounds.ZoneBounds.{ZoneBounds}
 use Rattle.tre_zone.proofs.ZoneKeys.{zones_same}
 use Rattle.tre_zoneset.proofs.Members.{SetHolds-any}
-use Rattle.tre_strips.specs.Strips.{line_key, compare_lines}
+use Rattle.tre_strips.specs.Listed.{line_key, compare_lines, AreListed}
 
 abbrev pub compare : ZoneBounds → ZoneBounds → Ordering
 compare = compare_lines
@@ -204,6 +204,16 @@ apart_again (zone ∷ zones) sorted apart = (
       (suc has'.0, omega (arith, has'.1), has'.2)),
 )
 
+-- The list is tight, where each of it is.
+pub tight_again : (zones : List ZoneBounds)
+    → ((zone : ZoneBounds) → Contains zones zone → HoldsSome zone × IsTight zone) → AreTight zones
+unfolding AreTight
+tight_again [] each = tt
+tight_again (zone ∷ zones) each = (
+  each zone (0, omega arith, refl),
+  tight_again zones (λ other has. each other (suc has.0, omega (arith, has.1), has.2)),
+)
+
 -- ---- one list of the same members
 
 cons_cases : (zone : ZoneBounds) (zones : List ZoneBounds) (other : ZoneBounds)
@@ -222,7 +232,7 @@ both_less : (zone other : ZoneBounds) → compare zone other ≡ Less → compar
 both_less zone other less more =
     true≢false (sym (ap is_lt more) ∙ turned zone other less)
 
-pub same_sorted : (one other : List ZoneBounds) → IsStrictlySortedBy compare one
+same_sorted : (one other : List ZoneBounds) → IsStrictlySortedBy compare one
     → IsStrictlySortedBy compare other
     → ((zone : ZoneBounds) → Contains one zone ↔ Contains other zone) → one ≡ other
 unfolding IsStrictlySortedBy
@@ -289,9 +299,16 @@ strictly_rest (zone ∷ zones) far apart = (
       apart.1,
 )
 
-pub strictly_again : (zones : List ZoneBounds)
+strictly_again : (zones : List ZoneBounds)
     → IsSortedByKey line_key (slice_cmp int_cmp) zones → IsApart zones
     → IsStrictlySortedBy compare zones
 strictly_again zones rising apart =
     strictly_rest zones (λ i j d less below.
     sorted_far _ (ranks_by compare_total (λ a. a)) zones rising i j d (omega arith) below) apart
+
+-- Lists of the same zones are one list.
+pub same_listed : (zones others : List ZoneBounds) → AreListed zones → AreListed others
+    → ((zone : ZoneBounds) → Contains zones zone ↔ Contains others zone) → zones ≡ others
+same_listed zones others listed listed' =
+    same_sorted zones others (strictly_again zones listed.rising listed.apart)
+    (strictly_again others listed'.rising listed'.apart)

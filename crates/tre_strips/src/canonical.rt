@@ -5,7 +5,8 @@ ghost use Rattle.std.specs.declared.cmp.Ordering.TheVariants.{Less};
 ghost use Rattle.tre_zone.specs.Bound.{IsKeyWithin};
 ghost use Rattle.tre_zone.specs.ZoneList.{SetHolds, AreCanonical, HoldExactly};
 ghost use Rattle.tre_zone.specs.declared.zone_bounds.ZoneBounds.{ZoneBounds};
-ghost use Rattle.tre_strips.specs.Strips.{line_key, compare_lines, AreStrips};
+ghost use Rattle.tre_strips.specs.Listed.{line_key, compare_lines, AreListed};
+ghost use Rattle.tre_strips.specs.Strips.{AreStrips};
 ghost use Rattle.tre_strips.specs.Spun.{HaveSamePairs, AreFound};
 ghost use Rattle.tre_strips.specs.Sweep.{begin_of, AreInTurn};
 
@@ -23,6 +24,7 @@ use tre_zoneset::ZoneSet;
 /// is the same for every set that holds the same pairs.
 pub fn strips(alloc: Global, set: &ZoneSet) -> Result<Vec<Zone>, AllocError>
     ensures strips { IfOk result (λ zones. AreStrips (SetHolds set.now) zones.items) }
+    ensures listed { IfOk result (λ zones. AreListed zones.items) }
     ensures held { IfOk result (λ zones. HoldExactly zones.items (SetHolds set.now)) }
 {
     let fewer = trimmed(alloc, set.zones())?;

@@ -1,10 +1,11 @@
 -- A transcript with one block more, and what closes one.
-use Rattle.std.proofs.Common.{◌≡◌, ◌∙◌, ◌⊎◌, ◌≢◌, ℕ, zero, suc, ◌<◌, ◌≤◌, List, Contains, [], ◌∷◌, ◌++◌, length, take, get_or, refl, sym, ap, inl, inr, ⊎_elim, arith, length-append, append-nil}
+use Rattle.std.proofs.Common.{◌≡◌, ◌∙◌, ◌⊎◌, ◌≢◌, ℕ, zero, suc, ◌*◌, ◌<◌, ◌≤◌, List, Contains, [], ◌∷◌, ◌++◌, length, take, get_or, refl, sym, ap, inl, inr, ⊎_elim, arith, length-append, append-nil}
 use Rattle.std.specs.List.{Any}
 use Rattle.std.specs.List.Sorted.{IsPermutation}
 use Rattle.std.proofs.Math.Seq.{get_or-append_seam, take-append_seam}
 use Rattle.std.proofs.lemmas.List.{take-append-le, take_all, get_or_append_left}
 use Rattle.std.proofs.lemmas.List.Concat.{flat_map-append}
+use Rattle.std.proofs.lemmas.List.Elements.{All-contains_itself}
 use Rattle.std.proofs.lemmas.List.Sorted.{IsPermutation-sym, length_permutation, Contains-permutation}
 use Rattle.tre_online.specs.Told.{WasTold}
 use Rattle.tre_online.specs.Session.{TellsNew, TellsLast}
@@ -15,11 +16,11 @@ use Rattle.tre_syntax.proofs.CutMeaning.{IsBounded-rest}
 use Rattle.tre_trace.specs.Trace.{timeline_of, quiet, end_of}
 use Rattle.tre_trace.specs.declared.segment.Segment.{Segment}
 use Rattle.tre_zone.specs.Zone.{Includes}
-use Rattle.tre_zone.specs.ZoneList.{HoldExactly}
+use Rattle.tre_zone.specs.ZoneList.{SetHolds, HoldExactly}
 use Rattle.tre_zone.specs.declared.zone_bounds.ZoneBounds.{ZoneBounds}
 use Rattle.tre_zone.proofs.ZoneListLemmas.{SetHolds-append}
 use Rattle.tre_tell.specs.Printed.{IsPrinted}
-use Rattle.tre_tell.specs.Transcript.{zones_of, block_before, EndBetween, NoneIsIn, IsBlock, IsTranscript, IsClosing}
+use Rattle.tre_tell.specs.Transcript.{zones_of, block_before, AreTold, IsBlock, IsTranscript, IsClosing}
 
 zones_of-more : (blocks : List (List ZoneBounds)) (zones : List ZoneBounds)
     → zones_of (blocks ++ zones ∷ []) ≡ zones_of blocks ++ zones
@@ -50,11 +51,7 @@ IsBlock-append blocks more tree trace rest i count below block =
     block_before-append i blocks more (omega (arith, count, below)) in
     record {
       so_far = rw (blocks_front, front) block.so_far;
-      apart = rw here block.apart;
-      tight = rw here block.tight;
-      rising = rw here block.rising;
-      within = rw (front_before, front, here) block.within;
-      new = rw (before, here) block.new;
+      told = rw (before, front_before, front, here) block.told;
     }
 
 -- a transcript tells exactly the matches over its trace, where that has a segment
@@ -96,37 +93,34 @@ exact_with blocks tree (first ∷ rest) segment earlier told zones transcript te
       );
 }
 
--- what was told ends within its segment
-ends_within : (tree : PatternTree) (trace : List Segment) (segment : Segment)
-    (earlier told zones : List ZoneBounds) → TellsNew tree trace segment earlier told
-    → IsPrinted told zones
-    → EndBetween (end_of 0 trace) (end_of 0 (trace ++ segment ∷ [])) zones
-ends_within tree trace segment earlier told zones tells printed = record {
-  ends = λ a b n positive rising held.
-      let was_told = (printed.held a b n).0 held in (
-        tells.late a b n positive rising was_told,
-        (IsBounded-rest tree (whole (quiet (trace ++ segment ∷ [])))).end a b n
-            ((tells.all a b n positive rising).0 (inl was_told)),
-      );
-}
-
 any_in : (P : ZoneBounds → Type 0) (zones others : List ZoneBounds) → IsPermutation zones others
     → Any P zones → Any P others
 any_in P zones others order any =
     let place = Contains-permutation zones others any.1 order (any.0, any.2, any.3) in
     (place.0, any.1, place.1, place.2, any.4)
 
--- no zone of the block is in one that was told before
-none_again : (earlier told zones block : List ZoneBounds)
+-- what is printed of what was told, where that ends between two times, and no zone of it is in one
+-- that was told before
+AreTold-printed : (earlier told zones block : List ZoneBounds) (from to : ℕ)
     → ((zone : ZoneBounds) → Contains told zone → WasTold earlier zone → ⊥)
-    → IsPrinted told zones → IsPermutation earlier block → NoneIsIn block zones
-none_again earlier told zones block new printed order = λ zone member any.
-    new zone
-    (Contains-permutation zones told zone (IsPermutation-sym told zones printed.same) member)
-    (record {
-      included = any_in (λ other. Includes other zone) block earlier
-          (IsPermutation-sym earlier block order) any;
-    })
+    → ((a b n : ℕ) → 0 < n → a ≤ b → SetHolds told a b n → (from * n ≤ b) × (b ≤ to * n))
+    → IsPrinted told zones → IsPermutation earlier block → AreTold block from to zones
+AreTold-printed earlier told zones block from to new within printed order = record {
+  apart = printed.apart;
+  tight = printed.tight;
+  rising = printed.rising;
+  within = λ a b n positive rising held.
+      within a b n positive rising ((printed.held a b n).0 held);
+  new = λ k d below any.
+      let zone = get_or zones k d in
+      new zone
+      (Contains-permutation zones told zone (IsPermutation-sym told zones printed.same)
+      (All-contains_itself zones k d below))
+      (record {
+        included = any_in (λ other. Includes other zone) block earlier
+            (IsPermutation-sym earlier block order) any;
+      });
+}
 
 -- the block of the segment behind the trace
 IsBlock-last : (blocks : List (List ZoneBounds)) (tree : PatternTree) (trace : List Segment)
@@ -152,13 +146,12 @@ IsBlock-last blocks tree trace segment earlier told zones transcript tells print
     record {
       so_far = rw (all_blocks, all)
           (exact_with blocks tree trace segment earlier told zones transcript tells printed);
-      apart = rw here printed.apart;
-      tight = rw here printed.tight;
-      rising = rw here printed.rising;
-      within = rw (front, all, here)
-          (ends_within tree trace segment earlier told zones tells printed);
-      new = rw (before, here)
-          (none_again earlier told zones _ tells.new printed order);
+      told = rw (before, front, all, here) (AreTold-printed earlier told zones _ (end_of 0 trace)
+          (end_of 0 (trace ++ segment ∷ [])) tells.new (λ a b n positive rising was_told. (
+            tells.late a b n positive rising was_told,
+            (IsBounded-rest tree (whole (quiet (trace ++ segment ∷ [])))).end a b n
+                ((tells.all a b n positive rising).0 (inl was_told)),
+          )) printed order);
     }
 
 last_or_before : (i count : ℕ) → i < suc count → (i < count) ⊎ (i ≡ count)
@@ -243,13 +236,8 @@ IsClosing-told blocks tree segments events earlier told zones transcript tells p
       none = λ silent. none_of told zones printed.same (tells.none silent);
       all = λ happens. all_with blocks tree segments events earlier told zones happens transcript
           tells printed;
-      apart = printed.apart;
-      tight = printed.tight;
-      rising = printed.rising;
-      at_end = record {
-        ends = λ a b n positive rising held.
-            let there = tells.ends a b n positive rising ((printed.held a b n).0 held) in
-            (omega (arith, there), omega (arith, there));
-      };
-      new = none_again earlier told zones _ tells.new printed order;
+      told = AreTold-printed earlier told zones _ (end_of 0 segments) (end_of 0 segments) tells.new
+          (λ a b n positive rising was_told.
+          let there = tells.ends a b n positive rising was_told in
+          (omega (arith, there), omega (arith, there))) printed order;
     }

@@ -2,8 +2,8 @@
 use Rattle.std.specs.Prelude.{◌≡◌, ◌≢◌, ◌⊎◌, ℕ, List, Some, IsTrue, Result, Ok, Err}
 use Rattle.std.specs.Io.KnownBytes.{Appends}
 use Rattle.tre_feed.specs.Input.{InputTold, AllReadsGood, OfAllBytes, MayGoOn}
-use Rattle.tre_feed.specs.Outcome.{Outcome, IsInputKind, refuses, exceeds}
-use Rattle.tre_feed.specs.Readings.{ComesTo, common_of, readings_within}
+use Rattle.tre_feed.specs.Outcome.{Outcome, IsInputKind, refuses, exceeds, reading_within}
+use Rattle.tre_feed.specs.Readings.{ComesTo, common_of}
 use Rattle.tre_io.specs.Faults.{counted}
 use Rattle.tre_tell.specs.Outputs.{OutputTold, AllWritesGood}
 use Rattle.tre_tell.specs.Standing.{AllStand, BlocksSoFarStand, FirstBlocksStand, BlockIsCut, IsOnlineAnswer, EndIsCut}
@@ -25,7 +25,7 @@ pub record IsToldToFault (watched : Watched) (input : InputTold) (output : Outpu
   pub opened : IsTrue input.opened
   pub cause : ComesTo watched.readings watched.limit input.file input.left outcome
   pub reads : AllReadsGood input
-  pub stands : AllStand watched (readings_within watched.readings watched.limit cause.bytes) output
+  pub stands : AllStand watched (reading_within watched.readings watched.limit cause.bytes) output
 
 -- The input of this name couldn't be opened, or a read failed where it might go on: one failure was
 -- counted, and a source that is sound under the name has none. All that was complete was told.

@@ -5,9 +5,9 @@ use Rattle.tre_trace.specs.Reading.{Reading}
 use Rattle.tre_trace.specs.Trace.{Timeline}
 use Rattle.tre_tell.specs.Blocks.{Account, AreAccounts, AreClosed, blocks_text, ending_text}
 use Rattle.tre_feed.specs.Input.{InputTold, WereRead, OfAllBytes, HasLastPiece}
-use Rattle.tre_feed.specs.Readings.{common}
+use Rattle.tre_feed.specs.Readings.{common, common_of}
 use Rattle.tre_tell.specs.Outputs.{OutputTold, AllWritesGood, IsCutBehind}
-use Rattle.tre_tell.specs.Watched.{Watched, reading_for, fronts, AreTraces}
+use Rattle.tre_tell.specs.Watched.{Watched, fronts, AreTraces}
 
 -- The blocks of the first segments of the readings were written, as many as `count`, and nothing
 -- else.
@@ -44,7 +44,7 @@ pub record IsPrompt (watched : Watched) (input : InputTold) (readings : List Rea
   pub within : closed ≡ true → length bytes ≤ watched.limit
   pub known : readings ≡ watched.readings closed (take watched.limit bytes)
   pub last : HasLastPiece input bytes
-  pub prompt : length (reading_for watched false (take watched.limit last.earlier)).segments
+  pub prompt : length (common_of watched.readings false (take watched.limit last.earlier)).segments
       ≤ count
 
 -- The blocks of the first of the segments that are known stand there.
@@ -79,16 +79,16 @@ pub record IsOnlineAnswer (watched : Watched) (bytes text : List ℕ) : Type 0 w
   pub told : AreAccounts watched.patterns traces accounts
   pub closed : AreClosed accounts
   pub printed : text
-      ≡ blocks_text watched.scale accounts (reading_for watched true bytes).segments
-      ++ ending_text watched.scale accounts (reading_for watched true bytes).segments
+      ≡ blocks_text watched.scale accounts (common_of watched.readings true bytes).segments
+      ++ ending_text watched.scale accounts (common_of watched.readings true bytes).segments
 
 -- The text is right over these bytes, and its end is cut: all blocks stand there.
 pub record AnswerIsCut (watched : Watched) (output : OutputTold) (bytes : List ℕ) : Type 0 where
   pub text : List ℕ
   pub right : IsOnlineAnswer watched bytes text
   pub cut : IsCutBehind
-      (blocks_text watched.scale right.accounts (reading_for watched true bytes).segments) text
-      output.written_before output.written_now
+      (blocks_text watched.scale right.accounts (common_of watched.readings true bytes).segments)
+      text output.written_before output.written_now
 
 -- The whole input was read, and the end of its right answer is cut.
 abbrev pub EndIsCut : Watched → InputTold → OutputTold → Type 0

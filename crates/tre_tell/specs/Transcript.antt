@@ -1,6 +1,6 @@
 -- What is told of one pattern as its trace comes: a block of zones for each segment, and what the
 -- end completes.
-use Rattle.std.specs.Prelude.{◌≡◌, ◌≢◌, ℕ, zero, suc, ◌*◌, ◌<◌, ◌≤◌, Any, Contains, List, [], ◌++◌, length, take, get_or, flat_map}
+use Rattle.std.specs.Prelude.{◌≡◌, ◌≢◌, ℕ, zero, suc, ◌*◌, ◌<◌, ◌≤◌, All, Any, List, [], ◌++◌, length, take, get_or, flat_map}
 use Rattle.tre_show.specs.Order.{IsRising}
 use Rattle.tre_syntax.specs.Meaning.{Matches}
 use Rattle.tre_syntax.specs.PatternTree.{PatternTree}
@@ -19,30 +19,27 @@ abbrev pub block_before : ℕ → List (List ZoneBounds) → List ZoneBounds
 block_before zero blocks = []
 block_before (suc i) blocks = get_or blocks i []
 
--- Each pair of the zones ends at `from` or later, and at `to` or earlier.
-pub record EndBetween (from to : ℕ) (zones : List ZoneBounds) : Type 0 where
-  pub ends : (a b n : ℕ) → 0 < n → a ≤ b → SetHolds zones a b n
-      → (from * n ≤ b) × (b ≤ to * n)
-
--- No zone of the list is included in one of the earlier zones.
-abbrev pub NoneIsIn : List ZoneBounds → List ZoneBounds → Type 0
-NoneIsIn earlier zones = (zone : ZoneBounds) → Contains zones zone →
-    Any (λ other. Includes other zone) earlier → ⊥
+-- Zones that are told behind an earlier block. They are a set as an answer over a whole trace is
+-- one, in the order in which they are printed; each of their pairs ends at `from` or later, and at
+-- `to` or earlier; and none of them is told again of which the earlier block tells all.
+pub record AreTold (earlier : List ZoneBounds) (from to : ℕ) (zones : List ZoneBounds) : Type 0
+  where
+    pub apart : IsApart zones
+    pub tight : AreTight zones
+    pub rising : IsRising zones
+    pub within : (a b n : ℕ) → 0 < n → a ≤ b → SetHolds zones a b n
+        → (from * n ≤ b) × (b ≤ to * n)
+    pub new : All (λ zone. ¬ Any (λ other. Includes other zone) earlier) zones
 
 -- The block of the segment at place i, counted from 0. With the blocks before it, it tells exactly
--- the matches over the trace up to its segment's end. Its zones are a set as an answer over a whole
--- trace is one, in the order in which they are printed; their pairs end within the segment, its
--- begin and end included; and none of them is told again of which the block before tells all.
+-- the matches over the trace up to its segment's end. Its pairs end within the segment, its begin
+-- and end included.
 pub record IsBlock (blocks : List (List ZoneBounds)) (tree : PatternTree) (trace : List Segment)
     (i : ℕ) : Type 0 where
   pub so_far : HoldExactly (zones_of (take (suc i) blocks))
       (Matches tree (quiet (take (suc i) trace)))
-  pub apart : IsApart (get_or blocks i [])
-  pub tight : AreTight (get_or blocks i [])
-  pub rising : IsRising (get_or blocks i [])
-  pub within : EndBetween (end_of 0 (take i trace)) (end_of 0 (take (suc i) trace))
-      (get_or blocks i [])
-  pub new : NoneIsIn (block_before i blocks) (get_or blocks i [])
+  pub told : AreTold (block_before i blocks) (end_of 0 (take i trace))
+      (end_of 0 (take (suc i) trace)) (get_or blocks i [])
 
 -- One block for each segment of the trace. So the first tells exactly the matches over the first
 -- segment, and all together exactly those over the trace.
@@ -53,14 +50,10 @@ pub record IsTranscript (blocks : List (List ZoneBounds)) (tree : PatternTree)
 
 -- What the end of the trace completes, where a block was told for each of its segments. Where no
 -- event happens there, that is nothing. Else all that is told is exactly the matches over the
--- trace; the zones are a set as in a block, and none of them is told again of which the last block
--- tells all; and their pairs end where the trace does.
+-- trace. The pairs end where the trace does.
 pub record IsClosing (blocks : List (List ZoneBounds)) (zones : List ZoneBounds)
     (tree : PatternTree) (trace : Timeline) : Type 0 where
   pub none : trace.last ≡ 0 → zones ≡ []
   pub all : trace.last ≢ 0 → HoldExactly (zones_of blocks ++ zones) (Matches tree trace)
-  pub apart : IsApart zones
-  pub tight : AreTight zones
-  pub rising : IsRising zones
-  pub at_end : EndBetween (end_of 0 trace.segments) (end_of 0 trace.segments) zones
-  pub new : NoneIsIn (block_before (length blocks) blocks) zones
+  pub told : AreTold (block_before (length blocks) blocks) (end_of 0 trace.segments)
+      (end_of 0 trace.segments) zones

@@ -1,7 +1,6 @@
 -- Patterns that are watched over an input, and what its bytes say for each of them.
 use Rattle.std.specs.Prelude.{◌≡◌, ℕ, ◌≤◌, Bool, true, false, List, [], length, take, map, All}
 use Rattle.tre_feed.specs.Outcome.{whole_reading}
-use Rattle.tre_feed.specs.Readings.{common}
 use Rattle.tre_syntax.specs.declared.pattern.Pattern.{Pattern}
 use Rattle.tre_trace.specs.Reading.{Reading}
 use Rattle.tre_trace.specs.Trace.{Timeline, IsTrace, quiet}
@@ -28,11 +27,6 @@ watched_by labels patterns readings limit scale = record {
 -- No bytes say no segment.
 abbrev pub SayNothing : (Bool → List ℕ → List Reading) → Type 0
 SayNothing readings = All (λ reading. reading.segments ≡ []) (readings false [])
-
--- What the readings of bytes have in common: all are alike in their first fault, and in how many
--- segments they have, and of which lengths.
-abbrev pub reading_for : Watched → Bool → List ℕ → Reading
-reading_for watched closed bytes = common (watched.readings closed bytes)
 
 -- the traces of the first segments of each reading, as many as `count`
 abbrev pub fronts : ℕ → List Reading → List Timeline

@@ -1,8 +1,8 @@
 -- What words of a made run give, and how such a run ends.
-use Rattle.std.proofs.Common.{◌≡◌, ◌∙◌, ℕ, List, [], All, Some, Ok, Err, ap, sym, subst, ⊎_elim, arith}
-use Rattle.std.specs.Prelude.{option_map}
+use Rattle.std.proofs.Common.{◌≡◌, ◌∙◌, ℕ, Bool, true, List, [], All, Some, Ok, Err, ap, sym, subst, ⊎_elim, arith}
+use Rattle.std.specs.Prelude.{◌⊎◌, MatchBool, option_map}
 use Rattle.std.proofs.lemmas.Bool.Decides.{when_true}
-use Rattle.tre_answer.specs.Ends.{ReadsInput, at_once, way_of, IsAnswerIn, StandsSoFar, IsCut, EndsOver, StandsAtMemory}
+use Rattle.tre_answer.specs.Ends.{ReadsInput, as_it_comes, IsAnswerIn, StandsSoFar, PartIsWritten, EndsOver, StandsAtMemory}
 use Rattle.tre_answer.specs.Readings.{watched_of}
 use Rattle.tre_answer.specs.Request.{Request}
 use Rattle.tre_answer.specs.declared.fault.AnswerFault.TheVariants.{Trace as AnswerTrace, TooLong as AnswerTooLong, TooManyZones as AnswerTooMany, Read as AnswerRead, Write as AnswerWrite, Memory as AnswerMemory}
@@ -10,7 +10,7 @@ use Rattle.tre_feed.specs.Input.{InputTold}
 use Rattle.tre_generate.specs.FixedPattern.{fixed_tree, fixed_vocabulary}
 use Rattle.tre_generate.specs.Summary.{IsSummary}
 use Rattle.tre_tell.specs.Outputs.{OutputTold, NothingWritten}
-use Rattle.tre_tell.specs.Standing.{FirstBlocksStand}
+use Rattle.tre_tell.specs.Standing.{FirstBlocksStand, BlockIsCut, EndIsCut}
 use Rattle.tre_watch.specs.Outcome.{Outcome}
 use Rattle.tre_words.specs.Job.{GivesJob, made_count, made_job}
 use Rattle.tre_words.specs.declared.job.Job.{Job}
@@ -70,7 +70,7 @@ module _ (words : List (List ℕ)) (count : ℕ) (asks : AsksForMadeRun words co
         → AsksFor (GivesJob words) Says request → StandsAtMemory request input output
         → NothingWritten output
     stands_nothing request input output asked stands =
-        subst (λ (mode : Mode). StandsSoFar (way_of mode) output
+        subst (λ (mode : Mode). StandsSoFar mode output
         (FirstBlocksStand (watched_of request) input output))
         (mode_given request.job asked.gives) stands
 
@@ -96,8 +96,10 @@ module _ (words : List (List ℕ)) (count : ℕ) (asks : AsksForMadeRun words co
     answered_made request input output (Err AnswerRead) asked found =
         reads_nothing request asked found.reads_input
     answered_made request input output (Err AnswerWrite) asked found =
-        let here : IsCut at_once request input output =
-        subst (λ (mode : Mode). IsCut (way_of mode) request input output)
+        let here : PartIsWritten request input output =
+        subst (λ (mode : Mode). MatchBool (as_it_comes mode)
+        (BlockIsCut (watched_of request) input output ⊎ EndIsCut (watched_of request) input output)
+        (PartIsWritten request input output))
         (mode_given request.job asked.gives) found.stands in
         record {
           text = here.text;

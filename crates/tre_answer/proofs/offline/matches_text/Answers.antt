@@ -48,7 +48,7 @@ returns-in_err-check_count-clause-stops g c =
     (length-map c.args.asked.now.labels.items string_bytes ∙ c.requires.fits.labels))
     c.in_ok-found.ensures.end) c.in_ok-zones.ensures.set
     c.in_ok-zones.ensures.zones c.requires.offline
-    (normal_limit c.args.job.now c.requires.job over.limit over.limited) over)
+    (normal_limit c.args.job.now c.requires.job _ over) over)
 
 pub returns-in_err-text-clause-stops : goal.returns-in_err-text-clause-stops
 returns-in_err-text-clause-stops g c =

@@ -1,7 +1,7 @@
 use Rattle.std.proofs.Common.{◌≡◌, ℕ, suc, ◌<◌, get_or}
 use Rattle.std.specs.declared.cmp.Ordering.TheVariants.{Less}
 use Rattle.tre_zone.specs.declared.zone_bounds.ZoneBounds.{ZoneBounds}
-use Rattle.tre_strips.specs.Strips.{compare_lines}
+use Rattle.tre_strips.specs.Listed.{compare_lines}
 use Rattle.tre_strips.proofs.canonical.are_rising.Given as goal
 
 abbrev pub invariant-loop-place : goal.invariant-loop-place

@@ -1,7 +1,7 @@
 use Rattle.std.proofs.Common.{rules}
 use Rattle.std.proofs.lemmas.Fn.{dedup_same}
 use Rattle.std.proofs.lemmas.List.Sorted.{answers_always}
-use Rattle.tre_strips.specs.Strips.{line_key}
+use Rattle.tre_strips.specs.Listed.{line_key}
 use Rattle.tre_strips.proofs.Listing.{in_order, same_members, same_line}
 use Rattle.tre_strips.proofs.canonical.in_order.Goals as goal
 

@@ -1,4 +1,4 @@
-use Rattle.tre_strips.proofs.Answering.{AreStrips-found, HoldExactly-found}
+use Rattle.tre_strips.proofs.Answering.{AreStrips-found, AreListed-found, HoldExactly-found}
 use Rattle.tre_strips.proofs.Trimming.{HaveSamePairs-exact, HaveSamePairs-trans}
 use Rattle.tre_strips.proofs.canonical.strips.Goals as goal
 
@@ -16,7 +16,9 @@ returns c =
     (rw c.deref.ensures.value same) in
     record {
       strips = AreStrips-found c.args.set.now canonical c.in_ok-found.found.items _ found
-          c.in_order.ensures.order c.in_order.ensures.same;
+          c.in_order.ensures.same;
+      listed = AreListed-found c.args.set.now canonical c.in_ok-found.found.items _ found
+          c.in_order.ensures.same c.in_order.ensures.order;
       held = HoldExactly-found c.args.set.now c.in_ok-found.found.items _ found
           c.in_order.ensures.same;
     }
