@@ -6,7 +6,8 @@ use Rattle.tre_decimal.specs.Decimal.{number_text}
 use Rattle.tre_trace.specs.Trace.{timeline_of, quiet, end_of}
 use Rattle.tre_trace.specs.declared.segment.Segment.{Segment}
 use Rattle.tre_zone.specs.declared.zone_bounds.ZoneBounds.{ZoneBounds}
-use Rattle.tre_tell.specs.Blocks.{Account, lines_with, block_of, blocks_from, blocks_text, ending_text}
+use Rattle.tre_tell.specs.Blocks.{lines_with, block_of, blocks_from, blocks_text, ending_text}
+use Rattle.tre_tell.specs.Transcript.{Account}
 use Rattle.tre_tell.specs.Printed.{lines_behind, time_line}
 use Rattle.tre_tell.proofs.Lists.{end_of-more}
 

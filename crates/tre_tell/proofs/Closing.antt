@@ -15,26 +15,21 @@ use Rattle.tre_syntax.specs.PatternTree.{PatternTree}
 use Rattle.tre_trace.specs.Trace.{timeline_of, quiet}
 use Rattle.tre_trace.specs.declared.segment.Segment.{Segment}
 use Rattle.tre_zone.specs.declared.zone_bounds.ZoneBounds.{ZoneBounds}
-use Rattle.tre_tell.specs.Blocks.{Account, AreAccounts, blocks_text, ending_text}
+use Rattle.tre_tell.specs.Blocks.{AreAccounts, blocks_text, ending_text}
 use Rattle.tre_tell.specs.Printed.{IsPrinted, IsTextOf, lines_behind, time_line}
 use Rattle.tre_tell.specs.Sought.{Sought, sought_by}
 use Rattle.tre_tell.specs.Telling.{first_row, timelines, IsLastBlock, BlocksWritten, HasTold, HasClosed, ClosingIsCut}
-use Rattle.tre_tell.specs.Transcript.{IsClosing}
+use Rattle.tre_tell.specs.Transcript.{Account, IsTranscript, IsClosing}
 use Rattle.tre_tell.proofs.Accounts.{accounts_closed, blocks_text-closed, ending_text-closed}
 use Rattle.tre_tell.proofs.Lists.{map-map}
-use Rattle.tre_tell.proofs.Told.{Appends-none, IsCutBehind-after, HasTranscript, told_trees, told_rows, in_accounts, level_of, time_first}
-use Rattle.tre_tell.proofs.Transcripts.{IsTranscript-none, IsClosing-told}
-
--- What the end completes is right.
-abbrev pub HasClosing : Account → Type 0
-HasClosing account =
-    IsClosing account.blocks account.closing account.pattern.tree account.trace
+use Rattle.tre_tell.proofs.Told.{Appends-none, IsCutBehind-after, told_trees, told_rows, in_accounts, level_of, time_first}
+use Rattle.tre_tell.proofs.Transcripts.{IsTranscript-none, IsTranscript-closed, IsClosing-told}
 
 -- What is known of accounts that are closed.
 pub record AreAtEnd (accounts : List Account) (lasts : List ℕ)
     (printed : List (List ZoneBounds)) : Type 0 where
-  pub transcripts : AllByRecursion HasTranscript (accounts_closed accounts lasts printed)
-  pub closings : AllByRecursion HasClosing (accounts_closed accounts lasts printed)
+  pub transcripts : AllByRecursion IsTranscript (accounts_closed accounts lasts printed)
+  pub closings : AllByRecursion IsClosing (accounts_closed accounts lasts printed)
   pub ends : length lasts ≡ length accounts
   pub prints : length printed ≡ length accounts
   pub patterns : map (λ account. account.pattern) (accounts_closed accounts lasts printed)
@@ -47,7 +42,7 @@ are_at_end : (accounts : List Account) (lasts : List ℕ)
     (earlier told printed : List (List ZoneBounds))
     → TellLastEach (told_trees accounts) (told_rows accounts) lasts earlier told
     → AllZip IsPrinted told printed → AllZip IsLastBlock earlier accounts
-    → All HasTranscript accounts → AreAtEnd accounts lasts printed
+    → All IsTranscript accounts → AreAtEnd accounts lasts printed
 are_at_end [] [] [] [] [] tells prints ended transcripts = record {
   transcripts = tt;
   closings = tt;
@@ -58,14 +53,13 @@ are_at_end [] [] [] [] [] tells prints ended transcripts = record {
 }
 are_at_end (account ∷ accounts) (events ∷ lasts) (last ∷ earlier) (zones ∷ told) (lines ∷ printed)
     tells prints ended transcripts =
-    let here = All-head HasTranscript account accounts transcripts in
+    let here = All-head IsTranscript account accounts transcripts in
     let rest = are_at_end accounts lasts earlier told printed tells.1 prints.1 ended.1
-    (All-tail HasTranscript account accounts transcripts) in
+    (All-tail IsTranscript account accounts transcripts) in
     record {
-      transcripts = (here, rest.transcripts);
+      transcripts = (IsTranscript-closed account events lines here, rest.transcripts);
       closings = (
-        IsClosing-told account.blocks account.pattern.tree account.trace.segments events last zones
-            lines here tells.0 prints.0 ended.0.same,
+        IsClosing-told account events last zones lines here tells.0 prints.0 ended.0.same,
         rest.closings,
       );
       ends = ap suc rest.ends;
@@ -112,7 +106,7 @@ module _ {watch : Watch} {labels : List (List ℕ)} {scale : ℕ} {patterns : Li
       record {
         of_patterns = at_end.patterns ∙ so_far.told.are.of_patterns;
         over_traces = at_end.traces ∙ ap (λ rs. timelines rs lasts) (sym known.rows_are);
-        told = All-from_recursion HasTranscript _ at_end.transcripts;
+        told = All-from_recursion IsTranscript _ at_end.transcripts;
       }
 
   -- the text of the blocks and of what closes them
@@ -147,7 +141,7 @@ module _ {watch : Watch} {labels : List (List ℕ)} {scale : ℕ} {patterns : Li
       record {
         accounts = accounts_closed so_far.told.accounts lasts made.printed;
         are = are_closed lasts made.printed so_far at_end;
-        closed = All-from_recursion HasClosing _ at_end.closings;
+        closed = All-from_recursion IsClosing _ at_end.closings;
         written = rw (closed_text lasts made.printed so_far at_end)
             (Appends-trans before now now' _ _ so_far.told.written (rw made.is_text at written));
       }
@@ -165,7 +159,7 @@ module _ {watch : Watch} {labels : List (List ℕ)} {scale : ℕ} {patterns : Li
       record {
         accounts = accounts_closed accounts lasts made.printed;
         are = are_closed lasts made.printed so_far at_end;
-        closed = All-from_recursion HasClosing _ at_end.closings;
+        closed = All-from_recursion IsClosing _ at_end.closings;
         cut = rw (
           closed_text lasts made.printed so_far at_end,
           blocks_text-closed scale accounts lasts made.printed (first_row rows) at_end.ends
@@ -236,10 +230,10 @@ start_ended (label ∷ labels) (pattern ∷ patterns) same = (
   start_ended labels patterns (omega (arith, same)),
 )
 
-start_told : (patterns : List Sought) → All HasTranscript (map start_account patterns)
-start_told [] = All-nil HasTranscript
-start_told (pattern ∷ patterns) = All-cons HasTranscript (start_account pattern)
-    (map start_account patterns) (IsTranscript-none pattern.tree) (start_told patterns)
+start_told : (patterns : List Sought) → All IsTranscript (map start_account patterns)
+start_told [] = All-nil IsTranscript
+start_told (pattern ∷ patterns) = All-cons IsTranscript (start_account pattern)
+    (map start_account patterns) (IsTranscript-none pattern) (start_told patterns)
 
 none_long : {X : Type 0} (xs : List X)
     → AllByRecursion (λ (row : List Segment). length row ≡ 0) (nones xs)

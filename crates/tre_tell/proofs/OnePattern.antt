@@ -4,7 +4,8 @@ use Rattle.tre_show.specs.Line.{lines_of, offline_text}
 use Rattle.tre_trace.specs.Trace.{end_of}
 use Rattle.tre_trace.specs.declared.segment.Segment.{Segment}
 use Rattle.tre_zone.specs.declared.zone_bounds.ZoneBounds.{ZoneBounds}
-use Rattle.tre_tell.specs.Blocks.{Account, blocks_from, blocks_text, ending_text}
+use Rattle.tre_tell.specs.Blocks.{blocks_from, blocks_text, ending_text}
+use Rattle.tre_tell.specs.Transcript.{Account}
 use Rattle.tre_tell.specs.OnlineText.{block_text, block_texts, online_text}
 
 -- what stands at a place, and behind it, of a list that goes on with that from there

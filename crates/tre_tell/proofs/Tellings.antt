@@ -1,5 +1,5 @@
 -- How the telling of an input ends.
-use Rattle.std.proofs.Common.{◌≡◌, ◌≢◌, ◌∙◌, ℕ, suc, ◌+◌, ◌-◌, ◌<◌, ◌≤◌, Bool, true, false, List, [], ◌∷◌, ◌++◌, length, take, drop, map, Option, None, IfErr, IsTrue, nat_le, Result, Ok, Err, refl, sym, ap, subst, inl, inr, arith, take-append-drop}
+use Rattle.std.proofs.Common.{◌≡◌, ◌≢◌, ◌∙◌, ℕ, suc, ◌+◌, ◌-◌, ◌<◌, ◌≤◌, Bool, true, false, All, List, [], ◌∷◌, ◌++◌, length, take, drop, map, Option, None, IfErr, IsTrue, nat_le, Result, Ok, Err, refl, sym, ap, subst, inl, inr, arith, take-append-drop}
 use Rattle.std.specs.List.{AllByRecursion}
 use Rattle.std.specs.Io.KnownBytes.{Consumes, IsAtEnd}
 use Rattle.std.proofs.KnownBytes.{Consumes-whole}
@@ -20,7 +20,8 @@ use Rattle.tre_trace.specs.Reading.{Reading}
 use Rattle.tre_trace.specs.Trace.{Timeline, IsTrace, timeline_of, quiet}
 use Rattle.tre_trace.specs.declared.fault.TraceFault.{TraceFault}
 use Rattle.tre_trace.specs.declared.segment.Segment.{Segment}
-use Rattle.tre_tell.specs.Blocks.{Account, AreAccounts, AreClosed, blocks_text, ending_text}
+use Rattle.tre_tell.specs.Blocks.{AreAccounts, blocks_text, ending_text}
+use Rattle.tre_tell.specs.Transcript.{Account, IsClosing}
 use Rattle.tre_tell.specs.Ends.{EndsTelling}
 use Rattle.tre_tell.specs.Faults.{told_fault}
 use Rattle.tre_tell.specs.Outputs.{OutputTold, AllWritesGood, IsCutBehind}
@@ -419,7 +420,7 @@ module _ (watched : Watched) (input : InputTold) (name bytes : List ℕ)
     -- the text of accounts that are closed is right
     right_text : (accounts : List Account)
         → AreAccounts watched.patterns (timelines (joined (rows_in (watched.readings false
-        (take watched.limit bytes))) waiting) lasts) accounts → AreClosed accounts
+        (take watched.limit bytes))) waiting) lasts) accounts → All IsClosing accounts
         → IsOnlineAnswer watched bytes
         (blocks_text watched.scale accounts (first_row (joined (rows_in (watched.readings false
         (take watched.limit bytes))) waiting))

@@ -18,12 +18,12 @@ use Rattle.tre_trace.specs.declared.fault.PushFault.{PushFault}
 use Rattle.tre_trace.specs.declared.fault.PushFault.TheVariants.{Zero, TooLate, Memory}
 use Rattle.tre_trace.specs.declared.segment.Segment.{Segment}
 use Rattle.tre_zone.specs.declared.zone_bounds.ZoneBounds.{ZoneBounds}
-use Rattle.tre_tell.specs.Blocks.{Account, AreAccounts, blocks_text}
+use Rattle.tre_tell.specs.Blocks.{AreAccounts, blocks_text}
 use Rattle.tre_tell.specs.Outputs.{IsCutBehind}
 use Rattle.tre_tell.specs.Printed.{IsPrinted, IsTextOf, lines_behind, time_line}
 use Rattle.tre_tell.specs.Sought.{Sought}
 use Rattle.tre_tell.specs.Telling.{first_row, FirstFits, IsLastBlock, HasTold, LastBlockIsCut}
-use Rattle.tre_tell.specs.Transcript.{block_before, IsTranscript}
+use Rattle.tre_tell.specs.Transcript.{Account, block_before, IsTranscript}
 use Rattle.tre_tell.proofs.Accounts.{accounts_more, HaveBlocks, labels_of, blocks_text-more, blocks_text-before}
 use Rattle.tre_tell.proofs.Lists.{map-map}
 use Rattle.tre_tell.proofs.Transcripts.{IsTranscript-more}
@@ -89,11 +89,6 @@ level_pushed n (row ∷ rows) (segment ∷ column) each = (
   level_pushed n rows column each.1,
 )
 
--- The blocks of an account are right.
-abbrev pub HasTranscript : Account → Type 0
-HasTranscript account =
-    IsTranscript account.blocks account.pattern.tree account.trace.segments
-
 -- the trees of accounts, and their rows
 abbrev pub told_trees : List Account → List PatternTree
 told_trees accounts = map (λ account. account.pattern.tree) accounts
@@ -104,7 +99,7 @@ told_rows accounts = map (λ account. account.trace.segments) accounts
 -- What is known of accounts with one block more.
 pub record AreMore (accounts : List Account) (column : List Segment)
     (told printed : List (List ZoneBounds)) : Type 0 where
-  pub transcripts : AllByRecursion HasTranscript (accounts_more accounts column printed)
+  pub transcripts : AllByRecursion IsTranscript (accounts_more accounts column printed)
   pub ended : AllZip IsLastBlock told (accounts_more accounts column printed)
   pub columns : length column ≡ length accounts
   pub prints : length printed ≡ length accounts
@@ -127,7 +122,7 @@ are_more : (accounts : List Account) (column : List Segment)
     (earlier told printed : List (List ZoneBounds))
     → TellEach (told_trees accounts) (told_rows accounts) column earlier told
     → AllZip IsPrinted told printed → AllZip IsLastBlock earlier accounts
-    → All HasTranscript accounts → AreMore accounts column told printed
+    → All IsTranscript accounts → AreMore accounts column told printed
 are_more [] [] [] [] [] tells prints ended transcripts = record {
   transcripts = tt;
   ended = tt;
@@ -138,13 +133,12 @@ are_more [] [] [] [] [] tells prints ended transcripts = record {
 }
 are_more (account ∷ accounts) (segment ∷ column) (last ∷ earlier) (zones ∷ told) (lines ∷ printed)
     tells prints ended transcripts =
-    let here = All-head HasTranscript account accounts transcripts in
+    let here = All-head IsTranscript account accounts transcripts in
     let rest = are_more accounts column earlier told printed tells.1 prints.1 ended.1
-    (All-tail HasTranscript account accounts transcripts) in
+    (All-tail IsTranscript account accounts transcripts) in
     record {
       transcripts = (
-        IsTranscript-more account.blocks account.pattern.tree account.trace.segments segment last
-            zones lines here tells.0 prints.0 ended.0.same,
+        IsTranscript-more account segment last zones lines here tells.0 prints.0 ended.0.same,
         rest.transcripts,
       );
       ended = (
@@ -170,12 +164,12 @@ are_more (account ∷ accounts) (segment ∷ column) (last ∷ earlier) (zones �
     ended transcripts = absurd prints
 
 -- each has as many blocks as segments
-have_blocks : (n : ℕ) (accounts : List Account) → All HasTranscript accounts
+have_blocks : (n : ℕ) (accounts : List Account) → All IsTranscript accounts
     → AllByRecursion (λ row. length row ≡ n) (told_rows accounts) → HaveBlocks n accounts
 have_blocks n [] transcripts each = tt
 have_blocks n (account ∷ accounts) transcripts each = (
-  (All-head HasTranscript account accounts transcripts).count ∙ each.0,
-  have_blocks n accounts (All-tail HasTranscript account accounts transcripts) each.1,
+  (All-head IsTranscript account accounts transcripts).count ∙ each.0,
+  have_blocks n accounts (All-tail IsTranscript account accounts transcripts) each.1,
 )
 
 -- the head of what was pushed
@@ -275,7 +269,7 @@ module _ {watch : Watch} {labels : List (List ℕ)} {scale : ℕ} {patterns : Li
         of_patterns = more.patterns ∙ so_far.told.are.of_patterns;
         over_traces = more.traces
             ∙ ap (λ rs. map quiet (pushed_each rs column)) (sym known.rows_are);
-        told = All-from_recursion HasTranscript _ more.transcripts;
+        told = All-from_recursion IsTranscript _ more.transcripts;
       }
 
   -- the text with the block of the column

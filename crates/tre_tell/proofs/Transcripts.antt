@@ -20,7 +20,9 @@ use Rattle.tre_zone.specs.ZoneList.{SetHolds, HoldExactly}
 use Rattle.tre_zone.specs.declared.zone_bounds.ZoneBounds.{ZoneBounds}
 use Rattle.tre_zone.proofs.ZoneListLemmas.{SetHolds-append}
 use Rattle.tre_tell.specs.Printed.{IsPrinted}
-use Rattle.tre_tell.specs.Transcript.{zones_of, block_before, AreTold, IsBlock, IsTranscript, IsClosing}
+use Rattle.tre_tell.specs.Sought.{Sought}
+use Rattle.tre_tell.specs.Transcript.{Account, zones_of, block_before, AreTold, IsBlock, IsTranscript, IsClosing}
+use Rattle.tre_tell.proofs.Accounts.{account_more, account_closed}
 
 zones_of-more : (blocks : List (List ZoneBounds)) (zones : List ZoneBounds)
     → zones_of (blocks ++ zones ∷ []) ≡ zones_of blocks ++ zones
@@ -34,61 +36,65 @@ block_before-append zero blocks more inside = refl
 block_before-append (suc i) blocks more inside =
     get_or_append_left blocks more [] i (omega (arith, inside))
 
--- a block stays as it is where more come
-IsBlock-append : (blocks more : List (List ZoneBounds)) (tree : PatternTree)
-    (trace rest : List Segment) (i : ℕ) → length blocks ≡ length trace → i < length trace
-    → IsBlock blocks tree trace i → IsBlock (blocks ++ more) tree (trace ++ rest) i
-IsBlock-append blocks more tree trace rest i count below block =
-    let blocks_front : take (suc i) (blocks ++ more) ≡ take (suc i) blocks =
-    take-append-le (suc i) blocks more (omega (arith, count, below)) in
-    let front : take (suc i) (trace ++ rest) ≡ take (suc i) trace =
-    take-append-le (suc i) trace rest (omega (arith, below)) in
-    let front_before : take i (trace ++ rest) ≡ take i trace =
-    take-append-le i trace rest (omega (arith, below)) in
-    let here : get_or (blocks ++ more) i [] ≡ get_or blocks i [] =
-    get_or_append_left blocks more [] i (omega (arith, count, below)) in
-    let before : block_before i (blocks ++ more) ≡ block_before i blocks =
-    block_before-append i blocks more (omega (arith, count, below)) in
+-- a block stays as it is where one more comes
+IsBlock-more : (account : Account) (segment : Segment) (zones : List ZoneBounds) (i : ℕ)
+    → length account.blocks ≡ length account.trace.segments → i < length account.trace.segments
+    → IsBlock account i → IsBlock (account_more account segment zones) i
+IsBlock-more account segment zones i count below block =
+    let blocks_front : take (suc i) (account.blocks ++ zones ∷ []) ≡ take (suc i) account.blocks =
+    take-append-le (suc i) account.blocks (zones ∷ []) (omega (arith, count, below)) in
+    let front : take (suc i) (account.trace.segments ++ segment ∷ [])
+    ≡ take (suc i) account.trace.segments =
+    take-append-le (suc i) account.trace.segments (segment ∷ []) (omega (arith, below)) in
+    let front_before : take i (account.trace.segments ++ segment ∷ [])
+    ≡ take i account.trace.segments =
+    take-append-le i account.trace.segments (segment ∷ []) (omega (arith, below)) in
+    let here : get_or (account.blocks ++ zones ∷ []) i [] ≡ get_or account.blocks i [] =
+    get_or_append_left account.blocks (zones ∷ []) [] i (omega (arith, count, below)) in
+    let before : block_before i (account.blocks ++ zones ∷ []) ≡ block_before i account.blocks =
+    block_before-append i account.blocks (zones ∷ []) (omega (arith, count, below)) in
     record {
       so_far = rw (blocks_front, front) block.so_far;
       told = rw (before, front_before, front, here) block.told;
     }
 
 -- a transcript tells exactly the matches over its trace, where that has a segment
-exact_of : (blocks : List (List ZoneBounds)) (tree : PatternTree) (first : Segment)
-    (rest : List Segment) → IsTranscript blocks tree (first ∷ rest)
-    → HoldExactly (zones_of blocks) (Matches tree (quiet (first ∷ rest)))
-exact_of blocks tree first rest transcript =
-    let last = transcript.each (length rest) (omega arith) in
-    let all : take (suc (length rest)) blocks ≡ blocks = take_all (suc (length rest)) blocks
-    (omega (arith, transcript.count)) in
-    let trace : take (suc (length rest)) (first ∷ rest) ≡ first ∷ rest =
-    take_all (suc (length rest)) (first ∷ rest) (omega arith) in
+exact_of : (account : Account) (count : ℕ) → length account.trace.segments ≡ suc count
+    → IsTranscript account
+    → HoldExactly (zones_of account.blocks)
+    (Matches account.pattern.tree (quiet account.trace.segments))
+exact_of account count some transcript =
+    let last = transcript.each count (omega (arith, some)) in
+    let all : take (suc count) account.blocks ≡ account.blocks =
+    take_all (suc count) account.blocks (omega (arith, some, transcript.count)) in
+    let trace : take (suc count) account.trace.segments ≡ account.trace.segments =
+    take_all (suc count) account.trace.segments (omega (arith, some)) in
     rw (all, trace) at last.so_far
 
 -- with the block of one segment more they are exactly the matches over the trace with it
 exact_with : (blocks : List (List ZoneBounds)) (tree : PatternTree) (trace : List Segment)
-    (segment : Segment) (earlier told zones : List ZoneBounds)
-    → IsTranscript blocks tree trace → TellsNew tree trace segment earlier told
-    → IsPrinted told zones
+    (segment : Segment) (earlier told zones : List ZoneBounds) → length blocks ≡ length trace
+    → ((count : ℕ) → length trace ≡ suc count
+    → HoldExactly (zones_of blocks) (Matches tree (quiet trace)))
+    → TellsNew tree trace segment earlier told → IsPrinted told zones
     → HoldExactly (zones_of (blocks ++ zones ∷ [])) (Matches tree (quiet (trace ++ segment ∷ [])))
-exact_with [] tree [] segment earlier told zones transcript tells printed = record {
+exact_with [] tree [] segment earlier told zones same so_far tells printed = record {
   exact = λ a b n positive rising.
       let first = (tells.first refl).exact a b n positive rising in
       let held = printed.held a b n in
       rw (append-nil zones) ((λ h. first.0 (held.0 h)), (λ h. held.1 (first.1 h)));
 }
-exact_with (block ∷ blocks) tree [] segment earlier told zones transcript tells printed =
-    absurd (omega (arith, transcript.count))
-exact_with blocks tree (first ∷ rest) segment earlier told zones transcript tells printed = record {
+exact_with (block ∷ blocks) tree [] segment earlier told zones same so_far tells printed =
+    absurd (omega (arith, same))
+exact_with blocks tree (first ∷ rest) segment earlier told zones same so_far tells printed = record {
   exact = λ a b n positive rising.
-      let so_far = (exact_of blocks tree first rest transcript).exact a b n positive rising in
+      let before = (so_far (length rest) refl).exact a b n positive rising in
       let now = tells.all a b n positive rising in
       let held = printed.held a b n in
       let parts = SetHolds-append (zones_of blocks) zones a b n in
       rw (zones_of-more blocks zones) (
-        (λ h. ⊎_elim (λ x. now.0 (inr (so_far.0 x))) (λ x. now.0 (inl (held.0 x))) (parts.0 h)),
-        (λ h. ⊎_elim (λ x. parts.1 (inr (held.1 x))) (λ x. parts.1 (inl (so_far.1 x)))
+        (λ h. ⊎_elim (λ x. now.0 (inr (before.0 x))) (λ x. now.0 (inl (held.0 x))) (parts.0 h)),
+        (λ h. ⊎_elim (λ x. parts.1 (inr (held.1 x))) (λ x. parts.1 (inl (before.1 x)))
             (now.1 h)),
       );
 }
@@ -123,12 +129,16 @@ AreTold-printed earlier told zones block from to new within printed order = reco
 }
 
 -- the block of the segment behind the trace
-IsBlock-last : (blocks : List (List ZoneBounds)) (tree : PatternTree) (trace : List Segment)
-    (segment : Segment) (earlier told zones : List ZoneBounds)
-    → IsTranscript blocks tree trace → TellsNew tree trace segment earlier told
-    → IsPrinted told zones → IsPermutation earlier (block_before (length blocks) blocks)
-    → IsBlock (blocks ++ zones ∷ []) tree (trace ++ segment ∷ []) (length trace)
-IsBlock-last blocks tree trace segment earlier told zones transcript tells printed order =
+IsBlock-last : (account : Account) (segment : Segment) (earlier told zones : List ZoneBounds)
+    → IsTranscript account
+    → TellsNew account.pattern.tree account.trace.segments segment earlier told
+    → IsPrinted told zones
+    → IsPermutation earlier (block_before (length account.blocks) account.blocks)
+    → IsBlock (account_more account segment zones) (length account.trace.segments)
+IsBlock-last account segment earlier told zones transcript tells printed order =
+    let blocks = account.blocks in
+    let tree = account.pattern.tree in
+    let trace = account.trace.segments in
     let all_blocks : take (suc (length trace)) (blocks ++ zones ∷ []) ≡ blocks ++ zones ∷ [] =
     take_all (suc (length trace)) (blocks ++ zones ∷ [])
     (omega (arith, transcript.count, length-append blocks (zones ∷ []))) in
@@ -144,8 +154,8 @@ IsBlock-last blocks tree trace segment earlier told zones transcript tells print
     rw (sym transcript.count) (block_before-append (length blocks) blocks (zones ∷ [])
     (omega arith)) in
     record {
-      so_far = rw (all_blocks, all)
-          (exact_with blocks tree trace segment earlier told zones transcript tells printed);
+      so_far = rw (all_blocks, all) (exact_with blocks tree trace segment earlier told zones
+          transcript.count (λ count some. exact_of account count some transcript) tells printed);
       told = rw (before, front, all, here) (AreTold-printed earlier told zones _ (end_of 0 trace)
           (end_of 0 (trace ++ segment ∷ [])) tells.new (λ a b n positive rising was_told. (
             tells.late a b n positive rising was_told,
@@ -162,34 +172,44 @@ last_or_before (suc i) (suc count) below =
     ⊎_elim (λ less. inl (omega (arith, less))) (λ same. inr (ap suc same))
     (last_or_before i count (omega (arith, below)))
 
-pub IsTranscript-more : (blocks : List (List ZoneBounds)) (tree : PatternTree)
-    (trace : List Segment) (segment : Segment) (earlier told zones : List ZoneBounds)
-    → IsTranscript blocks tree trace → TellsNew tree trace segment earlier told
-    → IsPrinted told zones → IsPermutation earlier (block_before (length blocks) blocks)
-    → IsTranscript (blocks ++ zones ∷ []) tree (trace ++ segment ∷ [])
-IsTranscript-more blocks tree trace segment earlier told zones transcript tells printed order =
-    record {
-      count = omega (
-        arith,
-        transcript.count,
-        length-append blocks (zones ∷ []),
-        length-append trace (segment ∷ []),
-      );
-      each = λ i below.
-          let inside : i < suc (length trace) = omega
-          (arith, below, length-append trace (segment ∷ [])) in
-          ⊎_elim
-          (λ earlier_one. IsBlock-append blocks (zones ∷ []) tree trace (segment ∷ []) i
-          transcript.count earlier_one (transcript.each i earlier_one))
-          (λ last. rw last
-          (IsBlock-last blocks tree trace segment earlier told zones transcript tells printed
-          order))
-          (last_or_before i (length trace) inside);
-    }
+pub IsTranscript-more : (account : Account) (segment : Segment)
+    (earlier told zones : List ZoneBounds) → IsTranscript account
+    → TellsNew account.pattern.tree account.trace.segments segment earlier told
+    → IsPrinted told zones
+    → IsPermutation earlier (block_before (length account.blocks) account.blocks)
+    → IsTranscript (account_more account segment zones)
+IsTranscript-more account segment earlier told zones transcript tells printed order = record {
+  count = omega (
+    arith,
+    transcript.count,
+    length-append account.blocks (zones ∷ []),
+    length-append account.trace.segments (segment ∷ []),
+  );
+  each = λ i below.
+      let inside : i < suc (length account.trace.segments) = omega
+      (arith, below, length-append account.trace.segments (segment ∷ [])) in
+      ⊎_elim
+      (λ earlier_one. IsBlock-more account segment zones i transcript.count earlier_one
+      (transcript.each i earlier_one))
+      (λ last. rw last
+      (IsBlock-last account segment earlier told zones transcript tells printed order))
+      (last_or_before i (length account.trace.segments) inside);
+}
 
 -- no block, of no segment
-pub IsTranscript-none : (tree : PatternTree) → IsTranscript [] tree []
-IsTranscript-none tree = record { count = refl; each = λ i below. absurd (omega (arith, below)) }
+pub IsTranscript-none : (pattern : Sought)
+    → IsTranscript (record { pattern = pattern; trace = quiet []; blocks = []; closing = [] })
+IsTranscript-none pattern = record { count = refl; each = λ i below. absurd (omega (arith, below)) }
+
+-- the end of the trace changes no block
+pub IsTranscript-closed : (account : Account) (events : ℕ) (zones : List ZoneBounds)
+    → IsTranscript account → IsTranscript (account_closed account events zones)
+IsTranscript-closed account events zones transcript = record {
+  count = transcript.count;
+  each = λ i below.
+      let block = transcript.each i below in
+      record { so_far = block.so_far; told = block.told };
+}
 
 -- no zone in another order
 none_of : (told zones : List ZoneBounds) → IsPermutation told zones → told ≡ [] → zones ≡ []
@@ -200,44 +220,48 @@ none_of told (zone ∷ zones) same none =
 -- all that was told with the end is exactly the matches over the trace, where events happen there
 all_with : (blocks : List (List ZoneBounds)) (tree : PatternTree) (segments : List Segment)
     (events : ℕ) (earlier told zones : List ZoneBounds) → events ≢ 0
-    → IsTranscript blocks tree segments → TellsLast tree segments events earlier told
-    → IsPrinted told zones
+    → length blocks ≡ length segments
+    → ((count : ℕ) → length segments ≡ suc count
+    → HoldExactly (zones_of blocks) (Matches tree (quiet segments)))
+    → TellsLast tree segments events earlier told → IsPrinted told zones
     → HoldExactly (zones_of blocks ++ zones) (Matches tree (timeline_of segments events))
-all_with [] tree [] events earlier told zones happens transcript tells printed = record {
+all_with [] tree [] events earlier told zones happens same so_far tells printed = record {
   exact = λ a b n positive rising.
       let first = (tells.first refl happens).exact a b n positive rising in
       let held = printed.held a b n in
       ((λ h. first.0 (held.0 h)), (λ h. held.1 (first.1 h)));
 }
-all_with (block ∷ blocks) tree [] events earlier told zones happens transcript tells printed =
-    absurd (omega (arith, transcript.count))
-all_with blocks tree (first ∷ rest) events earlier told zones happens transcript tells printed =
+all_with (block ∷ blocks) tree [] events earlier told zones happens same so_far tells printed =
+    absurd (omega (arith, same))
+all_with blocks tree (first ∷ rest) events earlier told zones happens same so_far tells printed =
     record {
       exact = λ a b n positive rising.
-          let so_far = (exact_of blocks tree first rest transcript).exact a b n positive rising in
+          let before = (so_far (length rest) refl).exact a b n positive rising in
           let now = tells.all a b n positive rising in
           let held = printed.held a b n in
           let parts = SetHolds-append (zones_of blocks) zones a b n in (
-            (λ h. ⊎_elim (λ x. now.0 (inr (so_far.0 x))) (λ x. now.0 (inl (held.0 x)))
+            (λ h. ⊎_elim (λ x. now.0 (inr (before.0 x))) (λ x. now.0 (inl (held.0 x)))
                 (parts.0 h)),
-            (λ h. ⊎_elim (λ x. parts.1 (inr (held.1 x))) (λ x. parts.1 (inl (so_far.1 x)))
+            (λ h. ⊎_elim (λ x. parts.1 (inr (held.1 x))) (λ x. parts.1 (inl (before.1 x)))
                 (now.1 h)),
           );
     }
 
 -- what the end completes closes the blocks of a trace
-pub IsClosing-told : (blocks : List (List ZoneBounds)) (tree : PatternTree)
-    (segments : List Segment) (events : ℕ) (earlier told zones : List ZoneBounds)
-    → IsTranscript blocks tree segments → TellsLast tree segments events earlier told
-    → IsPrinted told zones → IsPermutation earlier (block_before (length blocks) blocks)
-    → IsClosing blocks zones tree (timeline_of segments events)
-IsClosing-told blocks tree segments events earlier told zones transcript tells printed order =
-    record {
-      none = λ silent. none_of told zones printed.same (tells.none silent);
-      all = λ happens. all_with blocks tree segments events earlier told zones happens transcript
-          tells printed;
-      told = AreTold-printed earlier told zones _ (end_of 0 segments) (end_of 0 segments) tells.new
-          (λ a b n positive rising was_told.
-          let there = tells.ends a b n positive rising was_told in
-          (omega (arith, there), omega (arith, there))) printed order;
-    }
+pub IsClosing-told : (account : Account) (events : ℕ) (earlier told zones : List ZoneBounds)
+    → IsTranscript account
+    → TellsLast account.pattern.tree account.trace.segments events earlier told
+    → IsPrinted told zones
+    → IsPermutation earlier (block_before (length account.blocks) account.blocks)
+    → IsClosing (account_closed account events zones)
+IsClosing-told account events earlier told zones transcript tells printed order = record {
+  none = λ silent. none_of told zones printed.same (tells.none silent);
+  all = λ happens. all_with account.blocks account.pattern.tree account.trace.segments events
+      earlier told zones happens transcript.count
+      (λ count some. exact_of account count some transcript) tells printed;
+  told = AreTold-printed earlier told zones _ (end_of 0 account.trace.segments)
+      (end_of 0 account.trace.segments) tells.new
+      (λ a b n positive rising was_told.
+      let there = tells.ends a b n positive rising was_told in
+      (omega (arith, there), omega (arith, there))) printed order;
+}

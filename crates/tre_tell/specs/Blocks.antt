@@ -7,14 +7,7 @@ use Rattle.tre_trace.specs.Trace.{Timeline, end_of}
 use Rattle.tre_trace.specs.declared.segment.Segment.{Segment}
 use Rattle.tre_zone.specs.declared.zone_bounds.ZoneBounds.{ZoneBounds}
 use Rattle.tre_tell.specs.Sought.{Sought}
-use Rattle.tre_tell.specs.Transcript.{IsTranscript, IsClosing}
-
--- What is told of one pattern: the zones of each block, and those that the end completes.
-pub record Account : Type 0 where
-  pub pattern : Sought
-  pub trace : Timeline
-  pub blocks : List (List ZoneBounds)
-  pub closing : List ZoneBounds
+use Rattle.tre_tell.specs.Transcript.{Account, IsTranscript}
 
 -- The accounts are those of these patterns over these traces, one for each, and the blocks of each
 -- are right.
@@ -22,14 +15,7 @@ pub record AreAccounts (patterns : List Sought) (traces : List Timeline)
     (accounts : List Account) : Type 0 where
   pub of_patterns : map (λ account. account.pattern) accounts ≡ patterns
   pub over_traces : map (λ account. account.trace) accounts ≡ traces
-  pub told : All (λ account. IsTranscript account.blocks account.pattern.tree
-      account.trace.segments) accounts
-
--- What the ends of the traces complete is right too.
-abbrev pub AreClosed : List Account → Type 0
-AreClosed accounts =
-    All (λ account. IsClosing account.blocks account.closing account.pattern.tree account.trace)
-    accounts
+  pub told : All IsTranscript accounts
 
 -- the lines of zones at a scale, each behind the label
 abbrev pub lines_with : ℕ → List ℕ → List ZoneBounds → List ℕ

@@ -1,9 +1,10 @@
 -- What the telling of an input leaves in the output, however it ends.
-use Rattle.std.specs.Prelude.{◌≡◌, ℕ, suc, ◌<◌, ◌≤◌, Bool, true, false, List, ◌++◌, length, take, IsTrue}
+use Rattle.std.specs.Prelude.{◌≡◌, ℕ, suc, ◌<◌, ◌≤◌, Bool, true, false, All, List, ◌++◌, length, take, IsTrue}
 use Rattle.std.specs.Io.KnownBytes.{Appends, IsAtEnd}
 use Rattle.tre_trace.specs.Reading.{Reading}
 use Rattle.tre_trace.specs.Trace.{Timeline}
-use Rattle.tre_tell.specs.Blocks.{Account, AreAccounts, AreClosed, blocks_text, ending_text}
+use Rattle.tre_tell.specs.Blocks.{AreAccounts, blocks_text, ending_text}
+use Rattle.tre_tell.specs.Transcript.{Account, IsClosing}
 use Rattle.tre_feed.specs.Input.{InputTold, WereRead, OfAllBytes, HasLastPiece}
 use Rattle.tre_feed.specs.Readings.{common, common_of}
 use Rattle.tre_tell.specs.Outputs.{OutputTold, AllWritesGood, IsCutBehind}
@@ -77,7 +78,7 @@ pub record IsOnlineAnswer (watched : Watched) (bytes text : List ℕ) : Type 0 w
   pub are : AreTraces watched bytes traces
   pub accounts : List Account
   pub told : AreAccounts watched.patterns traces accounts
-  pub closed : AreClosed accounts
+  pub closed : All IsClosing accounts
   pub printed : text
       ≡ blocks_text watched.scale accounts (common_of watched.readings true bytes).segments
       ++ ending_text watched.scale accounts (common_of watched.readings true bytes).segments

@@ -1,6 +1,6 @@
 -- What the parts of a telling promise each other of what was told. A row is the segments of one
 -- pattern, and a column the segments of all patterns at one place.
-use Rattle.std.specs.Prelude.{◌≡◌, ◌<◌, ℕ, List, [], ◌∷◌, ◌++◌, length, take, map, Option, Result, Ok, Err, IsPermutation}
+use Rattle.std.specs.Prelude.{◌≡◌, ◌<◌, ℕ, All, List, [], ◌∷◌, ◌++◌, length, take, map, Option, Result, Ok, Err, IsPermutation}
 use Rattle.std.specs.List.{AllByRecursion, AllZip}
 use Rattle.std.specs.Io.KnownBytes.{Appends}
 use Rattle.tre_feed.specs.Readers.{column}
@@ -12,10 +12,10 @@ use Rattle.tre_parts.specs.Alike.{lengths_of}
 use Rattle.tre_trace.specs.Trace.{Timeline, timeline_of, quiet, Fits, IsTrace}
 use Rattle.tre_trace.specs.declared.segment.Segment.{Segment}
 use Rattle.tre_zone.specs.declared.zone_bounds.ZoneBounds.{ZoneBounds}
-use Rattle.tre_tell.specs.Blocks.{Account, AreAccounts, AreClosed, blocks_text, ending_text}
+use Rattle.tre_tell.specs.Blocks.{AreAccounts, blocks_text, ending_text}
 use Rattle.tre_tell.specs.Outputs.{IsCutBehind}
 use Rattle.tre_tell.specs.Sought.{Sought}
-use Rattle.tre_tell.specs.Transcript.{block_before}
+use Rattle.tre_tell.specs.Transcript.{Account, IsClosing, block_before}
 use Rattle.tre_tell.specs.declared.fault.TellFault.{TellFault}
 use Rattle.tre_tell.specs.declared.fault.TellFault.TheVariants.{Write, Memory}
 
@@ -124,7 +124,7 @@ pub record HasClosed (scale : ℕ) (patterns : List Sought) (rows : List (List S
     (traces : List Timeline) (before now : Option (List ℕ)) : Type 0 where
   pub accounts : List Account
   pub are : AreAccounts patterns traces accounts
-  pub closed : AreClosed accounts
+  pub closed : All IsClosing accounts
   pub written : Appends before now (blocks_text scale accounts (first_row rows)
       ++ ending_text scale accounts (first_row rows))
 
@@ -133,7 +133,7 @@ pub record ClosingIsCut (scale : ℕ) (patterns : List Sought) (rows : List (Lis
     (traces : List Timeline) (before now : Option (List ℕ)) : Type 0 where
   pub accounts : List Account
   pub are : AreAccounts patterns traces accounts
-  pub closed : AreClosed accounts
+  pub closed : All IsClosing accounts
   pub cut : IsCutBehind (blocks_text scale accounts (first_row rows))
       (blocks_text scale accounts (first_row rows) ++ ending_text scale accounts (first_row rows))
       before now

@@ -3,12 +3,18 @@
 use Rattle.std.specs.Prelude.{◌≡◌, ◌≢◌, ℕ, zero, suc, ◌*◌, ◌<◌, ◌≤◌, All, Any, List, [], ◌++◌, length, take, get_or, flat_map}
 use Rattle.tre_show.specs.Order.{IsRising}
 use Rattle.tre_syntax.specs.Meaning.{Matches}
-use Rattle.tre_syntax.specs.PatternTree.{PatternTree}
 use Rattle.tre_trace.specs.Trace.{Timeline, quiet, end_of}
-use Rattle.tre_trace.specs.declared.segment.Segment.{Segment}
 use Rattle.tre_zone.specs.Zone.{Includes}
 use Rattle.tre_zone.specs.ZoneList.{SetHolds, IsApart, AreTight, HoldExactly}
 use Rattle.tre_zone.specs.declared.zone_bounds.ZoneBounds.{ZoneBounds}
+use Rattle.tre_tell.specs.Sought.{Sought}
+
+-- What is told of one pattern: the zones of each block, and those that the end completes.
+pub record Account : Type 0 where
+  pub pattern : Sought
+  pub trace : Timeline
+  pub blocks : List (List ZoneBounds)
+  pub closing : List ZoneBounds
 
 -- The zones of some blocks, as one list.
 abbrev pub zones_of : List (List ZoneBounds) → List ZoneBounds
@@ -34,26 +40,24 @@ pub record AreTold (earlier : List ZoneBounds) (from to : ℕ) (zones : List Zon
 -- The block of the segment at place i, counted from 0. With the blocks before it, it tells exactly
 -- the matches over the trace up to its segment's end. Its pairs end within the segment, its begin
 -- and end included.
-pub record IsBlock (blocks : List (List ZoneBounds)) (tree : PatternTree) (trace : List Segment)
-    (i : ℕ) : Type 0 where
-  pub so_far : HoldExactly (zones_of (take (suc i) blocks))
-      (Matches tree (quiet (take (suc i) trace)))
-  pub told : AreTold (block_before i blocks) (end_of 0 (take i trace))
-      (end_of 0 (take (suc i) trace)) (get_or blocks i [])
+pub record IsBlock (account : Account) (i : ℕ) : Type 0 where
+  pub so_far : HoldExactly (zones_of (take (suc i) account.blocks))
+      (Matches account.pattern.tree (quiet (take (suc i) account.trace.segments)))
+  pub told : AreTold (block_before i account.blocks) (end_of 0 (take i account.trace.segments))
+      (end_of 0 (take (suc i) account.trace.segments)) (get_or account.blocks i [])
 
 -- One block for each segment of the trace. So the first tells exactly the matches over the first
 -- segment, and all together exactly those over the trace.
-pub record IsTranscript (blocks : List (List ZoneBounds)) (tree : PatternTree)
-    (trace : List Segment) : Type 0 where
-  pub count : length blocks ≡ length trace
-  pub each : (i : ℕ) → i < length trace → IsBlock blocks tree trace i
+pub record IsTranscript (account : Account) : Type 0 where
+  pub count : length account.blocks ≡ length account.trace.segments
+  pub each : (i : ℕ) → i < length account.trace.segments → IsBlock account i
 
 -- What the end of the trace completes, where a block was told for each of its segments. Where no
 -- event happens there, that is nothing. Else all that is told is exactly the matches over the
 -- trace. The pairs end where the trace does.
-pub record IsClosing (blocks : List (List ZoneBounds)) (zones : List ZoneBounds)
-    (tree : PatternTree) (trace : Timeline) : Type 0 where
-  pub none : trace.last ≡ 0 → zones ≡ []
-  pub all : trace.last ≢ 0 → HoldExactly (zones_of blocks ++ zones) (Matches tree trace)
-  pub told : AreTold (block_before (length blocks) blocks) (end_of 0 trace.segments)
-      (end_of 0 trace.segments) zones
+pub record IsClosing (account : Account) : Type 0 where
+  pub none : account.trace.last ≡ 0 → account.closing ≡ []
+  pub all : account.trace.last ≢ 0 → HoldExactly (zones_of account.blocks ++ account.closing)
+      (Matches account.pattern.tree account.trace)
+  pub told : AreTold (block_before (length account.blocks) account.blocks)
+      (end_of 0 account.trace.segments) (end_of 0 account.trace.segments) account.closing

@@ -3,7 +3,8 @@
 ghost use Rattle.std.specs.Prelude.{◌≡◌, ◌++◌, ◌∷◌, ℕ, Bool, false, List, [], Option, None, Some, length, map};
 ghost use Rattle.tre_feed.specs.Input.{InputTold};
 ghost use Rattle.tre_syntax.specs.declared.pattern.Pattern.{Pattern};
-ghost use Rattle.tre_tell.specs.Blocks.{Account, blocks_text, ending_text};
+ghost use Rattle.tre_tell.specs.Blocks.{blocks_text, ending_text};
+ghost use Rattle.tre_tell.specs.Transcript.{Account};
 ghost use Rattle.tre_tell.specs.OnlineText.{AreBlocksOf, online_text};
 ghost use Rattle.tre_tell.specs.Outputs.{OutputTold, NothingWritten};
 ghost use Rattle.tre_tell.specs.Standing.{FirstBlocksStand};
