@@ -87,6 +87,9 @@ pub fn advance_brief(
     ensures { IfOk result (λ told. Advances (atom_mark here.old begun.now) (tree_of expr.now)
         entering.now piece.now told (atom_mark here.new begun.now)) }
 {
+    if are_empty(here, begun, entering) {
+        return Ok(ZoneSet::new(alloc));
+    }
     let told = tell_atom(alloc, here, begun, expr, entering, piece)?;
     *here = ending_at(alloc, entering, piece.begin + piece.segment.len)?;
     Ok(told)
@@ -108,6 +111,9 @@ pub fn advance_literal(
     ensures { IfOk result (λ told. Advances (atom_mark here.old begun.old) (tree_of expr.now)
         entering.now piece.now told (atom_mark here.new begun.new)) }
 {
+    if are_empty(here, begun, entering) {
+        return Ok(ZoneSet::new(alloc));
+    }
     let end = piece.begin + piece.segment.len;
     let told = tell_atom(alloc, here, begun, expr, entering, piece)?;
     *here = ending_at(alloc, entering, end)?;
@@ -128,9 +134,6 @@ fn tell_atom(
     ensures { IfOk result (λ told.
         TellsAtom here.now begun.now entering.now (tree_of expr.now) piece.now told) }
 {
-    if are_empty(here, begun, entering) {
-        return Ok(ZoneSet::new(alloc));
-    }
     let inside = inside_of(alloc, expr, piece)?;
     let going = going_on(alloc, here, begun, entering, &inside)?;
     joined_behind(begun, going)

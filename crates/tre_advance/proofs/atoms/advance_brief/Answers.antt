@@ -6,6 +6,7 @@ use Rattle.tre_mark.specs.MarkTree.{atom_mark}
 use Rattle.tre_mark.specs.Marked.{IsWell}
 use Rattle.tre_advance.specs.Advance.{Advances}
 use Rattle.tre_advance.specs.Moves.{IsBriefTree}
+use Rattle.tre_advance.proofs.AtomForms.{brief_idle}
 use Rattle.tre_advance.proofs.Onward.{brief_advances}
 use Rattle.tre_advance.proofs.atoms.advance_brief.Goals as goal
 
@@ -22,6 +23,12 @@ none_begun time here begun (alternation left right) is well = absurd is
 none_begun time here begun (intersection left right) is well = absurd is
 none_begun time here begun (repetition tree) is well = absurd is
 none_begun time here begun (restriction tree ends) is well = absurd is
+
+pub returns-then-are_empty : goal.returns-then-are_empty
+returns-then-are_empty c =
+    brief_idle c.args.piece.now c.args.here.now c.args.begun.now c.args.entering.now c.new.result
+    c.new.ensures (c.are_empty.ensures c.if-are_empty.true) (tree_of c.args.expr.now)
+    c.requires.well c.requires.enter c.requires.brief
 
 pub returns : goal.returns
 returns c =
