@@ -1,5 +1,5 @@
 -- The steps of atoms, as the calls say them.
-use Rattle.std.proofs.Common.{◌≡◌, ◌*◌, List, [], ⊎_elim}
+use Rattle.std.proofs.Common.{◌≡◌, ◌*◌, List, [], ⊎_elim, subst, sym}
 use Rattle.tre_pairs.specs.Pairs.{Composed, Either, Both}
 use Rattle.tre_pairs.proofs.Laws.{Agree}
 use Rattle.tre_zone.specs.Held.{Held, IsSetOf}
@@ -14,9 +14,11 @@ use Rattle.tre_edges.specs.declared.piece.Piece.{Piece}
 use Rattle.tre_mark.specs.MarkTree.{atom_mark}
 use Rattle.tre_mark.specs.Marked.{EndBetween, IsWellAt}
 use Rattle.tre_mark.proofs.Agreeing.{agree_refl, agree_then, agree_composed, agree_either}
+use Rattle.tre_advance.specs.Advance.{Advances}
 use Rattle.tre_advance.specs.Moves.{EntersTo, TellsAtom, IsBriefTree, IsLiteralTree}
 use Rattle.tre_advance.proofs.AtomSteps.{IsBrief, brief_empty, brief_rise, brief_fall, brief_event, brief_beside, literal_beside}
 use Rattle.tre_advance.proofs.Going.{alone}
+use Rattle.tre_advance.proofs.Onward.{AtomTold, brief_advances, literal_advances}
 use Rattle.tre_advance.proofs.SetsOf.{set_agrees, set_of, set_exact, set_none, no_pair}
 use Rattle.tre_advance.proofs.Steps.{Followed, enters_of}
 
@@ -105,16 +107,35 @@ tells_atom piece here begun enter inside going told tree held set union = record
       (agree_refl (Held begun))));
 }
 
-pub tells_none : (piece : Piece) (here begun enter told : List ZoneBounds) (tree : PatternTree)
-    → told ≡ [] → (here ≡ []) × (begun ≡ []) × (enter ≡ [])
-    → TellsAtom here begun enter tree piece told
-tells_none piece here begun enter told tree nothing none = record {
-  set = set_none told _ nothing
+-- Where nothing is here, has begun or enters, an atom tells nothing, and nothing changes.
+module _ (piece : Piece) (here begun enter told : List ZoneBounds) (nothing : told ≡ [])
+    (none : (here ≡ []) × (begun ≡ []) × (enter ≡ [])) (tree : PatternTree)
+    (well : IsWellAt piece.begin (atom_mark here begun) tree)
+    (between : EndBetween piece.begin (end_of_piece piece) enter) where
+  tells_none : IsSetOf told (AtomTold here begun enter (MatchesRest tree (alone piece)))
+  tells_none = set_none told _ nothing
       (λ a b n some h. ⊎_elim
       (λ x. ⊎_elim
       (λ y. ⊎_elim
       (λ z. no_pair here none.0 (x.factor * a) x.midpoint (x.factor * n) z)
       (λ z. no_pair begun none.1 (x.factor * a) x.midpoint (x.factor * n) z) y)
       (λ y. no_pair enter none.2 (x.factor * a) x.midpoint (x.factor * n) y) x.left)
-      (λ x. no_pair begun none.1 a b n x) h);
-}
+      (λ x. no_pair begun none.1 a b n x) h)
+
+  keeps_none : IsSetOf here (Both (Held enter) (EndsAt (end_of_piece piece)))
+  keeps_none = set_none here _ none.0 (λ a b n some h. no_pair enter none.2 a b n h.left)
+
+  pub literal_idle : IsLiteralTree tree
+      → Advances (atom_mark here begun) tree enter piece told (atom_mark here begun)
+  literal_idle is =
+      literal_advances piece here begun enter told here between keeps_none begun tree is well
+      tells_none
+      (set_none begun _ none.1 (λ a b n some h. no_pair told nothing a b n h.left))
+
+  pub brief_idle : IsBriefTree tree
+      → Advances (atom_mark here begun) tree enter piece told (atom_mark here begun)
+  brief_idle is =
+      subst (λ (list : List ZoneBounds). Advances (atom_mark here begun) tree enter piece told
+      (atom_mark here list)) (sym none.1)
+      (brief_advances piece here begun enter told here between keeps_none tree is well
+      tells_none)

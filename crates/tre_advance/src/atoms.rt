@@ -17,6 +17,7 @@ ghost use Rattle.tre_advance.specs.Moves.{EntersTo, TellsAtom, AreAmong, IsBrief
 use crate::sets::{all_among, ending_at, followed, joined, joined_behind, joined_both, set_of};
 use crate::stepping::take_ends;
 use std::alloc::{AllocError, Global};
+use std::mem;
 use tre_edges::{Piece, literal_in};
 use tre_offline::local;
 use tre_syntax::Expr;
@@ -87,7 +88,11 @@ pub fn advance_brief(
     ensures { IfOk result (λ told. Advances (atom_mark here.old begun.now) (tree_of expr.now)
         entering.now piece.now told (atom_mark here.new begun.now)) }
 {
-    let told = tell_atom(alloc, here, begun, expr, entering, piece)?;
+    if are_empty(here, begun, entering) {
+        return Ok(ZoneSet::new(alloc));
+    }
+    let none = ZoneSet::new(alloc);
+    let told = tell_atom(alloc, here, none, expr, entering, piece)?;
     *here = ending_at(alloc, entering, piece.begin + piece.segment.len)?;
     Ok(told)
 }
@@ -108,31 +113,32 @@ pub fn advance_literal(
     ensures { IfOk result (λ told. Advances (atom_mark here.old begun.old) (tree_of expr.now)
         entering.now piece.now told (atom_mark here.new begun.new)) }
 {
+    if are_empty(here, begun, entering) {
+        return Ok(ZoneSet::new(alloc));
+    }
     let end = piece.begin + piece.segment.len;
-    let told = tell_atom(alloc, here, begun, expr, entering, piece)?;
+    let old = mem::replace(begun, ZoneSet::new(alloc));
+    let told = tell_atom(alloc, here, old, expr, entering, piece)?;
     *here = ending_at(alloc, entering, end)?;
     *begun = ending_at(alloc, &told, end)?;
     Ok(told)
 }
 
-// What an atom tells over the piece.
+// What an atom tells over the piece. What has begun is told too, and so given away.
 fn tell_atom(
     alloc: Global,
     here: &ZoneSet,
-    begun: &ZoneSet,
+    begun: ZoneSet,
     expr: &Expr,
     entering: &ZoneSet,
     piece: &Piece,
 ) -> Result<ZoneSet, AllocError>
     requires { NumbersBelow NAMES_MAX (tree_of expr.now) }
     ensures { IfOk result (λ told.
-        TellsAtom here.now begun.now entering.now (tree_of expr.now) piece.now told) }
+        TellsAtom here.now begun entering.now (tree_of expr.now) piece.now told) }
 {
-    if are_empty(here, begun, entering) {
-        return Ok(ZoneSet::new(alloc));
-    }
     let inside = inside_of(alloc, expr, piece)?;
-    let going = going_on(alloc, here, begun, entering, &inside)?;
+    let going = going_on(alloc, here, &begun, entering, &inside)?;
     joined_behind(begun, going)
 }
 

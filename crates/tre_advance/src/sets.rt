@@ -69,15 +69,14 @@ pub fn joined(one: ZoneSet, other: &ZoneSet) -> Result<ZoneSet, AllocError>
     Ok(whole)
 }
 
-/// The same, of a set that may have to be kept and of one that is not needed any more.
-pub fn joined_behind(one: &ZoneSet, other: ZoneSet) -> Result<ZoneSet, AllocError>
-    ensures { IfOk result (λ zones. IsSetOf zones (Either (Held other) (Held one.now))) }
+/// The same of sets that are both not needed any more.
+pub fn joined_behind(one: ZoneSet, other: ZoneSet) -> Result<ZoneSet, AllocError>
+    ensures { IfOk result (λ zones. IsSetOf zones (Either (Held other) (Held one))) }
 {
     if one.is_empty() {
         return Ok(other);
     }
-    let first = one.try_clone()?;
-    let whole = joined(first, &other)?;
+    let whole = joined(one, &other)?;
     Ok(whole)
 }
 

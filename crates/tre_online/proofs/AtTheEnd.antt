@@ -15,10 +15,10 @@ use Rattle.tre_syntax.specs.Pattern.{pattern_tree}
 use Rattle.tre_syntax.specs.PatternTree.{PatternTree}
 use Rattle.tre_syntax.specs.Rest.{rest_of, whole, prefixed}
 use Rattle.tre_syntax.proofs.CutMeaning.{IsBounded-rest}
-use Rattle.tre_mark.specs.MarkTree.{MarkTree, mark_of}
+use Rattle.tre_mark.specs.MarkTree.{MarkTree}
 use Rattle.tre_mark.specs.Marked.{Marked}
 use Rattle.tre_advance.specs.Closing.{Closes}
-use Rattle.tre_online.specs.Session.{cut_after, AwaitsMatches, StandsFor, TellsLast}
+use Rattle.tre_online.specs.Session.{at_of, ended_of, kept_of, cut_after, AwaitsMatches, StandsFor, TellsLast}
 use Rattle.tre_online.specs.Told.{WasTold}
 use Rattle.tre_online.specs.declared.session.Session.{Session}
 use Rattle.tre_online.proofs.NewZones.{never_kept, held_or_told}
@@ -159,11 +159,11 @@ module _ (tree : PatternTree) (u : List Segment) (long : AreLong u) (events time
 -- A session tells what its mark tells there, without what it told last.
 pub tells_at_end : (session : Session) (u : List Segment) (events : ℕ)
     (found told : List ZoneBounds) → StandsFor session u → IsZoneSet found
-    → Without (WasTold session.ended) found told
-    → Closes (mark_of session.mark) (pattern_tree session.pattern.value) session.at events found
+    → Without (WasTold (ended_of session)) found told
+    → Closes (kept_of session) (pattern_tree session.pattern.value) (at_of session) events found
     → (events ≡ 0 → ⊥)
-    → TellsLast (pattern_tree session.pattern.value) u events session.ended told
+    → TellsLast (pattern_tree session.pattern.value) u events (ended_of session) told
 tells_at_end session u events found told standing set without closes happens =
-    tells_last (pattern_tree session.pattern.value) u standing.trace.long events session.at
-    (mark_of session.mark) found standing.at standing.awaits closes session.ended told set without
+    tells_last (pattern_tree session.pattern.value) u standing.trace.long events (at_of session)
+    (kept_of session) found standing.at standing.awaits closes (ended_of session) told set without
     standing.ended standing.unstarted happens

@@ -1,6 +1,7 @@
 -- What a session stands for, before and behind a segment.
 use Rattle.std.proofs.Common.{◌≡◌, ℕ, ◌+◌, ◌*◌, ◌<◌, ◌≤◌, ◌↔◌, Option, None, Some, List, [], ◌∷◌, ◌++◌, refl, sym, ap, subst, inl, inr, ⊎_elim, arith, append_assoc, ◌∙◌}
 use Rattle.std.proofs.Math.Nat.{mul-le-mul_right, mul-pos}
+use Rattle.tre_pairs.specs.declared.TheConstants.{TIME_MAX}
 use Rattle.tre_pairs.specs.Cuts.{Crossing}
 use Rattle.tre_pairs.specs.Pairs.{Composed, Either}
 use Rattle.tre_pairs.proofs.Chains.{Composed-at}
@@ -12,6 +13,7 @@ use Rattle.tre_syntax.specs.Cut.{last_of, MatchesBehind, MatchesAcross}
 use Rattle.tre_syntax.specs.Meaning.{Matches, MatchesRest}
 use Rattle.tre_syntax.specs.Pattern.{pattern_tree}
 use Rattle.tre_syntax.specs.PatternTree.{PatternTree}
+use Rattle.tre_syntax.specs.declared.pattern.Pattern.{Pattern}
 use Rattle.tre_syntax.specs.Rest.{Rest, rest_of, prefixed}
 use Rattle.tre_syntax.proofs.CutMeaning.{IsCut-Matches, IsBounded-rest, IsOrdered-rest, Scales-rest}
 use Rattle.tre_trace.specs.Trace.{Timeline, quiet, AreLong, end_of, Fits}
@@ -27,9 +29,10 @@ use Rattle.tre_mark.specs.MarkTree.{MarkTree, mark_of}
 use Rattle.tre_mark.specs.Marked.{since, CanTakeIn, Marked, IsStart, IsWellAt}
 use Rattle.tre_advance.specs.Advance.{GoesOver, MarkedBehind, before_piece, Advances}
 use Rattle.tre_advance.proofs.Opening.{all_later}
-use Rattle.tre_online.specs.Reading.{AreMoments, IsPieceFor, Reads}
-use Rattle.tre_online.specs.Session.{cut_after, AwaitsMatches, StandsFor, TellsNew}
+use Rattle.tre_online.specs.Reading.{AreMoments, IsPieceFor, IsBehind, Reads}
+use Rattle.tre_online.specs.Session.{pattern_of, at_of, held_of, ended_of, kept_of, cut_after, AwaitsMatches, StandsFor, TellsNew}
 use Rattle.tre_online.specs.Told.{WasTold}
+use Rattle.tre_online.specs.declared.session.Progress.{Progress}
 use Rattle.tre_online.specs.declared.session.Session.{Session}
 use Rattle.tre_online.proofs.NewZones.{never_kept, held_or_told}
 
@@ -334,42 +337,66 @@ AreMoments-of from to zones exact = record {
   };
 }
 
+-- The same, said of what is equal.
+takes_same : (time time' : ℕ) (before before' : Option ℕ) (mark mark' : MarkTree)
+    (tree tree' : PatternTree) → time ≡ time' → before ≡ before' → mark ≡ mark' → tree ≡ tree'
+    → CanTakeIn (since time' before' []) mark' tree' → CanTakeIn (since time before []) mark tree
+takes_same time time' before before' mark mark' tree tree' at last same shape can =
+    rw (at, last, same, shape) can
+
+awaits_same : (mark mark' : MarkTree) (tree tree' : PatternTree) (u : List Segment) → mark ≡ mark'
+    → tree ≡ tree' → AwaitsMatches mark' tree' u → AwaitsMatches mark tree u
+awaits_same mark mark' tree tree' u same shape awaits = rw (same, shape) awaits
+
 -- A session that has read nothing.
 pub stands_at_start : (session : Session) (tree : PatternTree) (zones : List ZoneBounds)
-    → AreMoments 0 0 zones → IsStart 0 zones (mark_of session.mark) tree
-    → pattern_tree session.pattern.value ≡ tree → session.at ≡ 0 → session.last ≡ None
-    → session.ended ≡ [] → StandsFor session []
+    → AreMoments 0 0 zones → IsStart 0 zones (kept_of session) tree
+    → pattern_tree (pattern_of session) ≡ tree → at_of session ≡ 0 → held_of session ≡ None
+    → ended_of session ≡ [] → StandsFor session []
 stands_at_start session tree zones moments start pattern at last ended = record {
   trace = record { long = tt; in_time = omega arith };
   at = at;
   last = last;
-  awaits = rw pattern (start_awaits tree zones (mark_of session.mark) moments start);
-  takes = rw (pattern, at, last) (start.takes None);
+  awaits = rw pattern (start_awaits tree zones (kept_of session) moments start);
+  takes = takes_same (at_of session) 0 (held_of session) None (kept_of session) (kept_of session)
+      (pattern_tree (pattern_of session)) tree at last refl pattern (start.takes None);
   ended = λ a b n some le h. absurd
       (SetHolds-empty a b n (subst (λ (list : List ZoneBounds). SetHolds list a b n) ended h));
   unstarted = λ none. ended;
 }
 
+-- What was read with the parts of a session was read with the session.
+pub reads_with : (session : Session) (pattern : Pattern) (progress : Progress) (piece : Piece)
+    (told : List ZoneBounds) (rest : MarkTree) → pattern ≡ session.pattern.value
+    → progress ≡ session.progress.value
+    → Reads (mark_of progress.mark) (pattern_tree pattern) progress.ended piece told rest
+    → Reads (kept_of session) (pattern_tree (pattern_of session)) (ended_of session) piece told rest
+reads_with session pattern progress piece told rest is_pattern is_progress reads =
+    subst (λ (p : Progress).
+    Reads (mark_of p.mark) (pattern_tree session.pattern.value) p.ended piece told rest) is_progress
+    (subst (λ (p : Pattern).
+    Reads (mark_of progress.mark) (pattern_tree p) progress.ended piece told rest) is_pattern reads)
+
 module _ (old : Session) (whole : MarkTree) (u : List Segment) (segment : Segment)
     (piece : Piece) (told : List ZoneBounds) (standing : StandsFor old u)
     (is_piece : IsPieceFor old segment piece)
-    (reads : Reads (mark_of old.mark) (pattern_tree old.pattern.value) old.ended piece told
+    (reads : Reads (kept_of old) (pattern_tree old.pattern.value) (ended_of old) piece told
     whole) where
   -- What begins in the piece can be taken in.
-  can_here : CanTakeIn (before_piece piece) (mark_of old.mark) (pattern_tree old.pattern.value)
-  can_here = subst (λ (time : ℕ). CanTakeIn (since time piece.before []) (mark_of old.mark)
+  can_here : CanTakeIn (before_piece piece) (kept_of old) (pattern_tree old.pattern.value)
+  can_here = subst (λ (time : ℕ). CanTakeIn (since time piece.before []) (kept_of old)
       (pattern_tree old.pattern.value)) (sym is_piece.begin)
-      (subst (λ (before : Option ℕ). CanTakeIn (since old.at before []) (mark_of old.mark)
+      (subst (λ (before : Option ℕ). CanTakeIn (since (at_of old) before []) (kept_of old)
       (pattern_tree old.pattern.value)) (sym is_piece.before) standing.takes)
 
   -- A session that has read one more segment.
-  pub tells_after : TellsNew (pattern_tree old.pattern.value) u segment old.ended told
+  pub tells_after : TellsNew (pattern_tree old.pattern.value) u segment (ended_of old) told
   tells_after =
-      subst (λ (s : Segment). TellsNew (pattern_tree old.pattern.value) u s old.ended told)
+      subst (λ (s : Segment). TellsNew (pattern_tree old.pattern.value) u s (ended_of old) told)
       is_piece.same
-      (tells_new (pattern_tree old.pattern.value) u piece (mark_of old.mark)
+      (tells_new (pattern_tree old.pattern.value) u piece (kept_of old)
       (is_piece.begin ∙ standing.at) (is_piece.before ∙ standing.last) standing.trace.long
-      standing.awaits reads.entering reads.found whole reads.moments reads.advances can_here old.ended
+      standing.awaits reads.entering reads.found whole reads.moments reads.advances can_here (ended_of old)
       told reads.set reads.without
       standing.ended standing.unstarted)
 
@@ -382,11 +409,14 @@ module _ (old : Session) (whole : MarkTree) (u : List Segment) (segment : Segmen
       } in
       subst (λ (s : Segment). Fits u s) is_piece.same fits
 
-  pub stands_after : (new : Session) → mark_of new.mark ≡ whole
-      → pattern_tree new.pattern.value ≡ pattern_tree old.pattern.value
-      → new.at ≡ piece.begin + segment.len → new.last ≡ Some segment.val → new.ended ≡ told
-      → StandsFor new (u ++ segment ∷ [])
-  stands_after new mark pattern at last ended =
+  pub stands_after : (new : Session) → kept_of new ≡ whole
+      → pattern_tree (pattern_of new) ≡ pattern_tree (pattern_of old)
+      → IsBehind piece told new.progress.value → StandsFor new (u ++ segment ∷ [])
+  stands_after new mark pattern ends =
+      let at : at_of new ≡ piece.begin + segment.len =
+      ends.at ∙ ap (λ (s : Segment). piece.begin + s.len) is_piece.same in
+      let last : held_of new ≡ Some segment.val =
+      ends.last ∙ ap (λ (s : Segment). Some s.val) is_piece.same in
       let time : end_of 0 (u ++ segment ∷ []) ≡ end_of 0 u + segment.len =
       end_of-append 0 u (segment ∷ []) in
       let value : last_of None (u ++ segment ∷ []) ≡ Some segment.val =
@@ -395,26 +425,35 @@ module _ (old : Session) (whole : MarkTree) (u : List Segment) (segment : Segmen
         trace = IsTrace-push u segment standing.trace fits_after;
         at = at ∙ ap (λ (t : ℕ). t + segment.len) (is_piece.begin ∙ standing.at) ∙ sym time;
         last = last ∙ sym value;
-        takes = rw (pattern, mark, at, last)
+        takes = takes_same (at_of new) (piece.begin + segment.len) (held_of new)
+            (Some segment.val) (kept_of new) whole (pattern_tree (pattern_of new))
+            (pattern_tree (pattern_of old)) at last mark pattern
             (subst (λ (s : Segment). CanTakeIn (since (piece.begin + s.len) (Some s.val) []) whole
             (pattern_tree old.pattern.value)) is_piece.same
             (all_later piece whole (pattern_tree old.pattern.value) (reads.advances.takes can_here)));
-        awaits = rw (pattern, mark)
+        awaits = awaits_same (kept_of new) whole (pattern_tree (pattern_of new))
+            (pattern_tree (pattern_of old)) (u ++ segment ∷ []) mark pattern
             (subst (λ (s : Segment). AwaitsMatches whole
             (pattern_tree old.pattern.value) (u ++ s ∷ [])) is_piece.same
-            (awaits_after (pattern_tree old.pattern.value) u piece (mark_of old.mark)
+            (awaits_after (pattern_tree old.pattern.value) u piece (kept_of old)
             (is_piece.begin ∙ standing.at) (is_piece.before ∙ standing.last) standing.trace.long
             standing.awaits reads.entering reads.found whole reads.moments reads.advances can_here));
         ended = λ a b n some le h. rw pattern
             ((tells_after.all a b n some le).0
-            (inl (subst (λ (list : List ZoneBounds). SetHolds list a b n) ended h)));
+            (inl (subst (λ (list : List ZoneBounds). SetHolds list a b n) ends.ended h)));
         unstarted = λ none. absurd (pushed_some u segment none);
       }
 
--- What is kept is well where the piece ends.
-pub well_after : (before whole : MarkTree) (tree : PatternTree) (earlier told : List ZoneBounds)
-    (piece : Piece) (segment : Segment) → piece.segment ≡ segment
-    → Reads before tree earlier piece told whole
-    → IsWellAt (piece.begin + segment.len) whole tree
-well_after before whole tree earlier told piece segment same reads =
-    subst (λ (s : Segment). IsWellAt (piece.begin + s.len) whole tree) same reads.advances.well
+-- What is kept is in time and well where the piece ends.
+pub in_time_after : (piece : Piece) (told : List ZoneBounds) (progress : Progress)
+    → IsBehind piece told progress → progress.at ≤ TIME_MAX
+in_time_after piece told progress behind =
+    subst (λ (time : ℕ). time ≤ TIME_MAX) (sym behind.at) piece.in_time
+
+pub well_after : (before : MarkTree) (tree : PatternTree) (earlier told : List ZoneBounds)
+    (piece : Piece) (progress : Progress)
+    → Reads before tree earlier piece told (mark_of progress.mark)
+    → IsBehind piece told progress → IsWellAt progress.at (mark_of progress.mark) tree
+well_after before tree earlier told piece progress reads behind =
+    subst (λ (time : ℕ). IsWellAt time (mark_of progress.mark) tree) (sym behind.at)
+    reads.advances.well

@@ -1,5 +1,5 @@
 -- What the functions inside a session promise each other.
-use Rattle.std.specs.Prelude.{◌≡◌, ℕ, List}
+use Rattle.std.specs.Prelude.{◌≡◌, ℕ, Some, List}
 use Rattle.tre_edges.specs.Piece.{end_of_piece}
 use Rattle.tre_edges.specs.declared.piece.Piece.{Piece}
 use Rattle.tre_syntax.specs.PatternTree.{PatternTree}
@@ -11,8 +11,9 @@ use Rattle.tre_zoneset.specs.ZoneSet.{IsZoneSet, Without}
 use Rattle.tre_mark.specs.MarkTree.{MarkTree}
 use Rattle.tre_mark.specs.Marked.{EndBetween}
 use Rattle.tre_advance.specs.Advance.{Advances}
-use Rattle.tre_online.specs.Session.{at_of}
+use Rattle.tre_online.specs.Session.{at_of, held_of}
 use Rattle.tre_online.specs.Told.{WasTold}
+use Rattle.tre_online.specs.declared.session.Progress.{Progress}
 use Rattle.tre_online.specs.declared.session.Session.{Session}
 
 -- The zones are the moments from one time to another, each as a pair.
@@ -24,7 +25,7 @@ pub record AreMoments (from to : ℕ) (zones : List ZoneBounds) : Type 0 where
 pub record IsPieceFor (session : Session) (segment : Segment) (piece : Piece) : Type 0 where
   pub begin : piece.begin ≡ at_of session
   pub same : piece.segment ≡ segment
-  pub before : piece.before ≡ session.last
+  pub before : piece.before ≡ held_of session
 
 -- The mark has gone over the piece, with matches entering at every moment of it. What is told is
 -- what was found, without what was told earlier.
@@ -36,3 +37,9 @@ pub record Reads (mark : MarkTree) (tree : PatternTree) (earlier : List ZoneBoun
   pub set : IsZoneSet found
   pub advances : Advances mark tree entering piece found rest
   pub without : Without (WasTold earlier) found told
+
+-- The progress is that at the end of the piece, of which this was told.
+pub record IsBehind (piece : Piece) (told : List ZoneBounds) (progress : Progress) : Type 0 where
+  pub at : progress.at ≡ end_of_piece piece
+  pub last : progress.last ≡ Some piece.segment.val
+  pub ended : progress.ended ≡ told

@@ -1,5 +1,5 @@
 -- Sessions: what one stands for, and what it tells of a segment and of the end.
-use Rattle.std.specs.Prelude.{◌≡◌, ℕ, ◌*◌, ◌<◌, ◌≤◌, ◌↔◌, None, Contains, List, [], ◌∷◌, ◌++◌}
+use Rattle.std.specs.Prelude.{◌≡◌, ℕ, ◌*◌, ◌<◌, ◌≤◌, ◌↔◌, Option, None, Contains, List, [], ◌∷◌, ◌++◌}
 use Rattle.tre_pairs.specs.Pairs.{Either}
 use Rattle.tre_mark.specs.MarkTree.{MarkTree, mark_of}
 use Rattle.tre_mark.specs.Marked.{since, CanTakeIn, Marked}
@@ -21,15 +21,19 @@ pattern_of session = session.pattern.value
 
 -- When its trace ends so far, in ticks.
 abbrev pub at_of : Session → ℕ
-at_of session = session.at
+at_of session = session.progress.value.at
+
+-- The last valuation: None before the first segment.
+abbrev pub held_of : Session → Option ℕ
+held_of session = session.progress.value.last
 
 -- The zones that it told of its last segment.
 abbrev pub ended_of : Session → List ZoneBounds
-ended_of session = session.ended
+ended_of session = session.progress.value.ended
 
 -- How far the matches that may go on have come.
 abbrev pub kept_of : Session → MarkTree
-kept_of session = mark_of session.mark
+kept_of session = mark_of session.progress.value.mark
 
 -- A trace that is cut where its first segments end.
 abbrev pub cut_after : List Segment → Timeline → CutRest
@@ -49,9 +53,9 @@ pub record AwaitsMatches (mark : MarkTree) (tree : PatternTree) (segments : List
 pub record StandsFor (session : Session) (segments : List Segment) : Type 0 where
   pub trace : IsTrace segments
   pub at : at_of session ≡ end_of 0 segments
-  pub last : session.last ≡ last_of None segments
+  pub last : held_of session ≡ last_of None segments
   pub awaits : AwaitsMatches (kept_of session) (pattern_tree (pattern_of session)) segments
-  pub takes : CanTakeIn (since (at_of session) session.last []) (kept_of session)
+  pub takes : CanTakeIn (since (at_of session) (held_of session) []) (kept_of session)
       (pattern_tree (pattern_of session))
   pub ended : (a b n : ℕ) → 0 < n → a ≤ b → SetHolds (ended_of session) a b n
       → Matches (pattern_tree (pattern_of session)) (quiet segments) a b n

@@ -1,5 +1,6 @@
 -- That a mark is well can be so in one way only: so a session may keep it.
-use Rattle.std.specs.Prelude.{◌≡◌, ℕ, ◌+◌, ◌*◌, ◌<◌, ◌≤◌, Option, Some, None, MatchOption, List, []}
+use Rattle.std.specs.Prelude.{◌≡◌, ℕ, ◌+◌, ◌*◌, ◌<◌, ◌≤◌, Option, Some, None, MatchOption, List, [], Box}
+use Rattle.std.specs.Global.{Global}
 use Rattle.std.specs.Coded.{Coded-set, ×_prop, Π_prop, →_prop, Unit-prop, le_prop, coded_list}
 use native.Mathlib.Nat.{ℕ_set}
 use mathlib.Core.Path.{ap}
@@ -11,7 +12,7 @@ use Rattle.tre_zone.specs.contracts.zone_bounds.ZoneBounds as zone_bounds
 use Rattle.tre_zone.specs.declared.zone_bounds.ZoneBounds.{ZoneBounds}
 use Rattle.tre_mark.specs.MarkTree.{MarkTree, atom_mark, sequence_mark, alternation_mark, repetition_mark, intersection_none, intersection_one, restriction_none, restriction_one, mark_of}
 use Rattle.tre_mark.specs.Marked.{IsBare, IsEntered, IsBegun, IsWell, IsWellAt}
-use Rattle.tre_mark.specs.declared.mark.Mark.{Mark}
+use Rattle.tre_online.specs.declared.session.Progress.{Progress}
 
 zones_set : IsSet (List ZoneBounds)
 zones_set = Coded-set (coded_list zone_bounds.the_row.coded)
@@ -90,10 +91,12 @@ IsProp-IsWellAt time mark tree x y =
     ap (λ (well : IsWell time mark tree). record { well = well })
     (IsProp-form time mark tree x.well y.well)
 
--- The mark is one of the pattern at the time.
-abbrev pub IsWellNow : ℕ → Mark → Pattern → Type 0
-IsWellNow time mark pattern = IsWellAt time (mark_of mark) (pattern_tree pattern)
+-- The mark is one of the pattern at the time where the trace ends so far.
+abbrev pub IsWellNow : Box Progress Global → Box Pattern Global → Type 0
+IsWellNow progress pattern =
+    IsWellAt progress.value.at (mark_of progress.value.mark) (pattern_tree pattern.value)
 
-pub IsProp-IsWellNow : (time : ℕ) (mark : Mark) (pattern : Pattern)
-    → IsProp (IsWellNow time mark pattern)
-IsProp-IsWellNow time mark pattern = IsProp-IsWellAt time (mark_of mark) (pattern_tree pattern)
+pub IsProp-IsWellNow : (progress : Box Progress Global) (pattern : Box Pattern Global)
+    → IsProp (IsWellNow progress pattern)
+IsProp-IsWellNow progress pattern =
+    IsProp-IsWellAt progress.value.at (mark_of progress.value.mark) (pattern_tree pattern.value)

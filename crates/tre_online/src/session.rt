@@ -19,14 +19,20 @@ use tre_zoneset::ZoneSet;
 #[derive(Debug, Drop)]
 pub struct Session {
     alloc: Global,
-    // In a box, since a watch moves its sessions.
+    // In boxes, since a watch moves its sessions.
     pattern: Box<Pattern>,
+    progress: Box<Progress>,
+    ghost in_time: { (box_value progress).at ≤ TIME_MAX },
+    ghost well: { IsWellNow progress pattern } by { IsProp-IsWellNow progress pattern },
+}
+
+/// What a session keeps of its trace.
+#[derive(Debug, Drop)]
+pub struct Progress {
     at: u64,
     last: Option<u64>,
     ended: ZoneSet,
     mark: Mark,
-    ghost in_time: { at ≤ TIME_MAX },
-    ghost well: { IsWellNow at mark (box_value pattern) } by { IsProp-IsWellNow at mark (box_value pattern) },
 }
 
 impl Session {
@@ -40,7 +46,7 @@ impl Session {
     ghost use Rattle.tre_syntax.specs.PatternTree.{node_count};
     ghost use Rattle.tre_syntax.specs.Pattern.{pattern_tree, names_of};
     ghost use Rattle.tre_online.specs.Session.{pattern_of, at_of, ended_of, kept_of, StandsFor, TellsNew, TellsLast};
-    ghost use Rattle.tre_online.specs.Reading.{AreMoments, IsPieceFor, Reads};
+    ghost use Rattle.tre_online.specs.Reading.{AreMoments, IsPieceFor, IsBehind, Reads};
 
     /// A session that has read no segment.
     pub fn new(alloc: Global, pattern: Pattern) -> Result<Session, AllocError>
@@ -54,13 +60,17 @@ impl Session {
         let mark = Mark::start(alloc, pattern.expr(), &start, 0)?;
         let pattern = Box::new(alloc, pattern)?;
         let ended = ZoneSet::new(alloc);
-        Ok(Session {
-            alloc,
-            pattern,
+        let first = Progress {
             at: 0,
             last: None,
             ended,
             mark,
+        };
+        let progress = Box::new(alloc, first)?;
+        Ok(Session {
+            alloc,
+            pattern,
+            progress,
         })
     }
 
@@ -68,7 +78,7 @@ impl Session {
     pub fn at(&self) -> u64
         ensures { result ≡ at_of self.now }
     {
-        self.at
+        self.progress.at
     }
 
     /// The pattern.
@@ -87,7 +97,7 @@ impl Session {
             result ≡ form_count (pattern_tree (pattern_of self.now)) }
         ensures bound { result ≤ node_count (pattern_tree (pattern_of self.now)) }
     {
-        self.mark.nodes()
+        self.progress.mark.nodes()
     }
 
     /// Reads a segment, and tells what has become a match with it: the matches that end within the
@@ -113,19 +123,16 @@ impl Session {
     {
         let piece = self.piece(segment)?;
         match self.read_over_copy(&piece) {
-            Ok((mark, read)) => {
-                self.at = piece.begin + segment.len;
-                self.last = Some(segment.val);
-                self.ended = read.ended;
-                self.mark = mark;
-                Ok(read.told)
+            Ok((progress, told)) => {
+                self.progress = progress;
+                Ok(told)
             }
             Err(_) => Err(PushFault::Memory),
         }
     }
 
     // Reads a segment as `segment` does, and gives the session back with what is told. It needs no
-    // copy of the mark, since after a refusal the session is given up.
+    // copy of its progress, since after a refusal the session is given up.
     pub(crate) fn go_on(self, segment: Segment) -> Result<(Session, ZoneSet), PushFault>
         ensures stands { (segments : List Segment) → StandsFor self segments →
             IfOk result (λ both. StandsFor both.0 (segments ++ segment ∷ [])) }
@@ -146,22 +153,16 @@ impl Session {
         let Session {
             alloc,
             pattern,
-            at: _,
-            last: _,
-            ended,
-            mut mark,
+            mut progress,
         } = self;
-        match Session::read(alloc, &pattern, &mut mark, &ended, &piece) {
-            Ok(read) => {
+        match Session::read(alloc, &pattern, &mut progress, &piece) {
+            Ok(told) => {
                 let session = Session {
                     alloc,
                     pattern,
-                    at: piece.begin + segment.len,
-                    last: Some(segment.val),
-                    ended: read.ended,
-                    mark,
+                    progress,
                 };
-                Ok((session, read.told))
+                Ok((session, told))
             }
             Err(_) => Err(PushFault::Memory),
         }
@@ -195,52 +196,72 @@ impl Session {
         if segment.len == 0 {
             return Err(PushFault::Zero);
         }
-        let end = u128::from(self.at) + u128::from(segment.len);
+        let end = u128::from(self.progress.at) + u128::from(segment.len);
         if end > u128::from(TIME_MAX) {
             return Err(PushFault::TooLate { end });
         }
         Ok(Piece {
-            begin: self.at,
+            begin: self.progress.at,
             segment,
-            before: self.last,
+            before: self.progress.last,
         })
     }
 
-    // What is told of the piece by a copy of the mark, and the copy as it is left behind the piece.
-    fn read_over_copy(&self, piece: &Piece) -> Result<(Mark, Read), AllocError>
+    // What is told of the piece, and a copy of the progress that has gone over it.
+    fn read_over_copy(&self, piece: &Piece) -> Result<(Box<Progress>, ZoneSet), AllocError>
         requires { IsPieceFor self.now piece.now.segment piece.now }
-        ensures reads { IfOk result (λ both. Reads (mark_of self.now.mark)
-            (pattern_tree (pattern_of self.now)) (ended_of self.now) piece.now both.1.told
-            (mark_of both.0)) }
-        ensures twice { IfOk result (λ both. both.1.ended ≡ both.1.told) }
+        ensures reads { IfOk result (λ both. Reads (kept_of self.now)
+            (pattern_tree (pattern_of self.now)) (ended_of self.now) piece.now both.1
+            (mark_of (box_value both.0).mark)) }
+        ensures behind { IfOk result (λ both. IsBehind piece.now both.1 (box_value both.0)) }
     {
-        let mut mark = self.mark.try_clone(self.alloc)?;
-        let read = Session::read(self.alloc, &self.pattern, &mut mark, &self.ended, piece)?;
-        Ok((mark, read))
+        let mut copy = self.copied()?;
+        let told = Session::read(self.alloc, &self.pattern, &mut copy, piece)?;
+        Ok((copy, told))
     }
 
-    // What is told of the piece, where `earlier` was told last. The mark goes over the piece. Where
-    // memory runs out, nothing is said of it.
+    // The mark and what was told last, once more.
+    fn copied(&self) -> Result<Box<Progress>, AllocError>
+        ensures mark { IfOk result (λ copy. mark_of (box_value copy).mark ≡ kept_of self.now) }
+        ensures ended { IfOk result (λ copy. (box_value copy).ended ≡ ended_of self.now) }
+    {
+        let progress: &Progress = &self.progress;
+        let mark = progress.mark.try_clone(self.alloc)?;
+        let ended = progress.ended.try_clone()?;
+        let same = Progress {
+            at: progress.at,
+            last: progress.last,
+            ended,
+            mark,
+        };
+        let copy = Box::new(self.alloc, same)?;
+        Ok(copy)
+    }
+
+    // What is told of the piece, over which the progress goes. Where memory runs out, nothing is
+    // said of it.
     fn read(
         alloc: Global,
         pattern: &Pattern,
-        mark: &mut Mark,
-        earlier: &ZoneSet,
+        progress: &mut Progress,
         piece: &Piece,
-    ) -> Result<Read, AllocError>
-        requires { IsWellAt piece.now.begin (mark_of mark.old) (pattern_tree pattern.now) }
-        ensures reads { IfOk result (λ read. Reads (mark_of mark.old) (pattern_tree pattern.now)
-            earlier.now piece.now read.told (mark_of mark.new)) }
-        ensures twice { IfOk result (λ read. read.ended ≡ read.told) }
+    ) -> Result<ZoneSet, AllocError>
+        requires { IsWellAt piece.now.begin (mark_of progress.old.mark) (pattern_tree pattern.now) }
+        ensures reads { IfOk result (λ told. Reads (mark_of progress.old.mark)
+            (pattern_tree pattern.now) progress.old.ended piece.now told
+            (mark_of progress.new.mark)) }
+        ensures behind { IfOk result (λ told. IsBehind piece.now told progress.new) }
     {
         let end = piece.begin + piece.segment.len;
         let entering = Session::moments(alloc, piece.begin, end)?;
-        let found = advance(alloc, mark, pattern.expr(), &entering, piece)?;
+        let found = advance(alloc, &mut progress.mark, pattern.expr(), &entering, piece)?;
         // For the proof: the call says that it is a set of zones.
         let _found = found.zones();
-        let told = not_told(alloc, found, earlier)?;
-        let ended = told.try_clone()?;
-        Ok(Read { told, ended })
+        let told = not_told(alloc, found, &progress.ended)?;
+        progress.ended = told.try_clone()?;
+        progress.at = end;
+        progress.last = Some(piece.segment.val);
+        Ok(told)
     }
 
     // What is told where the trace ends with these events.
@@ -252,16 +273,16 @@ impl Session {
         if events == 0 {
             return Ok(ZoneSet::new(self.alloc));
         }
-        let found = close(self.alloc, &self.mark, self.pattern.expr(), self.at, events)?;
+        let progress: &Progress = &self.progress;
+        let found = close(
+            self.alloc,
+            &progress.mark,
+            self.pattern.expr(),
+            progress.at,
+            events,
+        )?;
         // For the proof: the call says that it is a set of zones.
         let _found = found.zones();
-        not_told(self.alloc, found, &self.ended)
+        not_told(self.alloc, found, &progress.ended)
     }
-}
-
-// What is told of a segment, twice: for the caller, and to be kept.
-#[derive(Debug, Drop)]
-struct Read {
-    told: ZoneSet,
-    ended: ZoneSet,
 }
