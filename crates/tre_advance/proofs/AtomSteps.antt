@@ -388,16 +388,6 @@ module _ (piece : Piece) (here begun enter told here' begun' : List ZoneBounds) 
 
 -- ---- where nothing enters, and where nothing has begun
 
-nothing_enters : (rest : Rest) (mark : MarkTree) (tree : PatternTree)
-    → Agree (Going rest mark tree (Held [])) (Marked rest mark tree)
-nothing_enters rest mark tree = record {
-  at = λ a b n some. (
-    (λ h. ⊎_elim (λ x. x)
-        (λ x. absurd (Held-empty (x.factor * a) x.midpoint (x.factor * n) x.left)) h),
-    (λ h. inl h),
-  );
-}
-
 nothing_begun : (rest : Rest) (x : Atom) (E : Pairs)
     → Agree (Going rest (atom_mark [] []) (atom x) E) (Followed E (atom x) rest)
 nothing_begun rest x E = record {
@@ -405,11 +395,6 @@ nothing_begun rest x E = record {
     (λ h. ⊎_elim (λ y. absurd (nothing_atom.never (atom x) rest a b n y)) (λ y. y) h),
     (λ h. inr h),
   );
-}
-
-none_kept : (R : Pairs) → Agree (Held []) (Both (Held []) R)
-none_kept R = record {
-  at = λ a b n some. ((λ h. absurd (Held-empty a b n h)), (λ h. absurd (Held-empty a b n h.left)));
 }
 
 -- The sets of an atom are those of two marks.

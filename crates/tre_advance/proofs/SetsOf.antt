@@ -1,5 +1,5 @@
 -- Sets of ordered pairs, made by the operators.
-use Rattle.std.proofs.Common.{◌≡◌, ℕ, ◌+◌, ◌*◌, ◌<◌, ◌≤◌, ◌↔◌, ◌⊎◌, ◌++◌, List, [], inl, inr, ⊎_elim, subst, refl, sym, arith}
+use Rattle.std.proofs.Common.{◌≡◌, ℕ, ◌+◌, ◌*◌, ◌<◌, ◌≤◌, ◌⊎◌, List, [], inl, inr, ⊎_elim, subst, refl, sym, arith}
 use Rattle.std.proofs.Math.Nat.{mul-le-mul_right}
 use Rattle.tre_pairs.specs.Pairs.{Pairs, Composed, Either, Both, Lasting, Chain}
 use Rattle.tre_pairs.proofs.Agreement.{Agree-Chain}
@@ -15,7 +15,6 @@ use Rattle.tre_zone.specs.Interval.{IntervalEnds, LastsWithin}
 use Rattle.tre_zone.specs.Zone.{IsInstantBetween, EndsAt}
 use Rattle.tre_zone.specs.ZoneList.{SetHolds, HoldExactly}
 use Rattle.tre_zone.specs.declared.zone_bounds.ZoneBounds.{ZoneBounds}
-use Rattle.tre_zone.proofs.ZoneListLemmas.{SetHolds-append}
 use Rattle.tre_zoneset.specs.ZoneSet.{IsZoneSet}
 use Rattle.tre_mark.specs.Marked.{EndBetween}
 use Rattle.tre_mark.proofs.Agreeing.{agree_refl, agree_then, agree_composed}
@@ -75,26 +74,6 @@ either_set zones one other held = record {
           rising = x.rising;
           held = (held.exact a b n some x.rising).1 (inr x.held);
         }) h),
-  );
-}
-
--- Two lists, one behind the other.
-pub either_lists : (zones one other : List ZoneBounds) → zones ≡ one ++ other
-    → IsSetOf zones (Either (Held one) (Held other))
-either_lists zones one other is =
-    either_set zones one other (record {
-      exact = λ a b n some le.
-          subst (λ (list : List ZoneBounds). SetHolds list a b n
-          ↔ (SetHolds one a b n ⊎ SetHolds other a b n)) (sym is) (SetHolds-append one other a b n);
-    })
-
--- A set of what a list holds.
-pub set_held : (set zones : List ZoneBounds) → HoldExactly set (SetHolds zones)
-    → IsSetOf set (Held zones)
-set_held set zones held = record {
-  pairs = λ a b n some. (
-    (λ h. record { rising = h.rising; held = (held.exact a b n some h.rising).0 h.held }),
-    (λ h. record { rising = h.rising; held = (held.exact a b n some h.rising).1 h.held }),
   );
 }
 

@@ -67,11 +67,6 @@ module _ (piece : Piece) (here enter : List ZoneBounds) (body : MarkTree) (tree 
       omega (arith, at, later))
       (λ x. between.end a b n some x) h
 
-  entering_begins : (a b n : ℕ) → 0 < n → Entering a b n → piece.begin * n ≤ b
-  entering_begins a b n some h = ⊎_elim
-      (λ x. let at = ends.ends a b n some x in omega (arith, at))
-      (λ x. between.begin a b n some x) h
-
   starts_ends : (a b n : ℕ) → 0 < n → Starts (alone piece) a b n → b ≤ end_of_piece piece * n
   starts_ends a b n some h = ⊎_elim
       (λ x. mark_ends (alone piece) (begin_le piece) body tree a b n x)

@@ -1,5 +1,5 @@
 // What a mark tells where the trace ends.
-ghost use Rattle.std.specs.Prelude.{ℕ, List, [], Option, ◌⊎◌, IfOk};
+ghost use Rattle.std.specs.Prelude.{ℕ, [], Option, ◌⊎◌, IfOk};
 ghost use Rattle.tre_pairs.specs.Pairs.{Composed};
 ghost use Rattle.tre_state.specs.declared.names.TheConstants.{NAMES_MAX};
 ghost use Rattle.tre_trace.specs.Trace.{timeline_of};

@@ -1,5 +1,5 @@
 -- What the leaders promise, as it is for the members.
-use Rattle.std.proofs.Common.{◌≡◌, ◌∙◌, ℕ, zero, suc, ◌+◌, ◌<◌, ◌≤◌, ◌⊎◌, Bool, false, eqb, List, [], ◌∷◌, ◌++◌, All, length, map, get_or, take, slice_get, Option, None, Some, Result, Ok, Err, OnOk, OnErr, is_ok, if◌then◌else◌, inl, inr, refl, sym, ap, subst, arith, length-append}
+use Rattle.std.proofs.Common.{◌≡◌, ◌∙◌, ℕ, zero, suc, ◌+◌, ◌<◌, ◌≤◌, ◌⊎◌, Bool, false, eqb, List, [], ◌∷◌, ◌++◌, All, length, map, get_or, slice_get, Option, None, Some, Result, Ok, Err, OnOk, OnErr, is_ok, if◌then◌else◌, inl, inr, refl, sym, ap, subst, arith, length-append}
 use Rattle.std.proofs.lemmas.Bool.Decides.{eqb_tells}
 use Rattle.std.proofs.lemmas.List.{get_or_append_left, length-map, map-append}
 use Rattle.std.proofs.lemmas.Option.{get_or_from_slice_get, slice_get_within}
@@ -191,10 +191,6 @@ pub pushed_or_not : {A T E : Type 0} (P : List A → Type 0) (olds news : List A
     → P olds → P (olds ++ one ∷ []) → P news
 pushed_or_not P olds news one (Ok value) are kept more = subst P (sym are) more
 pushed_or_not P olds news one (Err fault) are kept more = subst P (sym are) kept
-
-pub take-front : {A : Type 0} (xs ys : List A) → take (length xs) (xs ++ ys) ≡ xs
-take-front [] ys = refl
-take-front (x ∷ xs) ys = ap (λ rest. x ∷ rest) (take-front xs ys)
 
 -- ---- one more
 

@@ -1,5 +1,5 @@
 // A whole input, read to its end.
-ghost use Rattle.std.specs.Prelude.{◌≡◌, ◌+◌, ◌≤◌, [], All, false, true, IsTrue, IfOk, IfErr, IfSome};
+ghost use Rattle.std.specs.Prelude.{◌≡◌, ◌+◌, ◌≤◌, [], All, false, IsTrue, IfOk, IfErr, IfSome};
 ghost use Rattle.tre_trace.specs.declared.reader.TheConstants.{FED_MAX};
 ghost use Rattle.tre_feed.specs.Input.{TakesAtMost, input_told};
 ghost use Rattle.tre_feed.specs.Readers.{AreFresh, readings_in};

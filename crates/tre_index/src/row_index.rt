@@ -1,4 +1,4 @@
-ghost use Rattle.std.specs.Prelude.{◌≡◌, ◌++◌, [], ◌∷◌, length, map, OnOk, OnErr, IfOk, IfSome};
+ghost use Rattle.std.specs.Prelude.{◌≡◌, ◌++◌, [], ◌∷◌, map, OnOk, OnErr, IfOk, IfSome};
 ghost use Rattle.tre_lanes.specs.Rows.{FindsNext};
 ghost use Rattle.tre_index.specs.Index.{IsOnTop};
 

@@ -1,5 +1,5 @@
 -- Marks of which nothing has begun, and marks that start.
-use Rattle.std.proofs.Common.{◌≡◌, ◌∙◌, ℕ, ◌*◌, ◌≤◌, ◌<◌, List, [], Option, None, Some, MatchOption, ◌+◌, ap, subst, refl, sym, inl, inr, ⊎_elim, arith}
+use Rattle.std.proofs.Common.{◌≡◌, ◌∙◌, ℕ, ◌*◌, ◌≤◌, ◌<◌, List, [], Option, None, Some, MatchOption, ◌+◌, ap, subst, refl, sym, inl, ⊎_elim, arith}
 use Rattle.std.proofs.Math.Nat.{mul-pos}
 use Rattle.tre_pairs.specs.Cuts.{JoinedAt}
 use Rattle.tre_pairs.specs.Pairs.{Pairs, Composed, Both, Lasting}
@@ -108,22 +108,6 @@ unbegun_atom x = record {
   well = λ time. record { well = (end_at_none time, begun_none time x) };
 }
 
-module _ (one other : MarkTree) (left right : PatternTree) (first : IsUnbegun one left)
-    (second : IsUnbegun other right) where
-  pub unbegun_sequence : IsUnbegun (sequence_mark one other) (sequence left right)
-  unbegun_sequence = record {
-    bare = (first.bare, second.bare);
-    nothing = nothing_sequence one other first.nothing second.nothing;
-    well = λ time. record { well = ((first.well time).well, (second.well time).well) };
-  }
-
-  pub unbegun_alternation : IsUnbegun (alternation_mark one other) (alternation left right)
-  unbegun_alternation = record {
-    bare = (first.bare, second.bare);
-    nothing = nothing_alternation one other first.nothing second.nothing;
-    well = λ time. record { well = ((first.well time).well, (second.well time).well) };
-  }
-
 pub unbegun_repetition : (body : MarkTree) (tree : PatternTree) → IsUnbegun body tree
     → IsUnbegun (repetition_mark [] body) (repetition tree)
 unbegun_repetition body tree inner = record {
@@ -211,26 +195,6 @@ module _ (time : ℕ) (zones : List ZoneBounds) (ends : EndAt time zones) where
     some = λ filled bare. first.some filled bare.0;
     takes = λ before.
         (first.takes before, bare_open (since time before []) other right second.bare);
-  }
-
-  pub start_alternation : (one other : MarkTree) (left right : PatternTree)
-      → IsStart time zones one left → IsStart time zones other right
-      → IsStart time zones (alternation_mark one other) (alternation left right)
-  start_alternation one other left right first second = record {
-    pairs = λ before next a b n some.
-        let f = first.pairs before next a b n some in
-        let g = second.pairs before next a b n some in (
-          (λ h. ⊎_elim
-              (λ x. let y = f.0 x in record { left = y.left; right = inl y.right })
-              (λ x. let y = g.0 x in record { left = y.left; right = inr y.right }) h),
-          (λ h. ⊎_elim
-              (λ x. inl (f.1 (record { left = h.left; right = x })))
-              (λ x. inr (g.1 (record { left = h.left; right = x }))) h.right),
-        );
-    well = record { well = (first.well.well, second.well.well) };
-    entered = (first.entered, second.entered);
-    some = λ filled bare. first.some filled bare.0;
-    takes = λ before. (first.takes before, second.takes before);
   }
 
   pub start_repetition : (body : MarkTree) (tree : PatternTree) → IsUnbegun body tree

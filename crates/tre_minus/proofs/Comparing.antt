@@ -304,24 +304,6 @@ pub record AreSame (taken found : List ZoneBounds) (parts : List Part)
   pub same : (a b n : ℕ) → 0 < n → a ≤ b
       → Together taken new_found new_parts a b n ↔ Together taken found parts a b n
 
-pub AreSame-start : (taken found : List ZoneBounds) (parts : List Part)
-    → AreSame taken found parts found parts
-AreSame-start taken found parts = record { same = λ a b n some le. ((λ h. h), (λ h. h)) }
-
-pub AreSame-more : (taken found : List ZoneBounds) (parts : List Part) (now : List ZoneBounds)
-    (whole popped : List Part) (part : Part) (next : List ZoneBounds) (left : List Part)
-    → whole ≡ popped ++ part ∷ [] → AreSame taken found parts now whole
-    → IsCompared taken part now popped next left → AreSame taken found parts next left
-AreSame-more taken found parts now whole popped part next left is old compared =
-    let before : AreSame taken found parts now (popped ++ part ∷ []) =
-    subst (λ (list : List Part). AreSame taken found parts now list) is old in
-    record {
-      same = λ a b n some le.
-          let one = before.same a b n some le in
-          let two = compared.same a b n some le in
-          ((λ h. one.0 (two.0 h)), (λ h. two.1 (one.1 h)));
-    }
-
 pub AreSame-all : (taken found : List ZoneBounds) (parts : List Part) (now : List ZoneBounds)
     (left : List Part) → length left ≡ 0 → AreSame taken found parts now left
     → HoldExactly now (Together taken found parts)

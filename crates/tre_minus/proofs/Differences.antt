@@ -3,7 +3,6 @@ use Rattle.std.proofs.Common.{◌≡◌, ℕ, ◌<◌, ◌≤◌, ◌⊎◌, ◌
 use Rattle.std.proofs.lemmas.List.{get_or_default}
 use Rattle.tre_pairs.specs.Pairs.{Pairs, Either, Both}
 use Rattle.tre_pairs.specs.Except.{Except}
-use Rattle.tre_pairs.proofs.Laws.{Agree}
 use Rattle.tre_zone.specs.Zone.{ZoneHolds, HasNoPair}
 use Rattle.tre_zone.specs.ZoneList.{SetHolds, AreCanonical, HoldExactly}
 use Rattle.tre_zone.specs.declared.zone_bounds.ZoneBounds.{ZoneBounds}
@@ -24,34 +23,6 @@ Except-additive S P Q T same a b n =
       (λ h. ⊎_elim (λ x. record { related = both.1 (inl x.related); never = x.never })
           (λ x. record { related = both.1 (inr x.related); never = x.never }) h),
     )
-
--- ---- what the difference holds, in the words of the layers above
-
-Except-same : (P Q R S : Pairs) (a b n : ℕ) → P a b n ↔ R a b n → Q a b n ↔ S a b n
-    → Except P Q a b n ↔ Except R S a b n
-Except-same P Q R S a b n left right = (
-  (λ h. record { related = left.0 h.related; never = λ s. h.never (right.1 s) }),
-  (λ h. record { related = left.1 h.related; never = λ q. h.never (right.0 q) }),
-)
-
--- For a layer that says the same of both sides in other words.
-pub Agree-Except : (P Q R S : Pairs) → Agree P R → Agree Q S → Agree (Except P Q) (Except R S)
-Agree-Except P Q R S left right = record {
-  at = λ a b n some. Except-same P Q R S a b n (left.at a b n some) (right.at a b n some);
-}
-
--- For callers of `minus` who know what their two sets hold, as the matches of two patterns: what is
--- left holds the one and not the other.
-pub HoldExactly-Except : (zones taken left : List ZoneBounds) (P Q : Pairs) → HoldExactly zones P
-    → HoldExactly taken Q → HoldExactly left (Except (SetHolds zones) (SetHolds taken))
-    → HoldExactly left (Except P Q)
-HoldExactly-Except zones taken left P Q whole other held = record {
-  exact = λ a b n some le.
-      let one = held.exact a b n some le in
-      let two = Except-same (SetHolds zones) (SetHolds taken) P Q a b n
-      (whole.exact a b n some le) (other.exact a b n some le) in
-      ((λ h. two.0 (one.0 h)), (λ h. one.1 (two.1 h)));
-}
 
 -- ---- a zone before it is compared with the first taken one
 

@@ -1,35 +1,6 @@
 -- Pieces that are read from the front and kept at the back.
-use Rattle.std.proofs.Common.{◌≡◌, ℕ, true, List, [], ◌∷◌, ◌++◌, length, map, Result, Ok, Err, OnOk, drop, append_assoc, append-nil, refl, sym, ap, ◌∙◌, arith}
-use Rattle.std.proofs.lemmas.Bool.Decides.{nat_tests}
-use Rattle.std.proofs.lemmas.List.{drop_all}
-use Rattle.tre_num.specs.Kept.{IsInFirst, is_read, joined, left_of}
-
--- all bytes are left where none was read
-left-all : (pieces : List (List ℕ)) → left_of 0 pieces ≡ joined pieces
-left-all [] = refl
-left-all (piece ∷ pieces) = refl
-
-begins-in : (pieces : List (List ℕ)) → IsInFirst 0 pieces
-begins-in [] = refl
-begins-in (piece ∷ pieces) = omega arith
-
--- A first piece that was read to its end is let go.
-pub record Frees (place : ℕ) (pieces rest : List (List ℕ)) : Type 0 where
-  pub within : IsInFirst 0 rest
-  pub left : left_of 0 rest ≡ left_of place pieces
-
-module _ {X : Type 0} (bytes : X → List ℕ) where
-  pub free-first : (place : ℕ) (pieces : List X) → is_read place (map bytes pieces) ≡ true
-      → Frees place (map bytes pieces) (map bytes (drop 1 pieces))
-  free-first place [] is = cc
-  free-first place (piece ∷ pieces) is =
-      let all : length (bytes piece) ≡ place = grind (arith, nat_tests) in
-      record {
-        within = begins-in (map bytes pieces);
-        left = left-all (map bytes pieces)
-            ∙ ap (λ front. front ++ joined (map bytes pieces))
-            (sym (drop_all place (bytes piece) (omega arith)));
-      }
+use Rattle.std.proofs.Common.{◌≡◌, ℕ, List, [], ◌∷◌, ◌++◌, Result, Ok, Err, OnOk, drop, append_assoc, append-nil, sym, ap, ◌∙◌}
+use Rattle.tre_num.specs.Kept.{IsInFirst, joined, left_of}
 
 -- ---- one more piece
 
@@ -53,8 +24,3 @@ left-push place [] piece in_first =
 left-push place (first ∷ pieces) piece in_first =
     ap (λ rest. drop place first ++ rest) (joined-push pieces piece)
     ∙ sym (append_assoc (drop place first) (joined pieces) piece)
-
-pub in_first-push : (place : ℕ) (pieces : List (List ℕ)) (piece : List ℕ)
-    → IsInFirst place pieces → IsInFirst place (pieces ++ piece ∷ [])
-in_first-push place [] piece in_first = omega (arith, in_first)
-in_first-push place (first ∷ pieces) piece in_first = in_first

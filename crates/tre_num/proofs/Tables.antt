@@ -14,25 +14,6 @@ use Rattle.tre_trace.specs.declared.segment.Segment.{Segment}
 use Rattle.tre_trace.proofs.Readings.{Adds-none, IsRefused-memory, IsRefused-told, is_memory}
 
 module _ (terms : Terms) (all : List (List (List ℕ))) where
-  -- the rows behind a header under which each name has its column
-  pub header-says : (header : List (List ℕ)) (others : List (List (List ℕ)))
-      (columns seen : List Column) (width scale : ℕ) → all ≡ header ∷ others
-      → compared terms header ≡ Some columns → seen ≡ columns → width ≡ length header
-      → scale ≡ terms.scale → rows_from seen width scale 2 others 0 ≡ table_says terms all
-  header-says header others columns seen width scale first found same wide scaled =
-      ap (λ columns. rows_from columns width scale 2 others 0) same
-      ∙ ap (λ width. rows_from columns width scale 2 others 0) wide
-      ∙ ap (λ scale. rows_from columns (length header) scale 2 others 0) scaled
-      ∙ ap (λ columns. under_header columns (length header) terms.scale others) (sym found)
-      ∙ ap (table_says terms) (sym first)
-
-  -- no record, where each name has its column
-  pub none-says : (columns : List Column) → all ≡ [] → compared terms [] ≡ Some columns
-      → table_says terms all ≡ nothing
-  none-says columns none found =
-      ap (table_says terms) none
-      ∙ ap (λ columns. under_header columns 0 terms.scale []) found
-
   -- What the rows say under this header.
   pub record Heads (header : List (List ℕ)) : Type 0 where
     pub rest : List (List (List ℕ))

@@ -26,7 +26,6 @@ impl Model for Definition {
 
 impl Definition {
     ghost use Rattle.std.specs.Prelude.{◌≡◌, string_bytes};
-    ghost use Rattle.std.specs.Str.{bytes_eq};
     ghost use Rattle.tre_num.specs.Defined.{Defined};
 
     /// The definition of a name: the numbers of the column, compared with the value.

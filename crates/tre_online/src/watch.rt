@@ -1,6 +1,5 @@
 ghost use Rattle.std.specs.Prelude.{◌≡◌, ◌<◌, ◌++◌, [], ◌∷◌, length, List, OnOk, IfOk, IfErr, slice_get};
 ghost use Rattle.std.specs.Option.{option_map};
-ghost use Rattle.tre_zone.specs.declared.zone_bounds.ZoneBounds.{ZoneBounds};
 ghost use Rattle.tre_online.specs.declared.session.Session.{Session};
 ghost use Rattle.tre_online.specs.Giving.{IsNewFor, AreNewFor, IsGiven, IsGivenFirst, GoEach, IsRefusedBy, IsRefusedByOne, TellEachAtEnd};
 

@@ -1,4 +1,4 @@
-ghost use Rattle.std.specs.Prelude.{◌≡◌, ◌≢◌, ℕ, ◌≤◌, length, Option, IfNone, IfSome};
+ghost use Rattle.std.specs.Prelude.{◌≡◌, ◌≢◌, ◌≤◌, length, Option, IfNone, IfSome};
 ghost use Rattle.tre_parts.specs.Format.{Format, KeepsTime};
 ghost use Rattle.tre_parts.specs.declared.said.Said.{Said};
 ghost use Rattle.tre_trace.specs.declared.fault.TraceKind.TheVariants.{Spent, Memory};

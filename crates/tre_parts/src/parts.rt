@@ -1,5 +1,5 @@
 // A reader of pieces of a format whose bytes are parts.
-ghost use Rattle.std.specs.Prelude.{◌≡◌, ℕ, ◌+◌, List, [], length, Bool, true, false};
+ghost use Rattle.std.specs.Prelude.{◌≡◌, ◌+◌, [], true, false};
 ghost use Rattle.tre_parts.specs.Format.{reading_of};
 ghost use Rattle.tre_parts.specs.Parts.{IsFedWith};
 ghost use Rattle.tre_parts.specs.Growing.{reading-grows};

@@ -1,7 +1,7 @@
 // Where a reader is in its input.
-ghost use Rattle.std.specs.Prelude.{◌≡◌, ◌≢◌, ℕ, ◌+◌, ◌^◌, ◌≤◌, List, [], ◌∷◌, None, ◌++◌, length, true, false, OnOk, OnErr, IfErr};
+ghost use Rattle.std.specs.Prelude.{◌≡◌, ◌≢◌, ℕ, ◌+◌, ◌≤◌, List, [], ◌∷◌, None, ◌++◌, length, true, false, OnOk, IfErr};
 ghost use Rattle.tre_parts.specs.Format.{reading_of, part_says};
-ghost use Rattle.tre_parts.specs.Walk.{IsInside, IsAt, AddsPart, IsRefusedPart, EndsAt, IsEnded, Takes};
+ghost use Rattle.tre_parts.specs.Walk.{IsInside, IsAt, AddsPart, IsRefusedPart, IsEnded, Takes};
 ghost use Rattle.tre_trace.specs.Reading.{IsPlaced};
 ghost use Rattle.tre_trace.specs.declared.fault.TraceKind.TheVariants.{Spent};
 ghost use Rattle.tre_trace.specs.declared.segment.Segment.{Segment};

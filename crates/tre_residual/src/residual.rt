@@ -1,4 +1,4 @@
-ghost use Rattle.std.specs.Prelude.{ℕ, ◌↔◌, ◌<◌, ◌≡◌, [], IfOk, IsTrue};
+ghost use Rattle.std.specs.Prelude.{ℕ, ◌↔◌, ◌<◌, ◌≡◌, IfOk, IsTrue};
 ghost use Rattle.tre_state.specs.declared.names.TheConstants.{NAMES_MAX};
 ghost use Rattle.tre_syntax.specs.Expr.{tree_of};
 ghost use Rattle.tre_syntax.specs.PatternTree.{NumbersBelow};

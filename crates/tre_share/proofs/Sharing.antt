@@ -80,9 +80,6 @@ there : (groups : List Vocabulary) (number : ℕ) (group : Vocabulary)
     → slice_get groups number ≡ Some group → HasWider groups number group
 there groups number group is = record { new = group; is = is; wider = IsWider-none group }
 
-pub Keep-none : (groups : List Vocabulary) → Keep groups groups
-Keep-none groups = record { each = there groups }
-
 pub Keep-trans : (old mid new : List Vocabulary) → Keep old mid → Keep mid new → Keep old new
 Keep-trans old mid new one two = record {
   each = λ number group is.

@@ -1,6 +1,6 @@
-ghost use Rattle.std.specs.Prelude.{◌≡◌, ℕ, ◌+◌, ◌*◌, ◌^◌, ◌<◌, ◌≤◌, ◌≤ℤ◌, neg_ℤ, pos, IfSome, IfOk, OnOk, List, [], ◌∷◌, ◌++◌};
+ghost use Rattle.std.specs.Prelude.{◌≡◌, ◌+◌, ◌*◌, ◌^◌, ◌<◌, ◌≤◌, ◌≤ℤ◌, neg_ℤ, pos, IfSome, IfOk, OnOk, List, [], ◌∷◌, ◌++◌};
 ghost use Rattle.tre_zone.specs.Bound.{value_of, weakness_of, sum_of, IsKeyWithin};
-ghost use Rattle.tre_zone.specs.Zone.{IsCanonical, AreKeysWithin};
+ghost use Rattle.tre_zone.specs.Zone.{AreKeysWithin};
 ghost use Rattle.tre_zone.specs.declared.zone_bounds.ZoneBounds.{ZoneBounds};
 ghost use Rattle.tre_star.specs.Powers.{AreChainsOf, AreStepsOf, IsLimit};
 

@@ -67,9 +67,6 @@ sifted-push names name old new place is sifted added kept = record {
   ];
 }
 
-pub sifted-none : (sieve : List ℕ) → AreSifted [] sieve
-sifted-none sieve = record { each = λ k within. absurd (omega (arith, within)) }
-
 -- a text that is held may have its number
 pub sifted-held : (names : List (List ℕ)) (sieve bytes : List ℕ) (k : ℕ) → AreSifted names sieve
     → slice_get names k ≡ Some bytes → MayBe sieve bytes k

@@ -2,7 +2,7 @@
 use Rattle.std.proofs.Common.{◌≡◌, ◌≢◌, ℕ, ◌+◌, ◌*◌, ◌<◌, ◌≤◌, ◌↔◌, Bool, true, false, cond, IsTrue, refl, sym, ap, arith, inl, inr, ⊎_elim, true≢false, mul-le-mul_right}
 use Rattle.std.proofs.lemmas.Bool.{cases_eq, cases_lt}
 use Rattle.tre_strips.specs.Bar.{place_of}
-use Rattle.tre_strips.specs.Times.{IsTime, Narrows, sample_of, IsSettled, Compares, IsLater, IsEarlier}
+use Rattle.tre_strips.specs.Times.{IsTime, Narrows, sample_of, IsSettled, Compares}
 use Rattle.tre_strips.specs.declared.bar.BarEnd.{BarEnd}
 use Rattle.tre_strips.specs.declared.times.Times.{Times}
 
@@ -105,30 +105,6 @@ Narrows-sample old new narrows =
     let still = narrows.many less in omega arith)
     (λ (above : old.until ≤ old.from). omega arith)
     (cases_lt old.from old.until)
-
-pub IsLater-other : (times : Times) (one other : BarEnd) → Compares true times one other
-    → IsLater times one other other
-IsLater-other times one other told = record {
-  place = λ a n time. let less = told.told a n time in omega arith;
-}
-
-pub IsLater-one : (times : Times) (one other : BarEnd) → Compares false times one other
-    → IsLater times one other one
-IsLater-one times one other told = record {
-  place = λ a n time. let above = told.told a n time in omega arith;
-}
-
-pub IsEarlier-other : (times : Times) (one other : BarEnd) → Compares true times other one
-    → IsEarlier times one other other
-IsEarlier-other times one other told = record {
-  place = λ a n time. let less = told.told a n time in omega arith;
-}
-
-pub IsEarlier-one : (times : Times) (one other : BarEnd) → Compares false times other one
-    → IsEarlier times one other one
-IsEarlier-one times one other told = record {
-  place = λ a n time. let above = told.told a n time in omega arith;
-}
 
 pub sample_single : (times : Times) → times.from ≡ times.until → sample_of times ≡ 2 * times.from
 unfolding sample_of

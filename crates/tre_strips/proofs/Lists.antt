@@ -26,11 +26,6 @@ BarsHold-push (first ∷ bars) bar a b n =
           (λ x. inr (rest.1 (inr x))) h),
     )
 
-pub BarsHold-cons : (bar : Bar) (bars : List Bar) (a b n : ℕ)
-    → BarsHold (bar ∷ bars) a b n ↔ (BarHolds bar a b n ⊎ BarsHold bars a b n)
-unfolding BarsHold
-BarsHold-cons bar bars a b n = ((λ h. h), (λ h. h))
-
 pub BarsHold-more : (bars : List Bar) (i : ℕ) (bar : Bar) → i < length bars
     → bar ≡ get_or bars i bar → (a b n : ℕ)
     → BarsHold (take (i + 1) bars) a b n ↔ (BarsHold (take i bars) a b n ⊎ BarHolds bar a b n)

@@ -5,7 +5,7 @@ use Rattle.tre_pairs.specs.Pairs.{Pairs}
 use Rattle.tre_strips.specs.Bar.{RiseFrom}
 use Rattle.tre_strips.specs.Profile.{IsIn, IsProfile, Fits}
 use Rattle.tre_strips.specs.Runs.{IsRun}
-use Rattle.tre_strips.specs.Found.{AreSamePlaces, GoesOn, Agree, RiseAt}
+use Rattle.tre_strips.specs.Found.{AreSamePlaces, GoesOn, Agree}
 use Rattle.tre_strips.specs.declared.bar.Bar.{Bar}
 use Rattle.tre_strips.proofs.Unique.{IsProfile-places, IsProfile-same}
 use Rattle.tre_strips.proofs.Fitting.{AreSamePlaces-single, AreSamePlaces-held}
@@ -139,11 +139,6 @@ IsProfile-alike M bars there time same at = record {
             ((λ h. exact.0 (held.0 h)), (λ h. held.1 (exact.1 h)));
       };
 }
-
-pub RiseAt-profile : (M : Pairs) (there : List Bar) (time : ℕ) → IsProfile M there time time
-    → RiseAt time there
-RiseAt-profile M there time at =
-    record { rising = λ n some. (at.each (time * n) n some (inl (refl, refl))).rising }
 
 pub Fits-agree : (M : Pairs) (bars there : List Bar) (time : ℕ) → IsProfile M there time time
     → Fits M bars time ↔ Agree time bars there

@@ -184,13 +184,6 @@ place_as end moving after_it a n e e' =
     let f = ap bit_of e' in
     omega arith
 
-pub LowMeans-none : (key : ℤ) (end : BarEnd) (moving : Bool)
-    → key ≡ (pos 2 *ℤ pos 0) +ℤ pos 1 → (end.moves ≡ moving → ⊥) → LowMeans key end moving
-LowMeans-none key end moving is differs a b n some le within =
-    let both = Meets-at_most key 0 (omega (arith, ints)) (cond moving a 0) b n in
-    let low = least moving a b le in
-    ((λ m. λ e. absurd (differs e)), (λ h. both.1 (omega arith)))
-
 pub LowMeans-strict : (key : ℤ) (end : BarEnd) (moving : Bool)
     → key ≡ pos 2 *ℤ neg_ℤ (pos (min end.ticks (TIME_MAX + 1))) → end.moves ≡ moving
     → end.after ≡ true → LowMeans key end moving
@@ -214,13 +207,6 @@ LowMeans-weak key end moving is same early a b n some le within =
       (λ m. λ e. let lt = both.0 m in let h = capped.0 (omega arith) in omega arith),
       (λ h. let at = h same in let lt = capped.1 (omega arith) in both.1 (omega arith)),
     )
-
-pub HighMeans-none : (key : ℤ) (end : BarEnd) (moving : Bool)
-    → key ≡ (pos 2 *ℤ pos TIME_MAX) +ℤ pos 1 → (end.moves ≡ moving → ⊥)
-    → HighMeans key end moving
-HighMeans-none key end moving is differs a b n some le within =
-    let both = Meets-at_most key TIME_MAX (omega (arith, ints)) b (cond moving a 0) n in
-    ((λ m. λ e. absurd (differs e)), (λ h. both.1 (omega arith)))
 
 pub HighMeans-weak : (key : ℤ) (end : BarEnd) (moving : Bool)
     → key ≡ (pos 2 *ℤ pos (min end.ticks (TIME_MAX + 1))) +ℤ pos 1 → end.moves ≡ moving

@@ -6,7 +6,7 @@
 //! last over the front is the one before the back, so that an edge at the cut is one of the back.
 //! An event at the cut is one of the back too.
 
-ghost use Rattle.std.specs.Prelude.{◌*◌, ◌<◌, ◌≤◌, ◌↔◌, ◌⊎◌, ℕ};
+ghost use Rattle.std.specs.Prelude.{◌*◌, ◌<◌, ◌≤◌, ◌↔◌, ℕ};
 ghost use Rattle.tre_pairs.specs.Cuts.{IsMoment, JoinedAt, Passing};
 ghost use Rattle.tre_pairs.specs.Pairs.{Composed, Either, Both, Lasting};
 ghost use Rattle.tre_state.specs.StateTree.{StateTree};

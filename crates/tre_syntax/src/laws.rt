@@ -1,7 +1,7 @@
 //! The laws of the meaning. Each function does nothing: its contract is a law, and holds of every
 //! expression, trace and pair of times.
 
-ghost use Rattle.std.specs.Prelude.{◌≡◌, ◌+◌, ◌*◌, ◌<◌, ◌≤◌, ◌↔◌, [], ◌∷◌, ◌++◌, ℕ, Option, List};
+ghost use Rattle.std.specs.Prelude.{◌+◌, ◌*◌, ◌<◌, ◌≤◌, ◌↔◌, [], ◌∷◌, ◌++◌, ℕ, Option, List};
 ghost use Rattle.tre_pairs.specs.Cuts.{IsMoment};
 ghost use Rattle.tre_state.specs.StateTree.{StateTree, HoldsOn};
 ghost use Rattle.tre_syntax.specs.AtTheEnd.{MatchesAtEnd};

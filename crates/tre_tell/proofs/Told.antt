@@ -172,12 +172,6 @@ have_blocks n (account ∷ accounts) transcripts each = (
   have_blocks n accounts (All-tail IsTranscript account accounts transcripts) each.1,
 )
 
--- the head of what was pushed
-first_pushed : (row : List Segment) (rows : List (List Segment)) (segment : Segment)
-    (column : List Segment)
-    → first_row (pushed_each (row ∷ rows) (segment ∷ column)) ≡ row ++ segment ∷ []
-first_pushed row rows segment column = refl
-
 module _ (scale : ℕ) where
   -- the text with one block more
   text_more : (accounts : List Account) (rows : List (List Segment)) (column : List Segment)

@@ -108,14 +108,6 @@ module _ (terms : Terms) (known : Known) (first : List ℕ) (fields : List (List
       → fields_say terms known (first ∷ fields) ≡ Err BadName
   fields-no_event bad = rw (no_comment, sign, bad) refl
 
--- what fields say of which the first is neither a comment nor the sign of events
-pub fields-duration : (terms : Terms) (known : Known) (first : List ℕ)
-    (fields : List (List ℕ)) → begins_comment first ≡ false → begins_events first ≡ false
-    → fields_say terms known (first ∷ fields)
-    ≡ entry_says terms.names known (units_of terms.scale first) fields
-fields-duration terms known first fields no_comment no_events =
-    rw (no_comment, no_events) refl
-
 pub says-fields : (terms : Terms) (known : Known) (line : List ℕ)
     (fields : List (List ℕ)) → fields_of line ≡ fields
     → line_says terms known line ≡ fields_say terms known fields

@@ -160,12 +160,6 @@ module _ (bytes : List ℕ) (end : ℕ) (is : IsWordEnd bytes end) where
       (end == length bytes || is_blank (get_or bytes end 0)) ends in
       is.word (grind (arith, nat_tests, parts.0))
 
-  pub word_some : ends_word bytes end ≡ true → 0 < end
-  word_some ends =
-      let parts = and_parts (nat_lt 0 end)
-      (end == length bytes || is_blank (get_or bytes end 0)) ends in
-      grind (arith, nat_tests, parts.0)
-
   -- Up to the first blank there is no name.
   module _ (some : 0 < length bytes) (other : is_blank (get_or bytes 0 0) ≡ false)
       (ends : ends_word bytes end ≡ false) where

@@ -1,5 +1,5 @@
 // Where a line ends.
-ghost use Rattle.std.specs.Prelude.{◌≡◌, ◌≤◌, length, IfNone, IfSome};
+ghost use Rattle.std.specs.Prelude.{◌≤◌, length, IfNone, IfSome};
 ghost use Rattle.std.specs.Char.{is_newline};
 ghost use Rattle.tre_parts.specs.Walk.{IsInside, EndsAt};
 

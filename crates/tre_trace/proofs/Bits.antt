@@ -1,7 +1,7 @@
 -- The bits of lists of words, and the valuations of lists of segments.
-use Rattle.std.proofs.Common.{◌≡◌, ◌≢◌, ℕ, zero, suc, ◌*◌, ◌/◌, ◌%◌, ◌^◌, ◌≤◌, ◌<◌, inl, inr, List, [], ◌∷◌, ◌++◌, length, take, set, replicate, get_or, refl, ap, ◌∙◌, arith, w64, bit_or}
+use Rattle.std.proofs.Common.{◌≡◌, ◌≢◌, ℕ, zero, suc, ◌*◌, ◌/◌, ◌%◌, ◌^◌, ◌≤◌, ◌<◌, inl, inr, List, [], ◌∷◌, ◌++◌, length, set, replicate, get_or, refl, ap, ◌∙◌, arith, w64, bit_or}
 use Rattle.std.proofs.lemmas.Bool.{cases_eq}
-use Rattle.std.proofs.lemmas.List.{get_or-set_same, get_or-set_other, get_or-take, get_or_past}
+use Rattle.std.proofs.lemmas.List.{get_or-set_same, get_or-set_other, get_or_past}
 use Rattle.std.proofs.lemmas.Nat.Bits.{bit_at-zero, bit_at_set_same, bit_at_set_other}
 use Rattle.std.specs.Int.{bit_at}
 use Rattle.tre_trace.specs.declared.segment.Segment.{Segment}
@@ -12,21 +12,11 @@ zeros zero k = refl
 zeros (suc m) zero = refl
 zeros (suc m) (suc k) = zeros m k
 
-get_or-zeros : (words : List ℕ) (m k : ℕ) → get_or (words ++ replicate m 0) k 0 ≡ get_or words k 0
-get_or-zeros [] m k = zeros m k
-get_or-zeros (word ∷ words) m zero = refl
-get_or-zeros (word ∷ words) m (suc k) = get_or-zeros words m k
-
 -- a place past the last word has the bit 0
 pub bit_in-past : (words : List ℕ) (place : ℕ) → length words * 64 ≤ place → bit_in words place ≡ 0
 bit_in-past words place past =
     ap (λ word. bit_at word (place % 64)) (get_or_past words (place / 64) 0 (omega arith))
     ∙ bit_at-zero (place % 64)
-
-pub bit_in-take : (count : ℕ) (words : List ℕ) (place : ℕ) → place / 64 < count
-    → bit_in (take count words) place ≡ bit_in words place
-bit_in-take count words place below =
-    ap (λ word. bit_at word (place % 64)) (get_or-take count words (place / 64) 0 below)
 
 -- the words with the bit of a place set
 abbrev pub with_bit : List ℕ → ℕ → List ℕ

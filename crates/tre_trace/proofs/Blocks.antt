@@ -85,12 +85,6 @@ SaysSoFar-more number block segment word place same below so_far = record {
       ];
 }
 
-pub IsWordOf-none : (number : ℕ) (block : List Segment) (union : ℕ) → IsUnion block union
-    → bit_at union number ≡ 0 → IsWordOf number block 0
-IsWordOf-none number block union is none = record {
-  bits = λ place below. bit_at-zero place ∙ sym (is.unset number none place);
-}
-
 -- ---- the word is put
 
 pub IsPut-set : (old now : List ℕ) (index word : ℕ) → IsStretched (index + 1) old now
@@ -103,14 +97,6 @@ IsPut-set old now index word stretched within = record {
   others = λ place apart.
       ap (λ w. bit_at w (place % 64)) (get_or-set_other now index (place / 64) word 0 apart)
       ∙ stretched.bits place;
-}
-
-pub IsPut-none : (index word : ℕ) (words : List ℕ) → word ≡ 0 → words ≡ []
-    → IsPut index word words words
-IsPut-none index word words none empty = record {
-  enough = inl empty;
-  there = λ place here. rw (none, empty) refl;
-  others = λ place apart. refl;
 }
 
 pub IsToldIn-put : (number index word : ℕ) (block : List Segment) (old new : List ℕ)

@@ -1,6 +1,5 @@
-ghost use Rattle.std.specs.Prelude.{◌≡◌, ◌≢◌, ◌+◌, ◌/◌, ◌*◌, ◌<◌, ◌≤◌, ℕ, [], length, OnOk, OnErr};
+ghost use Rattle.std.specs.Prelude.{◌≡◌, ◌+◌, ◌/◌, ◌<◌, ◌≤◌, ℕ, [], length, OnOk, OnErr};
 ghost use Rattle.tre_trace.specs.Block.{IsPut};
-ghost use Rattle.tre_trace.specs.Planes.{bit_in};
 ghost use Rattle.tre_trace.specs.Words.{HasRoom, IsStretched, IsWritten};
 
 use std::alloc::{AllocError, Global};

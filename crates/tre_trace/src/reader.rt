@@ -1,4 +1,4 @@
-ghost use Rattle.std.specs.Prelude.{◌≡◌, ◌↔◌, ℕ, ◌+◌, ◌^◌, ◌≤◌, List, ◌++◌, length, Bool, true, false, None, Err, OnOk, OnErr, IfOk, IfErr};
+ghost use Rattle.std.specs.Prelude.{◌≡◌, ◌↔◌, ℕ, ◌+◌, ◌≤◌, List, ◌++◌, length, Bool, true, false, None, Err, OnOk, OnErr, IfOk, IfErr};
 ghost use Rattle.tre_trace.specs.Reading.{Reading, Grows, Adds, IsRefused, IsPlaced, spent_fault};
 ghost use Rattle.tre_trace.specs.Trace.{IsTrace};
 

@@ -1,4 +1,4 @@
-ghost use Rattle.std.specs.Prelude.{◌≡◌, ◌+◌, ◌≤◌, ◌<◌, List, [], ◌∷◌, ◌++◌, IfErr, IfOk, OnOk, OnErr, length, sum_by, take};
+ghost use Rattle.std.specs.Prelude.{◌≡◌, ◌+◌, ◌≤◌, ◌<◌, [], ◌∷◌, ◌++◌, IfErr, IfOk, OnOk, OnErr, length, sum_by, take};
 
 use crate::block::end_of;
 use crate::plane::WORD_BITS;

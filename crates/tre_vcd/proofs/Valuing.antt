@@ -1,7 +1,6 @@
 -- The variables by their numbers, and their values as one number.
 use Rattle.std.proofs.Common.{◌≡◌, ◌≢◌, ◌↔◌, ◌⊎◌, ℕ, zero, suc, ◌+◌, ◌<◌, ◌≤◌, Bool, true, false, List, [], ◌∷◌, ◌++◌, length, get_or, set, Option, None, Some, inl, inr, refl, sym, ap, ◌∙◌, subst, arith, if◌then◌else◌}
 use Rattle.std.specs.Int.{bit_at}
-use Rattle.std.specs.Str.{bytes_eq}
 use Rattle.std.proofs.lemmas.Bool.{cases_eq}
 use Rattle.std.proofs.lemmas.Nat.Bits.{same_from_bits}
 use Rattle.std.proofs.lemmas.Slice.Eq.{bytes_eq-Decides}
@@ -109,9 +108,6 @@ sieve-set variables i d new identifier old now within made is added kept = recor
 }
 
 -- ---- masks
-
-same-bytes : (bytes : List ℕ) → bytes_eq bytes bytes ≡ true
-same-bytes bytes = (bytes_eq-Decides bytes bytes).1 refl
 
 test-other : (before now : List ℕ → Bool) (o : Option (List ℕ)) (identifier : List ℕ)
     → ((other : List ℕ) → other ≢ identifier → now other ≡ before other)

@@ -1,5 +1,5 @@
 // What the reader keeps of the statements that it has read.
-ghost use Rattle.std.specs.Prelude.{◌≡◌, ◌==◌, ◌&&◌, not, length, ◌∷◌, ℕ, Bool, List, [], true, false, OnOk};
+ghost use Rattle.std.specs.Prelude.{◌≡◌, ◌==◌, ◌&&◌, not, length, ◌∷◌, ℕ, List, [], true, false, OnOk};
 ghost use Rattle.tre_vcd.specs.VcdReading.{Statement, scope, upscope, var, definitions, time, change, scalar, wide, dump, dump_end, is_defined, scopes_at, is_signal, is_event, valuation_at, events_at};
 ghost use Rattle.tre_vcd.specs.Kept.{Knows, Declares, DeclaresNone};
 

@@ -4,8 +4,8 @@ ghost use Rattle.tre_decimal.specs.declared.TheConstants.{SCALE_MAX};
 ghost use Rattle.tre_parts.specs.Walk.{Tells};
 ghost use Rattle.tre_parts.specs.declared.said.Said.{Said};
 ghost use Rattle.tre_trace.specs.declared.fault.TraceKind.TheVariants.{Spent};
-ghost use Rattle.tre_vcd.specs.VcdReading.{Terms, requiring, first_place, wide, Statement, var, Place, nothing, section, comment, vector, number, is_defined, goes_to, vcd_format, token_says, command_says, section_says, ticks_say, keyword_says, scalar_says, vector_says, value_says, scope_says, declaration_says, change, token_at};
-ghost use Rattle.tre_vcd.specs.Sections.{Holds, asked_of, terms_kept, command_of, is_nothing, dump_says, dump_end_says};
+ghost use Rattle.tre_vcd.specs.VcdReading.{Terms, requiring, first_place, wide, Statement, var, Place, nothing, section, comment, vector, number, is_defined, goes_to, vcd_format, command_says, section_says, ticks_say, keyword_says, scalar_says, vector_says, value_says, scope_says, declaration_says, change, token_at};
+ghost use Rattle.tre_vcd.specs.Sections.{Holds, terms_kept, command_of, is_nothing, dump_says, dump_end_says};
 ghost use Rattle.tre_vcd.specs.Kept.{Knows, KnowsAll};
 ghost use Rattle.tre_vcd.specs.Times.{vcd-keeps_time};
 

@@ -1,12 +1,12 @@
 //! Laws of the words of a command line, each as a function whose contract it is.
 
-ghost use Rattle.std.specs.Prelude.{◌≡◌, ◌≢◌, ◌∷◌, ℕ, true, List, [], None, Some, codes};
+ghost use Rattle.std.specs.Prelude.{◌≡◌, ◌≢◌, ◌∷◌, ℕ, true, List, [], Some, codes};
 ghost use Rattle.clap.specs.Words.{fault_of};
 ghost use Rattle.tre_words.specs.CommandLine.{command_line};
 ghost use Rattle.tre_words.specs.Job.{IsJob, GivesJob, GivesNoJob, plain_job, watch_job};
 ghost use Rattle.tre_words.specs.declared.job.Format.TheVariants.{Csv, Vcd};
 ghost use Rattle.tre_words.specs.declared.job.Job.{Job};
-ghost use Rattle.tre_words.specs.declared.job.Mode.TheVariants.{Offline, Online, Show};
+ghost use Rattle.tre_words.specs.declared.job.Mode.TheVariants.{Offline, Online};
 
 /// Words give one job at most.
 pub fn one_job()

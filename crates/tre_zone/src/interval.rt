@@ -1,4 +1,4 @@
-ghost use Rattle.std.specs.Prelude.{◌≡◌, ℕ, ◌+◌, ◌-◌, ◌*◌, ◌^◌, ◌≤◌, ◌<◌, ◌↔◌, IsTrue, IsNone, IfSome, MatchOption, MatchBool, pos, neg_ℤ, ◌≤ℤ◌};
+ghost use Rattle.std.specs.Prelude.{◌≡◌, ℕ, ◌-◌, ◌*◌, ◌^◌, ◌≤◌, ◌<◌, ◌↔◌, IsTrue, IsNone, IfSome, MatchOption, MatchBool, pos, neg_ℤ, ◌≤ℤ◌};
 ghost use Rattle.tre_zone.specs.Bound.{Meets, IsKeyWithin};
 ghost use Rattle.tre_zone.specs.Interval.{IsAboveLow, IsBelowHigh, LastsWithin, kept_weak, HasNoDuration, HasRoom, IsInterval, IsIntervalWithin, ends_of};
 

@@ -1,6 +1,5 @@
 // The zone of what two zones hold together.
 ghost use Rattle.std.specs.Prelude.{◌≡◌, ◌^◌, ◌↔◌, IsTrue};
-ghost use Rattle.tre_zone.specs.Bound.{IsKeyWithin};
 ghost use Rattle.tre_zone.specs.Beyond.{AreHeldBeyond, IsHeldBeyond, key_at, cut_at, looser_of};
 ghost use Rattle.tre_zone.specs.United.{GivesUnion};
 ghost use Rattle.tre_zone.specs.Zone.{AreKeysWithin, Includes, IsCanonical, IsFramed};

@@ -1,4 +1,4 @@
-ghost use Rattle.std.specs.Prelude.{◌≡◌, ℕ, ◌+◌, ◌*◌, ◌^◌, ◌≤◌, ◌<◌, ◌↔◌, IsTrue, pos, ◌*ℤ◌};
+ghost use Rattle.std.specs.Prelude.{◌≡◌, ℕ, ◌*◌, ◌^◌, ◌≤◌, ◌<◌, ◌↔◌, IsTrue, pos, ◌*ℤ◌};
 ghost use Rattle.tre_pairs.specs.Pairs.{Both, Lasting};
 ghost use Rattle.tre_zone.specs.Bound.{Meets};
 ghost use Rattle.tre_zone.specs.Interval.{LastsWithin};

@@ -1,4 +1,4 @@
-ghost use Rattle.std.specs.Prelude.{◌≡◌, ℕ, ◌+◌, ◌<◌, ◌≤◌, ◌↔◌, false, true, IsTrue, OnOk, OnErr, IfOk, Any, [], ◌∷◌, ◌++◌, take, map, vec_len, vec_capacity, pos, ◌≤ℤ◌, ◌^◌};
+ghost use Rattle.std.specs.Prelude.{◌≡◌, ℕ, ◌+◌, ◌<◌, ◌≤◌, ◌↔◌, false, true, IsTrue, OnOk, OnErr, IfOk, Any, [], ◌∷◌, ◌++◌, take, map, vec_len, vec_capacity};
 ghost use Rattle.tre_pairs.specs.Pairs.{Either, Both, Lasting};
 ghost use Rattle.tre_zone.specs.Interval.{LastsWithin};
 ghost use Rattle.tre_zone.specs.Longest.{LastsUpTo, IsLongest};
