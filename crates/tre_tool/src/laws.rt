@@ -20,7 +20,8 @@ pub fn one_request()
         AsksFor (GivesJob words) (ChecksAreTold checks) other → one ≡ other }
 {}
 
-/// Every end but `Usage` and `Memory` is that of words that give a job, of which `clap` has no fault.
+/// Every end but `Usage` and `Memory` is that of words that give a job. Of such words `clap` has no
+/// fault.
 pub fn given_job()
     ensures { (words : List (List ℕ)) (checks input : InputTold) (output : OutputTold)
         (status : Status) → EndsAs (GivesJob words) checks input output status →
