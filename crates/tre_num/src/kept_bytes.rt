@@ -1,5 +1,7 @@
 // The bytes of a table, as they came.
-ghost use Rattle.std.specs.Prelude.{◌≡◌, [], ◌++◌, ◌∷◌, false, map, OnErr, OnOk, Some};
+ghost use Rattle.std.specs.Prelude.{◌≡◌, [], ◌++◌, ◌∷◌, false, map, IsOk, OnErr, OnOk, Some};
+ghost use Rattle.std.specs.Io.{ReadsAtMost};
+ghost use Rattle.std.specs.Io.KnownBytes.{ReadConsumes};
 ghost use Rattle.tre_num.specs.Kept.{IsInFirst, is_read, left_of};
 
 use std::alloc::{AllocError, Global};
@@ -49,7 +51,11 @@ impl KeptBytes {
 impl Read for KeptBytes {
     ghost remaining = { λ bytes. Some bytes };
 
-    fn read(&mut self, buf: &mut [u8]) -> io::Result<usize> {
+    fn read(&mut self, buf: &mut [u8]) -> io::Result<usize>
+        ensures bound { ReadsAtMost result buf.new }
+        ensures bytes { ReadConsumes (Some self.old) (Some self.new) result buf.new }
+        ensures never_fails { IsOk result }
+    {
         free_front(&mut self.pieces, &mut self.place);
         match self.pieces.front() {
             Some(piece) => {

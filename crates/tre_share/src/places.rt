@@ -1,4 +1,4 @@
-ghost use Rattle.std.specs.Prelude.{◌≡◌, ◌≢◌, ◌%◌, ◌^◌, ◌<◌, ◌≤◌, ◌⊎◌, true, [], ◌∷◌, ◌++◌, length, IsSomeAnd, All, AllPairs, IfOk, OnOk};
+ghost use Rattle.std.specs.Prelude.{◌≡◌, ◌≢◌, ◌↔◌, ◌%◌, ◌^◌, ◌<◌, ◌≤◌, ◌⊎◌, true, [], ◌∷◌, ◌++◌, length, IsSomeAnd, All, AllPairs, IfOk, OnOk};
 ghost use Rattle.std.specs.Int.{bit_at};
 ghost use Rattle.tre_share.specs.Growth.{Extends, HasNoRoom};
 ghost use Rattle.tre_share.specs.Taking.{AreInOrder, bits_at};
@@ -17,7 +17,7 @@ pub struct Places {
     in_order: bool,
     ghost few: { length places.items ≤ NAMES_MAX },
     ghost within: { All (λ place. place < NAMES_MAX) places.items },
-    ghost order: { in_order ≡ true → AreInOrder places.items },
+    ghost order: { in_order ≡ true ↔ AreInOrder places.items },
 }
 
 impl Places {
@@ -69,7 +69,7 @@ impl Places {
 
     // Whether they are all places of so many names, one after the other.
     pub(crate) fn are_all(&self, count: usize) -> bool
-        ensures { result ≡ true →
+        ensures { result ≡ true ↔
             AreInOrder (places_of self.now) × (length (places_of self.now) ≡ count) }
     {
         self.in_order && self.places.len() == count
@@ -133,7 +133,7 @@ fn bits_below(bits: u64, place: usize) -> u64
 
 // Whether the places are 0, 1 and so on.
 fn are_in_order(places: &[u8]) -> bool
-    ensures { result ≡ true → AreInOrder places.now }
+    ensures { result ≡ true ↔ AreInOrder places.now }
 {
     for (number, place) in places.iter().enumerate() {
         if usize::from(*place) != number {

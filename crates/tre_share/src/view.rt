@@ -1,4 +1,4 @@
-ghost use Rattle.std.specs.Prelude.{◌≡◌, true};
+ghost use Rattle.std.specs.Prelude.{◌≡◌, ◌↔◌, true};
 ghost use Rattle.tre_parts.specs.Shared.{seen, seen_segment};
 ghost use Rattle.tre_trace.specs.Reading.{Vocabulary};
 
@@ -25,11 +25,11 @@ impl View {
         self.group
     }
 
-    /// Whether it shows what the group reads as it is: then the pattern has the names of the group,
-    /// and no others.
+    /// Whether it shows what the group reads as it is: whether the pattern has the names of the
+    /// group, in their order, and no others.
     pub fn shows_all(&self, group: &Group) -> bool
-        ensures { (asked : Vocabulary) → result ≡ true → Shows asked group.now self.now →
-            asked ≡ group.now }
+        ensures { (asked : Vocabulary) → Shows asked group.now self.now →
+            result ≡ true ↔ asked ≡ group.now }
     {
         self.names.are_all(group.names().len()) && self.events.are_all(group.events().len())
     }

@@ -7,7 +7,7 @@ use Rattle.tre_group.proofs.first.push_first.Goals as goal
 pub returns-then-shows_all-clause-readings : goal.returns-then-shows_all-clause-readings
 returns-then-shows_all-clause-readings g c = λ terms asked is sees shows closed bytes.
     let reader = g.R.TraceReader in
-    let same = c.shows_all.ensures asked c.if-shows_all.true shows in
+    let same = (c.shows_all.ensures asked shows).0 c.if-shows_all.true in
     let old = readings_in reader.reading reader.terms c.args.readers.now closed bytes in
     c.in_ok-push.ensures.readings closed bytes
     ∙ ap (λ (now : Reading). old ++ now ∷ [])

@@ -46,7 +46,7 @@ returns-then-self-clause-at c =
     let count : c.len.result ≡ length places.items = omega (arith, c.len.ensures, places.ok.0) in
     c.bits_below.ensures
     ∙ ap (λ place. c.args.bits % 2 ^ place) count
-    ∙ sym (bits_at-order places.items c.args.bits (c.args.self.now.order c.if-self.true))
+    ∙ sym (bits_at-order places.items c.args.bits (c.args.self.now.order.0 c.if-self.true))
 
 pub returns-then-self-clause-seen : goal.returns-then-self-clause-seen
 returns-then-self-clause-seen c asked all are =
@@ -54,5 +54,5 @@ returns-then-self-clause-seen c asked all are =
     let count : c.len.result ≡ length places.items = omega (arith, c.len.ensures, places.ok.0) in
     c.bits_below.ensures
     ∙ ap (λ place. c.args.bits % 2 ^ place) count
-    ∙ sym (bits_at-order places.items c.args.bits (c.args.self.now.order c.if-self.true))
+    ∙ sym (bits_at-order places.items c.args.bits (c.args.self.now.order.0 c.if-self.true))
     ∙ seen-places asked all places.items c.args.bits are
