@@ -85,7 +85,7 @@ fn block_end(block: usize, len: usize) -> usize
 
 /// The first place from `from` on whose item's row reaches the key: by looking at each.
 #[inline(always)]
-pub(crate) fn next_of_few<T: HasRow>(items: &[T], from: usize, key: &Row) -> Option<usize>
+pub fn next_of_few<T: HasRow>(items: &[T], from: usize, key: &Row) -> Option<usize>
     ensures { FindsNext (map T.row_of items.now) key.now from result }
 {
     first_between(items, from, items.len(), key)

@@ -1,33 +1,12 @@
 -- What the operators make of relations that hold of the same pairs.
-use Rattle.std.proofs.Common.{ℕ, ◌*◌, ◌<◌, ◌↔◌, List, [], ◌∷◌, inl, inr, ⊎_elim}
+use Rattle.std.proofs.Common.{ℕ, ◌*◌, ◌<◌, ◌↔◌, List, [], ◌∷◌, inl, inr, ⊎_elim, arith, rules}
 use Rattle.std.proofs.Math.Nat.{mul-pos}
 use Rattle.tre_pairs.specs.Pairs.{Pairs, Composed, Either, Both, Lasting, LeadTo, Chain}
 use Rattle.tre_pairs.proofs.Laws.{Agree}
 
 pub Agree-Composed : (R R' S S' : Pairs) → Agree R R' → Agree S S'
     → Agree (Composed R S) (Composed R' S')
-Agree-Composed R R' S S' r s = record {
-  at = λ a b n some. (
-    (λ h.
-        let finer : 0 < h.factor * n = mul-pos h.positive some in
-        record {
-          factor = h.factor;
-          positive = h.positive;
-          midpoint = h.midpoint;
-          left = (r.at (h.factor * a) h.midpoint (h.factor * n) finer).0 h.left;
-          right = (s.at h.midpoint (h.factor * b) (h.factor * n) finer).0 h.right;
-        }),
-    (λ h.
-        let finer : 0 < h.factor * n = mul-pos h.positive some in
-        record {
-          factor = h.factor;
-          positive = h.positive;
-          midpoint = h.midpoint;
-          left = (r.at (h.factor * a) h.midpoint (h.factor * n) finer).1 h.left;
-          right = (s.at h.midpoint (h.factor * b) (h.factor * n) finer).1 h.right;
-        }),
-  );
-}
+Agree-Composed R R' S S' r s = search rules
 
 module _ (R R' E E' : Pairs) where
   LeadTo-agree : Agree R R' → Agree E E' → (n from : ℕ) (cuts : List ℕ) (to : ℕ) → 0 < n
@@ -39,53 +18,15 @@ module _ (R R' E E' : Pairs) where
       ((λ h. (first.0 h.0, rest.0 h.1)), (λ h. (first.1 h.0, rest.1 h.1)))
 
   pub Agree-Chain : Agree R R' → Agree E E' → Agree (Chain R E) (Chain R' E')
-  Agree-Chain r e = record {
-    at = λ a b n some. (
-      (λ h. record {
-        factor = h.factor;
-        positive = h.positive;
-        cuts = h.cuts;
-        steps = (LeadTo-agree r e (h.factor * n) (h.factor * a) h.cuts (h.factor * b)
-            (mul-pos h.positive some)).0 h.steps;
-      }),
-      (λ h. record {
-        factor = h.factor;
-        positive = h.positive;
-        cuts = h.cuts;
-        steps = (LeadTo-agree r e (h.factor * n) (h.factor * a) h.cuts (h.factor * b)
-            (mul-pos h.positive some)).1 h.steps;
-      }),
-    );
-  }
+  Agree-Chain r e = search (rules, LeadTo-agree, mul-pos)
 
 module _ (R R' S S' : Pairs) where
   pub Agree-Either : Agree R R' → Agree S S' → Agree (Either R S) (Either R' S')
-  Agree-Either r s = record {
-    at = λ a b n some. (
-      (λ h. ⊎_elim (λ x. inl ((r.at a b n some).0 x)) (λ x. inr ((s.at a b n some).0 x)) h),
-      (λ h. ⊎_elim (λ x. inl ((r.at a b n some).1 x)) (λ x. inr ((s.at a b n some).1 x)) h),
-    );
-  }
+  Agree-Either r s = search rules
 
   pub Agree-Both : Agree R R' → Agree S S' → Agree (Both R S) (Both R' S')
-  Agree-Both r s = record {
-    at = λ a b n some. (
-      (λ h. record {
-        left = (r.at a b n some).0 h.left;
-        right = (s.at a b n some).0 h.right;
-      }),
-      (λ h. record {
-        left = (r.at a b n some).1 h.left;
-        right = (s.at a b n some).1 h.right;
-      }),
-    );
-  }
+  Agree-Both r s = search rules
 
 pub Agree-Lasting : (D : ℕ → ℕ → Type 0) (R R' : Pairs) → Agree R R'
     → Agree (Lasting D R) (Lasting D R')
-Agree-Lasting D R R' r = record {
-  at = λ a b n some. (
-    (λ h. record { related = (r.at a b n some).0 h.related; admitted = h.admitted }),
-    (λ h. record { related = (r.at a b n some).1 h.related; admitted = h.admitted }),
-  );
-}
+Agree-Lasting D R R' r = search rules

@@ -1,5 +1,5 @@
 -- Composition is associative, and a chain of chains is a chain.
-use Rattle.std.proofs.Common.{◌↔◌, ℕ, ◌*◌, ◌<◌, List, [], ◌∷◌, ◌++◌, map, refl, sym, subst, inl, inr, ⊎_elim, ◌⊎◌, ◌∙◌, arith}
+use Rattle.std.proofs.Common.{◌↔◌, ℕ, ◌*◌, ◌<◌, List, [], ◌∷◌, ◌++◌, map, refl, sym, subst, inl, inr, ⊎_elim, ◌⊎◌, ◌∙◌, arith, rules}
 use Rattle.std.proofs.Math.Nat.{mul_assoc, mul_left_comm, mul-pos, one-mul}
 use Rattle.tre_pairs.specs.Pairs.{Pairs, Composed, LeadTo, Chain}
 use Rattle.tre_pairs.proofs.Laws.{Scales, IsInstant}
@@ -79,8 +79,7 @@ module _ (R E : Pairs) where
   -- cuts that lead on to cuts
   pub LeadTo-append : IsInstant E → (n from : ℕ) (cuts : List ℕ) (mid : ℕ) (more : List ℕ) (to : ℕ)
       → LeadTo R E n from cuts mid → LeadTo R E n mid more to → LeadTo R E n from (cuts ++ more) to
-  LeadTo-append e n from [] mid more to h g =
-      subst (λ x. LeadTo R E n x more to) (sym (e.same from mid n h)) g
+  LeadTo-append e n from [] mid more to h g = search rules
   LeadTo-append e n from (cut ∷ cuts) mid more to h g =
       (h.0, LeadTo-append e n cut cuts mid more to h.1 g)
 
@@ -122,21 +121,11 @@ module _ (R E : Pairs) where
   first_step : (k a b n : ℕ) → 0 < k → (cuts : List ℕ) → LeadTo R E (k * n) (k * a) cuts (k * b)
       → E (k * a) (k * b) (k * n) ⊎ Composed R (Chain R E) a b n
   first_step k a b n pos [] h = inl h
-  first_step k a b n pos (cut ∷ cuts) h =
-      inr (record {
-        factor = k;
-        positive = pos;
-        midpoint = cut;
-        left = h.0;
-        right =
-            Chain-at cut (k * b) (k * n) cuts h.1;
-      })
+  first_step k a b n pos (cut ∷ cuts) h = search (rules, Chain-at)
 
   pub Chain-cases : Scales E → (a b n : ℕ) → Chain R E a b n
       → E a b n ⊎ Composed R (Chain R E) a b n
-  Chain-cases e a b n h =
-      ⊎_elim (λ x. inl (e.down h.factor a b n h.positive x)) (λ x. inr x)
-      (first_step h.factor a b n h.positive h.cuts h.steps)
+  Chain-cases e a b n h = search (rules, first_step, e.down, h.factor, h.positive, h.cuts)
 
 -- a chain of chains is a chain
 module _ (R E : Pairs) (r : Scales R) (e : Scales E) (same : IsInstant E) where

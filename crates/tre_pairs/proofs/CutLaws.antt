@@ -1,6 +1,6 @@
 -- How the pairs that cross a cut come from those before it, those behind it, and the crossing ones
 -- of the parts of an operator.
-use Rattle.std.proofs.Common.{ℕ, ◌*◌, ◌<◌, ◌≤◌, ◌↔◌, List, [], ◌∷◌, refl, sym, inl, inr, ⊎_elim, arith}
+use Rattle.std.proofs.Common.{ℕ, ◌*◌, ◌<◌, ◌≤◌, ◌↔◌, List, [], ◌∷◌, refl, sym, inl, inr, ⊎_elim, arith, rules}
 use Rattle.std.proofs.lemmas.Bool.{cases_lt}
 use Rattle.std.proofs.Math.Nat.{mul-pos}
 use Rattle.tre_pairs.specs.Cuts.{IsMoment, Crossing}
@@ -28,16 +28,7 @@ pub record IsCut (cut : ℕ) (W U V : Pairs) : Type 0 where
 
 module _ (cut : ℕ) where
   pub Scales-Moment : Scales (IsMoment cut)
-  Scales-Moment = record {
-    up = λ k a b n pos h. record {
-      begin = eq_up k cut a n h.begin;
-      end = eq_up k cut b n h.end;
-    };
-    down = λ k a b n pos h. record {
-      begin = eq_down k cut a n pos h.begin;
-      end = eq_down k cut b n pos h.end;
-    };
-  }
+  Scales-Moment = search (rules, eq_up, eq_down)
 
   pub Scales-Crossing : (R : Pairs) → Scales R → Scales (Crossing cut R)
   Scales-Crossing R r = record {
@@ -56,60 +47,19 @@ module _ (cut : ℕ) where
   -- all pairs: those before, those behind, and the crossing ones
   pub cut_parts : (W U V : Pairs) → IsCut cut W U V → (a b n : ℕ) → 0 < n
       → W a b n ↔ Either U (Either V (Crossing cut W)) a b n
-  cut_parts W U V parts a b n some = (
-    λ h. ⊎_elim
-        (λ early. inl (parts.early.at a b n early h))
-        (λ late. ⊎_elim
-        (λ before. inr (inr (record { related = h; begin = omega arith; end = late })))
-        (λ from. inr (inl (parts.late.at a b n some from h)))
-        (cases_lt a (cut * n)))
-        (cases_lt b (cut * n)),
-    λ h. ⊎_elim
-        (λ before. parts.grows.at a b n before)
-        (λ rest. ⊎_elim (λ behind. parts.behind.at a b n behind) (λ across. across.related) rest)
-        h,
-  )
+  cut_parts W U V parts a b n some = search rules
 
   pub crossing_either : (R S : Pairs) (a b n : ℕ)
       → Crossing cut (Either R S) a b n ↔ Either (Crossing cut R) (Crossing cut S) a b n
-  crossing_either R S a b n = (
-    λ h. ⊎_elim
-        (λ r. inl (record { related = r; begin = h.begin; end = h.end }))
-        (λ s. inr (record { related = s; begin = h.begin; end = h.end }))
-        h.related,
-    λ h. ⊎_elim
-        (λ r. record { related = inl r.related; begin = r.begin; end = r.end })
-        (λ s. record { related = inr s.related; begin = s.begin; end = s.end })
-        h,
-  )
+  crossing_either R S a b n = search rules
 
   pub crossing_both : (R S : Pairs) (a b n : ℕ)
       → Crossing cut (Both R S) a b n ↔ Both (Crossing cut R) (Crossing cut S) a b n
-  crossing_both R S a b n = (
-    λ h. record {
-      left = record { related = h.related.left; begin = h.begin; end = h.end };
-      right = record { related = h.related.right; begin = h.begin; end = h.end };
-    },
-    λ h. record {
-      related = record { left = h.left.related; right = h.right.related };
-      begin = h.left.begin;
-      end = h.left.end;
-    },
-  )
+  crossing_both R S a b n = search rules
 
   pub crossing_lasting : (D : ℕ → ℕ → Type 0) (R : Pairs) (a b n : ℕ)
       → Crossing cut (Lasting D R) a b n ↔ Lasting D (Crossing cut R) a b n
-  crossing_lasting D R a b n = (
-    λ h. record {
-      related = record { related = h.related.related; begin = h.begin; end = h.end };
-      admitted = h.related.admitted;
-    },
-    λ h. record {
-      related = record { related = h.related.related; admitted = h.admitted };
-      begin = h.related.begin;
-      end = h.related.end;
-    },
-  )
+  crossing_lasting D R a b n = search rules
 
 -- Where one follows another, either the first crosses the cut and the second is behind it, or the
 -- first is before it and the second crosses.
@@ -225,12 +175,7 @@ module _ (cut : ℕ) (W U V E F G : Pairs) (step : IsCut cut W U V) (moment : Is
 
   across : (n from : ℕ) (cuts : List ℕ) (to : ℕ) → 0 < n → from ≤ cut * n → cut * n ≤ to
       → LeadTo W E n from cuts to → Either (IsMoment cut) Around from to n
-  across n from [] to some before late h =
-      let one = same.same from to n h in
-      inl (record {
-        begin = omega (arith, one, before, late);
-        end = omega (arith, one, before, late);
-      })
+  across n from [] to some before late h = search rules
   across n from (next ∷ cuts) to some before late h =
       ⊎_elim
       (λ early. ⊎_elim
@@ -242,10 +187,7 @@ module _ (cut : ℕ) (W U V E F G : Pairs) (step : IsCut cut W U V) (moment : Is
 
   Scales-Around : Scales Around
   unfolding Around
-  Scales-Around =
-      Scales-Composed (Chain U F) (Composed (Crossing cut W) (Chain V G)) (Scales-Chain U F u f)
-      (Scales-Composed (Crossing cut W) (Chain V G) (Scales-Crossing cut W w)
-      (Scales-Chain V G v g))
+  Scales-Around = search (rules, Scales-Composed, Scales-Chain, Scales-Crossing)
 
   around_chain : (a b n : ℕ) → Around a b n → Crossing cut (Chain W E) a b n
   unfolding Around
@@ -280,14 +222,7 @@ module _ (cut : ℕ) (W U V E F G : Pairs) (step : IsCut cut W U V) (moment : Is
       }
 
   moment_chain : (a b n : ℕ) → IsMoment cut a b n → Crossing cut (Chain W E) a b n
-  moment_chain a b n h =
-      let begin = h.begin in
-      let end = h.end in
-      record {
-        related = Chain-none W E a b n (moved E (sym h.begin) (sym h.end) refl (at_cut n));
-        begin = omega (arith, begin);
-        end = omega (arith, end);
-      }
+  moment_chain a b n h = search rules
 
   pub crossing_chain : (a b n : ℕ) → 0 < n → Crossing cut (Chain W E) a b n
       ↔ Either (IsMoment cut)
@@ -324,28 +259,15 @@ module _ (cut : ℕ) (R R' S S' : Pairs) where
 
   pub ImpliesFrom-Either : ImpliesFrom cut R R' → ImpliesFrom cut S S'
       → ImpliesFrom cut (Either R S) (Either R' S')
-  ImpliesFrom-Either r s = record {
-    at = λ a b n some late h.
-        ⊎_elim (λ x. inl (r.at a b n some late x)) (λ x. inr (s.at a b n some late x)) h;
-  }
+  ImpliesFrom-Either r s = search rules
 
   pub ImpliesFrom-Both : ImpliesFrom cut R R' → ImpliesFrom cut S S'
       → ImpliesFrom cut (Both R S) (Both R' S')
-  ImpliesFrom-Both r s = record {
-    at = λ a b n some late h. record {
-      left = r.at a b n some late h.left;
-      right = s.at a b n some late h.right;
-    };
-  }
+  ImpliesFrom-Both r s = search rules
 
 pub ImpliesFrom-Lasting : (cut : ℕ) (D : ℕ → ℕ → Type 0) (R R' : Pairs) → ImpliesFrom cut R R'
     → ImpliesFrom cut (Lasting D R) (Lasting D R')
-ImpliesFrom-Lasting cut D R R' r = record {
-  at = λ a b n some late h. record {
-    related = r.at a b n some late h.related;
-    admitted = h.admitted;
-  };
-}
+ImpliesFrom-Lasting cut D R R' r = search rules
 
 module _ (cut : ℕ) (R R' E E' : Pairs) (ordered : IsOrdered R) (r : ImpliesFrom cut R R')
     (e : ImpliesFrom cut E E') where

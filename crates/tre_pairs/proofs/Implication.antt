@@ -1,5 +1,5 @@
 -- What implies, and what implies before a time, passes through every operator.
-use Rattle.std.proofs.Common.{ℕ, ◌*◌, ◌<◌, List, [], ◌∷◌, inl, inr, ⊎_elim, arith}
+use Rattle.std.proofs.Common.{ℕ, ◌*◌, ◌<◌, List, [], ◌∷◌, inl, inr, ⊎_elim, arith, rules}
 use Rattle.std.proofs.Math.Nat.{mul_left_comm, mul-lt-mul_of_pos_left}
 use Rattle.tre_pairs.specs.Pairs.{Pairs, Composed, Either, Both, Lasting, LeadTo, Chain}
 use Rattle.tre_pairs.proofs.Laws.{IsOrdered, IsInstant, Implies, ImpliesBefore}
@@ -7,34 +7,17 @@ use Rattle.tre_pairs.proofs.Order.{LeadTo-le}
 
 module _ (R R' S S' : Pairs) where
   pub Implies-Composed : Implies R R' → Implies S S' → Implies (Composed R S) (Composed R' S')
-  Implies-Composed r s = record {
-    at = λ a b n h. record {
-      factor = h.factor;
-      positive = h.positive;
-      midpoint = h.midpoint;
-      left = r.at (h.factor * a) h.midpoint (h.factor * n) h.left;
-      right = s.at h.midpoint (h.factor * b) (h.factor * n) h.right;
-    };
-  }
+  Implies-Composed r s = search rules
 
   pub Implies-Either : Implies R R' → Implies S S' → Implies (Either R S) (Either R' S')
-  Implies-Either r s = record {
-    at = λ a b n h.
-        ⊎_elim (λ x. inl (r.at a b n x)) (λ x. inr (s.at a b n x)) h;
-  }
+  Implies-Either r s = search rules
 
   pub Implies-Both : Implies R R' → Implies S S' → Implies (Both R S) (Both R' S')
-  Implies-Both r s = record {
-    at = λ a b n h.
-        record { left = r.at a b n h.left; right = s.at a b n h.right };
-  }
+  Implies-Both r s = search rules
 
 pub Implies-Lasting : (D : ℕ → ℕ → Type 0) (R R' : Pairs) → Implies R R'
     → Implies (Lasting D R) (Lasting D R')
-Implies-Lasting D R R' r = record {
-  at = λ a b n h.
-      record { related = r.at a b n h.related; admitted = h.admitted };
-}
+Implies-Lasting D R R' r = search rules
 
 module _ (R R' E E' : Pairs) where
   LeadTo-implies : Implies R R' → Implies E E' → (n from : ℕ) (cuts : List ℕ) (to : ℕ)
@@ -44,60 +27,28 @@ module _ (R R' E E' : Pairs) where
       (r.at from cut n h.0, LeadTo-implies r e n cut cuts to h.1)
 
   pub Implies-Chain : Implies R R' → Implies E E' → Implies (Chain R E) (Chain R' E')
-  Implies-Chain r e = record {
-    at = λ a b n h. record {
-      factor = h.factor;
-      positive = h.positive;
-      cuts = h.cuts;
-      steps = LeadTo-implies r e (h.factor * n) (h.factor * a) h.cuts (h.factor * b) h.steps;
-    };
-  }
+  Implies-Chain r e = search (rules, LeadTo-implies)
 
 -- a time that is before T is so under a finer name
 finer_before : (k T b n : ℕ) → 0 < k → b < T * n → k * b < T * (k * n)
-finer_before k T b n pos h =
-    let finer : k * b < k * (T * n) = mul-lt-mul_of_pos_left h pos in
-    omega (arith, mul_left_comm k T n)
+finer_before k T b n pos h = search (rules, mul-lt-mul_of_pos_left, mul_left_comm)
 
 module _ (T : ℕ) (R R' S S' : Pairs) where
   pub ImpliesBefore-Composed : IsOrdered S → ImpliesBefore T R R' → ImpliesBefore T S S'
       → ImpliesBefore T (Composed R S) (Composed R' S')
-  ImpliesBefore-Composed ordered r s = record {
-    at = λ a b n before h.
-        let end = finer_before h.factor T b n h.positive before in
-        let le = ordered.le h.midpoint (h.factor * b) (h.factor * n) h.right in
-        record {
-          factor = h.factor;
-          positive = h.positive;
-          midpoint = h.midpoint;
-          left = r.at (h.factor * a) h.midpoint (h.factor * n) (omega (arith, end, le)) h.left;
-          right = s.at h.midpoint (h.factor * b) (h.factor * n) end h.right;
-        };
-  }
+  ImpliesBefore-Composed ordered r s = search (rules, finer_before, ordered.le, r.at, s.at)
 
   pub ImpliesBefore-Either : ImpliesBefore T R R' → ImpliesBefore T S S'
       → ImpliesBefore T (Either R S) (Either R' S')
-  ImpliesBefore-Either r s = record {
-    at = λ a b n before h.
-        ⊎_elim (λ x. inl (r.at a b n before x)) (λ x. inr (s.at a b n before x)) h;
-  }
+  ImpliesBefore-Either r s = search rules
 
   pub ImpliesBefore-Both : ImpliesBefore T R R' → ImpliesBefore T S S'
       → ImpliesBefore T (Both R S) (Both R' S')
-  ImpliesBefore-Both r s = record {
-    at = λ a b n before h.
-        record { left = r.at a b n before h.left; right = s.at a b n before h.right };
-  }
+  ImpliesBefore-Both r s = search rules
 
 pub ImpliesBefore-Lasting : (T : ℕ) (D : ℕ → ℕ → Type 0) (R R' : Pairs) → ImpliesBefore T R R'
     → ImpliesBefore T (Lasting D R) (Lasting D R')
-ImpliesBefore-Lasting T D R R' r = record {
-  at = λ a b n before h. record {
-    related = r.at a b n before h.related;
-    admitted =
-        h.admitted;
-  };
-}
+ImpliesBefore-Lasting T D R R' r = search rules
 
 module _ (T : ℕ) (R R' E E' : Pairs) (ordered : IsOrdered R) (same : IsInstant E) where
   LeadTo-before : ImpliesBefore T R R' → ImpliesBefore T E E'
@@ -110,12 +61,4 @@ module _ (T : ℕ) (R R' E E' : Pairs) (ordered : IsOrdered R) (same : IsInstant
 
   pub ImpliesBefore-Chain : ImpliesBefore T R R' → ImpliesBefore T E E'
       → ImpliesBefore T (Chain R E) (Chain R' E')
-  ImpliesBefore-Chain r e = record {
-    at = λ a b n before h. record {
-      factor = h.factor;
-      positive = h.positive;
-      cuts = h.cuts;
-      steps = LeadTo-before r e (h.factor * n) (h.factor * a) h.cuts (h.factor * b)
-          (finer_before h.factor T b n h.positive before) h.steps;
-    };
-  }
+  ImpliesBefore-Chain r e = search (rules, LeadTo-before, finer_before)

@@ -1,29 +1,19 @@
 -- Every operator keeps the order of the two times, and the bounds on them.
-use Rattle.std.proofs.Common.{ℕ, ◌*◌, ◌<◌, ◌≤◌, List, [], ◌∷◌, ⊎_elim, arith}
+use Rattle.std.proofs.Common.{ℕ, ◌*◌, ◌<◌, ◌≤◌, List, [], ◌∷◌, ⊎_elim, arith, rules}
 use Rattle.std.proofs.Math.Nat.{mul_left_comm, le_of_mul-le-mul_left}
 use Rattle.tre_pairs.specs.Pairs.{Pairs, Composed, Either, Both, Lasting, LeadTo, Chain}
 use Rattle.tre_pairs.proofs.Laws.{IsOrdered, IsInstant, IsBounded}
 
 -- the bounds of the finer names are bounds of the times
 begin_of : (k low a n : ℕ) → 0 < k → low * (k * n) ≤ k * a → low * n ≤ a
-begin_of k low a n pos h =
-    let finer : k * (low * n) ≤ k * a = omega (arith, mul_left_comm k low n, h) in
-    le_of_mul-le-mul_left finer pos
+begin_of k low a n pos h = search (rules, mul_left_comm, le_of_mul-le-mul_left)
 
 end_of : (k high b n : ℕ) → 0 < k → k * b ≤ high * (k * n) → b ≤ high * n
-end_of k high b n pos h =
-    let finer : k * b ≤ k * (high * n) = omega (arith, mul_left_comm k high n, h) in
-    le_of_mul-le-mul_left finer pos
+end_of k high b n pos h = search (rules, mul_left_comm, le_of_mul-le-mul_left)
 
 module _ (R S : Pairs) where
   pub IsOrdered-Composed : IsOrdered R → IsOrdered S → IsOrdered (Composed R S)
-  IsOrdered-Composed r s = record {
-    le = λ a b n h.
-        let first = r.le (h.factor * a) h.midpoint (h.factor * n) h.left in
-        let second = s.le h.midpoint (h.factor * b) (h.factor * n) h.right in
-        let both : h.factor * a ≤ h.factor * b = omega (arith, first, second) in
-        le_of_mul-le-mul_left both h.positive;
-  }
+  IsOrdered-Composed r s = search rules
 
   pub IsOrdered-Either : IsOrdered R → IsOrdered S → IsOrdered (Either R S)
   IsOrdered-Either r s = record { le = λ a b n h. ⊎_elim (r.le a b n) (s.le a b n) h }
@@ -33,37 +23,21 @@ module _ (R S : Pairs) where
 
   pub IsBounded-Composed : (low high : ℕ) → IsBounded low high R → IsBounded low high S
       → IsBounded low high (Composed R S)
-  IsBounded-Composed low high r s = record {
-    begin = λ a b n h. begin_of h.factor low a n h.positive
-        (r.begin (h.factor * a) h.midpoint (h.factor * n) h.left);
-    end = λ a b n h. end_of h.factor high b n h.positive
-        (s.end h.midpoint (h.factor * b) (h.factor * n) h.right);
-  }
+  IsBounded-Composed low high r s = search (rules, begin_of, end_of, r.begin, s.end)
 
   pub IsBounded-Either : (low high : ℕ) → IsBounded low high R → IsBounded low high S
       → IsBounded low high (Either R S)
-  IsBounded-Either low high r s = record {
-    begin = λ a b n h. ⊎_elim (r.begin a b n) (s.begin a b n) h;
-    end = λ a b n h. ⊎_elim (r.end a b n) (s.end a b n) h;
-  }
+  IsBounded-Either low high r s = search rules
 
   pub IsBounded-Both : (low high : ℕ) → IsBounded low high R → IsBounded low high (Both R S)
-  IsBounded-Both low high r = record {
-    begin = λ a b n h. r.begin a b n h.left;
-    end = λ a b n h.
-        r.end a b n h.left;
-  }
+  IsBounded-Both low high r = search rules
 
 module _ (D : ℕ → ℕ → Type 0) (R : Pairs) where
   pub IsOrdered-Lasting : IsOrdered R → IsOrdered (Lasting D R)
   IsOrdered-Lasting r = record { le = λ a b n h. r.le a b n h.related }
 
   pub IsBounded-Lasting : (low high : ℕ) → IsBounded low high R → IsBounded low high (Lasting D R)
-  IsBounded-Lasting low high r = record {
-    begin = λ a b n h. r.begin a b n h.related;
-    end =
-        λ a b n h. r.end a b n h.related;
-  }
+  IsBounded-Lasting low high r = search rules
 
 module _ (R E : Pairs) where
   -- the cuts never fall
@@ -74,10 +48,7 @@ module _ (R E : Pairs) where
       let first = r.le from cut n h.0 in let rest = LeadTo-le r e n cut cuts to h.1 in omega arith
 
   pub IsOrdered-Chain : IsOrdered R → IsInstant E → IsOrdered (Chain R E)
-  IsOrdered-Chain r e = record {
-    le = λ a b n h. le_of_mul-le-mul_left
-        (LeadTo-le r e (h.factor * n) (h.factor * a) h.cuts (h.factor * b) h.steps) h.positive;
-  }
+  IsOrdered-Chain r e = search (rules, le_of_mul-le-mul_left, LeadTo-le)
 
   LeadTo-begin : (low high : ℕ) → IsBounded low high R → IsBounded low high E
       → (n from : ℕ) (cuts : List ℕ) (to : ℕ) → LeadTo R E n from cuts to → low * n ≤ from

@@ -1,13 +1,12 @@
 -- Every operator on relations speaks of times: it scales where its parts do.
-use Rattle.std.proofs.Common.{◌≡◌, ℕ, ◌*◌, ◌-◌, ◌<◌, List, [], ◌∷◌, map, refl, sym, subst, inl, inr, ⊎_elim}
+use Rattle.std.proofs.Common.{◌≡◌, ℕ, ◌*◌, ◌-◌, ◌<◌, List, [], ◌∷◌, map, refl, sym, subst, inl, inr, ⊎_elim, arith, rules}
 use Rattle.std.proofs.Math.Nat.{mul_assoc, mul_left_comm, mul-pos, mul-sub}
 use Rattle.tre_pairs.specs.Pairs.{Pairs, Composed, Either, Both, Lasting, LeadTo, Chain}
 use Rattle.tre_pairs.proofs.Laws.{Scales, DurationScales}
 
 -- a relation holds of other names of the same numbers
 pub moved : (R : Pairs) {a a' b b' n n' : ℕ} → a ≡ a' → b ≡ b' → n ≡ n' → R a b n → R a' b' n'
-moved R {a} {a'} {b} {b'} {n} {n'} e f g h =
-    subst (λ x. R a' b' x) g (subst (λ x. R a' x n) f (subst (λ x. R x b n) e h))
+moved R {a} {a'} {b} {b'} {n} {n'} e f g h = search rules
 
 module _ (R S : Pairs) where
   pub Scales-Composed : Scales R → Scales S → Scales (Composed R S)
@@ -31,25 +30,10 @@ module _ (R S : Pairs) where
   }
 
   pub Scales-Either : Scales R → Scales S → Scales (Either R S)
-  Scales-Either r s = record {
-    up = λ k a b n pos h. ⊎_elim (λ x. inl (r.up k a b n pos x)) (λ x. inr (s.up k a b n pos x)) h;
-    down = λ k a b n pos h. ⊎_elim (λ x. inl (r.down k a b n pos x))
-        (λ x. inr (s.down k a b n pos x)) h;
-  }
+  Scales-Either r s = search rules
 
   pub Scales-Both : Scales R → Scales S → Scales (Both R S)
-  Scales-Both r s = record {
-    up = λ k a b n pos h. record {
-      left = r.up k a b n pos h.left;
-      right =
-          s.up k a b n pos h.right;
-    };
-    down = λ k a b n pos h. record {
-      left = r.down k a b n pos h.left;
-      right =
-          s.down k a b n pos h.right;
-    };
-  }
+  Scales-Both r s = search rules
 
 pub Scales-Lasting : (D : ℕ → ℕ → Type 0) (R : Pairs) → DurationScales D → Scales R
     → Scales (Lasting D R)
@@ -76,9 +60,7 @@ module _ (R E : Pairs) where
   -- cuts lead between other names of the same numbers
   pub LeadTo-moved : {n n' from from' to to' : ℕ} (cuts : List ℕ) → n ≡ n' → from ≡ from'
       → to ≡ to' → LeadTo R E n from cuts to → LeadTo R E n' from' cuts to'
-  LeadTo-moved {n} {n'} {from} {from'} {to} {to'} cuts e f g h =
-      subst (λ x. LeadTo R E n' from' cuts x) g
-      (subst (λ x. LeadTo R E n' x cuts to) f (subst (λ x. LeadTo R E x from cuts to) e h))
+  LeadTo-moved {n} {n'} {from} {from'} {to} {to'} cuts e f g h = search rules
 
   pub Scales-Chain : Scales R → Scales E → Scales (Chain R E)
   Scales-Chain r e = record {

@@ -1,5 +1,5 @@
 -- Of short durations the operators make the same whether or not their parts are kept short.
-use Rattle.std.proofs.Common.{ℕ, ◌-◌, ◌*◌, ◌<◌, ◌≤◌, List, [], ◌∷◌, inl, inr, ⊎_elim, subst, arith}
+use Rattle.std.proofs.Common.{ℕ, ◌-◌, ◌*◌, ◌<◌, ◌≤◌, List, [], ◌∷◌, inl, inr, ⊎_elim, subst, arith, rules}
 use Rattle.std.proofs.Math.Nat.{mul-sub}
 use Rattle.tre_pairs.specs.Pairs.{Pairs, Composed, Either, Both, Lasting, LeadTo, Chain}
 use Rattle.tre_pairs.proofs.Laws.{DurationScales, IsOrdered, IsInstant, Agree}
@@ -10,38 +10,14 @@ pub record IsDownward (D : ℕ → ℕ → Type 0) : Type 0 where
   pub at : (d d' n : ℕ) → d ≤ d' → D d' n → D d n
 
 pub Agree-trans : (R S T : Pairs) → Agree R S → Agree S T → Agree R T
-Agree-trans R S T r s = record {
-  at = λ a b n some.
-      let one = r.at a b n some in let two = s.at a b n some in
-      ((λ h. two.0 (one.0 h)), (λ h. one.1 (two.1 h)));
-}
+Agree-trans R S T r s = search rules
 
 module _ (D : ℕ → ℕ → Type 0) (R S : Pairs) where
   pub Lasting-Either : Agree (Either (Lasting D R) (Lasting D S)) (Lasting D (Either R S))
-  Lasting-Either = record {
-    at = λ a b n some. (
-      (λ h.
-          ⊎_elim (λ x. record { related = inl x.related; admitted = x.admitted })
-          (λ x. record { related = inr x.related; admitted = x.admitted }) h),
-      (λ h.
-          ⊎_elim (λ x. inl (record { related = x; admitted = h.admitted }))
-          (λ x. inr (record { related = x; admitted = h.admitted })) h.related),
-    );
-  }
+  Lasting-Either = search rules
 
   pub Lasting-Both : Agree (Both (Lasting D R) (Lasting D S)) (Lasting D (Both R S))
-  Lasting-Both = record {
-    at = λ a b n some. (
-      (λ h. record {
-        related = record { left = h.left.related; right = h.right.related };
-        admitted = h.left.admitted;
-      }),
-      (λ h. record {
-        left = record { related = h.related.left; admitted = h.admitted };
-        right = record { related = h.related.right; admitted = h.admitted };
-      }),
-    );
-  }
+  Lasting-Both = search rules
 
 module _ (D : ℕ → ℕ → Type 0) (down : IsDownward D) (scales : DurationScales D) where
   -- the duration under a finer name

@@ -1,5 +1,5 @@
 -- Chains of equal steps, and steps that are chains themselves.
-use Rattle.std.proofs.Common.{◌≡◌, ℕ, zero, suc, ◌+◌, ◌-◌, ◌*◌, ◌<◌, ◌≤◌, List, [], ◌∷◌, ◌++◌, map, refl, sym, ap, subst, ◌∙◌, arith}
+use Rattle.std.proofs.Common.{◌≡◌, ℕ, zero, suc, ◌+◌, ◌-◌, ◌*◌, ◌<◌, ◌≤◌, List, [], ◌∷◌, ◌++◌, map, refl, sym, ap, subst, ◌∙◌, arith, rules}
 use Rattle.std.proofs.Math.Nat.{mul_assoc, mul_left_comm, mul-pos, eq_of_mul-eq-mul_left}
 use Rattle.tre_pairs.specs.Pairs.{Pairs, LeadTo, Chain}
 use Rattle.tre_pairs.specs.SameTime.{SameTime}
@@ -14,10 +14,7 @@ unscaled : (k a b : ℕ) → 0 < k → k * a ≡ k * b → a ≡ b
 unscaled k a b pos h = eq_of_mul-eq-mul_left k pos a b h
 
 pub Scales-SameTime : Scales SameTime
-Scales-SameTime = record {
-  up = λ k a b n pos h. record { same = ap (λ t. k * t) h.same };
-  down = λ k a b n pos h. record { same = unscaled k a b pos h.same };
-}
+Scales-SameTime = search rules
 
 -- ---- equal steps
 
@@ -31,8 +28,7 @@ module _ (R E : Pairs) (n step : ℕ) where
       → ((i : ℕ) → i < count → R (from + i * step) (from + i * step + step) n)
       → LeadTo R E n from (evenly count from step) to
   unfolding evenly
-  LeadTo-even zero from to ends last steps =
-      subst (λ x. E x to n) (let e : to ≡ from = omega (arith, ends) in e) last
+  LeadTo-even zero from to ends last steps = search rules
   LeadTo-even (suc count) from to ends last steps = (
     moved R (let e : from + 0 * step ≡ from = omega arith in e)
         (let e : from + 0 * step + step ≡ from + step = omega arith in e) refl
@@ -66,8 +62,7 @@ module _ (R E F : Pairs) where
   -- cuts that lead on to cuts, of which the last has another relation for the end
   LeadTo-onto : IsInstant E → (n from : ℕ) (cuts : List ℕ) (mid : ℕ) (more : List ℕ) (to : ℕ)
       → LeadTo R E n from cuts mid → LeadTo R F n mid more to → LeadTo R F n from (cuts ++ more) to
-  LeadTo-onto e n from [] mid more to h g =
-      subst (λ x. LeadTo R F n x more to) (sym (e.same from mid n h)) g
+  LeadTo-onto e n from [] mid more to h g = search rules
   LeadTo-onto e n from (cut ∷ cuts) mid more to h g =
       (h.0, LeadTo-onto e n cut cuts mid more to h.1 g)
 

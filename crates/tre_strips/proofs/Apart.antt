@@ -1,5 +1,5 @@
 -- Of two strips of which one includes the other, both are the same.
-use Rattle.std.proofs.Common.{◌≡◌, ℕ, zero, suc, ◌+◌, ◌*◌, ◌<◌, ◌≤◌, min, max, List, [], ◌∷◌, get_or, refl, sym, subst, ◌∙◌, arith, inl, inr, le_refl}
+use Rattle.std.proofs.Common.{◌≡◌, ℕ, zero, suc, ◌+◌, ◌*◌, ◌<◌, ◌≤◌, min, max, List, [], ◌∷◌, get_or, refl, sym, subst, ◌∙◌, arith, inl, inr, le_refl, rules}
 use Rattle.std.specs.Prelude.{Contains}
 use Rattle.std.proofs.lemmas.List.Elements.{Contains-get_or}
 use Rattle.tre_pairs.specs.Pairs.{Pairs}
@@ -25,10 +25,7 @@ rises_from : (bars : List Bar) (least a n : ℕ) → RiseFrom least bars a n →
     → (least ≤ place_of bar.low a n) × (place_of bar.low a n < place_of bar.high a n)
 unfolding RiseFrom
 rises_from [] least a n rising bar has = absurd (omega (arith, has.1))
-rises_from (first ∷ bars) least a n rising bar (zero, below, is) =
-    subst (λ (b : Bar). (least ≤ place_of b.low a n)
-    × (place_of b.low a n < place_of b.high a n)) is
-    (rising.0, rising.1)
+rises_from (first ∷ bars) least a n rising bar (zero, below, is) = search rules
 rises_from (first ∷ bars) least a n rising bar (suc k, below, is) =
     let rest = rises_from bars _ a n rising.2 bar (k, omega (arith, below), is) in
     let low = rest.0 in
@@ -45,10 +42,7 @@ one_bar [] least a n rising bar other has has' b h h' = absurd (omega (arith, ha
 one_bar (first ∷ bars) least a n rising bar other (zero, below, is) (zero, below', is') b h h' =
     sym is ∙ is'
 one_bar (first ∷ bars) least a n rising bar other (zero, below, is) (suc k, below', is') b h h' =
-    let from = (rises_from bars _ a n rising.2 other (k, omega (arith, below'), is')).0 in
-    let high = (subst (λ (x : Bar). BarHolds x a b n) (sym is) h).high in
-    let low = h'.low in
-    absurd (omega arith)
+    search (rules, rises_from, rising.2, h'.low)
 one_bar (first ∷ bars) least a n rising bar other (suc k, below, is) (zero, below', is') b h h' =
     let from = (rises_from bars _ a n rising.2 bar (k, omega (arith, below), is)).0 in
     let high = (subst (λ (x : Bar). BarHolds x a b n) (sym is') h').high in
@@ -238,9 +232,7 @@ module _ (zones : List ZoneBounds) (canonical : AreCanonical zones) where
       → IsStripZone (SetHolds zones) zone → IsStripZone (SetHolds zones) other
       → Includes zone other → zone ≡ other
   strips_apart zone other is_canonical is_canonical' (of_run bars from until bar run has is)
-      (of_run others start end bar' run' has' is') includes =
-      of_runs zone other is_canonical is_canonical' includes bars from until bar run has is
-      others start end bar' run' has' is'
+      (of_run others start end bar' run' has' is') includes = search (rules, of_runs)
   strips_apart zone other is_canonical is_canonical' (of_time bars time bar alone own has is)
       (of_run others start end bar' run' has' is') includes =
       let a : ℕ = 2 * (2 * start + 1) in

@@ -1,5 +1,5 @@
 -- Bars in the order of their low ends, joined one by one to a rising list.
-use Rattle.std.proofs.Common.{◌≡◌, ℕ, suc, ◌+◌, ◌*◌, ◌<◌, ◌≤◌, ◌⊎◌, ◌↔◌, Bool, true, false, max, List, [], ◌∷◌, ◌++◌, length, get_or, take, refl, sym, ap, subst, arith, inl, inr, ⊎_elim}
+use Rattle.std.proofs.Common.{◌≡◌, ℕ, suc, ◌+◌, ◌*◌, ◌<◌, ◌≤◌, ◌⊎◌, ◌↔◌, Bool, true, false, max, List, [], ◌∷◌, ◌++◌, length, get_or, take, refl, sym, ap, subst, arith, inl, inr, ⊎_elim, rules}
 use Rattle.std.specs.List.Sorted.{IsNonDecreasingBy, IsPermutation}
 use Rattle.std.proofs.lemmas.Bool.{cases_lt}
 use Rattle.std.proofs.lemmas.List.{take_all, get_or_default}
@@ -104,26 +104,7 @@ touch : (one other joint : Bar) (a b n : ℕ) → joint.low ≡ one.low
     → place_of other.low a n ≤ place_of one.high a n
     → place_of joint.high a n ≡ max (place_of one.high a n) (place_of other.high a n)
     → BarHolds joint a b n ↔ (BarHolds one a b n ⊎ BarHolds other a b n)
-touch one other joint a b n same low near high =
-    let at = ap (λ end. place_of end a n) same in (
-      (λ h.
-          let above = h.low in
-          let below = h.high in
-          ⊎_elim (λ (within : 2 * b < place_of one.high a n).
-          inl (record { low = omega arith; high = within }))
-          (λ (past : place_of one.high a n ≤ 2 * b).
-          inr (record { low = omega arith; high = omega arith }))
-          (cases_lt (2 * b) (place_of one.high a n))),
-      (λ h. ⊎_elim
-          (λ x.
-          let above = x.low in
-          let below = x.high in
-          record { low = omega arith; high = omega arith })
-          (λ x.
-          let above = x.low in
-          let below = x.high in
-          record { low = omega arith; high = omega arith }) h),
-    )
+touch one other joint a b n same low near high = search rules
 
 IsJoining-join : (start old new : Times) (first : Bar) (rest : List Bar) (i : ℕ)
     (joined : List Bar) (last bar joint : Bar) → i < length rest → bar ≡ get_or rest i bar
@@ -199,10 +180,7 @@ IsJoining-all start times first rest i joined last past now =
 -- ---- the whole
 
 pub IsUnion-none : (times : Times) → IsUnion times [] []
-IsUnion-none times = record {
-  rising = λ a n time. RiseFrom-nil 0 a n;
-  exact = λ a n time b. ((λ h. h), (λ h. h));
-}
+IsUnion-none times = search (rules, RiseFrom-nil)
 
 -- Fewer than two bars are united as they stand.
 pub IsUnion-few : (times : Times) (bars : List Bar) → length bars < 2 → AreFilledOver times bars
@@ -217,13 +195,8 @@ IsUnion-few times (bar ∷ other ∷ bars) few filled = absurd (omega arith)
 
 pub IsUnion-permutation : (times : Times) (bars others union : List Bar)
     → IsPermutation bars others → IsUnion times others union → IsUnion times bars union
-IsUnion-permutation times bars others union order is = record {
-  rising = is.rising;
-  exact = λ a n time b.
-      let same = BarsHold-permutation bars others a b n order in
-      let exact = is.exact a n time b in
-      ((λ h. same.0 (exact.0 h)), (λ h. exact.1 (same.1 h)));
-}
+IsUnion-permutation times bars others union order is =
+    search (rules, BarsHold-permutation, is.exact)
 
 -- ---- two bars that touch
 
@@ -246,11 +219,9 @@ IsJoined-settled old mid new one other high cut cut' settled order later = recor
 
 pub Compares-cut : (old new : Times) (before : Bool) (one other : BarEnd) → Narrows old new
     → Compares before old one other → Compares before new one other
-Compares-cut old new before one other cut told =
-    record { told = λ a n time. told.told a n (Narrows-time old new cut a n time) }
+Compares-cut old new before one other cut told = search rules
 
 pub AreFilledOver-permutation : (times : Times) (bars others : List Bar)
     → IsPermutation bars others → AreFilledOver times bars → AreFilledOver times others
-AreFilledOver-permutation times bars others order filled = record {
-  each = λ a n time. AreFilled-permutation bars others a n order (filled.each a n time);
-}
+AreFilledOver-permutation times bars others order filled =
+    search (rules, AreFilled-permutation, filled.each)

@@ -1,5 +1,5 @@
 -- Lists of bars: what they hold, whether they are filled and rise.
-use Rattle.std.proofs.Common.{◌≡◌, ℕ, zero, suc, ◌+◌, ◌<◌, ◌⊎◌, ◌↔◌, List, [], ◌∷◌, ◌++◌, length, get_or, take, sym, subst, arith, inl, inr, ⊎_elim}
+use Rattle.std.proofs.Common.{◌≡◌, ℕ, zero, suc, ◌+◌, ◌<◌, ◌⊎◌, ◌↔◌, List, [], ◌∷◌, ◌++◌, length, get_or, take, sym, subst, arith, inl, inr, ⊎_elim, rules}
 use Rattle.std.specs.Prelude.{All, Contains}
 use Rattle.std.specs.List.Sorted.{IsPermutation}
 use Rattle.std.proofs.lemmas.List.{take_more}
@@ -15,10 +15,7 @@ BarsHold-none a b n h = h
 pub BarsHold-push : (bars : List Bar) (bar : Bar) (a b n : ℕ)
     → BarsHold (bars ++ bar ∷ []) a b n ↔ (BarsHold bars a b n ⊎ BarHolds bar a b n)
 unfolding BarsHold
-BarsHold-push [] bar a b n = (
-  (λ h. ⊎_elim (λ x. inr x) (λ x. absurd x) h),
-  (λ h. ⊎_elim (λ x. absurd x) (λ x. inl x) h),
-)
+BarsHold-push [] bar a b n = search rules
 BarsHold-push (first ∷ bars) bar a b n =
     let rest = BarsHold-push bars bar a b n in (
       (λ h. ⊎_elim (λ x. inl (inl x)) (λ x. ⊎_elim (λ y. inl (inr y)) (λ y. inr y) (rest.0 x)) h),
@@ -57,8 +54,7 @@ held_at (bar ∷ bars) (suc k) d a b n below h =
 
 pub BarsHold-by : (bars : List Bar) (bar : Bar) (a b n : ℕ) → Contains bars bar
     → BarHolds bar a b n → BarsHold bars a b n
-BarsHold-by bars bar a b n has h =
-    held_at bars has.0 bar a b n has.1 (subst (λ (other : Bar). BarHolds other a b n) (sym has.2) h)
+BarsHold-by bars bar a b n has h = search (rules, held_at, has.0, has.1)
 
 pub BarsHold-permutation : (bars others : List Bar) (a b n : ℕ) → IsPermutation bars others
     → BarsHold others a b n ↔ BarsHold bars a b n
@@ -103,8 +99,7 @@ filled_again (bar ∷ bars) a n all = (
 pub AreFilled-permutation : (bars others : List Bar) (a n : ℕ) → IsPermutation bars others
     → AreFilled bars a n → AreFilled others a n
 AreFilled-permutation bars others a n order filled =
-    filled_again others a n
-    (All-permutation (IsFilled a n) bars others order (filled_each bars a n filled))
+    search (rules, filled_again, All-permutation, filled_each)
 
 pub AreFilled-at : (bars : List Bar) (k a n : ℕ) (d : Bar) → AreFilled bars a n → k < length bars
     → place_of (get_or bars k d).low a n < place_of (get_or bars k d).high a n
@@ -126,8 +121,7 @@ pub RiseFrom-push : (bars : List Bar) (last bar : Bar) (least a n : ℕ)
     → place_of bar.low a n < place_of bar.high a n
     → RiseFrom least ((bars ++ last ∷ []) ++ bar ∷ []) a n
 unfolding RiseFrom
-RiseFrom-push [] last bar least a n rising gap filled =
-    (rising.0, rising.1, (omega arith, filled, tt))
+RiseFrom-push [] last bar least a n rising gap filled = search rules
 RiseFrom-push (first ∷ bars) last bar least a n rising gap filled =
     (rising.0, rising.1, RiseFrom-push bars last bar _ a n rising.2 gap filled)
 
@@ -136,8 +130,7 @@ pub RiseFrom-last : (bars : List Bar) (last bar : Bar) (least a n : ℕ)
     → RiseFrom least (bars ++ last ∷ []) a n → place_of bar.low a n ≡ place_of last.low a n
     → place_of bar.low a n < place_of bar.high a n → RiseFrom least (bars ++ bar ∷ []) a n
 unfolding RiseFrom
-RiseFrom-last [] last bar least a n rising same filled =
-    let least_low = rising.0 in (omega arith, filled, tt)
+RiseFrom-last [] last bar least a n rising same filled = search rules
 RiseFrom-last (first ∷ bars) last bar least a n rising same filled =
     (rising.0, rising.1, RiseFrom-last bars last bar _ a n rising.2 same filled)
 

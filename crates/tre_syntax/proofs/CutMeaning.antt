@@ -1,5 +1,5 @@
 -- Every expression is cut as its atoms are, and what crosses comes from its parts.
-use Rattle.std.proofs.Common.{ℕ, ◌*◌, ◌<◌, ◌≤◌, ◌↔◌, refl, arith}
+use Rattle.std.proofs.Common.{ℕ, ◌*◌, ◌<◌, ◌≤◌, ◌↔◌, refl, arith, rules}
 use Rattle.std.proofs.Math.Nat.{mul-le-mul_right}
 use Rattle.tre_pairs.specs.Cuts.{IsMoment}
 use Rattle.tre_pairs.specs.Pairs.{Pairs, Composed, Either}
@@ -42,8 +42,7 @@ module _ (reading reading' : Atom → Pairs) (cut : ℕ) (ordered : (x : Atom) �
       (ImpliesFrom-Meaning e)
 
 pub IsOrdered-rest : (tree : PatternTree) (rest : Rest) → IsOrdered (MatchesRest tree rest)
-IsOrdered-rest tree rest =
-    IsOrdered-Meaning (AtomMatches rest) (IsOrdered-Atom rest) (IsInstant-Empty rest) tree
+IsOrdered-rest tree rest = search (rules, IsOrdered-Meaning, IsOrdered-Atom, IsInstant-Empty)
 
 pub Scales-rest : (tree : PatternTree) (rest : Rest) → Scales (MatchesRest tree rest)
 Scales-rest tree rest = Scales-Meaning (AtomMatches rest) (Scales-Atom rest) tree
@@ -106,12 +105,7 @@ module _ (cut : CutRest) (long : AreLong cut.front) where
       }
 
   at_cut : (n : ℕ) → AtomMatches (uncut cut) empty (time_of cut * n) (time_of cut * n) n
-  at_cut n = record {
-    begin = mul-le-mul_right n (end_of-le cut.start cut.front);
-    same = refl;
-    end = rw (end_of-append cut.start cut.front cut.back.segments)
-        (mul-le-mul_right n (end_of-le (time_of cut) cut.back.segments));
-  }
+  at_cut n = search (rules, mul-le-mul_right, end_of-le, end_of-append, time_of)
 
   pub crossing_repetition : (tree : PatternTree) (a b n : ℕ) → 0 < n
       → MatchesAcross (repetition tree) cut a b n

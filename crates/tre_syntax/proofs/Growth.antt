@@ -1,6 +1,6 @@
 -- What more segments behind a rest, and events at its end, change for its atoms: nothing before the
 -- end.
-use Rattle.std.proofs.Common.{ℕ, ◌+◌, ◌*◌, ◌<◌, ◌≤◌, List, [], ◌∷◌, ◌++◌, Option, Some, inl, inr, ⊎_elim, arith}
+use Rattle.std.proofs.Common.{ℕ, ◌+◌, ◌*◌, ◌<◌, ◌≤◌, List, [], ◌∷◌, ◌++◌, Option, Some, inl, inr, ⊎_elim, arith, rules}
 use Rattle.std.proofs.Math.Nat.{mul-le-mul_right}
 use Rattle.std.proofs.lemmas.Nat.Bits.{bit_at-zero}
 use Rattle.tre_pairs.proofs.Laws.{Implies, ImpliesBefore}
@@ -47,8 +47,7 @@ module _ (P Q : ℕ → Type 0) where
 
   edge_cut : (start : ℕ) (before : Option ℕ) (u v : List Segment) (t : ℕ) → t < end_of start u
       → HasEdge P Q start before (u ++ v) t → HasEdge P Q start before u t
-  edge_cut start before [] v t lt h =
-      absurd (omega (arith, lt, HasEdge-begin P Q start before v t h))
+  edge_cut start before [] v t lt h = search (rules, HasEdge-begin)
   edge_cut start before (s ∷ u) v t lt h =
       ⊎_elim (λ here. inl here)
       (λ later. inr (edge_cut (start + s.len) (Some s.val) u v t lt later)) h
@@ -56,15 +55,13 @@ module _ (P Q : ℕ → Type 0) where
 module _ (number : ℕ) where
   event_grows : (start : ℕ) (u v : List Segment) (last t : ℕ) → HasEvent number start u 0 t
       → HasEvent number start (u ++ v) last t
-  event_grows start [] v last t h =
-      let none = bit_at-zero number in let one = h.1 in absurd (omega (arith, none, one))
+  event_grows start [] v last t h = search rules
   event_grows start (s ∷ u) v last t h =
       ⊎_elim (λ here. inl here) (λ later. inr (event_grows (start + s.len) u v last t later)) h
 
   event_cut : (start : ℕ) (u v : List Segment) (last t : ℕ) → t < end_of start u
       → HasEvent number start (u ++ v) last t → HasEvent number start u 0 t
-  event_cut start [] v last t lt h =
-      absurd (omega (arith, lt, HasEvent-begin number start v last t h))
+  event_cut start [] v last t lt h = search (rules, HasEvent-begin)
   event_cut start (s ∷ u) v last t lt h =
       ⊎_elim (λ here. inl here) (λ later. inr (event_cut (start + s.len) u v last t lt later)) h
 
@@ -72,8 +69,7 @@ module _ (start : ℕ) (before : Option ℕ) (u : List Segment) (next : Timeline
   edge_implies : (P Q : ℕ → Type 0)
       → Implies (EdgeMatches P Q (rest_of start before (quiet u)))
       (EdgeMatches P Q (rest_of start before (prefixed u next)))
-  edge_implies P Q = Implies-Instant (HasEdge P Q start before u)
-      (HasEdge P Q start before (u ++ next.segments)) (edge_grows P Q start before u next.segments)
+  edge_implies P Q = search (rules, Implies-Instant, edge_grows)
 
   grown_end : (b n : ℕ) → b ≤ end_of start u * n → b ≤ end_of start (u ++ next.segments) * n
   grown_end b n le = omega (arith, le, mul-le-mul_right n (end_of-grows start u next.segments))
@@ -82,9 +78,7 @@ module _ (start : ℕ) (before : Option ℕ) (u : List Segment) (next : Timeline
   pub Implies-grown : (x : Atom)
       → Implies (AtomMatches (rest_of start before (quiet u)) x)
       (AtomMatches (rest_of start before (prefixed u next)) x)
-  Implies-grown empty = record {
-    at = λ a b n h. record { begin = h.begin; same = h.same; end = grown_end b n h.end };
-  }
+  Implies-grown empty = search (rules, grown_end)
   Implies-grown (literal s) = record {
     at = λ a b n h. record {
       begin = h.begin;
@@ -113,21 +107,8 @@ module _ (start : ℕ) (before : Option ℕ) (u : List Segment) (next : Timeline
   pub ImpliesBefore-cut : (x : Atom)
       → ImpliesBefore (end_of start u) (AtomMatches (rest_of start before (prefixed u next)) x)
       (AtomMatches (rest_of start before (quiet u)) x)
-  ImpliesBefore-cut empty = record {
-    at = λ a b n early h. record {
-      begin = h.begin;
-      same = h.same;
-      end = cut_end b n early;
-    };
-  }
-  ImpliesBefore-cut (literal s) = record {
-    at = λ a b n early h. record {
-      begin = h.begin;
-      some_time = h.some_time;
-      end = cut_end b n early;
-      throughout = between_cut (HoldsOn s) a b n start u next.segments h.throughout;
-    };
-  }
+  ImpliesBefore-cut empty = search rules
+  ImpliesBefore-cut (literal s) = search (rules, cut_end, between_cut)
   ImpliesBefore-cut (rise s) = edge_implies_before (λ w. ¬ HoldsOn s w) (HoldsOn s)
   ImpliesBefore-cut (fall s) = edge_implies_before (HoldsOn s) (λ w. ¬ HoldsOn s w)
   ImpliesBefore-cut (event i) =

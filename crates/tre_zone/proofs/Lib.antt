@@ -1,6 +1,7 @@
 pub mod Bounds
 pub mod Durations
 pub mod Spans
+pub mod Onwards
 pub mod ZoneKeys
 pub mod ZoneListLemmas
 pub mod HeldSets

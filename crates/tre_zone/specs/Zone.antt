@@ -80,6 +80,18 @@ instants_of from to = record {
   dur_high = pos 1;
 }
 
+-- The bounds of the pairs (from,t') with from ≤ t' ≤ to, in the line of a zone
+-- `[from,from] [from,to] [0,to - from]`.
+unfoldable pub onward_of : ℕ → ℕ → ZoneBounds
+onward_of from to = record {
+  begin_low = pos 1 -ℤ pos (2 * from);
+  begin_high = pos (2 * from + 1);
+  end_low = pos 1 -ℤ pos (2 * from);
+  end_high = pos (2 * to + 1);
+  dur_low = pos 1;
+  dur_high = pos (2 * (to - from) + 1);
+}
+
 -- The pairs with begin ≤ t < t' ≤ end.
 pub record IsInSpan (begin end a b n : ℕ) : Type 0 where
   pub starts : begin * n ≤ a
@@ -90,6 +102,12 @@ pub record IsInSpan (begin end a b n : ℕ) : Type 0 where
 pub record IsInstantBetween (from to a b n : ℕ) : Type 0 where
   pub starts : from * n ≤ a
   pub same : a ≡ b
+  pub ends : b ≤ to * n
+
+-- The pair begins at the time `from` and ends from then to the time `to`.
+pub record IsOnward (from to a b n : ℕ) : Type 0 where
+  pub starts : a ≡ from * n
+  pub rising : a ≤ b
   pub ends : b ≤ to * n
 
 -- The pair ends at the time t.

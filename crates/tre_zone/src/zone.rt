@@ -4,7 +4,7 @@ ghost use Rattle.tre_zone.specs.Bound.{Meets};
 ghost use Rattle.tre_zone.specs.Interval.{LastsWithin};
 ghost use Rattle.tre_zone.specs.Zone.{ZoneHolds, Includes, Covers, IsCanonical, IsFramed, IsTight, HoldsSome, IsInSpan};
 ghost use Rattle.tre_zone.specs.Zone.{IsInstantBetween, EndsAt, IsInFrame, GivesZone, AreKeysWithin, AreValuesWithin};
-ghost use Rattle.tre_zone.specs.Zone.{span_of, instants_of, row_of};
+ghost use Rattle.tre_zone.specs.Zone.{span_of, instants_of, onward_of, IsOnward, row_of};
 
 use crate::bound::Bound;
 use crate::interval::Interval;
@@ -82,6 +82,28 @@ impl Zone {
                 end_high: high,
                 dur_low: zero,
                 dur_high: zero,
+            },
+        }
+    }
+
+    /// The pairs `(from,t')` with `from <= t' <= to`: what began at `from` and holds on.
+    pub fn onward(from: u64, to: u64) -> Zone
+        requires rising { from ≤ to }
+        requires limit { to ≤ TIME_MAX }
+        ensures bounds { result ≡ onward_of from to }
+        ensures held { (a b n : ℕ) → 0 < n → ZoneHolds result a b n ↔ IsOnward from to a b n }
+    {
+        let begin = from as i64;
+        let end = to as i64;
+        let low = Bound::weak(-begin);
+        Zone {
+            bounds: ZoneBounds {
+                begin_low: low,
+                begin_high: Bound::weak(begin),
+                end_low: low,
+                end_high: Bound::weak(end),
+                dur_low: Bound::weak(0),
+                dur_high: Bound::weak(end - begin),
             },
         }
     }

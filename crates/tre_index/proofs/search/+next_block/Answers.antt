@@ -4,23 +4,21 @@ use Rattle.tre_index.proofs.Searching.{passed_all, found_next, comes_to, moves_o
 use Rattle.tre_index.proofs.search.+next_block.Goals as goal
 
 pub returns-in_default : goal.returns-in_default
-returns-in_default t c =
-    finds_any c.args.levels.now c.args.key.now c.args.from c.in_default.ensures.cases
+returns-in_default t c = finds_any _ _ _ c.in_default.ensures.cases
 
 pub returns-in-Some-first_between : goal.returns-in-Some-first_between
 returns-in-Some-first_between t c =
     let bounds = c.rows-bounds.result.now in
     let rows = map (λ row. row) bounds in
     let same : rows ≡ c.in-Some.level.now = map-itself bounds ∙ c.rows-bounds.ensures in
-    finds_at c.args.levels.now c.in-Some.level.now c.in-Some.above.now c.in-Some.ensures.cases.0
-    rows same c.args.key.now c.args.from (Some c.in-Some-first_between.found)
-    (found_next rows c.args.key.now c.args.from c.loop-place.place c.loop-place.invariant
-    c.in-Some-first_between.found c.in-Some-first_between.ensures)
+    finds_at _ _ _ c.in-Some.ensures.cases.0
+    rows same _ _ (Some _) (found_next rows _ _ _ c.loop-place.invariant
+    _ c.in-Some-first_between.ensures)
 
 pub next_block-requires : goal.next_block-requires
 next_block-requires t c = (
   omega (arith, c.in-Some.ensures.cases.1),
-  others_index c.args.levels.now c.in-Some.level.now c.in-Some.above.now c.in-Some.ensures.cases.0
+  others_index _ _ _ c.in-Some.ensures.cases.0
       c.requires,
 )
 
@@ -34,11 +32,9 @@ returns-in_default-next_block t c =
     let first = c.in-Some.level.now in
     let above = c.in-Some.above.now in
     let are = c.in-Some.ensures.cases.0 in
-    finds_at levels first above are rows same c.args.key.now c.args.from None
-    (found_none rows c.args.key.now c.args.from c.loop-place.place c.loop-place.invariant
-    c.div_ceil-block.result c.block_start.result (omega (arith, long))
-    c.in_default-first_between.ensures above
-    (first_under levels first above are rows same c.requires) c.in_default-next_block.ensures)
+    finds_at levels first above are rows same _ _ None (found_none rows _ _ _ c.loop-place.invariant
+    _ _ (omega (arith, long)) c.in_default-first_between.ensures above (first_under levels first
+    above are rows same c.requires) c.in_default-next_block.ensures)
 
 pub returns-in-Some-first_between-2 : goal.returns-in-Some-first_between-2
 returns-in-Some-first_between-2 t c =
@@ -51,15 +47,11 @@ returns-in-Some-first_between-2 t c =
     let above = c.in-Some.above.now in
     let are = c.in-Some.ensures.cases.0 in
     let up : c.loop-place.place ≤ c.div_ceil-block.result * 8 = omega arith in
-    finds_at levels first above are rows same c.args.key.now c.args.from
-    (Some c.in-Some-first_between-2.found)
-    (found_next rows c.args.key.now c.args.from c.block_start-in-loop-place.result
-    (comes_to rows c.args.key.now c.args.from c.loop-place.place c.loop-place.invariant
-    c.div_ceil-block.result c.block_start.result (omega (arith, long))
-    c.in_default-first_between.ensures above c.in-Some-next_block.next
-    c.block_start-in-loop-place.result c.in-Some-next_block.ensures (omega (arith, long)) up
+    finds_at levels first above are rows same _ _ (Some _) (found_next rows _ _ _ (comes_to rows _ _
+    _ c.loop-place.invariant _ _ (omega (arith, long)) c.in_default-first_between.ensures above _
+    _ c.in-Some-next_block.ensures (omega (arith, long)) up
     (omega (arith, long)) (first_under levels first above are rows same c.requires))
-    c.in-Some-first_between-2.found c.in-Some-first_between-2.ensures)
+    _ c.in-Some-first_between-2.ensures)
 
 pub loop-place-smaller : goal.loop-place-smaller
 loop-place-smaller t c =
@@ -86,14 +78,13 @@ loop-place-preserved t c =
     let above = c.in-Some.above.now in
     let are = c.in-Some.ensures.cases.0 in
     let up : c.loop-place.place ≤ c.div_ceil-block.result * 8 = omega arith in
-    goes_on rows c.args.key.now c.args.from c.block_start-in-loop-place.result
-    c.block_end-place.result
-    (comes_to rows c.args.key.now c.args.from c.loop-place.place c.loop-place.invariant
-    c.div_ceil-block.result c.block_start.result (omega (arith, long))
-    c.in_default-first_between.ensures above c.in-Some-next_block.next
-    c.block_start-in-loop-place.result c.in-Some-next_block.ensures (omega (arith, long)) up
-    (omega (arith, long)) (first_under levels first above are rows same c.requires))
-    (omega (arith, long)) c.in_default-first_between-2.ensures
+    goes_on rows _ _ _ _ (comes_to rows _ _ _ c.loop-place.invariant _ _ (omega (arith, long))
+    c.in_default-first_between.ensures above _
+    _ c.in-Some-next_block.ensures (omega (arith, long)) up
+    (omega (arith, long)) (first_under levels first above are rows same c.requires)) (omega (
+      arith,
+      long,
+    )) c.in_default-first_between-2.ensures
 
 pub returns : goal.returns
 returns t c =
@@ -101,7 +92,5 @@ returns t c =
     let rows = map (λ row. row) bounds in
     let long : length rows ≡ length bounds = length-map bounds (λ row. row) in
     let same : rows ≡ c.in-Some.level.now = map-itself bounds ∙ c.rows-bounds.ensures in
-    finds_at c.args.levels.now c.in-Some.level.now c.in-Some.above.now c.in-Some.ensures.cases.0
-    rows same c.args.key.now c.args.from None
-    (passed_all rows c.args.key.now c.args.from c.loop-place.place c.loop-place.invariant
-    (omega (arith, long)))
+    finds_at _ _ _ c.in-Some.ensures.cases.0
+    rows same _ _ None (passed_all rows _ _ _ c.loop-place.invariant (omega (arith, long)))

@@ -4,7 +4,6 @@ use Rattle.tre_index.proofs.search.first_between.Goals as goal
 
 pub loop-place-preserved : goal.loop-place-preserved
 loop-place-preserved g c =
-    HasNone-more g.T.HasRow.row_of c.args.items.now c.args.key.now c.args.from c.loop-place.place
-    c.index-items-place.result c.row.result c.loop-place.invariant (omega arith)
+    HasNone-more g.T.HasRow.row_of _ _ _ _ _ _ c.loop-place.invariant (omega arith)
     c.index-items-place.is c.row.ensures
     (λ reaches. let told = c.if-reaches.ensures.1 reaches in cc)

@@ -14,9 +14,8 @@ loop-step-preserved g c =
     let doubled = c.saturating_mul-step.ensures in (
       omega (arith, within, some, fits),
       omega (arith, some, doubled),
-      HasNone-through rows c.args.key.now c.row.result _ c.requires.turn
-          (omega (arith, within, some, fits, long))
-          (row_at g.T.HasRow.row_of items _ c.index-items-to.result c.row.result
-          (omega (arith, within, some, fits)) c.index-items-to.is c.row.ensures)
+      HasNone-through rows _ _ _ c.requires.turn
+          (omega (arith, within, some, fits, long)) (row_at g.T.HasRow.row_of items _ _ _ (omega
+          (arith, within, some, fits)) c.index-items-to.is c.row.ensures)
           (c.if-not-is_early.ensures.0 refl),
     )

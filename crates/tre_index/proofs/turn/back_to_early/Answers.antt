@@ -10,8 +10,6 @@ returns-then-is_early-clause-none g c =
     let long : length rows ≡ length items = length-map items g.T.HasRow.row_of in
     let inside = c.loop-place.invariant.0 in
     let some = c.loop-place-test.true in
-    HasNone-early rows c.args.key.now c.row.result c.loop-place.place c.requires
-    (omega (arith, inside, long)) (omega (arith, some))
-    (row_at g.T.HasRow.row_of items _ c.index-items-place.result c.row.result
-    (omega (arith, inside, some)) c.index-items-place.is c.row.ensures)
-    (c.if-is_early.ensures.0 refl)
+    HasNone-early rows _ _ _ c.requires (omega (arith, inside, long)) (omega (arith, some)) (row_at
+    g.T.HasRow.row_of items _ _ _ (omega (arith, inside, some)) c.index-items-place.is
+    c.row.ensures) (c.if-is_early.ensures.0 refl)

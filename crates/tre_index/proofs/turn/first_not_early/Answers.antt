@@ -15,10 +15,13 @@ loop-from-preserved-then-is_early g c =
     record {
       rising = omega (arith, less);
       within = within;
-      before = HasNone-through rows c.args.key.now c.row.result _ c.requires.turn
-          (omega (arith, less, within, long))
-          (row_at g.T.HasRow.row_of items _ c.index-items-middle.result c.row.result
-          (omega (arith, less, within, long)) c.index-items-middle.is c.row.ensures)
+      before = HasNone-through rows _ _ _ c.requires.turn
+          (omega (arith, less, within, long)) (row_at g.T.HasRow.row_of items _ _ _ (omega (
+            arith,
+            less,
+            within,
+            long,
+          )) c.index-items-middle.is c.row.ensures)
           (c.if-is_early.ensures.0 refl);
       here = old.here;
     }

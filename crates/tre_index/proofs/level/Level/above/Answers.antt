@@ -4,7 +4,5 @@ use Rattle.tre_index.proofs.level.Level.above.Goals as goal
 
 pub loop-place-preserved : goal.loop-place-preserved
 loop-place-preserved g c =
-    above_more g.T.HasRow.row_of c.args.items.now c.loop-place.place c.index-items-place.result
-    c.row.result
-    c.loop-place.level c.lift.new.self (omega arith) c.index-items-place.is c.row.ensures
+    above_more g.T.HasRow.row_of _ _ _ _ _ _ (omega arith) c.index-items-place.is c.row.ensures
     c.in_ok-lift.ensures.ok c.loop-place.invariant

@@ -4,11 +4,7 @@ use Rattle.tre_index.proofs.row_index.RowIndex.grow.Goals as goal
 
 pub invariant_of-self-in-Some : goal.invariant_of-self-in-Some
 invariant_of-self-in-Some g c =
-    indexed_more (map g.T.HasRow.row_of c.self.inside.items.items) c.self.inside.above.items
-    c.push.new.self.items
-    c.in-Some.top c.self.invariant
-    (found_at g.T.HasRow.row_of c.deref.result.now c.self.inside.items.items c.deref-2.result.now
-    c.self.inside.above.items
-    c.in_ok-top.field-0 c.in-Some.top c.in-Some.is c.deref.ensures.value c.deref-2.ensures.value
-    c.in_ok-top.ensures)
-    c.in_ok-push-in-Some.ensures.items
+    indexed_more (map g.T.HasRow.row_of c.self.inside.items.items) c.self.inside.above.items _ _
+    c.self.invariant (found_at g.T.HasRow.row_of _ c.self.inside.items.items _
+    c.self.inside.above.items c.in_ok-top.field-0 _ c.in-Some.is c.deref.ensures.value
+    c.deref-2.ensures.value c.in_ok-top.ensures) c.in_ok-push-in-Some.ensures.items

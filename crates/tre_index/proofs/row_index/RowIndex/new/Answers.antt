@@ -3,6 +3,4 @@ use Rattle.tre_index.proofs.Growing.{indexed_none}
 use Rattle.tre_index.proofs.row_index.RowIndex.new.Goals as goal
 
 pub invariant_of-result : goal.invariant_of-result
-invariant_of-result g c =
-    indexed_none (map g.T.HasRow.row_of c.new.result.items) c.new-2.result.items
-    c.new-2.ensures.items
+invariant_of-result g c = indexed_none (map g.T.HasRow.row_of _) _ c.new-2.ensures.items
