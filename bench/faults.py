@@ -89,6 +89,15 @@ class Runs:
                 return "hangs", b"", ""
         return done.returncode, done.stdout, done.stderr.decode()
 
+    def run_closed(self, words, stream):
+        """A run with one of its three streams closed."""
+        self.count += 1
+        command = 'exec "$@" %s' % ("<&-", ">&-", "2>&-")[stream]
+        with open(os.path.join(self.folder, "text"), "rb") as given:
+            done = subprocess.run(["sh", "-c", command, "sh", self.montre, *words], stdin=given,
+                                  capture_output=True, cwd=self.folder, timeout=SECONDS)
+        return done.returncode, done.stdout, done.stderr.decode()
+
     def counted(self):
         with open(os.path.join(self.folder, "counts"), encoding="utf-8") as file:
             return [int(word) for word in file.read().split()]
@@ -130,6 +139,19 @@ def try_case(runs, words):
     print("%d allocations, %d calls: %s" % (allocations, calls, " ".join(words)))
 
 
+def try_closed(runs, words):
+    """Each stream closed in turn: the run ends as where that stream can't be read or written."""
+    whole = runs.run(words, "")
+    unread = whole if "--input" in words else (READ[0], b"", READ[1])
+    unwritten = (WRITE[0], b"", WRITE[1]) if whole[1] else whole
+    wanted = (unread, unwritten, (whole[0], whole[1], ""))
+    for stream in range(3):
+        found = runs.run_closed(words, stream)
+        if found != wanted[stream]:
+            runs.wrong += 1
+            print("wrong: %s with stream %d closed: %s %r" % (words, stream, found[0], found[2]))
+
+
 def main():
     if len(sys.argv) != 2:
         sys.exit("usage: python3 bench/faults.py PATH_OF_MONTRE")
@@ -138,6 +160,9 @@ def main():
         runs = Runs(os.path.abspath(sys.argv[1]), folder)
         for words in all_cases():
             try_case(runs, words)
+        for words in ([PATTERN], ["--online", PATTERN], ["--watch", "checks"], ["p;"],
+                      ["--input", "text", PATTERN], ["--watch", "--input", "text", "checks"]):
+            try_closed(runs, words)
     print("%d runs, %d wrong" % (runs.count, runs.wrong))
     sys.exit(1 if runs.wrong else 0)
 

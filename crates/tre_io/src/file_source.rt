@@ -1,5 +1,5 @@
 // A file or standard input as a source.
-ghost use Rattle.std.specs.Prelude.{◌≡◌, IsTrue, IfOk, OnOk, OnErr, None, false, codes};
+ghost use Rattle.std.specs.Prelude.{◌≡◌, ◌<◌, IsTrue, IfOk, OnOk, OnErr, None, false, codes, length};
 ghost use Rattle.std.specs.Io.{ReadsAtMost};
 ghost use Rattle.std.specs.Io.KnownBytes.{ReadConsumes};
 ghost use Rattle.std.specs.Str.{bytes_eq};
@@ -16,7 +16,8 @@ use std::{fs, io};
 /// Opens a file of the system, or standard input by the name `-`.
 ///
 /// It doesn't tell its file and is never sound. The real system tells no bytes; over a runtime
-/// whose readers tell what they have left, it tells the same.
+/// whose readers tell what they have left, it tells the same. A file that was read to its end is
+/// closed there, so that what is opened after it finds the descriptors as they were.
 #[derive(Drop)]
 pub struct FileSource<'a, R: Files + Input> {
     rt: &'a R,
@@ -28,6 +29,8 @@ pub struct FileSource<'a, R: Files + Input> {
 enum Opened<F, I> {
     Nothing,
     File(F),
+    // A file that was read to its end, and is closed.
+    Ended,
     Standard(I),
 }
 
@@ -45,9 +48,10 @@ impl<'a, R: Files + Input> Model for FileSource<'a, R> {
     } };
 }
 
-impl<F: Read, I: Read> Opened<F, I> {
+impl<F: Read + Drop, I: Read + Drop> Opened<F, I> {
     fn read(&mut self, buffer: &mut [u8]) -> io::Result<usize>
-        requires { IsTrue (is_open self.old) }
+        requires opened { IsTrue (is_open self.old) }
+        requires room { 0 < length buffer.old }
         ensures within { ReadsAtMost result buffer.new }
         ensures same { is_open self.new ≡ is_open self.old }
         ensures same_standard { is_standard self.new ≡ is_standard self.old }
@@ -56,8 +60,15 @@ impl<F: Read, I: Read> Opened<F, I> {
     {
         match self {
             Opened::Nothing => unreachable!(),
-            Opened::File(file) => file.read(buffer),
+            Opened::Ended => Ok(0),
             Opened::Standard(input) => input.read(buffer),
+            Opened::File(file) => {
+                let result = file.read(buffer);
+                if let Ok(0) = result {
+                    *self = Opened::Ended;
+                }
+                result
+            }
         }
     }
 }
