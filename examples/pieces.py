@@ -1,0 +1,300 @@
+"""Matches a pattern over a trace in pieces, for a trace that is too long for one run.
+
+usage: pieces.py [--format text|vcd] [--scale K] [--jobs N] --every TICKS PATTERN < TRACE
+
+The trace is cut about every TICKS, between two segments. Behind its end a piece has as much more
+as a match may take, and one segment; before its start it has one segment. `montre`, or the program
+that MONTRE names, matches the pieces, N at a time. Of the zones of a piece the part is kept that
+starts in it, at the times of the whole trace: so the zones printed hold the matches that one run
+over all of it would find. A zone that starts on both sides of a cut is printed as two.
+
+A pattern without a longest duration is refused. The whole trace may be longer than a run allows.
+"""
+import argparse
+import collections
+import concurrent.futures
+import os
+import re
+import subprocess
+import sys
+from decimal import Decimal, InvalidOperation
+
+Piece = collections.namedtuple("Piece", "first start behind text")
+RANGE = re.compile(r"([\[(])([\d.]+),([\d.]+)([\])])")
+
+
+class Refused(Exception):
+    """Why there is no answer, and the exit status."""
+
+    def __init__(self, why, status=2):
+        super().__init__(why)
+        self.status = status
+
+
+def montre(words, text=b""):
+    """What montre prints; that it refuses is a refusal here."""
+    program = os.environ.get("MONTRE", "montre")
+    run = subprocess.run([program, *words], input=text, capture_output=True, check=False)
+    if run.returncode != 0:
+        raise Refused(run.stderr.decode().strip() or "montre was ended", run.returncode)
+    return run.stdout.decode()
+
+
+class Longest:
+    """How long a match may be, of a pattern as --show prints it. None is without end."""
+
+    def __init__(self, text):
+        self.tokens = collections.deque(re.findall(r"\{[^}]*\}|[\w.]+|\S", text))
+
+    def takes(self, sign):
+        return bool(self.tokens) and self.tokens[0] == sign and bool(self.tokens.popleft())
+
+    def alternation(self):
+        longest = self.intersection()
+        while self.takes("|"):
+            other = self.intersection()
+            longest = None if None in (longest, other) else max(longest, other)
+        return longest
+
+    def intersection(self):
+        longest = self.sequence()
+        while self.takes("&"):
+            ends = [end for end in (longest, self.sequence()) if end is not None]
+            longest = min(ends, default=None)
+        return longest
+
+    def sequence(self):
+        longest = self.repetition()
+        while self.takes(";"):
+            other = self.repetition()
+            longest = None if None in (longest, other) else longest + other
+        return longest
+
+    def repetition(self):
+        longest = self.operand()
+        while self.tokens and self.tokens[0] in "*%":
+            if self.takes("*"):
+                longest = longest if longest == 0 else None
+            elif self.takes("%"):
+                _, _, _, high, _ = (self.tokens.popleft() for _ in range(5))
+                ends = [longest, None if high == "inf" else Decimal(high)]
+                longest = min((end for end in ends if end is not None), default=None)
+        return longest
+
+    def operand(self):
+        if self.takes("("):
+            longest = self.alternation()
+            self.takes(")")
+            return longest
+        word = self.tokens.popleft()
+        if word in ("rise", "fall", "event"):
+            self.skip_parentheses()
+        elif word == "!":
+            self.tokens.popleft()
+        return Decimal(0) if word in ("eps", "rise", "fall", "event") else None
+
+    def skip_parentheses(self):
+        depth = 0
+        while True:
+            depth += {"(": 1, ")": -1}.get(self.tokens.popleft(), 0)
+            if depth == 0:
+                return
+
+
+class Lines:
+    """The text form. A segment is its line, behind the lines of the events that begin it."""
+
+    def __init__(self, source):
+        self.source, self.end, self.last = source, Decimal(0), b""
+
+    def segments(self):
+        """Each segment by its start and its text."""
+        for number, line in enumerate(self.source, 1):
+            fields = line.split()
+            if not fields or fields[0].startswith(b"#"):
+                continue
+            self.last += line.rstrip(b"\r\n") + b"\n"
+            if fields[0] == b"@":
+                continue
+            try:
+                length = Decimal(fields[0].decode())
+            except (InvalidOperation, UnicodeDecodeError):
+                raise Refused("line %d has no duration" % number, 4) from None
+            yield self.end, self.last
+            self.end, self.last = self.end + length, b""
+
+    def leave(self, text):
+        """A segment is before the pieces that are left."""
+
+    def piece(self, segments, end, last):
+        return b"".join(text for _, text in segments) + last
+
+
+class Dump:
+    """A value change dump. A segment has the changes at the time at which it begins."""
+
+    def __init__(self, source):
+        self.source, self.end, self.last = source, Decimal(0), b""
+        self.head, self.values = b"", {}
+
+    def tokens(self):
+        """The tokens behind the declarations; the identifier behind a vector is of its token."""
+        tokens = (token for line in self.source for token in line.split())
+        head = []
+        for token in tokens:
+            head.append(token)
+            if token == b"$enddefinitions":
+                break
+        self.head = b" ".join(head) + b" $end\n"
+        next(tokens, None)
+        for token in tokens:
+            if token == b"$comment":
+                while next(tokens, b"$end") != b"$end":
+                    pass
+            elif token[:1] in b"bBrRsS":
+                yield token + b" " + next(tokens, b"")
+            else:
+                yield token
+
+    def segments(self):
+        """Each segment by its start and its changes."""
+        changes = []
+        for token in self.tokens():
+            time = Decimal(token[1:].decode()) if re.fullmatch(rb"#\d+", token) else None
+            if time is None:
+                changes.append(token)
+            elif time < self.end:
+                raise Refused("the time goes back at %s" % token.decode(), 4)
+            elif time > self.end:
+                yield self.end, b"\n".join(changes)
+                self.end, changes = time, []
+        self.last = b"\n".join(changes)
+
+    def leave(self, text):
+        """The values of a segment before the pieces that are left are those that they begin with."""
+        for change in text.split(b"\n"):
+            value, space, identifier = change.partition(b" ")
+            if not change.startswith(b"$"):
+                self.values[identifier if space else value[1:]] = change
+
+    def piece(self, segments, end, last):
+        texts = [self.head, b"$dumpvars\n", b"\n".join(self.values.values()), b"\n$end\n"]
+        for time, changes in segments:
+            texts.append(b"#%d\n%s\n" % (time - segments[0][0], changes))
+        return b"".join(texts) + b"#%d\n%s\n" % (end - segments[0][0], last)
+
+
+def cut(trace, every, longest):
+    """The pieces, in their order. Kept is the segment before the first start, and all behind it."""
+    kept, start, behind = collections.deque(), Decimal(0), None
+    for time, text in trace.segments():
+        if behind is None and time >= start + every:
+            behind = time
+        while behind is not None and kept[-1][0] >= behind + longest:
+            yield Piece(kept[0][0], start, behind, trace.piece(kept, time, b""))
+            start = behind
+            while kept[1][0] < start:
+                trace.leave(kept.popleft()[1])
+            times = [at for at, _ in kept] + [time]
+            behind = next((at for at in times if at >= start + every), None)
+        kept.append((time, text))
+    first = kept[0][0] if kept else start
+    yield Piece(first, start, None, trace.piece(kept or [(first, b"")], trace.end, trace.last))
+
+
+class Bound(collections.namedtuple("Bound", "value met")):
+    """A bound from above, and whether it may be met itself."""
+
+    def then(self, other):
+        return Bound(self.value + other.value, self.met and other.met)
+
+
+def zone_of(line, first):
+    """Bounds of a printed zone on -begin, begin, -end, end, -duration and duration."""
+    zone = []
+    for place, (low, least, most, high) in enumerate(RANGE.findall(line)):
+        shift = first if place < 2 else 0
+        zone.append(Bound(-Decimal(least) - shift, low == "["))
+        zone.append(Bound(Decimal(most) + shift, high == "]"))
+    return zone
+
+
+def tightened(zone):
+    """The same pairs by the tightest bounds; None where there is none."""
+    late, begin, after, end, long, lasts = zone
+    for _ in range(2):
+        late, begin = min(late, after.then(lasts)), min(begin, end.then(long))
+        after, end = min(after, late.then(long)), min(end, begin.then(lasts))
+        long, lasts = min(long, after.then(begin)), min(lasts, end.then(late))
+    rooms = (late.then(begin), after.then(end), long.then(lasts))
+    if any(room < Bound(0, True) for room in rooms):
+        return None
+    return late, begin, after, end, long, lasts
+
+
+def number(value, scale):
+    return format(value, ".%df" % scale)
+
+
+def line_of(zone, scale):
+    ranges = ["%s%s,%s%s" % ("(["[low.met], number(-low.value, scale), number(high.value, scale),
+                             ")]"[high.met])
+              for low, high in zip(zone[::2], zone[1::2])]
+    return " ".join(ranges)
+
+
+def zones_of(piece, options):
+    """The zones of a piece that start in it, at the times of the whole trace."""
+    try:
+        lines = montre(options, piece.text).splitlines()[:-1]
+    except Refused as refused:
+        why = "the piece from %s on: %s" % (piece.first, refused)
+        raise Refused(why, refused.status) from None
+    found = []
+    for line in lines:
+        zone = zone_of(line, piece.first)
+        zone[0] = min(zone[0], Bound(-piece.start, True))
+        if piece.behind is not None:
+            zone[1] = min(zone[1], Bound(piece.behind, False))
+        found.append(tightened(zone))
+    return sorted((zone for zone in found if zone), key=lambda zone: (-zone[0].value, zone[1:]))
+
+
+def answers(pieces, jobs, options):
+    """The zones of each piece in turn. Few more pieces are in memory than are at work."""
+    with concurrent.futures.ThreadPoolExecutor(jobs) as workers:
+        begun = collections.deque()
+        for piece in pieces:
+            begun.append(workers.submit(zones_of, piece, options))
+            if len(begun) > jobs:
+                yield begun.popleft().result()
+        while begun:
+            yield begun.popleft().result()
+
+
+def main():
+    parser = argparse.ArgumentParser(usage=__doc__.partition("usage: ")[2].partition("\n")[0])
+    parser.add_argument("--format", choices=("text", "vcd"), default="text")
+    parser.add_argument("--scale", type=int, default=0)
+    parser.add_argument("--jobs", type=int, default=1)
+    parser.add_argument("--every", type=Decimal, required=True)
+    parser.add_argument("pattern")
+    given = parser.parse_args()
+    scale = ["--scale", str(given.scale)]
+    longest = Longest(montre(["--show", *scale, "--", given.pattern])).alternation()
+    if longest is None:
+        raise Refused("a match of the pattern may take any time: give it a bound, as `% [0,100]`")
+    trace = (Dump if given.format == "vcd" else Lines)(sys.stdin.buffer)
+    options = ["--format", given.format, *scale, "--", given.pattern]
+    for zones in answers(cut(trace, given.every, longest), given.jobs, options):
+        for zone in zones:
+            print(line_of(zone, given.scale))
+    print("end " + number(trace.end, given.scale))
+
+
+if __name__ == "__main__":
+    try:
+        main()
+    except Refused as refused:
+        print("pieces.py: %s" % refused, file=sys.stderr)
+        sys.exit(refused.status)
