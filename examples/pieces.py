@@ -17,9 +17,9 @@ import os
 import re
 import subprocess
 import sys
-from decimal import Decimal, InvalidOperation
 
 Piece = collections.namedtuple("Piece", "first start behind text")
+DURATION = re.compile(rb"[0-9]+(\.[0-9]+)?$")
 RANGE = re.compile(r"([\[(])([\d.]+),([\d.]+)([\])])")
 
 
@@ -40,10 +40,23 @@ def montre(words, text=b""):
     return run.stdout.decode()
 
 
+def units(word, scale):
+    """A number with up to so many decimals, as a whole number of units."""
+    whole, _, decimals = word.partition(".")
+    return int(whole + decimals.ljust(scale, "0")[:scale])
+
+
+def number(count, scale):
+    """A whole number of units, as montre prints it."""
+    digits = str(count).rjust(scale + 1, "0")
+    return digits[:-scale] + "." + digits[-scale:] if scale else digits
+
+
 class Longest:
     """How long a match may be, of a pattern as --show prints it. None is without end."""
 
-    def __init__(self, text):
+    def __init__(self, text, scale):
+        self.scale = scale
         self.tokens = collections.deque(re.findall(r"\{[^}]*\}|[\w.]+|\S", text))
 
     def takes(self, sign):
@@ -77,7 +90,7 @@ class Longest:
                 longest = longest if longest == 0 else None
             elif self.takes("%"):
                 _, _, _, high, _ = (self.tokens.popleft() for _ in range(5))
-                ends = [longest, None if high == "inf" else Decimal(high)]
+                ends = [longest, None if high == "inf" else units(high, self.scale)]
                 longest = min((end for end in ends if end is not None), default=None)
         return longest
 
@@ -91,7 +104,7 @@ class Longest:
             self.skip_parentheses()
         elif word == "!":
             self.tokens.popleft()
-        return Decimal(0) if word in ("eps", "rise", "fall", "event") else None
+        return 0 if word in ("eps", "rise", "fall", "event") else None
 
     def skip_parentheses(self):
         depth = 0
@@ -104,24 +117,22 @@ class Longest:
 class Lines:
     """The text form. A segment is its line, behind the lines of the events that begin it."""
 
-    def __init__(self, source):
-        self.source, self.end, self.last = source, Decimal(0), b""
+    def __init__(self, source, scale):
+        self.source, self.scale, self.end, self.last = source, scale, 0, b""
 
     def segments(self):
         """Each segment by its start and its text."""
-        for number, line in enumerate(self.source, 1):
+        for place, line in enumerate(self.source, 1):
             fields = line.split()
             if not fields or fields[0].startswith(b"#"):
                 continue
             self.last += line.rstrip(b"\r\n") + b"\n"
             if fields[0] == b"@":
                 continue
-            try:
-                length = Decimal(fields[0].decode())
-            except (InvalidOperation, UnicodeDecodeError):
-                raise Refused("line %d has no duration" % number, 4) from None
+            if not DURATION.match(fields[0]):
+                raise Refused("line %d has no duration" % place, 4)
             yield self.end, self.last
-            self.end, self.last = self.end + length, b""
+            self.end, self.last = self.end + units(fields[0].decode(), self.scale), b""
 
     def leave(self, text):
         """A segment is before the pieces that are left."""
@@ -133,8 +144,8 @@ class Lines:
 class Dump:
     """A value change dump. A segment has the changes at the time at which it begins."""
 
-    def __init__(self, source):
-        self.source, self.end, self.last = source, Decimal(0), b""
+    def __init__(self, source, scale):
+        self.source, self.tick, self.end, self.last = source, 10 ** scale, 0, b""
         self.head, self.values = b"", {}
 
     def tokens(self):
@@ -160,12 +171,13 @@ class Dump:
         """Each segment by its start and its changes."""
         changes = []
         for token in self.tokens():
-            time = Decimal(token[1:].decode()) if re.fullmatch(rb"#\d+", token) else None
-            if time is None:
+            if token[:1] != b"#" or not token[1:].isdigit():
                 changes.append(token)
-            elif time < self.end:
+                continue
+            time = int(token[1:]) * self.tick
+            if time < self.end:
                 raise Refused("the time goes back at %s" % token.decode(), 4)
-            elif time > self.end:
+            if time > self.end:
                 yield self.end, b"\n".join(changes)
                 self.end, changes = time, []
         self.last = b"\n".join(changes)
@@ -180,13 +192,13 @@ class Dump:
     def piece(self, segments, end, last):
         texts = [self.head, b"$dumpvars\n", b"\n".join(self.values.values()), b"\n$end\n"]
         for time, changes in segments:
-            texts.append(b"#%d\n%s\n" % (time - segments[0][0], changes))
-        return b"".join(texts) + b"#%d\n%s\n" % (end - segments[0][0], last)
+            texts.append(b"#%d\n%s\n" % ((time - segments[0][0]) // self.tick, changes))
+        return b"".join(texts) + b"#%d\n%s\n" % ((end - segments[0][0]) // self.tick, last)
 
 
 def cut(trace, every, longest):
     """The pieces, in their order. Kept is the segment before the first start, and all behind it."""
-    kept, start, behind = collections.deque(), Decimal(0), None
+    kept, start, behind = collections.deque(), 0, None
     for time, text in trace.segments():
         if behind is None and time >= start + every:
             behind = time
@@ -209,13 +221,13 @@ class Bound(collections.namedtuple("Bound", "value met")):
         return Bound(self.value + other.value, self.met and other.met)
 
 
-def zone_of(line, first):
+def zone_of(line, first, scale):
     """Bounds of a printed zone on -begin, begin, -end, end, -duration and duration."""
     zone = []
     for place, (low, least, most, high) in enumerate(RANGE.findall(line)):
         shift = first if place < 2 else 0
-        zone.append(Bound(-Decimal(least) - shift, low == "["))
-        zone.append(Bound(Decimal(most) + shift, high == "]"))
+        zone.append(Bound(-units(least, scale) - shift, low == "["))
+        zone.append(Bound(units(most, scale) + shift, high == "]"))
     return zone
 
 
@@ -232,10 +244,6 @@ def tightened(zone):
     return late, begin, after, end, long, lasts
 
 
-def number(value, scale):
-    return format(value, ".%df" % scale)
-
-
 def line_of(zone, scale):
     ranges = ["%s%s,%s%s" % ("(["[low.met], number(-low.value, scale), number(high.value, scale),
                              ")]"[high.met])
@@ -243,29 +251,32 @@ def line_of(zone, scale):
     return " ".join(ranges)
 
 
-def zones_of(piece, options):
+def part_of(zone, piece):
+    """What of a zone starts in the piece, if anything."""
+    first = Bound(-piece.start, True)
+    last = zone[1] if piece.behind is None else Bound(piece.behind, False)
+    if zone[0] <= first and zone[1] <= last:
+        return zone
+    return tightened([min(zone[0], first), min(zone[1], last), *zone[2:]])
+
+
+def zones_of(piece, scale, options):
     """The zones of a piece that start in it, at the times of the whole trace."""
     try:
         lines = montre(options, piece.text).splitlines()[:-1]
     except Refused as refused:
-        why = "the piece from %s on: %s" % (piece.first, refused)
+        why = "the piece from %s on: %s" % (number(piece.first, scale), refused)
         raise Refused(why, refused.status) from None
-    found = []
-    for line in lines:
-        zone = zone_of(line, piece.first)
-        zone[0] = min(zone[0], Bound(-piece.start, True))
-        if piece.behind is not None:
-            zone[1] = min(zone[1], Bound(piece.behind, False))
-        found.append(tightened(zone))
-    return sorted((zone for zone in found if zone), key=lambda zone: (-zone[0].value, zone[1:]))
+    parts = (part_of(zone_of(line, piece.first, scale), piece) for line in lines)
+    return sorted((zone for zone in parts if zone), key=lambda zone: (-zone[0].value, *zone[1:]))
 
 
-def answers(pieces, jobs, options):
+def answers(pieces, jobs, scale, options):
     """The zones of each piece in turn. Few more pieces are in memory than are at work."""
     with concurrent.futures.ThreadPoolExecutor(jobs) as workers:
         begun = collections.deque()
         for piece in pieces:
-            begun.append(workers.submit(zones_of, piece, options))
+            begun.append(workers.submit(zones_of, piece, scale, options))
             if len(begun) > jobs:
                 yield begun.popleft().result()
         while begun:
@@ -277,19 +288,23 @@ def main():
     parser.add_argument("--format", choices=("text", "vcd"), default="text")
     parser.add_argument("--scale", type=int, default=0)
     parser.add_argument("--jobs", type=int, default=1)
-    parser.add_argument("--every", type=Decimal, required=True)
+    parser.add_argument("--every", required=True)
     parser.add_argument("pattern")
     given = parser.parse_args()
-    scale = ["--scale", str(given.scale)]
-    longest = Longest(montre(["--show", *scale, "--", given.pattern])).alternation()
+    scale = given.scale
+    options = ["--scale", str(scale), "--", given.pattern]
+    longest = Longest(montre(["--show", *options]), scale).alternation()
     if longest is None:
         raise Refused("a match of the pattern may take any time: give it a bound, as `% [0,100]`")
-    trace = (Dump if given.format == "vcd" else Lines)(sys.stdin.buffer)
-    options = ["--format", given.format, *scale, "--", given.pattern]
-    for zones in answers(cut(trace, given.every, longest), given.jobs, options):
+    every = units(given.every, scale) if DURATION.match(given.every.encode()) else 0
+    if every == 0:
+        raise Refused("--every takes a number of ticks, of at least one unit")
+    trace = (Dump if given.format == "vcd" else Lines)(sys.stdin.buffer, scale)
+    pieces = cut(trace, every, longest)
+    for zones in answers(pieces, given.jobs, scale, ["--format", given.format, *options]):
         for zone in zones:
-            print(line_of(zone, given.scale))
-    print("end " + number(trace.end, given.scale))
+            print(line_of(zone, scale))
+    print("end " + number(trace.end, scale))
 
 
 if __name__ == "__main__":
