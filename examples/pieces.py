@@ -34,7 +34,10 @@ class Refused(Exception):
 def montre(words, text=b""):
     """What montre prints; that it refuses is a refusal here."""
     program = os.environ.get("MONTRE", "montre")
-    run = subprocess.run([program, *words], input=text, capture_output=True, check=False)
+    try:
+        run = subprocess.run([program, *words], input=text, capture_output=True, check=False)
+    except FileNotFoundError:
+        raise Refused("there is no program %s: set MONTRE" % program, 127) from None
     if run.returncode != 0:
         raise Refused(run.stderr.decode().strip() or "montre was ended", run.returncode)
     return run.stdout.decode()
