@@ -6,7 +6,7 @@
 case $MONTRE in /*) ;; *) MONTRE=$PWD/$MONTRE ;; esac
 [ -x "$MONTRE" ] || { echo "run.sh: $MONTRE isn't a program"; exit 1; }
 cd "$(dirname "$0")/.." || exit 1
-PAGES='README.md docs/clocked.md docs/cookbook.md docs/many.md docs/montre.1 docs/output.md docs/patterns.md docs/scripts.md docs/traces.md docs/vcd.md examples/README.md'
+PAGES='README.md docs/clocked.md docs/cookbook.md docs/many.md docs/montre.1 docs/output.md docs/patterns.md docs/scripts.md docs/traces.md docs/vcd.md examples/README.md examples/shapes.md'
 room=$(mktemp -d) || exit 1
 trap 'rm -rf "$room"' EXIT
 export MONTRE room
@@ -121,7 +121,7 @@ check() {
     fi
 }
 
-for page in README.md docs/*.md docs/*.1 examples/README.md; do
+for page in README.md docs/*.md docs/*.1 examples/*.md; do
     check "$page"
 done
 

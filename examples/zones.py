@@ -1,21 +1,41 @@
 """Reads what montre prints: the zones, each as three ranges, and the end of the trace.
 
-A range is (low, high, low is included, high is included)."""
+A range is (low, high, low is included, high is included). A number is an int, and a Decimal where
+--scale gives it decimals."""
 import re
 import sys
+from decimal import Decimal
+
+RANGE = re.compile(r"([\[(])([0-9.]+),([0-9.]+)([\])])")
+
+
+def number(text):
+    return Decimal(text) if "." in text else int(text)
+
+
+def ranges(words):
+    parts = [RANGE.fullmatch(word).groups() for word in words]
+    return [(number(low), number(high), a == "[", b == "]") for a, low, high, b in parts]
+
+
+def read_checks(text):
+    """The zones of each check of --watch by its name. Without --watch the name is empty."""
+    *lines, last = text.splitlines() or [""]
+    if not re.fullmatch(r"end [0-9.]+", last):
+        raise ValueError("the text isn't complete")
+    found = {}
+    for words in (line.split(" ") for line in lines if "," in line):
+        found.setdefault(" ".join(words[:-3]), []).append(ranges(words[-3:]))
+    return found, number(last.split()[1])
 
 
 def read(text):
-    *lines, last = text.splitlines()
-    if not re.fullmatch(r"end \d+", last):
-        raise ValueError("the text isn't complete")
-    ranges = [re.findall(r"([\[(])(\d+),(\d+)([\])])", line) for line in lines if "," in line]
-    zones = [[(int(low), int(high), a == "[", b == "]") for a, low, high, b in three]
-             for three in ranges]
-    return zones, int(last.split()[1])
+    found, end = read_checks(text)
+    return found.get("", []), end
 
 
 if __name__ == "__main__":
-    zones, end = read(sys.stdin.read())
-    for start, finish, duration in zones:
-        print("start", start, "end", finish, "duration", duration)
+    checks, end = read_checks(sys.stdin.read())
+    for name, zones in checks.items():
+        for start, finish, duration in zones:
+            print(*[name] * (name != ""), "start", start, "end", finish, "duration", duration)
