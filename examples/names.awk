@@ -1,10 +1,11 @@
-# Gives the signals of a dump names that a pattern can have: tb.lane[7].u becomes tb.lane_7.u, and each
-# other sign that no name has becomes `_`. With
+# Gives the signals of a dump names that a pattern can have: tb.lane[7].u becomes tb.lane_7.u, and
+# each other sign that no name has becomes `_`. With
 #   awk -v vectors='tb.q tb.slots[0]' -f names.awk dump.vcd
-# each bit of these vectors is a signal too: tb.q [7:0] gives tb.q_7 to tb.q_0. A vector is named as in
-# the dump, without its range, or as its bits are, without their number.
-# It refuses two signals that would have one name, a vector that the dump doesn't have, and a dump that
-# isn't in lines as tools write them: a declaration on a line of its own, a time first on its line.
+# each bit of these vectors is a signal too: tb.q [7:0] gives tb.q_7 to tb.q_0. A vector is named as
+# in the dump, without its range, or as its bits are, without their number.
+# It refuses two signals that would have one name, a vector that the dump doesn't have, and a dump
+# that isn't in lines as tools write them: a declaration on a line of its own, a time first on its
+# line.
 function stop(why) { print "names.awk: " why > "/dev/stderr"; failed = 1; exit 1 }
 function at_line(why) { stop("line " NR ": " why) }
 
@@ -71,7 +72,9 @@ values {
     next
 }
 { sub(/\r$/, "") }
-/[$](var|scope|upscope)[ \t]/ && $1 !~ /^[$](var|scope|upscope)$/ { at_line("a declaration that doesn't begin its line") }
+/[$](var|scope|upscope)[ \t]/ && $1 !~ /^[$](var|scope|upscope)$/ {
+    at_line("a declaration that doesn't begin its line")
+}
 $1 ~ /^[$](var|scope)$/ && $NF != "$end" { at_line("a declaration that isn't on one line") }
 $1 == "$scope" {
     plain_before[++deep] = plain; path_before[deep] = path
@@ -84,23 +87,26 @@ $1 == "$var" {
     from = $5; range = ""; known[$4]
     for (place = 6; place < NF; place++)
         if ($place ~ /^\[/) from = from $place; else from = from "_" $place
-    if (match(from, /\[-?[0-9]+:-?[0-9]+\]$/)) { range = substr(from, RSTART); from = substr(from, 1, RSTART - 1) }
+    if (match(from, /\[-?[0-9]+:-?[0-9]+\]$/)) {
+        range = substr(from, RSTART)
+        from = substr(from, 1, RSTART - 1)
+    }
     name = mended(from)
     real = $2 ~ /^(real|realtime|string)$/
     if ($2 == "event") take("event", path name, plain from, $4)
     else if ($3 == 1 && !real) take("signal", path name, plain from, $4)
     print "$var", $2, $3, $4, name ($3 == 1 || range == "" ? "" : " " range), "$end"
-    for (place = 1; place <= count; place++)
-        if ($3 > 1 && !real && (list[place] == plain from || list[place] == path name) && !(place in found)) {
-            found[place]
-            declare_bits(name, from, range)
-        }
+    for (place = 1; place <= count && $3 > 1 && !real; place++) {
+        asked = list[place] == plain from || list[place] == path name
+        if (asked && !(place in found)) { found[place]; declare_bits(name, from, range) }
+    }
     next
 }
 $1 == "$enddefinitions" {
     if (count && NF > 2) at_line("values on the line of $enddefinitions")
-    for (place = 1; place <= count; place++) if (!(place in found)) stop("the dump has no vector " list[place])
+    for (place = 1; place <= count; place++)
+        if (!(place in found)) stop("the dump has no vector " list[place])
     values = 1
 }
 { print }
-END { if (!failed && !values) { print "names.awk: the dump has no $enddefinitions" > "/dev/stderr"; exit 1 } }
+END { if (!failed && !values) stop("the dump has no $enddefinitions") }
