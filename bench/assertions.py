@@ -5,8 +5,8 @@
 
 An assertion is read over cycles alone: of each edge of the clock the set of the signals that are
 true in the tick before it. Its matches are pairs of edges, each tried by the words of the
-assertion. The pattern of the row has to find just these pairs over random traces, from one tick before the
-first edge to the last one, alone and as a check of --watch.
+assertion. The pattern of the row has to find just these pairs over random traces, from one tick
+before the first edge to the last one, alone and as a check of --watch.
 """
 
 import os

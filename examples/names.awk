@@ -9,7 +9,7 @@
 function stop(why) { print "names.awk: " why > "/dev/stderr"; failed = 1; exit 1 }
 function at_line(why) { stop("line " NR ": " why) }
 
-# mended(NAME): a name, with _3 for [3] or (3), and `_` for every other sign
+# mended(NAME): a name, with _3 for [3] or (3), and `_` for every other sign but a `\` before it
 function mended(name) {
     sub(/^\\/, "", name)
     gsub(/[[(]/, "_", name)
@@ -21,7 +21,7 @@ function mended(name) {
 # take(KIND, NAME, FROM, IDENTIFIER): the name is now that of this signal or event of the dump
 function take(kind, name, from, id) {
     if (!((kind, name) in origin)) { origin[kind, name] = from; owner[kind, name] = id }
-    else if (origin[kind, name] != from && owner[kind, name] != id)
+    else if (owner[kind, name] != id && (origin[kind, name] != from || from != name))
         at_line(origin[kind, name] " and " from " would have one name, " name)
 }
 
@@ -58,6 +58,7 @@ function change(value, id,    letters, bit, letter) {
 BEGIN { count = split(vectors, list, " ") }
 values { print }
 values && (!count || NF == 1 && !comment && /^[ \t]*[^bBrRsS$]/) { next }
+{ sub(/\r$/, "") }
 values {
     for (place = 1; place <= NF; place++) {
         word = $place
@@ -71,20 +72,21 @@ values {
     }
     next
 }
-{ sub(/\r$/, "") }
 /[$](var|scope|upscope)[ \t]/ && $1 !~ /^[$](var|scope|upscope)$/ {
     at_line("a declaration that doesn't begin its line")
 }
 $1 ~ /^[$](var|scope)$/ && $NF != "$end" { at_line("a declaration that isn't on one line") }
 $1 == "$scope" {
     plain_before[++deep] = plain; path_before[deep] = path
-    plain = plain $3 "."; name = mended($3); path = path name "."
+    name = mended($3); path = path name "."
+    sub(/^\\/, "", $3); plain = plain $3 "."
     print "$scope", $2, name, "$end"
     next
 }
 $1 == "$upscope" { plain = plain_before[deep]; path = path_before[deep--] }
 $1 == "$var" {
     from = $5; range = ""; known[$4]
+    sub(/^\\/, "", from)
     for (place = 6; place < NF; place++)
         if ($place ~ /^\[/) from = from $place; else from = from "_" $place
     if (match(from, /\[-?[0-9]+:-?[0-9]+\]$/)) {
