@@ -289,7 +289,7 @@ def read_words():
     arguments.add_argument("--signals", type=lambda names: names.split(","))
     arguments.add_argument("--width", type=int, default=900)
     arguments.add_argument("--columns", type=int, default=80)
-    options = arguments.parse_args()
+    options = arguments.parse_intermixed_args()
     options.patterns = [(*named(text), "=" in text) for text in options.patterns]
     options.checks = [(name, pattern, True) for name, pattern in options.checks]
     return options
@@ -302,7 +302,7 @@ def window_of(options, end, found):
     end = end if times["to"] is None else min(end, units(times["to"], options.scale))
     if options.around:
         name, number = options.around
-        stretches = found[name]
+        stretches = found.get(name, [])
         if not 1 <= number <= len(stretches):
             sys.exit("draw.py: no match %d of %s, which has %d" % (number, name, len(stretches)))
         first, last = stretches[number - 1]
@@ -346,4 +346,7 @@ def main():
 
 
 if __name__ == "__main__":
-    main()
+    try:
+        main()
+    except OSError as fault:
+        sys.exit("draw.py: %s" % fault)

@@ -113,7 +113,7 @@ def main():
     arguments.add_argument("--checks", default=[], type=checks_of)
     arguments.add_argument("dump")
     arguments.add_argument("patterns", nargs="*", type=named)
-    options = arguments.parse_args()
+    options = arguments.parse_intermixed_args()
     patterns = options.checks + options.patterns
     with open(options.dump, "rb") as file:
         header, rest = dumps.header_of(file)
@@ -132,4 +132,7 @@ def main():
 
 
 if __name__ == "__main__":
-    main()
+    try:
+        main()
+    except OSError as fault:
+        sys.exit("to_vcd.py: %s" % fault)
