@@ -3,10 +3,10 @@
 
     python3 bench/assertions.py PROGRAM [TRACES]
 
-An assertion is read over cycles alone: of each edge of the clock the set of the signals that are true
-in the tick before it. Its matches are pairs of edges, each tried by the words of the assertion. The
-pattern of the row has to find just these pairs over random traces, from one tick before the first
-edge to the last one, alone and as a check of --watch.
+An assertion is read over cycles alone: of each edge of the clock the set of the signals that are
+true in the tick before it. Its matches are pairs of edges, each tried by the words of the
+assertion. The pattern of the row has to find just these pairs over random traces, from one tick
+before the first edge to the last one, alone and as a check of --watch.
 """
 
 import os
@@ -50,7 +50,8 @@ def within(inner, outer):
 
 def both_ends(first, second):
     """`first and second`: one begin, and the later of the two ends."""
-    return lambda cycles: {(i, max(j, l)) for i, j in first(cycles) for k, l in second(cycles) if i == k}
+    return lambda cycles: {(i, max(j, l)) for i, j in first(cycles)
+                           for k, l in second(cycles) if i == k}
 
 
 def first_match(inner):
@@ -59,18 +60,19 @@ def first_match(inner):
 
 
 def spans(holds):
-    """The pairs of cycles of which this is true: it is given the cycles from the one to the other."""
+    """The pairs of cycles of which this is true: it is given the cycles from one to the other."""
     return lambda cycles: {(i, j) for j in range(len(cycles)) for i in range(j + 1)
                            if holds(cycles[i:j + 1])}
 
 
 def stepping(holds):
     """A value function as $rose: from the cycle before to the one that it is true of."""
-    return lambda cycles: {(i, i + 1) for i, (old, new) in enumerate(zip(cycles, cycles[1:])) if holds(old, new)}
+    return lambda cycles: {(i, i + 1) for i in range(len(cycles) - 1)
+                           if holds(cycles[i], cycles[i + 1])}
 
 
 def fails(first, low, high, second):
-    """Where `first |-> ##[low:high] second` fails: there are as many cycles, and none of them serves."""
+    """Where `first |-> ##[low:high] second` fails: there are the cycles, and none serves."""
     return lambda cycles: {(i, j + high) for i, j in first(cycles) if j + high < len(cycles)
                            and not any(map(second, cycles[j + low:j + high + 1]))}
 
@@ -103,7 +105,8 @@ READINGS = {
     "x and w": both_ends(X, W),
     "$rose(p)": ROSE,
     "$fell(p)": stepping(lambda old, new: p(old) and not p(new)),
-    "$rose(p) && $fell(q)": stepping(lambda old, new: not p(old) and p(new) and q(old) and not q(new)),
+    "$rose(p) && $fell(q)": stepping(lambda old, new: not p(old) and p(new)
+                                     and q(old) and not q(new)),
     "$changed(p)": stepping(lambda old, new: p(old) != p(new)),
     "$stable(p)": stepping(lambda old, new: p(old) == p(new)),
     "$past(p) && q": stepping(lambda old, new: p(old) and q(new)),
@@ -139,13 +142,15 @@ def random_trace(dice):
 
 
 def edges_of(ticks):
-    return [time for time in range(1, len(ticks)) if "clk" in ticks[time] and "clk" not in ticks[time - 1]]
+    clock = ["clk" in tick for tick in ticks]
+    return [time for time in range(1, len(ticks)) if clock[time] and not clock[time - 1]]
 
 
 def wanted(assertion, ticks):
     """The matches of an assertion, each from a tick before its first edge to its last edge."""
     edges = edges_of(ticks)
-    found = {(edges[i] - 1, edges[j]) for i, j in READINGS[assertion]([ticks[time - 1] for time in edges])}
+    cycles = [ticks[time - 1] for time in edges]
+    found = {(edges[i] - 1, edges[j]) for i, j in READINGS[assertion](cycles)}
     if assertion.startswith("disable iff (r)"):
         found = {(begin, end) for begin, end in found if not any(map(r, ticks[begin:end]))}
     return found
@@ -169,7 +174,7 @@ def rows_of(page):
     with open(page, encoding="utf-8") as opened:
         cells = [ROW.match(line.replace("\\|", "\1")) for line in opened if line.startswith("| `")]
     rows = [tuple(cell.replace("\1", "|") for cell in found.groups()) for found in cells if found]
-    return [(assertion, spelled(pattern)) for assertion, pattern in rows if "AT(" in pattern or assertion[:2] == "x "]
+    return [(assertion, spelled(pattern)) for assertion, pattern in rows]
 
 
 def run(program, *words):
@@ -181,14 +186,14 @@ def run(program, *words):
 
 def pair(line):
     """The one pair of a zone, or the zone where it holds more."""
-    numbers = re.findall(r"\d+", line)
-    return (int(numbers[0]), int(numbers[2])) if numbers[0] == numbers[1] and numbers[2] == numbers[3] else line
+    low, high, first, last = map(int, re.findall(r"\d+", line)[:4])
+    return (low, last) if low == high and first == last else line
 
 
 def answers(program, rows, folder):
     """For each row its answers alone, and as a check of a file."""
     trace, checks = os.path.join(folder, "trace"), os.path.join(folder, "checks")
-    lines = [line.partition(" ") for line in run(program, "--watch", "--input", trace, checks) if "," in line]
+    lines = [line.partition(" ") for line in run(program, "--watch", "--input", trace, checks)]
     for place, (_, pattern) in enumerate(rows):
         alone = {pair(line) for line in run(program, "--input", trace, "--", pattern)[:-1]}
         yield alone, {pair(zone) for name, _, zone in lines if name == "c%d" % place}

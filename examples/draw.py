@@ -1,55 +1,107 @@
-"""Draws signals of a trace or a dump, and the matches of patterns below them.
+"""Draws signals and events of a trace or a dump, and the matches of patterns below them.
 
-usage: draw.py [options] TRACE PATTERN..
+usage: draw.py [options] TRACE [NAME=]PATTERN..
 
   --text              a timeline in characters, instead of an SVG picture
   --vcd               TRACE is a value change dump, and not lines of text
-  --from N, --to N    the ticks to be drawn; the whole trace without them
+  --scale K           times have K decimals, as for montre
+  --checks FILE       the patterns of such a file too
+  --around NAME:N     of the checks this one alone, and only around its Nth match, from 1
+  --margin T          so much before and after that match; as much as it takes itself without it
+  --from T, --to T    the times to be drawn; the whole trace without them
   --signals A,B       the signals to be drawn; those of the patterns without it
+  --width N           how wide the waves of a picture are, 900 without it
   --columns N         how wide a timeline may be, 80 without it
 
-It runs `montre`, or the program that MONTRE names, once for each signal and each pattern. A zone is
-drawn as its longest stretch, from its earliest start to its latest end.
+A pattern is drawn with its name, if it has one. It runs `montre`, or the program that MONTRE names,
+once for each pattern, and reads the trace once for all signals. A zone is drawn from its earliest
+start to its latest end. A signal has an edge where montre has one: none at the start of the trace,
+and none at its end. What a dump has as z is a line in the middle, and what is neither 0, 1 nor z is
+a box.
 """
 import argparse
-import os
 import re
-import subprocess
 import sys
+import textwrap
+from decimal import Decimal, InvalidOperation
 from html import escape
 
-import zones
+import dumps
+from matches import checks_of, matches, named
 
 RESERVED = {"eps", "rise", "fall", "inf", "true", "event"}
+EVENT = re.compile(r"\bevent\s*\(\s*([A-Za-z0-9_.]+)\s*\)")
 COLOURS = ["#1f77b4", "#d62728", "#2ca02c", "#9467bd", "#ff7f0e", "#8c564b"]
-
-
-def matches(options, pattern):
-    """The stretches of a pattern's zones in their order, and the end of the trace."""
-    arguments = [os.environ.get("MONTRE", "montre"), "--input", options.trace]
-    arguments += ["--format", "vcd"] if options.vcd else []
-    run = subprocess.run(arguments + ["--", pattern], capture_output=True, text=True)
-    if run.returncode != 0:
-        sys.exit("%s: %s" % (pattern, run.stderr.strip()))
-    found, end = zones.read(run.stdout)
-    return sorted({(start[0], finish[1]) for start, finish, _ in found}), end
+LETTERS = {"0": "_", "1": "#", "x": "x", "z": "z"}
 
 
 def names_in(patterns):
-    """The names of the patterns, by their first use."""
-    names = re.findall(r"[A-Za-z_][A-Za-z0-9_.]*", " ".join(patterns))
-    return list(dict.fromkeys(name for name in names if name not in RESERVED))
+    """The signals and the events of the patterns, by their first use."""
+    text = " ".join(patterns)
+    names = re.findall(r"[A-Za-z_][A-Za-z0-9_.]*", EVENT.sub(" ", text))
+    signals = dict.fromkeys(name for name in names if name not in RESERVED)
+    return list(signals), list(dict.fromkeys(EVENT.findall(text)))
 
 
-def joined(stretches):
-    """Stretches of one signal, those that touch made one."""
-    whole = []
-    for start, end in stretches:
-        if whole and start <= whole[-1][1]:
-            whole[-1] = whole[-1][0], max(end, whole[-1][1])
-        else:
-            whole.append((start, end))
-    return whole
+def read_text(name, signals, events, scale):
+    """The waves and the moments of a trace in lines of text, in units, and its end."""
+    waves = {signal: [(0, "0")] for signal in signals}
+    moments, now = {event: [] for event in events}, 0
+    with open(name, encoding="latin-1") as lines:
+        for words in (line.split() for line in lines):
+            if not words or words[0][0] == "#":
+                continue
+            if words[0] == "@":
+                for event in moments.keys() & set(words[1:]):
+                    moments[event].append(now)
+                continue
+            for signal, wave in waves.items():
+                dumps.put(wave, now, "1" if signal in words[1:] else "0")
+            now += units(words[0], scale)
+    return waves, moments, now
+
+
+def units(text, scale):
+    return int(Decimal(text).scaleb(scale))
+
+
+def ticks(time, scale):
+    """A time as it is written at the scale, without zeros behind."""
+    text = "%.*f" % (scale, Decimal(time).scaleb(-scale))
+    return text.rstrip("0").rstrip(".") if scale else text
+
+
+class Window:
+    """The times to be drawn, in units."""
+
+    def __init__(self, start, end, scale):
+        self.start, self.end, self.scale = start, max(end, start + 1), scale
+        self.length = self.end - self.start
+
+    def clip(self, stretches):
+        inside = [(max(a, self.start), min(b, self.end)) for a, b in stretches]
+        return [(a, b) for a, b in inside if a <= b]
+
+    def pieces(self, wave):
+        """The stretches of a wave with one value each, those that take some time in the window."""
+        ends = [time for time, _ in wave[1:]] + [self.end]
+        for (begin, value), end in zip(wave, ends):
+            begin, end = max(begin, self.start), min(end, self.end)
+            if begin < end:
+                yield begin, end, value
+
+    def marks(self, count):
+        """Round times for the scale, about so many."""
+        step = 1
+        while self.length > count * step:
+            step = step * 5 // 2 if str(step)[0] == "2" else step * 2
+        return range(-(-self.start // step) * step, self.end + 1, step)
+
+    def column(self, time, columns):
+        return (time - self.start) * columns // self.length
+
+    def nearest(self, time, columns):
+        return round((time - self.start) * columns / self.length)
 
 
 def rows_of(stretches):
@@ -64,137 +116,237 @@ def rows_of(stretches):
     return rows
 
 
-class Window:
-    """The ticks to be drawn."""
+# ---- a timeline in characters
 
-    def __init__(self, start, end):
-        self.start, self.end = start, max(end, start + 1)
-
-    def clip(self, stretches):
-        inside = [(max(a, self.start), min(b, self.end)) for a, b in stretches]
-        return [(a, b) for a, b in inside if a <= b]
-
-    def marks(self, count):
-        """Round ticks for the scale, about so many."""
-        step, length = 1, self.end - self.start
-        while length > count * step:
-            step = step * 5 // 2 if str(step)[0] == "2" else step * 2
-        first = -(-self.start // step) * step
-        return range(first, self.end + 1, step)
+def signal_line(wave, window, columns):
+    """A character for each column: its value, or `|` where it changes within."""
+    line = [""] * columns
+    for begin, end, value in window.pieces(wave):
+        last = -((window.start - end) * columns // window.length)
+        for place in range(window.column(begin, columns), min(last, columns)):
+            letter = LETTERS[value]
+            line[place] = letter if line[place] in ("", letter) else "|"
+    return "".join(line)
 
 
-def signal_line(stretches, window, columns):
-    """A character for each column: high, low, or both where it changes within."""
-    length, line = window.end - window.start, ""
-    for column in range(columns):
-        low = window.start + column * length / columns
-        high = window.start + (column + 1) * length / columns
-        held = sum(max(0, min(b, high) - max(a, low)) for a, b in stretches)
-        line += "_" if held == 0 else "#" if held > high - low - 1e-9 else "|"
-    return line
+def event_line(moments, window, columns):
+    line = [" "] * (columns + 1)
+    for time, _ in window.clip([(time, time) for time in moments]):
+        line[window.nearest(time, columns)] = "^"
+    return "".join(line)
 
 
 def match_line(row, window, columns):
-    length, line = window.end - window.start, [" "] * (columns + 1)
+    line = [" "] * (columns + 1)
     for start, end in row:
-        first = round((start - window.start) * columns / length)
-        last = round((end - window.start) * columns / length)
+        first, last = window.nearest(start, columns), window.nearest(end, columns)
         line[first:last + 1] = "-" * (last + 1 - first)
         line[first] = line[last] = "|"
     return "".join(line)
 
 
 def scale_line(window, columns):
-    length, line = window.end - window.start, ""
+    line = ""
     for mark in window.marks(max(2, columns // 10)):
-        place = (mark - window.start) * columns // length
+        place = window.column(mark, columns)
         if place >= len(line):
-            line = line.ljust(place) + str(mark) + " "
+            line = line.ljust(place) + ticks(mark, window.scale) + " "
     return line
 
 
-def timeline(signals, found, window, columns):
-    length = window.end - window.start
-    columns = columns // length * length if length <= columns else columns
-    width = max(len(name) for name in ["ticks", "match", *signals]) + 2
+def timeline(waves, moments, found, window, columns):
+    columns = columns // window.length * window.length if window.length <= columns else columns
+    width = max(len(name) for name in ["ticks", "match", *waves, *moments]) + 2
     lines = ["ticks".ljust(width) + scale_line(window, columns)]
-    for name, stretches in signals.items():
-        lines.append(name.ljust(width) + signal_line(window.clip(stretches), window, columns))
-    for pattern, stretches in found.items():
+    for name, wave in waves.items():
+        lines.append(name.ljust(width) + signal_line(wave, window, columns))
+    for name, times in moments.items():
+        lines.append(name.ljust(width) + event_line(times, window, columns))
+    for label, stretches in found:
         for row in rows_of(window.clip(stretches)) or [[]]:
-            lines.append("match".ljust(width) + match_line(row, window, columns) + "  " + pattern)
+            lines.append("match".ljust(width) + match_line(row, window, columns) + "  " + label)
     return "\n".join(line.rstrip() for line in lines)
 
 
-def wave(stretches, at, top):
-    """A signal as the points of a line."""
-    points, high, low = [(at(None), top + 20)], top + 4, top + 20
-    for start, end in stretches:
-        points += [(at(start), low), (at(start), high), (at(end), high), (at(end), low)]
-    return " ".join("%.1f,%d" % point for point in points)
+# ---- a picture
+
+class Picture:
+    """An SVG picture, row by row from the top."""
+
+    STYLE = ("text{font:13px monospace}path{fill:none;stroke:#222;stroke-width:1.5}"
+             ".scale{stroke:#ddd}.z{stroke:#d60;stroke-width:2.5;stroke-dasharray:4 2}"
+             ".busy{fill:#222}.x{fill:#f6c9c9;stroke:#b22;stroke-width:1}.match{fill-opacity:.7}")
+
+    def __init__(self, window, wide, names):
+        self.window, self.wide, self.top, self.rows = window, wide, 30, []
+        self.left = 12 + 8 * max(len(name) for name in ["ticks", *names])
+
+    def at(self, time):
+        return self.left + (time - self.window.start) * self.wide / self.window.length
+
+    def name(self, text, colour="#000", left=4):
+        self.rows.append('<text x="%d" y="%d" fill="%s">%s</text>'
+                         % (left, self.top + 17, colour, escape(text)))
+
+    def box(self, kind, begin, end, style=""):
+        self.rows.append('<rect class="%s" x="%.1f" y="%d" width="%.1f" height="%d"%s/>'
+                         % (kind, begin, self.top + 4, end - begin, 10 if style else 16, style))
+
+    def thinned(self, wave):
+        """The pieces of a wave by their places; many within a half point are one that is busy."""
+        many = None
+        for begin, end, value in self.window.pieces(wave):
+            begin, end = self.at(begin), self.at(end)
+            if end - begin < 0.5:
+                many = (many[0] if many else begin), end
+                continue
+            if many:
+                yield (*many, "busy")
+            many = None
+            yield begin, end, value
+        if many:
+            yield (*many, "busy")
+
+    def signal(self, name, wave):
+        self.name(name)
+        levels = {"1": self.top + 4, "0": self.top + 20, "z": self.top + 12}
+        line, before = "", None
+        for begin, end, value in self.thinned(wave):
+            if value in levels:
+                line += "%s%.1f,%d" % ("L" if before in levels else "M", begin, levels[value])
+                line += "%s%.1f,%d" % ("M" if value == "z" else "L", end, levels[value])
+            else:
+                self.box(value, begin, end)
+            if value == "z":
+                self.rows.append('<path class="z" d="M%.1f,%d H%.1f"/>' % (begin, levels["z"], end))
+            before = value
+        self.rows.append('<path d="%s"/>' % line)
+        self.top += 28
+
+    def event(self, name, moments):
+        self.name(name)
+        inside = self.window.clip([(time, time) for time in moments])
+        places = {"%.1f" % self.at(time) for time, _ in inside}
+        self.rows += ['<path d="M%s,%d v16 m-3,-11 l3,-5 l3,5"/>' % (place, self.top + 4)
+                      for place in sorted(places, key=float)]
+        self.top += 28
+
+    def matches(self, label, stretches, colour):
+        for part in textwrap.wrap(label, max(20, self.wide // 8)):
+            self.name(part, colour, self.left)
+            self.top += 16
+        self.top += 4
+        for row in rows_of(self.window.clip(stretches)):
+            # of those that would be drawn at one place, one
+            for begin, end in {(round(self.at(start) - 1, 1), round(self.at(end) + 1, 1)): 1
+                               for start, end in row}:
+                self.box("match", begin, end, ' fill="%s"' % colour)
+            self.top += 14
+        self.top += 4
+
+    def text(self):
+        scale = []
+        widest = 8 * len(ticks(self.window.end, self.window.scale)) + 20
+        for mark in self.window.marks(max(2, self.wide // max(75, widest))):
+            scale.append('<path class="scale" d="M%.1f,22 V%d"/>' % (self.at(mark), self.top))
+            scale.append('<text x="%.1f" y="16" text-anchor="middle">%s</text>'
+                         % (self.at(mark), ticks(mark, self.window.scale)))
+        size = 'width="%d" height="%d"' % (self.left + self.wide + 30, self.top + 10)
+        head = ['<svg xmlns="http://www.w3.org/2000/svg" %s>' % size,
+                "<style>%s</style>" % self.STYLE, '<rect width="100%" height="100%" fill="#fff"/>']
+        return "\n".join([*head, *scale, *self.rows, "</svg>"])
 
 
-def picture(signals, found, window):
-    left = 12 + 8 * max(len(name) for name in ["ticks", *signals])
-    wide, rows = 900, []
+def picture(waves, moments, found, window, wide):
+    drawn = Picture(window, wide, [*waves, *moments])
+    for name, wave in waves.items():
+        drawn.signal(name, wave)
+    for name, times in moments.items():
+        drawn.event(name, times)
+    for (label, stretches), colour in zip(found, COLOURS * len(found)):
+        drawn.matches(label, stretches, colour)
+    return drawn.text()
 
-    def at(tick):
-        if tick is None:
-            return left
-        return left + (tick - window.start) * wide / (window.end - window.start)
 
-    top = 30
-    for mark in window.marks(12):
-        rows.append('<path class="scale" d="M%.1f 22V@"/>' % at(mark))
-        rows.append('<text x="%.1f" y="16" text-anchor="middle">%d</text>' % (at(mark), mark))
-    for name, stretches in signals.items():
-        inside = wave(joined(window.clip(stretches)), at, top)
-        rows.append('<text x="4" y="%d">%s</text>' % (top + 17, escape(name)))
-        rows.append('<polyline class="wave" points="%s %d,%d"/>' % (inside, left + wide, top + 20))
-        top += 28
-    for (pattern, stretches), colour in zip(found.items(), COLOURS * len(found)):
-        rows.append('<text x="%d" y="%d" fill="%s">%s</text>'
-                    % (left, top + 14, colour, escape(pattern)))
-        top += 20
-        for row in rows_of(window.clip(stretches)):
-            for start, end in row:
-                rows.append('<rect x="%.1f" y="%d" width="%.1f" height="10" fill="%s"/>'
-                            % (at(start) - 1, top, max(at(end) - at(start), 0) + 2, colour))
-            top += 14
-    style = ("text{font:13px monospace}.wave{fill:none;stroke:#222;stroke-width:1.5}"
-             ".scale{stroke:#ddd}rect{fill-opacity:.7}")
-    head = ('<svg xmlns="http://www.w3.org/2000/svg" width="%d" height="%d">'
-            % (left + wide + 20, top + 10))
-    ground = '<rect width="100%" height="100%" style="fill:#fff;fill-opacity:1"/>'
-    body = "\n".join(rows).replace("V@", "V%d" % top)
-    return "%s\n<style>%s</style>\n%s\n%s\n</svg>" % (head, style, ground, body)
+# ---- what is asked
+
+def around(text):
+    name, _, number = text.partition(":")
+    return name, int(number or 1)
 
 
 def read_words():
     arguments = argparse.ArgumentParser(usage=__doc__, add_help=False)
     arguments.add_argument("trace")
-    arguments.add_argument("patterns", nargs="+")
+    arguments.add_argument("patterns", nargs="*")
     arguments.add_argument("--text", action="store_true")
     arguments.add_argument("--vcd", action="store_true")
-    arguments.add_argument("--from", dest="start", type=int, default=0)
-    arguments.add_argument("--to", dest="end", type=int)
+    arguments.add_argument("--scale", type=int, default=0)
+    arguments.add_argument("--checks", type=checks_of, default=[])
+    arguments.add_argument("--around", type=around)
+    for name in ("margin", "from", "to"):
+        arguments.add_argument("--" + name, type=Decimal)
     arguments.add_argument("--signals", type=lambda names: names.split(","))
+    arguments.add_argument("--width", type=int, default=900)
     arguments.add_argument("--columns", type=int, default=80)
-    return arguments.parse_args()
+    options = arguments.parse_intermixed_args()
+    options.patterns = [(*named(text), "=" in text) for text in options.patterns]
+    options.checks = [(name, pattern, True) for name, pattern in options.checks]
+    return options
+
+
+def window_of(options, end, found):
+    """The window that the options ask for, in a trace that ends there."""
+    times = vars(options)
+    start = 0 if times["from"] is None else units(times["from"], options.scale)
+    end = end if times["to"] is None else min(end, units(times["to"], options.scale))
+    if options.around:
+        name, number = options.around
+        stretches = found.get(name, [])
+        if not 1 <= number <= len(stretches):
+            sys.exit("draw.py: no match %d of %s, which has %d" % (number, name, len(stretches)))
+        first, last = stretches[number - 1]
+        margin = last - first or 10 * 10 ** options.scale
+        if options.margin is not None:
+            margin = units(options.margin, options.scale)
+        start, end = max(start, first - margin), min(end, last + margin)
+    return Window(start, end, options.scale)
 
 
 def main():
     options = read_words()
-    end = matches(options, "true")[1]
-    window = Window(options.start, end if options.end is None else min(end, options.end))
-    names = options.signals or names_in(options.patterns)
-    signals = {name: matches(options, name)[0] for name in names}
-    found = {pattern: matches(options, pattern)[0] for pattern in options.patterns}
-    if options.text:
-        print(timeline(signals, found, window, options.columns))
+    checks = options.checks
+    if options.around:
+        checks = [check for check in checks if check[0] == options.around[0]]
+    patterns = checks + options.patterns
+    if not patterns:
+        sys.exit("draw.py: no pattern" + (" of that name" if options.around else ""))
+    asked = ["--input", options.trace, "--scale", str(options.scale)]
+    asked += ["--format", "vcd"] if options.vcd else []
+    answers = [matches(asked, pattern) for _, pattern, _ in patterns]
+    found = [[(units(a, options.scale), units(b, options.scale)) for a, b in stretches]
+             for stretches, _ in answers]
+    signals, events = names_in(pattern for _, pattern, _ in patterns)
+    signals = options.signals or signals
+    if options.vcd:
+        waves, moments = dumps.read(options.trace, signals, events)[:2]
+        factor = 10 ** options.scale
+        waves = {name: [(time * factor, value) for time, value in wave]
+                 for name, wave in waves.items()}
+        moments = {name: [time * factor for time in times] for name, times in moments.items()}
     else:
-        print(picture(signals, found, window))
+        waves, moments = read_text(options.trace, signals, events, options.scale)[:2]
+    window = window_of(options, units(answers[0][1], options.scale),
+                       dict(zip([name for name, _, _ in patterns], found)))
+    labels = [name if has_name else pattern for name, pattern, has_name in patterns]
+    if options.text:
+        print(timeline(waves, moments, list(zip(labels, found)), window, options.columns))
+    else:
+        print(picture(waves, moments, list(zip(labels, found)), window, options.width))
 
 
 if __name__ == "__main__":
-    main()
+    try:
+        main()
+    except OSError as fault:
+        sys.exit("draw.py: %s" % fault)

@@ -6,10 +6,17 @@
 #   -v FS=';'       another sign between columns than a comma
 # Refused: a value that is neither 0 nor 1, a time that goes back or has more decimals than digits
 # says, a row with more or fewer fields than the first, columns without a name of their own.
-BEGIN { if (FS == " ") FS = ","; if (!tick) tick = 1; for (units = 1; i < digits; i++) units *= 10; line = "%." digits + 0 "f%s\n" }
+BEGIN {
+    if (FS == " ") FS = ","
+    if (!tick) tick = 1
+    for (units = 1; i < digits; i++) units *= 10
+    line = "%." digits + 0 "f%s\n"
+}
 function stop(why) { print "line " NR ": " why > "/dev/stderr"; exit 1 }
 function is_time(text) { return text ~ /^[-+]?([0-9]+[.]?[0-9]*|[.][0-9]+)([eE][-+]?[0-9]+)?$/ }
-function is_fine(text) { return match(text, /[.][0-9]*$/) && substr(text, RSTART + 1 + digits) ~ /[1-9]/ }
+function is_fine(text) {
+    return match(text, /[.][0-9]*$/) && substr(text, RSTART + 1 + digits) ~ /[1-9]/
+}
 { gsub(/[" \r]/, "") }
 NF == 0 { next }
 !columns && is_time($1) { stop("no names of columns") }
@@ -32,4 +39,8 @@ now > 9007199254740992 { stop($1 " has too many digits") }
 now < last { stop("the time goes back") }
 now > last { printf line, (now - last) / units, on; last = now }
 { on = "" }
-{ for (i = 2; i <= NF; i++) if ($i "" == "1") on = on " " name[i]; else if ($i "" != "0") stop($i " is neither 0 nor 1") }
+{
+    for (i = 2; i <= NF; i++)
+        if ($i "" == "1") on = on " " name[i]
+        else if ($i "" != "0") stop($i " is neither 0 nor 1")
+}

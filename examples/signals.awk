@@ -1,5 +1,5 @@
-# Lists the signals of a dump that a pattern can name, each by its path. With -v events=1 it lists the
-# events instead. A declaration stands on a line of its own.
+# Lists the signals of a dump that a pattern can name, each by its path. With -v events=1 it lists
+# the events instead. A declaration stands on a line of its own.
 $1 == "$scope" { long[++deep] = length($3) + 1; path = path $3 "." }
 $1 == "$upscope" { path = substr(path, 1, length(path) - long[deep--]) }
 $1 == "$var" && NF == 6 && (events ? $2 == "event" : $3 == 1 && $2 !~ /^(real|realtime|event)$/) {

@@ -1,5 +1,6 @@
 # Prints the changes of identifiers that no $var of the dump declares, each with its line. A sound
 # dump has none: they are words that another program printed into it.
+{ sub(/\r$/, "") }
 function check(id, word) { if (!(id in known)) print "line " NR ": " word }
 $1 == "$var" { known[$4] }
 $1 == "$enddefinitions" { values = 1; next }

@@ -4,46 +4,18 @@ usage: to_vcd.py [--checks FILE] DUMP [NAME=]PATTERN.. > COPY
 
 The signal montre.NAME is high from the start of a match to its end, and at each match that is a
 single moment the event montre.NAME_moment happens. Without a name it is montre.match. A zone counts
-from its earliest start to its latest end, and matches that touch as one. --checks takes the patterns of such a file. It
-runs `montre`, or the program that MONTRE names, once for each pattern.
+from its earliest start to its latest end, and matches that touch as one. --checks takes the
+patterns of such a file. It runs `montre`, or the program that MONTRE names, once for each pattern.
 
 Refused: two patterns of one name, and a name that the dump has already.
 """
 import argparse
 import itertools
-import os
 import re
-import subprocess
 import sys
 
-import zones
-
-NAMED = re.compile(r"\s*([A-Za-z_][A-Za-z0-9_.]*)\s*=(.*)", re.DOTALL)
-HEADER = re.compile(rb"(?<!\S)\$enddefinitions\s+(?:\S+\s+)*?\$end(?!\S)")
-
-
-def named(text):
-    """A name and a pattern."""
-    found = NAMED.fullmatch(text)
-    return found.groups() if found else ("match", text)
-
-
-def checks_of(file):
-    """The names and the patterns of a file of checks, as `montre --watch` reads it."""
-    with open(file, encoding="ascii") as opened:
-        lines = [line.strip() for line in opened]
-    return [NAMED.fullmatch(line).groups() for line in lines if line and line[0] != "#"]
-
-
-def matches(options, pattern):
-    """The stretches of the pattern's zones, each from its earliest start to its latest end."""
-    program = os.environ.get("MONTRE", "montre")
-    run = subprocess.run([program, *options, "--", pattern], capture_output=True, text=True)
-    if run.returncode != 0:
-        sys.exit("%s: %s" % (pattern.strip(), run.stderr.strip()))
-    found, end = zones.read(run.stdout)
-    return sorted({(start[0], finish[1]) for start, finish, _ in found}), end
-
+import dumps
+from matches import checks_of, matches, named
 
 def joined(stretches):
     """The stretches that take time, those that touch made one."""
@@ -68,54 +40,22 @@ def changes(stretches, level, moment):
     return at
 
 
-class Header:
-    """What a dump declares: its text, its paths and identifiers, and the scopes that are left open."""
-
-    def __init__(self, text):
-        end = HEADER.search(text)
-        self.head, self.tail = text[:end.start()], text[end.start():]
-        self.paths, self.identifiers, self.scopes = set(), set(), []
-        words, place = self.head.split(), 0
-        while place < len(words):
-            last = words.index(b"$end", place)
-            self.declare(words[place:last])
-            place = last + 1
-
-    def declare(self, words):
-        if words[0] == b"$scope":
-            self.scopes.append(words[2])
-        elif words[0] == b"$upscope":
-            self.scopes.pop()
-        elif words[0] == b"$var":
-            self.identifiers.add(words[3])
-            self.paths.add(b".".join([*self.scopes, words[4]]))
-
-    def with_signals(self, names):
-        """The header with two signals for each name, and their identifiers."""
-        text = b"".join(b"$upscope $end\n" for _ in self.scopes) + b"$scope module montre $end\n"
-        given, number = [], 0
-        for name in names:
-            for kind, own in ((b"wire", name), (b"event", name + b"_moment")):
-                if b"montre." + own in self.paths:
-                    sys.exit("to_vcd.py: the dump has a montre.%s already" % own.decode())
-                self.paths.add(b"montre." + own)
+def with_signals(header, names):
+    """The text of a header with two signals for each name, and their identifiers."""
+    text = b"$upscope $end\n" * len(header.scopes) + b"$scope module montre $end\n"
+    given, number = [], 0
+    for name in names:
+        for kind, own in (("wire", name), ("event", name + "_moment")):
+            taken = header.events if kind == "event" else header.signals
+            if "montre." + own in taken:
+                sys.exit("to_vcd.py: the dump has a montre.%s already" % own)
+            number += 1
+            while b"montre~%d" % number in header.identifiers:
                 number += 1
-                while b"montre~%d" % number in self.identifiers:
-                    number += 1
-                given.append(b"montre~%d" % number)
-                text += b"$var %s 1 %s %s $end\n" % (kind, given[-1], own)
-        return self.head + text + b"$upscope $end\n" + self.tail, given
-
-
-def header_of(file):
-    """What an open dump declares, and the values on the last line of that."""
-    text = b""
-    for line in file:
-        text += line
-        end = HEADER.search(text) if b"$end" in line and b"$enddefinitions" in text else None
-        if end:
-            return Header(text[:end.end()] + b"\n"), text[end.end():].lstrip()
-    sys.exit("to_vcd.py: the dump has no $enddefinitions")
+            given.append(b"montre~%d" % number)
+            taken["montre." + own] = given[-1]
+            text += b"$var %s 1 %s %s $end\n" % (kind.encode(), given[-1], own.encode())
+    return header.head + text + b"$upscope $end\n" + header.tail, given
 
 
 class Copy:
@@ -136,6 +76,8 @@ class Copy:
 
     def word(self, word, begins):
         """What is written before a word, which may begin its line."""
+        if not word:
+            return b""
         if self.waits:
             self.waits = False      # the identifier of a vector, which may begin with `#` or `$`
         elif self.comment:
@@ -149,11 +91,21 @@ class Copy:
         return b""
 
     def line(self, line):
-        if not self.waits and not self.comment and line[:1] in b"01xXzZ" and len(line.split()) == 1:
+        words = line.split()
+        if not self.waits and not self.comment and self.is_plain(words):
+            self.now = int(words[0][1:]) if words[0][:1] == b"#" else self.now
             return line
         pieces = re.findall(rb"\s*\S+|\s+$", line)
-        return b"".join((self.word(piece.strip(), piece is pieces[0]) if piece.strip() else b"") + piece
-                        for piece in pieces)
+        return b"".join(self.word(piece.strip(), piece is pieces[0]) + piece for piece in pieces)
+
+    def is_plain(self, words):
+        """Whether a line is one change, or a time before which nothing has to be written."""
+        if len(words) == 1:
+            first = words[0][:1]
+            if first == b"#":
+                return not self.times or self.times[-1] >= int(words[0][1:])
+            return first in b"01xXzZ"
+        return len(words) == 2 and words[0][:1] in b"bBrRsS"
 
 
 def main():
@@ -161,11 +113,11 @@ def main():
     arguments.add_argument("--checks", default=[], type=checks_of)
     arguments.add_argument("dump")
     arguments.add_argument("patterns", nargs="*", type=named)
-    options = arguments.parse_args()
+    options = arguments.parse_intermixed_args()
     patterns = options.checks + options.patterns
     with open(options.dump, "rb") as file:
-        header, rest = header_of(file)
-        line, identifiers = header.with_signals([name.encode() for name, _ in patterns])
+        header, rest = dumps.header_of(file)
+        line, identifiers = with_signals(header, [name for name, _ in patterns])
         sys.stdout.buffer.write(line)
         at = {}
         for place, (_, pattern) in enumerate(patterns):
@@ -180,4 +132,7 @@ def main():
 
 
 if __name__ == "__main__":
-    main()
+    try:
+        main()
+    except OSError as fault:
+        sys.exit("to_vcd.py: %s" % fault)
