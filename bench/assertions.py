@@ -18,7 +18,7 @@ import tempfile
 
 PAGE = os.path.join(os.path.dirname(os.path.abspath(__file__)), "..", "docs", "clocked.md")
 ROW = re.compile(r"\| `([^`]*)` \| `([^`]*)` \|$")
-SEED = 61
+SEED = 2014
 
 
 # ---- the assertions, over the sampled cycles
