@@ -18,7 +18,7 @@ import tempfile
 
 PAGE = os.path.join(os.path.dirname(os.path.abspath(__file__)), "..", "docs", "clocked.md")
 ROW = re.compile(r"\| `([^`]*)` \| `([^`]*)` \|$")
-SEED = 61
+SEED = 2014
 
 
 # ---- the assertions, over the sampled cycles
@@ -131,7 +131,8 @@ def random_trace(dice):
     clock = clock[dice.randint(0, 3):] + [False] * dice.randint(0, 2)
     ticks = [{"clk"} if high else set() for high in clock]
     for name in "pqr":
-        at_edges, often, on = dice.random() < 0.5, dice.choice([0.2, 0.5, 0.8]), dice.random() < 0.5
+        at_edges, on = dice.random() < 0.5, dice.random() < 0.5
+        often = dice.choice([0.05, 0.2, 0.5, 0.8])
         for place, tick in enumerate(ticks):
             edge = place > 0 and clock[place] and not clock[place - 1]
             if dice.random() < often and (edge or not at_edges):
@@ -200,7 +201,8 @@ def answers(program, rows, folder):
 
 
 def main(program, count=200):
-    rows, dice, matches, wrong = rows_of(PAGE), random.Random(SEED), 0, 0
+    rows, dice, wrong = rows_of(PAGE), random.Random(SEED), 0
+    matches = dict.fromkeys(READINGS, 0)
     missing = set(READINGS) ^ {assertion for assertion, _ in rows}
     if missing:
         sys.exit("no row of the page, or no reading: %s" % ", ".join(sorted(missing)))
@@ -213,11 +215,12 @@ def main(program, count=200):
                 trace.writelines(" ".join(["1", *sorted(tick)]) + "\n" for tick in ticks)
             for (assertion, _), found in zip(rows, answers(program, rows, folder)):
                 right = wanted(assertion, ticks)
-                matches += len(right)
+                matches[assertion] += len(right)
                 if any(answer != right for answer in found):
                     wrong += 1
                     print("%s over %s: %s, and not %s" % (assertion, ticks, found, right))
-    print("%d rows, %s traces, %d matches" % (len(rows), count, matches))
+    print("%d rows, %s traces, %d matches, of each row at least %d"
+          % (len(rows), count, sum(matches.values()), min(matches.values())))
     print("%d differ" % wrong)
     return 1 if wrong else 0
 

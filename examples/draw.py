@@ -4,6 +4,7 @@ usage: draw.py [options] TRACE [NAME=]PATTERN..
 
   --text              a timeline in characters, instead of an SVG picture
   --vcd               TRACE is a value change dump, and not lines of text
+  --let TEXT          TRACE is columns of numbers, with these names, as for montre
   --scale K           times have K decimals, as for montre
   --checks FILE       the patterns of such a file too
   --around NAME:N     of the checks this one alone, and only around its Nth match, from 1
@@ -20,6 +21,8 @@ and none at its end. What a dump has as z is a line in the middle, and what is n
 a box.
 """
 import argparse
+import csv
+import operator
 import re
 import sys
 import textwrap
@@ -32,6 +35,9 @@ from matches import checks_of, matches, named
 RESERVED = {"eps", "rise", "fall", "inf", "true", "event"}
 EVENT = re.compile(r"\bevent\s*\(\s*([A-Za-z0-9_.]+)\s*\)")
 COLOURS = ["#1f77b4", "#d62728", "#2ca02c", "#9467bd", "#ff7f0e", "#8c564b"]
+LET = re.compile(r"\s*([A-Za-z_][\w.]*) *= *([A-Za-z_][\w.]*) *([<>=!]=|[<>]) *(-?\d+)\s*")
+SIGNS = {"<": operator.lt, "<=": operator.le, ">": operator.gt, ">=": operator.ge,
+         "==": operator.eq, "!=": operator.ne}
 LETTERS = {"0": "_", "1": "#", "x": "x", "z": "z"}
 
 
@@ -44,7 +50,7 @@ def names_in(patterns):
 
 
 def read_text(name, signals, events, scale):
-    """The waves and the moments of a trace in lines of text, in units, and its end."""
+    """The waves and the moments of a trace in lines of text, in units."""
     waves = {signal: [(0, "0")] for signal in signals}
     moments, now = {event: [] for event in events}, 0
     with open(name, encoding="latin-1") as lines:
@@ -58,7 +64,22 @@ def read_text(name, signals, events, scale):
             for signal, wave in waves.items():
                 dumps.put(wave, now, "1" if signal in words[1:] else "0")
             now += units(words[0], scale)
-    return waves, moments, now
+    return waves, moments
+
+
+def read_columns(name, signals, let, scale):
+    """The waves of a table, by the definitions of --let, in units."""
+    waves, now = {signal: [(0, "0")] for signal in signals}, 0
+    parts = [LET.fullmatch(part).groups() for part in let.split(";")]
+    with open(name, newline="", encoding="utf-8-sig") as file:
+        header, *rows = (row for row in csv.reader(file) if row)
+    for row in rows:
+        for signal, column, sign, number in parts:
+            if signal in waves:
+                holds = SIGNS[sign](int(row[header.index(column, 1)]), int(number))
+                dumps.put(waves[signal], now, "1" if holds else "0")
+        now += units(row[0], scale)
+    return waves
 
 
 def units(text, scale):
@@ -281,6 +302,7 @@ def read_words():
     arguments.add_argument("patterns", nargs="*")
     arguments.add_argument("--text", action="store_true")
     arguments.add_argument("--vcd", action="store_true")
+    arguments.add_argument("--let")
     arguments.add_argument("--scale", type=int, default=0)
     arguments.add_argument("--checks", type=checks_of, default=[])
     arguments.add_argument("--around", type=around)
@@ -313,6 +335,18 @@ def window_of(options, end, found):
     return Window(start, end, options.scale)
 
 
+def read(options, signals, events):
+    """The waves of the signals and the moments of the events, in units."""
+    if options.let:
+        return read_columns(options.trace, signals, options.let, options.scale), {}
+    if not options.vcd:
+        return read_text(options.trace, signals, events, options.scale)
+    waves, moments = dumps.read(options.trace, signals, events)
+    factor = 10 ** options.scale
+    waves = {name: [(time * factor, value) for time, value in wave] for name, wave in waves.items()}
+    return waves, {name: [time * factor for time in times] for name, times in moments.items()}
+
+
 def main():
     options = read_words()
     checks = options.checks
@@ -323,19 +357,13 @@ def main():
         sys.exit("draw.py: no pattern" + (" of that name" if options.around else ""))
     asked = ["--input", options.trace, "--scale", str(options.scale)]
     asked += ["--format", "vcd"] if options.vcd else []
+    asked += ["--format", "csv", "--let", options.let] if options.let else []
     answers = [matches(asked, pattern) for _, pattern, _ in patterns]
     found = [[(units(a, options.scale), units(b, options.scale)) for a, b in stretches]
              for stretches, _ in answers]
     signals, events = names_in(pattern for _, pattern, _ in patterns)
     signals = options.signals or signals
-    if options.vcd:
-        waves, moments = dumps.read(options.trace, signals, events)[:2]
-        factor = 10 ** options.scale
-        waves = {name: [(time * factor, value) for time, value in wave]
-                 for name, wave in waves.items()}
-        moments = {name: [time * factor for time in times] for name, times in moments.items()}
-    else:
-        waves, moments = read_text(options.trace, signals, events, options.scale)[:2]
+    waves, moments = read(options, signals, events)
     window = window_of(options, units(answers[0][1], options.scale),
                        dict(zip([name for name, _, _ in patterns], found)))
     labels = [name if has_name else pattern for name, pattern, has_name in patterns]

@@ -116,10 +116,10 @@ class Changes:
 
 
 def read(name, signals, events):
-    """The waves, the moments of the events, and the end of a dump, in its ticks."""
+    """The waves and the moments of the events of a dump, in its ticks."""
     with open(name, "rb") as file:
         header, rest = header_of(file)
         changes = Changes(header, signals, events)
         changes.read([rest])
         changes.read(file)
-    return changes.waves, changes.moments, changes.now
+    return changes.waves, changes.moments
