@@ -7,3 +7,5 @@ pub mod Written
 pub mod ReadBack
 pub mod Outcomes
 pub mod LineOrder
+pub mod Rising
+pub mod Lines

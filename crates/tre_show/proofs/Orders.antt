@@ -1,9 +1,10 @@
 -- A list of zones in another order is a set of zones as before.
-use Rattle.std.proofs.Common.{◌≡◌, ◌≢◌, ℕ, zero, suc, ◌<◌, ◌⊎◌, List, [], ◌∷◌, length, get_or, refl, ap, ◌∙◌, arith, inl, inr, ⊎_elim}
+use Rattle.std.proofs.Common.{◌≡◌, ◌≢◌, ℕ, zero, suc, ◌<◌, ◌⊎◌, List, [], ◌∷◌, ◌++◌, length, get_or, take, drop, refl, sym, ap, ◌∙◌, arith, inl, inr, ⊎_elim}
 use Rattle.std.specs.Prelude.{All}
 use Rattle.std.specs.List.{swap}
 use Rattle.std.specs.List.Sorted.{IsPermutation}
 use Rattle.std.proofs.lemmas.Bool.{cases_eq}
+use Rattle.std.proofs.lemmas.List.{take-append-le, take_all}
 use Rattle.std.proofs.lemmas.List.Elements.{All-cons, All-nil}
 use Rattle.std.proofs.lemmas.List.Sorted.{IsPermutation-keeps, All-permutation}
 use Rattle.std.proofs.lemmas.List.Edits.{swapped_from_swap, length-swap}
@@ -109,3 +110,11 @@ pub AreCanonical-permutation : (zones others : List ZoneBounds) → IsPermutatio
 AreCanonical-permutation zones others order all =
     canonical_again others
     (All-permutation IsCanonical zones others order (canonical_each zones all))
+
+-- A list that was changed in a vector's place is what the vector holds then.
+pub written_back : (new old : List ZoneBounds) (len : ℕ) → length new ≡ len
+    → take len (new ++ drop (length new) old) ≡ new
+written_back new old len e =
+    ap (λ k. take k (new ++ drop (length new) old)) (sym e)
+    ∙ take-append-le (length new) new (drop (length new) old) (omega arith)
+    ∙ take_all (length new) new (omega arith)

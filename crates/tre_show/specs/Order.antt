@@ -3,6 +3,7 @@ use Rattle.std.specs.Prelude.{◌≡◌, ◌<◌, ◌⊎◌, ℕ, true, false, S
 use Rattle.std.specs.Cmp.Lexicographic.{slice_cmp}
 use Rattle.std.specs.List.Sorted.{IsSortedByKey}
 use Rattle.std.specs.Ordering.{int_cmp}
+use Rattle.std.specs.declared.cmp.Ordering.{Ordering}
 use Rattle.tre_zone.specs.Interval.{IntervalEnds}
 use Rattle.tre_zone.specs.Ranges.{begin_range, end_range, duration_range}
 use Rattle.tre_zone.specs.declared.zone_bounds.ZoneBounds.{ZoneBounds}
@@ -13,6 +14,10 @@ abbrev pub sort_key : ZoneBounds → List ℤ
 sort_key zone =
     neg_ℤ zone.begin_low ∷ zone.begin_high ∷ neg_ℤ zone.end_low ∷ zone.end_high
     ∷ neg_ℤ zone.dur_low ∷ zone.dur_high ∷ []
+
+-- The first number that differs decides which of two lines comes first.
+abbrev pub compare_lines : ZoneBounds → ZoneBounds → Ordering
+compare_lines one other = slice_cmp int_cmp (sort_key one) (sort_key other)
 
 -- The zones are in the order in which they are printed: the first number that differs decides.
 unfoldable pub IsRising : List ZoneBounds → Type 0

@@ -44,30 +44,38 @@ pub(crate) fn push_line(
         (string_bytes out.new ≡ string_bytes out.old ++ line_of scale zone.now) }
     ensures err { OnErr result (string_bytes out.new ≡ string_bytes out.old) }
 {
-    let begin = write_line(zone, scale, buffer);
+    let begin = write_one_line(zone, scale, buffer);
     out.push_str(text_of(&buffer[begin..]))
 }
 
-fn text_of(bytes: &[u8]) -> &str
+// The text that the bytes are. Nothing looks at them again: that they are one is proved.
+pub(crate) fn text_of(bytes: &[u8]) -> &str
     requires { IsUtf8 bytes.now }
     ensures { result.now ≡ bytes.now }
 {
-    match str::from_utf8(bytes) {
-        Ok(text) => text,
-        Err(_) => unreachable!(),
-    }
+    unsafe { str::from_utf8_unchecked(bytes) }
 }
 
 // Writes the line of the zone, so that it ends where the buffer does. Says where it begins.
-fn write_line(zone: &Zone, scale: u8, buffer: &mut [u8]) -> usize
+fn write_one_line(zone: &Zone, scale: u8, buffer: &mut [u8]) -> usize
     requires scale { scale ≤ SCALE_MAX }
     requires room { length buffer.old ≡ LINE_MAX }
     ensures line { drop result buffer.new ≡ line_of scale zone.now }
     ensures begin { result ≤ LINE_MAX }
     ensures text { IsUtf8 (line_of scale zone.now) }
 {
+    write_line(zone, scale, buffer, LINE_MAX)
+}
+
+/// Writes the line of the zone, so that it ends at `end`. Says where it begins.
+pub(crate) fn write_line(zone: &Zone, scale: u8, buffer: &mut [u8], end: usize) -> usize
+    requires scale { scale ≤ SCALE_MAX }
+    requires room { (LINE_MAX ≤ end) × (end ≤ length buffer.old) }
+    ensures line { drop result buffer.new ≡ line_of scale zone.now ++ drop end buffer.old }
+    ensures begin { (end ≤ result + LINE_MAX) × (result ≤ end) }
+    ensures text { IsUtf8 (line_of scale zone.now) }
+{
     let bounds = zone.bounds();
-    let end = buffer.len();
     let end = write_sign(b'\n', buffer, end);
     let end = write_between(&bounds.dur_low, &bounds.dur_high, scale, buffer, end);
     let end = write_sign(b' ', buffer, end);

@@ -1,11 +1,13 @@
 // The zones of a set, in the order in which they are printed.
-ghost use Rattle.std.specs.Prelude.{◌≡◌, ℕ, neg_ℤ, ◌^◌, ◌↔◌, IfOk, IsPermutation};
+ghost use Rattle.std.specs.Prelude.{◌≡◌, ◌<◌, ℕ, neg_ℤ, ◌^◌, ◌↔◌, length, IfOk, IsTrue, IsPermutation};
+ghost use Rattle.std.specs.Ordering.{int_cmp, is_lt, ordering_then};
 ghost use Rattle.tre_zone.specs.Bound.{IsKeyWithin};
 ghost use Rattle.tre_zone.specs.ZoneList.{SetHolds, IsApart, AreCanonical, AreTight};
 ghost use Rattle.tre_zoneset.specs.ZoneSet.{IsZoneSet};
-ghost use Rattle.tre_show.specs.Order.{sort_key, IsRising};
+ghost use Rattle.tre_show.specs.Order.{sort_key, compare_lines, IsRising};
 
 use std::alloc::{AllocError, Global};
+use std::cmp::Ordering;
 use tre_zone::{Bound, Zone};
 use tre_zoneset::ZoneSet;
 
@@ -47,12 +49,118 @@ pub fn in_printed_order(zones: Vec<Zone>) -> Vec<Zone>
     ensures rising { IsRising result.items }
 {
     let mut zones = zones;
+    sort(&mut zones);
+    zones
+}
+
+// Mostly the zones stand in this order, or near their places.
+fn sort(zones: &mut [Zone])
+    ensures same { IsPermutation zones.old zones.new }
+    ensures rising { IsRising zones.new }
+{
+    move_near(zones);
+    if !are_rising(zones) {
+        sort_far(zones);
+    }
+}
+
+fn sort_far(zones: &mut [Zone])
+    ensures same { IsPermutation zones.old zones.new }
+    ensures rising { IsRising zones.new }
+{
     zones.sort_unstable_by_key(
         |zone: &Zone| -> [i64; 6]
             ensures { result ≡ sort_key zone.now }
         { sort_key(zone) },
     );
-    zones
+}
+
+/// How many moves for each zone are no dearer than a sort.
+const MOVES_PER_ZONE: usize = 8;
+
+// Moves each zone before those in front of it that come behind it, as long as few are moved.
+fn move_near(zones: &mut [Zone])
+    ensures { IsPermutation zones.old zones.new }
+{
+    let mut left = zones.len().saturating_mul(MOVES_PER_ZONE);
+    for place in 1..zones.len() {
+        let moves = move_forward(zones, place);
+        if left < moves {
+            return;
+        }
+        left -= moves;
+    }
+}
+
+// Moves the zone before those in front of it that come behind it. Says how many these are.
+fn move_forward(zones: &mut [Zone], place: usize) -> usize
+    requires { place < length zones.old }
+    ensures { IsPermutation zones.old zones.new }
+{
+    let mut at = place;
+    while at > 0 && comes_before(&zones[at], &zones[at - 1]) {
+        zones.swap(at - 1, at);
+        at -= 1;
+    }
+    place - at
+}
+
+// Whether the line of no zone comes behind that of the next.
+fn are_rising(zones: &[Zone]) -> bool
+    ensures { IsTrue result → IsRising zones.now }
+{
+    for place in 1..zones.len() {
+        if comes_before(&zones[place], &zones[place - 1]) {
+            return false;
+        }
+    }
+    true
+}
+
+// Whether the line of the one zone comes before that of the other.
+#[inline(always)]
+fn comes_before(one: &Zone, other: &Zone) -> bool
+    ensures { result ≡ is_lt (compare_lines one.now other.now) }
+{
+    match compare(one, other) {
+        Ordering::Less => true,
+        Ordering::Equal | Ordering::Greater => false,
+    }
+}
+
+// The first of the three ranges that differs decides.
+#[inline(always)]
+fn compare(one: &Zone, other: &Zone) -> Ordering
+    ensures { result ≡ compare_lines one.now other.now }
+{
+    let zone = one.bounds();
+    let next = other.bounds();
+    match compare_ranges(
+        &zone.begin_low,
+        &zone.begin_high,
+        &next.begin_low,
+        &next.begin_high,
+    ) {
+        Ordering::Equal => {}
+        unequal => return unequal,
+    }
+    match compare_ranges(&zone.end_low, &zone.end_high, &next.end_low, &next.end_high) {
+        Ordering::Equal => {}
+        unequal => return unequal,
+    }
+    compare_ranges(&zone.dur_low, &zone.dur_high, &next.dur_low, &next.dur_high)
+}
+
+// Of two ranges that of the smaller low end comes first, or else that of the smaller high end.
+#[inline(always)]
+fn compare_ranges(low: &Bound, high: &Bound, other_low: &Bound, other_high: &Bound) -> Ordering
+    ensures { result ≡ ordering_then (int_cmp other_low.now low.now)
+        (int_cmp high.now other_high.now) }
+{
+    match other_low.key().cmp(&low.key()) {
+        Ordering::Equal => high.key().cmp(&other_high.key()),
+        unequal => unequal,
+    }
 }
 
 /// The zones of the set in rising order of their lines.

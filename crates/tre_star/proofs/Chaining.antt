@@ -108,7 +108,7 @@ pub record IsClosedTo (D : ℕ → ℕ → Type 0) (x : List ZoneBounds) (E : Pa
   pub closed : (a b n : ℕ) → 0 < n → D (b - a) n
       → Composed (SetHolds x) (SetHolds (take place reached)) a b n → SetHolds reached a b n
 
-Composed-rising : (R S : Pairs) → ((a b n : ℕ) → 0 < n → R a b n → a ≤ b)
+pub Composed-rising : (R S : Pairs) → ((a b n : ℕ) → 0 < n → R a b n → a ≤ b)
     → ((a b n : ℕ) → 0 < n → S a b n → a ≤ b) → (a b n : ℕ) → 0 < n
     → Composed R S a b n → a ≤ b
 Composed-rising R S left right a b n some h =
@@ -149,7 +149,7 @@ holds_at (one ∷ zones) zero zone within is a b n h =
 holds_at (one ∷ zones) (suc place) zone within is a b n h =
     inr (holds_at zones place zone (omega (arith, within)) is a b n h)
 
-SetHolds-take : (zones : List ZoneBounds) (count a b n : ℕ) → SetHolds (take count zones) a b n
+pub SetHolds-take : (zones : List ZoneBounds) (count a b n : ℕ) → SetHolds (take count zones) a b n
     → SetHolds zones a b n
 unfolding SetHolds
 SetHolds-take zones zero a b n h = absurd h

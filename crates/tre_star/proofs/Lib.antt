@@ -5,3 +5,4 @@ pub mod Reaching
 pub mod Chaining
 pub mod Powers
 pub mod Separate
+pub mod OneWay

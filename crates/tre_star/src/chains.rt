@@ -8,6 +8,7 @@ ghost use Rattle.tre_star.specs.Growth.{HasGrown};
 ghost use Rattle.tre_star.specs.Limits.{AreLimits, ChainsWithin};
 
 use crate::limits::Limits;
+use crate::one_way::{chains_one_way, lead_on};
 use crate::parts::{last_begins, part_end};
 use crate::power_limit::steps_of;
 use std::alloc::{AllocError, Global};
@@ -75,11 +76,23 @@ fn chains_of_part(alloc: Global, steps: &[Zone], limits: &Limits) -> Result<Zone
     ensures { IfOk result (λ set.
         HoldExactly set (ChainsWithin limits.now (SetHolds steps.now))) }
 {
-    let index = index_of_many(alloc, steps)?;
-    let found = chains_of(alloc, steps, &index, limits)?;
-    drop(index);
+    let found = chains_found(alloc, steps, limits)?;
     let chains = ZoneSet::of_zones(alloc, found)?;
     Ok(chains)
+}
+
+// The zones of the chains of one step or more within the limits.
+fn chains_found(alloc: Global, steps: &[Zone], limits: &Limits) -> Result<Vec<Zone>, AllocError>
+    requires steps { AreCanonical steps.now }
+    requires limits { AreLimits limits.now }
+    ensures { IfOk result (λ chains.
+        HoldExactly chains.items (ChainsWithin limits.now (SetHolds steps.now))) }
+{
+    if lead_on(steps) {
+        return chains_one_way(alloc, steps, limits);
+    }
+    let index = index_of_many(alloc, steps)?;
+    chains_of(alloc, steps, &index, limits)
 }
 
 // An index over the steps, None where they are few: then each of them is looked at.

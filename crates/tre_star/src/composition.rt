@@ -128,10 +128,10 @@ fn gather_near(
     Ok(stretch.from)
 }
 
-// Adds the compositions of the zone with each of the second ones to a list, as far as they last at
-// most `longest`: by looking at each.
+/// Adds the compositions of the zone with each of the second ones to a list, as far as they last at
+/// most `longest`: by looking at each.
 #[inline(always)]
-fn gather_each(
+pub(crate) fn gather_each(
     found: &mut Vec<Zone>,
     zone: &Zone,
     second: &[Zone],

@@ -2,10 +2,11 @@
 //!
 //! [`compose_sets`] gives the pairs of one set followed by one of another, as exact unions over the
 //! zones, and [`closure`] those of any number of pairs of one set, one after another: it puts the
-//! steps once before each zone that it has reached; a step whose durations lie between two
-//! different ends has a power limit, a zone of chains that spares it most of them. Each has a form
-//! that keeps to pairs up to a longest duration, and looks at no other. The layer above may rely on
-//! all being exact at every denominator, and on each call returning.
+//! steps once before each zone that it has reached, and each only before what begins with the next
+//! one where no other can follow; a step whose durations lie between two different ends has a power
+//! limit, a zone of chains that spares it most of them. Each has a form that keeps to pairs up to a
+//! longest duration, and looks at no other. The layer above may rely on all being exact at every
+//! denominator, and on each call returning.
 //!
 //! ```
 //! let twice = compose_sets(alloc, &set, &set)?;
@@ -20,5 +21,6 @@ mod chains;
 mod composition;
 mod gather_up_to;
 mod limits;
+mod one_way;
 mod parts;
 mod power_limit;

@@ -1,5 +1,4 @@
-use Rattle.std.proofs.Common.{append_assoc, length, arith}
-use Rattle.std.proofs.lemmas.List.{drop_all}
+use Rattle.std.proofs.Common.{append_assoc, arith}
 use Rattle.std.proofs.lemmas.Str.{IsUtf8-from_ascii}
 use Rattle.tre_zone.specs.Ranges.{begin_range, end_range, duration_range}
 use Rattle.tre_show.proofs.LineBytes.{line_ascii}
@@ -22,10 +21,28 @@ returns c =
             c.write_sign-end-2.ensures.text,
             c.write_between-end.ensures.text,
             c.write_sign-end.ensures.text,
-            drop_all (length c.args.buffer.now) c.args.buffer.now (omega arith),
             c.bounds-bounds.ensures.same,
           ) (simp append_assoc);
-      begin = omega (arith, c.write_between.ensures.begin);
+      begin = (
+        omega (
+          arith,
+          c.write_between.ensures.begin,
+          c.write_sign-end-3.ensures.begin,
+          c.write_between-end-2.ensures.begin,
+          c.write_sign-end-2.ensures.begin,
+          c.write_between-end.ensures.begin,
+          c.write_sign-end.ensures.begin,
+        ),
+        omega (
+          arith,
+          c.write_between.ensures.begin,
+          c.write_sign-end-3.ensures.begin,
+          c.write_between-end-2.ensures.begin,
+          c.write_sign-end-2.ensures.begin,
+          c.write_between-end.ensures.begin,
+          c.write_sign-end.ensures.begin,
+        ),
+      );
       text =
           IsUtf8-from_ascii (line_of scale zone)
           (line_ascii scale (begin_range zone) (end_range zone) (duration_range zone) begins

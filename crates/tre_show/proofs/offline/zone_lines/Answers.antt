@@ -1,18 +1,29 @@
-use Rattle.std.proofs.Common.{ap, ◌∙◌, ◌++◌, flat_map, string_bytes}
-use Rattle.std.proofs.lemmas.List.{take_all}
-use Rattle.std.proofs.lemmas.Result.{err_from_is_err_and}
-use Rattle.tre_show.specs.Line.{line_of, lines_of}
+use Rattle.std.proofs.Common.{◌++◌, ◌∙◌, ap, sym, string_bytes, arith}
+use Rattle.std.proofs.lemmas.List.{append-nil, take_all}
+use Rattle.tre_show.specs.Line.{lines_of}
+use Rattle.tre_show.proofs.Lines.{lines_to}
 use Rattle.tre_show.proofs.offline.zone_lines.Goals as goal
 
-pub returns-clause-lines : goal.returns-clause-lines
+pub loop-from-init : goal.loop-from-init
 unfolding lines_of
-returns-clause-lines c =
-    c.loop-zone.invariant
-    ∙ ap (λ zones. string_bytes c.args.out.now ++ flat_map (line_of c.args.scale) zones)
-    (take_all c.loop-zone.zone-index c.args.zones.now c.loop-zone-test.false)
+loop-from-init c = record {
+  within = omega arith;
+  lines = sym (append-nil (string_bytes c.args.out.now));
+}
 
-pub returns-in_err-push_line-clause-err : goal.returns-in_err-push_line-clause-err
-unfolding lines_of
-returns-in_err-push_line-clause-err c =
-    let is_err = err_from_is_err_and c.from_residual.result c.from_residual.ensures.1 in
-    rw (is_err.1) (c.loop-zone.zone-index, c.in_err-push_line.ensures.err ∙ c.loop-zone.invariant)
+pub loop-from-preserved : goal.loop-from-preserved
+loop-from-preserved c =
+    let old = c.loop-from.invariant in
+    record {
+      within = omega (arith, c.min-to.ensures);
+      lines =
+          lines_to c.args.scale c.args.zones.now c.loop-from.from c.min-to.result _ _ _
+          (omega (arith, c.min-to.ensures, old.within)) old.lines
+          c.in_ok-push_lines.ensures.lines;
+    }
+
+pub returns-clause-lines : goal.returns-clause-lines
+returns-clause-lines c =
+    c.loop-from.invariant.lines
+    ∙ ap (λ zones. string_bytes c.args.out.now ++ lines_of c.args.scale zones)
+    (take_all c.loop-from.from c.args.zones.now c.loop-from-test.false)

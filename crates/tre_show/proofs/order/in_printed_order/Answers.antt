@@ -1,28 +1,21 @@
-use Rattle.std.proofs.Common.{rules}
-use Rattle.std.proofs.lemmas.List.Sorted.{answers_always}
-use Rattle.tre_show.specs.Order.{sort_key, IsRising}
+use Rattle.std.proofs.Common.{◌∙◌}
 use Rattle.tre_zone.proofs.ZoneListLemmas.{AreCanonical-tight}
 use Rattle.tre_zoneset.proofs.Thinning.{SetHolds-permutation}
-use Rattle.tre_show.proofs.Orders.{IsApart-permutation, AreCanonical-permutation}
+use Rattle.tre_show.proofs.Orders.{IsApart-permutation, AreCanonical-permutation, written_back}
 use Rattle.tre_show.proofs.order.in_printed_order.Goals as goal
 
-pub returns-clause-held : goal.returns-clause-held
-returns-clause-held c = λ a b n.
-    SetHolds-permutation _ _ a b n c.sort_unstable_by_key.ensures.permutation
-
-pub returns-clause-set : goal.returns-clause-set
-returns-clause-set c = λ set. record {
-  apart = IsApart-permutation _ _ c.sort_unstable_by_key.ensures.permutation set.apart;
-  canonical = AreCanonical-permutation _ _ c.sort_unstable_by_key.ensures.permutation set.canonical;
-}
-
-pub returns-clause-tight : goal.returns-clause-tight
-returns-clause-tight c = λ set.
-    AreCanonical-tight _
-    (AreCanonical-permutation _ _ c.sort_unstable_by_key.ensures.permutation set.canonical)
-
-pub returns-clause-rising : goal.returns-clause-rising
-unfolding IsRising
-returns-clause-rising c =
-    c.sort_unstable_by_key.ensures.sorted sort_key
-    (answers_always _ _ _ (λ f a r g h. search rules))
+pub returns : goal.returns
+returns c =
+    let order = rw c.deref_mut.ensures.value at c.sort.ensures.same in
+    rw (written_back c.sort.new.zones c.args.zones.items c.args.zones.len
+    (c.sort.auto.zones ∙ c.deref_mut.ensures.len)) (record {
+      same = order;
+      held = λ a b n. SetHolds-permutation _ _ a b n order;
+      set = λ set. record {
+        apart = IsApart-permutation _ _ order set.apart;
+        canonical = AreCanonical-permutation _ _ order set.canonical;
+      };
+      tight = λ set.
+          AreCanonical-tight _ (AreCanonical-permutation _ _ order set.canonical);
+      rising = c.sort.ensures.rising;
+    })
