@@ -8,15 +8,15 @@ use Rattle.tre_feed.specs.Readings.{common}
 use Rattle.tre_feed.specs.declared.readers.Readers.{Readers}
 use Rattle.tre_feed.proofs.Read.{as_many}
 use Rattle.tre_num.specs.Defined.{Defined}
-use Rattle.tre_num.specs.Rows.{Terms as RowTerms, rows_reading}
-use Rattle.tre_parts.specs.Format.{reading_from}
+use Rattle.tre_num.specs.Rows.{Terms as RowTerms, rows_recording}
+use Rattle.tre_parts.specs.Format.{recording_from}
 use Rattle.tre_syntax.specs.Pattern.{names_of}
 use Rattle.tre_syntax.specs.declared.pattern.Pattern.{Pattern}
 use Rattle.tre_tell.specs.Sought.{Sought, sought_by}
 use Rattle.tre_tell.specs.Watched.{SayNothing}
-use Rattle.tre_text.specs.TextReading.{Terms as TextTerms, text_reading}
-use Rattle.tre_trace.specs.Reading.{Reading, Vocabulary}
-use Rattle.tre_vcd.specs.VcdReading.{Terms as DumpTerms, vcd_reading}
+use Rattle.tre_text.specs.TextReading.{text_recording}
+use Rattle.tre_trace.specs.Reading.{Reading, Vocabulary, reading_for, segments_for}
+use Rattle.tre_vcd.specs.VcdReading.{Terms as DumpTerms, vcd_recording}
 use Rattle.tre_words.specs.declared.job.Format.{Format}
 use Rattle.tre_words.specs.declared.job.Format.TheVariants.{Text, Vcd, Csv}
 use Rattle.tre_words.specs.declared.job.Job.{Job}
@@ -26,27 +26,21 @@ use Rattle.tre_answer.specs.declared.asked.Asked.{Asked}
 
 -- ---- what no bytes say
 
-text_reading-nothing : (terms : TextTerms) → (text_reading terms false []).segments ≡ []
-unfolding reading_from
-text_reading-nothing terms = refl
+text_recording-nothing : (scale : ℕ) → (text_recording scale false []).stretches ≡ []
+unfolding recording_from
+text_recording-nothing scale = refl
 
-vcd_reading-nothing : (terms : DumpTerms) → (vcd_reading terms false []).segments ≡ []
-unfolding reading_from
-vcd_reading-nothing terms = refl
+vcd_recording-nothing : (terms : DumpTerms) → (vcd_recording terms false []).stretches ≡ []
+unfolding recording_from
+vcd_recording-nothing terms = refl
 
-rows_reading-nothing : (terms : RowTerms) → (rows_reading terms false []).segments ≡ []
-rows_reading-nothing terms = refl
+text_recording-faultless : (scale : ℕ) → (text_recording scale false []).fault ≡ None
+unfolding recording_from
+text_recording-faultless scale = refl
 
-text_reading-faultless : (terms : TextTerms) → (text_reading terms false []).fault ≡ None
-unfolding reading_from
-text_reading-faultless terms = refl
-
-vcd_reading-faultless : (terms : DumpTerms) → (vcd_reading terms false []).fault ≡ None
-unfolding reading_from
-vcd_reading-faultless terms = refl
-
-rows_reading-faultless : (terms : RowTerms) → (rows_reading terms false []).fault ≡ None
-rows_reading-faultless terms = refl
+vcd_recording-faultless : (terms : DumpTerms) → (vcd_recording terms false []).fault ≡ None
+unfolding recording_from
+vcd_recording-faultless terms = refl
 
 -- what is so of each value of a function
 pub All-mapped : {X Y : Type 0} (P : Y → Type 0) (f : X → Y) (xs : List X) → ((x : X) → P (f x))
@@ -58,15 +52,8 @@ All-mapped P f (x ∷ xs) each (suc k) d below =
 
 -- the terms of readers
 
-abbrev pub text_terms_of : Vocabulary → ℕ → TextTerms
-text_terms_of names scale = record { names = names; scale = scale }
-
-abbrev pub dump_terms_of : Vocabulary → List Vocabulary → ℕ → DumpTerms
-dump_terms_of names declared scale = record {
-  names = names;
-  declared = declared;
-  scale = scale;
-}
+abbrev pub dump_terms_of : List Vocabulary → ℕ → DumpTerms
+dump_terms_of declared scale = record { declared = declared; scale = scale }
 
 abbrev pub rows_terms_of : List Defined → Vocabulary → ℕ → RowTerms
 rows_terms_of lets names scale = record { definitions = lets; names = names; scale = scale }
@@ -74,19 +61,18 @@ rows_terms_of lets names scale = record { definitions = lets; names = names; sca
 module _ (request : Request) (names : Vocabulary) where
   reading_in-faultless : (format : Format)
       → (reading_in format request names false []).fault ≡ None
-  reading_in-faultless Text = text_reading-faultless (text_terms_of names request.job.scale)
-  reading_in-faultless Vcd = vcd_reading-faultless
-      (dump_terms_of names (all_names request.patterns) request.job.scale)
-  reading_in-faultless Csv =
-      rows_reading-faultless (rows_terms_of request.lets names request.job.scale)
+  reading_in-faultless Text = text_recording-faultless request.job.scale
+  reading_in-faultless Vcd =
+      vcd_recording-faultless (dump_terms_of (all_names request.patterns) request.job.scale)
+  reading_in-faultless Csv = refl
 
   reading_in-nothing : (format : Format)
       → (reading_in format request names false []).segments ≡ []
-  reading_in-nothing Text = text_reading-nothing (text_terms_of names request.job.scale)
-  reading_in-nothing Vcd = vcd_reading-nothing
-      (dump_terms_of names (all_names request.patterns) request.job.scale)
-  reading_in-nothing Csv =
-      rows_reading-nothing (rows_terms_of request.lets names request.job.scale)
+  reading_in-nothing Text =
+      ap (segments_for names) (text_recording-nothing request.job.scale)
+  reading_in-nothing Vcd = ap (segments_for names)
+      (vcd_recording-nothing (dump_terms_of (all_names request.patterns) request.job.scale))
+  reading_in-nothing Csv = refl
 
 pub nothing_said : (request : Request) → SayNothing (readings_of request)
 nothing_said request = All-mapped (λ reading. reading.segments ≡ []) _ request.patterns
@@ -147,11 +133,11 @@ sought_count (label ∷ labels) [] count = absurd (omega (arith, count))
 abbrev reading_with : Format → Job → List Defined → List Vocabulary → Bool → List ℕ → Vocabulary →
     Reading
 reading_with Text job lets declared closed bytes names =
-    text_reading (text_terms_of names job.scale) closed bytes
+    reading_for names (text_recording job.scale closed bytes)
 reading_with Vcd job lets declared closed bytes names =
-    vcd_reading (dump_terms_of names declared job.scale) closed bytes
+    reading_for names (vcd_recording (dump_terms_of declared job.scale) closed bytes)
 reading_with Csv job lets declared closed bytes names =
-    rows_reading (rows_terms_of lets names job.scale) closed bytes
+    reading_for names (rows_recording (rows_terms_of lets names job.scale) closed bytes)
 
 reading_with-in : (format : Format) (request : Request) (closed : Bool) (bytes : List ℕ)
     (names : Vocabulary)
@@ -222,30 +208,31 @@ module _ (job : Job) (lets : List Defined) (asked : Asked) (fits : FitsJob job a
   pub text_same : (patterns : List Pattern) → patterns ≡ asked.patterns.items
       → job.format ≡ Text
       → ((closed : Bool) (bytes : List ℕ) → readings closed bytes ≡ map (λ pattern.
-      text_reading (text_terms_of (names_of pattern) job.scale) closed bytes) patterns)
+      reading_for (names_of pattern) (text_recording job.scale closed bytes)) patterns)
       → readings ≡ readings_of (request_for job lets asked)
   text_same patterns all is reads = readings_are job lets asked fits Text readings is
       (λ closed bytes. subst (λ each. readings closed bytes ≡ map (λ pattern.
-      text_reading (text_terms_of (names_of pattern) job.scale) closed bytes) each) all
+      reading_for (names_of pattern) (text_recording job.scale closed bytes)) each) all
       (reads closed bytes))
 
   pub dump_same : (patterns : List Pattern) → patterns ≡ asked.patterns.items
       → job.format ≡ Vcd
       → ((closed : Bool) (bytes : List ℕ) → readings closed bytes ≡ map (λ pattern.
-      vcd_reading (dump_terms_of (names_of pattern) (map names_of patterns) job.scale) closed
-      bytes) patterns)
+      reading_for (names_of pattern) (vcd_recording
+      (dump_terms_of (map names_of patterns) job.scale) closed bytes)) patterns)
       → readings ≡ readings_of (request_for job lets asked)
   dump_same patterns all is reads = readings_are job lets asked fits Vcd readings is
       (λ closed bytes. subst (λ each. readings closed bytes ≡ map (λ pattern.
-      vcd_reading (dump_terms_of (names_of pattern) (map names_of each) job.scale) closed bytes)
-      each) all (reads closed bytes))
+      reading_for (names_of pattern) (vcd_recording
+      (dump_terms_of (map names_of each) job.scale) closed bytes)) each) all (reads closed bytes))
 
   pub rows_same : (pattern : Pattern) → pattern ≡ get_or asked.patterns.items 0 pattern
       → job.format ≡ Csv
-      → ((closed : Bool) (bytes : List ℕ) → readings closed bytes
-      ≡ rows_reading (rows_terms_of lets (names_of pattern) job.scale) closed bytes ∷ [])
+      → ((closed : Bool) (bytes : List ℕ) → readings closed bytes ≡ reading_for (names_of pattern)
+      (rows_recording (rows_terms_of lets (names_of pattern) job.scale) closed bytes) ∷ [])
       → readings ≡ readings_of (request_for job lets asked)
   rows_same pattern first is reads = readings_are job lets asked fits Csv readings is
       (λ closed bytes. reads closed bytes
-      ∙ alone_read (λ p. rows_reading (rows_terms_of lets (names_of p) job.scale) closed bytes)
+      ∙ alone_read (λ p. reading_for (names_of p)
+      (rows_recording (rows_terms_of lets (names_of p) job.scale) closed bytes))
       asked.patterns.items pattern (fits.columns is) first)

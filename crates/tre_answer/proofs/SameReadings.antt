@@ -1,11 +1,11 @@
 -- All readings of an input are alike, but those of columns.
 use Rattle.std.proofs.Common.{◌≡◌, ◌≢◌, ℕ, zero, suc, Bool, List, [], ◌∷◌, All, refl, sym, subst, arith}
-use Rattle.tre_feed.specs.Readings.{common, AreAllAlike, AgreeAlways}
+use Rattle.tre_feed.specs.Readings.{common, AreAlike, AreAllAlike, AgreeAlways}
+use Rattle.tre_feed.proofs.Asking.{alike_for}
 use Rattle.tre_num.specs.Defined.{Defined}
-use Rattle.tre_parts.specs.Alike.{AreAlike}
-use Rattle.tre_text.proofs.Alike.{texts-alike}
+use Rattle.tre_text.specs.TextReading.{text_recording}
 use Rattle.tre_trace.specs.Reading.{Reading, Vocabulary}
-use Rattle.tre_vcd.proofs.Alike.{dumps-alike}
+use Rattle.tre_vcd.specs.VcdReading.{vcd_recording}
 use Rattle.tre_tell.specs.Sought.{Sought}
 use Rattle.tre_tell.specs.Watched.{SayNothing}
 use Rattle.tre_words.specs.declared.job.Format.{Format}
@@ -14,7 +14,7 @@ use Rattle.tre_words.specs.declared.job.Job.{Job}
 use Rattle.tre_answer.specs.Readings.{reading_in, readings_of}
 use Rattle.tre_answer.specs.Request.{Request, all_names, request_for}
 use Rattle.tre_answer.specs.declared.asked.Asked.{Asked}
-use Rattle.tre_answer.proofs.Readings.{All-mapped, nothing_said, text_terms_of, dump_terms_of}
+use Rattle.tre_answer.proofs.Readings.{All-mapped, nothing_said}
 
 -- readings for any names
 for_names : (format : Format) (request : Request) (one other : Vocabulary) (closed : Bool)
@@ -22,12 +22,12 @@ for_names : (format : Format) (request : Request) (one other : Vocabulary) (clos
     → AreAlike (reading_in format request one closed bytes)
     (reading_in format request other closed bytes)
 for_names Text request one other closed bytes never =
-    texts-alike (text_terms_of one request.job.scale) (text_terms_of other request.job.scale) closed
-    bytes refl
-for_names Vcd request one other closed bytes never =
-    let declared = all_names request.patterns in
-    dumps-alike (dump_terms_of one declared request.job.scale)
-    (dump_terms_of other declared request.job.scale) closed bytes refl refl
+    alike_for one other (text_recording request.job.scale closed bytes)
+for_names Vcd request one other closed bytes never = alike_for one other
+    (vcd_recording (record {
+      declared = all_names request.patterns;
+      scale = request.job.scale;
+    }) closed bytes)
 for_names Csv request one other closed bytes never = absurd (never refl)
 
 module _ (request : Request) (closed : Bool) (bytes : List ℕ)

@@ -5,7 +5,7 @@ ghost use Rattle.tre_answer.specs.Readings.{readings_of};
 ghost use Rattle.tre_answer.specs.Request.{FitsJob, request_for};
 ghost use Rattle.tre_decimal.specs.declared.TheConstants.{SCALE_MAX};
 ghost use Rattle.tre_feed.specs.Input.{TakesAtMost, input_told};
-ghost use Rattle.tre_feed.specs.Readers.{AreFresh, how_many, readings_in};
+ghost use Rattle.tre_feed.specs.Readers.{AreFresh, how_many, readings_asked};
 ghost use Rattle.tre_feed.specs.Readings.{AgreeAlways};
 ghost use Rattle.tre_num.specs.Defined.{Defined};
 ghost use Rattle.tre_show.specs.PatternText.{expression_text};
@@ -46,10 +46,10 @@ fn answer_by<S: Source, R: TraceReader + Drop, O: Sink>(
     requires fits { FitsJob job.now asked.now }
     requires count { how_many readers ≡ length asked.now.patterns.items }
     requires fresh { AreFresh R.represents readers }
-    requires alike { AgreeAlways (readings_in R.reading R.terms readers) }
-    requires nothing { SayNothing (readings_in R.reading R.terms readers) }
+    requires alike { AgreeAlways (readings_asked R.recording R.names R.terms readers) }
+    requires nothing { SayNothing (readings_asked R.recording R.names R.terms readers) }
     ensures ends { (lets : List Defined) →
-        readings_in R.reading R.terms readers
+        readings_asked R.recording R.names R.terms readers
         ≡ readings_of (request_for job.now lets asked.now) →
         EndsOver (request_for job.now lets asked.now)
         (input_told S.file_name S.file S.sound S.opened S.left S.found S.faults input.old input.new)

@@ -1,9 +1,10 @@
 // The reader of rows.
 ghost use Rattle.std.specs.Prelude.{◌≡◌, ◌≤◌, ◌∷◌, [], ℕ, Bool, List, IfOk};
 ghost use Rattle.tre_decimal.specs.declared.TheConstants.{SCALE_MAX};
-ghost use Rattle.tre_feed.specs.Readers.{AreFresh, readings_in};
-ghost use Rattle.tre_num.specs.Rows.{rows_reading};
+ghost use Rattle.tre_feed.specs.Readers.{AreFresh, readings_asked};
+ghost use Rattle.tre_num.specs.Rows.{rows_recording};
 ghost use Rattle.tre_syntax.specs.Pattern.{names_of};
+ghost use Rattle.tre_trace.specs.Reading.{reading_for};
 
 use std::alloc::{AllocError, Global};
 use tre_feed::Readers;
@@ -21,12 +22,13 @@ pub fn column_readers(
     requires { scale ≤ SCALE_MAX }
     ensures fresh { IfOk result (AreFresh ⟦<ColumnsReader as TraceReader>⟧.represents) }
     ensures reads { IfOk result (λ readers. (closed : Bool) (bytes : List ℕ) →
-        readings_in ⟦<ColumnsReader as TraceReader>⟧.reading
-        ⟦<ColumnsReader as TraceReader>⟧.terms readers closed bytes ≡ rows_reading (record {
+        readings_asked ⟦<ColumnsReader as TraceReader>⟧.recording
+        ⟦<ColumnsReader as TraceReader>⟧.names ⟦<ColumnsReader as TraceReader>⟧.terms
+        readers closed bytes ≡ reading_for (names_of pattern.now) (rows_recording (record {
           definitions = definitions.items;
           names = names_of pattern.now;
           scale = scale;
-        }) closed bytes ∷ []) }
+        }) closed bytes) ∷ []) }
 {
     let names = pattern.names().try_clone()?;
     let events = pattern.events().try_clone()?;

@@ -4,13 +4,12 @@ use Rattle.std.proofs.lemmas.Bool.Decides.{eqb_tells}
 use Rattle.std.proofs.lemmas.List.{get_or_append_left, length-map, map-append}
 use Rattle.std.proofs.lemmas.Option.{get_or_from_slice_get, slice_get_within}
 use Rattle.std.proofs.lemmas.List.Elements.{All-push}
-use Rattle.tre_share.specs.Shown.{shown_reading}
 use Rattle.tre_share.specs.declared.view.View.{View}
 use Rattle.tre_trace.specs.Reading.{Reading}
 use Rattle.tre_trace.specs.declared.segment.Segment.{Segment}
 use Rattle.tre_trace.specs.declared.fault.TraceFault.{TraceFault}
 use Rattle.tre_feed.specs.Leaders.{AreNew, WereLed, lasts_led, rows_led, row_of, terms_of}
-use Rattle.tre_feed.specs.Members.{AllLead, AreWithin, first_place, last_for, leader_of, no_reading, place_or, reading_by, reading_for, row_by, row_for}
+use Rattle.tre_feed.specs.Members.{AllLead, AreWithin, first_place, last_for, leader_of, no_reading, place_or, reading_by, reading_for, row_by, row_for, shown_reading}
 use Rattle.tre_feed.specs.Readers.{AreFresh, TakesIn, WereFed, groups_in, readings_in}
 use Rattle.tre_feed.specs.Readings.{AgreeAlways, AreAllAlike, AreLevel, common, readings_by}
 use Rattle.tre_feed.specs.declared.fault.FeedFault.{FeedFault}

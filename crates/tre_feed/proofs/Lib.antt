@@ -1,5 +1,6 @@
 -- Lemmas.
 pub mod Alike
+pub mod Asking
 pub mod Calls
 pub mod Changed
 pub mod Cuts

@@ -3,13 +3,13 @@ use Rattle.std.proofs.Common.{◌≡◌, ◌∙◌, ℕ, zero, suc, ◌+◌, ◌
 use Rattle.std.proofs.lemmas.Bool.Decides.{eqb_tells}
 use Rattle.std.proofs.lemmas.List.{drop_more, get_or_default, length-map, map-append, map-id}
 use Rattle.std.proofs.lemmas.List.Elements.{All-map}
-use Rattle.tre_parts.specs.Alike.{AreAlike, lengths_of}
 use Rattle.tre_share.specs.declared.view.View.{View}
-use Rattle.tre_trace.specs.Reading.{Reading, Adds, Grows}
+use Rattle.tre_trace.specs.Reading.{Reading}
+use Rattle.tre_feed.specs.Growth.{Adds, Grows}
 use Rattle.tre_trace.specs.Trace.{IsTrace, AreLong, end_of}
 use Rattle.tre_trace.specs.declared.segment.Segment.{Segment}
 use Rattle.tre_feed.specs.Members.{AllLead, AreWithin, events_by, first_place, last_for, leader_of, no_reading, place_or, reading_by, reading_for, row_by, row_for, segment_by}
-use Rattle.tre_feed.specs.Readings.{AddsEach, adds_none, adds_next, AreAllAlike, AreLevel, common, count_of}
+use Rattle.tre_feed.specs.Readings.{AddsEach, adds_none, adds_next, AreAlike, AreAllAlike, AreLevel, common, count_of, lengths_of}
 use Rattle.tre_feed.specs.Leaders.{rows_led}
 use Rattle.tre_feed.specs.Rows.{AreKept}
 use Rattle.tre_feed.specs.declared.leaders.Leaders.{Leaders}

@@ -2,7 +2,8 @@
 use Rattle.std.proofs.Common.{◌≡◌, ◌∙◌, ◌+◌, ◌-◌, ◌≤◌, ◌≢◌, ℕ, Bool, true, false, List, [], ◌∷◌, ◌++◌, All, length, map, take, Option, None, Some, IfSome, Result, Ok, Err, refl, sym, ap, subst, arith, length-append, append-nil}
 use Rattle.std.specs.Io.KnownBytes.{Consumes, Keeps, IsAtEnd}
 use Rattle.std.proofs.KnownBytes.{Consumes-trans}
-use Rattle.tre_trace.specs.Reading.{Reading, Adds}
+use Rattle.tre_trace.specs.Reading.{Reading}
+use Rattle.tre_feed.specs.Growth.{Adds}
 use Rattle.tre_trace.specs.declared.segment.Segment.{Segment}
 use Rattle.tre_feed.specs.Feeding.{IsFed, HasRead, GoesOn, IsEnded, StopsTurn, AddsRead}
 use Rattle.tre_feed.specs.Fed.{IsOfReader}

@@ -2,7 +2,8 @@
 use Rattle.std.proofs.Common.{◌≡◌, ◌∙◌, ◌≤◌, ℕ, Bool, false, List, [], ◌∷◌, ◌++◌, All, length, map, None, sym, subst, arith}
 use Rattle.std.proofs.lemmas.List.{length-map}
 use Rattle.std.proofs.lemmas.List.Elements.{All-map}
-use Rattle.tre_trace.specs.Reading.{Reading, Grows}
+use Rattle.tre_trace.specs.Reading.{Reading}
+use Rattle.tre_feed.specs.Growth.{Grows}
 use Rattle.tre_trace.specs.Trace.{IsTrace}
 use Rattle.tre_feed.specs.Leaders.{lasts_led, rows_led}
 use Rattle.tre_feed.specs.Members.{AreWithin, last_for, no_reading, reading_by, reading_for, row_for}

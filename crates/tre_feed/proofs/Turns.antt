@@ -1,7 +1,8 @@
 -- One reader of several read on, or wanted memory for it.
 use Rattle.std.proofs.Common.{◌≡◌, ◌≢◌, ◌∙◌, ◌⊎◌, ◌+◌, ◌<◌, ◌≤◌, ℕ, List, [], ◌++◌, All, map, length, get_or, set, take, None, Result, Ok, Err, OnOk, refl, sym, ap, subst, inl, inr, arith, append-nil}
 use Rattle.std.proofs.lemmas.List.{take_at, get_or-map, length-map}
-use Rattle.tre_trace.specs.Reading.{Reading, Adds}
+use Rattle.tre_trace.specs.Reading.{Reading}
+use Rattle.tre_feed.specs.Growth.{Adds}
 use Rattle.tre_trace.specs.declared.segment.Segment.{Segment}
 use Rattle.tre_feed.specs.Fed.{Changed, IsEndOfAll, IsToldBy, Kept, TakesOne, Took}
 use Rattle.tre_feed.specs.Leaders.{row_of}

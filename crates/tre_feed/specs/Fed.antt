@@ -1,7 +1,8 @@
 -- What a call does to one reader of several, and to each of them.
 use Rattle.std.specs.Prelude.{◌≡◌, ℕ, false, true, Bool, All, List, [], ◌∷◌, ◌++◌, length, take, None, Some, Result, Ok, Err}
-use Rattle.tre_trace.specs.Reading.{Reading, Adds, AddsSome}
+use Rattle.tre_trace.specs.Reading.{Reading}
 use Rattle.tre_trace.specs.declared.segment.Segment.{Segment}
+use Rattle.tre_feed.specs.Growth.{Adds, AddsSome}
 use Rattle.tre_feed.specs.Outcome.{IsInputKind}
 use Rattle.tre_feed.specs.Leaders.{row_of}
 use Rattle.tre_feed.specs.Readings.{common}

@@ -28,6 +28,10 @@ reading_by view reading = record {
   fault = reading.fault;
 }
 
+-- What a view shows of a reading for its group.
+abbrev pub shown_reading : View → Reading → Reading
+shown_reading view reading = reading_by (Some view) reading
+
 -- which leader reads for a member, counted from 0
 abbrev pub leader_of : Member → ℕ
 leader_of member = member.leader

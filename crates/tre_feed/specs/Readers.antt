@@ -1,9 +1,10 @@
 -- Readers of one format, with the segments that each has read and nobody has taken.
 use Rattle.std.specs.Prelude.{◌≡◌, ℕ, ◌+◌, ◌≤◌, Bool, List, [], length, map, slice_index_or, All, None, Some, Result, Ok, Err}
-use Rattle.tre_trace.specs.Reading.{Reading}
+use Rattle.tre_trace.specs.Reading.{Reading, Recording, Vocabulary}
 use Rattle.tre_trace.specs.Trace.{Timeline, timeline_of}
 use Rattle.tre_trace.specs.declared.segment.Segment.{Segment}
 use Rattle.tre_trace.specs.declared.reader.TheConstants.{FED_MAX}
+use Rattle.tre_feed.specs.Asked.{asked_by, reading_asked}
 use Rattle.tre_feed.specs.Leaders.{ReadBytes, lasts_led, rows_led, terms_of}
 use Rattle.tre_feed.specs.Members.{last_for, reading_for, row_for}
 use Rattle.tre_feed.specs.Outcome.{IsInputKind}
@@ -28,6 +29,12 @@ abbrev pub readings_in : {R Terms : Type 0} → (Terms → Bool → List ℕ →
 readings_in reading terms readers = λ closed bytes.
     map (reading_for (readings_by reading (groups_in terms readers) closed bytes))
     readers.members.items
+
+-- So it is where each reads by what bytes say for all, and by its names.
+abbrev pub readings_asked : {R Terms : Type 0} → (Terms → Bool → List ℕ → Recording) →
+    (R → Vocabulary) → (R → Terms) → Readers R → Bool → List ℕ → List Reading
+readings_asked recording names terms readers =
+    readings_in (reading_asked recording) (asked_by names terms) readers
 
 -- The segments of each that nobody has taken.
 abbrev pub rows_of : {R : Type 0} → Readers R → List (List Segment)

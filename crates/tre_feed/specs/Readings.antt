@@ -1,15 +1,24 @@
 -- What the bytes of an input say for each of several readers.
 use Rattle.std.specs.Prelude.{◌≡◌, ℕ, Bool, List, [], ◌∷◌, length, map, All, Option, None, IfSome}
 use Rattle.std.specs.Io.KnownBytes.{Consumes}
-use Rattle.tre_parts.specs.Alike.{AreAlike}
-use Rattle.tre_trace.specs.Reading.{Reading, Adds}
+use Rattle.tre_trace.specs.Reading.{Reading}
 use Rattle.tre_trace.specs.declared.segment.Segment.{Segment}
+use Rattle.tre_feed.specs.Growth.{Adds}
 use Rattle.tre_feed.specs.Outcome.{Outcome, reading_within, outcome_of}
 
 -- The readings of the bytes, closed or not yet: one for each of these terms.
 abbrev pub readings_by : {Terms : Type 0} → (Terms → Bool → List ℕ → Reading) → List Terms → Bool →
     List ℕ → List Reading
 readings_by reading all closed bytes = map (λ terms. reading terms closed bytes) all
+
+-- how long each of the segments takes
+abbrev pub lengths_of : List Segment → List ℕ
+lengths_of segments = map (λ segment. segment.len) segments
+
+-- Both have the same fault, and as many segments, each as long as the other's.
+pub record AreAlike (one other : Reading) : Type 0 where
+  pub fault : one.fault ≡ other.fault
+  pub lengths : lengths_of one.segments ≡ lengths_of other.segments
 
 -- One serves for what they have in common: their first fault, and how many segments they have.
 abbrev pub common : List Reading → Reading

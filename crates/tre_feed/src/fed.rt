@@ -1,6 +1,7 @@
 // One reader, and what it has read.
 ghost use Rattle.std.specs.Prelude.{◌≡◌, ℕ, ◌+◌, ◌≤◌, List, ◌++◌, [], length, false, true, OnOk};
 ghost use Rattle.tre_trace.specs.declared.reader.TheConstants.{FED_MAX};
+ghost use Rattle.tre_feed.specs.Asked.{asked_by, reading_asked};
 ghost use Rattle.tre_feed.specs.Fed.{IsOfReader, TakesOne};
 
 use crate::fault::FeedFault;
@@ -37,10 +38,12 @@ impl<R: TraceReader + Drop> Fed<R> {
             OnOk result (R.represents self.new.reader (bytes ++ piece.now)) }
         ensures takes { (bytes : List ℕ) → R.represents self.old.reader bytes →
             TakesOne self.old.segments.items self.new.segments.items
-            (R.reading (R.terms self.old.reader) false bytes)
-            (R.reading (R.terms self.old.reader) false (bytes ++ piece.now)) result }
+            (reading_asked R.recording (asked_by R.names R.terms self.old.reader) false bytes)
+            (reading_asked R.recording (asked_by R.names R.terms self.old.reader) false
+            (bytes ++ piece.now)) result }
         ensures of_reader { IsOfReader result }
-        ensures same_terms { R.terms self.new.reader ≡ R.terms self.old.reader }
+        ensures same_terms { asked_by R.names R.terms self.new.reader
+            ≡ asked_by R.names R.terms self.old.reader }
     {
         self.reader.feed(piece, &mut self.segments)?;
         Ok(())
@@ -49,13 +52,16 @@ impl<R: TraceReader + Drop> Fed<R> {
     // Tells the end.
     pub fn finish(&mut self) -> Result<(), FeedFault>
         ensures last { (bytes : List ℕ) → R.represents self.old.reader bytes →
-            OnOk result (self.new.last ≡ (R.reading (R.terms self.old.reader) true bytes).last) }
+            OnOk result (self.new.last ≡ (reading_asked R.recording
+            (asked_by R.names R.terms self.old.reader) true bytes).last) }
         ensures takes { (bytes : List ℕ) → R.represents self.old.reader bytes →
             TakesOne self.old.segments.items self.new.segments.items
-            (R.reading (R.terms self.old.reader) false bytes)
-            (R.reading (R.terms self.old.reader) true bytes) result }
+            (reading_asked R.recording (asked_by R.names R.terms self.old.reader) false bytes)
+            (reading_asked R.recording (asked_by R.names R.terms self.old.reader) true bytes)
+            result }
         ensures of_reader { IsOfReader result }
-        ensures same_terms { R.terms self.new.reader ≡ R.terms self.old.reader }
+        ensures same_terms { asked_by R.names R.terms self.new.reader
+            ≡ asked_by R.names R.terms self.old.reader }
     {
         self.last = self.reader.finish(&mut self.segments)?;
         Ok(())

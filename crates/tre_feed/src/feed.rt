@@ -4,7 +4,7 @@ ghost use Rattle.std.specs.Io.KnownBytes.{Consumes, IsAtEnd, Keeps};
 ghost use Rattle.tre_trace.specs.declared.reader.TheConstants.{FED_MAX};
 ghost use Rattle.tre_feed.specs.Feeding.{EndsTurn, HasRead, IsFed};
 ghost use Rattle.tre_feed.specs.Input.{HasReadCause};
-ghost use Rattle.tre_feed.specs.Readers.{HaveRoom, WereFed, WereFedAtMost, lasts_of, readings_in, rows_of};
+ghost use Rattle.tre_feed.specs.Readers.{HaveRoom, WereFed, WereFedAtMost, lasts_of, readings_asked, rows_of};
 ghost use Rattle.tre_feed.specs.Readings.{AddsEach, AgreeAlways, AreLevel};
 ghost use Rattle.tre_feed.specs.Piece.{StopsPiece};
 ghost use Rattle.tre_feed.specs.declared.TheConstants.{PIECE};
@@ -54,7 +54,7 @@ fn feed_piece<S: Source, R: TraceReader + Drop>(
     requires opened { IsTrue (S.opened input.old) }
     requires room { 0 < length buffer.old }
     requires fits { HaveRoom R.fed_of readers.old allowed }
-    requires alike { AgreeAlways (readings_in R.reading R.terms readers.old) }
+    requires alike { AgreeAlways (readings_asked R.recording R.names R.terms readers.old) }
     ensures taken { IfOk result (λ count.
         Consumes (S.left input.old) (S.left input.new) (take count buffer.new)) }
     ensures within { IfOk result (λ count. count ≤ length buffer.new) }
@@ -64,17 +64,17 @@ fn feed_piece<S: Source, R: TraceReader + Drop>(
         (bytes ++ take allowed (take count buffer.new))) }
     ensures adds { (bytes : List ℕ) → WereFed R.represents readers.old bytes →
         IfOk result (λ count. AddsEach (rows_of readers.old) (rows_of readers.new)
-        (readings_in R.reading R.terms readers.old false bytes)
-        (readings_in R.reading R.terms readers.old false
+        (readings_asked R.recording R.names R.terms readers.old false bytes)
+        (readings_asked R.recording R.names R.terms readers.old false
         (bytes ++ take allowed (take count buffer.new)))) }
     ensures stops { (bytes : List ℕ) → WereFed R.represents readers.old bytes →
-        IfErr result (StopsPiece (readings_in R.reading R.terms readers.old) allowed
+        IfErr result (StopsPiece (readings_asked R.recording R.names R.terms readers.old) allowed
         (length buffer.old) bytes (S.left input.old) (S.left input.new) (rows_of readers.old)
         (rows_of readers.new)) }
     ensures level { (bytes : List ℕ) → WereFed R.represents readers.old bytes →
         AreLevel (rows_of readers.new) }
-    ensures same { readings_in R.reading R.terms readers.new
-        ≡ readings_in R.reading R.terms readers.old }
+    ensures same { readings_asked R.recording R.names R.terms readers.new
+        ≡ readings_asked R.recording R.names R.terms readers.old }
     ensures length { length buffer.new ≡ length buffer.old }
     ensures finds { Keeps (S.found input.new) (S.left input.old) }
     ensures cause { HasReadCause (S.faults input.old) (S.faults input.new) result }
@@ -101,24 +101,24 @@ fn feed_next<S: Source, R: TraceReader + Drop>(
     requires fed { WereFedAtMost R.fed_of readers.old taken.old }
     requires room { 0 < length buffer.old }
     requires short { length buffer.old ≤ PIECE }
-    requires alike { AgreeAlways (readings_in R.reading R.terms readers.old) }
+    requires alike { AgreeAlways (readings_asked R.recording R.names R.terms readers.old) }
     ensures read { (file : Option (List ℕ)) (bytes : List ℕ) →
         IsFed (WereFed R.represents readers.old) limit file (S.left input.old)
         (S.found input.old) taken.old bytes →
-        HasRead (readings_in R.reading R.terms readers.old) limit file
+        HasRead (readings_asked R.recording R.names R.terms readers.old) limit file
         (S.left input.new) (S.found input.new) bytes (rows_of readers.old)
         (rows_of readers.new) result }
     ensures ends { (file : Option (List ℕ)) (bytes : List ℕ) →
         IsFed (WereFed R.represents readers.old) limit file (S.left input.old)
         (S.found input.old) taken.old bytes →
         EndsTurn (WereFed R.represents readers.new)
-        (readings_in R.reading R.terms readers.old) limit file (S.left input.new)
+        (readings_asked R.recording R.names R.terms readers.old) limit file (S.left input.new)
         (S.found input.new) taken.new bytes (rows_of readers.old) (rows_of readers.new)
         (lasts_of readers.new) result }
     ensures rises { IfOk result (λ more. IsTrue more → taken.old < taken.new) }
     ensures few { IfOk result (λ more. IsTrue more → taken.new ≤ limit + 1) }
-    ensures same { readings_in R.reading R.terms readers.new
-        ≡ readings_in R.reading R.terms readers.old }
+    ensures same { readings_asked R.recording R.names R.terms readers.new
+        ≡ readings_asked R.recording R.names R.terms readers.old }
     ensures length { length buffer.new ≡ length buffer.old }
     ensures cause { HasReadCause (S.faults input.old) (S.faults input.new) result }
     ensures sound { IsTrue (S.sound input.old) → IsErrOf result FeedFault.Read → ⊥ }
@@ -205,25 +205,25 @@ impl Feed {
     ) -> Result<bool, FeedFault>
         requires opened { IsTrue (S.opened input.old) }
         requires fed { WereFedAtMost R.fed_of readers.old self.old.taken }
-        requires alike { AgreeAlways (readings_in R.reading R.terms readers.old) }
+        requires alike { AgreeAlways (readings_asked R.recording R.names R.terms readers.old) }
         ensures read { (file : Option (List ℕ)) (bytes : List ℕ) →
             IsFed (WereFed R.represents readers.old) self.old.limit file (S.left input.old)
             (S.found input.old) self.old.taken bytes →
-            HasRead (readings_in R.reading R.terms readers.old) self.old.limit file
+            HasRead (readings_asked R.recording R.names R.terms readers.old) self.old.limit file
             (S.left input.new) (S.found input.new) bytes (rows_of readers.old)
             (rows_of readers.new) result }
         ensures ends { (file : Option (List ℕ)) (bytes : List ℕ) →
             IsFed (WereFed R.represents readers.old) self.old.limit file (S.left input.old)
             (S.found input.old) self.old.taken bytes →
             EndsTurn (WereFed R.represents readers.new)
-            (readings_in R.reading R.terms readers.old) self.old.limit file
+            (readings_asked R.recording R.names R.terms readers.old) self.old.limit file
             (S.left input.new) (S.found input.new) self.new.taken bytes (rows_of readers.old)
             (rows_of readers.new) (lasts_of readers.new) result }
         ensures limit { self.new.limit ≡ self.old.limit }
         ensures rises { IfOk result (λ more. IsTrue more → self.old.taken < self.new.taken) }
         ensures few { IfOk result (λ more. IsTrue more → self.new.taken ≤ self.new.limit + 1) }
-        ensures same { readings_in R.reading R.terms readers.new
-            ≡ readings_in R.reading R.terms readers.old }
+        ensures same { readings_asked R.recording R.names R.terms readers.new
+            ≡ readings_asked R.recording R.names R.terms readers.old }
         ensures cause { HasReadCause (S.faults input.old) (S.faults input.new) result }
         ensures sound { IsTrue (S.sound input.old) → IsErrOf result FeedFault.Read → ⊥ }
         ensures same_opened { S.opened input.new ≡ S.opened input.old }

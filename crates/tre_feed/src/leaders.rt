@@ -1,6 +1,7 @@
 // The readers that read for all members.
 ghost use Rattle.std.specs.Prelude.{◌≡◌, ◌≢◌, ◌↔◌, ℕ, ◌+◌, ◌<◌, ◌≤◌, ◌++◌, ◌∷◌, [], List, All, map, length, set, slice_index_or, false, true, Err, IsTrue, OnOk, OnErr, IfOk};
 ghost use Rattle.tre_trace.specs.declared.reader.TheConstants.{FED_MAX};
+ghost use Rattle.tre_feed.specs.Asked.{asked_by, reading_asked};
 ghost use Rattle.tre_feed.specs.Fed.{Changed, IsCutTo, IsEndOfAll, IsOfReader, Kept, TookEnd, TookPiece};
 ghost use Rattle.tre_feed.specs.Leaders.{AreNew, WereLed, lasts_led, rows_led, terms_of};
 ghost use Rattle.tre_feed.specs.Readers.{TakesIn, no_segment};
@@ -23,7 +24,7 @@ impl<R: TraceReader + Drop> Leaders<R> {
     // No reader yet.
     pub fn new(alloc: Global) -> Leaders<R>
         ensures fresh { AreNew R.represents result }
-        ensures terms { terms_of R.terms result ≡ [] }
+        ensures terms { terms_of (asked_by R.names R.terms) result ≡ [] }
     {
         Leaders {
             each: Vec::new(alloc),
@@ -35,8 +36,9 @@ impl<R: TraceReader + Drop> Leaders<R> {
         requires others { AreNew R.represents self.old }
         requires fresh { R.represents reader [] }
         ensures fresh { AreNew R.represents self.new }
-        ensures terms { OnOk result (terms_of R.terms self.new
-            ≡ terms_of R.terms self.old ++ R.terms reader ∷ []) }
+        ensures terms { OnOk result (terms_of (asked_by R.names R.terms) self.new
+            ≡ terms_of (asked_by R.names R.terms) self.old
+            ++ asked_by R.names R.terms reader ∷ []) }
         ensures same { OnErr result (self.new.each.items ≡ self.old.each.items) }
     {
         self.each.push(Fed::new(alloc, reader))?;
@@ -113,7 +115,8 @@ impl<R: TraceReader + Drop> Leaders<R> {
         ensures fed { (bytes : List ℕ) → WereLed R.represents self.old bytes →
             WereLed R.represents self.new bytes }
         ensures lasts { lasts_led self.new ≡ lasts_led self.old }
-        ensures terms { terms_of R.terms self.new ≡ terms_of R.terms self.old }
+        ensures terms { terms_of (asked_by R.names R.terms) self.new
+            ≡ terms_of (asked_by R.names R.terms) self.old }
     {
         cut_each(&mut self.each, 0);
     }
@@ -123,17 +126,21 @@ impl<R: TraceReader + Drop> Leaders<R> {
     pub fn feed(&mut self, piece: &[u8]) -> Result<(), FeedFault>
         requires room { All (λ fed. R.fed_of fed.reader + length piece.now ≤ FED_MAX)
             self.old.each.items }
-        requires alike { AgreeAlways (readings_by R.reading (terms_of R.terms self.old)) }
+        requires alike { AgreeAlways (readings_by (reading_asked R.recording)
+            (terms_of (asked_by R.names R.terms) self.old)) }
         ensures goes_on { (bytes : List ℕ) → WereLed R.represents self.old bytes →
             OnOk result (WereLed R.represents self.new (bytes ++ piece.now)) }
         ensures takes { (bytes : List ℕ) → WereLed R.represents self.old bytes →
             TakesIn (rows_led self.old) (rows_led self.new)
-            (readings_by R.reading (terms_of R.terms self.old) false bytes)
-            (readings_by R.reading (terms_of R.terms self.old) false (bytes ++ piece.now)) result }
+            (readings_by (reading_asked R.recording) (terms_of (asked_by R.names R.terms) self.old)
+            false bytes)
+            (readings_by (reading_asked R.recording) (terms_of (asked_by R.names R.terms) self.old)
+            false (bytes ++ piece.now)) result }
         ensures level { (bytes : List ℕ) → WereLed R.represents self.old bytes →
             AreLevel (rows_led self.new) }
         ensures of_reader { IsOfReader result }
-        ensures terms { terms_of R.terms self.new ≡ terms_of R.terms self.old }
+        ensures terms { terms_of (asked_by R.names R.terms) self.new
+            ≡ terms_of (asked_by R.names R.terms) self.old }
     {
         let waiting = self.waiting();
         let outcome = feed_each(&mut self.each, piece);
@@ -147,18 +154,23 @@ impl<R: TraceReader + Drop> Leaders<R> {
     // Tells all of them the end, also behind one that has a fault, since all have the same. Where
     // there is no memory for one, no segment is put behind those that wait.
     pub fn finish(&mut self) -> Result<(), FeedFault>
-        requires alike { AgreeAlways (readings_by R.reading (terms_of R.terms self.old)) }
+        requires alike { AgreeAlways (readings_by (reading_asked R.recording)
+            (terms_of (asked_by R.names R.terms) self.old)) }
         ensures takes { (bytes : List ℕ) → WereLed R.represents self.old bytes →
             TakesIn (rows_led self.old) (rows_led self.new)
-            (readings_by R.reading (terms_of R.terms self.old) false bytes)
-            (readings_by R.reading (terms_of R.terms self.old) true bytes) result }
+            (readings_by (reading_asked R.recording) (terms_of (asked_by R.names R.terms) self.old)
+            false bytes)
+            (readings_by (reading_asked R.recording) (terms_of (asked_by R.names R.terms) self.old)
+            true bytes) result }
         ensures lasts { (bytes : List ℕ) → WereLed R.represents self.old bytes →
             OnOk result (lasts_led self.new ≡ map (λ reading. reading.last)
-            (readings_by R.reading (terms_of R.terms self.old) true bytes)) }
+            (readings_by (reading_asked R.recording) (terms_of (asked_by R.names R.terms) self.old)
+            true bytes)) }
         ensures level { (bytes : List ℕ) → WereLed R.represents self.old bytes →
             AreLevel (rows_led self.new) }
         ensures of_reader { IsOfReader result }
-        ensures terms { terms_of R.terms self.new ≡ terms_of R.terms self.old }
+        ensures terms { terms_of (asked_by R.names R.terms) self.new
+            ≡ terms_of (asked_by R.names R.terms) self.old }
     {
         let waiting = self.waiting();
         let outcome = finish_each(&mut self.each);
@@ -173,14 +185,17 @@ impl<R: TraceReader + Drop> Leaders<R> {
 // Feeds a piece to each, but to none behind one that wants memory.
 fn feed_each<R: TraceReader + Drop>(each: &mut [Fed<R>], piece: &[u8]) -> Result<(), FeedFault>
     requires room { All (λ fed. R.fed_of fed.reader + length piece.now ≤ FED_MAX) each.old }
-    requires alike { AgreeAlways (readings_by R.reading (map (λ fed. R.terms fed.reader)
+    requires alike { AgreeAlways (readings_by (reading_asked R.recording)
+        (map (λ fed. asked_by R.names R.terms fed.reader)
         each.old)) }
     ensures of_reader { IsOfReader result }
-    ensures kept { Changed (Kept R.terms R.represents) each.old each.new }
+    ensures kept { Changed (Kept (asked_by R.names R.terms) R.represents) each.old each.new }
     ensures took { (result ≢ Err FeedFault.Memory) →
-        Changed (TookPiece R.terms R.represents R.reading piece.now) each.old each.new }
+        Changed (TookPiece (asked_by R.names R.terms) R.represents (reading_asked R.recording)
+        piece.now) each.old each.new }
     ensures told { (bytes : List ℕ) → All (λ fed. R.represents fed.reader bytes) each.old →
-        IsEndOfAll (readings_by R.reading (map (λ fed. R.terms fed.reader) each.old) false
+        IsEndOfAll (readings_by (reading_asked R.recording)
+        (map (λ fed. asked_by R.names R.terms fed.reader) each.old) false
         (bytes ++ piece.now)) result }
 {
     let mut outcome = Ok(());
@@ -195,14 +210,17 @@ fn feed_each<R: TraceReader + Drop>(each: &mut [Fed<R>], piece: &[u8]) -> Result
 
 // Tells each the end, but none behind one that wants memory.
 fn finish_each<R: TraceReader + Drop>(each: &mut [Fed<R>]) -> Result<(), FeedFault>
-    requires alike { AgreeAlways (readings_by R.reading (map (λ fed. R.terms fed.reader)
+    requires alike { AgreeAlways (readings_by (reading_asked R.recording)
+        (map (λ fed. asked_by R.names R.terms fed.reader)
         each.old)) }
     ensures of_reader { IsOfReader result }
-    ensures kept { Changed (Kept R.terms R.represents) each.old each.new }
+    ensures kept { Changed (Kept (asked_by R.names R.terms) R.represents) each.old each.new }
     ensures took { (result ≢ Err FeedFault.Memory) →
-        Changed (TookEnd R.terms R.represents R.reading) each.old each.new }
+        Changed (TookEnd (asked_by R.names R.terms) R.represents (reading_asked R.recording))
+        each.old each.new }
     ensures told { (bytes : List ℕ) → All (λ fed. R.represents fed.reader bytes) each.old →
-        IsEndOfAll (readings_by R.reading (map (λ fed. R.terms fed.reader) each.old) true bytes)
+        IsEndOfAll (readings_by (reading_asked R.recording)
+        (map (λ fed. asked_by R.names R.terms fed.reader) each.old) true bytes)
         result }
 {
     let mut outcome = Ok(());

@@ -25,19 +25,20 @@ pub struct Readers<R: Drop> {
 
 impl<R: TraceReader + Drop> Readers<R> {
     ghost use Rattle.std.specs.Prelude.{◌≡◌, ◌∷◌, ◌++◌, ◌+◌, ◌<◌, ℕ, Bool, List, [], All, map, slice_get, false, true, IfOk, IfSome, OnOk, OnErr};
-    ghost use Rattle.tre_share.specs.Shown.{shown_reading};
+    ghost use Rattle.tre_feed.specs.Members.{shown_reading};
+    ghost use Rattle.tre_feed.specs.Asked.{asked_by, reading_asked};
     ghost use Rattle.tre_trace.specs.Trace.{IsTrace};
     ghost use Rattle.tre_feed.specs.Fed.{IsOfReader};
-    ghost use Rattle.tre_feed.specs.Readers.{AreFresh, HaveRoom, TakesIn, WereFed, column, groups_in, how_many, lasts_of, readings_in, rows_of, traces_of};
+    ghost use Rattle.tre_feed.specs.Readers.{AreFresh, HaveRoom, TakesIn, WereFed, column, groups_in, how_many, lasts_of, readings_asked, rows_of, traces_of};
     ghost use Rattle.tre_feed.specs.Readings.{AgreeAlways, AreLevel, count_of};
 
     /// No reader yet.
     pub fn new(alloc: Global) -> Readers<R>
         ensures fresh { AreFresh R.represents result }
         ensures readings { (closed : Bool) (bytes : List ℕ) →
-            readings_in R.reading R.terms result closed bytes ≡ [] }
+            readings_asked R.recording R.names R.terms result closed bytes ≡ [] }
         ensures count { how_many result ≡ 0 }
-        ensures groups { groups_in R.terms result ≡ [] }
+        ensures groups { groups_in (asked_by R.names R.terms) result ≡ [] }
     {
         Readers {
             leaders: Leaders::new(alloc),
@@ -52,16 +53,17 @@ impl<R: TraceReader + Drop> Readers<R> {
         requires fresh { R.represents reader [] }
         ensures fresh { AreFresh R.represents self.new }
         ensures readings { OnOk result ((closed : Bool) (bytes : List ℕ) →
-            readings_in R.reading R.terms self.new closed bytes
-            ≡ readings_in R.reading R.terms self.old closed bytes
-            ++ R.reading (R.terms reader) closed bytes ∷ []) }
+            readings_asked R.recording R.names R.terms self.new closed bytes
+            ≡ readings_asked R.recording R.names R.terms self.old closed bytes
+            ++ reading_asked R.recording (asked_by R.names R.terms reader) closed bytes ∷ []) }
         ensures count { OnOk result (how_many self.new ≡ how_many self.old + 1) }
-        ensures groups { OnOk result (groups_in R.terms self.new
-            ≡ groups_in R.terms self.old ++ R.terms reader ∷ []) }
-        ensures same_groups { OnErr result (groups_in R.terms self.new
-            ≡ groups_in R.terms self.old) }
-        ensures same { OnErr result (readings_in R.reading R.terms self.new
-            ≡ readings_in R.reading R.terms self.old) }
+        ensures groups { OnOk result (groups_in (asked_by R.names R.terms) self.new
+            ≡ groups_in (asked_by R.names R.terms) self.old
+            ++ asked_by R.names R.terms reader ∷ []) }
+        ensures same_groups { OnErr result (groups_in (asked_by R.names R.terms) self.new
+            ≡ groups_in (asked_by R.names R.terms) self.old) }
+        ensures same { OnErr result (readings_asked R.recording R.names R.terms self.new
+            ≡ readings_asked R.recording R.names R.terms self.old) }
         ensures same_count { OnErr result (how_many self.new ≡ how_many self.old) }
     {
         self.push_leader(alloc, reader, None)
@@ -74,16 +76,18 @@ impl<R: TraceReader + Drop> Readers<R> {
         requires fresh { R.represents reader [] }
         ensures fresh { AreFresh R.represents self.new }
         ensures readings { OnOk result ((closed : Bool) (bytes : List ℕ) →
-            readings_in R.reading R.terms self.new closed bytes
-            ≡ readings_in R.reading R.terms self.old closed bytes
-            ++ shown_reading view (R.reading (R.terms reader) closed bytes) ∷ []) }
+            readings_asked R.recording R.names R.terms self.new closed bytes
+            ≡ readings_asked R.recording R.names R.terms self.old closed bytes
+            ++ shown_reading view (reading_asked R.recording (asked_by R.names R.terms reader)
+            closed bytes) ∷ []) }
         ensures count { OnOk result (how_many self.new ≡ how_many self.old + 1) }
-        ensures groups { OnOk result (groups_in R.terms self.new
-            ≡ groups_in R.terms self.old ++ R.terms reader ∷ []) }
-        ensures same_groups { OnErr result (groups_in R.terms self.new
-            ≡ groups_in R.terms self.old) }
-        ensures same { OnErr result (readings_in R.reading R.terms self.new
-            ≡ readings_in R.reading R.terms self.old) }
+        ensures groups { OnOk result (groups_in (asked_by R.names R.terms) self.new
+            ≡ groups_in (asked_by R.names R.terms) self.old
+            ++ asked_by R.names R.terms reader ∷ []) }
+        ensures same_groups { OnErr result (groups_in (asked_by R.names R.terms) self.new
+            ≡ groups_in (asked_by R.names R.terms) self.old) }
+        ensures same { OnErr result (readings_asked R.recording R.names R.terms self.new
+            ≡ readings_asked R.recording R.names R.terms self.old) }
         ensures same_count { OnErr result (how_many self.new ≡ how_many self.old) }
     {
         self.push_leader(alloc, reader, Some(view))
@@ -93,17 +97,19 @@ impl<R: TraceReader + Drop> Readers<R> {
     /// view of it.
     pub fn push_view(&mut self, group: usize, view: View) -> Result<(), AllocError>
         requires others { AreFresh R.represents self.old }
-        requires group { group < length (groups_in R.terms self.old) }
+        requires group { group < length (groups_in (asked_by R.names R.terms) self.old) }
         ensures fresh { AreFresh R.represents self.new }
-        ensures readings { OnOk result (IfSome (slice_get (groups_in R.terms self.old) group)
+        ensures readings { OnOk result (IfSome
+            (slice_get (groups_in (asked_by R.names R.terms) self.old) group)
             (λ terms. (closed : Bool) (bytes : List ℕ) →
-            readings_in R.reading R.terms self.new closed bytes
-            ≡ readings_in R.reading R.terms self.old closed bytes
-            ++ shown_reading view (R.reading terms closed bytes) ∷ [])) }
+            readings_asked R.recording R.names R.terms self.new closed bytes
+            ≡ readings_asked R.recording R.names R.terms self.old closed bytes
+            ++ shown_reading view (reading_asked R.recording terms closed bytes) ∷ [])) }
         ensures count { OnOk result (how_many self.new ≡ how_many self.old + 1) }
-        ensures same_groups { groups_in R.terms self.new ≡ groups_in R.terms self.old }
-        ensures same { OnErr result (readings_in R.reading R.terms self.new
-            ≡ readings_in R.reading R.terms self.old) }
+        ensures same_groups { groups_in (asked_by R.names R.terms) self.new
+            ≡ groups_in (asked_by R.names R.terms) self.old }
+        ensures same { OnErr result (readings_asked R.recording R.names R.terms self.new
+            ≡ readings_asked R.recording R.names R.terms self.old) }
         ensures same_count { OnErr result (how_many self.new ≡ how_many self.old) }
     {
         self.members.push(Member {
@@ -123,12 +129,13 @@ impl<R: TraceReader + Drop> Readers<R> {
         requires others { AreFresh R.represents self.old }
         requires fresh { R.represents reader [] }
         ensures fresh { AreFresh R.represents self.new }
-        ensures groups { OnOk result (groups_in R.terms self.new
-            ≡ groups_in R.terms self.old ++ R.terms reader ∷ []) }
+        ensures groups { OnOk result (groups_in (asked_by R.names R.terms) self.new
+            ≡ groups_in (asked_by R.names R.terms) self.old
+            ++ asked_by R.names R.terms reader ∷ []) }
         ensures members { OnOk result (self.new.members.items ≡ self.old.members.items
             ++ record { leader = length self.old.leaders.each.items; view = view } ∷ []) }
-        ensures same_groups { OnErr result (groups_in R.terms self.new
-            ≡ groups_in R.terms self.old) }
+        ensures same_groups { OnErr result (groups_in (asked_by R.names R.terms) self.new
+            ≡ groups_in (asked_by R.names R.terms) self.old) }
         ensures same_members { OnErr result (self.new.members.items
             ≡ self.old.members.items) }
     {
@@ -152,7 +159,7 @@ impl<R: TraceReader + Drop> Readers<R> {
 
     /// How many groups there are, for each of which the bytes are read once.
     pub fn groups(&self) -> usize
-        ensures { result ≡ length (groups_in R.terms self.now) }
+        ensures { result ≡ length (groups_in (asked_by R.names R.terms) self.now) }
     {
         self.leaders.len()
     }
@@ -198,8 +205,8 @@ impl<R: TraceReader + Drop> Readers<R> {
         ensures fed { (bytes : List ℕ) → WereFed R.represents self.old bytes →
             WereFed R.represents self.new bytes }
         ensures lasts { lasts_of self.new ≡ lasts_of self.old }
-        ensures same { readings_in R.reading R.terms self.new
-            ≡ readings_in R.reading R.terms self.old }
+        ensures same { readings_asked R.recording R.names R.terms self.new
+            ≡ readings_asked R.recording R.names R.terms self.old }
     {
         self.leaders.clear();
     }
@@ -208,18 +215,19 @@ impl<R: TraceReader + Drop> Readers<R> {
     /// Where there is no memory for one, no segment is put behind those that wait.
     pub fn feed(&mut self, piece: &[u8]) -> Result<(), FeedFault>
         requires room { HaveRoom R.fed_of self.old (length piece.now) }
-        requires alike { AgreeAlways (readings_in R.reading R.terms self.old) }
+        requires alike { AgreeAlways (readings_asked R.recording R.names R.terms self.old) }
         ensures goes_on { (bytes : List ℕ) → WereFed R.represents self.old bytes →
             OnOk result (WereFed R.represents self.new (bytes ++ piece.now)) }
         ensures takes { (bytes : List ℕ) → WereFed R.represents self.old bytes →
             TakesIn (rows_of self.old) (rows_of self.new)
-            (readings_in R.reading R.terms self.old false bytes)
-            (readings_in R.reading R.terms self.old false (bytes ++ piece.now)) result }
+            (readings_asked R.recording R.names R.terms self.old false bytes)
+            (readings_asked R.recording R.names R.terms self.old false (bytes ++ piece.now))
+            result }
         ensures level { (bytes : List ℕ) → WereFed R.represents self.old bytes →
             AreLevel (rows_of self.new) }
         ensures of_reader { IsOfReader result }
-        ensures same { readings_in R.reading R.terms self.new
-            ≡ readings_in R.reading R.terms self.old }
+        ensures same { readings_asked R.recording R.names R.terms self.new
+            ≡ readings_asked R.recording R.names R.terms self.old }
     {
         self.leaders.feed(piece)
     }
@@ -227,19 +235,19 @@ impl<R: TraceReader + Drop> Readers<R> {
     /// Tells all of them the end, also behind one that has a fault, since all have the same. Where
     /// there is no memory for one, no segment is put behind those that wait.
     pub fn finish(&mut self) -> Result<(), FeedFault>
-        requires alike { AgreeAlways (readings_in R.reading R.terms self.old) }
+        requires alike { AgreeAlways (readings_asked R.recording R.names R.terms self.old) }
         ensures takes { (bytes : List ℕ) → WereFed R.represents self.old bytes →
             TakesIn (rows_of self.old) (rows_of self.new)
-            (readings_in R.reading R.terms self.old false bytes)
-            (readings_in R.reading R.terms self.old true bytes) result }
+            (readings_asked R.recording R.names R.terms self.old false bytes)
+            (readings_asked R.recording R.names R.terms self.old true bytes) result }
         ensures lasts { (bytes : List ℕ) → WereFed R.represents self.old bytes →
             OnOk result (lasts_of self.new ≡ map (λ reading. reading.last)
-            (readings_in R.reading R.terms self.old true bytes)) }
+            (readings_asked R.recording R.names R.terms self.old true bytes)) }
         ensures level { (bytes : List ℕ) → WereFed R.represents self.old bytes →
             AreLevel (rows_of self.new) }
         ensures of_reader { IsOfReader result }
-        ensures same { readings_in R.reading R.terms self.new
-            ≡ readings_in R.reading R.terms self.old }
+        ensures same { readings_asked R.recording R.names R.terms self.new
+            ≡ readings_asked R.recording R.names R.terms self.old }
     {
         self.leaders.finish()
     }

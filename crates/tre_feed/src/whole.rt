@@ -2,7 +2,7 @@
 ghost use Rattle.std.specs.Prelude.{◌≡◌, ◌+◌, ◌≤◌, [], All, false, IsTrue, IfOk, IfErr, IfSome};
 ghost use Rattle.tre_trace.specs.declared.reader.TheConstants.{FED_MAX};
 ghost use Rattle.tre_feed.specs.Input.{TakesAtMost, input_told};
-ghost use Rattle.tre_feed.specs.Readers.{AreFresh, readings_in};
+ghost use Rattle.tre_feed.specs.Readers.{AreFresh, readings_asked};
 ghost use Rattle.tre_feed.specs.Readings.{AgreeAlways};
 ghost use Rattle.tre_feed.specs.Whole.{IsWhole, StopsReading};
 
@@ -26,14 +26,14 @@ pub fn read_traces<S: Source, R: TraceReader + Drop>(
     requires fits { limit ≤ FED_MAX }
     requires fresh { AreFresh R.represents readers }
     requires nothing { All (λ reading. reading.segments ≡ [])
-        (readings_in R.reading R.terms readers false []) }
-    requires alike { AgreeAlways (readings_in R.reading R.terms readers) }
+        (readings_asked R.recording R.names R.terms readers false []) }
+    requires alike { AgreeAlways (readings_asked R.recording R.names R.terms readers) }
     ensures read { IfOk result (λ traces. IsWhole
-        (readings_in R.reading R.terms readers) limit
+        (readings_asked R.recording R.names R.terms readers) limit
         (input_told S.file_name S.file S.sound S.opened S.left S.found S.faults input.old
         input.new) traces.items) }
     ensures stops { IfErr result (StopsReading
-        (readings_in R.reading R.terms readers) limit name.now
+        (readings_asked R.recording R.names R.terms readers) limit name.now
         (input_told S.file_name S.file S.sound S.opened S.left S.found S.faults input.old
         input.new)) }
     ensures bounded { IsTrue (S.opened input.new) →

@@ -1,5 +1,5 @@
 -- Readers of different groups couldn't be one.
-use Rattle.std.proofs.Common.{◌≡◌, ◌≢◌, ◌∙◌, ℕ, ◌+◌, ◌<◌, ◌≤◌, ap, inl, inr, List, [], ◌∷◌, ◌++◌, length, map, get_or, sym, subst, arith}
+use Rattle.std.proofs.Common.{◌≡◌, ◌≢◌, ◌∙◌, ℕ, ◌+◌, ◌<◌, ◌≤◌, ap, inl, inr, List, [], ◌∷◌, ◌++◌, length, map, get_or, sym, arith}
 use Rattle.std.specs.Prelude.{All, AllPairs}
 use Rattle.std.proofs.lemmas.Bool.{cases_lt}
 use Rattle.std.proofs.lemmas.Grind.{get_or_default_zero}
@@ -8,8 +8,9 @@ use Rattle.std.proofs.lemmas.List.Elements.{All-push}
 use Rattle.std.proofs.lemmas.List.Quantifiers.{all_pairs_push}
 use Rattle.tre_feed.proofs.Members.{get_or-mapped}
 use Rattle.tre_share.specs.Shares.{AreApart, Exceed}
-use Rattle.tre_trace.specs.Reading.{Vocabulary}
-use Rattle.tre_group.specs.Begun.{AreFew, AreNumbers, group_at, no_names, terms_at}
+use Rattle.tre_trace.specs.Reading.{Vocabulary, no_names}
+use Rattle.tre_feed.specs.Asked.{Asked}
+use Rattle.tre_group.specs.Begun.{AreFew, AreNumbers, asked_as, asked_at, group_at}
 use Rattle.tre_group.proofs.Joining.{each_of}
 
 exceed_back : (one other : List (List ℕ)) → Exceed one other → Exceed other one
@@ -31,12 +32,12 @@ apart_at groups apart i j first second differ = elim (cases_lt i j) [
       (apart j i no_names (grind (arith, behind, differ)) first)
 ]
 
-pub few_of : {Terms : Type 0} (terms : Vocabulary → Terms) (groups : List Vocabulary)
-    (begun : List ℕ) (read : List Terms) → read ≡ terms_at terms groups begun
+pub few_of : {Terms : Type 0} (terms : Terms) (groups : List Vocabulary) (begun : List ℕ)
+    (read : List (Asked Terms)) → read ≡ asked_at terms groups begun
     → AllPairs AreApart groups → AreNumbers (length groups) begun → AreFew terms read
 few_of terms groups begun read are apart numbers = record {
   groups = map (group_at groups) begun;
-  are = are ∙ sym (each_of (group_at groups) terms begun);
+  are = are ∙ sym (each_of (group_at groups) (asked_as terms) begun);
   apart = λ i j d before within.
       let long : length (map (group_at groups) begun) ≡ length begun =
       length-map begun (group_at groups) in

@@ -4,20 +4,22 @@ use Rattle.std.specs.List.{AllZip}
 use Rattle.std.proofs.lemmas.List.{length-map}
 use Rattle.std.specs.Prelude.{IfSome}
 use Rattle.std.proofs.lemmas.Option.{get_or_from_slice_get, slice_get-get_or, slice_get_within}
+use Rattle.tre_feed.specs.Asked.{Asked, reading_asked}
+use Rattle.tre_feed.specs.Members.{shown_reading}
 use Rattle.tre_feed.proofs.Members.{get_or-mapped}
 use Rattle.tre_share.specs.Shares.{IsViewOf, Shows, group_of}
-use Rattle.tre_share.specs.Shown.{shown_reading}
 use Rattle.tre_share.specs.declared.view.View.{View}
-use Rattle.tre_trace.specs.Reading.{Reading, Vocabulary}
-use Rattle.tre_group.specs.Begun.{SeesAs, group_at, no_names, terms_at}
+use Rattle.tre_trace.specs.Reading.{Reading, Recording, Vocabulary, no_names, reading_for}
+use Rattle.tre_group.specs.Begun.{asked_as, asked_at, group_at}
+use Rattle.tre_group.proofs.Names.{shown-for}
 
 -- a group that has a reader is found by its place
-pub found_at : {Terms : Type 0} (terms : Vocabulary → Terms) (groups : List Vocabulary)
-    (begun : List ℕ) (place number : ℕ) → place < length begun
-    → get_or begun place number ≡ number
-    → slice_get (terms_at terms groups begun) place ≡ Some (terms (group_at groups number))
+pub found_at : {Terms : Type 0} (terms : Terms) (groups : List Vocabulary) (begun : List ℕ)
+    (place number : ℕ) → place < length begun → get_or begun place number ≡ number
+    → slice_get (asked_at terms groups begun) place
+    ≡ Some (asked_as terms (group_at groups number))
 found_at {Terms} terms groups begun place number below there =
-    let seen : ℕ → Terms = λ one. terms (group_at groups one) in
+    let seen : ℕ → Asked Terms = λ one. asked_as terms (group_at groups one) in
     slice_get-get_or (map seen begun) place (seen number)
     (subst (λ count. place < count) (sym (length-map begun seen)) below)
     ∙ ap Some (get_or-mapped seen begun place number (seen number) below ∙ ap seen there)
@@ -38,26 +40,27 @@ shown_in groups number group here view of_view asked is =
     subst (λ all. Shows asked all view) (sym same) is.shows
 
 -- One who shares a reader is told what a reader for its names alone would tell.
-pub shared_told : {Terms : Type 0} (terms : Vocabulary → Terms)
-    (reading : Terms → Bool → List ℕ → Reading) → SeesAs (λ names. reading (terms names))
-    → (groups : List Vocabulary) (begun : List ℕ) (place number : ℕ) → place < length begun
-    → get_or begun place number ≡ number → (view : View) → number ≡ group_of view
-    → (read : List Terms) → read ≡ terms_at terms groups begun
+pub shared_told : {Terms : Type 0} (recording : Terms → Bool → List ℕ → Recording)
+    (terms : Terms) (groups : List Vocabulary) (begun : List ℕ) (place number : ℕ)
+    → place < length begun → get_or begun place number ≡ number → (view : View)
+    → number ≡ group_of view → (read : List (Asked Terms)) → read ≡ asked_at terms groups begun
     → (old now : Bool → List ℕ → List Reading)
     → IfSome (slice_get read place) (λ one. (closed : Bool) (bytes : List ℕ) →
-    now closed bytes ≡ old closed bytes ++ shown_reading view (reading one closed bytes) ∷ [])
+    now closed bytes
+    ≡ old closed bytes ++ shown_reading view (reading_asked recording one closed bytes) ∷ [])
     → (asked : Vocabulary) → IsViewOf groups asked view → (closed : Bool) (bytes : List ℕ)
-    → now closed bytes ≡ old closed bytes ++ reading (terms asked) closed bytes ∷ []
-shared_told {Terms} terms reading sees groups begun place number below there view of_view read are
-    old now told asked is closed bytes =
-    let found : slice_get read place ≡ Some (terms is.all) =
-    ap (λ (all : List Terms). slice_get all place) are
+    → now closed bytes
+    ≡ old closed bytes ++ reading_for asked (recording terms closed bytes) ∷ []
+shared_told recording terms groups begun place number below there view of_view read are old now
+    told asked is closed bytes =
+    let found : slice_get read place ≡ Some (asked_as terms is.all) =
+    ap (λ all. slice_get all place) are
     ∙ (found_at terms groups begun place number below there
-    ∙ ap (λ names. Some (terms names))
+    ∙ ap (λ names. Some (asked_as terms names))
     (ap (group_at groups) of_view ∙ group_of_view groups asked view is)) in
     (rw found at told) closed bytes
     ∙ ap (λ (one : Reading). old closed bytes ++ one ∷ [])
-    (sym (sees asked is.all view is.shows closed bytes))
+    (shown-for asked is.all view is.shows (recording terms closed bytes))
 
 -- What the readers so far say is what the first of all are to say; the views of the others are
 -- left.

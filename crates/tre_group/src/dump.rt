@@ -1,12 +1,13 @@
 // The readers of a dump.
 ghost use Rattle.std.specs.Prelude.{◌≡◌, ◌<◌, ◌≤◌, ◌∷◌, ◌++◌, [], ℕ, Bool, List, length, map, IfOk, OnOk};
 ghost use Rattle.tre_decimal.specs.declared.TheConstants.{SCALE_MAX};
-ghost use Rattle.tre_feed.specs.Readers.{AreFresh, groups_in, readings_in};
-ghost use Rattle.tre_group.specs.Begun.{AreFew, AreNumbers, dump_terms, terms_at};
+ghost use Rattle.tre_feed.specs.Asked.{asked_by};
+ghost use Rattle.tre_feed.specs.Readers.{AreFresh, groups_in, readings_asked};
+ghost use Rattle.tre_group.specs.Begun.{AreFew, AreNumbers, asked_at, dump_terms};
 ghost use Rattle.tre_share.specs.Shares.{IsViewOf, group_of};
 ghost use Rattle.tre_syntax.specs.Pattern.{names_of};
-ghost use Rattle.tre_trace.specs.Reading.{Vocabulary};
-ghost use Rattle.tre_vcd.specs.VcdReading.{vcd_reading};
+ghost use Rattle.tre_trace.specs.Reading.{Vocabulary, reading_for};
+ghost use Rattle.tre_vcd.specs.VcdReading.{vcd_recording};
 
 use crate::begun::place_of;
 use crate::first::push_first;
@@ -15,7 +16,7 @@ use tre_feed::Readers;
 use tre_share::{Group, View, share};
 use tre_syntax::Pattern;
 use tre_trace::TraceReader;
-use tre_vcd::{TokenReader, VcdReader, laws};
+use tre_vcd::{TokenReader, VcdReader};
 
 /// Readers of a dump, which must declare the names of all patterns: one for each pattern. Patterns
 /// share one where it has room.
@@ -27,12 +28,13 @@ pub fn dump_readers(
     requires { scale ≤ SCALE_MAX }
     ensures fresh { IfOk result (AreFresh ⟦<VcdReader as TraceReader>⟧.represents) }
     ensures reads { IfOk result (λ readers. (closed : Bool) (bytes : List ℕ) →
-        readings_in ⟦<VcdReader as TraceReader>⟧.reading ⟦<VcdReader as TraceReader>⟧.terms
-        readers closed bytes ≡ map (λ pattern. vcd_reading
-        (dump_terms (map names_of patterns.now) scale (names_of pattern)) closed bytes)
-        patterns.now) }
+        readings_asked ⟦<VcdReader as TraceReader>⟧.recording
+        ⟦<VcdReader as TraceReader>⟧.names ⟦<VcdReader as TraceReader>⟧.terms readers
+        closed bytes ≡ map (λ pattern. reading_for (names_of pattern) (vcd_recording
+        (dump_terms (map names_of patterns.now) scale) closed bytes)) patterns.now) }
     ensures few { IfOk result (λ readers. AreFew (dump_terms (map names_of patterns.now) scale)
-        (groups_in ⟦<VcdReader as TraceReader>⟧.terms readers)) }
+        (groups_in (asked_by ⟦<VcdReader as TraceReader>⟧.names
+        ⟦<VcdReader as TraceReader>⟧.terms) readers)) }
 {
     let shares = share(alloc, patterns)?;
     let (groups, views) = shares.into_parts();
@@ -65,23 +67,26 @@ fn push_dump(
     requires scale { scale ≤ SCALE_MAX }
     requires within { group_of view < length groups.now }
     requires others { AreFresh ⟦<VcdReader as TraceReader>⟧.represents readers.old }
-    requires begun { groups_in ⟦<VcdReader as TraceReader>⟧.terms readers.old
-        ≡ terms_at (dump_terms (map names_of patterns.now) scale) groups.now begun.old.items }
+    requires begun { groups_in (asked_by ⟦<VcdReader as TraceReader>⟧.names
+        ⟦<VcdReader as TraceReader>⟧.terms) readers.old
+        ≡ asked_at (dump_terms (map names_of patterns.now) scale) groups.now begun.old.items }
     ensures fresh { OnOk result
         (AreFresh ⟦<VcdReader as TraceReader>⟧.represents readers.new) }
-    ensures begun { OnOk result (groups_in ⟦<VcdReader as TraceReader>⟧.terms readers.new
-        ≡ terms_at (dump_terms (map names_of patterns.now) scale) groups.now begun.new.items) }
+    ensures begun { OnOk result (groups_in (asked_by ⟦<VcdReader as TraceReader>⟧.names
+        ⟦<VcdReader as TraceReader>⟧.terms) readers.new
+        ≡ asked_at (dump_terms (map names_of patterns.now) scale) groups.now begun.new.items) }
     ensures numbers { AreNumbers (length groups.now) begun.old.items →
         OnOk result (AreNumbers (length groups.now) begun.new.items) }
     ensures readings { (asked : Vocabulary) → IsViewOf groups.now asked view →
         OnOk result ((closed : Bool) (bytes : List ℕ) →
-        readings_in ⟦<VcdReader as TraceReader>⟧.reading ⟦<VcdReader as TraceReader>⟧.terms
+        readings_asked ⟦<VcdReader as TraceReader>⟧.recording
+        ⟦<VcdReader as TraceReader>⟧.names ⟦<VcdReader as TraceReader>⟧.terms
         readers.new closed bytes
-        ≡ readings_in ⟦<VcdReader as TraceReader>⟧.reading
-        ⟦<VcdReader as TraceReader>⟧.terms readers.old closed bytes
-        ++ vcd_reading (dump_terms (map names_of patterns.now) scale asked) closed bytes ∷ []) }
+        ≡ readings_asked ⟦<VcdReader as TraceReader>⟧.recording
+        ⟦<VcdReader as TraceReader>⟧.names ⟦<VcdReader as TraceReader>⟧.terms
+        readers.old closed bytes ++ reading_for asked (vcd_recording
+        (dump_terms (map names_of patterns.now) scale) closed bytes) ∷ []) }
 {
-    laws::shared();
     let number = view.group();
     if let Some(place) = place_of(begun, number) {
         readers.push_view(place, view)?;
@@ -104,7 +109,9 @@ fn dump_reader(
     requires { scale ≤ SCALE_MAX }
     ensures fresh { IfOk result (λ reader. ⟦<VcdReader as TraceReader>⟧.represents reader []) }
     ensures terms { IfOk result (λ reader. ⟦<VcdReader as TraceReader>⟧.terms reader
-        ≡ dump_terms (map names_of patterns.now) scale group.now) }
+        ≡ dump_terms (map names_of patterns.now) scale) }
+    ensures names { IfOk result (λ reader. ⟦<VcdReader as TraceReader>⟧.names reader
+        ≡ group.now) }
 {
     let names = group.names().try_clone()?;
     let events = group.events().try_clone()?;

@@ -1,9 +1,9 @@
 // The first who reads of a group.
 ghost use Rattle.std.specs.Prelude.{◌≡◌, ◌∷◌, ◌++◌, [], ℕ, Bool, List, OnOk};
-ghost use Rattle.tre_feed.specs.Readers.{AreFresh, groups_in, readings_in};
-ghost use Rattle.tre_group.specs.Begun.{SeesAs};
+ghost use Rattle.tre_feed.specs.Asked.{asked_by};
+ghost use Rattle.tre_feed.specs.Readers.{AreFresh, groups_in, readings_asked};
 ghost use Rattle.tre_share.specs.Shares.{Shows};
-ghost use Rattle.tre_trace.specs.Reading.{Vocabulary};
+ghost use Rattle.tre_trace.specs.Reading.{Vocabulary, reading_for};
 
 use std::alloc::{AllocError, Global};
 use tre_feed::Readers;
@@ -22,15 +22,14 @@ pub(crate) fn push_first<R: TraceReader + Drop>(
     requires others { AreFresh R.represents readers.old }
     requires fresh { R.represents reader [] }
     ensures fresh { AreFresh R.represents readers.new }
-    ensures groups { OnOk result (groups_in R.terms readers.new
-        ≡ groups_in R.terms readers.old ++ R.terms reader ∷ []) }
-    ensures readings { (terms : Vocabulary → R.Terms) (asked : Vocabulary) →
-        R.terms reader ≡ terms group.now → SeesAs (λ names. R.reading (terms names)) →
-        Shows asked group.now view →
-        OnOk result ((closed : Bool) (bytes : List ℕ) →
-        readings_in R.reading R.terms readers.new closed bytes
-        ≡ readings_in R.reading R.terms readers.old closed bytes
-        ++ R.reading (terms asked) closed bytes ∷ []) }
+    ensures groups { OnOk result (groups_in (asked_by R.names R.terms) readers.new
+        ≡ groups_in (asked_by R.names R.terms) readers.old
+        ++ asked_by R.names R.terms reader ∷ []) }
+    ensures readings { (asked : Vocabulary) → R.names reader ≡ group.now →
+        Shows asked group.now view → OnOk result ((closed : Bool) (bytes : List ℕ) →
+        readings_asked R.recording R.names R.terms readers.new closed bytes
+        ≡ readings_asked R.recording R.names R.terms readers.old closed bytes
+        ++ reading_for asked (R.recording (R.terms reader) closed bytes) ∷ []) }
 {
     if view.shows_all(group) {
         readers.push(alloc, reader)?;

@@ -1,12 +1,13 @@
 // The readers of a text trace.
 ghost use Rattle.std.specs.Prelude.{◌≡◌, ◌<◌, ◌≤◌, ◌∷◌, ◌++◌, [], ℕ, Bool, List, length, map, IfOk, OnOk};
 ghost use Rattle.tre_decimal.specs.declared.TheConstants.{SCALE_MAX};
-ghost use Rattle.tre_feed.specs.Readers.{AreFresh, groups_in, readings_in};
-ghost use Rattle.tre_group.specs.Begun.{AreFew, AreNumbers, terms_at, text_terms};
+ghost use Rattle.tre_feed.specs.Asked.{asked_by};
+ghost use Rattle.tre_feed.specs.Readers.{AreFresh, groups_in, readings_asked};
+ghost use Rattle.tre_group.specs.Begun.{AreFew, AreNumbers, asked_at};
 ghost use Rattle.tre_share.specs.Shares.{IsViewOf, group_of};
 ghost use Rattle.tre_syntax.specs.Pattern.{names_of};
-ghost use Rattle.tre_text.specs.TextReading.{text_reading};
-ghost use Rattle.tre_trace.specs.Reading.{Vocabulary};
+ghost use Rattle.tre_text.specs.TextReading.{text_recording};
+ghost use Rattle.tre_trace.specs.Reading.{Vocabulary, reading_for};
 
 use crate::begun::place_of;
 use crate::first::push_first;
@@ -14,7 +15,7 @@ use std::alloc::{AllocError, Global};
 use tre_feed::Readers;
 use tre_share::{Group, View, share};
 use tre_syntax::Pattern;
-use tre_text::{LineReader, TextReader, laws};
+use tre_text::{LineReader, TextReader};
 use tre_trace::TraceReader;
 
 /// Readers of a text trace, one for each pattern. Patterns share one where it has room.
@@ -26,11 +27,13 @@ pub fn text_readers(
     requires { scale ≤ SCALE_MAX }
     ensures fresh { IfOk result (AreFresh ⟦<TextReader as TraceReader>⟧.represents) }
     ensures reads { IfOk result (λ readers. (closed : Bool) (bytes : List ℕ) →
-        readings_in ⟦<TextReader as TraceReader>⟧.reading ⟦<TextReader as TraceReader>⟧.terms
-        readers closed bytes ≡ map (λ pattern. text_reading
-        (text_terms scale (names_of pattern)) closed bytes) patterns.now) }
-    ensures few { IfOk result (λ readers. AreFew (text_terms scale)
-        (groups_in ⟦<TextReader as TraceReader>⟧.terms readers)) }
+        readings_asked ⟦<TextReader as TraceReader>⟧.recording
+        ⟦<TextReader as TraceReader>⟧.names ⟦<TextReader as TraceReader>⟧.terms readers
+        closed bytes ≡ map (λ pattern. reading_for (names_of pattern)
+        (text_recording scale closed bytes)) patterns.now) }
+    ensures few { IfOk result (λ readers. AreFew scale
+        (groups_in (asked_by ⟦<TextReader as TraceReader>⟧.names
+        ⟦<TextReader as TraceReader>⟧.terms) readers)) }
 {
     let shares = share(alloc, patterns)?;
     let (groups, views) = shares.into_parts();
@@ -54,23 +57,25 @@ fn push_text(
     requires scale { scale ≤ SCALE_MAX }
     requires within { group_of view < length groups.now }
     requires others { AreFresh ⟦<TextReader as TraceReader>⟧.represents readers.old }
-    requires begun { groups_in ⟦<TextReader as TraceReader>⟧.terms readers.old
-        ≡ terms_at (text_terms scale) groups.now begun.old.items }
+    requires begun { groups_in (asked_by ⟦<TextReader as TraceReader>⟧.names
+        ⟦<TextReader as TraceReader>⟧.terms) readers.old
+        ≡ asked_at scale groups.now begun.old.items }
     ensures fresh { OnOk result
         (AreFresh ⟦<TextReader as TraceReader>⟧.represents readers.new) }
-    ensures begun { OnOk result (groups_in ⟦<TextReader as TraceReader>⟧.terms readers.new
-        ≡ terms_at (text_terms scale) groups.now begun.new.items) }
+    ensures begun { OnOk result (groups_in (asked_by ⟦<TextReader as TraceReader>⟧.names
+        ⟦<TextReader as TraceReader>⟧.terms) readers.new
+        ≡ asked_at scale groups.now begun.new.items) }
     ensures numbers { AreNumbers (length groups.now) begun.old.items →
         OnOk result (AreNumbers (length groups.now) begun.new.items) }
     ensures readings { (asked : Vocabulary) → IsViewOf groups.now asked view →
         OnOk result ((closed : Bool) (bytes : List ℕ) →
-        readings_in ⟦<TextReader as TraceReader>⟧.reading ⟦<TextReader as TraceReader>⟧.terms
+        readings_asked ⟦<TextReader as TraceReader>⟧.recording
+        ⟦<TextReader as TraceReader>⟧.names ⟦<TextReader as TraceReader>⟧.terms
         readers.new closed bytes
-        ≡ readings_in ⟦<TextReader as TraceReader>⟧.reading
-        ⟦<TextReader as TraceReader>⟧.terms readers.old closed bytes
-        ++ text_reading (text_terms scale asked) closed bytes ∷ []) }
+        ≡ readings_asked ⟦<TextReader as TraceReader>⟧.recording
+        ⟦<TextReader as TraceReader>⟧.names ⟦<TextReader as TraceReader>⟧.terms
+        readers.old closed bytes ++ reading_for asked (text_recording scale closed bytes) ∷ []) }
 {
-    laws::shared();
     let number = view.group();
     if let Some(place) = place_of(begun, number) {
         readers.push_view(place, view)?;
@@ -87,8 +92,9 @@ fn push_text(
 fn text_reader(alloc: Global, group: &Group, scale: u8) -> Result<TextReader, AllocError>
     requires { scale ≤ SCALE_MAX }
     ensures fresh { IfOk result (λ reader. ⟦<TextReader as TraceReader>⟧.represents reader []) }
-    ensures terms { IfOk result (λ reader. ⟦<TextReader as TraceReader>⟧.terms reader
-        ≡ text_terms scale group.now) }
+    ensures terms { IfOk result (λ reader. ⟦<TextReader as TraceReader>⟧.terms reader ≡ scale) }
+    ensures names { IfOk result (λ reader. ⟦<TextReader as TraceReader>⟧.names reader
+        ≡ group.now) }
 {
     let names = group.names().try_clone()?;
     let events = group.events().try_clone()?;

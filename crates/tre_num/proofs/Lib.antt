@@ -1,4 +1,5 @@
 mod Records
+mod Telling
 mod Reading
 mod Keeping
 mod Tables

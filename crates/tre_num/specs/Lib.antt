@@ -7,6 +7,7 @@ pub mod Definitions
 -- What the functions inside promise each other.
 pub mod Left
 pub mod Durations
+pub mod Told
 pub mod Pieces
 pub mod Cut
 pub mod Kept

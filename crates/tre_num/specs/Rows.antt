@@ -1,15 +1,13 @@
 -- What comma-separated rows say of a trace.
-use Rattle.std.specs.Prelude.{ℕ, ◌+◌, ◌*◌, nat_lt, nat_le, ◌==◌, Bool, true, false, cond, Option, Some, None, List, [], ◌∷◌, length, drop, find, Result, Ok, Err, option_and_then, option_map, if◌then◌else◌}
-use Rattle.std.specs.List.{position_from}
-use Rattle.std.specs.Option.{ok_or}
+use Rattle.std.specs.Prelude.{ℕ, ◌+◌, nat_lt, nat_le, ◌==◌, Bool, true, false, Option, Some, None, List, [], ◌∷◌, length, drop, find, Result, Ok, Err, option_and_then, option_map, if◌then◌else◌}
+use Rattle.std.specs.List.{list_all, position_from}
+use Rattle.std.specs.Option.{is_some, option_map_or}
 use Rattle.std.specs.Str.{bytes_eq}
 use Rattle.csv.specs.Reading.{records, default_config, strip_bom}
 use Rattle.csv.specs.Records.{field_at}
 use Rattle.tre_pairs.specs.declared.TheConstants.{TIME_MAX}
 use Rattle.tre_decimal.specs.Decimal.{units_of}
-use Rattle.tre_trace.specs.Reading.{Reading, Vocabulary}
-use Rattle.tre_trace.specs.Segments.{plain_segment}
-use Rattle.tre_trace.specs.declared.segment.Segment.{Segment}
+use Rattle.tre_trace.specs.Reading.{Recording, Stretch, Vocabulary}
 use Rattle.tre_trace.specs.declared.fault.TraceKind.{TraceKind}
 use Rattle.tre_trace.specs.declared.fault.TraceKind.TheVariants.{BadNumber, Zero, TooLate, UnknownName, CutShort}
 use Rattle.tre_parts.specs.Format.{nothing, faulty, behind}
@@ -58,51 +56,32 @@ told_by column fields =
     option_map (λ number. compares column.comparison number column.value)
     (option_and_then whole_of (field_at fields column.place))
 
--- The valuation of a row: the comparison of the first name is the lowest bit.
-abbrev pub valuation_of : List Column → List (List ℕ) → Option ℕ
-valuation_of [] fields = Some 0
-valuation_of (column ∷ columns) fields =
-    option_and_then
-    (λ told. option_map (λ higher. cond told 1 0 + 2 * higher) (valuation_of columns fields))
-    (told_by column fields)
+-- Whether the comparison of a name holds of a row. It doesn't where its field is no whole number,
+-- or where the name has none.
+abbrev pub told_as : List Defined → List (List ℕ) → List (List ℕ) → List ℕ → Bool
+told_as definitions header fields name =
+    option_map_or (λ told. told)
+    (option_and_then (λ column. told_by column fields) (column_for definitions header name)) false
 
--- so many units and a valuation, where there are both, behind a trace that ends at `end`
-abbrev pub segment_says : ℕ → Option ℕ → Option ℕ → Result Segment TraceKind
-segment_says end None valuation = Err BadNumber
-segment_says end (Some len) valuation =
+-- Each of these columns has a whole number in the row.
+abbrev pub are_whole : List Column → List (List ℕ) → Bool
+are_whole columns fields = list_all (λ column. is_some (told_by column fields)) columns
+
+-- a stretch of this length on which these names are true, and at whose begin none happens
+abbrev pub plain_stretch : ℕ → (List ℕ → Bool) → Stretch
+plain_stretch len is_true = record { len = len; is_true = is_true; happens = λ name. false }
+
+-- So many units, behind a trace that ends at `end`, on which these names are true: where there is a
+-- number of units and where the fields of all columns are whole.
+abbrev pub stretch_says : ℕ → Option ℕ → Bool → (List ℕ → Bool) → Result Stretch TraceKind
+stretch_says end None whole is_true = Err BadNumber
+stretch_says end (Some len) whole is_true =
     if len == 0 then Err Zero
     else (if nat_le (end + len) TIME_MAX
-    then ok_or (option_map (plain_segment len) valuation) BadNumber else Err TooLate)
+    then (if whole then Ok (plain_stretch len is_true) else Err BadNumber) else Err TooLate)
 
--- What a row says behind a trace that ends at `end`, under a header of this many fields. Its first
--- field is a decimal: how long it lasts.
-abbrev pub row_says : List Column → ℕ → ℕ → ℕ → List (List ℕ) → Result Segment TraceKind
-row_says columns width scale end fields =
-    if nat_lt (length fields) width then Err CutShort
-    else segment_says end (option_and_then (units_of scale) (field_at fields 0))
-    (valuation_of columns fields)
-
--- ---- all rows
-
--- a fault ends the reading; behind a segment it goes on
-abbrev pub says_on : ℕ → ℕ → Result Segment TraceKind → (ℕ → Reading) → Reading
-says_on number end (Err kind) more = faulty number kind
-says_on number end (Ok segment) more = behind (segment ∷ []) (more (end + segment.len))
-
--- what rows say, the first of which is the record of this number
-abbrev pub rows_from : List Column → ℕ → ℕ → ℕ → List (List (List ℕ)) → ℕ → Reading
-rows_from columns width scale number [] end = nothing
-rows_from columns width scale number (row ∷ rows) end =
-    says_on number end (row_says columns width scale end row)
-    (rows_from columns width scale (number + 1) rows)
-
--- The rows behind a header of this many fields, where each name has its column.
-abbrev pub under_header : Option (List Column) → ℕ → ℕ → List (List (List ℕ)) → Reading
-under_header None width scale rows = faulty 1 UnknownName
-under_header (Some columns) width scale rows = rows_from columns width scale 2 rows 0
-
--- What a reading of rows hangs on: the definitions, the names of propositions and events, and the
--- scale of the durations.
+-- What a recording of rows hangs on: the definitions, the names of propositions and events, since a
+-- field of a name that is no whole number is a fault, and the scale of the durations.
 pub record Terms : Type 0 where
   pub definitions : List Defined
   pub names : Vocabulary
@@ -115,6 +94,36 @@ terms_of definitions names events scale = record {
   scale = scale;
 }
 
+-- What a row says behind a trace that ends at `end`, under this header, in which the names have
+-- these columns. Its first field is a decimal: how long it lasts.
+abbrev pub row_says : Terms → List (List ℕ) → List Column → ℕ → List (List ℕ)
+    → Result Stretch TraceKind
+row_says terms header columns end fields =
+    if nat_lt (length fields) (length header) then Err CutShort
+    else stretch_says end (option_and_then (units_of terms.scale) (field_at fields 0))
+    (are_whole columns fields) (told_as terms.definitions header fields)
+
+-- ---- all rows
+
+-- a fault ends the recording; behind a stretch it goes on
+abbrev pub says_on : ℕ → ℕ → Result Stretch TraceKind → (ℕ → Recording) → Recording
+says_on number end (Err kind) more = faulty number kind
+says_on number end (Ok stretch) more = behind (stretch ∷ []) (more (end + stretch.len))
+
+-- what rows say, the first of which is the record of this number
+abbrev pub rows_from : Terms → List (List ℕ) → List Column → ℕ → List (List (List ℕ)) → ℕ
+    → Recording
+rows_from terms header columns number [] end = nothing
+rows_from terms header columns number (row ∷ rows) end =
+    says_on number end (row_says terms header columns end row)
+    (rows_from terms header columns (number + 1) rows)
+
+-- The rows behind a header, where each name has its column.
+abbrev pub under_header : Terms → List (List ℕ) → Option (List Column) → List (List (List ℕ))
+    → Recording
+under_header terms header None rows = faulty 1 UnknownName
+under_header terms header (Some columns) rows = rows_from terms header columns 2 rows 0
+
 -- The columns of all names, under this header: none where there is an event, since rows tell of
 -- none.
 abbrev pub compared : Terms → List (List ℕ) → Option (List Column)
@@ -123,13 +132,12 @@ compared terms header =
     then columns_of terms.definitions header terms.names.names else None
 
 -- records: a header and rows; without a record there is no column
-abbrev pub table_says : Terms → List (List (List ℕ)) → Reading
-table_says terms [] = under_header (compared terms []) 0 terms.scale []
-table_says terms (header ∷ rows) =
-    under_header (compared terms header) (length header) terms.scale rows
+abbrev pub table_says : Terms → List (List (List ℕ)) → Recording
+table_says terms [] = under_header terms [] (compared terms []) []
+table_says terms (header ∷ rows) = under_header terms header (compared terms header) rows
 
 -- What bytes say of a trace: nothing while more may come, and then what their records say.
-abbrev pub rows_reading : Terms → Bool → List ℕ → Reading
-rows_reading terms false bytes = nothing
-rows_reading terms true bytes =
+abbrev pub rows_recording : Terms → Bool → List ℕ → Recording
+rows_recording terms false bytes = nothing
+rows_recording terms true bytes =
     table_says terms (records default_config (strip_bom bytes))

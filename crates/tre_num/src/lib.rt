@@ -4,7 +4,7 @@
 //! [`read_definitions`] reads a text of them, and what they say is in specs/Definitions.antt.
 //! A [`ColumnsReader`] reads comma-separated rows: the first is the header, whose later fields name
 //! the columns, and each row behind it is a segment, which lasts what its first field says. What
-//! the bytes say is `rows_reading` of specs/Rows.antt; the records are those that the crate csv
+//! the bytes say is `rows_recording` of specs/Rows.antt; the records are those that the crate csv
 //! promises for the bytes. [`read_rows`] does the same for bytes that lie in memory.
 //!
 //! ```text

@@ -2,8 +2,8 @@
 ghost use Rattle.std.specs.Prelude.{◌≡◌, ◌≤◌, [], refl};
 ghost use Rattle.tre_decimal.specs.declared.TheConstants.{SCALE_MAX};
 ghost use Rattle.tre_num.specs.Kept.{HasKept};
-ghost use Rattle.tre_num.specs.Times.{rows-grow, rows-are_trace};
-ghost use Rattle.tre_num.specs.Rows.{Terms, rows_reading, terms_of};
+ghost use Rattle.tre_num.specs.Times.{rows-grow, rows-are_trace, rows-start};
+ghost use Rattle.tre_num.specs.Rows.{Terms, rows_recording, terms_of};
 
 use crate::columns::NO_MEMORY;
 use crate::definition::Definition;
@@ -48,6 +48,8 @@ impl ColumnsReader {
         ensures begins { ⟦<ColumnsReader as TraceReader>⟧.fed_of result ≡ 0 }
         ensures terms { ⟦<ColumnsReader as TraceReader>⟧.terms result
             ≡ terms_of definitions.items names events scale }
+        ensures names { ⟦<ColumnsReader as TraceReader>⟧.names result
+            ≡ record { names = names; events = events } }
     {
         let table = Table::new(definitions, names, events, scale);
         ColumnsReader {
@@ -65,7 +67,9 @@ impl TraceReader for ColumnsReader {
 
     ghost terms = { λ reader. reader.table };
 
-    ghost reading = { rows_reading };
+    ghost recording = { rows_recording };
+
+    ghost names = { λ reader. reader.table.names };
 
     ghost represents = { λ reader bytes.
         HasKept reader.kept reader.fed reader.is_spent bytes };
@@ -77,6 +81,8 @@ impl TraceReader for ColumnsReader {
     ghost counts = { λ reader bytes kept. (kept.counts, kept.goes_on) };
 
     ghost faultless = { λ reader bytes kept. refl };
+
+    ghost starts = { rows-start };
 
     ghost grows = { rows-grow };
 

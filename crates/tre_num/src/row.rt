@@ -6,7 +6,8 @@ ghost use Rattle.tre_decimal.specs.declared.TheConstants.{SCALE_MAX};
 ghost use Rattle.tre_pairs.specs.declared.TheConstants.{TIME_MAX};
 ghost use Rattle.tre_state.specs.declared.names.TheConstants.{NAMES_MAX};
 ghost use Rattle.tre_num.specs.Durations.{duration_says};
-ghost use Rattle.tre_num.specs.Rows.{told_by, valuation_of, row_says};
+ghost use Rattle.tre_num.specs.Rows.{told_by};
+ghost use Rattle.tre_num.specs.Told.{row_gives, valuation_of};
 
 use crate::column::Column;
 use crate::whole::read_whole;
@@ -26,7 +27,7 @@ pub(crate) fn read_row(
     requires few { length columns.now ≤ NAMES_MAX }
     requires scale { scale ≤ SCALE_MAX }
     requires in_time { end ≤ TIME_MAX }
-    ensures says { result ≡ row_says columns.now width scale end (fields_of row.now) }
+    ensures gives { result ≡ row_gives columns.now width scale end (fields_of row.now) }
     ensures fits { IfOk result (λ segment. (1 ≤ segment.len) × (end + segment.len ≤ TIME_MAX)) }
     ensures kinds { IfErr result (λ kind. (kind ≢ Memory) × (kind ≢ Spent)) }
 {

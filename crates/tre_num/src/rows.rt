@@ -1,8 +1,8 @@
 // Reading rows that lie in memory.
 ghost use Rattle.std.specs.Prelude.{◌≡◌, ◌≢◌, ◌≤◌, Some, None, true, IfOk, IfErr};
 ghost use Rattle.tre_decimal.specs.declared.TheConstants.{SCALE_MAX};
-ghost use Rattle.tre_num.specs.Rows.{rows_reading, terms_of};
-ghost use Rattle.tre_trace.specs.Reading.{IsPlaced};
+ghost use Rattle.tre_num.specs.Rows.{rows_recording, terms_of};
+ghost use Rattle.tre_trace.specs.Reading.{IsPlaced, reading_for};
 ghost use Rattle.tre_trace.specs.Trace.{quiet, IsTrace};
 ghost use Rattle.tre_trace.specs.declared.fault.TraceKind.TheVariants.{Memory};
 
@@ -24,10 +24,11 @@ pub fn read_rows(
 ) -> Result<Trace, TraceFault>
     requires { scale ≤ SCALE_MAX }
     ensures trace { IfOk result (λ trace.
-        rows_reading (terms_of definitions.items names events scale) true bytes.now
+        reading_for (record { names = names; events = events })
+        (rows_recording (terms_of definitions.items names events scale) true bytes.now)
         ≡ record { segments = trace.segments; last = trace.last; fault = None }) }
     ensures fault { IfErr result (λ fault. fault.kind ≢ Memory →
-        (rows_reading (terms_of definitions.items names events scale) true bytes.now).fault
+        (rows_recording (terms_of definitions.items names events scale) true bytes.now).fault
         ≡ Some fault) }
     ensures placed { IfErr result IsPlaced }
 {

@@ -4,7 +4,8 @@ ghost use Rattle.csv.specs.Reading.{default_config, records, strip_bom};
 ghost use Rattle.csv.specs.Records.{fields_of};
 ghost use Rattle.tre_decimal.specs.declared.TheConstants.{SCALE_MAX};
 ghost use Rattle.tre_num.specs.Left.{IsLeft, IsNext};
-ghost use Rattle.tre_num.specs.Rows.{compared, rows_from, rows_reading, terms_of};
+ghost use Rattle.tre_num.specs.Rows.{Terms, compared, rows_from, rows_recording, terms_of};
+ghost use Rattle.tre_num.specs.Told.{IsUnder};
 ghost use Rattle.tre_parts.specs.Format.{nothing};
 ghost use Rattle.tre_state.specs.declared.names.TheConstants.{NAMES_MAX};
 ghost use Rattle.tre_trace.specs.Reading.{Adds, IsPlaced, IsRefused};
@@ -63,13 +64,13 @@ impl Table {
         segments: &mut Vec<Segment>,
     ) -> Result<(), TraceFault>
         ensures whole { (bytes : List ℕ) → R.remaining source ≡ Some bytes →
-            OnOk result ((rows_reading self.now true bytes).fault ≡ None) }
+            OnOk result ((rows_recording self.now true bytes).fault ≡ None) }
         ensures adds { (bytes : List ℕ) → R.remaining source ≡ Some bytes →
-            OnOk result (Adds segments.old.items segments.new.items nothing
-            (rows_reading self.now true bytes)) }
+            OnOk result (Adds self.now.names segments.old.items segments.new.items nothing
+            (rows_recording self.now true bytes)) }
         ensures refused { (bytes : List ℕ) → R.remaining source ≡ Some bytes →
-            IfErr result (IsRefused segments.old.items segments.new.items nothing
-            (rows_reading self.now true bytes)) }
+            IfErr result (IsRefused self.now.names segments.old.items segments.new.items
+            nothing (rows_recording self.now true bytes)) }
         ensures placed { IfErr result IsPlaced }
         ensures never_spent { IfErr result (λ fault. fault.kind ≢ Spent) }
     {
@@ -141,14 +142,17 @@ fn read_behind<R: Read + Drop>(
 ) -> Result<(), TraceFault>
     requires few { length columns.now ≤ NAMES_MAX }
     requires scale { scale ≤ SCALE_MAX }
-    ensures whole { (left : List (List (List ℕ))) → IsLeft R.remaining rows.old left →
-        OnOk result ((rows_from columns.now width scale 2 left 0).fault ≡ None) }
-    ensures adds { (left : List (List (List ℕ))) → IsLeft R.remaining rows.old left →
-        OnOk result (Adds segments.old.items segments.new.items nothing
-        (rows_from columns.now width scale 2 left 0)) }
-    ensures refused { (left : List (List (List ℕ))) → IsLeft R.remaining rows.old left →
-        IfErr result (IsRefused segments.old.items segments.new.items nothing
-        (rows_from columns.now width scale 2 left 0)) }
+    ensures whole { (terms : Terms) (header : List (List ℕ)) (left : List (List (List ℕ))) →
+        IsUnder terms header columns.now width scale → IsLeft R.remaining rows.old left →
+        OnOk result ((rows_from terms header columns.now 2 left 0).fault ≡ None) }
+    ensures adds { (terms : Terms) (header : List (List ℕ)) (left : List (List (List ℕ))) →
+        IsUnder terms header columns.now width scale → IsLeft R.remaining rows.old left →
+        OnOk result (Adds terms.names segments.old.items segments.new.items nothing
+        (rows_from terms header columns.now 2 left 0)) }
+    ensures refused { (terms : Terms) (header : List (List ℕ)) (left : List (List (List ℕ))) →
+        IsUnder terms header columns.now width scale → IsLeft R.remaining rows.old left →
+        IfErr result (IsRefused terms.names segments.old.items segments.new.items nothing
+        (rows_from terms header columns.now 2 left 0)) }
     ensures placed { IfErr result IsPlaced }
     ensures never_spent { IfErr result (λ fault. fault.kind ≢ Spent) }
 {

@@ -6,7 +6,7 @@ use Rattle.tre_parts.specs.Format.{Format, first_spot}
 use Rattle.tre_parts.specs.Parts.{IsFedWith}
 use Rattle.tre_parts.specs.Walk.{IsAt}
 use Rattle.tre_parts.specs.declared.spot.Spot.{Spot}
-use Rattle.tre_trace.specs.Reading.{Reading}
+use Rattle.tre_trace.specs.Reading.{Recording}
 
 at-start : {Reader T S : Type 0} (tm : Reader → T) (fm : T → Format S)
     (hd : Reader → S → Type 0) (reader : Reader) → hd reader (fm (tm reader)).start
@@ -29,7 +29,7 @@ pub fed-start : {Reader T S : Type 0} (tm : Reader → T) (fm : T → Format S)
 fed-start tm fm hd reader held = record {
   at = at-start tm fm hd reader held;
   counts = refl;
-  faultless = ap (λ (r : Reading). r.fault) (at-nothing (at-start tm fm hd reader held));
+  faultless = ap (λ (r : Recording). r.fault) (at-nothing (at-start tm fm hd reader held));
   goes_on = refl;
 }
 
@@ -43,6 +43,6 @@ fed-more tm fm hd terms reader part spot fed bytes at named counts =
     record {
       at = here;
       counts = counts;
-      faultless = ap (λ (r : Reading). r.fault) (at-nothing here);
+      faultless = ap (λ (r : Recording). r.fault) (at-nothing here);
       goes_on = refl;
     }

@@ -1,5 +1,3 @@
-pub mod Alike
-pub mod Shared
 mod Cuts
 pub mod Walks
 mod Feeding

@@ -1,49 +1,49 @@
 -- Formats whose bytes are parts between separators, and what bytes in such a format say.
-use Rattle.std.specs.Prelude.{◌≡◌, ℕ, ◌+◌, ◌≤◌, nat_le, Bool, true, false, List, [], ◌∷◌, ◌++◌, length, Option, None, Some, Result, Ok, Err, if◌then◌else◌}
+use Rattle.std.specs.Prelude.{◌≡◌, ℕ, ◌+◌, ◌≤◌, nat_le, Bool, true, false, List, [], ◌∷◌, ◌++◌, length, map, Option, None, Some, Result, Ok, Err, if◌then◌else◌}
 use Rattle.std.specs.List.{slice_split}
 use Rattle.tre_pairs.specs.declared.TheConstants.{TIME_MAX}
 use Rattle.tre_parts.specs.declared.TheConstants.{PART_MAX}
 use Rattle.tre_parts.specs.declared.spot.Spot.{Spot}
-use Rattle.tre_trace.specs.Reading.{Reading}
+use Rattle.tre_trace.specs.Reading.{Recording, Stretch, Vocabulary, segment_for}
 use Rattle.tre_trace.specs.Trace.{end_of, AreLong}
 use Rattle.tre_trace.specs.declared.segment.Segment.{Segment}
 use Rattle.tre_trace.specs.declared.fault.TraceKind.{TraceKind}
 use Rattle.tre_trace.specs.declared.fault.TraceKind.TheVariants.{LineTooLong}
 
--- A part without a fault says some segments, and what later parts need to know of it.
+-- A part without a fault says some stretches, and what later parts need to know of it.
 pub record Step (State : Type 0) : Type 0 where
-  pub segments : List Segment
+  pub stretches : List Stretch
   pub state : State
 
 -- A format: the bytes that part, what is known before the first part, how a fault's place is told,
--- what a part says, the fault of an input that ends here, if it has one, the events at its end, and
--- the time that was reached.
+-- what a part says, the fault of an input that ends here, if it has one, the names that happen at
+-- its end, and the time that was reached.
 pub record Format (State : Type 0) : Type 0 where
   pub separates : ℕ → Bool
   pub start : State
   pub place : Spot → ℕ
   pub says : State → List ℕ → Result (Step State) TraceKind
   pub at_end : State → Option TraceKind
-  pub last : State → ℕ
+  pub last : State → List ℕ → Bool
   pub time : State → ℕ
 
 -- nothing more is said
-abbrev pub nothing : Reading
-nothing = record { segments = []; last = 0; fault = None }
+abbrev pub nothing : Recording
+nothing = record { stretches = []; last = λ name. false; fault = None }
 
 -- a fault at this place
-abbrev pub faulty : ℕ → TraceKind → Reading
+abbrev pub faulty : ℕ → TraceKind → Recording
 faulty place kind = record nothing { fault = Some (record { place = place; kind = kind }) }
 
--- these segments, and then what was read behind them
-abbrev pub behind : List Segment → Reading → Reading
-behind segments reading = record reading { segments = segments ++ reading.segments }
+-- these stretches, and then what was read behind them
+abbrev pub behind : List Stretch → Recording → Recording
+behind stretches reading = record reading { stretches = stretches ++ reading.stretches }
 
 -- a fault ends the reading; behind a part without one it goes on
-abbrev pub read_on : {State : Type 0} → ℕ → Result (Step State) TraceKind → (State → Reading)
-    → Reading
+abbrev pub read_on : {State : Type 0} → ℕ → Result (Step State) TraceKind → (State → Recording)
+    → Recording
 read_on place (Err kind) more = faulty place kind
-read_on place (Ok step) more = behind step.segments (more step.state)
+read_on place (Ok step) more = behind step.stretches (more step.state)
 
 -- where the next part begins, behind a part of this length and its separator
 abbrev pub after_part : Spot → ℕ → Spot
@@ -56,13 +56,13 @@ part_says format state part = if nat_le (length part) PART_MAX then format.says 
     LineTooLong
 
 -- the end of the input, at this offset and with these events, or a fault
-abbrev pub ending : ℕ → ℕ → Option TraceKind → Reading
+abbrev pub ending : ℕ → (List ℕ → Bool) → Option TraceKind → Recording
 ending offset last None = record nothing { last = last }
 ending offset last (Some kind) = faulty offset kind
 
 -- The part that no separator ends: the end of the input ends it. While more may come it says
 -- nothing, but that it has too many bytes.
-abbrev pub last_part : {State : Type 0} → Format State → Bool → State → Spot → List ℕ → Reading
+abbrev pub last_part : {State : Type 0} → Format State → Bool → State → Spot → List ℕ → Recording
 last_part format true state spot part =
     read_on (format.place spot) (part_says format state part)
     (λ now. ending (spot.offset + length part) (format.last now) (format.at_end now))
@@ -70,18 +70,18 @@ last_part format false state spot part = if nat_le (length part) PART_MAX then n
     (format.place spot) LineTooLong
 
 -- what parts say, the first of which begins at the spot
-abbrev pub parts_reading : {State : Type 0} → Format State → Bool → State → Spot → List (List ℕ)
-    → Reading
-parts_reading format closed state spot [] = nothing
-parts_reading format closed state spot (part ∷ []) = last_part format closed state spot part
-parts_reading format closed state spot (part ∷ next ∷ parts) =
-    read_on (format.place spot) (part_says format state part) (λ now. parts_reading format closed
+abbrev pub parts_recording : {State : Type 0} → Format State → Bool → State → Spot → List (List ℕ)
+    → Recording
+parts_recording format closed state spot [] = nothing
+parts_recording format closed state spot (part ∷ []) = last_part format closed state spot part
+parts_recording format closed state spot (part ∷ next ∷ parts) =
+    read_on (format.place spot) (part_says format state part) (λ now. parts_recording format closed
     now (after_part spot (length part)) (next ∷ parts))
 
 -- what bytes say from a spot on
-unfoldable pub reading_from : {State : Type 0} → Format State → Bool → State → Spot → List ℕ
-    → Reading
-reading_from format closed state spot bytes = parts_reading format closed state spot
+unfoldable pub recording_from : {State : Type 0} → Format State → Bool → State → Spot → List ℕ
+    → Recording
+recording_from format closed state spot bytes = parts_recording format closed state spot
     (slice_split format.separates bytes)
 
 -- where the input begins
@@ -89,8 +89,8 @@ abbrev pub first_spot : Spot
 first_spot = record { number = 1; offset = 0 }
 
 -- What the bytes say: parts are numbered from 1, and offsets are counted from 0.
-abbrev pub reading_of : {State : Type 0} → Format State → Bool → List ℕ → Reading
-reading_of format closed bytes = reading_from format closed format.start first_spot bytes
+abbrev pub recording_of : {State : Type 0} → Format State → Bool → List ℕ → Recording
+recording_of format closed bytes = recording_from format closed format.start first_spot bytes
 
 -- Segments lead from one time to another, and a time within the limit is one that they may reach.
 pub record Leads (before : ℕ) (segments : List Segment) (now : ℕ) : Type 0 where
@@ -98,10 +98,10 @@ pub record Leads (before : ℕ) (segments : List Segment) (now : ℕ) : Type 0 w
   pub ends : end_of before segments ≡ now
   pub in_time : before ≤ TIME_MAX → now ≤ TIME_MAX
 
--- Time begins at 0, and the segments that a part says lead from the time before it to the one after
--- it.
+-- Time begins at 0, and the stretches that a part says lead from the time before it to the one
+-- after it, whoever asks.
 pub record KeepsTime {State : Type 0} (format : Format State) : Type 0 where
   pub begins : format.time format.start ≡ 0
-  pub leads : (state : State) (part : List ℕ) (step : Step State) → format.says state part ≡ Ok step
-      →
-      Leads (format.time state) step.segments (format.time step.state)
+  pub leads : (asked : Vocabulary) (state : State) (part : List ℕ) (step : Step State)
+      → format.says state part ≡ Ok step
+      → Leads (format.time state) (map (segment_for asked) step.stretches) (format.time step.state)

@@ -3,35 +3,34 @@ use Rattle.std.proofs.Common.{◌≡◌, ℕ, ◌<◌, ◌≤◌, nat_le, Bool, 
 use Rattle.std.proofs.lemmas.Bool.Decides.{nat_tests}
 use Rattle.std.specs.List.{slice_split}
 use Rattle.tre_parts.specs.Joins.{join_parts, HasFirst, slice_split-has, slice_split-append}
-use Rattle.tre_parts.specs.Format.{Format, Step, nothing, faulty, behind, read_on, after_part, part_says, parts_reading, reading_from, reading_of, first_spot}
+use Rattle.tre_parts.specs.Format.{Format, Step, nothing, faulty, behind, read_on, after_part, part_says, parts_recording, recording_from, recording_of, first_spot}
 use Rattle.tre_parts.specs.declared.TheConstants.{PART_MAX}
 use Rattle.tre_parts.specs.declared.spot.Spot.{Spot}
-use Rattle.tre_trace.specs.Reading.{Reading, Grows}
-use Rattle.tre_trace.specs.declared.segment.Segment.{Segment}
+use Rattle.tre_trace.specs.Reading.{Recording, Stretch, Grows}
 use Rattle.tre_trace.specs.declared.fault.TraceKind.{TraceKind}
 use Rattle.tre_trace.specs.declared.fault.TraceKind.TheVariants.{LineTooLong}
 
-pub Grows-nothing : (now : Reading) → Grows nothing now
+pub Grows-nothing : (now : Recording) → Grows nothing now
 Grows-nothing now = record {
-  added = now.segments;
-  segments = refl;
+  added = now.stretches;
+  stretches = refl;
   fault = λ fault none. cc (none);
 }
 
-pub Grows-same : (before now : Reading) → now ≡ before → Grows before now
+pub Grows-same : (before now : Recording) → now ≡ before → Grows before now
 Grows-same before now same = record {
   added = [];
-  segments = ap (λ (r : Reading). r.segments) same ∙ sym (append-nil before.segments);
+  stretches = ap (λ (r : Recording). r.stretches) same ∙ sym (append-nil before.stretches);
   fault = λ fault told. same;
 }
 
-pub Grows-behind : (segments : List Segment) (before now : Reading) → Grows before now
-    → Grows (behind segments before) (behind segments now)
-Grows-behind segments before now grows = record {
+pub Grows-behind : (stretches : List Stretch) (before now : Recording) → Grows before now
+    → Grows (behind stretches before) (behind stretches now)
+Grows-behind stretches before now grows = record {
   added = grows.added;
-  segments = ap (λ rest. segments ++ rest) grows.segments
-      ∙ sym (append_assoc segments before.segments grows.added);
-  fault = λ fault told. ap (behind segments) (grows.fault fault told);
+  stretches = ap (λ rest. stretches ++ rest) grows.stretches
+      ∙ sym (append_assoc stretches before.stretches grows.added);
+  fault = λ fault told. ap (behind stretches) (grows.fault fault told);
 }
 
 pub too_long : (a b : ℕ) → b < a → nat_le a b ≡ false
@@ -43,7 +42,7 @@ short_enough a b h = grind (arith, nat_tests)
 -- a part that is too long stays so when bytes are put behind it, whether it is the last or not
 long_parts : {S : Type 0} (format : Format S) (closed : Bool) (state : S) (spot : Spot)
     (part more : List ℕ) (parts : List (List ℕ)) → PART_MAX < length part
-    → parts_reading format closed state spot ((part ++ more) ∷ parts) ≡ faulty (format.place spot)
+    → parts_recording format closed state spot ((part ++ more) ∷ parts) ≡ faulty (format.place spot)
     LineTooLong
 long_parts format true state spot part more [] long =
     rw (too_long (length (part ++ more)) PART_MAX (omega (arith, length-append part more))) refl
@@ -56,23 +55,23 @@ last_grows : {S : Type 0} (format : Format S) (closed : Bool) (state : S) (spot 
     (part more : List ℕ) (parts : List (List ℕ)) (short : Bool)
     → nat_le (length part) PART_MAX ≡ short
     → Grows (if short then nothing else faulty (format.place spot) LineTooLong)
-    (parts_reading format closed state spot ((part ++ more) ∷ parts))
+    (parts_recording format closed state spot ((part ++ more) ∷ parts))
 last_grows format closed state spot part more parts true is = Grows-nothing _
 last_grows format closed state spot part more parts false is =
     let long : PART_MAX < length part = grind (arith, nat_tests) in
     Grows-same _ _ (long_parts format closed state spot part more parts long)
 
 read_on-grows : {S : Type 0} (place : ℕ) (said : Result (Step S) TraceKind) (less more : S
-    → Reading) → ((now : S) → Grows (less now) (more now))
+    → Recording) → ((now : S) → Grows (less now) (more now))
     → Grows (read_on place said less) (read_on place said more)
 read_on-grows place (Err kind) less more grows = Grows-same _ _ refl
-read_on-grows place (Ok step) less more grows = Grows-behind step.segments _ _ (grows step.state)
+read_on-grows place (Ok step) less more grows = Grows-behind step.stretches _ _ (grows step.state)
 
 -- a part with parts behind it
 pub more_parts : {S : Type 0} (format : Format S) (closed : Bool) (state : S) (spot : Spot)
     (part : List ℕ) (parts : List (List ℕ)) → HasFirst parts
-    → parts_reading format closed state spot (part ∷ parts)
-    ≡ read_on (format.place spot) (part_says format state part) (λ now. parts_reading format
+    → parts_recording format closed state spot (part ∷ parts)
+    ≡ read_on (format.place spot) (part_says format state part) (λ now. parts_recording format
     closed now (after_part spot (length part)) parts)
 more_parts format closed state spot part [] has = cc (has.is)
 more_parts format closed state spot part (next ∷ parts) has = refl
@@ -90,7 +89,8 @@ join-has part (next ∷ parts) others = record {
 
 parts-grow : {S : Type 0} (format : Format S) (closed : Bool) (state : S) (spot : Spot)
     (parts others : List (List ℕ)) → HasFirst others
-    → Grows (parts_reading format false state spot parts) (parts_reading format closed state spot
+    → Grows (parts_recording format false state spot parts)
+    (parts_recording format closed state spot
     (join_parts parts others))
 parts-grow format closed state spot [] others has = Grows-nothing _
 parts-grow format closed state spot (part ∷ []) [] has = cc (has.is)
@@ -100,15 +100,21 @@ parts-grow format closed state spot (part ∷ next ∷ parts) others has =
     rw (more_parts format closed state spot part (join_parts (next ∷ parts) others)
     (join-has next parts others))
     (read_on-grows (format.place spot) (part_says format state part)
-    (λ now. parts_reading format false now (after_part spot (length part)) (next ∷ parts))
-    (λ now. parts_reading format closed now (after_part spot (length part))
+    (λ now. parts_recording format false now (after_part spot (length part)) (next ∷ parts))
+    (λ now. parts_recording format closed now (after_part spot (length part))
     (join_parts (next ∷ parts) others))
     (λ now. parts-grow format closed now (after_part spot (length part)) (next ∷ parts) others
     has))
 
+-- without a byte nothing is said while more may come
+pub reading-starts : {S : Type 0} (format : Format S)
+    → (recording_of format false []).stretches ≡ []
+unfolding recording_from
+reading-starts format = refl
+
 pub reading-grows : {S : Type 0} (format : Format S) (closed : Bool) (first more : List ℕ)
-    → Grows (reading_of format false first) (reading_of format closed (first ++ more))
-unfolding reading_from
+    → Grows (recording_of format false first) (recording_of format closed (first ++ more))
+unfolding recording_from
 reading-grows format closed first more =
     rw (slice_split-append format.separates first more)
     (parts-grow format closed format.start first_spot (slice_split format.separates first)

@@ -1,7 +1,5 @@
 -- What a reader must believe.
 pub mod Format
-pub mod Alike
-pub mod Shared
 -- What the functions inside promise each other.
 pub mod Walk
 pub mod Bytes

@@ -1,6 +1,6 @@
 -- What a reader of pieces stands for.
 use Rattle.std.specs.Prelude.{◌≡◌, ℕ, Bool, false, List, length, None}
-use Rattle.tre_parts.specs.Format.{Format, reading_of}
+use Rattle.tre_parts.specs.Format.{Format, recording_of}
 use Rattle.tre_parts.specs.Walk.{IsAt}
 use Rattle.tre_parts.specs.declared.spot.Spot.{Spot}
 
@@ -11,5 +11,5 @@ pub record IsFedWith {Reader Terms State : Type 0} (terms_of : Reader → Terms)
     Type 0 where
   pub at : IsAt terms_of format holds (terms_of reader) reader part spot bytes
   pub counts : fed ≡ length bytes
-  pub faultless : (reading_of (format (terms_of reader)) false bytes).fault ≡ None
+  pub faultless : (recording_of (format (terms_of reader)) false bytes).fault ≡ None
   pub goes_on : is_spent ≡ false

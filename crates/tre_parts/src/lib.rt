@@ -14,7 +14,6 @@
 #![tactic(auto)]
 
 mod byte_class;
-pub mod laws;
 mod names;
 mod part_reader;
 mod parts;

@@ -1,6 +1,7 @@
 ghost use Rattle.std.specs.Prelude.{◌≡◌, ◌≢◌, ◌≤◌, length, Option, IfNone, IfSome};
 ghost use Rattle.tre_parts.specs.Format.{Format, KeepsTime};
 ghost use Rattle.tre_parts.specs.declared.said.Said.{Said};
+ghost use Rattle.tre_trace.specs.Reading.{Vocabulary, events_for};
 ghost use Rattle.tre_trace.specs.declared.fault.TraceKind.TheVariants.{Spent, Memory};
 ghost use Rattle.tre_parts.specs.Walk.{IsInside, EndsAt, Tells};
 
@@ -12,11 +13,14 @@ pub trait PartReader {
     /// What later parts need to know of the earlier ones.
     ghost State: { Type 0 };
 
-    /// What the format hangs on, such as the names of propositions and events.
+    /// What the format hangs on, such as the unit of time.
     ghost Terms: { Type 0 };
 
     /// The terms that it reads by. No call changes them.
     ghost terms: { Self → Terms };
+
+    /// The names whose truth and happening it reads. No call changes them.
+    ghost names: { Self → Vocabulary };
 
     /// The format, by these terms.
     ghost format: { Terms → Format State };
@@ -34,14 +38,16 @@ pub trait PartReader {
     fn read(&mut self, part: &[u8]) -> Said
         requires short { length part.now ≤ PART_MAX }
         ensures tells { (state : State) → holds self.old state →
-            Tells ((format (terms self.old)).says state part.now) (holds self.new) result }
+            Tells (names self.old) ((format (terms self.old)).says state part.now) (holds self.new)
+            result }
         ensures kinds { result ≢ Said.Wrong Spent }
-        ensures same_terms { terms self.new ≡ terms self.old };
+        ensures same_terms { terms self.new ≡ terms self.old }
+        ensures same_names { names self.new ≡ names self.old };
 
     /// The events at the end of an input that ends here: bit i says whether event i happens.
     fn last(&self) -> u64
         ensures { (state : State) → holds self.now state →
-            result ≡ (format (terms self.now)).last state };
+            result ≡ events_for (names self.now) ((format (terms self.now)).last state) };
 
     /// The fault of an input that ends here, if it has one.
     fn at_end(&self) -> Option<TraceKind>

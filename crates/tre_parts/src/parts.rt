@@ -1,8 +1,8 @@
 // A reader of pieces of a format whose bytes are parts.
 ghost use Rattle.std.specs.Prelude.{◌≡◌, ◌+◌, [], true, false};
-ghost use Rattle.tre_parts.specs.Format.{reading_of};
+ghost use Rattle.tre_parts.specs.Format.{recording_of};
 ghost use Rattle.tre_parts.specs.Parts.{IsFedWith};
-ghost use Rattle.tre_parts.specs.Growing.{reading-grows};
+ghost use Rattle.tre_parts.specs.Growing.{reading-grows, reading-starts};
 ghost use Rattle.tre_parts.specs.Times.{reading-is_trace};
 
 use crate::walk::Walk;
@@ -26,6 +26,7 @@ impl<R: PartReader + Drop> Parts<R> {
         ensures fed { ⟦<Parts<R> as TraceReader>⟧.represents result [] }
         ensures begins { ⟦<Parts<R> as TraceReader>⟧.fed_of result ≡ 0 }
         ensures terms { ⟦<Parts<R> as TraceReader>⟧.terms result ≡ R.terms reader }
+        ensures names { ⟦<Parts<R> as TraceReader>⟧.names result ≡ R.names reader }
     {
         let spot = Spot {
             number: 1,
@@ -46,7 +47,9 @@ impl<R: PartReader + Drop> TraceReader for Parts<R> {
 
     ghost terms = { λ parts. R.terms parts.walk.reader };
 
-    ghost reading = { λ terms closed bytes. reading_of (R.format terms) closed bytes };
+    ghost recording = { λ terms closed bytes. recording_of (R.format terms) closed bytes };
+
+    ghost names = { λ parts. R.names parts.walk.reader };
 
     ghost represents = { λ parts bytes. IsFedWith R.terms R.format R.holds parts.walk.reader
         parts.walk.part.items parts.walk.spot parts.fed parts.is_spent bytes };
@@ -59,10 +62,12 @@ impl<R: PartReader + Drop> TraceReader for Parts<R> {
 
     ghost faultless = { λ parts bytes fed. fed.faultless };
 
+    ghost starts = { λ terms. reading-starts (R.format terms) };
+
     ghost grows = { λ terms closed first more. reading-grows (R.format terms) closed first more };
 
-    ghost is_trace = { λ terms closed bytes.
-        reading-is_trace (R.format terms) closed bytes (R.keeps_time terms) };
+    ghost is_trace = { λ terms asked closed bytes.
+        reading-is_trace asked (R.format terms) closed bytes (R.keeps_time terms) };
 
     fn feed(&mut self, piece: &[u8], segments: &mut Vec<Segment>) -> Result<(), TraceFault> {
         if self.is_spent {

@@ -1,8 +1,8 @@
 // Where a reader is in its input.
 ghost use Rattle.std.specs.Prelude.{◌≡◌, ◌≢◌, ℕ, ◌+◌, ◌≤◌, List, [], ◌∷◌, None, ◌++◌, length, true, false, OnOk, IfErr};
-ghost use Rattle.tre_parts.specs.Format.{reading_of, part_says};
+ghost use Rattle.tre_parts.specs.Format.{recording_of, part_says};
 ghost use Rattle.tre_parts.specs.Walk.{IsInside, IsAt, AddsPart, IsRefusedPart, IsEnded, Takes};
-ghost use Rattle.tre_trace.specs.Reading.{IsPlaced};
+ghost use Rattle.tre_trace.specs.Reading.{IsPlaced, Vocabulary};
 ghost use Rattle.tre_trace.specs.declared.fault.TraceKind.TheVariants.{Spent};
 ghost use Rattle.tre_trace.specs.declared.segment.Segment.{Segment};
 
@@ -10,9 +10,9 @@ use crate::{PART_MAX, PartReader, Said, Spot};
 use std::alloc::Global;
 use tre_trace::{FED_MAX, Segment, TraceFault, TraceKind};
 
-// The reader of the parts, the part that isn't ended yet, and where it begins.
+// The readers of the parts, the part that isn't ended yet, and where it begins.
 #[derive(Drop)]
-pub struct Walk<R> {
+pub struct Walk<R: Drop> {
     pub reader: R,
     pub part: Vec<u8>,
     pub spot: Spot,
@@ -20,14 +20,15 @@ pub struct Walk<R> {
 
 // Reads a part, and puts the segment that it says behind the others.
 #[inline(always)]
-fn add_part<R: PartReader>(
+fn add_part<R: PartReader + Drop>(
     reader: &mut R,
     spot: Spot,
     part: &[u8],
     segments: &mut Vec<Segment>,
 ) -> Result<(), TraceFault>
     ensures adds { (state : R.State) → R.holds reader.old state →
-        OnOk result (AddsPart (part_says (R.format (R.terms reader.old)) state part.now)
+        OnOk result (AddsPart (R.names reader.old) (part_says (R.format (R.terms reader.old)) state
+        part.now)
         (R.holds reader.new) segments.old.items segments.new.items) }
     ensures refused { (state : R.State) → R.holds reader.old state →
         IfErr result (IsRefusedPart (part_says (R.format (R.terms reader.old)) state part.now)
@@ -35,6 +36,7 @@ fn add_part<R: PartReader>(
     ensures never_spent { IfErr result (λ fault. fault.kind ≢ Spent) }
     ensures placed { IfErr result IsPlaced }
     ensures same_terms { R.terms reader.new ≡ R.terms reader.old }
+    ensures same_names { R.names reader.new ≡ R.names reader.old }
 {
     let place = reader.place(spot);
     if part.len() > PART_MAX {
@@ -59,17 +61,19 @@ fn out_of_memory() -> TraceFault
     TraceFault { place: 0, kind }
 }
 
-impl<R: PartReader> Walk<R> {
+impl<R: PartReader + Drop> Walk<R> {
     // Keeps bytes of a part that isn't ended yet.
     fn keep(&mut self, more: &[u8]) -> Result<(), TraceFault>
-        ensures takes { (terms : R.Terms) (bytes : List ℕ) (segments : List Segment) →
+        ensures takes { (asked : Vocabulary) (terms : R.Terms) (bytes : List ℕ)
+            (segments : List Segment) →
             IsAt R.terms R.format R.holds terms self.old.reader self.old.part.items self.old.spot
             bytes →
             IsInside (R.format terms).separates more.now →
-            Takes (λ _. IsAt R.terms R.format R.holds terms self.new.reader self.new.part.items
+            Takes asked (λ _. IsAt R.terms R.format R.holds terms self.new.reader
+            self.new.part.items
             self.new.spot (bytes ++ more.now))
-            segments segments (reading_of (R.format terms) false bytes)
-            (reading_of (R.format terms) false (bytes ++ more.now)) result }
+            segments segments (recording_of (R.format terms) false bytes)
+            (recording_of (R.format terms) false (bytes ++ more.now)) result }
         ensures never_spent { IfErr result (λ fault. fault.kind ≢ Spent) }
         ensures placed { IfErr result IsPlaced }
         ensures same_reader { self.new.reader ≡ self.old.reader }
@@ -95,13 +99,15 @@ impl<R: PartReader> Walk<R> {
             IsInside (R.format terms).separates part.now → (R.format terms).separates separator
             ≡ true →
             length bytes + length part.now + 1 ≤ FED_MAX →
-            Takes (λ _. IsAt R.terms R.format R.holds terms self.new.reader self.new.part.items
+            Takes (R.names self.old.reader) (λ _. IsAt R.terms R.format R.holds terms
+            self.new.reader self.new.part.items
             self.new.spot (bytes ++ (part.now ++ separator ∷ [])))
-            segments.old.items segments.new.items (reading_of (R.format terms) false bytes)
-            (reading_of (R.format terms) false (bytes ++ (part.now ++ separator ∷ []))) result }
+            segments.old.items segments.new.items (recording_of (R.format terms) false bytes)
+            (recording_of (R.format terms) false (bytes ++ (part.now ++ separator ∷ []))) result }
         ensures never_spent { IfErr result (λ fault. fault.kind ≢ Spent) }
         ensures placed { IfErr result IsPlaced }
         ensures same_terms { R.terms self.new.reader ≡ R.terms self.old.reader }
+        ensures same_names { R.names self.new.reader ≡ R.names self.old.reader }
     {
         add_part(&mut self.reader, self.spot, part, segments)?;
         self.spot = self.spot.after(part.len());
@@ -114,13 +120,15 @@ impl<R: PartReader> Walk<R> {
             IsAt R.terms R.format R.holds terms self.old.reader self.old.part.items self.old.spot
             bytes →
             (R.format terms).separates separator ≡ true → length bytes + 1 ≤ FED_MAX →
-            Takes (λ _. IsAt R.terms R.format R.holds terms self.new.reader self.new.part.items
+            Takes (R.names self.old.reader) (λ _. IsAt R.terms R.format R.holds terms
+            self.new.reader self.new.part.items
             self.new.spot (bytes ++ separator ∷ []))
-            segments.old.items segments.new.items (reading_of (R.format terms) false bytes)
-            (reading_of (R.format terms) false (bytes ++ separator ∷ [])) result }
+            segments.old.items segments.new.items (recording_of (R.format terms) false bytes)
+            (recording_of (R.format terms) false (bytes ++ separator ∷ [])) result }
         ensures never_spent { IfErr result (λ fault. fault.kind ≢ Spent) }
         ensures placed { IfErr result IsPlaced }
         ensures same_terms { R.terms self.new.reader ≡ R.terms self.old.reader }
+        ensures same_names { R.names self.new.reader ≡ R.names self.old.reader }
     {
         add_part(&mut self.reader, self.spot, &self.part, segments)?;
         self.spot = self.spot.after(self.part.len());
@@ -137,13 +145,15 @@ impl<R: PartReader> Walk<R> {
             IsInside (R.format terms).separates front.now → (R.format terms).separates separator
             ≡ true →
             length bytes + length front.now + 1 ≤ FED_MAX →
-            Takes (λ _. IsAt R.terms R.format R.holds terms self.new.reader self.new.part.items
+            Takes (R.names self.old.reader) (λ _. IsAt R.terms R.format R.holds terms
+            self.new.reader self.new.part.items
             self.new.spot (bytes ++ (front.now ++ separator ∷ [])))
-            segments.old.items segments.new.items (reading_of (R.format terms) false bytes)
-            (reading_of (R.format terms) false (bytes ++ (front.now ++ separator ∷ []))) result }
+            segments.old.items segments.new.items (recording_of (R.format terms) false bytes)
+            (recording_of (R.format terms) false (bytes ++ (front.now ++ separator ∷ []))) result }
         ensures never_spent { IfErr result (λ fault. fault.kind ≢ Spent) }
         ensures placed { IfErr result IsPlaced }
         ensures same_terms { R.terms self.new.reader ≡ R.terms self.old.reader }
+        ensures same_names { R.names self.new.reader ≡ R.names self.old.reader }
     {
         if self.part.is_empty() {
             self.end_here(front, segments)?;
@@ -160,13 +170,15 @@ impl<R: PartReader> Walk<R> {
             IsAt R.terms R.format R.holds terms self.old.reader self.old.part.items self.old.spot
             bytes →
             length bytes + length piece.now ≤ FED_MAX →
-            Takes (λ _. IsAt R.terms R.format R.holds terms self.new.reader self.new.part.items
+            Takes (R.names self.old.reader) (λ _. IsAt R.terms R.format R.holds terms
+            self.new.reader self.new.part.items
             self.new.spot (bytes ++ piece.now))
-            segments.old.items segments.new.items (reading_of (R.format terms) false bytes)
-            (reading_of (R.format terms) false (bytes ++ piece.now)) result }
+            segments.old.items segments.new.items (recording_of (R.format terms) false bytes)
+            (recording_of (R.format terms) false (bytes ++ piece.now)) result }
         ensures never_spent { IfErr result (λ fault. fault.kind ≢ Spent) }
         ensures placed { IfErr result IsPlaced }
         ensures same_terms { R.terms self.new.reader ≡ R.terms self.old.reader }
+        ensures same_names { R.names self.new.reader ≡ R.names self.old.reader }
     {
         let mut rest = piece;
         while let Some(place) = self.reader.separator_in(rest) {
@@ -183,13 +195,15 @@ impl<R: PartReader> Walk<R> {
             IsAt R.terms R.format R.holds terms self.old.reader self.old.part.items self.old.spot
             bytes →
             end ≡ length bytes →
-            Takes (IsEnded (reading_of (R.format terms) true bytes)) segments.old.items
+            Takes (R.names self.old.reader) (IsEnded (R.names self.old.reader)
+            (recording_of (R.format terms) true bytes)) segments.old.items
             segments.new.items
-            (reading_of (R.format terms) false bytes) (reading_of (R.format terms) true bytes)
+            (recording_of (R.format terms) false bytes) (recording_of (R.format terms) true bytes)
             result }
         ensures never_spent { IfErr result (λ fault. fault.kind ≢ Spent) }
         ensures placed { IfErr result IsPlaced }
         ensures same_terms { R.terms self.new.reader ≡ R.terms self.old.reader }
+        ensures same_names { R.names self.new.reader ≡ R.names self.old.reader }
     {
         add_part(&mut self.reader, self.spot, &self.part, segments)?;
         match self.reader.at_end() {

@@ -5,23 +5,18 @@ use Rattle.std.proofs.lemmas.List.{length-set, get_or-set_same, get_or-set_other
 use Rattle.std.proofs.lemmas.Bool.{cases_eq}
 use Rattle.std.proofs.lemmas.Option.{slice_get-get_or, slice_get_within, get_or_from_slice_get}
 use Rattle.std.specs.List.{AllZip}
-use Rattle.tre_parts.specs.Shared.{AreDistinct}
 use Rattle.tre_trace.specs.Reading.{Vocabulary}
 use Rattle.tre_share.specs.Growth.{IsWider, HasWider, Keep}
 use Rattle.tre_share.specs.Places.{places_of, ArePlaces}
-use Rattle.tre_share.specs.Shares.{Shows, IsViewOf}
+use Rattle.tre_share.specs.Shares.{AreDistinct, Shows, IsViewOf}
 use Rattle.tre_share.specs.declared.view.View.{View}
-use Rattle.tre_share.proofs.Standing.{get_or-front, get_or-last, places-kept, places-among, Extends-none, Extends-trans}
+use Rattle.tre_share.proofs.Standing.{get_or-front, get_or-last, places-kept, Extends-none, Extends-trans}
 
 -- a view by the places of its names
 pub shows : (asked all : Vocabulary) (view : View) → AreDistinct asked
     → ArePlaces asked.names all.names (places_of view.names)
     → ArePlaces asked.events all.events (places_of view.events) → Shows asked all view
 shows asked all view distinct names events = record {
-  among = record {
-    names = places-among all.names asked.names (places_of view.names) names;
-    events = places-among all.events asked.events (places_of view.events) events;
-  };
   distinct = distinct;
   names = names;
   events = events;

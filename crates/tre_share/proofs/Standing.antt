@@ -16,7 +16,8 @@ use Rattle.std.proofs.Math.Nat.{two-pow-succ, pow-suc, div-div-eq-div-mul, mod-o
 use Rattle.std.proofs.Math.Arith.{mod-mul}
 use Rattle.std.proofs.lemmas.Nat.{pow_pos}
 use Rattle.std.proofs.lemmas.Slice.Eq.{bytes_eq-Decides}
-use Rattle.tre_parts.specs.Shared.{seen}
+use Rattle.tre_trace.specs.Reading.{bits_of}
+use Rattle.tre_trace.proofs.Naming.{bit, bit-at, first-bit}
 use Rattle.tre_state.specs.Names.{place_of}
 use Rattle.tre_state.specs.declared.names.TheConstants.{NAMES_MAX}
 use Rattle.tre_share.specs.Growth.{Extends}
@@ -135,13 +136,23 @@ places-count all (name ∷ asked) (place ∷ places) are =
 
 -- ---- what is seen by places
 
-pub seen-places : (asked all : List (List ℕ)) (places : List ℕ) (bits : ℕ)
-    → ArePlaces asked all places → bits_at places bits ≡ seen asked all bits
-seen-places [] all [] bits are = refl
-seen-places [] all (place ∷ places) bits are = absurd are
-seen-places (name ∷ asked) all [] bits are = absurd are
-seen-places (name ∷ asked) all (place ∷ places) bits are =
-    rw are.0 (ap (λ rest. bit_at bits place + 2 * rest) (seen-places asked all places bits are.1))
+bit-of : (test : List ℕ → Bool) (all : List (List ℕ)) (name : List ℕ) (place : ℕ)
+    → place_of all name ≡ Some place → bit_at (bits_of test all) place ≡ bit (test name)
+bit-of test all name place is =
+    let at = position-Some (bytes_eq name) all place [] is in
+    bit-at test all place at.0
+    ∙ ap (λ n. bit (test n)) (sym ((bytes_eq-Decides name (get_or all place [])).0 at.1))
+
+-- The bits of the asked names, out of those of all.
+pub seen-places : (asked all : List (List ℕ)) (places : List ℕ) (test : List ℕ → Bool)
+    → ArePlaces asked all places → bits_at places (bits_of test all) ≡ bits_of test asked
+seen-places [] all [] test are = refl
+seen-places [] all (place ∷ places) test are = absurd are
+seen-places (name ∷ asked) all [] test are = absurd are
+seen-places (name ∷ asked) all (place ∷ places) test are =
+    ap (λ n. n + 2 * bits_at places (bits_of test all)) (bit-of test all name place are.0)
+    ∙ ap (λ rest. bit (test name) + 2 * rest) (seen-places asked all places test are.1)
+    ∙ sym (first-bit test name asked)
 
 pub bits_at-lt : (places : List ℕ) (bits : ℕ) → bits_at places bits < 2 ^ length places
 bits_at-lt [] bits = omega arith

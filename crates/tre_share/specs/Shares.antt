@@ -1,7 +1,6 @@
 -- Who shares a reader.
-use Rattle.std.specs.Prelude.{◌≡◌, ℕ, ◌<◌, ◌≤◌, ◌⊎◌, List, length, Some, All, AllPairs, Contains, slice_get}
+use Rattle.std.specs.Prelude.{◌≡◌, ◌≢◌, ℕ, ◌<◌, ◌≤◌, ◌⊎◌, List, length, Some, All, AllPairs, Contains, slice_get}
 use Rattle.std.specs.List.{AllZip}
-use Rattle.tre_parts.specs.Shared.{AreAmong, AreDistinct}
 use Rattle.tre_state.specs.declared.names.TheConstants.{NAMES_MAX}
 use Rattle.tre_trace.specs.Reading.{Vocabulary}
 use Rattle.tre_share.specs.Places.{places_of, ArePlaces}
@@ -20,9 +19,13 @@ views_of shares = shares.views.items
 abbrev pub group_of : View → ℕ
 group_of view = view.group
 
+-- No name is asked twice, but as a proposition and as an event.
+pub record AreDistinct (asked : Vocabulary) : Type 0 where
+  pub names : AllPairs (λ name other. name ≢ other) asked.names
+  pub events : AllPairs (λ name other. name ≢ other) asked.events
+
 -- The view shows what is read for all names as it is for the asked ones.
 pub record Shows (asked all : Vocabulary) (view : View) : Type 0 where
-  pub among : AreAmong asked all
   pub distinct : AreDistinct asked
   pub names : ArePlaces asked.names all.names (places_of view.names)
   pub events : ArePlaces asked.events all.events (places_of view.events)

@@ -1,6 +1,5 @@
 -- What a view shows of what was read for its group.
-use Rattle.std.specs.Prelude.{ℕ, map}
-use Rattle.tre_trace.specs.Reading.{Reading}
+use Rattle.std.specs.Prelude.{ℕ}
 use Rattle.tre_trace.specs.Segments.{segment_with}
 use Rattle.tre_trace.specs.declared.segment.Segment.{Segment}
 use Rattle.tre_share.specs.Places.{places_of}
@@ -16,11 +15,3 @@ abbrev pub shown_segment : View → Segment → Segment
 shown_segment view segment =
     segment_with segment.len (bits_at (places_of view.names) segment.val)
     (shown_events view segment.ev)
-
--- What a reading for the group says for the pattern.
-abbrev pub shown_reading : View → Reading → Reading
-shown_reading view reading = record {
-  segments = map (shown_segment view) reading.segments;
-  last = shown_events view reading.last;
-  fault = reading.fault;
-}

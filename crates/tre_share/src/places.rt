@@ -21,8 +21,8 @@ pub struct Places {
 }
 
 impl Places {
-    ghost use Rattle.std.specs.Prelude.{ℕ, List};
-    ghost use Rattle.tre_parts.specs.Shared.{seen};
+    ghost use Rattle.std.specs.Prelude.{ℕ, Bool, List};
+    ghost use Rattle.tre_trace.specs.Reading.{bits_of};
     ghost use Rattle.tre_share.specs.Shares.{Exceed};
     ghost use Rattle.tre_share.specs.Places.{places_of, ArePlaces};
 
@@ -78,8 +78,9 @@ impl Places {
     /// The bits of the asked names, where these are those of all names.
     pub fn seen(&self, bits: u64) -> u64
         ensures at { result ≡ bits_at (places_of self.now) bits }
-        ensures seen { (asked all : List (List ℕ)) → ArePlaces asked all (places_of self.now) →
-            result ≡ seen asked all bits }
+        ensures seen { (asked all : List (List ℕ)) (test : List ℕ → Bool) →
+            ArePlaces asked all (places_of self.now) → bits ≡ bits_of test all →
+            result ≡ bits_of test asked }
     {
         if self.in_order {
             return bits_below(bits, self.places.len());

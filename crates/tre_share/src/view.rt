@@ -1,6 +1,5 @@
-ghost use Rattle.std.specs.Prelude.{◌≡◌, ◌↔◌, true};
-ghost use Rattle.tre_parts.specs.Shared.{seen, seen_segment};
-ghost use Rattle.tre_trace.specs.Reading.{Vocabulary};
+ghost use Rattle.std.specs.Prelude.{◌≡◌, ◌↔◌, ℕ, Bool, List, true};
+ghost use Rattle.tre_trace.specs.Reading.{Stretch, Vocabulary, events_for, segment_for};
 
 use crate::group::Group;
 use crate::places::Places;
@@ -37,8 +36,8 @@ impl View {
     /// What a segment that was read for the group is for the pattern.
     pub fn segment(&self, wide: Segment) -> Segment
         ensures shown { result ≡ shown_segment self.now wide }
-        ensures seen { (asked all : Vocabulary) → Shows asked all self.now →
-            result ≡ seen_segment asked all wide }
+        ensures seen { (asked all : Vocabulary) (stretch : Stretch) → Shows asked all self.now →
+            wide ≡ segment_for all stretch → result ≡ segment_for asked stretch }
     {
         Segment {
             len: wide.len,
@@ -50,8 +49,9 @@ impl View {
     /// Which events of the pattern happen where those of the group do.
     pub fn events(&self, wide: u64) -> u64
         ensures shown { result ≡ shown_events self.now wide }
-        ensures seen { (asked all : Vocabulary) → Shows asked all self.now →
-            result ≡ seen asked.events all.events wide }
+        ensures seen { (asked all : Vocabulary) (happens : List ℕ → Bool) →
+            Shows asked all self.now → wide ≡ events_for all happens →
+            result ≡ events_for asked happens }
     {
         self.events.seen(wide)
     }

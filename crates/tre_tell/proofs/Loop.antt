@@ -8,7 +8,7 @@ use Rattle.std.proofs.lemmas.List.Elements.{recursion_from_All}
 use Rattle.tre_feed.specs.Feeding.{IsFed, GoesOn, StopsTurn, EndsTurn}
 use Rattle.tre_feed.specs.Input.{InputTold, WereRead, TakesAtMost, HasReadCause}
 use Rattle.tre_feed.specs.Readers.{readings_in, rows_of, WereFed, WereFedAtMost}
-use Rattle.tre_feed.specs.Readings.{common, AgreeAlways, rows_in, AddsEach}
+use Rattle.tre_feed.specs.Readings.{AddsEach, AgreeAlways, common, lengths_of, rows_in}
 use Rattle.tre_feed.specs.declared.fault.FeedFault.{FeedFault}
 use Rattle.tre_feed.specs.declared.fault.FeedFault.TheVariants.{Trace as FeedTrace, TooLong as FeedTooLong, Read as FeedRead, Memory as FeedMemory}
 use Rattle.tre_feed.specs.declared.readers.Readers.{Readers}
@@ -16,7 +16,6 @@ use Rattle.tre_feed.proofs.Pieces.{Consumes-keeps, found_behind}
 use Rattle.tre_feed.proofs.Read.{fed_at_most, same_length}
 use Rattle.tre_online.specs.Watch.{trees_of, ended_of_each, Watches}
 use Rattle.tre_online.specs.declared.watch.Watch.{Watch}
-use Rattle.tre_parts.specs.Alike.{lengths_of}
 use Rattle.tre_syntax.specs.Pattern.{pattern_tree}
 use Rattle.tre_syntax.specs.declared.pattern.Pattern.{Pattern}
 use Rattle.tre_trace.specs.Reading.{Reading}

@@ -2,7 +2,7 @@
 use Rattle.std.proofs.Common.{◌≡◌, ◌∙◌, ℕ, ◌+◌, ◌<◌, ◌≤◌, ◌^◌, List, [], ◌∷◌, ◌++◌, length, Option, None, Some, IfSome, refl, sym, subst, arith, ap, append_assoc, length-append}
 use Rattle.tre_decimal.specs.Decimal.{number_text}
 use Rattle.tre_pairs.specs.declared.TheConstants.{TIME_MAX}
-use Rattle.tre_parts.specs.Alike.{lengths_of}
+use Rattle.tre_feed.specs.Readings.{lengths_of}
 use Rattle.tre_show.specs.Line.{lines_of, offline_text}
 use Rattle.tre_trace.specs.Trace.{end_of}
 use Rattle.tre_trace.specs.declared.segment.Segment.{Segment}

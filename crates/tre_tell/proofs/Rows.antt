@@ -4,11 +4,10 @@ use Rattle.std.specs.List.{AllByRecursion}
 use Rattle.std.proofs.lemmas.List.{length-map, take_all}
 use Rattle.std.proofs.lemmas.List.Elements.{recursion_from_All}
 use Rattle.tre_feed.specs.Readers.{no_segment, column}
-use Rattle.tre_feed.specs.Readings.{AreLevel, count_of}
+use Rattle.tre_feed.specs.Readings.{AreLevel, count_of, lengths_of}
 use Rattle.tre_online.specs.Watch.{sessions_of, trees_of, StandForEach, Watches, AreAlike, pushed_each}
 use Rattle.tre_online.specs.declared.session.Session.{Session}
 use Rattle.tre_online.specs.declared.watch.Watch.{Watch}
-use Rattle.tre_parts.specs.Alike.{lengths_of}
 use Rattle.tre_trace.specs.Trace.{end_of, AreLong, IsTrace, Fits}
 use Rattle.tre_trace.specs.declared.segment.Segment.{Segment}
 use Rattle.tre_trace.proofs.Segments.{end_of-append, end_of-le}

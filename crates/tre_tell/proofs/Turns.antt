@@ -5,12 +5,12 @@ use Rattle.std.proofs.Math.Seq.{take-append-add, take-append_seam}
 use Rattle.std.proofs.lemmas.List.{length-map, map-append, drop_at}
 use Rattle.std.proofs.lemmas.List.Elements.{recursion_from_All}
 use Rattle.tre_feed.specs.Readers.{readings_in}
-use Rattle.tre_feed.specs.Readings.{common, AreAllAlike, rows_in, AddsEach, adds_none, adds_next, count_of}
+use Rattle.tre_feed.specs.Readings.{adds_next, adds_none, AddsEach, AreAlike, AreAllAlike, common, count_of, lengths_of, rows_in}
 use Rattle.tre_feed.specs.declared.readers.Readers.{Readers}
 use Rattle.tre_feed.proofs.Outcomes.{AllGrow, GrowEach as GrowsBy, grow_none, grow_next}
 use Rattle.tre_feed.proofs.Read.{all_traces}
-use Rattle.tre_parts.specs.Alike.{lengths_of, AreAlike}
-use Rattle.tre_trace.specs.Reading.{Reading, Adds, Grows}
+use Rattle.tre_feed.specs.Growth.{Adds, Grows}
+use Rattle.tre_trace.specs.Reading.{Reading}
 use Rattle.tre_trace.specs.Trace.{IsTrace, quiet}
 use Rattle.tre_trace.specs.declared.segment.Segment.{Segment}
 use Rattle.tre_tell.specs.Telling.{first_row, joined, heads}

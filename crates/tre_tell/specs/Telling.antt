@@ -4,11 +4,10 @@ use Rattle.std.specs.Prelude.{◌≡◌, ◌<◌, ℕ, All, List, [], ◌∷◌,
 use Rattle.std.specs.List.{AllByRecursion, AllZip}
 use Rattle.std.specs.Io.KnownBytes.{Appends}
 use Rattle.tre_feed.specs.Readers.{column}
-use Rattle.tre_feed.specs.Readings.{AreLevel, count_of}
+use Rattle.tre_feed.specs.Readings.{AreLevel, count_of, lengths_of}
 use Rattle.tre_io.specs.Faults.{counted}
 use Rattle.tre_online.specs.Watch.{trees_of, ended_of_each, Watches, AreAlike, pushed_each}
 use Rattle.tre_online.specs.declared.watch.Watch.{Watch}
-use Rattle.tre_parts.specs.Alike.{lengths_of}
 use Rattle.tre_trace.specs.Trace.{Timeline, timeline_of, quiet, Fits, IsTrace}
 use Rattle.tre_trace.specs.declared.segment.Segment.{Segment}
 use Rattle.tre_zone.specs.declared.zone_bounds.ZoneBounds.{ZoneBounds}

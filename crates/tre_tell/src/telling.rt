@@ -2,7 +2,7 @@
 ghost use Rattle.std.specs.Prelude.{◌≡◌, ◌≤◌, ◌+◌, ℕ, List, Option, IsTrue, IfOk, IfErr, IfSome, false, length, map, string_bytes};
 ghost use Rattle.tre_decimal.specs.declared.TheConstants.{SCALE_MAX};
 ghost use Rattle.tre_feed.specs.Input.{input_told, TakesAtMost};
-ghost use Rattle.tre_feed.specs.Readers.{AreFresh, how_many, readings_in, rows_of};
+ghost use Rattle.tre_feed.specs.Readers.{AreFresh, how_many, readings_asked, rows_of};
 ghost use Rattle.tre_feed.specs.Readings.{AgreeAlways};
 ghost use Rattle.tre_online.specs.Watch.{trees_of};
 ghost use Rattle.tre_tell.specs.Ends.{EndsTelling};
@@ -92,10 +92,10 @@ pub fn tell_matches<S: Source, R: TraceReader + Drop, O: Sink>(
     requires labels { length labels.now ≡ length patterns.now }
     requires readers { how_many readers.old ≡ length patterns.now }
     requires fresh { AreFresh R.represents readers.old }
-    requires alike { AgreeAlways (readings_in R.reading R.terms readers.old) }
-    requires nothing { SayNothing (readings_in R.reading R.terms readers.old) }
+    requires alike { AgreeAlways (readings_asked R.recording R.names R.terms readers.old) }
+    requires nothing { SayNothing (readings_asked R.recording R.names R.terms readers.old) }
     ensures ends { EndsTelling (watched_by (map string_bytes labels.now) patterns.now
-        (readings_in R.reading R.terms readers.old) limit scale) name.now
+        (readings_asked R.recording R.names R.terms readers.old) limit scale) name.now
         (input_told S.file_name S.file S.sound S.opened S.left S.found S.faults input.old input.new)
         (output_told O.written O.faults out.old out.new) result }
     ensures bounded { IsTrue (S.opened input.new) →

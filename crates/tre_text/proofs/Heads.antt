@@ -4,12 +4,12 @@ use Rattle.std.specs.List.{list_all}
 use Rattle.std.specs.Option.{option_map}
 use Rattle.tre_decimal.specs.Decimal.{units_of}
 use Rattle.tre_pairs.specs.declared.TheConstants.{TIME_MAX}
-use Rattle.tre_text.specs.Lines.{IsLength, Heads, list_of, said_of}
-use Rattle.tre_text.specs.TextReading.{Terms, begins_comment, begins_events, spells_word, valuation_after, known_at, no_segment, one_segment, entry_says, fields_say, fields_of, line_says}
+use Rattle.tre_text.specs.Lines.{FindsEntry, FindsEvents, IsLength, Heads, bits_after, list_of, said_of}
+use Rattle.tre_text.specs.TextReading.{Past, begins_comment, begins_events, spells_word, entry_says, fields_say, fields_of, line_says}
 use Rattle.tre_text.specs.declared.found.Head.{Head}
 use Rattle.tre_text.specs.declared.found.Head.TheVariants.{Events, Entry}
 use Rattle.tre_text.specs.declared.known.Known.{Known}
-use Rattle.tre_text.proofs.Entries.{BeginWithDigits, IsEntryOf, equals, number-no_events, says-fields, says-no_name, says-segment, fields-events, fields-no_event}
+use Rattle.tre_text.proofs.Entries.{BeginWithDigits, IsEntryOf, equals, number-no_events, says-fields, says-no_name, says-stretch, fields-events, fields-no_event}
 use Rattle.tre_trace.specs.Reading.{Vocabulary}
 use Rattle.tre_trace.specs.declared.fault.TraceKind.TheVariants.{Zero, BadName}
 
@@ -25,68 +25,75 @@ told None number is = cc
 told (Some whole) number is = record { whole = whole; is = refl; value = cc }
 
 -- A first field that is a number of units, and no comment.
-module _ (digits : BeginWithDigits) (scale : ℕ) (known : Known) (first : List ℕ)
+module _ (digits : BeginWithDigits) (scale : ℕ) (past : Past) (first : List ℕ)
     (no_comment : begins_comment first ≡ false) (number : ℕ)
     (told : IsTold (units_of scale first) number) where
   no_events : begins_events first ≡ false
   no_events = number-no_events digits scale told.whole first told.is
 
-  first-says : (names : Vocabulary) (fields : List (List ℕ))
-      → fields_say (record { names = names; scale = scale }) known (first ∷ fields)
-      ≡ entry_says names known (Some told.whole) fields
-  first-says names fields =
-      rw (no_comment, no_events) (ap (λ units. entry_says names known units fields) told.is)
+  first-says : (fields : List (List ℕ))
+      → fields_say scale past (first ∷ fields) ≡ entry_says past (Some told.whole) fields
+  first-says fields =
+      rw (no_comment, no_events) (ap (λ units. entry_says past units fields) told.is)
 
-  pub heads-zero : number ≡ 0 → (names : Vocabulary) (fields : List (List ℕ))
-      → fields_say (record { names = names; scale = scale }) known (first ∷ fields) ≡ Err Zero
-  heads-zero zero names behind =
+  pub heads-zero : number ≡ 0 → (fields : List (List ℕ))
+      → fields_say scale past (first ∷ fields) ≡ Err Zero
+  heads-zero zero fields =
       let none : told.whole ≡ 0 = omega (arith, told.value, zero) in
-      first-says names behind ∙ rw (equals told.whole 0 none) refl
+      first-says fields ∙ rw (equals told.whole 0 none) refl
 
-module _ (terms : Terms) (known : Known) (line first : List ℕ) (fields : List (List ℕ))
+-- what stands on a line behind the past, and what is known of that
+module _ (asked : Vocabulary) (scale : ℕ) (past : Past) (known : Known) (end : past.end ≡ known.end)
+    (line first : List ℕ) (fields : List (List ℕ))
     (is : fields_of line ≡ first ∷ fields) (no_comment : begins_comment first ≡ false) where
-  entry_of : (len : ℕ) → IsLength terms.scale known first len → IsEntryOf line first fields
+  entry_of : (len : ℕ) → IsLength scale known.end first len → IsEntryOf line first fields
   entry_of len length = record {
     is = is;
     no_comment = no_comment;
     no_events = length.no_events;
   }
 
-  -- A field that is no name is a fault of both kinds of lines.
-  pub no_name-behind : (head : Head) → Heads terms.scale known first (Ok head)
-      → list_all spells_word fields ≡ false → line_says terms known line ≡ Err BadName
-  no_name-behind Events sign bad = says-fields terms known line _ is
-      ∙ fields-no_event terms known first fields no_comment sign bad
-  no_name-behind (Entry len) length bad =
-      says-no_name terms known line first fields (entry_of len length) len length.is length.some
-      length.fits bad
+  fits_behind : (len : ℕ) → IsLength scale known.end first len → past.end + len ≤ TIME_MAX
+  fits_behind len length = omega (arith, length.fits, end)
 
-  module _ (head : Head) (heads : Heads terms.scale known first (Ok head)) (bits : ℕ)
-      (value : bits ≡ valuation_after (list_of head terms.names.names terms.names.events)
-      (said_of head known) fields)
+  -- A field that is no name is a fault of both kinds of lines.
+  pub no_name-behind : (head : Head) → Heads scale known.end first (Ok head)
+      → list_all spells_word fields ≡ false → line_says scale past line ≡ Err BadName
+  no_name-behind Events sign bad = says-fields scale past line _ is
+      ∙ fields-no_event scale past first fields no_comment sign bad
+  no_name-behind (Entry len) length bad =
+      says-no_name scale past line first fields (entry_of len length) len length.is length.some
+      (fits_behind len length) bad
+
+  module _ (head : Head) (heads : Heads scale known.end first (Ok head)) (bits : ℕ)
+      (value : bits ≡ bits_after (list_of head asked.names asked.events) (said_of head known)
+      fields)
       (words : list_all spells_word fields ≡ true) where
     bits_for : (other : Head) → head ≡ other
-        → bits ≡ valuation_after (list_of other terms.names.names terms.names.events)
-        (said_of other known) fields
+        → bits ≡ bits_after (list_of other asked.names asked.events) (said_of other known) fields
     bits_for other e = value
-        ∙ ap (λ h. valuation_after (list_of h terms.names.names terms.names.events)
-        (said_of h known) fields) e
+        ∙ ap (λ h. bits_after (list_of h asked.names asked.events) (said_of h known) fields) e
 
     pub events-behind : head ≡ Events
-        → line_says terms known line ≡ Ok (no_segment (known_at known.end bits))
+        → FindsEvents (line_says scale past line) past asked.events known.pending bits
     events-behind e =
-        let sign = subst (λ h. Heads terms.scale known first (Ok h)) e heads in
-        rw (bits_for Events e) (says-fields terms known line _ is
-        ∙ fields-events terms known first fields no_comment sign words)
+        let sign = subst (λ h. Heads scale known.end first (Ok h)) e heads in
+        record {
+          fields = fields;
+          says = says-fields scale past line _ is
+              ∙ fields-events scale past first fields no_comment sign words;
+          bits_are = bits_for Events e;
+        }
 
     pub segment-behind : (len : ℕ) → head ≡ Entry len
-        → (line_says terms known line ≡ Ok (one_segment known len bits))
-        × (known.end + len ≤ TIME_MAX)
+        → FindsEntry (line_says scale past line) past asked.names len bits
     segment-behind len e =
-        let length : IsLength terms.scale known first len =
-        subst (λ h. Heads terms.scale known first (Ok h)) e heads in (
-          rw (bits_for (Entry len) e)
-              (says-segment terms known line first fields (entry_of len length) len length.is
-              length.some length.fits words),
-          length.fits,
-        )
+        let length : IsLength scale known.end first len =
+        subst (λ h. Heads scale known.end first (Ok h)) e heads in
+        record {
+          fields = fields;
+          says = says-stretch scale past line first fields (entry_of len length) len length.is
+              length.some (fits_behind len length) words;
+          bits_are = bits_for (Entry len) e;
+          fits = fits_behind len length;
+        }

@@ -1,8 +1,6 @@
-pub mod Alike
 mod Entries
 mod Fields
 mod Heads
-mod Shared
+mod Naming
 mod TraceLines
-mod Valuations
 mod Words

@@ -1,103 +1,99 @@
 -- A line says its segment in the order of time.
-use Rattle.std.proofs.Common.{◌≡◌, ℕ, ◌+◌, ◌≤◌, nat_le, ◌==◌, Bool, true, false, List, [], ◌∷◌, Option, None, Some, Result, Ok, Err, refl, arith, subst, if◌then◌else◌}
+use Rattle.std.proofs.Common.{◌≡◌, ℕ, ◌+◌, ◌≤◌, nat_le, ◌==◌, Bool, true, false, List, [], ◌∷◌, ◌++◌, map, Option, None, Some, Result, Ok, Err, refl, arith, subst, if◌then◌else◌}
 use Rattle.std.proofs.lemmas.Bool.Decides.{nat_tests}
 use Rattle.std.specs.List.{list_all}
 use Rattle.tre_pairs.specs.declared.TheConstants.{TIME_MAX}
 use Rattle.tre_parts.specs.Format.{Step, Leads, KeepsTime}
 use Rattle.tre_decimal.specs.Decimal.{units_of}
-use Rattle.tre_text.specs.TextReading.{Terms, begins_comment, begins_events, spells_word, valuation_of, valuation_after, known_at, no_segment, one_segment, entry_says, events_say, fields_say, fields_of, line_says, text_format}
-use Rattle.tre_text.specs.declared.known.Known.{Known}
-use Rattle.tre_trace.specs.Reading.{Vocabulary}
+use Rattle.tre_text.specs.TextReading.{Past, begins_comment, begins_events, spells_word, past_at, no_stretch, one_stretch, entry_says, events_say, fields_say, fields_of, line_says, text_format}
+use Rattle.tre_trace.specs.Reading.{Vocabulary, segment_for}
 use Rattle.tre_trace.specs.declared.fault.TraceKind.{TraceKind}
 use Rattle.tre_trace.specs.declared.fault.TraceKind.TheVariants.{Zero, TooLate, BadName}
 
-leads-nothing : (known now : Known) (step : Step Known) → known.end ≡ now.end
-    → ◌≡◌ {A = Result (Step Known) TraceKind} (Ok (no_segment now)) (Ok step)
-    → Leads known.end step.segments step.state.end
-leads-nothing known now step same is =
-    let e : no_segment now ≡ step = cc in
-    subst (λ (s : Step Known). Leads known.end s.segments s.state.end) e
-    (record { long = tt; ends = same; in_time = λ h. subst (λ n. n ≤ TIME_MAX) same h })
+module _ (asked : Vocabulary) where
+  leads-nothing : (past now : Past) (step : Step Past) → past.end ≡ now.end
+      → ◌≡◌ {A = Result (Step Past) TraceKind} (Ok (no_stretch now)) (Ok step)
+      → Leads past.end (map (segment_for asked) step.stretches) step.state.end
+  leads-nothing past now step same is =
+      let e : no_stretch now ≡ step = cc in
+      subst (λ (s : Step Past). Leads past.end (map (segment_for asked) s.stretches) s.state.end) e
+      (record { long = tt; ends = same; in_time = λ h. subst (λ n. n ≤ TIME_MAX) same h })
 
-leads-segment : (known : Known) (len val : ℕ) (step : Step Known) → 1 ≤ len → known.end + len
-    ≤ TIME_MAX
-    → ◌≡◌ {A = Result (Step Known) TraceKind} (Ok (one_segment known len val)) (Ok step)
-    → Leads known.end step.segments step.state.end
-leads-segment known len val step long fits is =
-    let e : one_segment known len val ≡ step = cc in
-    subst (λ (s : Step Known). Leads known.end s.segments s.state.end) e
-    (record { long = (long, tt); ends = refl; in_time = λ h. fits })
+  leads-stretch : (past : Past) (len : ℕ) (fields : List (List ℕ)) (step : Step Past) → 1 ≤ len
+      → past.end + len ≤ TIME_MAX
+      → ◌≡◌ {A = Result (Step Past) TraceKind} (Ok (one_stretch past len fields)) (Ok step)
+      → Leads past.end (map (segment_for asked) step.stretches) step.state.end
+  leads-stretch past len fields step long fits is =
+      let e : one_stretch past len fields ≡ step = cc in
+      subst (λ (s : Step Past). Leads past.end (map (segment_for asked) s.stretches) s.state.end) e
+      (record { long = (long, tt); ends = refl; in_time = λ h. fits })
 
-leads-words : (known : Known) (len val : ℕ) (step : Step Known) → 1 ≤ len → known.end + len
-    ≤ TIME_MAX → (words : Bool)
-    → (if words then Ok (one_segment known len val) else Err BadName) ≡ Ok step
-    → Leads known.end step.segments step.state.end
-leads-words known len val step long fits true is = leads-segment known len val step long fits is
-leads-words known len val step long fits false is = cc
+  leads-words : (past : Past) (len : ℕ) (fields : List (List ℕ)) (step : Step Past) → 1 ≤ len
+      → past.end + len ≤ TIME_MAX → (words : Bool)
+      → (if words then Ok (one_stretch past len fields) else Err BadName) ≡ Ok step
+      → Leads past.end (map (segment_for asked) step.stretches) step.state.end
+  leads-words past len fields step long fits true is = leads-stretch
+      past len fields step long fits is
+  leads-words past len fields step long fits false is = cc
 
-leads-time : (known : Known) (len val : ℕ) (step : Step Known) → 1 ≤ len → (words in_time : Bool)
-    → nat_le (known.end + len) TIME_MAX ≡ in_time
-    → (if in_time then (if words then Ok (one_segment known len val) else Err BadName)
-    else Err TooLate) ≡ Ok step
-    → Leads known.end step.segments step.state.end
-leads-time known len val step long words true e is =
-    leads-words known len val step long (grind (arith, nat_tests)) words is
-leads-time known len val step long words false e is = cc
+  leads-time : (past : Past) (len : ℕ) (fields : List (List ℕ)) (step : Step Past) → 1 ≤ len
+      → (words in_time : Bool) → nat_le (past.end + len) TIME_MAX ≡ in_time
+      → (if in_time then (if words then Ok (one_stretch past len fields) else Err BadName)
+      else Err TooLate) ≡ Ok step
+      → Leads past.end (map (segment_for asked) step.stretches) step.state.end
+  leads-time past len fields step long words true e is =
+      leads-words past len fields step long (grind (arith, nat_tests)) words is
+  leads-time past len fields step long words false e is = cc
 
-leads-entry : (known : Known) (len val : ℕ) (step : Step Known) (words none : Bool)
-    → (len == 0) ≡ none
-    → (if none then Err Zero else (if nat_le (known.end + len) TIME_MAX then
-    (if words then Ok (one_segment known len val) else Err BadName) else Err TooLate)) ≡ Ok step
-    → Leads known.end step.segments step.state.end
-leads-entry known len val step words true e is = cc
-leads-entry known len val step words false e is =
-    let long : 1 ≤ len = grind (arith, nat_tests) in
-    leads-time known len val step long words (nat_le (known.end + len) TIME_MAX) refl is
+  leads-entry : (past : Past) (len : ℕ) (fields : List (List ℕ)) (step : Step Past)
+      (words none : Bool) → (len == 0) ≡ none
+      → (if none then Err Zero else (if nat_le (past.end + len) TIME_MAX then
+      (if words then Ok (one_stretch past len fields) else Err BadName) else Err TooLate)) ≡ Ok step
+      → Leads past.end (map (segment_for asked) step.stretches) step.state.end
+  leads-entry past len fields step words true e is = cc
+  leads-entry past len fields step words false e is =
+      let long : 1 ≤ len = grind (arith, nat_tests) in
+      leads-time past len fields step long words (nat_le (past.end + len) TIME_MAX) refl is
 
-leads-events : (known : Known) (pending : ℕ) (step : Step Known) (words : Bool)
-    → (if words then Ok (no_segment (known_at known.end pending)) else Err BadName) ≡ Ok step
-    → Leads known.end step.segments step.state.end
-leads-events known pending step true is =
-    leads-nothing known (known_at known.end pending) step refl is
-leads-events known pending step false is = cc
+  leads-events : (past : Past) (said : List (List ℕ)) (step : Step Past) (words : Bool)
+      → (if words then Ok (no_stretch (past_at past.end said)) else Err BadName) ≡ Ok step
+      → Leads past.end (map (segment_for asked) step.stretches) step.state.end
+  leads-events past said step true is = leads-nothing past (past_at past.end said) step refl is
+  leads-events past said step false is = cc
 
-leads-duration : (vocabulary : Vocabulary) (known : Known) (fields : List (List ℕ))
-    (step : Step Known) → (units : Option ℕ)
-    → entry_says vocabulary known units fields ≡ Ok step
-    → Leads known.end step.segments step.state.end
-leads-duration vocabulary known fields step None is = cc
-leads-duration vocabulary known fields step (Some len) is =
-    leads-entry known len (valuation_of vocabulary.names fields) step
-    (list_all spells_word fields) (len == 0) refl is
+  leads-duration : (past : Past) (fields : List (List ℕ)) (step : Step Past) → (units : Option ℕ)
+      → entry_says past units fields ≡ Ok step
+      → Leads past.end (map (segment_for asked) step.stretches) step.state.end
+  leads-duration past fields step None is = cc
+  leads-duration past fields step (Some len) is =
+      leads-entry past len fields step (list_all spells_word fields) (len == 0) refl is
 
-leads-first : (vocabulary : Vocabulary) (known : Known) (fields : List (List ℕ))
-    (step : Step Known) → (comment events : Bool) (units : Option ℕ)
-    → (if comment then Ok (no_segment known) else (if events then events_say vocabulary known fields
-    else entry_says vocabulary known units fields)) ≡ Ok step
-    → Leads known.end step.segments step.state.end
-leads-first vocabulary known fields step true events units is =
-    leads-nothing known known step refl is
-leads-first vocabulary known fields step false true units is =
-    leads-events known (valuation_after vocabulary.events known.pending fields) step
-    (list_all spells_word fields) is
-leads-first vocabulary known fields step false false units is =
-    leads-duration vocabulary known fields step units is
+  leads-first : (past : Past) (fields : List (List ℕ)) (step : Step Past)
+      → (comment events : Bool) (units : Option ℕ)
+      → (if comment then Ok (no_stretch past) else (if events then events_say past fields
+      else entry_says past units fields)) ≡ Ok step
+      → Leads past.end (map (segment_for asked) step.stretches) step.state.end
+  leads-first past fields step true events units is = leads-nothing past past step refl is
+  leads-first past fields step false true units is =
+      leads-events past (past.said ++ fields) step (list_all spells_word fields) is
+  leads-first past fields step false false units is = leads-duration past fields step units is
 
-leads-fields : (terms : Terms) (known : Known) (fields : List (List ℕ))
-    (step : Step Known) → fields_say terms known fields ≡ Ok step
-    → Leads known.end step.segments step.state.end
-leads-fields terms known [] step is = leads-nothing known known step refl is
-leads-fields terms known (first ∷ fields) step is =
-    leads-first terms.names known fields step (begins_comment first) (begins_events first)
-    (units_of terms.scale first) is
+  leads-fields : (scale : ℕ) (past : Past) (fields : List (List ℕ)) (step : Step Past)
+      → fields_say scale past fields ≡ Ok step
+      → Leads past.end (map (segment_for asked) step.stretches) step.state.end
+  leads-fields scale past [] step is = leads-nothing past past step refl is
+  leads-fields scale past (first ∷ fields) step is =
+      leads-first past fields step (begins_comment first) (begins_events first)
+      (units_of scale first) is
 
-leads-line : (terms : Terms) (known : Known) (line : List ℕ) (step : Step Known)
-    → line_says terms known line ≡ Ok step → Leads known.end step.segments step.state.end
-unfolding line_says
-leads-line terms known line step is = leads-fields terms known (fields_of line) step is
+  leads-line : (scale : ℕ) (past : Past) (line : List ℕ) (step : Step Past)
+      → line_says scale past line ≡ Ok step
+      → Leads past.end (map (segment_for asked) step.stretches) step.state.end
+  unfolding line_says
+  leads-line scale past line step is = leads-fields scale past (fields_of line) step is
 
-pub text-keeps_time : (terms : Terms) → KeepsTime (text_format terms)
-text-keeps_time terms = record {
+pub text-keeps_time : (scale : ℕ) → KeepsTime (text_format scale)
+text-keeps_time scale = record {
   begins = refl;
-  leads = λ known line step is. leads-line terms known line step is;
+  leads = λ asked past line step is. leads-line asked scale past line step is;
 }

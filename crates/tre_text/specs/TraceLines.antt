@@ -5,8 +5,8 @@ use Rattle.std.specs.Char.{is_newline}
 use Rattle.tre_pairs.specs.declared.TheConstants.{TIME_MAX}
 use Rattle.tre_parts.specs.declared.TheConstants.{PART_MAX}
 use Rattle.tre_decimal.specs.Decimal.{units_of}
-use Rattle.tre_text.specs.TextReading.{Terms, is_blank, fields_of, begins_comment, begins_events, spells_word, valuation_of, valuation_after}
-use Rattle.tre_trace.specs.declared.segment.Segment.{Segment}
+use Rattle.tre_text.specs.TextReading.{is_blank, fields_of, begins_comment, begins_events, spells_word, stretch_with}
+use Rattle.tre_trace.specs.Reading.{Stretch}
 use Rattle.tre_trace.specs.declared.fault.TraceKind.{TraceKind}
 use Rattle.tre_trace.specs.declared.fault.TraceKind.TheVariants.{BadNumber, Zero, TooLate, BadName}
 
@@ -45,42 +45,39 @@ pub record HasFields (line : List ℕ) (P : List ℕ → List (List ℕ) → Typ
 abbrev pub IsSilent : List ℕ → Type 0
 IsSilent line = (fields_of line ≡ []) ⊎ HasFields line (λ first others. begins_comment first ≡ true)
 
--- The sign of events stands first, and the others are names: those of the events that happen
--- besides the ones that were said before, and this holds of all of them.
-pub record SaysEvents (events : List (List ℕ)) (pending : ℕ) (Later : ℕ → Type 0) (first : List ℕ)
+-- The sign of events stands first, and the others are names: those that happen besides the ones
+-- that were said before, and this holds of all of them.
+pub record SaysEvents (said : List (List ℕ)) (Later : List (List ℕ) → Type 0) (first : List ℕ)
     (others : List (List ℕ)) : Type 0 where
   pub sign : begins_events first ≡ true
   pub words : list_all spells_word others ≡ true
-  pub later : Later (valuation_after events pending others)
+  pub later : Later (said ++ others)
 
--- A duration stands first, and the others are names: those of what is true on the segment.
-pub record IsEntry (terms : Terms) (segment : Segment) (first : List ℕ) (others : List (List ℕ)) :
-    Type 0 where
-  pub duration : units_of terms.scale first ≡ Some segment.len
+-- A duration stands first, and the others are names: those of what is true on the stretch.
+pub record IsEntry (scale : ℕ) (said : List (List ℕ)) (stretch : Stretch) (first : List ℕ)
+    (others : List (List ℕ)) : Type 0 where
+  pub duration : units_of scale first ≡ Some stretch.len
   pub words : list_all spells_word others ≡ true
-  pub val : segment.val ≡ valuation_of terms.names.names others
+  pub is : stretch ≡ stretch_with stretch.len others said
 
--- The line says the first of the segments, at whose begin the events happen that were said before
--- it, and this holds of the later ones.
-pub record SaysFirst (terms : Terms) (pending : ℕ) (line : List ℕ) (segments : List Segment)
-    (Later : List Segment → Type 0) : Type 0 where
-  pub segment : Segment
-  pub rest : List Segment
-  pub is : segments ≡ segment ∷ rest
-  pub entry : HasFields line (IsEntry terms segment)
-  pub events : segment.ev ≡ pending
+-- The line says the first of the stretches, at whose begin those happen that were said before it,
+-- and this holds of the later ones.
+pub record SaysFirst (scale : ℕ) (said : List (List ℕ)) (line : List ℕ) (stretches : List Stretch)
+    (Later : List Stretch → Type 0) : Type 0 where
+  pub stretch : Stretch
+  pub rest : List Stretch
+  pub is : stretches ≡ stretch ∷ rest
+  pub entry : HasFields line (IsEntry scale said stretch)
   pub later : Later rest
 
--- Each line is silent, says events or says the next segment. These are all segments, and the events
--- that are said behind the last. `pending` are those that were said before the first line.
-abbrev pub Say : Terms → ℕ → List (List ℕ) → List Segment → ℕ → Type 0
-Say terms pending [] segments last = (segments ≡ []) × (last ≡ pending)
-Say terms pending (line ∷ lines) segments last =
-    (IsSilent line × Say terms pending lines segments last)
-    ⊎ (HasFields line (SaysEvents terms.names.events pending
-    (λ said. Say terms said lines segments last))
-    ⊎ SaysFirst terms pending line segments
-    (λ rest. Say terms 0 lines rest last))
+-- Each line is silent, says events or says the next stretch. These are all stretches, and the names
+-- that are said behind the last. `said` are those that were said before the first line.
+abbrev pub Say : ℕ → List (List ℕ) → List (List ℕ) → List Stretch → List (List ℕ) → Type 0
+Say scale said [] stretches last = (stretches ≡ []) × (last ≡ said)
+Say scale said (line ∷ lines) stretches last =
+    (IsSilent line × Say scale said lines stretches last)
+    ⊎ (HasFields line (SaysEvents said (λ all. Say scale all lines stretches last))
+    ⊎ SaysFirst scale said line stretches (λ rest. Say scale [] lines rest last))
 
 -- It isn't a number of units, nor the sign of events.
 pub record IsNoNumber (scale : ℕ) (first : List ℕ) (others : List (List ℕ)) : Type 0 where

@@ -4,8 +4,8 @@ ghost use Rattle.std.specs.List.{list_all};
 ghost use Rattle.std.specs.Option.{option_map};
 ghost use Rattle.tre_decimal.specs.Decimal.{units_of};
 ghost use Rattle.tre_decimal.specs.declared.TheConstants.{SCALE_MAX};
-ghost use Rattle.tre_text.specs.TextReading.{begins_comment, begins_events, fields_among, spells_word, with_name, valuation_after, line_says};
-ghost use Rattle.tre_text.specs.Lines.{Finds, Heads, list_of, said_of};
+ghost use Rattle.tre_text.specs.TextReading.{Past, begins_comment, begins_events, fields_among, spells_word, line_says};
+ghost use Rattle.tre_text.specs.Lines.{Finds, Heads, bits_after, list_of, said_of, with_name};
 
 use crate::field::{next_field, skip_blanks, without_return};
 use crate::found::{Found, Head};
@@ -34,7 +34,7 @@ fn with_name(names: &Names, bits: u64, field: &[u8]) -> u64
 #[inline(always)]
 fn read_names(names: &Names, bits: u64, fields: &[u8]) -> Option<u64>
     ensures names { IfSome result (λ _. list_all spells_word (fields_among fields.now) ≡ true) }
-    ensures value { IfSome result (λ valuation. valuation ≡ valuation_after names.now bits
+    ensures value { IfSome result (λ valuation. valuation ≡ bits_after names.now bits
         (fields_among fields.now)) }
     ensures other { IfNone result (list_all spells_word (fields_among fields.now) ≡ false) }
 {
@@ -79,7 +79,7 @@ fn length_of(field: &[u8], scale: u8) -> Option<u64>
 fn head_of(known: Known, first: &[u8], scale: u8) -> Result<Head, TraceKind>
     requires no_comment { begins_comment first.now ≡ false }
     requires scale { scale ≤ SCALE_MAX }
-    ensures { Heads scale known first.now result }
+    ensures { Heads scale known.end first.now result }
 {
     // For the proof: what is a number of units is no sign of events.
     begins_with_a_digit();
@@ -126,10 +126,9 @@ fn said_of(head: Head, known: Known) -> u64
 #[inline(always)]
 pub fn read_line(names: &Names, events: &Names, scale: u8, known: Known, line: &[u8]) -> Found
     requires { scale ≤ SCALE_MAX }
-    ensures { Finds (line_says (record {
-      names = record { names = names.now; events = events.now };
-      scale = scale;
-    }) known line.now) known result }
+    ensures { (past : Past) → past.end ≡ known.end →
+        Finds (line_says scale past line.now) past
+        (record { names = names.now; events = events.now }) known.pending result }
 {
     let Some((first, fields)) = next_field(without_return(line)) else {
         return Found::Nothing;

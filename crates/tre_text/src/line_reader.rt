@@ -1,9 +1,9 @@
 // The lines of a text trace, one after the other.
-ghost use Rattle.std.specs.Prelude.{◌≡◌, ◌≤◌};
+ghost use Rattle.std.specs.Prelude.{◌≡◌, ◌≢◌, AllPairs, ℕ, ◌≤◌, []};
 ghost use Rattle.tre_decimal.specs.declared.TheConstants.{SCALE_MAX};
-ghost use Rattle.tre_text.specs.TextReading.{Terms, known_at, text_format};
+ghost use Rattle.tre_text.specs.TextReading.{Past, past_at, text_format};
 ghost use Rattle.tre_text.specs.Times.{text-keeps_time};
-ghost use Rattle.tre_text.specs.declared.known.Known.{Known};
+ghost use Rattle.tre_text.specs.Lines.{Knows};
 
 use crate::found::Found;
 use crate::known::Known;
@@ -22,18 +22,22 @@ pub struct LineReader {
     scale: u8,
     known: Known,
     ghost small: { scale ≤ SCALE_MAX },
+    ghost distinct: { AllPairs (λ name other. name ≢ other) names },
+    ghost events_distinct: { AllPairs (λ name other. name ≢ other) events },
 }
 
 impl LineReader {
     /// Nothing is read.
     pub fn new(names: Names, events: Names, scale: u8) -> LineReader
         requires { scale ≤ SCALE_MAX }
-        ensures begins { ⟦<LineReader as PartReader>⟧.holds result (known_at 0 0) }
-        ensures terms { ⟦<LineReader as PartReader>⟧.terms result ≡ record {
-          names = record { names = names; events = events };
-          scale = scale;
-        } }
+        ensures begins { ⟦<LineReader as PartReader>⟧.holds result (past_at 0 []) }
+        ensures terms { ⟦<LineReader as PartReader>⟧.terms result ≡ scale }
+        ensures names { ⟦<LineReader as PartReader>⟧.names result
+            ≡ record { names = names; events = events } }
     {
+        // For the proof: the calls say that no name stands twice in a list.
+        let _ = names.len();
+        let _ = events.len();
         let known = Known { end: 0, pending: 0 };
         LineReader {
             names,
@@ -45,18 +49,17 @@ impl LineReader {
 }
 
 impl PartReader for LineReader {
-    ghost State = { Known };
+    ghost State = { Past };
 
-    ghost Terms = { Terms };
+    ghost Terms = { ℕ };
 
-    ghost terms = { λ reader. record {
-      names = record { names = reader.names; events = reader.events };
-      scale = reader.scale;
-    } };
+    ghost terms = { λ reader. reader.scale };
+
+    ghost names = { λ reader. record { names = reader.names; events = reader.events } };
 
     ghost format = { text_format };
 
-    ghost holds = { λ reader known. reader.known ≡ known };
+    ghost holds = { λ reader past. Knows reader.events reader.known past };
 
     ghost keeps_time = { text-keeps_time };
 

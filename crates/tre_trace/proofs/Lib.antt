@@ -5,3 +5,4 @@ pub mod Words
 pub mod Starts
 pub mod Beside
 pub mod Blocks
+pub mod Naming

@@ -17,6 +17,7 @@
 
 mod block;
 mod fault;
+pub mod laws;
 mod plane;
 mod planes;
 mod reader;

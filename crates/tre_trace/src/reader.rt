@@ -1,5 +1,5 @@
-ghost use Rattle.std.specs.Prelude.{◌≡◌, ◌↔◌, ℕ, ◌+◌, ◌≤◌, List, ◌++◌, length, Bool, true, false, None, Err, OnOk, OnErr, IfOk, IfErr};
-ghost use Rattle.tre_trace.specs.Reading.{Reading, Grows, Adds, IsRefused, IsPlaced, spent_fault};
+ghost use Rattle.std.specs.Prelude.{◌≡◌, ◌↔◌, ℕ, ◌+◌, ◌≤◌, List, [], ◌++◌, length, Bool, true, false, None, Err, OnOk, OnErr, IfOk, IfErr};
+ghost use Rattle.tre_trace.specs.Reading.{Recording, Vocabulary, Grows, Adds, IsRefused, IsPlaced, events_for, reading_for, spent_fault};
 ghost use Rattle.tre_trace.specs.Trace.{IsTrace};
 
 use crate::{Segment, TraceFault};
@@ -13,14 +13,17 @@ pub const FED_MAX: u64 = 1 << 62;
 /// however they are cut, it gives the segments and the fault that they say. Once it has refused
 /// bytes or was finished, it answers `Spent`.
 pub trait TraceReader {
-    /// What a reading hangs on besides the bytes, such as the names of propositions and events.
+    /// What a recording hangs on besides the bytes, such as the unit of time.
     ghost Terms: { Type 0 };
 
     /// The terms that it reads by. No call changes them.
     ghost terms: { Self → Terms };
 
     /// What bytes say by these terms, where the input is closed or may go on.
-    ghost reading: { Terms → Bool → List ℕ → Reading };
+    ghost recording: { Terms → Bool → List ℕ → Recording };
+
+    /// The names that it reads for. No call changes them.
+    ghost names: { Self → Vocabulary };
 
     /// The reader was fed these bytes, and found no fault in them.
     ghost represents: { Self → List ℕ → Type 0 };
@@ -38,13 +41,13 @@ pub trait TraceReader {
         ensures goes_on { (bytes : List ℕ) → represents self.old bytes →
             OnOk result (represents self.new (bytes ++ piece.now)) }
         ensures adds { (bytes : List ℕ) → represents self.old bytes →
-            OnOk result (Adds segments.old.items segments.new.items
-            (reading (terms self.old) false bytes)
-            (reading (terms self.old) false (bytes ++ piece.now))) }
+            OnOk result (Adds (names self.old) segments.old.items segments.new.items
+            (recording (terms self.old) false bytes)
+            (recording (terms self.old) false (bytes ++ piece.now))) }
         ensures refused { (bytes : List ℕ) → represents self.old bytes →
-            IfErr result (IsRefused segments.old.items segments.new.items
-            (reading (terms self.old) false bytes)
-            (reading (terms self.old) false (bytes ++ piece.now))) }
+            IfErr result (IsRefused (names self.old) segments.old.items segments.new.items
+            (recording (terms self.old) false bytes)
+            (recording (terms self.old) false (bytes ++ piece.now))) }
 
         ensures placed { IfErr result IsPlaced }
         ensures spent { (result ≡ Err spent_fault) ↔ (is_spent self.old ≡ true) }
@@ -52,31 +55,34 @@ pub trait TraceReader {
         ensures spent_then { OnErr result (is_spent self.new ≡ true) }
         ensures fed { OnOk result (fed_of self.new ≡ fed_of self.old + length piece.now) }
         ensures same_fed { OnErr result (fed_of self.new ≡ fed_of self.old) }
-        ensures same_terms { terms self.new ≡ terms self.old };
+        ensures same_terms { terms self.new ≡ terms self.old }
+        ensures same_names { names self.new ≡ names self.old };
 
     /// Reads the end of the input, and puts the segments that it completes behind the others.
     /// Ok says that the bytes are a whole trace, and gives the events at its end: bit i says
     /// whether event i happens.
     fn finish(&mut self, segments: &mut Vec<Segment>) -> Result<u64, TraceFault>
         ensures whole { (bytes : List ℕ) → represents self.old bytes →
-            OnOk result ((reading (terms self.old) true bytes).fault ≡ None) }
+            OnOk result ((recording (terms self.old) true bytes).fault ≡ None) }
         ensures last { (bytes : List ℕ) → represents self.old bytes →
-            IfOk result (λ last. last ≡ (reading (terms self.old) true bytes).last) }
+            IfOk result (λ last. last ≡ events_for (names self.old)
+            (recording (terms self.old) true bytes).last) }
         ensures adds { (bytes : List ℕ) → represents self.old bytes →
-            OnOk result (Adds segments.old.items segments.new.items
-            (reading (terms self.old) false bytes)
-            (reading (terms self.old) true bytes)) }
+            OnOk result (Adds (names self.old) segments.old.items segments.new.items
+            (recording (terms self.old) false bytes)
+            (recording (terms self.old) true bytes)) }
         ensures refused { (bytes : List ℕ) → represents self.old bytes →
-            IfErr result (IsRefused segments.old.items segments.new.items
-            (reading (terms self.old) false bytes)
-            (reading (terms self.old) true bytes)) }
+            IfErr result (IsRefused (names self.old) segments.old.items segments.new.items
+            (recording (terms self.old) false bytes)
+            (recording (terms self.old) true bytes)) }
 
         ensures placed { IfErr result IsPlaced }
         ensures spent { (result ≡ Err spent_fault) ↔ (is_spent self.old ≡ true) }
         ensures unchanged { is_spent self.old ≡ true → segments.new.items ≡ segments.old.items }
         ensures spent_then { is_spent self.new ≡ true }
         ensures same_fed { fed_of self.new ≡ fed_of self.old }
-        ensures same_terms { terms self.new ≡ terms self.old };
+        ensures same_terms { terms self.new ≡ terms self.old }
+        ensures same_names { names self.new ≡ names self.old };
 
     /// How many bytes it was fed and didn't refuse.
     fn fed(&self) -> u64
@@ -88,13 +94,16 @@ pub trait TraceReader {
 
     /// Bytes that a reader represents have no fault while more may come.
     ghost faultless: { (reader : Self) (bytes : List ℕ) → represents reader bytes →
-        (reading (terms reader) false bytes).fault ≡ None };
+        (recording (terms reader) false bytes).fault ≡ None };
+
+    /// Without a byte nothing is said while more may come.
+    ghost starts: { (terms : Terms) → (recording terms false []).stretches ≡ [] };
 
     /// Nothing is taken back when more bytes come, or the end.
     ghost grows: { (terms : Terms) (closed : Bool) (first more : List ℕ) →
-        Grows (reading terms false first) (reading terms closed (first ++ more)) };
+        Grows (recording terms false first) (recording terms closed (first ++ more)) };
 
-    /// Segments that were read are a trace.
-    ghost is_trace: { (terms : Terms) (closed : Bool) (bytes : List ℕ) →
-        IsTrace (reading terms closed bytes).segments };
+    /// What was read is a trace, for any names.
+    ghost is_trace: { (terms : Terms) (asked : Vocabulary) (closed : Bool) (bytes : List ℕ) →
+        IsTrace (reading_for asked (recording terms closed bytes)).segments };
 }

@@ -1,5 +1,5 @@
 -- Which statement of a past decides.
-use Rattle.std.proofs.Common.{◌≡◌, ◌≢◌, ◌↔◌, ℕ, zero, suc, ◌+◌, ◌*◌, ◌/◌, ◌%◌, ◌^◌, ◌<◌, ◌==◌, ◌&&◌, ◌||◌, not, Bool, true, false, List, [], ◌∷◌, ◌++◌, length, get_or, Option, None, Some, IsBitSet, refl, sym, ap, ◌∙◌, arith, if◌then◌else◌}
+use Rattle.std.proofs.Common.{◌≡◌, ◌≢◌, ◌↔◌, ℕ, zero, suc, ◌+◌, ◌*◌, ◌/◌, ◌%◌, ◌^◌, ◌==◌, ◌&&◌, ◌||◌, not, Bool, true, false, List, [], ◌∷◌, ◌++◌, Option, None, Some, refl, sym, ap, ◌∙◌, arith, if◌then◌else◌}
 use Rattle.std.specs.Int.{bit_at}
 use Rattle.std.specs.Str.{bytes_eq}
 use Rattle.std.proofs.Math.Nat.{pow-suc}
@@ -7,8 +7,8 @@ use Rattle.std.proofs.lemmas.Bool.Decides.{nat_tests}
 use Rattle.std.proofs.lemmas.Nat.Bits.{bit_at-zero, bit_at_lowest, bit_at-suc}
 use Rattle.std.proofs.lemmas.Slice.Eq.{bytes_eq-Decides}
 use Rattle.std.specs.Option.{option_or, option_map_or}
-use Rattle.tre_state.proofs.Bits.{bit_is}
-use Rattle.tre_vcd.specs.VcdReading.{Form, scalar, wide, Statement, scope, upscope, var, definitions, time, change, dump, dump_end, time_at, scopes_at, in_dump, value_at, happened_at, is_signal, is_event, identifier_in, identifier_of, mask_from, valuation_at, events_at}
+use Rattle.tre_vcd.specs.VcdReading.{Form, scalar, wide, Statement, scope, upscope, var, definitions, time, change, dump, dump_end, time_at, scopes_at, in_dump, value_at, happened_at, is_signal, is_event, identifier_in, identifier_of, true_at, happens_at}
+use Rattle.tre_vcd.specs.Kept.{mask_from}
 use Rattle.tre_vcd.specs.Deciding.{Keeps, LastChange, StaysInTime, Happened, Leaves, FirstDeclaration, IsHigh, HasHappened}
 
 eq-same : (bytes : List ℕ) → bytes_eq bytes bytes ≡ true
@@ -46,7 +46,8 @@ pub value-last : (past : List Statement) (identifier : List ℕ) (value : Bool) 
     identifier value → value_at past identifier ≡ value
 value-last past identifier value change_last =
     ap (λ (p : List Statement). value_at p identifier) change_last.parts
-    ∙ value-behind change_last.later (change change_last.form identifier value ∷ change_last.earlier) identifier
+    ∙ value-behind change_last.later (change change_last.form identifier value ∷
+    change_last.earlier) identifier
     change_last.last
     ∙ ap (λ (b : Bool). if b then value else value_at change_last.earlier identifier)
     (eq-same identifier)
@@ -78,7 +79,8 @@ last-later statement past identifier value stays found = record {
   last = stays found.later found.last;
 }
 
-last-here : (form : Form) (other identifier : List ℕ) (value : Bool) (past : List Statement) → identifier ≡ other
+last-here : (form : Form) (other identifier : List ℕ) (value : Bool) (past : List Statement)
+    → identifier ≡ other
     → value ≡ true → LastChange (change form other value ∷ past) identifier true
 last-here form other identifier value past same is = record {
   later = [];
@@ -89,16 +91,19 @@ last-here form other identifier value past same is = record {
   last = tt;
 }
 
-last-change : (form : Form) (other identifier : List ℕ) (value : Bool) (past : List Statement) (same : Bool)
+last-change : (form : Form) (other identifier : List ℕ) (value : Bool) (past : List Statement)
+    (same : Bool)
     → bytes_eq identifier other ≡ same
     → (value_at past identifier ≡ true → LastChange past identifier true)
     → (if same then value else value_at past identifier) ≡ true
     → LastChange (change form other value ∷ past) identifier true
-last-change form other identifier value past true e more is = last-here form other identifier value past
+last-change form other identifier value past true e more is = last-here
+    form other identifier value past
     ((bytes_eq-Decides identifier other).0 e) is
 last-change form other identifier value past false e more is =
     let apart : identifier ≢ other = λ same. cc (e, (bytes_eq-Decides identifier other).1 same) in
-    last-later (change form other value) past identifier true (λ later keeps. (apart, keeps)) (more is)
+    last-later (change form other value) past identifier true (λ later keeps. (apart, keeps))
+    (more is)
 
 pub last-of : (past : List Statement) (identifier : List ℕ) → value_at past identifier ≡ true
     → LastChange past identifier true
@@ -113,7 +118,8 @@ last-of (definitions ∷ past) identifier is = last-later definitions past ident
     (λ later keeps. keeps) (last-of past identifier is)
 last-of (time ticks ∷ past) identifier is = last-later (time ticks) past identifier true
     (λ later keeps. keeps) (last-of past identifier is)
-last-of (change form other value ∷ past) identifier is = last-change form other identifier value past
+last-of (change form other value ∷ past) identifier is = last-change
+    form other identifier value past
     (bytes_eq identifier other) refl (last-of past identifier) is
 last-of (dump ∷ past) identifier is = last-later dump past identifier true
     (λ later keeps. keeps) (last-of past identifier is)
@@ -251,7 +257,8 @@ happening-is past identifier = (happened-is past identifier, happened-of past id
 
 -- ---- declarations
 
-pub declared-none : (test : List ℕ → List ℕ → Bool) (past : List Statement) (name : List ℕ) → Leaves test name past
+pub declared-none : (test : List ℕ → List ℕ → Bool) (past : List Statement) (name : List ℕ)
+    → Leaves test name past
     → identifier_of test past name ≡ None
 declared-none test [] name leaves = refl
 declared-none test (scope other ∷ past) name leaves = declared-none test past name leaves
@@ -261,11 +268,13 @@ declared-none test (var tokens ∷ past) name leaves =
     (declared-none test past name leaves.1) ∙ leaves.0
 declared-none test (definitions ∷ past) name leaves = declared-none test past name leaves
 declared-none test (time ticks ∷ past) name leaves = declared-none test past name leaves
-declared-none test (change form other value ∷ past) name leaves = declared-none test past name leaves
+declared-none test (change form other value ∷ past) name leaves =
+    declared-none test past name leaves
 declared-none test (dump ∷ past) name leaves = declared-none test past name leaves
 declared-none test (dump_end ∷ past) name leaves = declared-none test past name leaves
 
-declared-behind : (test : List ℕ → List ℕ → Bool) (later earlier : List Statement) (name identifier : List ℕ)
+declared-behind : (test : List ℕ → List ℕ → Bool) (later earlier : List Statement)
+    (name identifier : List ℕ)
     → identifier_of test earlier name ≡ Some identifier
     → identifier_of test (later ++ earlier) name ≡ Some identifier
 declared-behind test [] earlier name identifier is = is
@@ -288,7 +297,8 @@ declared-behind test (dump ∷ later) earlier name identifier is =
 declared-behind test (dump_end ∷ later) earlier name identifier is =
     declared-behind test later earlier name identifier is
 
-declared-first : (test : List ℕ → List ℕ → Bool) (past : List Statement) (name identifier : List ℕ) → FirstDeclaration test past name
+declared-first : (test : List ℕ → List ℕ → Bool) (past : List Statement) (name identifier : List ℕ)
+    → FirstDeclaration test past name
     identifier → identifier_of test past name ≡ Some identifier
 declared-first test past name identifier found =
     ap (λ (p : List Statement). identifier_of test p name) found.parts
@@ -297,8 +307,10 @@ declared-first test past name identifier found =
     found.tokens))
     (declared-none test found.earlier name found.first) ∙ found.declares)
 
-first-later : (test : List ℕ → List ℕ → Bool) (statement : Statement) (past : List Statement) (name identifier : List ℕ)
-    → FirstDeclaration test past name identifier → FirstDeclaration test (statement ∷ past) name identifier
+first-later : (test : List ℕ → List ℕ → Bool) (statement : Statement) (past : List Statement)
+    (name identifier : List ℕ)
+    → FirstDeclaration test past name identifier
+    → FirstDeclaration test (statement ∷ past) name identifier
 first-later test statement past name identifier found = record {
   later = statement ∷ found.later;
   earlier = found.earlier;
@@ -308,7 +320,8 @@ first-later test statement past name identifier found = record {
   first = found.first;
 }
 
-leaves-var : (test : List ℕ → List ℕ → Bool) (past : List Statement) (name : List ℕ) (tokens : List (List ℕ))
+leaves-var : (test : List ℕ → List ℕ → Bool) (past : List Statement) (name : List ℕ)
+    (tokens : List (List ℕ))
     (before : Option (List ℕ)) → identifier_of test past name ≡ before
     → (identifier_of test past name ≡ None → Leaves test name past)
     → option_or before (identifier_in test (scopes_at past) name tokens) ≡ None
@@ -316,12 +329,14 @@ leaves-var : (test : List ℕ → List ℕ → Bool) (past : List Statement) (na
 leaves-var test past name tokens None e leaves is = (is, leaves e)
 leaves-var test past name tokens (Some own) e leaves is = cc (is)
 
-leaves-none : (test : List ℕ → List ℕ → Bool) (past : List Statement) (name : List ℕ) → identifier_of test past name ≡ None
+leaves-none : (test : List ℕ → List ℕ → Bool) (past : List Statement) (name : List ℕ)
+    → identifier_of test past name ≡ None
     → Leaves test name past
 leaves-none test [] name is = tt
 leaves-none test (scope other ∷ past) name is = leaves-none test past name is
 leaves-none test (upscope ∷ past) name is = leaves-none test past name is
-leaves-none test (var tokens ∷ past) name is = leaves-var test past name tokens (identifier_of test past name) refl
+leaves-none test (var tokens ∷ past) name is = leaves-var test past name tokens
+    (identifier_of test past name) refl
     (leaves-none test past name) is
 leaves-none test (definitions ∷ past) name is = leaves-none test past name is
 leaves-none test (time ticks ∷ past) name is = leaves-none test past name is
@@ -329,7 +344,8 @@ leaves-none test (change form other value ∷ past) name is = leaves-none test p
 leaves-none test (dump ∷ past) name is = leaves-none test past name is
 leaves-none test (dump_end ∷ past) name is = leaves-none test past name is
 
-first-var : (test : List ℕ → List ℕ → Bool) (past : List Statement) (name identifier : List ℕ) (tokens : List (List ℕ))
+first-var : (test : List ℕ → List ℕ → Bool) (past : List Statement) (name identifier : List ℕ)
+    (tokens : List (List ℕ))
     (before : Option (List ℕ)) → identifier_of test past name ≡ before
     → (identifier_of test past name ≡ Some identifier → FirstDeclaration test past name identifier)
     → option_or before (identifier_in test (scopes_at past) name tokens) ≡ Some identifier
@@ -342,30 +358,36 @@ first-var test past name identifier tokens None e more is = record {
   declares = is;
   first = leaves-none test past name e;
 }
-first-var test past name identifier tokens (Some own) e more is = first-later test (var tokens) past name
+first-var test past name identifier tokens (Some own) e more is = first-later test
+    (var tokens) past name
     identifier (more (e ∙ is))
 
 first-of : (test : List ℕ → List ℕ → Bool) (past : List Statement) (name identifier : List ℕ)
     → identifier_of test past name ≡ Some identifier → FirstDeclaration test past name identifier
 first-of test [] name identifier is = cc (is)
-first-of test (scope other ∷ past) name identifier is = first-later test (scope other) past name identifier
+first-of test (scope other ∷ past) name identifier is = first-later test
+    (scope other) past name identifier
     (first-of test past name identifier is)
 first-of test (upscope ∷ past) name identifier is = first-later test upscope past name identifier
     (first-of test past name identifier is)
 first-of test (var tokens ∷ past) name identifier is = first-var test past name identifier tokens
     (identifier_of test past name) refl (first-of test past name identifier) is
-first-of test (definitions ∷ past) name identifier is = first-later test definitions past name identifier
+first-of test (definitions ∷ past) name identifier is = first-later test
+    definitions past name identifier
     (first-of test past name identifier is)
-first-of test (time ticks ∷ past) name identifier is = first-later test (time ticks) past name identifier
+first-of test (time ticks ∷ past) name identifier is = first-later test
+    (time ticks) past name identifier
     (first-of test past name identifier is)
-first-of test (change form other value ∷ past) name identifier is = first-later test (change form other value) past name
+first-of test (change form other value ∷ past) name identifier is = first-later test
+    (change form other value) past name
     identifier (first-of test past name identifier is)
 first-of test (dump ∷ past) name identifier is = first-later test dump past name identifier
     (first-of test past name identifier is)
 first-of test (dump_end ∷ past) name identifier is = first-later test dump_end past name identifier
     (first-of test past name identifier is)
 
-pub declared-is : (test : List ℕ → List ℕ → Bool) (past : List Statement) (name identifier : List ℕ) → FirstDeclaration test past name
+pub declared-is : (test : List ℕ → List ℕ → Bool) (past : List Statement) (name identifier : List ℕ)
+    → FirstDeclaration test past name
     identifier ↔ (identifier_of test past name ≡ Some identifier)
 declared-is test past name identifier = (
   declared-first test past name identifier,
@@ -397,18 +419,6 @@ lowest false rest = omega arith
 others : (value : Bool) (rest : ℕ) → ((if value then 1 else 0) + rest * 2) / 2 ≡ rest
 others true rest = omega arith
 others false rest = omega arith
-
-one-true : (value : Bool) → ◌≡◌ {A = ℕ} (if value then 1 else 0) 1 → value ≡ true
-one-true true is = refl
-one-true false is = absurd (omega (arith, is))
-
--- The name at the place has an identifier, which passes the test.
-pub record PassesAt (identified : List ℕ → Option (List ℕ)) (test : List ℕ → Bool)
-    (names : List (List ℕ)) (i : ℕ) : Type 0 where
-  pub within : i < length names
-  pub identifier : List ℕ
-  pub is : identified (get_or names i []) ≡ Some identifier
-  pub passes : test identifier ≡ true
 
 module _ (identified : List ℕ → Option (List ℕ)) (test : List ℕ → Bool) where
   twice : (names : List (List ℕ)) (i : ℕ) → mask_from identified test (suc i) names
@@ -445,84 +455,41 @@ module _ (identified : List ℕ → Option (List ℕ)) (test : List ℕ → Bool
       (mask_from identified test 0 names))
       ∙ bit_in names i
 
-  passes-here : (name : List ℕ) (names : List (List ℕ)) (own : Option (List ℕ))
-      → identified name ≡ own → passes test own ≡ true
-      → PassesAt identified test (name ∷ names) 0
-  passes-here name names None e is = cc (is)
-  passes-here name names (Some identifier) e is =
-      record { within = omega arith; identifier = identifier; is = e; passes = is }
+-- ---- names
 
-  passes-of : (names : List (List ℕ)) (i : ℕ) → passes_at identified test names i ≡ true
-      → PassesAt identified test names i
-  passes-of [] i is = cc (is)
-  passes-of (name ∷ names) zero is = passes-here name names (identified name) refl is
-  passes-of (name ∷ names) (suc i) is =
-      let at = passes-of names i is in
+-- a test that holds of an identifier, where the name has one
+passes-is : (test : List ℕ → Bool) (own : Option (List ℕ))
+    → passes test own ≡ true → (identifier : List ℕ) × (own ≡ Some identifier)
+    × (test identifier ≡ true)
+passes-is test None is = cc (is)
+passes-is test (Some identifier) is = (identifier, refl, is)
+
+pub true-is : (past : List Statement) (name : List ℕ)
+    → IsHigh past name ↔ (true_at past name ≡ true)
+true-is past name = (
+  λ high.
+      ap (passes (value_at past)) (declared-first is_signal past name high.identifier high.declared)
+      ∙ value-last past high.identifier true high.high,
+  λ is.
+      let at = passes-is (value_at past) (identifier_of is_signal past name) is in
       record {
-        within = omega (arith, at.within);
-        identifier = at.identifier;
-        is = at.is;
-        passes = at.passes;
-      }
+        identifier = at.0;
+        declared = first-of is_signal past name at.0 at.1;
+        high = last-of past at.0 at.2;
+      },
+)
 
-  passes-in : (names : List (List ℕ)) (i : ℕ) (identifier : List ℕ) → i < length names
-      → identified (get_or names i []) ≡ Some identifier → test identifier ≡ true
-      → passes_at identified test names i ≡ true
-  passes-in [] i identifier within is passed = absurd (omega (arith, within))
-  passes-in (name ∷ names) zero identifier within is passed = ap (passes test) is ∙ passed
-  passes-in (name ∷ names) (suc i) identifier within is passed =
-      passes-in names i identifier (omega (arith, within)) is passed
-
-  pub mask-is : (names : List (List ℕ)) (i : ℕ) → IsBitSet (mask_from identified test 0 names) i
-      ↔ PassesAt identified test names i
-  mask-is names i = (
-    λ set.
-        let one : bit_at (mask_from identified test 0 names) i ≡ 1 = (bit_is _ i).1 set in
-        passes-of names i (one-true (passes_at identified test names i)
-        (sym (bit_in names i) ∙ one)),
-    λ at.
-        (bit_is _ i).0 (bit_in names i ∙ ap (λ (b : Bool). if b then 1 else 0)
-        (passes-in names i at.identifier at.within at.is at.passes)),
-  )
-
-pub valuation-is : (past : List Statement) (names : List (List ℕ)) (i : ℕ)
-    → IsBitSet (valuation_at past names) i ↔ IsHigh past names i
-valuation-is past names i =
-    let is = mask-is (identifier_of is_signal past) (value_at past) names i in (
-      λ set.
-          let at = is.0 set in
-          record {
-            within = at.within;
-            identifier = at.identifier;
-            declared = first-of is_signal past (get_or names i []) at.identifier at.is;
-            high = last-of past at.identifier at.passes;
-          },
-      λ high.
-          is.1 (record {
-            within = high.within;
-            identifier = high.identifier;
-            is = declared-first is_signal past (get_or names i []) high.identifier high.declared;
-            passes = value-last past high.identifier true high.high;
-          }),
-    )
-
-pub events-are : (past : List Statement) (names : List (List ℕ)) (i : ℕ)
-    → IsBitSet (events_at past names) i ↔ HasHappened past names i
-events-are past names i =
-    let is = mask-is (identifier_of is_event past) (happened_at past) names i in (
-      λ set.
-          let at = is.0 set in
-          record {
-            within = at.within;
-            identifier = at.identifier;
-            declared = first-of is_event past (get_or names i []) at.identifier at.is;
-            happened = happened-of past at.identifier at.passes;
-          },
-      λ has.
-          is.1 (record {
-            within = has.within;
-            identifier = has.identifier;
-            is = declared-first is_event past (get_or names i []) has.identifier has.declared;
-            passes = happened-is past has.identifier has.happened;
-          }),
-    )
+pub happens-is : (past : List Statement) (name : List ℕ)
+    → HasHappened past name ↔ (happens_at past name ≡ true)
+happens-is past name = (
+  λ has.
+      ap (passes (happened_at past)) (declared-first is_event past name has.identifier has.declared)
+      ∙ happened-is past has.identifier has.happened,
+  λ is.
+      let at = passes-is (happened_at past) (identifier_of is_event past name) is in
+      record {
+        identifier = at.0;
+        declared = first-of is_event past name at.0 at.1;
+        happened = happened-of past at.0 at.2;
+      },
+)

@@ -7,12 +7,10 @@ use Rattle.std.proofs.lemmas.Slice.Eq.{bytes_eq-Decides}
 use Rattle.std.specs.Str.{bytes_eq}
 use Rattle.tre_pairs.specs.declared.TheConstants.{TIME_MAX}
 use Rattle.tre_parts.specs.Format.{Step}
-use Rattle.tre_trace.specs.Reading.{Vocabulary}
-use Rattle.tre_trace.specs.Segments.{segment_with}
+use Rattle.tre_trace.specs.Reading.{Stretch}
 use Rattle.tre_trace.specs.declared.fault.TraceKind.{TraceKind}
-use Rattle.tre_trace.specs.declared.segment.Segment.{Segment}
 use Rattle.tre_vcd.specs.Dumps.{AreInner, section_of, IsScalar, is_vector, is_number, IsVector, Write, AreSilent, Belongs, Fits, Bring, SayNext, Say, tokens_in}
-use Rattle.tre_vcd.specs.VcdReading.{is_end, is_dump, is_scalar, ends_true, is_defined, scopes_at, time_at, valuation_at, events_at, segment_until, Terms, scalar, wide, Statement, scope, upscope, var, definitions, time, change, dump, dump_end, Open, nothing, section, comment, vector, number, Place, goes_to, scope_says, section_says, command_says, time_says, scalar_says, vector_says, value_says}
+use Rattle.tre_vcd.specs.VcdReading.{is_end, is_dump, is_scalar, ends_true, is_defined, scopes_at, time_at, stretch_until, Terms, scalar, wide, Statement, scope, upscope, var, definitions, time, change, dump, dump_end, Open, nothing, section, comment, vector, number, Place, goes_to, scope_says, section_says, command_says, time_says, scalar_says, vector_says, value_says, happens_at, true_at}
 use Rattle.tre_vcd.specs.Sections.{dump_says}
 use Rattle.tre_vcd.proofs.TokenRuns.{with_front, with_front-none, then_run, stay, run, run-append}
 
@@ -126,20 +124,20 @@ other_time a b c ends some = grind (arith, nat_tests)
 
 -- ---- what one group says
 
--- the segments that a statement brings
-abbrev pub brought : Vocabulary → List Statement → Statement → List Segment
-brought asked past (time ticks) =
-    if ticks == time_at past then [] else segment_until asked past ticks ∷ []
-brought asked past _ = []
+-- the stretches that a statement brings
+abbrev pub brought : List Statement → Statement → List Stretch
+brought past (time ticks) =
+    if ticks == time_at past then [] else stretch_until past ticks ∷ []
+brought past _ = []
 
--- these segments are said, and nothing is open behind them
-abbrev pub tells : List Segment → List Statement → Result (Step Place) TraceKind
-tells segments now = Ok (record { segments = segments; state = at now nothing })
+-- these stretches are said, and nothing is open behind them
+abbrev pub tells : List Stretch → List Statement → Result (Step Place) TraceKind
+tells stretches now = Ok (record { stretches = stretches; state = at now nothing })
 
 then_stay : (said : Result (Step Place) TraceKind) → then_run said stay ≡ said
 then_stay (Err kind) = refl
 then_stay (Ok step) =
-    ap (λ all. Ok (record { segments = all; state = step.state })) (append-nil step.segments)
+    ap (λ all. Ok (record { stretches = all; state = step.state })) (append-nil step.stretches)
 
 one_run : (terms : Terms) (past : List Statement) (token : List ℕ)
     (said : Result (Step Place) TraceKind) → is_defined past ≡ true
@@ -150,19 +148,19 @@ one_run terms past token said defined says =
     ∙ then_stay (value_says terms past token)
     ∙ says
 
-if_later : (same : Bool) (segment : Segment) (now : List Statement)
+if_later : (same : Bool) (stretch : Stretch) (now : List Statement)
     → (if same then goes_to now nothing
-    else Ok (record { segments = segment ∷ []; state = at now nothing }))
-    ≡ tells (if same then [] else segment ∷ []) now
-if_later true segment now = refl
-if_later false segment now = refl
+    else Ok (record { stretches = stretch ∷ []; state = at now nothing }))
+    ≡ tells (if same then [] else stretch ∷ []) now
+if_later true stretch now = refl
+if_later false stretch now = refl
 
-time_tells : (asked : Vocabulary) (past : List Statement) (ticks : ℕ) → time_at past ≤ ticks
+time_tells : (past : List Statement) (ticks : ℕ) → time_at past ≤ ticks
     → ticks ≤ TIME_MAX
-    → time_says asked past ticks ≡ tells (brought asked past (time ticks)) (time ticks ∷ past)
-time_tells asked past ticks late in_time =
+    → time_says past ticks ≡ tells (brought past (time ticks)) (time ticks ∷ past)
+time_tells past ticks late in_time =
     rw (not_below ticks (time_at past) late, not_below TIME_MAX ticks in_time)
-    (if_later (ticks == time_at past) (segment_until asked past ticks) (time ticks ∷ past))
+    (if_later (ticks == time_at past) (stretch_until past ticks) (time ticks ∷ past))
 
 pub scalar_value : (terms : Terms) (past : List Statement) (letter : ℕ) (identifier : List ℕ)
     → is_scalar letter ≡ true
@@ -177,7 +175,8 @@ scalar_value terms past letter identifier is =
     ) refl
 
 some_scalar : (past : List Statement) (letter : ℕ) (identifier : List ℕ) → 0 < length identifier
-    → scalar_says past letter identifier ≡ goes_to (change scalar identifier (letter == 49) ∷ past) nothing
+    → scalar_says past letter identifier ≡ goes_to
+    (change scalar identifier (letter == 49) ∷ past) nothing
 some_scalar past letter [] some = absurd (omega (arith, some))
 some_scalar past letter (byte ∷ bytes) some = refl
 
@@ -240,7 +239,7 @@ vector_run terms past identifier value tokens one defined =
 pub writes_run : (terms : Terms) (past : List Statement) (statement : Statement)
     (tokens : List (List ℕ)) → Write terms.scale statement tokens → Belongs past statement
     → Fits terms past statement
-    → run terms (at past nothing) tokens ≡ tells (brought terms.names past statement) (statement ∷ past)
+    → run terms (at past nothing) tokens ≡ tells (brought past statement) (statement ∷ past)
 writes_run terms past (scope name) tokens writes belongs fits =
     rw writes.is
     (section_run terms past (codes "$scope") writes.inner (scope name ∷ past) belongs refl
@@ -261,9 +260,9 @@ writes_run terms past definitions tokens writes belongs fits =
     (rw fits refl) writes.closed refl)
 writes_run terms past (time ticks) tokens writes belongs fits =
     rw writes.is
-    (one_run terms past (35 ∷ writes.digits) (tells (brought terms.names past (time ticks))
+    (one_run terms past (35 ∷ writes.digits) (tells (brought past (time ticks))
     (time ticks ∷ past)) belongs
-    (rw (writes.numeral, ← writes.value) (time_tells terms.names past ticks fits.0 fits.1)))
+    (rw (writes.numeral, ← writes.value) (time_tells past ticks fits.0 fits.1)))
 writes_run terms past (change scalar identifier value) tokens writes belongs fits =
     scalar_run terms past identifier value tokens writes belongs
 writes_run terms past (change wide identifier value) tokens writes belongs fits =
@@ -300,56 +299,60 @@ silent_run terms past tokens true defined (inr one) =
 
 -- ---- what groups say
 
-same_segment : (segment : Segment) (len val ev : ℕ) → segment.len ≡ len → segment.val ≡ val
-    → segment.ev ≡ ev → segment ≡ segment_with len val ev
-same_segment segment len val ev is_len is_val is_ev =
-    ap (λ n. segment_with n segment.val segment.ev) is_len
-    ∙ ap (λ n. segment_with len n segment.ev) is_val ∙ ap (segment_with len val) is_ev
+abbrev stretch_of : ℕ → (List ℕ → Bool) → (List ℕ → Bool) → Stretch
+stretch_of len is_true happens = record { len = len; is_true = is_true; happens = happens }
 
-time_brings : (asked : Vocabulary) (past : List Statement) (ticks : ℕ)
-    (segments rest : List Segment) → Bring asked past (time ticks) segments rest
-    → segments ≡ brought asked past (time ticks) ++ rest
-time_brings asked past ticks segments rest (inl none) =
+same_stretch : (stretch : Stretch) (len : ℕ) (is_true happens : List ℕ → Bool) → stretch.len ≡ len
+    → stretch.is_true ≡ is_true → stretch.happens ≡ happens
+    → stretch ≡ stretch_of len is_true happens
+same_stretch stretch len is_true happens is_len is_val is_ev =
+    ap (λ n. stretch_of n stretch.is_true stretch.happens) is_len
+    ∙ ap (λ n. stretch_of len n stretch.happens) is_val ∙ ap (stretch_of len is_true) is_ev
+
+time_brings : (past : List Statement) (ticks : ℕ)
+    (stretches rest : List Stretch) → Bring past (time ticks) stretches rest
+    → stretches ≡ brought past (time ticks) ++ rest
+time_brings past ticks stretches rest (inl none) =
     rw (same_time ticks (time_at past) none.0) none.1
-time_brings asked past ticks segments rest (inr one) =
-    rw (other_time ticks (time_at past) one.segment.len one.reaches one.some)
+time_brings past ticks stretches rest (inr one) =
+    rw (other_time ticks (time_at past) one.stretch.len one.reaches one.some)
     (one.is
     ∙ ap (λ first. first ∷ rest)
-    (same_segment one.segment (ticks - time_at past) (valuation_at past asked.names)
-    (events_at past asked.events) (omega (arith, one.reaches)) one.held one.happened))
+    (same_stretch one.stretch (ticks - time_at past) (true_at past)
+    (happens_at past) (omega (arith, one.reaches)) one.held one.happened))
 
-brings : (asked : Vocabulary) (past : List Statement) (statement : Statement)
-    (segments rest : List Segment) → Bring asked past statement segments rest
-    → segments ≡ brought asked past statement ++ rest
-brings asked past (scope name) segments rest bring = bring
-brings asked past upscope segments rest bring = bring
-brings asked past (var tokens) segments rest bring = bring
-brings asked past definitions segments rest bring = bring
-brings asked past (time ticks) segments rest bring =
-    time_brings asked past ticks segments rest bring
-brings asked past (change form identifier value) segments rest bring = bring
-brings asked past dump segments rest bring = bring
-brings asked past dump_end segments rest bring = bring
+brings : (past : List Statement) (statement : Statement)
+    (stretches rest : List Stretch) → Bring past statement stretches rest
+    → stretches ≡ brought past statement ++ rest
+brings past (scope name) stretches rest bring = bring
+brings past upscope stretches rest bring = bring
+brings past (var tokens) stretches rest bring = bring
+brings past definitions stretches rest bring = bring
+brings past (time ticks) stretches rest bring =
+    time_brings past ticks stretches rest bring
+brings past (change form identifier value) stretches rest bring = bring
+brings past dump stretches rest bring = bring
+brings past dump_end stretches rest bring = bring
 
 -- The tokens of groups lead to a past of which this holds.
 pub record LeadsTo (terms : Terms) (past : List Statement) (groups : List (List (List ℕ)))
-    (segments : List Segment) (End : List Statement → Type 0) : Type 0 where
+    (stretches : List Stretch) (End : List Statement → Type 0) : Type 0 where
   pub now : List Statement
   pub ends : End now
-  pub runs : run terms (at past nothing) (tokens_in groups) ≡ tells segments now
+  pub runs : run terms (at past nothing) (tokens_in groups) ≡ tells stretches now
 
 pub groups_run : (terms : Terms) (past : List Statement) (groups : List (List (List ℕ)))
-    (segments : List Segment) (End : List Statement → Type 0) → Say terms past groups segments End
-    → LeadsTo terms past groups segments End
-groups_run terms past [] segments End say = record {
+    (stretches : List Stretch) (End : List Statement → Type 0) → Say terms past groups stretches End
+    → LeadsTo terms past groups stretches End
+groups_run terms past [] stretches End say = record {
   now = past;
   ends = say.1;
   runs = rw say.0 refl;
 }
-groups_run terms past (tokens ∷ groups) segments End say =
+groups_run terms past (tokens ∷ groups) stretches End say =
     ⊎_elim
-    (λ (silent : AreSilent (is_defined past) tokens × Say terms past groups segments End).
-    let later = groups_run terms past groups segments End silent.1 in record {
+    (λ (silent : AreSilent (is_defined past) tokens × Say terms past groups stretches End).
+    let later = groups_run terms past groups stretches End silent.1 in record {
       now = later.now;
       ends = later.ends;
       runs =
@@ -359,7 +362,7 @@ groups_run terms past (tokens ∷ groups) segments End say =
           ∙ with_front-none (run terms (at past nothing) (tokens_in groups))
           ∙ later.runs;
     })
-    (λ (next : SayNext terms past tokens segments (λ now rest. Say terms now groups rest End)).
+    (λ (next : SayNext terms past tokens stretches (λ now rest. Say terms now groups rest End)).
     let later = groups_run terms (next.statement ∷ past) groups next.rest End next.later in record {
       now = later.now;
       ends = later.ends;
@@ -367,8 +370,8 @@ groups_run terms past (tokens ∷ groups) segments End say =
           run-append terms (at past nothing) tokens (tokens_in groups)
           ∙ ap (λ said. then_run said (λ place. run terms place (tokens_in groups)))
           (writes_run terms past next.statement tokens next.writes next.belongs next.fits)
-          ∙ ap (with_front (brought terms.names past next.statement)) later.runs
+          ∙ ap (with_front (brought past next.statement)) later.runs
           ∙ ap (λ all. tells all later.now)
-          (sym (brings terms.names past next.statement segments next.rest next.brings));
+          (sym (brings past next.statement stretches next.rest next.brings));
     })
     say

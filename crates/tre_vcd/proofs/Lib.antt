@@ -1,4 +1,3 @@
-pub mod Alike
 mod Bits
 mod Deciding
 mod Dumps
@@ -12,8 +11,8 @@ mod Pasts
 mod Reading
 mod Rows
 mod Scoping
-mod Shared
 mod TokenRuns
 mod Tokens
 mod Valuing
 mod WhiteSpace
+mod Masks

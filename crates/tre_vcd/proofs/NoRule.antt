@@ -132,7 +132,8 @@ module _ (terms : Terms) (past : List Statement) (byte : ℕ) (bytes : List ℕ)
   no_time : (byte == 35) ≡ true → ticks_say terms past bytes ≡ Err BadToken
   no_time hash =
       by_cases (is_numeral bytes) _ _ (Err BadToken)
-      (λ numeral. absurd (none.says_nothing [] (time (digits_value 10 bytes * 10 ^ terms.scale)) (record {
+      (λ numeral. absurd (none.says_nothing [] (time (digits_value 10 bytes * 10 ^ terms.scale))
+      (record {
         digits = bytes;
         is = ap (λ b. (b ∷ bytes) ∷ []) (byte_is byte 35 hash);
         numeral = numeral;
@@ -311,8 +312,9 @@ not_below : (a b : ℕ) → b ≤ a → nat_lt a b ≡ false
 not_below a b le = grind (arith, nat_tests)
 
 timed : (terms : Terms) (past : List Statement) (token : List ℕ) (ticks : ℕ)
-    (said : Result (Step Place) TraceKind) → is_defined past ≡ true → IsTime terms.scale ticks (token ∷ [])
-    → time_says terms.names past ticks ≡ said → token_at terms past nothing token ≡ said
+    (said : Result (Step Place) TraceKind) → is_defined past ≡ true
+    → IsTime terms.scale ticks (token ∷ [])
+    → time_says past ticks ≡ said → token_at terms past nothing token ≡ said
 timed terms past token ticks said defined one says =
     let token_is : token ≡ 35 ∷ one.digits = cc (one.is) in
     rw (defined, token_is, one.numeral, ← one.value) says

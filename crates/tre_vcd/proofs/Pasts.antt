@@ -5,8 +5,8 @@ use Rattle.std.specs.Str.{bytes_eq}
 use Rattle.std.proofs.lemmas.Slice.Eq.{bytes_eq-Decides}
 use Rattle.std.proofs.lemmas.Bool.Decides.{nat_tests}
 use Rattle.std.specs.Option.{option_or}
-use Rattle.tre_vcd.specs.VcdReading.{Form, Statement, var, time, change, scalar, is_defined, time_at, scopes_at, in_dump, value_at, happened_at, is_signal, is_event, identifier_of, path, valuation_at, events_at}
-use Rattle.tre_vcd.specs.Kept.{Knows, IsQuiet, AreScopes, AreKnown, KeepsNames, AreHaving, Declares, DeclaresNone, and_declared}
+use Rattle.tre_vcd.specs.VcdReading.{Form, Statement, var, time, change, scalar, is_defined, time_at, scopes_at, in_dump, value_at, happened_at, is_signal, is_event, identifier_of, path}
+use Rattle.tre_vcd.specs.Kept.{Knows, IsQuiet, AreScopes, AreKnown, KeepsNames, AreHaving, Declares, DeclaresNone, and_declared, valuation_at, events_at}
 use Rattle.tre_vcd.specs.declared.scopes.Scopes.{Scopes}
 use Rattle.tre_vcd.specs.declared.past.Past.{Past}
 use Rattle.tre_vcd.specs.declared.variables.Variables.{Variables}
@@ -39,16 +39,22 @@ quiet-same past now same quiet = record {
 }
 
 -- a statement that says nothing of names and times
-pub knows-later : (names event_names : List (List ℕ)) (kept : Past) (past : List Statement) (statement : Statement)
+pub knows-later : (names event_names : List (List ℕ)) (kept : Past) (past : List Statement)
+    (statement : Statement)
     (defined dumps : Bool) (scopes : Scopes) → defined ≡ is_defined (statement ∷ past)
     → dumps ≡ in_dump (statement ∷ past) → time_at (statement ∷ past) ≡ time_at past
     → LooksSame past (statement ∷ past)
     → (is_defined (statement ∷ past) ≡ false → is_defined past ≡ false)
     → AreScopes (scopes_at (statement ∷ past)) scopes.prefix.items scopes.lens.items
     → Knows names event_names kept past
-    → Knows names event_names (record kept { is_defined = defined; in_dump = dumps; scopes = scopes })
+    → Knows names event_names (record kept {
+      is_defined = defined;
+      in_dump = dumps;
+      scopes = scopes;
+    })
     (statement ∷ past)
-knows-later names event_names kept past statement defined dumps scopes is_now dumps_now same_time same before
+knows-later names event_names kept past statement defined dumps scopes is_now dumps_now same_time
+    same before
     are known = record {
       defined = is_now;
       dump = dumps_now;
@@ -71,27 +77,28 @@ pub knows-begins : (names event_names : List (List ℕ)) (kept : Past) → kept.
     → KeepsNames (λ name. None) names kept.propositions
     → KeepsNames (λ name. None) event_names kept.events → kept.values ≡ 0 → kept.happened ≡ 0
     → Knows names event_names kept []
-knows-begins names event_names kept defined dumps ticks scopes propositions events values happened = record {
-  defined = defined;
-  dump = dumps;
-  time = ticks;
-  scopes = scopes;
-  propositions =
-      keeps-same (λ name. None) (identifier_of is_signal []) names kept.propositions
-      (λ name. refl) propositions;
-  events =
-      keeps-same (λ name. None) (identifier_of is_event []) event_names kept.events
-      (λ name. refl) events;
-  values =
-      values
-      ∙ sym (mask-quiet (identifier_of is_signal []) (value_at []) 0 names
-      (λ identifier. refl));
-  happened =
-      happened
-      ∙ sym (mask-quiet (identifier_of is_event []) (happened_at []) 0 event_names
-      (λ identifier. refl));
-  quiet = λ e. record { values = λ identifier. refl; events = λ identifier. refl };
-}
+knows-begins names event_names kept defined dumps ticks scopes propositions events values happened =
+    record {
+      defined = defined;
+      dump = dumps;
+      time = ticks;
+      scopes = scopes;
+      propositions =
+          keeps-same (λ name. None) (identifier_of is_signal []) names kept.propositions
+          (λ name. refl) propositions;
+      events =
+          keeps-same (λ name. None) (identifier_of is_event []) event_names kept.events
+          (λ name. refl) events;
+      values =
+          values
+          ∙ sym (mask-quiet (identifier_of is_signal []) (value_at []) 0 names
+          (λ identifier. refl));
+      happened =
+          happened
+          ∙ sym (mask-quiet (identifier_of is_event []) (happened_at []) 0 event_names
+          (λ identifier. refl));
+      quiet = λ e. record { values = λ identifier. refl; events = λ identifier. refl };
+    }
 
 -- ---- times
 
@@ -113,7 +120,8 @@ pub same_time : (ticks before : ℕ) → ticks ≡ before → (ticks == before) 
 same_time ticks before same = grind (arith, nat_tests)
 
 -- another time
-pub knows-time : (names event_names : List (List ℕ)) (kept : Past) (past : List Statement) (ticks : ℕ)
+pub knows-time : (names event_names : List (List ℕ)) (kept : Past) (past : List Statement)
+    (ticks : ℕ)
     → ticks ≢ kept.time → Knows names event_names kept past
     → Knows names event_names (record kept { time = ticks; happened = 0 }) (time ticks ∷ past)
 knows-time names event_names kept past ticks other known =
@@ -138,13 +146,16 @@ knows-time names event_names kept past ticks other known =
       happened =
           sym (mask-quiet (identifier_of is_event (time ticks ∷ past))
           (happened_at (time ticks ∷ past)) 0 event_names
-          (λ identifier. ap (λ (b : Bool). if b then happened_at past identifier else false) later));
+          (λ identifier. ap (λ (b : Bool). if b then happened_at past identifier else false)
+          later));
       quiet = λ e. quiet-time past ticks (known.quiet e);
     }
 
 -- the same time again
-pub knows-same_time : (names event_names : List (List ℕ)) (kept : Past) (past : List Statement) (ticks : ℕ)
-    → ticks ≡ kept.time → Knows names event_names kept past → Knows names event_names kept (time ticks ∷ past)
+pub knows-same_time : (names event_names : List (List ℕ)) (kept : Past) (past : List Statement)
+    (ticks : ℕ)
+    → ticks ≡ kept.time → Knows names event_names kept past
+    → Knows names event_names kept (time ticks ∷ past)
 knows-same_time names event_names kept past ticks is known =
     let again : (ticks == time_at past) ≡ true =
     same_time ticks (time_at past) (is ∙ known.time) in
@@ -187,7 +198,8 @@ value-others past form identifier value other apart =
     (λ same. apart ((bytes_eq-Decides other identifier).0 same)))
 
 -- what is known of a change but for the events
-pub knows-change : (names event_names : List (List ℕ)) (kept : Past) (past : List Statement) (form : Form)
+pub knows-change : (names event_names : List (List ℕ)) (kept : Past) (past : List Statement)
+    (form : Form)
     (identifier : List ℕ) (value : Bool) (values happened bits : ℕ) → is_defined past ≡ true
     → AreHaving kept.propositions.list.items identifier bits
     → ((k : ℕ) → bit_at bits k ≡ 1 → bit_at values k ≡ (if value then 1 else 0))
@@ -196,7 +208,8 @@ pub knows-change : (names event_names : List (List ℕ)) (kept : Past) (past : L
     → Knows names event_names kept past
     → Knows names event_names (record kept { values = values; happened = happened })
     (change form identifier value ∷ past)
-knows-change names event_names kept past form identifier value values happened bits defined having changed
+knows-change names event_names kept past form identifier value values
+    happened bits defined having changed
     stays events known =
     let now : List Statement = change form identifier value ∷ past in
     record {
@@ -224,7 +237,8 @@ knows-change names event_names kept past form identifier value values happened b
     }
 
 -- the events stay where a change says none
-pub events-stay : (names event_names : List (List ℕ)) (kept : Past) (past : List Statement) (form : Form)
+pub events-stay : (names event_names : List (List ℕ)) (kept : Past) (past : List Statement)
+    (form : Form)
     (identifier : List ℕ) (value : Bool)
     → ((other : List ℕ) → happened_at (change form identifier value ∷ past) other
     ≡ happened_at past other)
@@ -273,7 +287,8 @@ no_items (item ∷ items) is = absurd (grind (arith, nat_tests))
 
 -- where no event is declared
 pub events-none : (names event_names : List (List ℕ)) (kept : Past) (past : List Statement)
-    (identifier : List ℕ) (value : Bool) → kept.events.list.items ≡ [] → Knows names event_names kept past
+    (identifier : List ℕ) (value : Bool) → kept.events.list.items ≡ []
+    → Knows names event_names kept past
     → kept.happened ≡ events_at (change scalar identifier value ∷ past) event_names
 events-none names event_names kept past identifier value empty known =
     let now : List Statement = change scalar identifier value ∷ past in
@@ -316,7 +331,8 @@ pub events-said : (names event_names : List (List ℕ)) (kept : Past) (past : Li
     → ((k : ℕ) → bit_at bits k ≢ 1 → bit_at happened k ≡ bit_at kept.happened k)
     → Knows names event_names kept past
     → happened ≡ events_at (change scalar identifier value ∷ past) event_names
-events-said names event_names kept past identifier value happened bits outside having changed stays known =
+events-said names event_names kept past identifier value happened bits outside having changed stays
+    known =
     let now : List Statement = change scalar identifier value ∷ past in
     mask-changed (identifier_of is_event past) (happened_at past) (happened_at now) identifier true
     (said-own past identifier value outside) (said-others past identifier value outside)

@@ -5,7 +5,7 @@ use Rattle.std.specs.Str.Parse.{digits_value}
 use Rattle.tre_decimal.specs.Decimal.{is_numeral}
 use Rattle.tre_pairs.specs.declared.TheConstants.{TIME_MAX}
 use Rattle.tre_trace.specs.declared.fault.TraceKind.TheVariants.{CutShort}
-use Rattle.tre_vcd.specs.VcdReading.{Terms, scalar, Statement, time, change, Open, nothing, section, comment, vector, number, Place, time_at, segment_until, goes_to, ticks_say, scalar_says, token_at, token_says, end_says, is_whole}
+use Rattle.tre_vcd.specs.VcdReading.{Terms, scalar, Statement, time, change, Open, nothing, section, comment, vector, number, Place, time_at, stretch_until, goes_to, ticks_say, scalar_says, token_at, token_says, end_says, is_whole}
 use Rattle.tre_vcd.specs.Sections.{Holds, inside_of, is_nothing, command_of}
 use Rattle.tre_vcd.specs.declared.command.Command.{Command}
 use Rattle.tre_vcd.specs.declared.inside.Inside.TheVariants.{Nothing, Section, Comment, Vector, Number}
@@ -108,12 +108,13 @@ in_full units ticks value in_time = omega (arith, value, in_time)
 -- A time within the limit that isn't below the last one says a segment, or nothing where it is the
 -- same.
 pub time-says : (terms : Terms) (past : List Statement) (digits : List ℕ) (ticks : ℕ)
-    (same : Bool) → is_numeral digits ≡ true → ticks ≡ min (digits_value 10 digits * 10 ^ terms.scale) (2 ^ 64 - 1)
+    (same : Bool) → is_numeral digits ≡ true → ticks ≡ min
+    (digits_value 10 digits * 10 ^ terms.scale) (2 ^ 64 - 1)
     → time_at past ≤ ticks → ticks ≤ TIME_MAX → (ticks == time_at past) ≡ same
     → ticks_say terms past digits
     ≡ (if same then goes_to (time ticks ∷ past) nothing
     else Ok (record {
-      segments = segment_until terms.names past ticks ∷ [];
+      stretches = stretch_until past ticks ∷ [];
       state = record { past = time ticks ∷ past; inside = nothing };
     }))
 time-says terms past digits ticks same numeral value late in_time is =

@@ -6,8 +6,8 @@ use Rattle.std.proofs.lemmas.Nat.Bits.{same_from_bits}
 use Rattle.std.proofs.lemmas.Slice.Eq.{bytes_eq-Decides}
 use Rattle.std.specs.Option.{option_or}
 use Rattle.tre_state.specs.Sieve.{MayBe}
-use Rattle.tre_vcd.specs.VcdReading.{mask_from}
-use Rattle.tre_vcd.specs.Kept.{AreKnown, IsSieveOf, AreHaving, identifier_kept, has_identifier, identifier_at}
+use Rattle.tre_vcd.specs.VcdReading.{}
+use Rattle.tre_vcd.specs.Kept.{AreKnown, IsSieveOf, AreHaving, identifier_kept, has_identifier, identifier_at, mask_from}
 use Rattle.tre_vcd.specs.declared.variable.Variable.{Variable}
 use Rattle.tre_vcd.proofs.Deciding.{passes, passes_at, bit_in}
 
@@ -19,12 +19,14 @@ at-within [] k d within = absurd (omega (arith, within))
 at-within (variable ∷ variables) zero d within = refl
 at-within (variable ∷ variables) (suc k) d within = at-within variables k d (omega (arith, within))
 
-pub at-past : (variables : List Variable) (k : ℕ) → length variables ≤ k → identifier_at variables k ≡ None
+pub at-past : (variables : List Variable) (k : ℕ) → length variables ≤ k
+    → identifier_at variables k ≡ None
 at-past [] k past = refl
 at-past (variable ∷ variables) zero past = absurd (omega (arith, past))
 at-past (variable ∷ variables) (suc k) past = at-past variables k (omega (arith, past))
 
-at-push : (variables : List Variable) (variable : Variable) (k : ℕ) → identifier_kept variable ≡ None
+at-push : (variables : List Variable) (variable : Variable) (k : ℕ)
+    → identifier_kept variable ≡ None
     → identifier_at (variables ++ variable ∷ []) k ≡ identifier_at variables k
 at-push [] variable zero none = none
 at-push [] variable (suc k) none = refl
@@ -57,7 +59,8 @@ has-is (Some own) identifier same is = (
 )
 
 pub has-at : (variables : List Variable) (k : ℕ) (d : Variable) (identifier : List ℕ) (same : Bool)
-    → k < length variables → same ≡ has_identifier (identifier_kept (get_or variables k d)) identifier
+    → k < length variables → same ≡ has_identifier
+    (identifier_kept (get_or variables k d)) identifier
     → (same ≡ true) ↔ (identifier_at variables k ≡ Some identifier)
 has-at variables k d identifier same within is =
     rw (at-within variables k d within)
@@ -154,7 +157,8 @@ module _ (identified : List ℕ → Option (List ℕ)) (before now : List ℕ �
       → ((k : ℕ) → bit_at bits k ≢ 1 → bit_at new k ≡ bit_at old k)
       → new ≡ mask_from identified now 0 names
   mask-changed names variables old new bits known was having changed kept =
-      same_from_bits new (mask_from identified now 0 names) (λ k. elim (cases_eq (bit_at bits k) 1) [
+      same_from_bits new (mask_from identified now 0 names)
+      (λ k. elim (cases_eq (bit_at bits k) 1) [
         | inl set ↦
             changed k set
             ∙ sym (bit_in identified now names k

@@ -1,5 +1,5 @@
 -- Which statement of a past decides, said without looking back.
-use Rattle.std.specs.Prelude.{◌≡◌, ◌≢◌, ℕ, ◌<◌, Bool, true, false, List, [], ◌∷◌, ◌++◌, length, get_or, None, Some}
+use Rattle.std.specs.Prelude.{◌≡◌, ◌≢◌, ℕ, Bool, true, false, List, [], ◌∷◌, ◌++◌, None, Some}
 use Rattle.tre_vcd.specs.VcdReading.{Form, scalar, Statement, var, time, change, time_at, scopes_at, in_dump, is_signal, is_event, identifier_in}
 
 -- none of the statements changes this identifier
@@ -50,17 +50,14 @@ pub record FirstDeclaration (test : List ℕ → List ℕ → Bool) (past : List
   pub declares : identifier_in test (scopes_at earlier) name tokens ≡ Some identifier
   pub first : Leaves test name earlier
 
--- The i-th of the names is declared as a proposition, and the last change of its identifier is to
--- true.
-pub record IsHigh (past : List Statement) (names : List (List ℕ)) (i : ℕ) : Type 0 where
-  pub within : i < length names
+-- The name is declared as a proposition, and the last change of its identifier is to true.
+pub record IsHigh (past : List Statement) (name : List ℕ) : Type 0 where
   pub identifier : List ℕ
-  pub declared : FirstDeclaration is_signal past (get_or names i []) identifier
+  pub declared : FirstDeclaration is_signal past name identifier
   pub high : LastChange past identifier true
 
--- The i-th of the names is declared as an event, which happened at the last time.
-pub record HasHappened (past : List Statement) (names : List (List ℕ)) (i : ℕ) : Type 0 where
-  pub within : i < length names
+-- The name is declared as an event, which happened at the last time.
+pub record HasHappened (past : List Statement) (name : List ℕ) : Type 0 where
   pub identifier : List ℕ
-  pub declared : FirstDeclaration is_event past (get_or names i []) identifier
+  pub declared : FirstDeclaration is_event past name identifier
   pub happened : Happened past identifier

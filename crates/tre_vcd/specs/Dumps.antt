@@ -7,11 +7,10 @@ use Rattle.std.specs.Str.Parse.{digits_value}
 use Rattle.tre_pairs.specs.declared.TheConstants.{TIME_MAX}
 use Rattle.tre_decimal.specs.Decimal.{is_numeral}
 use Rattle.tre_parts.specs.declared.TheConstants.{PART_MAX}
-use Rattle.tre_trace.specs.Reading.{Reading, Vocabulary}
+use Rattle.tre_trace.specs.Reading.{Recording, Vocabulary, Stretch}
 use Rattle.tre_trace.specs.declared.fault.TraceKind.{TraceKind}
 use Rattle.tre_trace.specs.declared.fault.TraceKind.TheVariants.{TooLate, BadToken, UnknownName, TimeBack}
-use Rattle.tre_trace.specs.declared.segment.Segment.{Segment}
-use Rattle.tre_vcd.specs.VcdReading.{is_white, is_end, is_dump, is_command, is_scalar, ends_true, are_declared, is_defined, in_dump, scopes_at, time_at, valuation_at, events_at, Terms, scalar, wide, Statement, scope, upscope, var, definitions, time, change, dump, dump_end}
+use Rattle.tre_vcd.specs.VcdReading.{is_white, is_end, is_dump, is_command, is_scalar, ends_true, are_declared, is_defined, in_dump, scopes_at, time_at, Terms, scalar, wide, Statement, scope, upscope, var, definitions, time, change, dump, dump_end, happens_at, true_at}
 
 -- ---- tokens and white space
 
@@ -151,7 +150,7 @@ abbrev pub AreSilent : Bool → List (List ℕ) → Type 0
 AreSilent false tokens = IsRemark tokens
 AreSilent true tokens = IsSection (codes "$comment") IsAnything tokens ⊎ IsNumber tokens
 
--- ---- what may follow, and which segments it brings
+-- ---- what may follow, and which stretches it brings
 
 -- This may be said here: among the declarations or behind them, in a scope or a dump section.
 abbrev pub Belongs : List Statement → Statement → Type 0
@@ -170,43 +169,43 @@ Fits terms past definitions = list_all (are_declared past) terms.declared ≡ tr
 Fits terms past (time ticks) = (time_at past ≤ ticks) × (ticks ≤ TIME_MAX)
 Fits terms past _ = Unit {0}
 
--- The first of the segments reaches from the last time to this one, with the values held until
+-- The first of the stretches reaches from the last time to this one, with the values held until
 -- then, and the events that happened at the last time.
-pub record IsReached (asked : Vocabulary) (past : List Statement) (ticks : ℕ)
-    (segments rest : List Segment) : Type 0 where
-  pub segment : Segment
-  pub is : segments ≡ segment ∷ rest
-  pub some : 1 ≤ segment.len
-  pub reaches : time_at past + segment.len ≡ ticks
-  pub held : segment.val ≡ valuation_at past asked.names
-  pub happened : segment.ev ≡ events_at past asked.events
+pub record IsReached (past : List Statement) (ticks : ℕ)
+    (stretches rest : List Stretch) : Type 0 where
+  pub stretch : Stretch
+  pub is : stretches ≡ stretch ∷ rest
+  pub some : 1 ≤ stretch.len
+  pub reaches : time_at past + stretch.len ≡ ticks
+  pub held : stretch.is_true ≡ true_at past
+  pub happened : stretch.happens ≡ happens_at past
 
 -- A later time brings a segment, and nothing else does.
-abbrev pub Bring : Vocabulary → List Statement → Statement → List Segment → List Segment → Type 0
-Bring asked past (time ticks) segments rest =
-    ((ticks ≡ time_at past) × (segments ≡ rest)) ⊎ IsReached asked past ticks segments rest
-Bring asked past _ segments rest = segments ≡ rest
+abbrev pub Bring : List Statement → Statement → List Stretch → List Stretch → Type 0
+Bring past (time ticks) stretches rest =
+    ((ticks ≡ time_at past) × (stretches ≡ rest)) ⊎ IsReached past ticks stretches rest
+Bring past _ stretches rest = stretches ≡ rest
 
 -- The tokens say something that belongs and fits here, and this holds of what was read then and of
--- the later segments.
+-- the later stretches.
 pub record SayNext (terms : Terms) (past : List Statement) (tokens : List (List ℕ))
-    (segments : List Segment) (Later : List Statement → List Segment → Type 0) : Type 0 where
+    (stretches : List Stretch) (Later : List Statement → List Stretch → Type 0) : Type 0 where
   pub statement : Statement
   pub writes : Write terms.scale statement tokens
   pub belongs : Belongs past statement
   pub fits : Fits terms past statement
-  pub rest : List Segment
-  pub brings : Bring terms.names past statement segments rest
+  pub rest : List Stretch
+  pub brings : Bring past statement stretches rest
   pub later : Later (statement ∷ past) rest
 
 -- Each group of tokens says nothing, or something that belongs and fits where it stands, these are
--- all segments, and this holds of what was read then.
-abbrev pub Say : Terms → List Statement → List (List (List ℕ)) → List Segment
+-- all stretches, and this holds of what was read then.
+abbrev pub Say : Terms → List Statement → List (List (List ℕ)) → List Stretch
     → (List Statement → Type 0) → Type 0
-Say terms past [] segments End = (segments ≡ []) × End past
-Say terms past (tokens ∷ groups) segments End =
-    (AreSilent (is_defined past) tokens × Say terms past groups segments End)
-    ⊎ SayNext terms past tokens segments (λ now rest. Say terms now groups rest End)
+Say terms past [] stretches End = (stretches ≡ []) × End past
+Say terms past (tokens ∷ groups) stretches End =
+    (AreSilent (is_defined past) tokens × Say terms past groups stretches End)
+    ⊎ SayNext terms past tokens stretches (λ now rest. Say terms now groups rest End)
 
 -- the tokens of all groups
 abbrev pub tokens_in : List (List (List ℕ)) → List (List ℕ)
@@ -219,9 +218,9 @@ pub record IsComplete (past : List Statement) : Type 0 where
   pub closed : in_dump past ≡ false
 
 -- The same, with these events at the last time.
-pub record CompletesWith (asked : Vocabulary) (last : ℕ) (past : List Statement) : Type 0 where
+pub record CompletesWith (last : List ℕ → Bool) (past : List Statement) : Type 0 where
   pub complete : IsComplete past
-  pub happened : last ≡ events_at past asked.events
+  pub happened : last ≡ happens_at past
 
 -- ---- faults
 
@@ -278,9 +277,9 @@ abbrev pub moved : ℕ → ℕ → ℕ
 moved from offset = if nat_le from offset then offset + 1 else offset
 
 -- the same, with the offset of the fault moved
-abbrev pub moved_reading : ℕ → Reading → Reading
-moved_reading from reading = record {
-  segments = reading.segments;
+abbrev pub moved_recording : ℕ → Recording → Recording
+moved_recording from reading = record {
+  stretches = reading.stretches;
   last = reading.last;
   fault = option_map (λ fault. record { place = moved from fault.place; kind = fault.kind })
       reading.fault;

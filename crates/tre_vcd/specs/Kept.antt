@@ -1,15 +1,30 @@
 -- What the reader keeps of the past: each field is what a look back over it finds.
-use Rattle.std.specs.Prelude.{◌≡◌, ℕ, zero, suc, Bool, false, List, [], ◌∷◌, ◌++◌, length, Option, None, Some, if◌then◌else◌}
-use Rattle.std.specs.Option.{option_map, option_or}
+use Rattle.std.specs.Prelude.{◌≡◌, ℕ, zero, suc, ◌+◌, ◌^◌, Bool, false, List, [], ◌∷◌, ◌++◌, length, Option, None, Some, if◌then◌else◌}
+use Rattle.std.specs.Option.{option_map, option_map_or, option_or}
 use Rattle.std.specs.Str.{bytes_eq}
 use Rattle.std.specs.Int.{bit_at}
 use Rattle.tre_state.specs.Sieve.{MayBe}
 use Rattle.tre_trace.specs.Reading.{Vocabulary}
-use Rattle.tre_vcd.specs.VcdReading.{Statement, is_defined, time_at, scopes_at, in_dump, value_at, happened_at, is_signal, is_event, identifier_of, identifier_in, valuation_at, events_at}
+use Rattle.tre_vcd.specs.VcdReading.{Statement, is_defined, time_at, scopes_at, in_dump, value_at, happened_at, is_signal, is_event, identifier_of, identifier_in}
 use Rattle.tre_vcd.specs.declared.variable.Variable.{Variable}
 use Rattle.tre_vcd.specs.declared.variables.Variables.{Variables}
 use Rattle.tre_vcd.specs.declared.past.Past.{Past}
 use Rattle.tre_vcd.specs.declared.needed.Needed.{Needed}
+
+-- The names that have an identifier which passes the test, the first of which has bit i.
+abbrev pub mask_from : (List ℕ → Option (List ℕ)) → (List ℕ → Bool) → ℕ → List (List ℕ) → ℕ
+mask_from identified test i [] = 0
+mask_from identified test i (name ∷ names) =
+    (if option_map_or test (identified name) false then 2 ^ i else 0)
+    + mask_from identified test (i + 1) names
+
+-- The valuation of the propositions of these names, the first of which has bit 0.
+abbrev pub valuation_at : List Statement → List (List ℕ) → ℕ
+valuation_at past names = mask_from (identifier_of is_signal past) (value_at past) 0 names
+
+-- The events of these names that happened at the last time, the first of which has bit 0.
+abbrev pub events_at : List Statement → List (List ℕ) → ℕ
+events_at past names = mask_from (identifier_of is_event past) (happened_at past) 0 names
 
 -- ---- scopes
 

@@ -61,7 +61,6 @@ asked_of reader = record { names = reader.names; events = reader.events }
 
 abbrev pub terms_kept : TokenReader → Terms
 terms_kept reader = record {
-  names = asked_of reader;
   declared = map vocabulary_of reader.needed.items;
   scale = reader.scale.exponent;
 }

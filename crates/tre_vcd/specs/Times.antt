@@ -1,5 +1,5 @@
 -- A token that is no time says no segment, and one that is says its segment in the order of time.
-use Rattle.std.proofs.Common.{◌≡◌, ℕ, ◌*◌, ◌^◌, ◌<◌, ◌≤◌, nat_lt, ◌==◌, ◌||◌, ◌&&◌, not, Bool, true, false, List, [], ◌∷◌, ◌++◌, length, codes, Result, Ok, Err, refl, sym, arith, subst, if◌then◌else◌}
+use Rattle.std.proofs.Common.{◌≡◌, ℕ, ◌*◌, ◌^◌, ◌<◌, ◌≤◌, nat_lt, ◌==◌, ◌||◌, ◌&&◌, not, Bool, true, false, List, map, [], ◌∷◌, ◌++◌, length, codes, Result, Ok, Err, refl, sym, arith, subst, if◌then◌else◌}
 use Rattle.std.proofs.lemmas.Bool.Decides.{nat_tests}
 use Rattle.std.specs.List.{list_all, list_any}
 use Rattle.std.specs.Str.{bytes_eq}
@@ -9,13 +9,12 @@ use Rattle.tre_decimal.specs.Decimal.{is_numeral}
 use Rattle.tre_parts.specs.Format.{Step, Leads, KeepsTime}
 use Rattle.tre_trace.specs.declared.fault.TraceKind.{TraceKind}
 use Rattle.tre_trace.specs.declared.fault.TraceKind.TheVariants.{TooLate, BadToken, UnknownName, TimeBack}
-use Rattle.tre_trace.specs.Reading.{Vocabulary}
-use Rattle.tre_trace.specs.declared.segment.Segment.{Segment}
-use Rattle.tre_vcd.specs.VcdReading.{is_command, is_dump, is_scalar, are_declared, is_defined, in_dump, scopes_at, Terms, scalar, wide, Statement, scope, upscope, var, definitions, time, change, dump, dump_end, Open, nothing, section, comment, vector, number, Place, time_at, segment_until, goes_to, is_end, is_whole, scope_says, section_says, command_says, ticks_say, keyword_says, scalar_says, ends_true, vector_says, value_says, token_at, token_says, vcd_format}
+use Rattle.tre_trace.specs.Reading.{Vocabulary, Stretch, segment_for}
+use Rattle.tre_vcd.specs.VcdReading.{is_command, is_dump, is_scalar, are_declared, is_defined, in_dump, scopes_at, Terms, scalar, wide, Statement, scope, upscope, var, definitions, time, change, dump, dump_end, Open, nothing, section, comment, vector, number, Place, time_at, stretch_until, goes_to, is_end, is_whole, scope_says, section_says, command_says, ticks_say, keyword_says, scalar_says, ends_true, vector_says, value_says, token_at, token_says, vcd_format}
 
 -- No segment is said, and no other time is reached.
 pub record IsSilent (past : List Statement) (said : Result (Step Place) TraceKind) : Type 0 where
-  pub silent : (step : Step Place) → said ≡ Ok step → (step.segments ≡ []) × (time_at
+  pub silent : (step : Step Place) → said ≡ Ok step → (step.stretches ≡ []) × (time_at
       step.state.past ≡ time_at past)
 
 silent-err : (past : List Statement) (kind : TraceKind) → IsSilent past (Err kind)
@@ -25,9 +24,9 @@ silent-goes : (past now : List Statement) (inside : Open) → time_at now ≡ ti
     → IsSilent past (goes_to now inside)
 silent-goes past now inside same = record {
   silent = λ step is.
-      let e : record { segments = []; state = record { past = now; inside = inside } } ≡ step =
+      let e : record { stretches = []; state = record { past = now; inside = inside } } ≡ step =
       cc (is) in
-      subst (λ (s : Step Place). (s.segments ≡ []) × (time_at s.state.past ≡ time_at past)) e
+      subst (λ (s : Step Place). (s.stretches ≡ []) × (time_at s.state.past ≡ time_at past)) e
       (refl, same);
 }
 
@@ -117,15 +116,15 @@ silent-value past byte bytes =
 
 -- what is said leads from the time of the past to the one after it
 pub record KeepsOrder (past : List Statement) (said : Result (Step Place) TraceKind) : Type 0 where
-  pub leads : (step : Step Place) → said ≡ Ok step → Leads (time_at past) step.segments
-      (time_at step.state.past)
+  pub leads : (asked : Vocabulary) (step : Step Place) → said ≡ Ok step
+      → Leads (time_at past) (map (segment_for asked) step.stretches) (time_at step.state.past)
 
 keeps-silent : (past : List Statement) (said : Result (Step Place) TraceKind) → IsSilent past said
     → KeepsOrder past said
 keeps-silent past said silent = record {
-  leads = λ step is.
+  leads = λ asked step is.
       let none = silent.silent step is in
-      subst (λ (segments : List Segment). Leads (time_at past) segments
+      subst (λ (stretches : List Stretch). Leads (time_at past) (map (segment_for asked) stretches)
       (time_at step.state.past)) (sym none.0)
       (record { long = tt; ends = sym none.1; in_time = λ h. rw (none.1) h });
 }
@@ -135,24 +134,25 @@ keeps-if : (past : List Statement) (test : Bool) (one two : Result (Step Place) 
 keeps-if past true one two keeps other = keeps
 keeps-if past false one two keeps other = other
 
-keeps-later : (asked : Vocabulary) (past : List Statement) (ticks : ℕ) → time_at past < ticks
+keeps-later : (past : List Statement) (ticks : ℕ) → time_at past < ticks
     → ticks ≤ TIME_MAX
     → KeepsOrder past (Ok (record {
-      segments = segment_until asked past ticks ∷ [];
+      stretches = stretch_until past ticks ∷ [];
       state = record { past = time ticks ∷ past; inside = nothing };
     }))
-keeps-later asked past ticks later fits = record {
-  leads = λ step is.
+keeps-later past ticks later fits = record {
+  leads = λ asked step is.
       let said : Step Place = record {
-        segments = segment_until asked past ticks ∷ [];
+        stretches = stretch_until past ticks ∷ [];
         state = record { past = time ticks ∷ past; inside = nothing };
       } in
       let e : said ≡ step = cc (is) in
-      subst (λ (s : Step Place). Leads (time_at past) s.segments (time_at s.state.past)) e
+      subst (λ (s : Step Place). Leads (time_at past)
+      (map (segment_for asked) s.stretches) (time_at s.state.past)) e
       (record { long = (omega arith, tt); ends = omega (arith, later); in_time = λ h. fits });
 }
 
-keeps-ticks : (asked : Vocabulary) (past : List Statement) (ticks : ℕ) (back late same : Bool)
+keeps-ticks : (past : List Statement) (ticks : ℕ) (back late same : Bool)
     → nat_lt ticks (time_at past) ≡ back → nat_lt TIME_MAX ticks ≡ late → (ticks == time_at past)
     ≡ same
     → KeepsOrder past
@@ -160,25 +160,25 @@ keeps-ticks : (asked : Vocabulary) (past : List Statement) (ticks : ℕ) (back l
     else (if late then Err TooLate
     else (if same then goes_to (time ticks ∷ past) nothing
     else Ok (record {
-      segments = segment_until asked past ticks ∷ [];
+      stretches = stretch_until past ticks ∷ [];
       state = record { past = time ticks ∷ past; inside = nothing };
     }))))
-keeps-ticks asked past ticks true late same e l s = keeps-silent past _ (silent-err past TimeBack)
-keeps-ticks asked past ticks false true same e l s = keeps-silent past _ (silent-err past TooLate)
-keeps-ticks asked past ticks false false true e l s =
+keeps-ticks past ticks true late same e l s = keeps-silent past _ (silent-err past TimeBack)
+keeps-ticks past ticks false true same e l s = keeps-silent past _ (silent-err past TooLate)
+keeps-ticks past ticks false false true e l s =
     let same : ticks ≡ time_at past = grind (arith, nat_tests) in
     keeps-silent past _ (silent-goes past (time ticks ∷ past) nothing same)
-keeps-ticks asked past ticks false false false e l s =
+keeps-ticks past ticks false false false e l s =
     let not_before : time_at past ≤ ticks = grind (arith, nat_tests) in
     let other : ¬ (ticks ≡ time_at past) = grind (arith, nat_tests) in
     let fits : ticks ≤ TIME_MAX = grind (arith, nat_tests) in
-    keeps-later asked past ticks (omega (arith, not_before, other)) fits
+    keeps-later past ticks (omega (arith, not_before, other)) fits
 
 keeps-number : (terms : Terms) (past : List Statement) (digits : List ℕ) → KeepsOrder past
     (ticks_say terms past digits)
 keeps-number terms past digits =
     keeps-if past (is_numeral digits) _ _
-    (keeps-ticks terms.names past (digits_value 10 digits * 10 ^ terms.scale) _ _ _ refl refl refl)
+    (keeps-ticks past (digits_value 10 digits * 10 ^ terms.scale) _ _ _ refl refl refl)
     (keeps-silent past _ (silent-err past BadToken))
 
 keeps-value : (terms : Terms) (past : List Statement) (token : List ℕ) → KeepsOrder past
@@ -211,6 +211,6 @@ keeps-part terms place (byte ∷ bytes) = keeps-token terms place.past place.ins
 pub vcd-keeps_time : (terms : Terms) → KeepsTime (vcd_format terms)
 vcd-keeps_time terms = record {
   begins = refl;
-  leads = λ place part step is.
-      (keeps-part terms place part).leads step is;
+  leads = λ asked place part step is.
+      (keeps-part terms place part).leads asked step is;
 }

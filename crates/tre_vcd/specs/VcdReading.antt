@@ -1,33 +1,29 @@
 -- What the tokens of a value change dump say (IEEE Std 1364-2005, clause 18).
-use Rattle.std.specs.Prelude.{ℕ, ◌+◌, ◌-◌, ◌*◌, ◌^◌, nat_le, nat_lt, Bool, true, false, not, ◌&&◌, ◌||◌, ◌==◌, List, [], ◌∷◌, ◌++◌, drop, length, Option, None, Some, Result, Ok, Err, codes, slice_index, if◌then◌else◌}
+use Rattle.std.specs.Prelude.{ℕ, ◌-◌, ◌*◌, ◌^◌, nat_le, nat_lt, Bool, true, false, not, ◌&&◌, ◌||◌, ◌==◌, List, [], ◌∷◌, ◌++◌, drop, length, Option, None, Some, Result, Ok, Err, codes, slice_index, if◌then◌else◌}
 use Rattle.std.specs.List.{list_all, list_any}
 use Rattle.std.specs.Str.{bytes_eq}
 use Rattle.std.specs.Str.Parse.{digits_value}
 use Rattle.std.specs.Option.{is_some, option_or, option_map_or}
 use Rattle.tre_pairs.specs.declared.TheConstants.{TIME_MAX}
 use Rattle.tre_decimal.specs.Decimal.{is_numeral}
-use Rattle.tre_parts.specs.Format.{Format, Step, reading_of}
-use Rattle.tre_trace.specs.Reading.{Reading, Vocabulary}
-use Rattle.tre_trace.specs.Segments.{segment_with}
+use Rattle.tre_parts.specs.Format.{Format, Step, recording_of}
+use Rattle.tre_trace.specs.Reading.{Recording, Stretch, Vocabulary}
 use Rattle.tre_trace.specs.declared.fault.TraceKind.{TraceKind}
-use Rattle.tre_trace.specs.declared.segment.Segment.{Segment}
 use Rattle.tre_trace.specs.declared.fault.TraceKind.TheVariants.{TooLate, BadToken, UnknownName, TimeBack, CutShort}
 
 -- White space is the byte 32, and the bytes 9 to 13.
 abbrev pub is_white : ℕ → Bool
 is_white byte = byte == 32 || (nat_le 9 byte && nat_le byte 13)
 
--- What is asked of a dump: the names whose values and events are read, and those that it must
--- declare. A time of the dump is 10^scale units of time.
+-- What is asked of a dump: the names that it must declare. A time of the dump is 10^scale units of
+-- time.
 pub record Terms : Type 0 where
-  pub names : Vocabulary
   pub declared : List Vocabulary
   pub scale : ℕ
 
 -- The same, and the dump must declare these names too.
 abbrev pub requiring : Terms → Vocabulary → Terms
 requiring terms needed = record {
-  names = terms.names;
   declared = terms.declared ++ needed ∷ [];
   scale = terms.scale;
 }
@@ -143,20 +139,17 @@ identifier_of test (var tokens ∷ past) name =
     option_or (identifier_of test past name) (identifier_in test (scopes_at past) name tokens)
 identifier_of test (_ ∷ past) name = identifier_of test past name
 
--- The names that have an identifier which passes the test, the first of which has bit i.
-abbrev pub mask_from : (List ℕ → Option (List ℕ)) → (List ℕ → Bool) → ℕ → List (List ℕ) → ℕ
-mask_from identified test i [] = 0
-mask_from identified test i (name ∷ names) =
-    (if option_map_or test (identified name) false then 2 ^ i else 0)
-    + mask_from identified test (i + 1) names
+-- the name is that of a variable which passes a test, and this holds of its identifier
+abbrev pub is_of : (List ℕ → Option (List ℕ)) → (List ℕ → Bool) → List ℕ → Bool
+is_of identified test name = option_map_or test (identified name) false
 
--- The valuation of the propositions of these names, the first of which has bit 0.
-abbrev pub valuation_at : List Statement → List (List ℕ) → ℕ
-valuation_at past names = mask_from (identifier_of is_signal past) (value_at past) 0 names
+-- the proposition of this name is true
+abbrev pub true_at : List Statement → List ℕ → Bool
+true_at past name = is_of (identifier_of is_signal past) (value_at past) name
 
--- The events of these names that happened at the last time, the first of which has bit 0.
-abbrev pub events_at : List Statement → List (List ℕ) → ℕ
-events_at past names = mask_from (identifier_of is_event past) (happened_at past) 0 names
+-- the event of this name happened at the last time
+abbrev pub happens_at : List Statement → List ℕ → Bool
+happens_at past name = is_of (identifier_of is_event past) (happened_at past) name
 
 -- each of the names is declared, as a proposition or as an event
 abbrev pub are_declared : List Statement → Vocabulary → Bool
@@ -168,7 +161,10 @@ are_declared past needed =
 
 -- nothing is said, and this is the place behind it
 abbrev pub goes_to : List Statement → Open → Result (Step Place) TraceKind
-goes_to past inside = Ok (record { segments = []; state = record { past = past; inside = inside } })
+goes_to past inside = Ok (record {
+  stretches = [];
+  state = record { past = past; inside = inside };
+})
 
 abbrev pub is_end : List ℕ → Bool
 is_end token = bytes_eq token (codes "$end")
@@ -210,20 +206,22 @@ command_says terms past token =
     && not (list_all (are_declared past) terms.declared)
     then Err UnknownName else goes_to past (section token [])))
 
--- the segment from the last time to this one: its values, and the events at its begin
-abbrev pub segment_until : Vocabulary → List Statement → ℕ → Segment
-segment_until asked past ticks =
-    segment_with (ticks - time_at past) (valuation_at past asked.names)
-    (events_at past asked.events)
+-- the stretch from the last time to this one: its values, and the events at its begin
+abbrev pub stretch_until : List Statement → ℕ → Stretch
+stretch_until past ticks = record {
+  len = ticks - time_at past;
+  is_true = true_at past;
+  happens = happens_at past;
+}
 
 -- a time, behind the time that was reached
-abbrev pub time_says : Vocabulary → List Statement → ℕ → Result (Step Place) TraceKind
-time_says asked past ticks =
+abbrev pub time_says : List Statement → ℕ → Result (Step Place) TraceKind
+time_says past ticks =
     if nat_lt ticks (time_at past) then Err TimeBack
     else (if nat_lt TIME_MAX ticks then Err TooLate
     else (if ticks == time_at past then goes_to (time ticks ∷ past) nothing
     else Ok (record {
-      segments = segment_until asked past ticks ∷ [];
+      stretches = stretch_until past ticks ∷ [];
       state = record { past = time ticks ∷ past; inside = nothing };
     })))
 
@@ -258,7 +256,7 @@ vector_says past value = goes_to past (vector (ends_true value))
 abbrev pub ticks_say : Terms → List Statement → List ℕ → Result (Step Place) TraceKind
 ticks_say terms past digits =
     if is_numeral digits
-    then time_says terms.names past (digits_value 10 digits * 10 ^ terms.scale)
+    then time_says past (digits_value 10 digits * 10 ^ terms.scale)
     else Err BadToken
 
 -- a token among the values, where nothing is open, by its first byte: `#`, `$`, the letters of
@@ -306,10 +304,10 @@ vcd_format terms = record {
   place = λ spot. spot.offset;
   says = token_says terms;
   at_end = end_says;
-  last = λ place. events_at place.past terms.names.events;
+  last = λ place. happens_at place.past;
   time = λ place. time_at place.past;
 }
 
 -- What the bytes say of a trace, where this is asked of them.
-abbrev pub vcd_reading : Terms → Bool → List ℕ → Reading
-vcd_reading terms closed bytes = reading_of (vcd_format terms) closed bytes
+abbrev pub vcd_recording : Terms → Bool → List ℕ → Recording
+vcd_recording terms closed bytes = recording_of (vcd_format terms) closed bytes

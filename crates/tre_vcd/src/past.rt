@@ -1,7 +1,7 @@
 // What the reader keeps of the statements that it has read.
 ghost use Rattle.std.specs.Prelude.{◌≡◌, ◌==◌, ◌&&◌, not, length, ◌∷◌, ℕ, List, [], true, false, OnOk};
-ghost use Rattle.tre_vcd.specs.VcdReading.{Statement, scope, upscope, var, definitions, time, change, scalar, wide, dump, dump_end, is_defined, scopes_at, is_signal, is_event, valuation_at, events_at};
-ghost use Rattle.tre_vcd.specs.Kept.{Knows, Declares, DeclaresNone};
+ghost use Rattle.tre_vcd.specs.VcdReading.{Statement, scope, upscope, var, definitions, time, change, scalar, wide, dump, dump_end, is_defined, scopes_at, is_signal, is_event};
+ghost use Rattle.tre_vcd.specs.Kept.{Knows, Declares, DeclaresNone, valuation_at, events_at};
 
 use crate::scopes::Scopes;
 use crate::variable::set_value;

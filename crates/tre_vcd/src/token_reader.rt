@@ -5,7 +5,7 @@ ghost use Rattle.tre_parts.specs.Walk.{Tells};
 ghost use Rattle.tre_parts.specs.declared.said.Said.{Said};
 ghost use Rattle.tre_trace.specs.declared.fault.TraceKind.TheVariants.{Spent};
 ghost use Rattle.tre_vcd.specs.VcdReading.{Terms, requiring, first_place, wide, Statement, var, Place, nothing, section, comment, vector, number, is_defined, goes_to, vcd_format, command_says, section_says, ticks_say, keyword_says, scalar_says, vector_says, value_says, scope_says, declaration_says, change, token_at};
-ghost use Rattle.tre_vcd.specs.Sections.{Holds, terms_kept, command_of, is_nothing, dump_says, dump_end_says};
+ghost use Rattle.tre_vcd.specs.Sections.{Holds, asked_of, terms_kept, command_of, is_nothing, dump_says, dump_end_says};
 ghost use Rattle.tre_vcd.specs.Kept.{Knows, KnowsAll};
 ghost use Rattle.tre_vcd.specs.Times.{vcd-keeps_time};
 
@@ -49,11 +49,9 @@ impl TokenReader {
         requires { scale ≤ SCALE_MAX }
         ensures begins { ⟦<TokenReader as PartReader>⟧.holds result first_place }
         ensures terms { ⟦<TokenReader as PartReader>⟧.terms result
-            ≡ record {
-              names = record { names = names; events = events };
-              declared = [];
-              scale = scale;
-            } }
+            ≡ record { declared = []; scale = scale } }
+        ensures names { ⟦<TokenReader as PartReader>⟧.names result
+            ≡ record { names = names; events = events } }
     {
         TokenReader {
             names,
@@ -74,6 +72,8 @@ impl TokenReader {
         ensures terms { OnOk result (⟦<TokenReader as PartReader>⟧.terms self.new
             ≡ requiring (⟦<TokenReader as PartReader>⟧.terms self.old)
             (record { names = names.now; events = events.now })) }
+        ensures names { ⟦<TokenReader as PartReader>⟧.names self.new
+            ≡ ⟦<TokenReader as PartReader>⟧.names self.old }
     {
         let needed = Needed::new(self.past.alloc, names, events)?;
         self.needed.push(needed)?;
@@ -101,9 +101,11 @@ impl TokenReader {
         ensures tells { (past : List Statement) →
             Holds self.old (record { past = past; inside = nothing }) →
             is_defined past ≡ false →
-            Tells (command_says (terms_kept self.old) past token.now) (Holds self.new) result }
+            Tells (asked_of self.old) (command_says (terms_kept self.old) past token.now)
+            (Holds self.new) result }
         ensures kinds { result ≢ Said.Wrong Spent }
         ensures same_terms { terms_kept self.new ≡ terms_kept self.old }
+        ensures same_names { asked_of self.new ≡ asked_of self.old }
     {
         if is_misplaced(token) {
             return Said::Wrong(TraceKind::BadToken);
@@ -122,10 +124,12 @@ impl TokenReader {
     fn keep(&mut self, token: &[u8]) -> Said
         ensures tells { (past : List Statement) (command : List ℕ) (tokens : List (List ℕ)) →
             Holds self.old (record { past = past; inside = section command tokens }) →
-            Tells (goes_to past (section command (tokens ++ token.now ∷ []))) (Holds self.new)
+            Tells (asked_of self.old) (goes_to past (section command (tokens ++ token.now ∷ [])))
+            (Holds self.new)
             result }
         ensures kinds { result ≢ Said.Wrong Spent }
         ensures same_terms { terms_kept self.new ≡ terms_kept self.old }
+        ensures same_names { asked_of self.new ≡ asked_of self.old }
     {
         if self.tokens.as_slice().len() >= KEPT_MAX {
             return Said::Nothing;
@@ -141,9 +145,11 @@ impl TokenReader {
         ensures tells { (past : List Statement) →
             Holds self.old (record { past = past; inside = nothing }) →
             is_defined past ≡ true →
-            Tells (ticks_say (terms_kept self.old) past digits.now) (Holds self.new) result }
+            Tells (asked_of self.old) (ticks_say (terms_kept self.old) past digits.now)
+            (Holds self.new) result }
         ensures kinds { result ≢ Said.Wrong Spent }
         ensures same_terms { terms_kept self.new ≡ terms_kept self.old }
+        ensures same_names { asked_of self.new ≡ asked_of self.old }
     {
         let Some(ticks) = self.scale.time(digits) else {
             return Said::Wrong(TraceKind::BadToken);
@@ -170,9 +176,10 @@ impl TokenReader {
         ensures tells { (past : List Statement) →
             Holds self.old (record { past = past; inside = nothing }) →
             is_defined past ≡ true →
-            Tells (keyword_says past token.now) (Holds self.new) result }
+            Tells (asked_of self.old) (keyword_says past token.now) (Holds self.new) result }
         ensures kinds { result ≢ Said.Wrong Spent }
         ensures same_terms { terms_kept self.new ≡ terms_kept self.old }
+        ensures same_names { asked_of self.new ≡ asked_of self.old }
     {
         if is_dump(token) {
             return self.open_dump();
@@ -192,9 +199,10 @@ impl TokenReader {
         ensures tells { (past : List Statement) →
             Holds self.old (record { past = past; inside = nothing }) →
             is_defined past ≡ true →
-            Tells (dump_says past) (Holds self.new) result }
+            Tells (asked_of self.old) (dump_says past) (Holds self.new) result }
         ensures kinds { result ≢ Said.Wrong Spent }
         ensures same_terms { terms_kept self.new ≡ terms_kept self.old }
+        ensures same_names { asked_of self.new ≡ asked_of self.old }
     {
         if self.past.in_dump {
             return Said::Wrong(TraceKind::BadToken);
@@ -208,9 +216,10 @@ impl TokenReader {
         ensures tells { (past : List Statement) →
             Holds self.old (record { past = past; inside = nothing }) →
             is_defined past ≡ true →
-            Tells (dump_end_says past) (Holds self.new) result }
+            Tells (asked_of self.old) (dump_end_says past) (Holds self.new) result }
         ensures kinds { result ≢ Said.Wrong Spent }
         ensures same_terms { terms_kept self.new ≡ terms_kept self.old }
+        ensures same_names { asked_of self.new ≡ asked_of self.old }
     {
         if !self.past.in_dump {
             return Said::Wrong(TraceKind::BadToken);
@@ -225,9 +234,11 @@ impl TokenReader {
         ensures tells { (past : List Statement) →
             Holds self.old (record { past = past; inside = nothing }) →
             is_defined past ≡ true →
-            Tells (scalar_says past letter identifier.now) (Holds self.new) result }
+            Tells (asked_of self.old) (scalar_says past letter identifier.now) (Holds self.new)
+            result }
         ensures kinds { result ≢ Said.Wrong Spent }
         ensures same_terms { terms_kept self.new ≡ terms_kept self.old }
+        ensures same_names { asked_of self.new ≡ asked_of self.old }
     {
         if identifier.is_empty() {
             return Said::Wrong(TraceKind::BadToken);
@@ -242,9 +253,10 @@ impl TokenReader {
         ensures tells { (past : List Statement) →
             Holds self.old (record { past = past; inside = nothing }) →
             is_defined past ≡ true →
-            Tells (vector_says past value.now) (Holds self.new) result }
+            Tells (asked_of self.old) (vector_says past value.now) (Holds self.new) result }
         ensures kinds { result ≢ Said.Wrong Spent }
         ensures same_terms { terms_kept self.new ≡ terms_kept self.old }
+        ensures same_names { asked_of self.new ≡ asked_of self.old }
     {
         if value.is_empty() {
             return Said::Wrong(TraceKind::BadToken);
@@ -259,9 +271,11 @@ impl TokenReader {
         ensures tells { (past : List Statement) →
             Holds self.old (record { past = past; inside = nothing }) →
             is_defined past ≡ true →
-            Tells (value_says (terms_kept self.old) past token.now) (Holds self.new) result }
+            Tells (asked_of self.old) (value_says (terms_kept self.old) past token.now)
+            (Holds self.new) result }
         ensures kinds { result ≢ Said.Wrong Spent }
         ensures same_terms { terms_kept self.new ≡ terms_kept self.old }
+        ensures same_names { asked_of self.new ≡ asked_of self.old }
     {
         let Some((first, rest)) = token.split_first() else {
             return Said::Nothing;
@@ -285,10 +299,12 @@ impl TokenReader {
     fn read_identifier(&mut self, value: bool, identifier: &[u8]) -> Said
         ensures tells { (past : List Statement) →
             Holds self.old (record { past = past; inside = vector value }) →
-            Tells (goes_to (change wide identifier.now value ∷ past) nothing) (Holds self.new)
+            Tells (asked_of self.old) (goes_to (change wide identifier.now value ∷ past) nothing)
+            (Holds self.new)
             result }
         ensures kinds { result ≢ Said.Wrong Spent }
         ensures same_terms { terms_kept self.new ≡ terms_kept self.old }
+        ensures same_names { asked_of self.new ≡ asked_of self.old }
     {
         self.past.change(identifier, value);
         self.inside = Inside::Nothing;
@@ -302,6 +318,7 @@ impl TokenReader {
             KnowsAll past self.old.needed.items →
             Holds self.new (record { past = past; inside = nothing }) }
         ensures same_terms { terms_kept self.new ≡ terms_kept self.old }
+        ensures same_names { asked_of self.new ≡ asked_of self.old }
     {
         self.inside = Inside::Nothing;
         self.tokens.clear();
@@ -311,9 +328,10 @@ impl TokenReader {
     fn end_scope(&mut self) -> Said
         ensures tells { (past : List Statement) (word : List ℕ) (tokens : List (List ℕ)) →
             Holds self.old (record { past = past; inside = section word tokens }) →
-            Tells (scope_says past tokens) (Holds self.new) result }
+            Tells (asked_of self.old) (scope_says past tokens) (Holds self.new) result }
         ensures kinds { result ≢ Said.Wrong Spent }
         ensures same_terms { terms_kept self.new ≡ terms_kept self.old }
+        ensures same_names { asked_of self.new ≡ asked_of self.old }
     {
         if self.tokens.as_slice().len() < 2 {
             return Said::Wrong(TraceKind::BadToken);
@@ -334,6 +352,7 @@ impl TokenReader {
             OnOk result (Knows self.new.names self.new.events self.new.past (var tokens ∷ past)
             × KnowsAll (var tokens ∷ past) self.new.needed.items) }
         ensures same_terms { terms_kept self.new ≡ terms_kept self.old }
+        ensures same_names { asked_of self.new ≡ asked_of self.old }
     {
         let tokens = self.tokens.as_slice();
         if tokens.len() != 4 {
@@ -360,9 +379,10 @@ impl TokenReader {
     fn end_declaration(&mut self) -> Said
         ensures tells { (past : List Statement) (word : List ℕ) (tokens : List (List ℕ)) →
             Holds self.old (record { past = past; inside = section word tokens }) →
-            Tells (declaration_says past tokens) (Holds self.new) result }
+            Tells (asked_of self.old) (declaration_says past tokens) (Holds self.new) result }
         ensures kinds { result ≢ Said.Wrong Spent }
         ensures same_terms { terms_kept self.new ≡ terms_kept self.old }
+        ensures same_names { asked_of self.new ≡ asked_of self.old }
     {
         if self.tokens.as_slice().len() < 4 {
             return Said::Wrong(TraceKind::BadToken);
@@ -381,9 +401,10 @@ impl TokenReader {
         ensures tells { (past : List Statement) (word : List ℕ) (tokens : List (List ℕ)) →
             Holds self.old (record { past = past; inside = section word tokens }) →
             command ≡ command_of word →
-            Tells (section_says past word tokens) (Holds self.new) result }
+            Tells (asked_of self.old) (section_says past word tokens) (Holds self.new) result }
         ensures kinds { result ≢ Said.Wrong Spent }
         ensures same_terms { terms_kept self.new ≡ terms_kept self.old }
+        ensures same_names { asked_of self.new ≡ asked_of self.old }
     {
         match command {
             Command::Scope => self.end_scope(),
@@ -410,10 +431,12 @@ impl TokenReader {
         ensures tells { (past : List Statement) (word : List ℕ) (tokens : List (List ℕ)) →
             Holds self.old (record { past = past; inside = section word tokens }) →
             command ≡ command_of word →
-            Tells (token_at (terms_kept self.old) past (section word tokens) token.now)
+            Tells (asked_of self.old) (token_at (terms_kept self.old) past (section word tokens)
+            token.now)
             (Holds self.new) result }
         ensures kinds { result ≢ Said.Wrong Spent }
         ensures same_terms { terms_kept self.new ≡ terms_kept self.old }
+        ensures same_names { asked_of self.new ≡ asked_of self.old }
     {
         if is_end(token) {
             return self.end_section(command);
@@ -425,9 +448,11 @@ impl TokenReader {
     fn read_comment(&mut self, token: &[u8]) -> Said
         ensures tells { (past : List Statement) →
             Holds self.old (record { past = past; inside = comment }) →
-            Tells (token_at (terms_kept self.old) past comment token.now) (Holds self.new) result }
+            Tells (asked_of self.old) (token_at (terms_kept self.old) past comment token.now)
+            (Holds self.new) result }
         ensures kinds { result ≢ Said.Wrong Spent }
         ensures same_terms { terms_kept self.new ≡ terms_kept self.old }
+        ensures same_names { asked_of self.new ≡ asked_of self.old }
     {
         if is_end(token) {
             self.inside = Inside::Nothing;
@@ -439,9 +464,10 @@ impl TokenReader {
     fn pass_over(&mut self) -> Said
         ensures tells { (past : List Statement) →
             Holds self.old (record { past = past; inside = number }) →
-            Tells (goes_to past nothing) (Holds self.new) result }
+            Tells (asked_of self.old) (goes_to past nothing) (Holds self.new) result }
         ensures kinds { result ≢ Said.Wrong Spent }
         ensures same_terms { terms_kept self.new ≡ terms_kept self.old }
+        ensures same_names { asked_of self.new ≡ asked_of self.old }
     {
         self.inside = Inside::Nothing;
         Said::Nothing
@@ -454,6 +480,8 @@ impl PartReader for TokenReader {
     ghost Terms = { Terms };
 
     ghost terms = { terms_kept };
+
+    ghost names = { asked_of };
 
     ghost format = { vcd_format };
 

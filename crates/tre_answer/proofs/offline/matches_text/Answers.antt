@@ -3,6 +3,7 @@ use Rattle.std.proofs.lemmas.List.{length-map}
 use Rattle.std.proofs.lemmas.Result.{err_from_is_err_and}
 use Rattle.std.specs.Prelude.{string_bytes}
 use Rattle.tre_answer.proofs.Found.{IsFound-whole, IsFoundFor-text, StopsAs-over, StopsAs-readers, StopsAs-wanting, a_trace_each, normal_limit}
+use Rattle.tre_feed.specs.Asked.{asked_by, reading_asked}
 use Rattle.tre_answer.proofs.offline.matches_text.Goals as goal
 
 pub returns-in_err-traces-clause-stops : goal.returns-in_err-traces-clause-stops
@@ -13,7 +14,8 @@ returns-in_err-traces-clause-stops g c =
 
 pub wanted_matches-requires-clause-count : goal.wanted_matches-requires-clause-count
 wanted_matches-requires-clause-count g c =
-    let count = a_trace_each g.R.TraceReader.terms g.R.TraceReader.reading c.args.readers _ _ _
+    let count = a_trace_each (asked_by g.R.TraceReader.names g.R.TraceReader.terms)
+    (reading_asked g.R.TraceReader.recording) c.args.readers _ _ _
     c.in_ok-traces.ensures.read in
     rw c.deref.ensures.value (count ∙ c.requires.count)
 
@@ -35,7 +37,8 @@ pub returns-in_err-check_count-clause-stops : goal.returns-in_err-check_count-cl
 returns-in_err-check_count-clause-stops g c =
     let p = err_from_is_err_and c.from_residual-in_err-check_count.result
     c.from_residual-in_err-check_count.ensures.1 in
-    let count = a_trace_each g.R.TraceReader.terms g.R.TraceReader.reading c.args.readers _ _ _
+    let count = a_trace_each (asked_by g.R.TraceReader.names g.R.TraceReader.terms)
+    (reading_asked g.R.TraceReader.recording) c.args.readers _ _ _
     c.in_ok-traces.ensures.read in
     let some : 0 < length c.in_ok-traces.traces.items =
     omega (arith, count, c.requires.count, c.requires.fits.some) in
@@ -59,7 +62,8 @@ returns-in_err-text-clause-stops g c =
 
 pub returns-clause-found : goal.returns-clause-found
 returns-clause-found g c =
-    let count = a_trace_each g.R.TraceReader.terms g.R.TraceReader.reading c.args.readers _ _ _
+    let count = a_trace_each (asked_by g.R.TraceReader.names g.R.TraceReader.terms)
+    (reading_asked g.R.TraceReader.recording) c.args.readers _ _ _
     c.in_ok-traces.ensures.read in
     let some : 0 < length c.in_ok-traces.traces.items =
     omega (arith, count, c.requires.count, c.requires.fits.some) in

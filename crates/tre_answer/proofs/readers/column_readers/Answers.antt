@@ -1,6 +1,7 @@
-use Rattle.std.proofs.Common.{◌∙◌, ap}
-use Rattle.tre_num.specs.Rows.{rows_reading}
+use Rattle.std.proofs.Common.{◌∙◌, ap₂}
+use Rattle.tre_num.specs.Rows.{rows_recording}
 use Rattle.tre_syntax.specs.Pattern.{names_of}
+use Rattle.tre_trace.specs.Reading.{reading_for}
 use Rattle.tre_answer.proofs.Readings.{one_read, rows_terms, vocabulary_same}
 use Rattle.tre_answer.proofs.readers.column_readers.Goals as goal
 
@@ -12,4 +13,5 @@ returns-clause-reads c =
     let terms = c.new.ensures.terms ∙ rows_terms c.args.definitions.items c.args.scale own in
     λ closed bytes. one_read (c.in_ok-push.ensures.readings closed bytes)
     (c.new-readers.ensures.readings closed bytes)
-    (ap (λ all. rows_reading all closed bytes) terms)
+    (ap₂ (λ names all. reading_for names (rows_recording all closed bytes))
+    (c.new.ensures.names ∙ own) terms)

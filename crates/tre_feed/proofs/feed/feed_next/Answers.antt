@@ -1,40 +1,45 @@
 use Rattle.std.proofs.Common.{◌≡◌, ◌+◌, ◌-◌, ◌≤◌, ℕ, Bool, List, false, true, Ok, Err, length, map, take, arith, sym, subst, length-take}
 use Rattle.std.proofs.lemmas.Result.{err_from_is_err_and}
 use Rattle.tre_trace.specs.Reading.{Reading}
-use Rattle.tre_feed.specs.Readers.{TakesIn, WereFed, lasts_of, readings_in, rows_of}
+use Rattle.tre_feed.specs.Readers.{TakesIn, WereFed, lasts_of, readings_asked, rows_of}
 use Rattle.tre_feed.specs.Readings.{AgreeAlways}
 use Rattle.tre_feed.specs.declared.TheConstants.{PIECE}
 use Rattle.tre_feed.proofs.Outcomes.{TellsAll-exceeds}
 use Rattle.tre_feed.proofs.Pieces.{AddsEach-end, AddsEach-none, GoesOn-fed, HasRead-end, HasRead-fed, HasRead-nothing, HasRead-refused, HasRead-stops, IsAtEndOf-read, IsEnded-end, IsFed-all, StopsTurn-end, StopsTurn-piece}
 use Rattle.tre_feed.proofs.Read.{all_grow, faultless_now, same_length}
+use Rattle.tre_feed.proofs.Asking.{asked-grows}
+use Rattle.tre_feed.specs.Asked.{asked_by, reading_asked}
 use Rattle.tre_feed.proofs.feed.feed_next.Goals as goal
 
 pub returns-then-taken-limit-clause-read : goal.returns-then-taken-limit-clause-read
 returns-then-taken-limit-clause-read g c =
     let reader = g.R.TraceReader in
     let readers = c.args.readers.now in
-    let readings = readings_in reader.reading reader.terms readers in
+    let readings = readings_asked reader.recording reader.names reader.terms readers in
     λ file bytes so_far. HasRead-nothing so_far readings (rows_of readers) so_far.fed.level
-    (AddsEach-none (rows_of readers) _ (same_length reader.terms readers reader.reading false
+    (AddsEach-none (rows_of readers) _ (same_length (asked_by reader.names reader.terms) readers
+    (reading_asked reader.recording) false
     (take c.args.limit bytes)))
 
 pub returns-then-taken-limit-clause-ends : goal.returns-then-taken-limit-clause-ends
 returns-then-taken-limit-clause-ends g c =
     let reader = g.R.TraceReader in
     let readers = c.args.readers.now in
-    let readings = readings_in reader.reading reader.terms readers in
+    let readings = readings_asked reader.recording reader.names reader.terms readers in
     λ file bytes so_far. TellsAll-exceeds readings c.args.limit file _ bytes (rows_of readers)
     so_far.front (omega (arith, so_far.size, c.if-taken-limit.true))
-    (faultless_now reader.terms reader.represents reader.reading g.met.R.TraceReader.faultless
+    (faultless_now (asked_by reader.names reader.terms) reader.represents
+    (reading_asked reader.recording) g.met.R.TraceReader.faultless
     readers (take c.args.limit bytes) so_far.fed)
-    (AddsEach-none (rows_of readers) _ (same_length reader.terms readers reader.reading false
+    (AddsEach-none (rows_of readers) _ (same_length (asked_by reader.names reader.terms) readers
+    (reading_asked reader.recording) false
     (take c.args.limit bytes)))
 
 pub returns-in_err-count-clause-read : goal.returns-in_err-count-clause-read
 returns-in_err-count-clause-read g c =
     let reader = g.R.TraceReader in
     let readers = c.args.readers.now in
-    let readings = readings_in reader.reading reader.terms readers in
+    let readings = readings_asked reader.recording reader.names reader.terms readers in
     let inside = c.if-taken-limit.false in
     let piece_room = take c.min-room.result c.args.buffer.now in
     let some : length piece_room ≤ c.args.limit - c.args.taken.now + 1
@@ -47,14 +52,15 @@ returns-in_err-count-clause-read g c =
     c.feed_piece.ensures.finds inside (length piece_room) some fits (rows_of readers)
     (rows_of c.feed_piece.new.readers) c.in_err-count.field-0.0
     (c.in_err-count.ensures.level bytes (IsFed-all so_far inside))
-    (same_length reader.terms readers reader.reading false (take c.args.limit bytes))
+    (same_length (asked_by reader.names reader.terms) readers (reading_asked reader.recording) false
+    (take c.args.limit bytes))
     (c.in_err-count.ensures.stops bytes (IsFed-all so_far inside)))
 
 pub returns-in_err-count-clause-ends : goal.returns-in_err-count-clause-ends
 returns-in_err-count-clause-ends g c =
     let reader = g.R.TraceReader in
     let readers = c.args.readers.now in
-    let readings = readings_in reader.reading reader.terms readers in
+    let readings = readings_asked reader.recording reader.names reader.terms readers in
     let inside = c.if-taken-limit.false in
     let piece_room = take c.min-room.result c.args.buffer.now in
     let some : length piece_room ≤ c.args.limit - c.args.taken.now + 1
@@ -66,7 +72,8 @@ returns-in_err-count-clause-ends g c =
     (g.S.Source.left c.feed_piece.new.input) (g.S.Source.found c.feed_piece.new.input)
     c.feed_piece.ensures.finds inside (length piece_room) some fits (rows_of readers)
     (rows_of c.feed_piece.new.readers) c.in_err-count.field-0.0
-    (all_grow reader.terms reader.reading g.met.R.TraceReader.grows readers)
+    (all_grow (asked_by reader.names reader.terms) (reading_asked reader.recording)
+    (asked-grows reader.recording g.met.R.TraceReader.grows) readers)
     (c.requires.alike false)
     (c.in_err-count.ensures.stops bytes (IsFed-all so_far inside)))
 
@@ -78,7 +85,7 @@ pub returns-in_err-finish-clause-read : goal.returns-in_err-finish-clause-read
 returns-in_err-finish-clause-read g c =
     let reader = g.R.TraceReader in
     let readers = c.args.readers.now in
-    let readings = readings_in reader.reading reader.terms readers in
+    let readings = readings_asked reader.recording reader.names reader.terms readers in
     let inside = c.if-taken-limit.false in
     let count = c.in_ok-count.count in
     let buffer = c.feed_piece.new.buffer in
@@ -96,7 +103,8 @@ returns-in_err-finish-clause-read g c =
     let same = AddsEach-end readings (c.args.limit - c.args.taken.now) count bytes buffer
     (rows_of readers) (rows_of c.feed_piece.new.readers) none
     (c.in_ok-count.ensures.adds bytes fed) in
-    let takes = subst (λ (all : Bool → List ℕ → List Reading). TakesIn (rows_of c.feed_piece.new.readers)
+    let takes = subst (λ (all : Bool → List ℕ → List Reading). TakesIn
+    (rows_of c.feed_piece.new.readers)
     (rows_of c.finish.new.self) (all false bytes)
     (all true bytes)
     (Err c.in_err-finish.field-0.0)) c.in_ok-count.ensures.same
@@ -109,7 +117,7 @@ pub returns-in_err-finish-clause-ends : goal.returns-in_err-finish-clause-ends
 returns-in_err-finish-clause-ends g c =
     let reader = g.R.TraceReader in
     let readers = c.args.readers.now in
-    let readings = readings_in reader.reading reader.terms readers in
+    let readings = readings_asked reader.recording reader.names reader.terms readers in
     let inside = c.if-taken-limit.false in
     let count = c.in_ok-count.count in
     let buffer = c.feed_piece.new.buffer in
@@ -127,7 +135,8 @@ returns-in_err-finish-clause-ends g c =
     let same = AddsEach-end readings (c.args.limit - c.args.taken.now) count bytes buffer
     (rows_of readers) (rows_of c.feed_piece.new.readers) none
     (c.in_ok-count.ensures.adds bytes fed) in
-    let takes = subst (λ (all : Bool → List ℕ → List Reading). TakesIn (rows_of c.feed_piece.new.readers)
+    let takes = subst (λ (all : Bool → List ℕ → List Reading). TakesIn
+    (rows_of c.feed_piece.new.readers)
     (rows_of c.finish.new.self) (all false bytes)
     (all true bytes)
     (Err c.in_err-finish.field-0.0)) c.in_ok-count.ensures.same
@@ -140,7 +149,7 @@ pub returns-then-count-eq0-clause-read : goal.returns-then-count-eq0-clause-read
 returns-then-count-eq0-clause-read g c =
     let reader = g.R.TraceReader in
     let readers = c.args.readers.now in
-    let readings = readings_in reader.reading reader.terms readers in
+    let readings = readings_asked reader.recording reader.names reader.terms readers in
     let inside = c.if-taken-limit.false in
     let count = c.in_ok-count.count in
     let buffer = c.feed_piece.new.buffer in
@@ -156,7 +165,8 @@ returns-then-count-eq0-clause-read g c =
     let same = AddsEach-end readings (c.args.limit - c.args.taken.now) count bytes buffer
     (rows_of readers) (rows_of c.feed_piece.new.readers) none
     (c.in_ok-count.ensures.adds bytes fed) in
-    let takes = subst (λ (all : Bool → List ℕ → List Reading). TakesIn (rows_of c.feed_piece.new.readers)
+    let takes = subst (λ (all : Bool → List ℕ → List Reading). TakesIn
+    (rows_of c.feed_piece.new.readers)
     (rows_of c.finish.new.self) (all false bytes)
     (all true bytes) (Ok tt)) c.in_ok-count.ensures.same
     (c.in_ok-finish.ensures.takes bytes at_end.fed) in
@@ -167,7 +177,7 @@ pub returns-then-count-eq0-clause-ends : goal.returns-then-count-eq0-clause-ends
 returns-then-count-eq0-clause-ends g c =
     let reader = g.R.TraceReader in
     let readers = c.args.readers.now in
-    let readings = readings_in reader.reading reader.terms readers in
+    let readings = readings_asked reader.recording reader.names reader.terms readers in
     let inside = c.if-taken-limit.false in
     let count = c.in_ok-count.count in
     let buffer = c.feed_piece.new.buffer in
@@ -183,7 +193,8 @@ returns-then-count-eq0-clause-ends g c =
     let same = AddsEach-end readings (c.args.limit - c.args.taken.now) count bytes buffer
     (rows_of readers) (rows_of c.feed_piece.new.readers) none
     (c.in_ok-count.ensures.adds bytes fed) in
-    let takes = subst (λ (all : Bool → List ℕ → List Reading). TakesIn (rows_of c.feed_piece.new.readers)
+    let takes = subst (λ (all : Bool → List ℕ → List Reading). TakesIn
+    (rows_of c.feed_piece.new.readers)
     (rows_of c.finish.new.self) (all false bytes)
     (all true bytes) (Ok tt)) c.in_ok-count.ensures.same
     (c.in_ok-finish.ensures.takes bytes at_end.fed) in
@@ -197,7 +208,7 @@ pub returns-clause-read : goal.returns-clause-read
 returns-clause-read g c =
     let reader = g.R.TraceReader in
     let readers = c.args.readers.now in
-    let readings = readings_in reader.reading reader.terms readers in
+    let readings = readings_asked reader.recording reader.names reader.terms readers in
     let inside = c.if-taken-limit.false in
     let piece_room = take c.min-room.result c.args.buffer.now in
     let some : length piece_room ≤ c.args.limit - c.args.taken.now + 1
@@ -218,7 +229,7 @@ pub returns-clause-ends : goal.returns-clause-ends
 returns-clause-ends g c =
     let reader = g.R.TraceReader in
     let readers = c.args.readers.now in
-    let readings = readings_in reader.reading reader.terms readers in
+    let readings = readings_asked reader.recording reader.names reader.terms readers in
     let inside = c.if-taken-limit.false in
     let piece_room = take c.min-room.result c.args.buffer.now in
     let some : length piece_room ≤ c.args.limit - c.args.taken.now + 1

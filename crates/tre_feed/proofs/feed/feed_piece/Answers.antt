@@ -1,6 +1,6 @@
 use Rattle.std.proofs.Common.{◌≡◌, ◌∙◌, ℕ, ◌≤◌, length, take, arith, length-take, ap}
 use Rattle.std.proofs.lemmas.Result.{err_from_is_err_and}
-use Rattle.tre_feed.specs.Readers.{readings_in}
+use Rattle.tre_feed.specs.Readers.{readings_asked}
 use Rattle.tre_feed.proofs.Cuts.{take_both}
 use Rattle.tre_feed.proofs.Pieces.{StopsPiece-refused, cause_of, never_read}
 use Rattle.tre_feed.proofs.feed.feed_piece.Goals as goal
@@ -16,7 +16,8 @@ returns-in_err-feed-clause-stops g c =
     let fed : take c.min.result buffer ≡ take c.args.allowed (take count buffer) =
     ap (λ n. take n buffer) c.min.ensures ∙ take_both count c.args.allowed buffer in
     λ bytes so_far. rw (p.1, p.2) (StopsPiece-refused
-    (readings_in g.R.TraceReader.reading g.R.TraceReader.terms c.args.readers.now) _ _
+    (readings_asked g.R.TraceReader.recording g.R.TraceReader.names g.R.TraceReader.terms
+    c.args.readers.now) _ _
     bytes (take count buffer) (take c.min.result buffer) _ _ _ _ _ c.in_ok-count.ensures.taken short
     fed (c.in_err-feed.ensures.takes bytes so_far))
 

@@ -3,14 +3,16 @@ use Rattle.std.proofs.lemmas.List.{length-map}
 use Rattle.tre_feed.specs.declared.fault.FeedFault.TheVariants.{Memory}
 use Rattle.tre_feed.proofs.Changed.{Changed-all}
 use Rattle.tre_feed.proofs.Turns.{Kept-all, Kept-one, Took-one, told-one, told-all}
+use Rattle.tre_feed.specs.Asked.{asked_by, reading_asked}
 use Rattle.tre_feed.proofs.leaders.feed_each.Goals as goal
 
 pub returns-then-is_out_of_memory-clause-kept : goal.returns-then-is_out_of_memory-clause-kept
 returns-then-is_out_of_memory-clause-kept g c =
     let reader = g.R.TraceReader in
     let piece = c.args.piece.now in
-    Kept-one reader.terms reader.represents (λ all bytes. reader.reading all false bytes)
-    (λ all bytes. reader.reading all false (bytes ++ piece))
+    Kept-one (asked_by reader.names reader.terms) reader.represents
+    (λ all bytes. reading_asked reader.recording all false bytes)
+    (λ all bytes. reading_asked reader.recording all false (bytes ++ piece))
     (λ all new bytes. reader.represents new.reader (bytes ++ piece))
     c.loop-fed.invariant.took (omega (arith, c.loop-fed-test.true, c.loop-fed.auto.fed-items))
     c.fed-item.result c.feed-outcome.new.self c.feed-outcome.result
@@ -26,17 +28,18 @@ loop-fed-preserved g c =
     let found : c.feed-outcome.result ≢ Err Memory =
     λ is. (let out : c.is_out_of_memory.result ≡ true = c.is_out_of_memory.ensures.1 is in cc) in
     record {
-      took = Took-one reader.terms reader.represents (λ all bytes. reader.reading all false bytes)
-          (λ all bytes. reader.reading all false (bytes ++ piece))
+      took = Took-one (asked_by reader.names reader.terms) reader.represents
+          (λ all bytes. reading_asked reader.recording all false bytes)
+          (λ all bytes. reading_asked reader.recording all false (bytes ++ piece))
           (λ all new bytes. reader.represents new.reader (bytes ++ piece))
           c.loop-fed.invariant.took below c.fed-item.result c.feed-outcome.new.self
           c.feed-outcome.result c.feed-outcome.ensures.same_terms c.feed-outcome.ensures.takes
           found c.feed-outcome.ensures.goes_on;
       of_reader = c.feed-outcome.ensures.of_reader;
       found = found;
-      told = λ bytes fed. inr (told-one reader.terms reader.represents
-          (λ all bytes. reader.reading all false bytes)
-          (λ all bytes. reader.reading all false (bytes ++ piece))
+      told = λ bytes fed. inr (told-one (asked_by reader.names reader.terms) reader.represents
+          (λ all bytes. reading_asked reader.recording all false bytes)
+          (λ all bytes. reading_asked reader.recording all false (bytes ++ piece))
           (λ all new bytes. reader.represents new.reader (bytes ++ piece))
           c.loop-fed.invariant.took below c.fed-item.result c.feed-outcome.new.self
           c.feed-outcome.result c.feed-outcome.ensures.same_terms c.feed-outcome.ensures.takes
@@ -47,8 +50,9 @@ pub returns-clause-kept : goal.returns-clause-kept
 returns-clause-kept g c =
     let reader = g.R.TraceReader in
     let piece = c.args.piece.now in
-    Kept-all reader.terms reader.represents (λ all bytes. reader.reading all false bytes)
-    (λ all bytes. reader.reading all false (bytes ++ piece))
+    Kept-all (asked_by reader.names reader.terms) reader.represents
+    (λ all bytes. reading_asked reader.recording all false bytes)
+    (λ all bytes. reading_asked reader.recording all false (bytes ++ piece))
     (λ all new bytes. reader.represents new.reader (bytes ++ piece))
     c.loop-fed.invariant.took c.loop-fed-test.false
 
@@ -59,6 +63,6 @@ pub returns-clause-told : goal.returns-clause-told
 returns-clause-told g c =
     let reader = g.R.TraceReader in
     λ bytes fed. told-all _ c.args.each.now c.loop-fed.fed-index c.loop-fed.outcome
-    (length-map _ (λ all. reader.reading all false (bytes ++ c.args.piece.now))
-    ∙ length-map c.args.each.now (λ fed. reader.terms fed.reader))
+    (length-map _ (λ all. reading_asked reader.recording all false (bytes ++ c.args.piece.now))
+    ∙ length-map c.args.each.now (λ fed. asked_by reader.names reader.terms fed.reader))
     (c.loop-fed.invariant.told bytes fed) c.loop-fed-test.false

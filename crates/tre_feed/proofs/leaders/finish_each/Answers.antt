@@ -3,14 +3,16 @@ use Rattle.std.proofs.lemmas.List.{length-map}
 use Rattle.tre_feed.specs.declared.fault.FeedFault.TheVariants.{Memory}
 use Rattle.tre_feed.proofs.Changed.{Changed-all}
 use Rattle.tre_feed.proofs.Turns.{Kept-all, Kept-one, Took-one, told-one, told-all}
+use Rattle.tre_feed.specs.Asked.{asked_by, reading_asked}
 use Rattle.tre_feed.proofs.leaders.finish_each.Goals as goal
 
 pub returns-then-is_out_of_memory-clause-kept : goal.returns-then-is_out_of_memory-clause-kept
 returns-then-is_out_of_memory-clause-kept g c =
     let reader = g.R.TraceReader in
-    Kept-one reader.terms reader.represents (λ all bytes. reader.reading all false bytes)
-    (λ all bytes. reader.reading all true bytes)
-    (λ all new bytes. new.last ≡ (reader.reading all true bytes).last)
+    Kept-one (asked_by reader.names reader.terms) reader.represents
+    (λ all bytes. reading_asked reader.recording all false bytes)
+    (λ all bytes. reading_asked reader.recording all true bytes)
+    (λ all new bytes. new.last ≡ (reading_asked reader.recording all true bytes).last)
     c.loop-fed.invariant.took (omega (arith, c.loop-fed-test.true, c.loop-fed.auto.fed-items))
     c.fed-item.result c.finish-outcome.new.self c.finish-outcome.result
     c.finish-outcome.ensures.same_terms
@@ -24,18 +26,19 @@ loop-fed-preserved g c =
     let found : c.finish-outcome.result ≢ Err Memory =
     λ is. (let out : c.is_out_of_memory.result ≡ true = c.is_out_of_memory.ensures.1 is in cc) in
     record {
-      took = Took-one reader.terms reader.represents (λ all bytes. reader.reading all false bytes)
-          (λ all bytes. reader.reading all true bytes)
-          (λ all new bytes. new.last ≡ (reader.reading all true bytes).last)
+      took = Took-one (asked_by reader.names reader.terms) reader.represents
+          (λ all bytes. reading_asked reader.recording all false bytes)
+          (λ all bytes. reading_asked reader.recording all true bytes)
+          (λ all new bytes. new.last ≡ (reading_asked reader.recording all true bytes).last)
           c.loop-fed.invariant.took below c.fed-item.result c.finish-outcome.new.self
           c.finish-outcome.result c.finish-outcome.ensures.same_terms c.finish-outcome.ensures.takes
           found c.finish-outcome.ensures.last;
       of_reader = c.finish-outcome.ensures.of_reader;
       found = found;
-      told = λ bytes fed. inr (told-one reader.terms reader.represents
-          (λ all bytes. reader.reading all false bytes)
-          (λ all bytes. reader.reading all true bytes)
-          (λ all new bytes. new.last ≡ (reader.reading all true bytes).last)
+      told = λ bytes fed. inr (told-one (asked_by reader.names reader.terms) reader.represents
+          (λ all bytes. reading_asked reader.recording all false bytes)
+          (λ all bytes. reading_asked reader.recording all true bytes)
+          (λ all new bytes. new.last ≡ (reading_asked reader.recording all true bytes).last)
           c.loop-fed.invariant.took below c.fed-item.result c.finish-outcome.new.self
           c.finish-outcome.result c.finish-outcome.ensures.same_terms c.finish-outcome.ensures.takes
           found bytes fed (c.requires.alike true bytes));
@@ -44,9 +47,10 @@ loop-fed-preserved g c =
 pub returns-clause-kept : goal.returns-clause-kept
 returns-clause-kept g c =
     let reader = g.R.TraceReader in
-    Kept-all reader.terms reader.represents (λ all bytes. reader.reading all false bytes)
-    (λ all bytes. reader.reading all true bytes)
-    (λ all new bytes. new.last ≡ (reader.reading all true bytes).last)
+    Kept-all (asked_by reader.names reader.terms) reader.represents
+    (λ all bytes. reading_asked reader.recording all false bytes)
+    (λ all bytes. reading_asked reader.recording all true bytes)
+    (λ all new bytes. new.last ≡ (reading_asked reader.recording all true bytes).last)
     c.loop-fed.invariant.took c.loop-fed-test.false
 
 pub returns-clause-took : goal.returns-clause-took
@@ -56,6 +60,6 @@ pub returns-clause-told : goal.returns-clause-told
 returns-clause-told g c =
     let reader = g.R.TraceReader in
     λ bytes fed. told-all _ c.args.each.now c.loop-fed.fed-index c.loop-fed.outcome
-    (length-map _ (λ all. reader.reading all true bytes)
-    ∙ length-map c.args.each.now (λ fed. reader.terms fed.reader))
+    (length-map _ (λ all. reading_asked reader.recording all true bytes)
+    ∙ length-map c.args.each.now (λ fed. asked_by reader.names reader.terms fed.reader))
     (c.loop-fed.invariant.told bytes fed) c.loop-fed-test.false

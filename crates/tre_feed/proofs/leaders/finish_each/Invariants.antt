@@ -3,6 +3,7 @@ use Rattle.tre_feed.specs.Fed.{IsEndOfAll, IsOfReader, TookEnd}
 use Rattle.tre_feed.specs.Readings.{readings_by}
 use Rattle.tre_feed.specs.declared.fault.FeedFault.TheVariants.{Memory}
 use Rattle.tre_feed.proofs.Changed.{ChangedTo}
+use Rattle.tre_feed.specs.Asked.{asked_by, reading_asked}
 use Rattle.tre_feed.proofs.leaders.finish_each.Given as goal
 
 -- those before the index were told the end, and the last of them told what all readings have
@@ -10,11 +11,14 @@ abbrev pub invariant-loop-fed : goal.invariant-loop-fed
 invariant-loop-fed g l =
     let reader = g.R.TraceReader in
     record {
-      took : ChangedTo (TookEnd reader.terms reader.represents reader.reading) l.fn.each
+      took : ChangedTo (TookEnd (asked_by reader.names reader.terms) reader.represents
+          (reading_asked reader.recording)) l.fn.each
           l.fed-items l.fed-index;
       of_reader : IsOfReader l.outcome;
       found : l.outcome ≢ Err Memory;
       told : (bytes : List ℕ) → All (λ fed. reader.represents fed.reader bytes) l.fn.each →
-          ((l.fed-index ≡ 0) × (l.outcome ≡ Ok tt)) ⊎ IsEndOfAll (readings_by reader.reading
-          (map (λ fed. reader.terms fed.reader) l.fn.each) true bytes) l.outcome;
+          ((l.fed-index ≡ 0) × (l.outcome ≡ Ok tt)) ⊎ IsEndOfAll
+          (readings_by (reading_asked reader.recording)
+          (map (λ fed. asked_by reader.names reader.terms fed.reader) l.fn.each) true bytes)
+          l.outcome;
     }

@@ -4,25 +4,27 @@ use Rattle.tre_trace.specs.Reading.{Reading}
 use Rattle.tre_feed.specs.Input.{HasReadCause, Progress, input_told}
 use Rattle.tre_feed.specs.Leaders.{lasts_led, rows_led}
 use Rattle.tre_feed.specs.Members.{last_for, row_for}
-use Rattle.tre_feed.specs.Readers.{readings_in, rows_of}
+use Rattle.tre_feed.specs.Readers.{readings_asked, rows_of}
 use Rattle.tre_feed.specs.Readings.{AgreeAlways, common, rows_in}
 use Rattle.tre_feed.proofs.Alike.{AddsEach-now}
 use Rattle.tre_feed.proofs.Cuts.{take-over}
 use Rattle.tre_feed.proofs.Read.{all_traces, faultless_now, same_length}
 use Rattle.tre_feed.proofs.Wholes.{HasRead-bounded, IsCollected-more, IsFed-start, IsWhole-ended, StopsReading-turn, StopsReading-unread, rows_are_traces, rows_fresh}
+use Rattle.tre_feed.specs.Asked.{asked_by, reading_asked}
 use Rattle.tre_feed.proofs.whole.read_traces.Goals as goal
 
 pub returns-in_err-feed-clause-stops : goal.returns-in_err-feed-clause-stops
 returns-in_err-feed-clause-stops g c =
     let p = err_from_is_err_and c.from_residual.result c.from_residual.ensures.1 in
     let reader = g.R.TraceReader in
-    let readings = readings_in reader.reading reader.terms c.args.readers in
+    let readings = readings_asked reader.recording reader.names reader.terms c.args.readers in
     let input = input_told g.S.Source.file_name g.S.Source.file g.S.Source.sound g.S.Source.opened
     g.S.Source.left g.S.Source.found g.S.Source.faults c.args.input.now
     c.open.new.input in
     rw (p.1, p.2) (StopsReading-unread readings c.args.limit c.args.name.now input
     c.in_err-feed.field-0.0
-    (faultless_now reader.terms reader.represents reader.reading g.met.R.TraceReader.faultless
+    (faultless_now (asked_by reader.names reader.terms) reader.represents
+    (reading_asked reader.recording) g.met.R.TraceReader.faultless
     c.args.readers [] c.requires.fresh.fed)
     c.in_err-feed.ensures.nothing c.in_err-feed.ensures.cause c.in_err-feed.ensures.named
     (λ good named is. c.in_err-feed.ensures.sound good named (ap Err is)))
@@ -30,7 +32,7 @@ returns-in_err-feed-clause-stops g c =
 pub loop-feed-init : goal.loop-feed-init
 loop-feed-init g c =
     let reader = g.R.TraceReader in
-    let readings = readings_in reader.reading reader.terms c.args.readers in
+    let readings = readings_asked reader.recording reader.names reader.terms c.args.readers in
     let start = c.in_ok-feed.ensures.start in
     record {
       collected = record {
@@ -43,7 +45,8 @@ loop-feed-init g c =
         told = subst (λ bytes. rows_of c.args.readers ≡ rows_in (readings false bytes))
             (sym (take-over {X = ℕ} c.args.limit [] (omega arith)))
             (rows_fresh (rows_of c.args.readers) (readings false [])
-            (same_length reader.terms c.args.readers reader.reading false [])
+            (same_length (asked_by reader.names reader.terms) c.args.readers
+            (reading_asked reader.recording) false [])
             c.requires.fresh.none c.requires.nothing);
       };
       same = refl;
@@ -61,7 +64,7 @@ returns-in_err-next-clause-stops g c =
     let p = err_from_is_err_and c.from_residual-in_err-next.result
     c.from_residual-in_err-next.ensures.1 in
     let reader = g.R.TraceReader in
-    let readings = readings_in reader.reading reader.terms c.args.readers in
+    let readings = readings_asked reader.recording reader.names reader.terms c.args.readers in
     let inv = c.loop-feed.invariant in
     let so_far = inv.collected in
     let file = g.S.Source.file c.args.input.now in
@@ -76,7 +79,8 @@ returns-in_err-next-clause-stops g c =
     (λ good is. c.in_err-next.ensures.sound (rw inv.sound good) (ap Err is))
     (subst (λ (all : Bool → List ℕ → List Reading).
     (common (all false (take c.args.limit so_far.bytes))).fault ≡ None)
-    inv.same (faultless_now reader.terms reader.represents reader.reading
+    inv.same (faultless_now (asked_by reader.names reader.terms) reader.represents
+    (reading_asked reader.recording)
     g.met.R.TraceReader.faultless c.loop-feed.readers (take c.args.limit so_far.bytes)
     so_far.fed.fed))
     (rw (inv.same, inv.limit) at
@@ -112,7 +116,7 @@ loop-feed-preserved g c =
     let inv = c.loop-feed.invariant in
     let so_far = inv.collected in
     let file = g.S.Source.file c.args.input.now in
-    let readings = readings_in reader.reading reader.terms c.next.new.readers in
+    let readings = readings_asked reader.recording reader.names reader.terms c.next.new.readers in
     record {
       collected = IsCollected-more readings c.args.limit file (g.S.Source.left c.next.new.input)
           (g.S.Source.found c.next.new.input) c.next.new.self.taken so_far.bytes
@@ -132,7 +136,7 @@ loop-feed-preserved g c =
 pub into_traces-requires : goal.into_traces-requires
 into_traces-requires g c =
     let reader = g.R.TraceReader in
-    let readings = readings_in reader.reading reader.terms c.args.readers in
+    let readings = readings_asked reader.recording reader.names reader.terms c.args.readers in
     let inv = c.loop-feed.invariant in
     let so_far = inv.collected in
     let file = g.S.Source.file c.args.input.now in
@@ -143,14 +147,15 @@ into_traces-requires g c =
     ≡ rows_in (all false (take c.args.limit bytes))) inv.same so_far.told in
     let rows = AddsEach-now ended.all told in
     let traces = rows_are_traces (rows_of c.next.new.readers) (readings true bytes) rows
-    (all_traces reader.terms reader.reading g.met.R.TraceReader.is_trace c.args.readers true
+    (all_traces (asked_by reader.names reader.terms) (reading_asked reader.recording)
+    (λ asked. g.met.R.TraceReader.is_trace asked.terms asked.names) c.args.readers true
     bytes) in
     traces
 
 pub returns-clause-read : goal.returns-clause-read
 returns-clause-read g c =
     let reader = g.R.TraceReader in
-    let readings = readings_in reader.reading reader.terms c.args.readers in
+    let readings = readings_asked reader.recording reader.names reader.terms c.args.readers in
     let inv = c.loop-feed.invariant in
     let so_far = inv.collected in
     let file = g.S.Source.file c.args.input.now in
@@ -161,7 +166,8 @@ returns-clause-read g c =
     ≡ rows_in (all false (take c.args.limit bytes))) inv.same so_far.told in
     let rows = AddsEach-now ended.all told in
     let traces = rows_are_traces (rows_of c.next.new.readers) (readings true bytes) rows
-    (all_traces reader.terms reader.reading g.met.R.TraceReader.is_trace c.args.readers true
+    (all_traces (asked_by reader.names reader.terms) (reading_asked reader.recording)
+    (λ asked. g.met.R.TraceReader.is_trace asked.terms asked.names) c.args.readers true
     bytes) in
     let input = input_told g.S.Source.file_name g.S.Source.file g.S.Source.sound g.S.Source.opened
     g.S.Source.left g.S.Source.found g.S.Source.faults c.args.input.now

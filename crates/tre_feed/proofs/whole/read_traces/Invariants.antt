@@ -1,5 +1,5 @@
 use Rattle.std.proofs.Common.{◌≡◌, ◌+◌, ◌-◌, true}
-use Rattle.tre_feed.specs.Readers.{WereFed, readings_in, rows_of}
+use Rattle.tre_feed.specs.Readers.{WereFed, readings_asked, rows_of}
 use Rattle.tre_feed.proofs.Wholes.{IsCollected}
 use Rattle.tre_feed.proofs.whole.read_traces.Given as goal
 
@@ -11,11 +11,11 @@ invariant-loop-feed g l =
     let reader = g.R.TraceReader in
     record {
       collected : IsCollected (WereFed reader.represents l.readers)
-          (readings_in reader.reading reader.terms l.readers) l.limit
+          (readings_asked reader.recording reader.names reader.terms l.readers) l.limit
           (source.file l.fn.input) (source.left l.input) (source.found l.input) l.feed.taken
           (rows_of l.readers);
-      same : readings_in reader.reading reader.terms l.readers
-          ≡ readings_in reader.reading reader.terms l.fn.readers;
+      same : readings_asked reader.recording reader.names reader.terms l.readers
+          ≡ readings_asked reader.recording reader.names reader.terms l.fn.readers;
       opened : source.opened l.input ≡ true;
       sound : source.sound l.input ≡ source.sound l.fn.input;
       no_fault : source.faults l.input ≡ source.faults l.fn.input;

@@ -8,13 +8,13 @@ use Rattle.tre_group.proofs.Names.{vocabulary_same}
 use Rattle.tre_group.proofs.dump.dump_reader.Goals as goal
 
 pub loop-pattern-init : goal.loop-pattern-init
-loop-pattern-init c =
-    let own = vocabulary_same c.in_ok-names.names c.in_ok-events.events c.args.group.now
-    (c.in_ok-names.ensures ∙ c.names.ensures) (c.in_ok-events.ensures ∙ c.events.ensures) in
-    record {
-      begins = c.new-tokens.ensures.begins;
-      terms = c.new-tokens.ensures.terms ∙ ap (dump_terms [] c.args.scale) own;
-    }
+loop-pattern-init c = record {
+  begins = c.new-tokens.ensures.begins;
+  terms = c.new-tokens.ensures.terms;
+  names = c.new-tokens.ensures.names
+      ∙ vocabulary_same c.in_ok-names.names c.in_ok-events.events c.args.group.now
+      (c.in_ok-names.ensures ∙ c.names.ensures) (c.in_ok-events.ensures ∙ c.events.ensures);
+}
 
 pub loop-pattern-preserved : goal.loop-pattern-preserved
 loop-pattern-preserved c =
@@ -30,14 +30,18 @@ loop-pattern-preserved c =
             names = c.names-in-loop-pattern.result.now;
             events = c.events-in-loop-pattern.result.now;
           })) so_far.terms
-          ∙ (ap (λ (one : Vocabulary). dump_terms (declared ++ one ∷ []) c.args.scale
-          c.args.group.now) (own ∙ ap names_of c.pattern-item.is)
-          ∙ ap (λ (all : List Vocabulary). dump_terms all c.args.scale c.args.group.now)
+          ∙ (ap (λ (one : Vocabulary). dump_terms (declared ++ one ∷ []) c.args.scale)
+          (own ∙ ap names_of c.pattern-item.is)
+          ∙ ap (λ (all : List Vocabulary). dump_terms all c.args.scale)
           (sym (map_more names_of c.args.patterns.now c.loop-pattern.pattern-index
           c.pattern-item.result c.loop-pattern-test.true))));
+      names = c.must_declare.ensures.names ∙ so_far.names;
     }
 
 pub returns-clause-terms : goal.returns-clause-terms
 returns-clause-terms c = c.new-reader.ensures.terms ∙ (c.loop-pattern.invariant.terms
-    ∙ ap (λ all. dump_terms (map names_of all) c.args.scale c.args.group.now)
+    ∙ ap (λ all. dump_terms (map names_of all) c.args.scale)
     (take_all c.loop-pattern.pattern-index c.args.patterns.now c.loop-pattern-test.false))
+
+pub returns-clause-names : goal.returns-clause-names
+returns-clause-names c = c.new-reader.ensures.names ∙ c.loop-pattern.invariant.names

@@ -1,7 +1,7 @@
 use Rattle.std.proofs.Common.{◌≡◌, ◌∙◌, [], sym, rules}
 use Rattle.tre_syntax.specs.Pattern.{names_of}
-use Rattle.tre_text.specs.TextReading.{text_reading}
-use Rattle.tre_group.specs.Begun.{text_terms}
+use Rattle.tre_text.specs.TextReading.{text_recording}
+use Rattle.tre_trace.specs.Reading.{reading_for}
 use Rattle.tre_group.proofs.Few.{few_of}
 use Rattle.tre_group.proofs.Joining.{each_of, left_next, left_none, left_within, none_of}
 use Rattle.tre_group.proofs.text.text_readers.Goals as goal
@@ -20,7 +20,8 @@ loop-view-preserved c =
       fresh = c.in_ok-push_text.ensures.fresh;
       begun = rw c.deref.ensures.value at c.in_ok-push_text.ensures.begun;
       numbers = rw c.deref.ensures.value at
-          (c.in_ok-push_text.ensures.numbers (rw c.deref.ensures.value c.loop-view.invariant.numbers));
+          (c.in_ok-push_text.ensures.numbers (rw c.deref.ensures.value
+          c.loop-view.invariant.numbers));
       apart = c.loop-view.invariant.apart;
       left = left_next _ c.in-Some.view _ left
           (rw c.deref.ensures.value at c.in_ok-push_text.ensures.readings);
@@ -31,10 +32,10 @@ returns-clause-reads c =
     let rest = c.loop-view.view-iterator.rest in
     let none : rest.items ≡ [] = none_of rest.items (sym rest.ok.0 ∙ c.in-None.ensures.steps.0) in
     λ closed bytes. left_none (rw none at c.loop-view.invariant.left) closed bytes
-    ∙ each_of names_of (λ names. text_reading (text_terms c.args.scale names) closed bytes)
+    ∙ each_of names_of (λ names. reading_for names (text_recording c.args.scale closed bytes))
     c.args.patterns.now
 
 pub returns-clause-few : goal.returns-clause-few
 returns-clause-few c =
-    few_of (text_terms c.args.scale) _ _ _ c.loop-view.invariant.begun
+    few_of c.args.scale _ _ _ c.loop-view.invariant.begun
     c.loop-view.invariant.apart c.loop-view.invariant.numbers

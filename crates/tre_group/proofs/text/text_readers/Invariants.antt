@@ -1,13 +1,15 @@
 use Rattle.std.proofs.Common.{◌≡◌, length, map}
 use Rattle.std.specs.Prelude.{AllPairs}
-use Rattle.tre_feed.specs.Readers.{AreFresh, groups_in, readings_in}
+use Rattle.tre_feed.specs.Asked.{asked_by}
+use Rattle.tre_trace.specs.Reading.{reading_for}
+use Rattle.tre_feed.specs.Readers.{AreFresh, groups_in, readings_asked}
 use Rattle.tre_share.specs.Shares.{AreApart}
 use Rattle.tre_syntax.specs.Pattern.{names_of}
-use Rattle.tre_text.specs.TextReading.{text_reading}
+use Rattle.tre_text.specs.TextReading.{text_recording}
 use Rattle.tre_text.specs.contracts.line_reader.LineReaderPartReader.TheImpl.{ghosts as line_reader}
-use Rattle.tre_group.specs.Begun.{AreNumbers, terms_at, text_terms}
+use Rattle.tre_group.specs.Begun.{AreNumbers, asked_at}
 use Rattle.tre_group.proofs.Joining.{IsLeft}
-use Rattle.tre_group.proofs.Parts.{parts_reading, parts_represent, parts_terms}
+use Rattle.tre_group.proofs.Parts.{parts_names, parts_recording, parts_represent, parts_terms}
 use Rattle.tre_group.proofs.text.text_readers.Given as goal
 
 -- the readers so far say what the patterns of the views so far are to be told
@@ -17,11 +19,14 @@ invariant-loop-view l = record {
   ends : goal.iterator-loop-view.is_finite l.view-iterator;
   fresh : AreFresh (parts_represent line_reader.terms line_reader.format line_reader.holds)
       l.readers;
-  begun : groups_in (parts_terms line_reader.terms) l.readers
-      ≡ terms_at (text_terms l.scale) l.groups.items l.begun.items;
+  begun : groups_in (asked_by (parts_names line_reader.names)
+      (parts_terms line_reader.terms)) l.readers
+      ≡ asked_at l.scale l.groups.items l.begun.items;
   numbers : AreNumbers (length l.groups.items) l.begun.items;
   apart : AllPairs AreApart l.groups.items;
-  left : IsLeft l.groups.items (λ names. text_reading (text_terms l.scale names))
-      (map names_of l.patterns) (readings_in (parts_reading line_reader.format)
-      (parts_terms line_reader.terms) l.readers) l.view-iterator.rest.items;
+  left : IsLeft l.groups.items
+      (λ names closed bytes. reading_for names (text_recording l.scale closed bytes))
+      (map names_of l.patterns) (readings_asked (parts_recording line_reader.format)
+      (parts_names line_reader.names) (parts_terms line_reader.terms) l.readers)
+      l.view-iterator.rest.items;
 }

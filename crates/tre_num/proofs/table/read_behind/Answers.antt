@@ -1,11 +1,13 @@
-use Rattle.std.proofs.Common.{rules, ◌≡◌, ◌+◌, ◌-◌, length, length-append, true, false, Ok, Err, refl, sym, ap, ◌∙◌, arith}
+use Rattle.std.proofs.Common.{rules, ◌≡◌, ◌+◌, ◌-◌, length, length-append, true, false, refl, sym, ap, ◌∙◌, arith}
 use Rattle.std.specs.Result.{is_ok}
-use Rattle.std.proofs.lemmas.List.{length_push}
+use Rattle.std.proofs.lemmas.List.{length-map, length_push}
 use Rattle.std.proofs.lemmas.Result.{err_from_is_err_and}
 use Rattle.csv.specs.Records.{fields_of}
 use Rattle.tre_num.specs.Left.{Takes}
 use Rattle.tre_num.specs.Rows.{row_says}
+use Rattle.tre_num.proofs.Telling.{row-is, says-fault, says-stretch}
 use Rattle.tre_num.proofs.Reading.{read-none, read-one, read-fault, read-stopped, read-all, read-faultless}
+use Rattle.tre_trace.specs.Reading.{segment_for, segments_for}
 use Rattle.tre_trace.specs.declared.fault.TraceFault.{TraceFault}
 use Rattle.tre_num.proofs.table.read_behind.Goals as goal
 
@@ -13,75 +15,72 @@ pub loop-init : goal.loop-init
 loop-init g c = record {
   in_time = omega arith;
   more = omega arith;
-  reads = λ left is. read-none g.R.Read.remaining c.args.columns.now c.args.width c.args.scale left
-      c.args.segments.now.items c.args.rows.now is;
+  reads = λ terms header left under is. read-none g.R.Read.remaining terms header
+      c.args.columns.now left c.args.segments.now.items c.args.rows.now is;
 }
 
 pub returns-in_err-found-clause-refused : goal.returns-in_err-found-clause-refused
-returns-in_err-found-clause-refused g c left is =
+returns-in_err-found-clause-refused g c terms header left under is =
     let p = err_from_is_err_and c.from_residual.result c.from_residual.ensures.1 in
     rw (p.1, p.2)
-    (read-stopped g.R.Read.remaining c.args.columns.now c.args.width c.args.scale left
+    (read-stopped g.R.Read.remaining terms header c.args.columns.now left
     c.args.segments.now.items c.loop.segments.items c.loop.end c.loop.rows _
-    (c.loop.invariant.reads left is)
+    (c.loop.invariant.reads terms header left under is)
     (ap (λ (fault : TraceFault). fault.kind) c.in_err-found.ensures.fault))
 
 pub returns-then-not-found-clause-whole : goal.returns-then-not-found-clause-whole
-returns-then-not-found-clause-whole g c left is =
-    let so_far = c.loop.invariant.reads left is in
+returns-then-not-found-clause-whole g c terms header left under is =
+    let so_far = c.loop.invariant.reads terms header left under is in
     let end : c.in_ok-found.found ≡ false = search rules in
-    read-faultless g.R.Read.remaining c.args.columns.now c.args.width c.args.scale left
+    read-faultless g.R.Read.remaining terms header c.args.columns.now left
     c.args.segments.now.items c.loop.segments.items c.loop.end c.loop.rows so_far
     (rw end at (c.in_ok-found.ensures.next so_far.rest so_far.left))
 
 pub returns-then-not-found-clause-adds : goal.returns-then-not-found-clause-adds
-returns-then-not-found-clause-adds g c left is =
-    let so_far = c.loop.invariant.reads left is in
+returns-then-not-found-clause-adds g c terms header left under is =
+    let so_far = c.loop.invariant.reads terms header left under is in
     let end : c.in_ok-found.found ≡ false = search rules in
-    read-all g.R.Read.remaining c.args.columns.now c.args.width c.args.scale left
+    read-all g.R.Read.remaining terms header c.args.columns.now left
     c.args.segments.now.items c.loop.segments.items c.loop.end c.loop.rows so_far
     (rw end at (c.in_ok-found.ensures.next so_far.rest so_far.left))
 
 pub returns-in-Err-clause-refused : goal.returns-in-Err-clause-refused
-returns-in-Err-clause-refused g c left is =
+returns-in-Err-clause-refused g c terms header left under is =
     let known = g.R.Read.remaining in
     let columns = c.args.columns.now in
-    let width = c.args.width in
-    let scale = c.args.scale in
     let before = c.args.segments.now.items in
     let segments = c.loop.segments.items in
     let end = c.loop.end in
     let fields = fields_of c.next_row.new.row in
-    let so_far = c.loop.invariant.reads left is in
+    let so_far = c.loop.invariant.reads terms header left under is in
     let found : c.in_ok-found.found ≡ true = search rules in
     let takes : Takes known fields c.next_row.new.rows so_far.rest =
     rw found at (c.in_ok-found.ensures.next so_far.rest so_far.left) in
-    let says : row_says columns width scale end fields ≡ Err c.in-Err.kind =
-    sym c.read_row.ensures.says ∙ c.in-Err.is in
+    let says = says-fault terms.names (row_says terms header columns end fields) c.in-Err.kind
+    (sym (row-is under end fields) ∙ sym c.read_row.ensures.gives ∙ c.in-Err.is) in
     let now : c.len.result ≡ length segments = omega (arith, c.loop.segments.ok.0) in
     let then : c.len-before.result ≡ length before = omega (arith, c.args.segments.now.ok.0) in
     let all : length segments ≡ length before + length so_far.read =
-    ap length so_far.put ∙ length-append before so_far.read in
+    ap length so_far.put ∙ length-append before (segments_for terms.names so_far.read)
+    ∙ ap (λ n. length before + n) (length-map so_far.read (segment_for terms.names)) in
     let count : c.len.result - c.len-before.result ≡ length so_far.read =
     omega (arith, now, then, all) in
-    read-fault known columns width scale left before segments end c.loop.rows c.next_row.new.rows
+    read-fault known terms header columns left before segments end c.loop.rows c.next_row.new.rows
     fields c.in-Err.kind (c.len.result - c.len-before.result) so_far takes says
     c.in-Err.ensures.kinds.1 count
 
 pub returns-then-is_err-clause-refused : goal.returns-then-is_err-clause-refused
-returns-then-is_err-clause-refused g c left is =
+returns-then-is_err-clause-refused g c terms header left under is =
     let bad : is_ok c.push.result ≡ false = search rules in
     rw (rw bad at c.push.ensures.items)
-    (read-stopped g.R.Read.remaining c.args.columns.now c.args.width c.args.scale left
+    (read-stopped g.R.Read.remaining terms header c.args.columns.now left
     c.args.segments.now.items c.loop.segments.items c.loop.end c.loop.rows _
-    (c.loop.invariant.reads left is) refl)
+    (c.loop.invariant.reads terms header left under is) refl)
 
 pub loop-preserved : goal.loop-preserved
 loop-preserved g c =
     let known = g.R.Read.remaining in
     let columns = c.args.columns.now in
-    let width = c.args.width in
-    let scale = c.args.scale in
     let before = c.args.segments.now.items in
     let segments = c.loop.segments.items in
     let segment = c.in-Ok.segment in
@@ -90,21 +89,22 @@ loop-preserved g c =
     let good : is_ok c.push.result ≡ true = search rules in
     let found : c.in_ok-found.found ≡ true = search rules in
     let items = rw good at c.push.ensures.items in
-    let says : row_says columns width scale end fields ≡ Ok segment =
-    sym c.read_row.ensures.says ∙ c.in-Ok.is in
+    let gives = sym c.read_row.ensures.gives ∙ c.in-Ok.is in
     rw items (record {
       in_time = c.in-Ok.ensures.fits.1;
       more = omega (arith, c.loop.invariant.more, length_push segments segment);
-      reads = λ left is.
-          let so_far = c.loop.invariant.reads left is in
+      reads = λ terms header left under is.
+          let so_far = c.loop.invariant.reads terms header left under is in
           let takes : Takes known fields c.next_row.new.rows so_far.rest =
           rw found at (c.in_ok-found.ensures.next so_far.rest so_far.left) in
-          read-one known columns width scale left before segments end c.loop.rows
-          c.next_row.new.rows fields segment so_far takes says;
+          read-one known terms header columns left before segments end c.loop.rows
+          c.next_row.new.rows fields segment so_far takes
+          (says-stretch terms.names (row_says terms header columns end fields) segment
+          (sym (row-is under end fields) ∙ gives));
     })
 
 pub returns-clause-refused : goal.returns-clause-refused
-returns-clause-refused g c left is =
-    read-stopped g.R.Read.remaining c.args.columns.now c.args.width c.args.scale left
+returns-clause-refused g c terms header left under is =
+    read-stopped g.R.Read.remaining terms header c.args.columns.now left
     c.args.segments.now.items c.loop.segments.items c.loop.end c.loop.rows _
-    (c.loop.invariant.reads left is) refl
+    (c.loop.invariant.reads terms header left under is) refl

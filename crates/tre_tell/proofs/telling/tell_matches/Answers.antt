@@ -3,7 +3,7 @@ use Rattle.std.proofs.lemmas.List.{length-map}
 use Rattle.std.proofs.lemmas.List.Elements.{recursion_from_All}
 use Rattle.std.proofs.lemmas.Result.{err_from_is_err_and}
 use Rattle.tre_feed.specs.Input.{input_told}
-use Rattle.tre_feed.specs.Readers.{readings_in, rows_of, lasts_of, WereFed}
+use Rattle.tre_feed.specs.Readers.{WereFed, lasts_of, readings_asked, rows_of}
 use Rattle.tre_feed.specs.Readings.{AgreeAlways, common, rows_in}
 use Rattle.tre_feed.specs.declared.fault.FeedFault.TheVariants.{Memory as FeedMemory}
 use Rattle.tre_feed.proofs.Read.{all_grow, as_many, faultless_now, lasts_count}
@@ -18,20 +18,24 @@ use Rattle.tre_tell.proofs.Loop.{TakesAtMost-none, turn_stops, HasReadCause-from
 use Rattle.tre_tell.proofs.Rows.{count_rows}
 use Rattle.tre_tell.proofs.Tellings.{IsTurn, EndsTelling-within, EndsTelling-stopped, EndsTelling-done, EndsTelling-cut}
 use Rattle.tre_tell.proofs.Turns.{GrowEach, GrowEach-by, traces_by}
+use Rattle.tre_feed.proofs.Asking.{asked-grows}
+use Rattle.tre_feed.specs.Asked.{asked_by, reading_asked}
 use Rattle.tre_tell.proofs.telling.tell_matches.Goals as goal
 
 pub returns-in_err-watch-clause-ends : goal.returns-in_err-watch-clause-ends
 returns-in_err-watch-clause-ends g c =
     let p = err_from_is_err_and c.from_residual.result c.from_residual.ensures.1 in
     let reader = g.R.TraceReader in
-    let readings = readings_in reader.reading reader.terms c.args.readers.now in
+    let readings = readings_asked reader.recording reader.names reader.terms c.args.readers.now in
     let labels = map string_bytes c.args.labels.now in
     let same : length labels ≡ length c.args.patterns.now =
     length-map c.args.labels.now string_bytes ∙ c.requires.labels in
     let many : length (readings false []) ≡ length c.args.patterns.now =
-    as_many reader.terms c.args.readers.now reader.reading false [] ∙ c.requires.readers in
+    as_many (asked_by reader.names reader.terms) c.args.readers.now (reading_asked reader.recording)
+    false [] ∙ c.requires.readers in
     let faultless : (common (readings false [])).fault ≡ None =
-    faultless_now reader.terms reader.represents reader.reading g.met.R.TraceReader.faultless
+    faultless_now (asked_by reader.names reader.terms) reader.represents
+    (reading_asked reader.recording) g.met.R.TraceReader.faultless
     c.args.readers.now [] c.requires.fresh.fed in
     rw (p.1, p.2) (EndsTelling-unread labels c.args.patterns.now readings c.args.limit c.args.scale
     same many c.requires.nothing c.args.name.now (input_told g.S.Source.file_name g.S.Source.file
@@ -46,14 +50,16 @@ returns-in_err-feed-clause-ends g c =
     let p = err_from_is_err_and c.from_residual-in_err-feed.result
     c.from_residual-in_err-feed.ensures.1 in
     let reader = g.R.TraceReader in
-    let readings = readings_in reader.reading reader.terms c.args.readers.now in
+    let readings = readings_asked reader.recording reader.names reader.terms c.args.readers.now in
     let labels = map string_bytes c.args.labels.now in
     let same : length labels ≡ length c.args.patterns.now =
     length-map c.args.labels.now string_bytes ∙ c.requires.labels in
     let many : length (readings false []) ≡ length c.args.patterns.now =
-    as_many reader.terms c.args.readers.now reader.reading false [] ∙ c.requires.readers in
+    as_many (asked_by reader.names reader.terms) c.args.readers.now (reading_asked reader.recording)
+    false [] ∙ c.requires.readers in
     let faultless : (common (readings false [])).fault ≡ None =
-    faultless_now reader.terms reader.represents reader.reading g.met.R.TraceReader.faultless
+    faultless_now (asked_by reader.names reader.terms) reader.represents
+    (reading_asked reader.recording) g.met.R.TraceReader.faultless
     c.args.readers.now [] c.requires.fresh.fed in
     rw (p.1, p.2) (EndsTelling-unread labels c.args.patterns.now readings c.args.limit c.args.scale
     same many c.requires.nothing c.args.name.now (input_told g.S.Source.file_name g.S.Source.file
@@ -73,12 +79,13 @@ returns-in_err-feed-clause-bounded g c = λ opened. TakesAtMost-none (c.args.lim
 pub loop-feed-init : goal.loop-feed-init
 loop-feed-init g c =
     let reader = g.R.TraceReader in
-    let readings = readings_in reader.reading reader.terms c.args.readers.now in
+    let readings = readings_asked reader.recording reader.names reader.terms c.args.readers.now in
     let labels = map string_bytes c.args.labels.now in
     let same : length labels ≡ length c.args.patterns.now =
     length-map c.args.labels.now string_bytes ∙ c.requires.labels in
     let many : length (readings false []) ≡ length c.args.patterns.now =
-    as_many reader.terms c.args.readers.now reader.reading false [] ∙ c.requires.readers in
+    as_many (asked_by reader.names reader.terms) c.args.readers.now (reading_asked reader.recording)
+    false [] ∙ c.requires.readers in
     record {
       telling = record {
         bytes = [];
@@ -122,15 +129,16 @@ tell_blocks-requires-clause-comes g c =
     let tel = inv.telling in
     let source = g.S.Source in
     let reader = g.R.TraceReader in
-    let readings = readings_in reader.reading reader.terms c.args.readers.now in
+    let readings = readings_asked reader.recording reader.names reader.terms c.args.readers.now in
     let labels = map string_bytes c.args.labels.now in
     let watched = watched_by labels c.args.patterns.now readings c.args.limit c.args.scale in
     let file = source.file c.args.input.now in
     let waiting = rows_of c.next-fed.new.readers in
     let input = input_told source.file_name source.file source.sound source.opened source.left
     source.found source.faults c.args.input.now c.next-fed.new.input in
-    let grows : GrowEach readings = GrowEach-by readings (all_grow reader.terms reader.reading
-    g.met.R.TraceReader.grows c.args.readers.now) in
+    let grows : GrowEach readings = GrowEach-by readings
+    (all_grow (asked_by reader.names reader.terms) (reading_asked reader.recording)
+    (asked-grows reader.recording g.met.R.TraceReader.grows) c.args.readers.now) in
     let same_readings = c.next-fed.ensures.same ∙ inv.same in
     let turn : IsTurn watched grows c.requires.alike input tel.bytes waiting c.next-fed.result =
     record {
@@ -138,12 +146,14 @@ tell_blocks-requires-clause-comes g c =
       has = rw (inv.same, inv.limit) at c.next-fed.ensures.read file tel.bytes tel.fed;
       empty = inv.empty;
       count = subst (λ all. length waiting ≡ length (rows_in (all false
-          (take c.args.limit tel.bytes)))) same_readings (count_readers reader.terms reader.reading
+          (take c.args.limit tel.bytes)))) same_readings
+          (count_readers (asked_by reader.names reader.terms) (reading_asked reader.recording)
           c.next-fed.new.readers false (take c.args.limit tel.bytes));
       opened = c.next-fed.ensures.same_opened ∙ inv.opened;
     } in
     CanTell-turn watched grows c.requires.alike
-    (λ closed bytes. traces_by reader.terms reader.reading g.met.R.TraceReader.is_trace
+    (λ closed bytes. traces_by (asked_by reader.names reader.terms) (reading_asked reader.recording)
+    (λ asked. g.met.R.TraceReader.is_trace asked.terms asked.names)
     c.args.readers.now closed bytes) input tel.bytes waiting
     c.loop-feed.watch tel.told.stands c.next-fed.result turn
 
@@ -160,7 +170,7 @@ returns-in_err-watch-2-clause-ends g c =
     let tel = inv.telling in
     let source = g.S.Source in
     let reader = g.R.TraceReader in
-    let readings = readings_in reader.reading reader.terms c.args.readers.now in
+    let readings = readings_asked reader.recording reader.names reader.terms c.args.readers.now in
     let labels = map string_bytes c.args.labels.now in
     let watched = watched_by labels c.args.patterns.now readings c.args.limit c.args.scale in
     let file = source.file c.args.input.now in
@@ -169,8 +179,9 @@ returns-in_err-watch-2-clause-ends g c =
     source.found source.faults c.args.input.now c.next-fed.new.input in
     let output = output_told g.O.Sink.written g.O.Sink.faults c.args.out.now
     c.tell_blocks.new.out in
-    let grows : GrowEach readings = GrowEach-by readings (all_grow reader.terms reader.reading
-    g.met.R.TraceReader.grows c.args.readers.now) in
+    let grows : GrowEach readings = GrowEach-by readings
+    (all_grow (asked_by reader.names reader.terms) (reading_asked reader.recording)
+    (asked-grows reader.recording g.met.R.TraceReader.grows) c.args.readers.now) in
     let same_readings = c.next-fed.ensures.same ∙ inv.same in
     let turn : IsTurn watched grows c.requires.alike input tel.bytes waiting c.next-fed.result =
     record {
@@ -178,7 +189,8 @@ returns-in_err-watch-2-clause-ends g c =
       has = rw (inv.same, inv.limit) at c.next-fed.ensures.read file tel.bytes tel.fed;
       empty = inv.empty;
       count = subst (λ all. length waiting ≡ length (rows_in (all false
-          (take c.args.limit tel.bytes)))) same_readings (count_readers reader.terms reader.reading
+          (take c.args.limit tel.bytes)))) same_readings
+          (count_readers (asked_by reader.names reader.terms) (reading_asked reader.recording)
           c.next-fed.new.readers false (take c.args.limit tel.bytes));
       opened = c.next-fed.ensures.same_opened ∙ inv.opened;
     } in
@@ -212,7 +224,7 @@ returns-in_err-fed-clause-ends g c =
     let tel = inv.telling in
     let source = g.S.Source in
     let reader = g.R.TraceReader in
-    let readings = readings_in reader.reading reader.terms c.args.readers.now in
+    let readings = readings_asked reader.recording reader.names reader.terms c.args.readers.now in
     let labels = map string_bytes c.args.labels.now in
     let watched = watched_by labels c.args.patterns.now readings c.args.limit c.args.scale in
     let file = source.file c.args.input.now in
@@ -221,8 +233,9 @@ returns-in_err-fed-clause-ends g c =
     source.found source.faults c.args.input.now c.next-fed.new.input in
     let output = output_told g.O.Sink.written g.O.Sink.faults c.args.out.now
     c.tell_blocks.new.out in
-    let grows : GrowEach readings = GrowEach-by readings (all_grow reader.terms reader.reading
-    g.met.R.TraceReader.grows c.args.readers.now) in
+    let grows : GrowEach readings = GrowEach-by readings
+    (all_grow (asked_by reader.names reader.terms) (reading_asked reader.recording)
+    (asked-grows reader.recording g.met.R.TraceReader.grows) c.args.readers.now) in
     let same_readings = c.next-fed.ensures.same ∙ inv.same in
     let turn : IsTurn watched grows c.requires.alike input tel.bytes waiting
     (Err c.in_err-fed.field-0.0) = record {
@@ -230,7 +243,8 @@ returns-in_err-fed-clause-ends g c =
       has = rw (inv.same, inv.limit) at c.in_err-fed.ensures.read file tel.bytes tel.fed;
       empty = inv.empty;
       count = subst (λ all. length waiting ≡ length (rows_in (all false
-          (take c.args.limit tel.bytes)))) same_readings (count_readers reader.terms reader.reading
+          (take c.args.limit tel.bytes)))) same_readings
+          (count_readers (asked_by reader.names reader.terms) (reading_asked reader.recording)
           c.next-fed.new.readers false (take c.args.limit tel.bytes));
       opened = c.next-fed.ensures.same_opened ∙ inv.opened;
     } in
@@ -239,7 +253,8 @@ returns-in_err-fed-clause-ends g c =
     tel.told in
     let none : (common (readings false (take c.args.limit tel.bytes))).fault ≡ None =
     subst (λ all. (common (all false (take c.args.limit tel.bytes))).fault ≡ None) inv.same
-    (faultless_now reader.terms reader.represents reader.reading g.met.R.TraceReader.faultless
+    (faultless_now (asked_by reader.names reader.terms) reader.represents
+    (reading_asked reader.recording) g.met.R.TraceReader.faultless
     c.loop-feed.readers (take c.args.limit tel.bytes) tel.fed.fed) in
     rw (p.1, p.2) (EndsTelling-stopped watched grows c.requires.alike input tel.bytes waiting
     c.in_err-fed.field-0.0 c.args.name.now output turn
@@ -262,7 +277,7 @@ loop-feed-preserved g c =
     let tel = inv.telling in
     let source = g.S.Source in
     let reader = g.R.TraceReader in
-    let readings = readings_in reader.reading reader.terms c.args.readers.now in
+    let readings = readings_asked reader.recording reader.names reader.terms c.args.readers.now in
     let labels = map string_bytes c.args.labels.now in
     let watched = watched_by labels c.args.patterns.now readings c.args.limit c.args.scale in
     let file = source.file c.args.input.now in
@@ -296,7 +311,7 @@ returns-in_err-lasts-clause-ends g c =
     let tel = inv.telling in
     let source = g.S.Source in
     let reader = g.R.TraceReader in
-    let readings = readings_in reader.reading reader.terms c.args.readers.now in
+    let readings = readings_asked reader.recording reader.names reader.terms c.args.readers.now in
     let labels = map string_bytes c.args.labels.now in
     let watched = watched_by labels c.args.patterns.now readings c.args.limit c.args.scale in
     let file = source.file c.args.input.now in
@@ -305,8 +320,9 @@ returns-in_err-lasts-clause-ends g c =
     source.found source.faults c.args.input.now c.next-fed.new.input in
     let output = output_told g.O.Sink.written g.O.Sink.faults c.args.out.now
     c.tell_blocks.new.out in
-    let grows : GrowEach readings = GrowEach-by readings (all_grow reader.terms reader.reading
-    g.met.R.TraceReader.grows c.args.readers.now) in
+    let grows : GrowEach readings = GrowEach-by readings
+    (all_grow (asked_by reader.names reader.terms) (reading_asked reader.recording)
+    (asked-grows reader.recording g.met.R.TraceReader.grows) c.args.readers.now) in
     let same_readings = c.next-fed.ensures.same ∙ inv.same in
     let turn : IsTurn watched grows c.requires.alike input tel.bytes waiting c.next-fed.result =
     record {
@@ -314,7 +330,8 @@ returns-in_err-lasts-clause-ends g c =
       has = rw (inv.same, inv.limit) at c.next-fed.ensures.read file tel.bytes tel.fed;
       empty = inv.empty;
       count = subst (λ all. length waiting ≡ length (rows_in (all false
-          (take c.args.limit tel.bytes)))) same_readings (count_readers reader.terms reader.reading
+          (take c.args.limit tel.bytes)))) same_readings
+          (count_readers (asked_by reader.names reader.terms) (reading_asked reader.recording)
           c.next-fed.new.readers false (take c.args.limit tel.bytes));
       opened = c.next-fed.ensures.same_opened ∙ inv.opened;
     } in
@@ -326,7 +343,8 @@ returns-in_err-lasts-clause-ends g c =
     rw (p.1, p.2) (EndsTelling-cut watched input c.args.name.now tel.bytes
     (rows_of c.loop-feed.readers) waiting (lasts_of c.next-fed.new.readers) ended inv.empty
     (c.next-fed.ensures.same_opened ∙ inv.opened)
-    (traces_by reader.terms reader.reading g.met.R.TraceReader.is_trace c.args.readers.now true
+    (traces_by (asked_by reader.names reader.terms) (reading_asked reader.recording)
+    (λ asked. g.met.R.TraceReader.is_trace asked.terms asked.names) c.args.readers.now true
     tel.bytes)
     grows c.requires.alike c.next-fed.result turn output Memory
     (c.in_ok-fed.ensures.cause ∙ inv.no_fault) (c.in_ok-watch-2.ensures.cause ∙ inv.good)
@@ -344,7 +362,7 @@ tell_end-requires-clause-reads g c =
     let inv = c.loop-feed.invariant in
     let tel = inv.telling in
     let reader = g.R.TraceReader in
-    let readings = readings_in reader.reading reader.terms c.args.readers.now in
+    let readings = readings_asked reader.recording reader.names reader.terms c.args.readers.now in
     let labels = map string_bytes c.args.labels.now in
     let watched = watched_by labels c.args.patterns.now readings c.args.limit c.args.scale in
     let told = c.in_ok-watch-2.ensures.told watched.patterns
@@ -358,15 +376,16 @@ tell_end-requires-clause-count g c =
     let tel = inv.telling in
     let source = g.S.Source in
     let reader = g.R.TraceReader in
-    let readings = readings_in reader.reading reader.terms c.args.readers.now in
+    let readings = readings_asked reader.recording reader.names reader.terms c.args.readers.now in
     let labels = map string_bytes c.args.labels.now in
     let watched = watched_by labels c.args.patterns.now readings c.args.limit c.args.scale in
     let file = source.file c.args.input.now in
     let waiting = rows_of c.next-fed.new.readers in
     let input = input_told source.file_name source.file source.sound source.opened source.left
     source.found source.faults c.args.input.now c.next-fed.new.input in
-    let grows : GrowEach readings = GrowEach-by readings (all_grow reader.terms reader.reading
-    g.met.R.TraceReader.grows c.args.readers.now) in
+    let grows : GrowEach readings = GrowEach-by readings
+    (all_grow (asked_by reader.names reader.terms) (reading_asked reader.recording)
+    (asked-grows reader.recording g.met.R.TraceReader.grows) c.args.readers.now) in
     let same_readings = c.next-fed.ensures.same ∙ inv.same in
     let turn : IsTurn watched grows c.requires.alike input tel.bytes waiting c.next-fed.result =
     record {
@@ -374,7 +393,8 @@ tell_end-requires-clause-count g c =
       has = rw (inv.same, inv.limit) at c.next-fed.ensures.read file tel.bytes tel.fed;
       empty = inv.empty;
       count = subst (λ all. length waiting ≡ length (rows_in (all false
-          (take c.args.limit tel.bytes)))) same_readings (count_readers reader.terms reader.reading
+          (take c.args.limit tel.bytes)))) same_readings
+          (count_readers (asked_by reader.names reader.terms) (reading_asked reader.recording)
           c.next-fed.new.readers false (take c.args.limit tel.bytes));
       opened = c.next-fed.ensures.same_opened ∙ inv.opened;
     } in
@@ -394,7 +414,7 @@ tell_end-requires-clause-labels g c =
     let inv = c.loop-feed.invariant in
     let tel = inv.telling in
     let reader = g.R.TraceReader in
-    let readings = readings_in reader.reading reader.terms c.args.readers.now in
+    let readings = readings_asked reader.recording reader.names reader.terms c.args.readers.now in
     let labels = map string_bytes c.args.labels.now in
     let watched = watched_by labels c.args.patterns.now readings c.args.limit c.args.scale in
     let told = c.in_ok-watch-2.ensures.told watched.patterns
@@ -410,7 +430,7 @@ returns-in_err-tell_end-clause-ends g c =
     let tel = inv.telling in
     let source = g.S.Source in
     let reader = g.R.TraceReader in
-    let readings = readings_in reader.reading reader.terms c.args.readers.now in
+    let readings = readings_asked reader.recording reader.names reader.terms c.args.readers.now in
     let labels = map string_bytes c.args.labels.now in
     let watched = watched_by labels c.args.patterns.now readings c.args.limit c.args.scale in
     let file = source.file c.args.input.now in
@@ -419,8 +439,9 @@ returns-in_err-tell_end-clause-ends g c =
     source.found source.faults c.args.input.now c.next-fed.new.input in
     let output = output_told g.O.Sink.written g.O.Sink.faults c.args.out.now
     c.tell_end.new.out in
-    let grows : GrowEach readings = GrowEach-by readings (all_grow reader.terms reader.reading
-    g.met.R.TraceReader.grows c.args.readers.now) in
+    let grows : GrowEach readings = GrowEach-by readings
+    (all_grow (asked_by reader.names reader.terms) (reading_asked reader.recording)
+    (asked-grows reader.recording g.met.R.TraceReader.grows) c.args.readers.now) in
     let same_readings = c.next-fed.ensures.same ∙ inv.same in
     let turn : IsTurn watched grows c.requires.alike input tel.bytes waiting c.next-fed.result =
     record {
@@ -428,7 +449,8 @@ returns-in_err-tell_end-clause-ends g c =
       has = rw (inv.same, inv.limit) at c.next-fed.ensures.read file tel.bytes tel.fed;
       empty = inv.empty;
       count = subst (λ all. length waiting ≡ length (rows_in (all false
-          (take c.args.limit tel.bytes)))) same_readings (count_readers reader.terms reader.reading
+          (take c.args.limit tel.bytes)))) same_readings
+          (count_readers (asked_by reader.names reader.terms) (reading_asked reader.recording)
           c.next-fed.new.readers false (take c.args.limit tel.bytes));
       opened = c.next-fed.ensures.same_opened ∙ inv.opened;
     } in
@@ -440,7 +462,8 @@ returns-in_err-tell_end-clause-ends g c =
     rw (p.1, p.2) (EndsTelling-cut watched input c.args.name.now tel.bytes
     (rows_of c.loop-feed.readers) waiting (lasts_of c.next-fed.new.readers) ended inv.empty
     (c.next-fed.ensures.same_opened ∙ inv.opened)
-    (traces_by reader.terms reader.reading g.met.R.TraceReader.is_trace c.args.readers.now true
+    (traces_by (asked_by reader.names reader.terms) (reading_asked reader.recording)
+    (λ asked. g.met.R.TraceReader.is_trace asked.terms asked.names) c.args.readers.now true
     tel.bytes)
     grows c.requires.alike c.next-fed.result turn output c.in_err-tell_end.field-0.0
     (c.in_ok-fed.ensures.cause ∙ inv.no_fault)
@@ -463,7 +486,7 @@ returns-clause-ends g c =
     let tel = inv.telling in
     let source = g.S.Source in
     let reader = g.R.TraceReader in
-    let readings = readings_in reader.reading reader.terms c.args.readers.now in
+    let readings = readings_asked reader.recording reader.names reader.terms c.args.readers.now in
     let labels = map string_bytes c.args.labels.now in
     let watched = watched_by labels c.args.patterns.now readings c.args.limit c.args.scale in
     let file = source.file c.args.input.now in
@@ -480,7 +503,8 @@ returns-clause-ends g c =
     EndsTelling-done watched input c.args.name.now tel.bytes
     (rows_of c.loop-feed.readers) waiting (lasts_of c.next-fed.new.readers) ended inv.empty
     (c.next-fed.ensures.same_opened ∙ inv.opened)
-    (traces_by reader.terms reader.reading g.met.R.TraceReader.is_trace c.args.readers.now true
+    (traces_by (asked_by reader.names reader.terms) (reading_asked reader.recording)
+    (λ asked. g.met.R.TraceReader.is_trace asked.terms asked.names) c.args.readers.now true
     tel.bytes) output
     (c.in_ok-fed.ensures.cause ∙ inv.no_fault)
     (c.in_ok-tell_end.ensures.cause ∙ (c.in_ok-watch-2.ensures.cause ∙ inv.good))

@@ -1,5 +1,5 @@
 use Rattle.std.proofs.Common.{◌≡◌, ◌+◌, ◌-◌, map, string_bytes, true}
-use Rattle.tre_feed.specs.Readers.{readings_in, rows_of, WereFed}
+use Rattle.tre_feed.specs.Readers.{WereFed, readings_asked, rows_of}
 use Rattle.tre_tell.specs.Watched.{watched_by}
 use Rattle.tre_tell.proofs.Loop.{IsTelling}
 use Rattle.tre_tell.proofs.Rows.{AreEmpty}
@@ -14,13 +14,13 @@ invariant-loop-feed g l =
     let sink = g.O.Sink in
     record {
       telling : IsTelling (watched_by (map string_bytes l.labels) l.patterns
-          (readings_in reader.reading reader.terms l.fn.readers) l.limit l.scale)
+          (readings_asked reader.recording reader.names reader.terms l.fn.readers) l.limit l.scale)
           (WereFed reader.represents l.readers) (source.file l.fn.input) (source.left l.input)
           (source.found l.input) l.feed.taken l.watch (map string_bytes l.labels)
           (sink.written l.fn.out) (sink.written l.out);
       empty : AreEmpty (rows_of l.readers);
-      same : readings_in reader.reading reader.terms l.readers
-          ≡ readings_in reader.reading reader.terms l.fn.readers;
+      same : readings_asked reader.recording reader.names reader.terms l.readers
+          ≡ readings_asked reader.recording reader.names reader.terms l.fn.readers;
       opened : source.opened l.input ≡ true;
       sound : source.sound l.input ≡ source.sound l.fn.input;
       no_fault : source.faults l.input ≡ source.faults l.fn.input;

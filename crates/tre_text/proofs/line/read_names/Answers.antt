@@ -1,7 +1,8 @@
 use Rattle.std.proofs.Common.{◌≡◌, ◌∷◌, ◌&&◌, ◌<◌, Bool, true, length, take, sym, ap, ◌∙◌, arith}
 use Rattle.std.proofs.lemmas.Bool.Decides.{nat_tests}
 use Rattle.std.specs.List.{list_all}
-use Rattle.tre_text.specs.TextReading.{fields_among, spells_word, valuation_after}
+use Rattle.tre_text.specs.TextReading.{fields_among, spells_word}
+use Rattle.tre_text.specs.Lines.{bits_after}
 use Rattle.tre_text.specs.Words.{ends_word}
 use Rattle.tre_text.proofs.Words.{word_is_field, word_spells, no_word_field, rest_later}
 use Rattle.tre_text.proofs.line.read_names.Goals as goal
@@ -23,8 +24,8 @@ loop-rest-preserved c =
           ∙ ap (λ (is : Bool). is && list_all spells_word (fields_among next))
           (word_spells rest end c.word_end-end.ensures ends);
       value =
-          c.loop-rest.invariant.value ∙ ap (valuation_after names c.loop-rest.valuation) whole
-          ∙ ap (λ valuation. valuation_after names valuation (fields_among next))
+          c.loop-rest.invariant.value ∙ ap (bits_after names c.loop-rest.valuation) whole
+          ∙ ap (λ valuation. bits_after names valuation (fields_among next))
           (sym c.with_name-valuation.ensures);
       rest =
           rest_later c.args.fields.now rest next c.loop-rest.invariant.rest

@@ -1,6 +1,7 @@
 use Rattle.std.proofs.Common.{◌≡◌, ◌<◌, length, false, slice_index}
 use Rattle.std.specs.List.{list_all}
-use Rattle.tre_text.specs.TextReading.{is_blank, spells_word, fields_among, valuation_after}
+use Rattle.tre_text.specs.TextReading.{is_blank, spells_word, fields_among}
+use Rattle.tre_text.specs.Lines.{bits_after}
 use Rattle.tre_text.specs.Words.{IsRest}
 use Rattle.tre_text.proofs.line.read_names.Given as goal
 
@@ -11,7 +12,7 @@ invariant-loop-rest l =
     let left = fields_among l.rest in
     record {
       words : list_all spells_word all ≡ list_all spells_word left;
-      value : valuation_after l.names l.bits all ≡ valuation_after l.names l.valuation left;
+      value : bits_after l.names l.bits all ≡ bits_after l.names l.valuation left;
       rest : IsRest l.fn.fields l.rest;
       first : 0 < length l.rest → is_blank (slice_index l.rest 0) ≡ false;
     }

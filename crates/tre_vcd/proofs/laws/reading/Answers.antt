@@ -6,7 +6,7 @@ use Rattle.tre_vcd.proofs.laws.reading.Goals as goal
 
 pub returns : goal.returns
 returns c = record {
-  is_trace = λ terms closed bytes.
-      reading-is_trace (vcd_format terms) closed bytes (vcd-keeps_time terms);
+  is_trace = λ terms asked closed bytes.
+      reading-is_trace asked (vcd_format terms) closed bytes (vcd-keeps_time terms);
   grows = λ terms closed first more. reading-grows (vcd_format terms) closed first more;
 }

@@ -1,5 +1,5 @@
-use Rattle.tre_vcd.proofs.Deciding.{valuation-is, events-are}
+use Rattle.tre_vcd.proofs.Deciding.{true-is, happens-is}
 use Rattle.tre_vcd.proofs.laws.valuations.Goals as goal
 
 pub returns : goal.returns
-returns c = record { values = valuation-is; events = events-are }
+returns c = record { values = true-is; events = happens-is }

@@ -2,6 +2,7 @@ use Rattle.std.proofs.Common.{◌≡◌, length, arith}
 use Rattle.std.proofs.lemmas.List.{with_items_is}
 use Rattle.tre_feed.proofs.Alike.{AreLevel-none}
 use Rattle.tre_feed.proofs.Each.{fed-cut, lasts-cut, rows-none, terms-cut}
+use Rattle.tre_feed.specs.Asked.{asked_by}
 use Rattle.tre_feed.proofs.leaders.Leaders.clear.Goals as goal
 
 pub returns-clause-none : goal.returns-clause-none
@@ -19,7 +20,8 @@ returns-clause-fed g c =
     let same : length cut ≡ own.len =
     omega (arith, c.cut_each.auto.each, c.deref_mut.ensures.len) in
     λ bytes so_far. record {
-      each = rw (with_items_is own cut same) (fed-cut g.R.TraceReader.terms
+      each = rw (with_items_is own cut same) (fed-cut
+          (asked_by g.R.TraceReader.names g.R.TraceReader.terms)
           g.R.TraceReader.represents 0 (rw c.deref_mut.ensures.value at c.cut_each.ensures) bytes
           so_far.each);
       level = rw (with_items_is own cut same) (AreLevel-none _
@@ -42,5 +44,5 @@ returns-clause-terms g c =
     let same : length cut ≡ own.len =
     omega (arith, c.cut_each.auto.each, c.deref_mut.ensures.len) in
     rw (with_items_is own cut same)
-    (terms-cut g.R.TraceReader.terms g.R.TraceReader.represents 0
+    (terms-cut (asked_by g.R.TraceReader.names g.R.TraceReader.terms) g.R.TraceReader.represents 0
     (rw c.deref_mut.ensures.value at c.cut_each.ensures))

@@ -1,17 +1,21 @@
 use Rattle.std.proofs.Common.{ap, map}
 use Rattle.tre_feed.specs.Members.{last_for}
 use Rattle.tre_feed.proofs.Groups.{led_fed, lead_new, level_new, none_new, same_new, within_new}
+use Rattle.tre_feed.specs.Asked.{asked_by, reading_asked}
 use Rattle.tre_feed.proofs.readers.Readers.clear.Goals as goal
 
 pub invariant_of-self : goal.invariant_of-self
 invariant_of-self g c = record {
-  within = within_new g.R.TraceReader.terms c.args.self.now c.clear.new.self
+  within = within_new (asked_by g.R.TraceReader.names g.R.TraceReader.terms) c.args.self.now
+      c.clear.new.self
       c.clear.ensures.terms;
-  led = lead_new g.R.TraceReader.terms c.args.self.now c.clear.new.self c.clear.ensures.terms;
+  led = lead_new (asked_by g.R.TraceReader.names g.R.TraceReader.terms) c.args.self.now
+      c.clear.new.self c.clear.ensures.terms;
 }
 
 pub returns-clause-none : goal.returns-clause-none
-returns-clause-none g c = none_new g.R.TraceReader.terms c.args.self.now c.clear.new.self
+returns-clause-none g c = none_new (asked_by g.R.TraceReader.names g.R.TraceReader.terms)
+    c.args.self.now c.clear.new.self
     c.clear.ensures.terms c.clear.ensures.none
 
 pub returns-clause-fed : goal.returns-clause-fed
@@ -21,7 +25,8 @@ returns-clause-fed g c =
     let fed = c.clear.ensures.fed bytes (led_fed readers so_far) in
     record {
       each = fed.each;
-      level = level_new g.R.TraceReader.terms readers c.clear.new.self c.clear.ensures.terms
+      level = level_new (asked_by g.R.TraceReader.names g.R.TraceReader.terms) readers
+          c.clear.new.self c.clear.ensures.terms
           fed.level;
     }
 
@@ -31,5 +36,6 @@ returns-clause-lasts g c =
 
 pub returns-clause-same : goal.returns-clause-same
 returns-clause-same g c =
-    same_new g.R.TraceReader.terms c.args.self.now c.clear.new.self c.clear.ensures.terms
-    g.R.TraceReader.reading _ c.clear.ensures.terms
+    same_new (asked_by g.R.TraceReader.names g.R.TraceReader.terms) c.args.self.now c.clear.new.self
+    c.clear.ensures.terms
+    (reading_asked g.R.TraceReader.recording) _ c.clear.ensures.terms

@@ -1,9 +1,10 @@
 use Rattle.std.proofs.Common.{◌∙◌, ◌++◌, ◌∷◌, [], None, ap}
 use Rattle.std.proofs.lemmas.Result.{on_ok_weaker, on_err_weaker}
 use Rattle.tre_trace.specs.Reading.{Reading}
-use Rattle.tre_feed.specs.Readers.{readings_in}
+use Rattle.tre_feed.specs.Readers.{readings_asked}
 use Rattle.tre_feed.proofs.Groups.{group_pushed, none_pushed, on_err_both, on_ok_both}
 use Rattle.tre_feed.proofs.Members.{reading_by-all}
+use Rattle.tre_feed.specs.Asked.{asked_by, reading_asked}
 use Rattle.tre_feed.proofs.readers.Readers.push.Goals as goal
 
 pub returns-clause-readings : goal.returns-clause-readings
@@ -11,18 +12,23 @@ returns-clause-readings g c =
     let reader = g.R.TraceReader in
     let old = c.args.self.now in
     on_ok_weaker c.push_leader.result (λ both closed bytes.
-    group_pushed reader.terms reader.reading old c.push_leader.new.self.leaders
-    c.push_leader.new.self.members.items (reader.terms c.args.reader) None both.0 both.1 closed
+    group_pushed (asked_by reader.names reader.terms) (reading_asked reader.recording) old
+    c.push_leader.new.self.leaders
+    c.push_leader.new.self.members.items (asked_by reader.names reader.terms c.args.reader) None
+    both.0 both.1 closed
     bytes
-    ∙ ap (λ (now : Reading). readings_in reader.reading reader.terms old closed bytes ++ now ∷ [])
-    (reading_by-all (reader.reading (reader.terms c.args.reader) closed bytes)))
+    ∙ ap (λ (now : Reading). readings_asked reader.recording reader.names reader.terms old closed
+    bytes ++ now ∷ [])
+    (reading_by-all (reading_asked reader.recording (asked_by reader.names reader.terms
+    c.args.reader) closed bytes)))
     (on_ok_both _ _ c.push_leader.result c.push_leader.ensures.groups c.push_leader.ensures.members)
 
 pub returns-clause-same : goal.returns-clause-same
 returns-clause-same g c =
     let reader = g.R.TraceReader in
     on_err_weaker c.push_leader.result (λ both.
-    none_pushed reader.terms reader.reading c.args.self.now c.push_leader.new.self.leaders
+    none_pushed (asked_by reader.names reader.terms) (reading_asked reader.recording)
+    c.args.self.now c.push_leader.new.self.leaders
     c.push_leader.new.self.members.items both.0 both.1)
     (on_err_both _ _ c.push_leader.result c.push_leader.ensures.same_groups
     c.push_leader.ensures.same_members)

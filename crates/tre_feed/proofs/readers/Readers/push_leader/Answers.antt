@@ -3,6 +3,7 @@ use Rattle.std.proofs.lemmas.List.{length-map}
 use Rattle.tre_feed.specs.declared.fed.Fed.{Fed}
 use Rattle.tre_feed.specs.declared.member.Member.{Member}
 use Rattle.tre_feed.proofs.Groups.{fresh_seen, lead-push, led_fresh, within-more, within-push}
+use Rattle.tre_feed.specs.Asked.{Asked, asked_by}
 use Rattle.tre_feed.proofs.readers.Readers.push_leader.Goals as goal
 
 pub returns-in_err-push-clause-fresh : goal.returns-in_err-push-clause-fresh
@@ -21,8 +22,8 @@ invariant_of-self-in-Ok g c =
     let olds = readers.members.items in
     let old_count = length readers.leaders.each.items in
     let leaders = c.push-2.new.self in
-    let terms : Fed g.row.R.Denot → g.R.TraceReader.Terms =
-    λ fed. g.R.TraceReader.terms fed.reader in
+    let terms : Fed g.row.R.Denot → Asked g.R.TraceReader.Terms =
+    λ fed. asked_by g.R.TraceReader.names g.R.TraceReader.terms fed.reader in
     let one : Member = record { leader = c.len-leader.result; view = c.args.view } in
     let count : length leaders.each.items ≡ old_count + 1 = omega (
       arith,
@@ -30,7 +31,7 @@ invariant_of-self-in-Ok g c =
       length-map readers.leaders.each.items terms,
       ap length c.in-Ok.ensures.terms,
       length-append (map terms readers.leaders.each.items)
-          (g.R.TraceReader.terms c.args.reader ∷ []),
+          (asked_by g.R.TraceReader.names g.R.TraceReader.terms c.args.reader ∷ []),
     ) in
     record {
       within = rw (c.in_ok-push.ensures.items, count) (within-push (old_count + 1) olds one

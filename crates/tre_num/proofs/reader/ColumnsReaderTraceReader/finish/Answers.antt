@@ -1,6 +1,7 @@
 use Rattle.std.proofs.Common.{sym}
-use Rattle.tre_num.proofs.Tables.{reading-quiet}
+use Rattle.tre_num.proofs.Tables.{ends-quiet}
 use Rattle.tre_num.proofs.reader.ColumnsReaderTraceReader.finish.Goals as goal
 
 pub returns-clause-last : goal.returns-clause-last
-returns-clause-last c bytes kept = sym (reading-quiet c.args.self.now.table bytes)
+returns-clause-last c bytes kept = sym (ends-quiet c.args.self.now.table c.args.self.now.table.names
+    bytes)

@@ -25,6 +25,7 @@ loop-place-preserved g c =
     let k = c.in-Some.place in
     let one : k + 1 ≡ suc k = omega arith in
     fed-step c.loop-place.invariant c.in-Some.ensures.first c.in_ok-end_part.ensures.same_terms
+    c.in_ok-end_part.ensures.same_names
     (λ terms bytes room. c.in_ok-end_part.ensures.takes terms bytes (get_or rest k 0) room.at
     room.inside room.ends room.few)
     (rw one (take-rest (suc k) rest))
@@ -37,7 +38,9 @@ returns-in_err-keep-clause-takes g c = λ terms bytes here few.
     let rest = c.loop-place.rest.now in
     let at = fed.behind terms bytes here few in
     let inside = rw at.named at c.in_default.ensures.none in
-    let refused = c.in_err-keep.ensures.takes terms (bytes ++ fed.taken) c.loop-place.segments.items
+    let refused = c.in_err-keep.ensures.takes
+    (g.R.PartReader.names c.loop-place.self.reader) terms (bytes ++ fed.taken)
+    c.loop-place.segments.items
     at inside in
     rw (p.1, p.2) (fed-refused fed terms bytes here few rest [] (sym (append-nil rest)) refused)
 
@@ -47,10 +50,12 @@ returns-clause-takes g c = λ terms bytes here few.
     let rest = c.loop-place.rest.now in
     let at = fed.behind terms bytes here few in
     let inside = rw at.named at c.in_default.ensures.none in
-    let takes = c.in_ok-keep.ensures.takes terms (bytes ++ fed.taken) c.loop-place.segments.items at
+    let takes = c.in_ok-keep.ensures.takes
+    (g.R.PartReader.names c.args.self.now.reader) terms (bytes ++ fed.taken)
+    c.loop-place.segments.items at
     inside in
     let whole = in_two bytes c.args.piece.now fed.taken rest fed.cut in
     rw (← whole) (
       takes.0,
-      Adds-trans _ _ _ _ _ _ (fed.adds terms bytes here few) takes.1,
+      Adds-trans _ _ _ _ _ _ _ (fed.adds terms bytes here few) takes.1,
     )

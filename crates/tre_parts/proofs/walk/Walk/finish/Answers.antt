@@ -1,6 +1,7 @@
-use Rattle.std.proofs.Common.{sym, ◌∙◌}
+use Rattle.std.proofs.Common.{ap, sym, ◌∙◌}
 use Rattle.std.proofs.lemmas.Result.{err_from_is_err_and}
 use Rattle.tre_parts.proofs.Walks.{whole-closed, adds-closed, refused-closed, refused-end}
+use Rattle.tre_trace.specs.Reading.{Vocabulary, events_for}
 use Rattle.tre_parts.proofs.walk.Walk.finish.Goals as goal
 
 pub returns-in_err-add_part-clause-takes : goal.returns-in_err-add_part-clause-takes
@@ -15,9 +16,14 @@ returns-in-None-clause-takes g c = λ terms bytes here few.
     let adds = rw (here.named, c.deref.ensures.value) at (c.in_ok-add_part.ensures.adds here.state
     here.is_held) in
     let named = c.in_ok-add_part.ensures.same_terms ∙ here.named in
-    let none = rw named at (c.in-None.ensures.fault adds.goes_on.state adds.goes_on.is_held) in
-    let last = rw named at (c.last.ensures adds.goes_on.state adds.goes_on.is_held) in (
-      whole-closed here adds.goes_on none c.last.result last,
+    let held = adds.goes_on.is_held in
+    let none = rw named at (c.in-None.ensures.fault adds.goes_on.state held) in
+    let last = rw named at (c.last.ensures adds.goes_on.state held) in (
+      whole-closed here adds.goes_on none (g.R.PartReader.names c.args.self.now.reader)
+          c.last.result
+          (last ∙ ap (λ (asked : Vocabulary). events_for asked
+          ((g.R.PartReader.format terms).last adds.goes_on.state))
+          c.in_ok-add_part.ensures.same_names),
       adds-closed here adds.goes_on adds.added,
     )
 

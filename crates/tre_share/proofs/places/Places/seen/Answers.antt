@@ -33,12 +33,12 @@ returns-clause-at c =
     c.loop-left.invariant.seen ∙ ap (λ left. bits_at (drop left places) c.args.bits) none
 
 pub returns-clause-seen : goal.returns-clause-seen
-returns-clause-seen c asked all are =
+returns-clause-seen c asked all test are is =
     let places = c.args.self.now.places.items in
     let none : c.loop-left.left ≡ 0 = omega (arith, c.loop-left-test.false) in
     c.loop-left.invariant.seen
     ∙ ap (λ left. bits_at (drop left places) c.args.bits) none
-    ∙ seen-places asked all places c.args.bits are
+    ∙ ap (bits_at places) is ∙ seen-places asked all places test are
 
 pub returns-then-self-clause-at : goal.returns-then-self-clause-at
 returns-then-self-clause-at c =
@@ -49,10 +49,10 @@ returns-then-self-clause-at c =
     ∙ sym (bits_at-order places.items c.args.bits (c.args.self.now.order.0 c.if-self.true))
 
 pub returns-then-self-clause-seen : goal.returns-then-self-clause-seen
-returns-then-self-clause-seen c asked all are =
+returns-then-self-clause-seen c asked all test are is =
     let places = c.args.self.now.places in
     let count : c.len.result ≡ length places.items = omega (arith, c.len.ensures, places.ok.0) in
     c.bits_below.ensures
     ∙ ap (λ place. c.args.bits % 2 ^ place) count
     ∙ sym (bits_at-order places.items c.args.bits (c.args.self.now.order.0 c.if-self.true))
-    ∙ seen-places asked all places.items c.args.bits are
+    ∙ ap (bits_at places.items) is ∙ seen-places asked all places.items test are

@@ -1,8 +1,7 @@
-use Rattle.std.proofs.Common.{◌≡◌, ◌∷◌, [], ◌-◌, ◌≤◌, refl, true, false, Ok, sym, ap, ◌∙◌, arith}
-use Rattle.tre_trace.specs.declared.segment.Segment.{Segment}
-use Rattle.tre_trace.specs.Segments.{segment_with}
-use Rattle.tre_vcd.specs.VcdReading.{time, nothing, time_at, valuation_at, events_at}
+use Rattle.std.proofs.Common.{◌∷◌, ◌-◌, ◌≤◌, refl, true, false, sym, ap, ◌∙◌, arith}
+use Rattle.tre_vcd.specs.VcdReading.{time, nothing, time_at, stretch_until, identifier_of, is_signal, is_event, value_at, happened_at}
 use Rattle.tre_vcd.specs.Sections.{terms_kept}
+use Rattle.tre_vcd.proofs.Masks.{mask-bits, segment-with}
 use Rattle.tre_vcd.proofs.Needing.{needed-same}
 use Rattle.tre_vcd.proofs.Pasts.{same_time, other_time}
 use Rattle.tre_vcd.proofs.Reading.{time-says}
@@ -34,31 +33,26 @@ returns-clause-tells c = λ past holds defined.
     let reader = c.args.self.now in
     let ticks = c.in-Some.ticks in
     let late : time_at past ≤ ticks = omega (arith, holds.past.time, c.if-ticks-self.false) in
-    let is : segment_with (ticks - time_at past) (valuation_at past reader.names)
-    (events_at past reader.events)
-    ≡ segment_with (ticks - reader.past.time) c.valuation-val.result c.events-ev.result =
-    ap (λ n. segment_with (ticks - n) (valuation_at past reader.names)
-    (events_at past reader.events)) (sym holds.past.time)
-    ∙ ap (λ n. segment_with (ticks - reader.past.time) n (events_at past reader.events))
-    (sym (c.valuation-val.ensures reader.names reader.events past holds.past))
-    ∙ ap (segment_with (ticks - reader.past.time) c.valuation-val.result)
-    (sym (c.events-ev.ensures reader.names reader.events past holds.past)) in
     record {
-      state = record { past = time ticks ∷ past; inside = nothing };
-      says =
-          time-says (terms_kept reader) past c.args.digits.now ticks false c.in-Some.ensures.digits
-          c.in-Some.ensures.value late c.if-ticks-gt-TIME_MAX.false
-          (other_time ticks (time_at past) (λ e. c.if-ticks-self-2.false (e ∙ sym holds.past.time)))
-          ∙ ap (λ (segment : Segment). Ok (record {
-            segments = segment ∷ [];
-            state = record { past = time ticks ∷ past; inside = nothing };
-          })) is;
-      is_held = record {
-        past = c.reach-2.ensures reader.names reader.events past holds.past;
-        needed = needed-same past (time ticks ∷ past) reader.needed.items (λ test name. refl)
-            holds.needed;
-        inside = holds.inside;
-        tokens = holds.tokens;
-        suits = tt;
+      stretch = stretch_until past ticks;
+      is = segment-with _ _ _ _ _ _ (ap (λ n. ticks - n) holds.past.time)
+          (c.valuation-val.ensures reader.names reader.events past holds.past
+          ∙ mask-bits (identifier_of is_signal past) (value_at past) reader.names)
+          (c.events-ev.ensures reader.names reader.events past holds.past
+          ∙ mask-bits (identifier_of is_event past) (happened_at past) reader.events);
+      goes_on = record {
+        state = record { past = time ticks ∷ past; inside = nothing };
+        says = time-says (terms_kept reader) past c.args.digits.now ticks false
+            c.in-Some.ensures.digits c.in-Some.ensures.value late c.if-ticks-gt-TIME_MAX.false
+            (other_time ticks (time_at past)
+            (λ e. c.if-ticks-self-2.false (e ∙ sym holds.past.time)));
+        is_held = record {
+          past = c.reach-2.ensures reader.names reader.events past holds.past;
+          needed = needed-same past (time ticks ∷ past) reader.needed.items (λ test name. refl)
+              holds.needed;
+          inside = holds.inside;
+          tokens = holds.tokens;
+          suits = tt;
+        };
       };
     }
