@@ -1,3 +1,4 @@
 pub mod Unions
 pub mod Operations
 pub mod FoundZones
+pub mod LastingUpTo

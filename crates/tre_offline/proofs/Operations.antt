@@ -5,7 +5,7 @@ use Rattle.tre_pairs.specs.Pairs.{Pairs, Composed, Either, Both, Lasting, Chain}
 use Rattle.tre_pairs.proofs.Laws.{IsOrdered, IsInstant, Agree}
 use Rattle.tre_pairs.proofs.Agreement.{Agree-Composed, Agree-Chain, Agree-Lasting}
 use Rattle.tre_pairs.proofs.Order.{IsOrdered-Lasting}
-use Rattle.tre_pairs.proofs.Shortening.{Agree-trans, Lasting-Composed, Lasting-Chain, Lasting-Either, Lasting-Both}
+use Rattle.tre_pairs.proofs.Shortening.{Agree-trans, Lasting-Composed, Lasting-Chain, Lasting-Either}
 use Rattle.tre_zone.specs.Interval.{IntervalEnds, LastsWithin}
 use Rattle.tre_zone.specs.Longest.{LastsUpTo}
 use Rattle.tre_zone.proofs.Lasting.{LastsUpTo-downward, LastsUpTo-scales}
@@ -18,6 +18,8 @@ use Rattle.tre_syntax.specs.Meaning.{MatchesRest}
 use Rattle.tre_syntax.specs.PatternTree.{PatternTree, empty, sequence, alternation, intersection, repetition, restriction}
 use Rattle.tre_syntax.specs.Rest.{Rest, AtomMatches}
 use Rattle.tre_syntax.proofs.CutMeaning.{IsOrdered-rest}
+use Rattle.tre_syntax.proofs.Repeating.{repetition_nested}
+use Rattle.tre_offline.specs.Lengths.{LastUpTo, IsRepetition}
 use Rattle.tre_offline.proofs.Unions.{Agree-held, HoldExactly-agree}
 
 -- The moments of a rest.
@@ -96,23 +98,79 @@ module _ (longest : Option ℕ) (left right : PatternTree) (rest : Rest)
         );
   }
 
-  pub intersection_exact : HoldExactly zones (Both (SetHolds one) (SetHolds other))
-      → HoldExactly zones (Short longest (intersection left right) rest)
-  intersection_exact held = record {
+-- Of an intersection the one side may be cut to a longest duration within which the other keeps.
+pub intersection_exact : (longest inner : Option ℕ) (left right : PatternTree) (rest : Rest)
+    (one other zones : List ZoneBounds) → LastUpTo inner one
+    → HoldExactly one (Short longest left rest) → HoldExactly other (Short inner right rest)
+    → HoldExactly zones (Both (SetHolds one) (SetHolds other))
+    → HoldExactly zones (Short longest (intersection left right) rest)
+    × HoldExactly zones (Short longest (intersection right left) rest)
+intersection_exact longest inner left right rest one other zones all first second held = (
+  record {
     exact = λ a b n some le.
         let whole = held.exact a b n some le in
         let l = first.exact a b n some le in
-        let r = second.exact a b n some le in
-        let same = (Lasting-Both (LastsUpTo longest) (MatchesRest left rest)
-        (MatchesRest right rest)).at a b n some in (
+        let r = second.exact a b n some le in (
           (λ h.
               let x = whole.0 h in
-              same.0 (record { left = l.0 x.left; right = r.0 x.right })),
+              let y = l.0 x.left in
+              record {
+                related = record { left = y.related; right = (r.0 x.right).related };
+                admitted = y.admitted;
+              }),
           (λ h.
-              let x = same.1 h in
-              whole.1 (record { left = l.1 x.left; right = r.1 x.right })),
+              let y = l.1 (record { related = h.related.left; admitted = h.admitted }) in
+              whole.1 (record {
+                left = y;
+                right = r.1 (record {
+                  related = h.related.right;
+                  admitted = all.each a b n some le y;
+                });
+              })),
         );
-  }
+  },
+  record {
+    exact = λ a b n some le.
+        let whole = held.exact a b n some le in
+        let l = first.exact a b n some le in
+        let r = second.exact a b n some le in (
+          (λ h.
+              let x = whole.0 h in
+              let y = l.0 x.left in
+              record {
+                related = record { left = (r.0 x.right).related; right = y.related };
+                admitted = y.admitted;
+              }),
+          (λ h.
+              let y = l.1 (record { related = h.related.right; admitted = h.admitted }) in
+              whole.1 (record {
+                left = y;
+                right = r.1 (record {
+                  related = h.related.left;
+                  admitted = all.each a b n some le y;
+                });
+              })),
+        );
+  },
+)
+
+-- A repetition of a repetition is that repetition.
+pub nested_exact : (longest : Option ℕ) (tree : PatternTree) (rest : Rest)
+    (zones : List ZoneBounds) → IsRepetition tree → HoldExactly zones (Short longest tree rest)
+    → HoldExactly zones (Short longest (repetition tree) rest)
+nested_exact longest tree rest zones is held =
+    subst (λ (t : PatternTree). HoldExactly zones (Short longest (repetition t) rest))
+    (sym is.whole)
+    (HoldExactly-agree zones (Short longest (repetition is.step) rest)
+    (Short longest (repetition (repetition is.step)) rest)
+    (record {
+      at = λ a b n some.
+          let same = repetition_nested is.step rest a b n in (
+            (λ h. record { related = same.1 h.related; admitted = h.admitted }),
+            (λ h. record { related = same.0 h.related; admitted = h.admitted }),
+          );
+    })
+    (subst (λ (t : PatternTree). HoldExactly zones (Short longest t rest)) is.whole held))
 
 module _ (longest : Option ℕ) (tree : PatternTree) (rest : Rest) (all zones : List ZoneBounds)
     (inner : HoldExactly all (Short longest tree rest)) where

@@ -15,9 +15,10 @@
 #![tactic(auto)]
 
 pub use closing::matches_at_end;
-pub use matching::{into_matches, local, matches};
+pub use matching::{into_matches, local, matches, matches_among};
 
 mod atoms;
 mod closing;
+mod lengths;
 mod matching;
 mod operators;
