@@ -20,7 +20,10 @@ use tre_zone::{Interval, Zone};
 mod into_zones;
 
 /// So few zones are looked at one by one, without an index.
-const FEW: usize = 24;
+const FEW: usize = 8;
+
+// Of so many zones each is compared with those before it sooner than an index over them is made.
+const FEW_TO_COMPARE: usize = 24;
 
 // How many looks for each zone are no dearer than an index.
 const LOOKS_PER_ZONE: usize = 8;
@@ -448,7 +451,7 @@ fn none_included(alloc: Global, zones: Vec<Zone>) -> Result<Vec<Zone>, AllocErro
     if stand_apart(&zones) {
         return Ok(zones);
     }
-    if are_few(&zones) {
+    if are_soon_compared(&zones) {
         return few_apart(alloc, &zones);
     }
     let looks = zones.len().saturating_mul(LOOKS_PER_ZONE);
@@ -461,6 +464,11 @@ fn none_included(alloc: Global, zones: Vec<Zone>) -> Result<Vec<Zone>, AllocErro
     let mut kept = thin(alloc, &turned)?;
     kept.reverse();
     Ok(kept)
+}
+
+// Whether there are so few zones that comparing each with those before it is soon done.
+fn are_soon_compared(zones: &[Zone]) -> bool {
+    zones.len() <= FEW_TO_COMPARE
 }
 
 // The same of a few zones: each is looked at beside those before it, without an index.

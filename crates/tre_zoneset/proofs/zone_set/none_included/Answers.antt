@@ -33,11 +33,11 @@ returns-in-Some-clause-held c =
     (HoldExactly-moved c.args.zones.items c.sort_unstable_by_key.new.self.items
     c.sort_unstable_by_key.ensures.permutation))
 
-pub returns-then-are_few-clause-held : goal.returns-then-are_few-clause-held
-returns-then-are_few-clause-held c =
+pub returns-then-are_soon_compared-clause-held : goal.returns-then-are_soon_compared-clause-held
+returns-then-are_soon_compared-clause-held c =
     IfOk-weaker c.few_apart.result _ _
     (λ kept held. HoldExactly-gathered kept.items c.sort_unstable_by_key.new.self.items
     (SetHolds c.args.zones.items) held
     (HoldExactly-moved c.args.zones.items c.sort_unstable_by_key.new.self.items
     c.sort_unstable_by_key.ensures.permutation))
-    (rw c.deref-then-are_few.ensures.value at c.few_apart.ensures.held)
+    (rw c.deref-then-are_soon_compared.ensures.value at c.few_apart.ensures.held)
