@@ -2,3 +2,4 @@ pub mod Unions
 pub mod Operations
 pub mod FoundZones
 pub mod LastingUpTo
+pub mod Iterating

@@ -19,7 +19,8 @@ use Rattle.tre_syntax.specs.PatternTree.{PatternTree, empty, sequence, alternati
 use Rattle.tre_syntax.specs.Rest.{Rest, AtomMatches}
 use Rattle.tre_syntax.proofs.CutMeaning.{IsOrdered-rest}
 use Rattle.tre_syntax.proofs.Repeating.{repetition_nested}
-use Rattle.tre_offline.specs.Lengths.{LastUpTo, IsRepetition}
+use Rattle.tre_offline.specs.Lengths.{LastUpTo, IsRepetition, IsIteration}
+use Rattle.tre_offline.proofs.Iterating.{repetition_once, sequence_once}
 use Rattle.tre_offline.proofs.Unions.{Agree-held, HoldExactly-agree}
 
 -- The moments of a rest.
@@ -154,6 +155,20 @@ intersection_exact longest inner left right rest one other zones all first secon
   },
 )
 
+-- The short matches of an expression are those of one that matches the same pairs.
+same_exact : (longest : Option ℕ) (one other : PatternTree) (rest : Rest) (zones : List ZoneBounds)
+    → ((a b n : ℕ) → MatchesRest one rest a b n ↔ MatchesRest other rest a b n)
+    → HoldExactly zones (Short longest one rest) → HoldExactly zones (Short longest other rest)
+same_exact longest one other rest zones same =
+    HoldExactly-agree zones (Short longest one rest) (Short longest other rest)
+    (record {
+      at = λ a b n some.
+          let told = same a b n in (
+            (λ h. record { related = told.0 h.related; admitted = h.admitted }),
+            (λ h. record { related = told.1 h.related; admitted = h.admitted }),
+          );
+    })
+
 -- A repetition of a repetition is that repetition.
 pub nested_exact : (longest : Option ℕ) (tree : PatternTree) (rest : Rest)
     (zones : List ZoneBounds) → IsRepetition tree → HoldExactly zones (Short longest tree rest)
@@ -161,16 +176,40 @@ pub nested_exact : (longest : Option ℕ) (tree : PatternTree) (rest : Rest)
 nested_exact longest tree rest zones is held =
     subst (λ (t : PatternTree). HoldExactly zones (Short longest (repetition t) rest))
     (sym is.whole)
-    (HoldExactly-agree zones (Short longest (repetition is.step) rest)
-    (Short longest (repetition (repetition is.step)) rest)
-    (record {
-      at = λ a b n some.
-          let same = repetition_nested is.step rest a b n in (
-            (λ h. record { related = same.1 h.related; admitted = h.admitted }),
-            (λ h. record { related = same.0 h.related; admitted = h.admitted }),
-          );
-    })
+    (same_exact longest (repetition is.step) (repetition (repetition is.step)) rest zones
+    (λ a b n.
+    let same = repetition_nested is.step rest a b n in (same.1, same.0))
     (subst (λ (t : PatternTree). HoldExactly zones (Short longest t rest)) is.whole held))
+
+-- A repetition of an expression one or more times is its repetition.
+pub iteration_exact : (longest : Option ℕ) (once more : PatternTree) (rest : Rest)
+    (zones : List ZoneBounds) → more ≡ repetition once
+    → HoldExactly zones (Short longest more rest)
+    → HoldExactly zones (Short longest (repetition (sequence once more)) rest)
+iteration_exact longest once more rest zones is held =
+    subst (λ (t : PatternTree).
+    HoldExactly zones (Short longest (repetition (sequence once t)) rest)) (sym is)
+    (same_exact longest (repetition once) (repetition (sequence once (repetition once))) rest zones
+    (λ a b n.
+    let same = repetition_once once rest a b n in (same.1, same.0))
+    (subst (λ (t : PatternTree). HoldExactly zones (Short longest t rest)) is held))
+
+-- One or more times what is an expression one or more times is that.
+pub iterated_exact : (longest : Option ℕ) (first second : PatternTree) (rest : Rest)
+    (zones : List ZoneBounds) → IsIteration first → second ≡ repetition first
+    → HoldExactly zones (Short longest first rest)
+    → HoldExactly zones (Short longest (sequence first second) rest)
+iterated_exact longest first second rest zones is again held =
+    let whole = sequence is.step (repetition is.step) in
+    subst (λ (t : PatternTree). HoldExactly zones (Short longest (sequence first t) rest))
+    (sym again)
+    (subst (λ (t : PatternTree).
+    HoldExactly zones (Short longest (sequence t (repetition t)) rest))
+    (sym is.whole)
+    (same_exact longest whole (sequence whole (repetition whole)) rest zones
+    (λ a b n.
+    let once = sequence_once is.step rest a b n in (once.1, once.0))
+    (subst (λ (t : PatternTree). HoldExactly zones (Short longest t rest)) is.whole held)))
 
 module _ (longest : Option ℕ) (tree : PatternTree) (rest : Rest) (all zones : List ZoneBounds)
     (inner : HoldExactly all (Short longest tree rest)) where

@@ -12,6 +12,7 @@ ghost use Rattle.tre_edges.specs.Piece.{rest_of_piece};
 ghost use Rattle.tre_offline.specs.MatchSet.{IsMatchSet, AreMatchesAmong};
 
 use crate::atoms::Atoms;
+use crate::iterated::{is_iterated, repeats};
 use crate::lengths::{goes_first, is_repetition, longest_beside, longest_for};
 use crate::operators::{followed, joined, met, repeated, restricted, shortened};
 use std::alloc::{AllocError, Global};
@@ -112,6 +113,9 @@ fn matches_of<A: Atoms>(
             shortened(all, longest)
         }
         Expr::Seq(left, right) => {
+            if is_iterated(left, right) {
+                return matches_of(alloc, left, atoms, longest);
+            }
             let first = matches_of(alloc, left, atoms, longest)?;
             let second = matches_of(alloc, right, atoms, longest)?;
             followed(alloc, &first, &second, longest)
@@ -136,6 +140,11 @@ fn matches_of<A: Atoms>(
         Expr::Star(step) => {
             if is_repetition(step) {
                 return matches_of(alloc, step, atoms, longest);
+            }
+            if let Expr::Seq(once, more) = &**step {
+                if repeats(more, once) {
+                    return matches_of(alloc, more, atoms, longest);
+                }
             }
             let step = matches_of(alloc, step, atoms, longest)?;
             repeated(alloc, &step, atoms.begin(), atoms.end(), longest)
@@ -163,6 +172,9 @@ fn last_matches_of(
 {
     match expr {
         Expr::Seq(left, right) => {
+            if is_iterated(left, right) {
+                return last_matches_of(alloc, left, trace, longest);
+            }
             let first = matches_of(alloc, left, &trace, longest)?;
             let second = last_matches_of(alloc, right, trace, longest)?;
             followed(alloc, &first, &second, longest)
@@ -176,8 +188,8 @@ fn last_matches_of(
             if goes_first(right, left) {
                 let other = matches_of(alloc, right, &trace, longest)?;
                 let inner = longest_beside(&other, left, longest);
-                let one = last_matches_of(alloc, left, trace, inner)?;
-                return met(&other, &one);
+                let last = last_matches_of(alloc, left, trace, inner)?;
+                return met(&other, &last);
             }
             let one = matches_of(alloc, left, &trace, longest)?;
             let inner = longest_beside(&one, right, longest);
@@ -187,6 +199,11 @@ fn last_matches_of(
         Expr::Star(step) => {
             if is_repetition(step) {
                 return last_matches_of(alloc, step, trace, longest);
+            }
+            if let Expr::Seq(once, more) = &**step {
+                if repeats(more, once) {
+                    return last_matches_of(alloc, more, trace, longest);
+                }
             }
             let begin = Atoms::begin(&trace);
             let end = Atoms::end(&trace);
