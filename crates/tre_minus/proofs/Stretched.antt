@@ -5,7 +5,6 @@ use Rattle.std.proofs.lemmas.List.{get_or-drop, get_or-take, length-drop, length
 use Rattle.std.specs.List.{slice_range}
 use Rattle.tre_index.specs.Turn.{IsStretch}
 use Rattle.tre_index.specs.declared.turn.Stretch.{Stretch}
-use Rattle.tre_lanes.specs.Rows.{HasNone}
 use Rattle.tre_pairs.specs.Pairs.{Both}
 use Rattle.tre_pairs.specs.Except.{Except}
 use Rattle.tre_zone.specs.Zone.{ZoneHolds, row_of}
@@ -14,7 +13,6 @@ use Rattle.tre_zone.specs.declared.zone_bounds.ZoneBounds.{ZoneBounds}
 use Rattle.tre_zone.proofs.ZoneListLemmas.{SetHolds-append}
 use Rattle.tre_zoneset.proofs.Searching.{IsKeyOf}
 use Rattle.tre_zoneset.proofs.Stretches.{take_to}
-use Rattle.tre_minus.specs.Parts.{HeldFrom}
 use Rattle.tre_minus.proofs.Comparing.{HeldFrom-past, HeldFrom-none}
 use Rattle.tre_minus.proofs.Differences.{HeldFrom-first}
 

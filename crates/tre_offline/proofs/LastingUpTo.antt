@@ -1,17 +1,17 @@
 -- How long the pairs of zones last at most.
-use Rattle.std.proofs.Common.{◌≡◌, ◌==◌, ℕ, ◌+◌, ◌-◌, ◌*◌, ◌<◌, ◌≤◌, ◌↔◌, max, List, [], ◌∷◌, ◌++◌, length, get_or, take, Option, Some, None, refl, sym, subst, inl, inr, ⊎_elim, arith, ℤ, pos, nat_abs, ◌≤ℤ◌}
+use Rattle.std.proofs.Common.{◌≡◌, ℕ, ◌+◌, ◌-◌, ◌*◌, ◌<◌, ◌≤◌, ◌↔◌, max, List, [], ◌∷◌, ◌++◌, length, get_or, take, Option, Some, None, refl, subst, ⊎_elim, arith, pos, nat_abs}
 use Rattle.std.proofs.Math.Nat.{mul-le-mul_right}
 use Rattle.std.proofs.lemmas.Int.{ints}
 use Rattle.std.proofs.lemmas.List.{take_more, take_all}
 use Rattle.tre_pairs.specs.Pairs.{Pairs, Lasting}
 use Rattle.tre_pairs.specs.declared.TheConstants.{TIME_MAX}
-use Rattle.tre_zone.specs.Bound.{value_of, weakness_of, sum_of}
+use Rattle.tre_zone.specs.Bound.{value_of, sum_of}
 use Rattle.tre_zone.specs.Longest.{LastsUpTo, AllLastUpTo}
 use Rattle.tre_zone.specs.Zone.{IsCanonical}
 use Rattle.tre_zone.specs.ZoneList.{SetHolds, HoldExactly}
 use Rattle.tre_zone.specs.declared.zone_bounds.ZoneBounds.{ZoneBounds}
 use Rattle.tre_zone.proofs.Bounds.{split}
-use Rattle.tre_zone.proofs.Lasting.{key_up_to, LastsUpTo-downward}
+use Rattle.tre_zone.proofs.Lasting.{key_up_to}
 use Rattle.tre_zone.proofs.Ranges.{above_zero}
 use Rattle.tre_zone.proofs.ZoneListLemmas.{SetHolds-empty, SetHolds-push}
 use Rattle.tre_offline.specs.Lengths.{LastUpTo}

@@ -1,4 +1,4 @@
-use Rattle.std.proofs.Common.{inl, inr, ⊎_elim}
+use Rattle.std.proofs.Common.{inl, ⊎_elim}
 use Rattle.tre_zoneset.proofs.NearZones.{AreReached-push}
 use Rattle.tre_zoneset.proofs.Unions.{SetHolds-included}
 use Rattle.tre_zoneset.proofs.near.keep_near.Goals as goal

@@ -1,4 +1,4 @@
-use Rattle.std.proofs.Common.{◌≡◌, pos, ◌+◌, ◌-◌, get_or, refl, subst, sym, ◌∙◌, ℕ, arith}
+use Rattle.std.proofs.Common.{◌≡◌, pos, ◌+◌, ◌-◌, get_or, subst, sym, ◌∙◌, ℕ, arith}
 use Rattle.std.proofs.lemmas.List.{get_or_default}
 use Rattle.tre_zone.specs.ZoneList.{AreApart}
 use Rattle.tre_zone.specs.declared.zone_bounds.ZoneBounds.{ZoneBounds}

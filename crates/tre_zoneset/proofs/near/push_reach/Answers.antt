@@ -1,4 +1,3 @@
-use Rattle.std.proofs.Common.{refl}
 use Rattle.tre_zoneset.proofs.near.push_reach.Goals as goal
 
 pub returns : goal.returns

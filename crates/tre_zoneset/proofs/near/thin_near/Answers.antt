@@ -1,6 +1,5 @@
 use Rattle.std.proofs.Common.{refl}
 use Rattle.tre_zone.specs.Zone.{ZoneHolds}
-use Rattle.tre_zone.specs.ZoneList.{SetHolds}
 use Rattle.tre_zone.proofs.ZoneListLemmas.{SetHolds-empty}
 use Rattle.tre_zoneset.proofs.Unions.{HoldExactly-each, HoldExactly-none, HoldExactly-all, itself-additive}
 use Rattle.tre_zoneset.proofs.NearZones.{AreReached-none}
