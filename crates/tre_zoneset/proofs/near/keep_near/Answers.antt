@@ -9,7 +9,8 @@ returns-in-Some-true-clause-held c = λ yes. record {
     (λ h. inl h),
     (λ h. ⊎_elim (λ x. x)
         (λ x. SetHolds-included c.args.kept.now c.args.zone.now
-        (rw (c.in-Some-true.field-0-test, c.zones.ensures.same) at c.in-Some-true.ensures) a b n some le x) h),
+        (rw (c.in-Some-true.field-0-test, c.zones.ensures.same) at c.in-Some-true.ensures)
+        a b n some le x) h),
   );
 }
 

@@ -16,10 +16,16 @@ returns-then-is_beyond c =
     let back : (c.loop-place.place - 1) + 1 ≡ c.loop-place.place =
     omega (arith, c.loop-place-test.true) in
     IsApartFrom-beyond c.args.zone.now c.args.kept.now c.args.reaches.now (c.loop-place.place - 1)
-    (get_or c.args.reaches.now (c.loop-place.place - 1) r) c.bounds-bounds.ensures.canonical c.requires.canonical
+    (get_or c.args.reaches.now (c.loop-place.place - 1) r) c.bounds-bounds.ensures.canonical
+    c.requires.canonical
     c.requires.reached (omega (arith, c.loop-place-test.true, c.loop-place.invariant.within))
     (get_or_default c.args.reaches.now (c.loop-place.place - 1) r _
-    (omega (arith, c.loop-place-test.true, c.loop-place.invariant.within, c.requires.reached.count)))
+    (omega (
+      arith,
+      c.loop-place-test.true,
+      c.loop-place.invariant.within,
+      c.requires.reached.count,
+    )))
     (rw c.bounds-bounds.ensures.same at far.0)
     (rw c.bounds-bounds.ensures.same at far.1)
     (subst (λ (place : ℕ). IsApartBehind c.args.zone.now c.args.kept.now place) (sym back)
