@@ -16,7 +16,7 @@ import tempfile
 from cases import lines_of, make_trace
 
 SECONDS = 60     # a run that takes longer hangs
-SLOW = 2         # processor seconds that are told
+SLOW = 1         # processor seconds that are told
 STACK = 8 << 20  # bytes
 MOST = 16384     # bytes of a pattern
 LAST = 1 << 40   # the last unit of a trace

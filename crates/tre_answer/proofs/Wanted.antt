@@ -4,7 +4,7 @@ use Rattle.std.proofs.lemmas.List.{drop_more, length-drop}
 use Rattle.std.proofs.Math.ListN.{drop_of_length-le}
 use Rattle.std.proofs.Math.Seq.{take-length}
 use Rattle.std.specs.List.{remove, slice_range}
-use Rattle.tre_offline.specs.MatchSet.{IsMatchSet}
+use Rattle.tre_offline.specs.MatchSet.{IsMatchSet, AreMatchesAmong}
 use Rattle.tre_pairs.specs.Except.{Except}
 use Rattle.tre_pairs.specs.Pairs.{Pairs}
 use Rattle.tre_syntax.specs.Meaning.{Matches}
@@ -82,27 +82,32 @@ pub AreLeft-next : (start : List ZoneBounds) (patterns : List Pattern) (traces :
     (place : ℕ) (pattern : Pattern) (trace : Timeline) (set others left : List ZoneBounds)
     → AreLeft start patterns traces place set → place < length patterns
     → length traces ≡ length patterns → pattern ≡ get_or patterns place pattern
-    → trace ≡ get_or traces place trace → IsMatchSet others (pattern_tree pattern) trace
+    → trace ≡ get_or traces place trace
+    → AreMatchesAmong others (pattern_tree pattern) trace set
     → HoldExactly left (Except (SetHolds set) (SetHolds others))
     → AreLeft start patterns traces (place + 1) left
 AreLeft-next start patterns traces place pattern trace set others left before inside count is is'
     matches differs = record {
       exact = λ labels labelled a b n positive rises.
           let own = before.exact labels labelled a b n positive rises in
-          let taken = matches.exact.exact a b n positive rises in
+          let taken = matches.exact a b n positive rises in
           let both = differs.exact a b n positive rises in
           let next = still labels labelled a b n in (
             (λ h.
                 let was = own.0 h in (
                   both.1 (record {
                     related = was.0;
-                    never = λ m. was.1 (next.1 (inl (taken.0 m)));
+                    never = λ m. was.1 (next.1 (inl ((taken was.0).0 m)));
                   }),
                   λ more. was.1 (next.1 (inr more)),
                 )),
             (λ h.
                 let was = both.0 h.0 in
-                own.1 (was.related, λ more. ⊎_elim (λ m. was.never (taken.1 m)) h.1 (next.0 more))),
+                own.1 (
+                  was.related,
+                  λ more. ⊎_elim (λ m. was.never ((taken was.related).1 m)) h.1
+                      (next.0 more),
+                )),
           );
     }
   where

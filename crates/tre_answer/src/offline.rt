@@ -22,7 +22,7 @@ use std::alloc::{AllocError, Global};
 use tre_feed::{Readers, read_traces};
 use tre_io::Source;
 use tre_minus::minus;
-use tre_offline::{into_matches, matches};
+use tre_offline::{into_matches, matches_among};
 use tre_show::{in_printed_order, offline_text};
 use tre_strips::strips;
 use tre_syntax::Pattern;
@@ -77,7 +77,7 @@ fn without_others(
 {
     let mut left = set;
     for place in 0..patterns.len() {
-        let others = matches(alloc, &patterns[place], &traces[place])?;
+        let others = matches_among(alloc, &patterns[place], &traces[place], &left)?;
         left = minus(alloc, &left, &others)?;
     }
     Ok(left)

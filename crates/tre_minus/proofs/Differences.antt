@@ -26,7 +26,7 @@ Except-additive S P Q T same a b n =
 
 -- ---- a zone before it is compared with the first taken one
 
-HeldFrom-first : (taken : List ZoneBounds) (a b n : ℕ)
+pub HeldFrom-first : (taken : List ZoneBounds) (a b n : ℕ)
     → HeldFrom taken 0 a b n ↔ SetHolds taken a b n
 HeldFrom-first [] a b n = (
   (λ h. let ends = h.ends in absurd (omega arith)),
@@ -76,6 +76,19 @@ Together-first taken found zone parts part next none is at held = record {
               related = x.related;
               never = λ m. x.never (first.0 m);
             })))) h)),
+      );
+}
+
+-- Beside a set, relations that hold of the same pairs.
+pub HoldExactly-beside : (zones : List ZoneBounds) (start P Q : Pairs)
+    → ((a b n : ℕ) → 0 < n → a ≤ b → P a b n ↔ Q a b n)
+    → HoldExactly zones (Either start P) → HoldExactly zones (Either start Q)
+HoldExactly-beside zones start P Q same held = record {
+  exact = λ a b n some le.
+      let one = held.exact a b n some le in
+      let both = same a b n some le in (
+        (λ h. ⊎_elim (λ x. inl x) (λ x. inr (both.0 x)) (one.0 h)),
+        (λ h. one.1 (⊎_elim (λ x. inl x) (λ x. inr (both.1 x)) h)),
       );
 }
 

@@ -6,3 +6,5 @@ pub mod Cutting
 pub mod Comparing
 -- what the difference of two sets holds
 pub mod Differences
+-- of taken zones a stretch
+pub mod Stretched

@@ -1,3 +1,5 @@
 pub mod Unions
 pub mod Operations
 pub mod FoundZones
+pub mod LastingUpTo
+pub mod Iterating

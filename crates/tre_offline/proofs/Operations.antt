@@ -5,7 +5,7 @@ use Rattle.tre_pairs.specs.Pairs.{Pairs, Composed, Either, Both, Lasting, Chain}
 use Rattle.tre_pairs.proofs.Laws.{IsOrdered, IsInstant, Agree}
 use Rattle.tre_pairs.proofs.Agreement.{Agree-Composed, Agree-Chain, Agree-Lasting}
 use Rattle.tre_pairs.proofs.Order.{IsOrdered-Lasting}
-use Rattle.tre_pairs.proofs.Shortening.{Agree-trans, Lasting-Composed, Lasting-Chain, Lasting-Either, Lasting-Both}
+use Rattle.tre_pairs.proofs.Shortening.{Agree-trans, Lasting-Composed, Lasting-Chain, Lasting-Either}
 use Rattle.tre_zone.specs.Interval.{IntervalEnds, LastsWithin}
 use Rattle.tre_zone.specs.Longest.{LastsUpTo}
 use Rattle.tre_zone.proofs.Lasting.{LastsUpTo-downward, LastsUpTo-scales}
@@ -18,6 +18,9 @@ use Rattle.tre_syntax.specs.Meaning.{MatchesRest}
 use Rattle.tre_syntax.specs.PatternTree.{PatternTree, empty, sequence, alternation, intersection, repetition, restriction}
 use Rattle.tre_syntax.specs.Rest.{Rest, AtomMatches}
 use Rattle.tre_syntax.proofs.CutMeaning.{IsOrdered-rest}
+use Rattle.tre_syntax.proofs.Repeating.{repetition_nested}
+use Rattle.tre_offline.specs.Lengths.{LastUpTo, IsRepetition, IsIteration}
+use Rattle.tre_offline.proofs.Iterating.{repetition_once, sequence_once}
 use Rattle.tre_offline.proofs.Unions.{Agree-held, HoldExactly-agree}
 
 -- The moments of a rest.
@@ -96,23 +99,117 @@ module _ (longest : Option ℕ) (left right : PatternTree) (rest : Rest)
         );
   }
 
-  pub intersection_exact : HoldExactly zones (Both (SetHolds one) (SetHolds other))
-      → HoldExactly zones (Short longest (intersection left right) rest)
-  intersection_exact held = record {
+-- Of an intersection the one side may be cut to a longest duration within which the other keeps.
+pub intersection_exact : (longest inner : Option ℕ) (left right : PatternTree) (rest : Rest)
+    (one other zones : List ZoneBounds) → LastUpTo inner one
+    → HoldExactly one (Short longest left rest) → HoldExactly other (Short inner right rest)
+    → HoldExactly zones (Both (SetHolds one) (SetHolds other))
+    → HoldExactly zones (Short longest (intersection left right) rest)
+    × HoldExactly zones (Short longest (intersection right left) rest)
+intersection_exact longest inner left right rest one other zones all first second held = (
+  record {
     exact = λ a b n some le.
         let whole = held.exact a b n some le in
         let l = first.exact a b n some le in
-        let r = second.exact a b n some le in
-        let same = (Lasting-Both (LastsUpTo longest) (MatchesRest left rest)
-        (MatchesRest right rest)).at a b n some in (
+        let r = second.exact a b n some le in (
           (λ h.
               let x = whole.0 h in
-              same.0 (record { left = l.0 x.left; right = r.0 x.right })),
+              let y = l.0 x.left in
+              record {
+                related = record { left = y.related; right = (r.0 x.right).related };
+                admitted = y.admitted;
+              }),
           (λ h.
-              let x = same.1 h in
-              whole.1 (record { left = l.1 x.left; right = r.1 x.right })),
+              let y = l.1 (record { related = h.related.left; admitted = h.admitted }) in
+              whole.1 (record {
+                left = y;
+                right = r.1 (record {
+                  related = h.related.right;
+                  admitted = all.each a b n some le y;
+                });
+              })),
         );
-  }
+  },
+  record {
+    exact = λ a b n some le.
+        let whole = held.exact a b n some le in
+        let l = first.exact a b n some le in
+        let r = second.exact a b n some le in (
+          (λ h.
+              let x = whole.0 h in
+              let y = l.0 x.left in
+              record {
+                related = record { left = (r.0 x.right).related; right = y.related };
+                admitted = y.admitted;
+              }),
+          (λ h.
+              let y = l.1 (record { related = h.related.right; admitted = h.admitted }) in
+              whole.1 (record {
+                left = y;
+                right = r.1 (record {
+                  related = h.related.left;
+                  admitted = all.each a b n some le y;
+                });
+              })),
+        );
+  },
+)
+
+-- The short matches of an expression are those of one that matches the same pairs.
+same_exact : (longest : Option ℕ) (one other : PatternTree) (rest : Rest) (zones : List ZoneBounds)
+    → ((a b n : ℕ) → MatchesRest one rest a b n ↔ MatchesRest other rest a b n)
+    → HoldExactly zones (Short longest one rest) → HoldExactly zones (Short longest other rest)
+same_exact longest one other rest zones same =
+    HoldExactly-agree zones (Short longest one rest) (Short longest other rest)
+    (record {
+      at = λ a b n some.
+          let told = same a b n in (
+            (λ h. record { related = told.0 h.related; admitted = h.admitted }),
+            (λ h. record { related = told.1 h.related; admitted = h.admitted }),
+          );
+    })
+
+-- A repetition of a repetition is that repetition.
+pub nested_exact : (longest : Option ℕ) (tree : PatternTree) (rest : Rest)
+    (zones : List ZoneBounds) → IsRepetition tree → HoldExactly zones (Short longest tree rest)
+    → HoldExactly zones (Short longest (repetition tree) rest)
+nested_exact longest tree rest zones is held =
+    subst (λ (t : PatternTree). HoldExactly zones (Short longest (repetition t) rest))
+    (sym is.whole)
+    (same_exact longest (repetition is.step) (repetition (repetition is.step)) rest zones
+    (λ a b n.
+    let same = repetition_nested is.step rest a b n in (same.1, same.0))
+    (subst (λ (t : PatternTree). HoldExactly zones (Short longest t rest)) is.whole held))
+
+-- A repetition of an expression one or more times is its repetition.
+pub iteration_exact : (longest : Option ℕ) (once more : PatternTree) (rest : Rest)
+    (zones : List ZoneBounds) → more ≡ repetition once
+    → HoldExactly zones (Short longest more rest)
+    → HoldExactly zones (Short longest (repetition (sequence once more)) rest)
+iteration_exact longest once more rest zones is held =
+    subst (λ (t : PatternTree).
+    HoldExactly zones (Short longest (repetition (sequence once t)) rest)) (sym is)
+    (same_exact longest (repetition once) (repetition (sequence once (repetition once))) rest zones
+    (λ a b n.
+    let same = repetition_once once rest a b n in (same.1, same.0))
+    (subst (λ (t : PatternTree). HoldExactly zones (Short longest t rest)) is held))
+
+-- One or more times what is an expression one or more times is that.
+pub iterated_exact : (longest : Option ℕ) (first second : PatternTree) (rest : Rest)
+    (zones : List ZoneBounds) → IsIteration first → second ≡ repetition first
+    → HoldExactly zones (Short longest first rest)
+    → HoldExactly zones (Short longest (sequence first second) rest)
+iterated_exact longest first second rest zones is again held =
+    let whole = sequence is.step (repetition is.step) in
+    subst (λ (t : PatternTree). HoldExactly zones (Short longest (sequence first t) rest))
+    (sym again)
+    (subst (λ (t : PatternTree).
+    HoldExactly zones (Short longest (sequence t (repetition t)) rest))
+    (sym is.whole)
+    (same_exact longest whole (sequence whole (repetition whole)) rest zones
+    (λ a b n.
+    let once = sequence_once is.step rest a b n in (once.1, once.0))
+    (subst (λ (t : PatternTree). HoldExactly zones (Short longest t rest)) is.whole held)))
 
 module _ (longest : Option ℕ) (tree : PatternTree) (rest : Rest) (all zones : List ZoneBounds)
     (inner : HoldExactly all (Short longest tree rest)) where

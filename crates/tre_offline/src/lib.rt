@@ -5,8 +5,9 @@
 //! expression once, and each operator is one exact call of the layers below: `;` composes, `|`
 //! joins, `&` meets, `*` closes, `%` restricts. [`local`] is the same over one piece of a trace:
 //! the two differ in their atoms alone. [`into_matches`] is that of a whole trace which is not
-//! needed any more. [`matches_at_end`] decides what the end of a trace matches. The layers above
-//! may rely on every pair, and on nothing of the order of the zones.
+//! needed any more, and [`matches_among`] looks for no longer matches than a set has pairs.
+//! [`matches_at_end`] decides what the end of a trace matches. The layers above may rely on every
+//! pair, and on nothing of the order of the zones.
 //!
 //! ```
 //! let zones = matches(alloc, &pattern, &trace)?;
@@ -15,9 +16,11 @@
 #![tactic(auto)]
 
 pub use closing::matches_at_end;
-pub use matching::{into_matches, local, matches};
+pub use matching::{into_matches, local, matches, matches_among};
 
 mod atoms;
 mod closing;
+mod iterated;
+mod lengths;
 mod matching;
 mod operators;

@@ -9,9 +9,11 @@ ghost use Rattle.tre_syntax.specs.Rest.{whole};
 ghost use Rattle.tre_zone.specs.Longest.{LastsUpTo, IsLongest};
 ghost use Rattle.tre_zone.specs.ZoneList.{HoldExactly};
 ghost use Rattle.tre_edges.specs.Piece.{rest_of_piece};
-ghost use Rattle.tre_offline.specs.MatchSet.{IsMatchSet};
+ghost use Rattle.tre_offline.specs.MatchSet.{IsMatchSet, AreMatchesAmong};
 
 use crate::atoms::Atoms;
+use crate::iterated::{is_iterated, repeats};
+use crate::lengths::{goes_first, is_repetition, longest_beside, longest_for};
 use crate::operators::{followed, joined, met, repeated, restricted, shortened};
 use std::alloc::{AllocError, Global};
 use tre_edges::Piece;
@@ -42,6 +44,24 @@ pub fn into_matches(alloc: Global, pattern: &Pattern, trace: Trace) -> Result<Zo
     let zones = last_matches_of(alloc, pattern.expr(), trace, None)?;
     // For the proof: the call says that no zone includes another, and that their bounds are tight.
     let _zones = zones.zones();
+    Ok(zones)
+}
+
+/// The matches of the pattern's expression over the whole trace, as far as they can be pairs of the
+/// set: no longer ones are looked for than it has.
+///
+/// It goes as deep as the expression does.
+pub fn matches_among(
+    alloc: Global,
+    pattern: &Pattern,
+    trace: &Trace,
+    set: &ZoneSet,
+) -> Result<ZoneSet, AllocError>
+    ensures { IfOk result (λ zones.
+        AreMatchesAmong zones (pattern_tree pattern.now) trace.now set.now) }
+{
+    let longest = longest_for(set, pattern.expr());
+    let zones = matches_of(alloc, pattern.expr(), trace, longest)?;
     Ok(zones)
 }
 
@@ -93,6 +113,9 @@ fn matches_of<A: Atoms>(
             shortened(all, longest)
         }
         Expr::Seq(left, right) => {
+            if is_iterated(left, right) {
+                return matches_of(alloc, left, atoms, longest);
+            }
             let first = matches_of(alloc, left, atoms, longest)?;
             let second = matches_of(alloc, right, atoms, longest)?;
             followed(alloc, &first, &second, longest)
@@ -103,11 +126,26 @@ fn matches_of<A: Atoms>(
             joined(one, &other)
         }
         Expr::Meet(left, right) => {
+            if goes_first(right, left) {
+                let other = matches_of(alloc, right, atoms, longest)?;
+                let inner = longest_beside(&other, left, longest);
+                let one = matches_of(alloc, left, atoms, inner)?;
+                return met(&other, &one);
+            }
             let one = matches_of(alloc, left, atoms, longest)?;
-            let other = matches_of(alloc, right, atoms, longest)?;
+            let inner = longest_beside(&one, right, longest);
+            let other = matches_of(alloc, right, atoms, inner)?;
             met(&one, &other)
         }
         Expr::Star(step) => {
+            if is_repetition(step) {
+                return matches_of(alloc, step, atoms, longest);
+            }
+            if let Expr::Seq(once, more) = &**step {
+                if repeats(more, once) {
+                    return matches_of(alloc, more, atoms, longest);
+                }
+            }
             let step = matches_of(alloc, step, atoms, longest)?;
             repeated(alloc, &step, atoms.begin(), atoms.end(), longest)
         }
@@ -134,6 +172,9 @@ fn last_matches_of(
 {
     match expr {
         Expr::Seq(left, right) => {
+            if is_iterated(left, right) {
+                return last_matches_of(alloc, left, trace, longest);
+            }
             let first = matches_of(alloc, left, &trace, longest)?;
             let second = last_matches_of(alloc, right, trace, longest)?;
             followed(alloc, &first, &second, longest)
@@ -144,11 +185,26 @@ fn last_matches_of(
             joined(one, &other)
         }
         Expr::Meet(left, right) => {
+            if goes_first(right, left) {
+                let other = matches_of(alloc, right, &trace, longest)?;
+                let inner = longest_beside(&other, left, longest);
+                let last = last_matches_of(alloc, left, trace, inner)?;
+                return met(&other, &last);
+            }
             let one = matches_of(alloc, left, &trace, longest)?;
-            let other = last_matches_of(alloc, right, trace, longest)?;
+            let inner = longest_beside(&one, right, longest);
+            let other = last_matches_of(alloc, right, trace, inner)?;
             met(&one, &other)
         }
         Expr::Star(step) => {
+            if is_repetition(step) {
+                return last_matches_of(alloc, step, trace, longest);
+            }
+            if let Expr::Seq(once, more) = &**step {
+                if repeats(more, once) {
+                    return last_matches_of(alloc, more, trace, longest);
+                }
+            }
             let begin = Atoms::begin(&trace);
             let end = Atoms::end(&trace);
             let step = last_matches_of(alloc, step, trace, longest)?;

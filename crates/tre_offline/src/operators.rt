@@ -10,6 +10,7 @@ ghost use Rattle.tre_trace.specs.Trace.{end_of};
 ghost use Rattle.tre_zone.specs.Interval.{LastsWithin};
 ghost use Rattle.tre_zone.specs.Longest.{LastsUpTo, IsLongest};
 ghost use Rattle.tre_zone.specs.ZoneList.{HoldExactly};
+ghost use Rattle.tre_offline.specs.Lengths.{LastUpTo};
 
 use std::alloc::{AllocError, Global};
 use tre_star::{closure_up_to, compose_sets_up_to};
@@ -58,13 +59,18 @@ pub fn joined(mut one: ZoneSet, other: &ZoneSet) -> Result<ZoneSet, AllocError>
     Ok(one)
 }
 
-/// The matches of an intersection, of those of its parts: with parts cut to any longest duration.
+/// The matches of an intersection, of those of its parts, in either order: the other part may be
+/// cut to an `inner` longest duration that the first set keeps within.
 pub fn met(one: &ZoneSet, other: &ZoneSet) -> Result<ZoneSet, AllocError>
-    ensures { IfOk result (λ zones. (longest : Option ℕ) (left right : PatternTree) (rest : Rest)
+    ensures { IfOk result (λ zones.
+        (longest inner : Option ℕ) (left right : PatternTree) (rest : Rest)
+        → LastUpTo inner one.now
         → HoldExactly one.now (Lasting (LastsUpTo longest) (MatchesRest left rest))
-        → HoldExactly other.now (Lasting (LastsUpTo longest) (MatchesRest right rest))
+        → HoldExactly other.now (Lasting (LastsUpTo inner) (MatchesRest right rest))
         → HoldExactly zones
-        (Lasting (LastsUpTo longest) (MatchesRest (intersection left right) rest))) }
+        (Lasting (LastsUpTo longest) (MatchesRest (intersection left right) rest))
+        × HoldExactly zones
+        (Lasting (LastsUpTo longest) (MatchesRest (intersection right left) rest))) }
 {
     one.meet(other)
 }

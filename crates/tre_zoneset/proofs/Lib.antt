@@ -7,3 +7,4 @@ pub mod Searching
 pub mod Cuts
 pub mod Stretches
 pub mod AsOne
+pub mod NearZones

@@ -128,7 +128,7 @@ HoldsFirst-none F start zones never = record {
   held = HoldExactly-none_beside start (F (SetHolds [])) never;
 }
 
-canonical_at : (zones : List ZoneBounds) (k : ℕ) (d : ZoneBounds) → AreCanonical zones
+pub canonical_at : (zones : List ZoneBounds) (k : ℕ) (d : ZoneBounds) → AreCanonical zones
     → k < length zones → IsCanonical (get_or zones k d)
 unfolding AreCanonical
 canonical_at [] k d all within = absurd (omega (arith, within))

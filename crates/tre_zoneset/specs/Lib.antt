@@ -4,3 +4,4 @@
 pub mod ZoneSet
 pub mod Cut
 pub mod Rise
+pub mod Near

@@ -14,9 +14,10 @@
 //! ```
 #![tactic(auto)]
 
-pub use zone_set::{ZoneSet, are_few, gather, index_of};
+pub use zone_set::{ZoneSet, are_few, gather, index_of, is_short_pass};
 
 mod cut;
+mod near;
 mod rise;
 mod touching;
 mod zone_set;

@@ -9,6 +9,7 @@ ghost use Rattle.tre_zoneset.specs.ZoneSet.{IsZoneSet, Without, Stays, IsAdded, 
 ghost use Rattle.tre_zoneset.specs.Cut.{Leaves, IsCut, IsCutSet};
 
 use crate::cut::{Cut, cut_each, leaves_all};
+use crate::near::thin_near;
 use crate::rise::{all_apart, all_rise};
 use std::alloc::{AllocError, Global};
 use std::marker::Model;
@@ -20,6 +21,9 @@ mod into_zones;
 
 /// So few zones are looked at one by one, without an index.
 const FEW: usize = 8;
+
+// Of so many zones each is compared with those before it sooner than an index over them is made.
+const FEW_TO_COMPARE: usize = 24;
 
 // How many looks for each zone are no dearer than an index.
 const LOOKS_PER_ZONE: usize = 8;
@@ -325,9 +329,9 @@ fn meets_of(alloc: Global, zones: &[Zone], others: &[Zone]) -> Result<Vec<Zone>,
     meets_by_index(alloc, zones, others)
 }
 
-// Whether one pass over both looks at few zones, for each of all. Where many begin together and
-// differ by their ends or durations alone, it would look at most of them in vain.
-fn is_short_pass(zones: &[Zone], others: &[Zone]) -> bool
+/// Whether one pass over both looks at few zones, for each of all. Where many begin together and
+/// differ by their ends or durations alone, it would look at most of them in vain.
+pub fn is_short_pass(zones: &[Zone], others: &[Zone]) -> bool
     requires { AreInTurn (map row_of others.now) }
 {
     let few = zones
@@ -447,12 +451,36 @@ fn none_included(alloc: Global, zones: Vec<Zone>) -> Result<Vec<Zone>, AllocErro
     if stand_apart(&zones) {
         return Ok(zones);
     }
+    if are_soon_compared(&zones) {
+        return few_apart(alloc, &zones);
+    }
+    let looks = zones.len().saturating_mul(LOOKS_PER_ZONE);
+    if let Some(near) = thin_near(alloc, &zones, looks)? {
+        return Ok(near.into_zones());
+    }
     let mut turned = thin(alloc, &zones)?;
     drop(zones);
     turned.reverse();
     let mut kept = thin(alloc, &turned)?;
     kept.reverse();
     Ok(kept)
+}
+
+// Whether there are so few zones that comparing each with those before it is soon done.
+fn are_soon_compared(zones: &[Zone]) -> bool {
+    zones.len() <= FEW_TO_COMPARE
+}
+
+// The same of a few zones: each is looked at beside those before it, without an index.
+fn few_apart(alloc: Global, zones: &[Zone]) -> Result<Vec<Zone>, AllocError>
+    ensures held { IfOk result (λ kept. HoldExactly kept.items (SetHolds zones.now)) }
+    ensures set { IfOk result (λ kept. IsZoneSet kept.items) }
+{
+    let mut kept = ZoneSet::new(alloc);
+    for zone in zones {
+        kept.add(*zone)?;
+    }
+    Ok(kept.into_zones())
 }
 
 // By this zones are sorted: the earlier begin first, and then the wider zone.

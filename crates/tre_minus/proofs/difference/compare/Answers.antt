@@ -9,9 +9,9 @@ returns-in_ok-take_away-in-Some c =
     IsCompared-next c.args.taken.now c.args.part.now c.args.found.now.items
     c.args.parts.now.items c.key_meeting.result
     (IsKeyOf-canonical (Both (ZoneHolds c.args.part.now.zone)) c.args.taken.now
-    c.key_meeting.result c.requires c.key_meeting.ensures.others)
-    c.in-Some.next c.index-items-next.result c.take_away.new.parts.items c.in-Some.ensures
-    (rw c.items.ensures at c.index-items-next.is) c.in_ok-take_away-in-Some.ensures
+    c.key_meeting.result c.requires.taken c.key_meeting.ensures.others)
+    c.in-Some.next c.index-taken-next.result c.take_away.new.parts.items c.in-Some.ensures
+    (c.index-taken-next.is) c.in_ok-take_away-in-Some.ensures
 
 pub returns-in_ok-push-in-None : goal.returns-in_ok-push-in-None
 returns-in_ok-push-in-None c =
@@ -19,5 +19,5 @@ returns-in_ok-push-in-None c =
     (IsCompared-found c.args.taken.now c.args.part.now c.args.found.now.items
     c.args.parts.now.items c.key_meeting.result
     (IsKeyOf-canonical (Both (ZoneHolds c.args.part.now.zone)) c.args.taken.now
-    c.key_meeting.result c.requires c.key_meeting.ensures.others)
+    c.key_meeting.result c.requires.taken c.key_meeting.ensures.others)
     c.in-None.ensures)

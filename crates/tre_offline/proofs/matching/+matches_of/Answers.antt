@@ -1,18 +1,36 @@
 -- The operator at the top is the tree's, and its parts are those of the tree.
-use Rattle.std.proofs.Common.{◌≡◌, ap}
+use Rattle.std.proofs.Common.{◌≡◌, ◌∙◌, ap}
 use Rattle.tre_state.specs.State as states
 use Rattle.tre_syntax.specs.Expr.{tree_of}
 use Rattle.tre_syntax.specs.PatternTree.{PatternTree, atom, empty, literal, rise, fall, event, sequence, alternation, intersection, repetition, restriction}
-use Rattle.tre_offline.proofs.Operations.{short_of_form}
+use Rattle.tre_offline.specs.Lengths.{IsRepetition, IsIteration}
+use Rattle.tre_offline.proofs.Operations.{nested_exact, iteration_exact, iterated_exact, short_of_form}
 use Rattle.tre_offline.proofs.matching.+matches_of.Goals as goal
+
+pub returns-then-is_iterated : goal.returns-then-is_iterated
+returns-then-is_iterated g t c =
+    let rest = g.A.Atoms.rest c.args.atoms.now in
+    let left = tree_of c.deref-then-is_iterated.result.now in
+    let right = tree_of c.deref-in-Seq.result.now in
+    let tree : tree_of c.args.expr.now ≡ sequence left right =
+    rw (c.deref-then-is_iterated.ensures, c.deref-in-Seq.ensures) (ap tree_of c.in-Seq.is) in
+    let first : IsIteration left =
+    rw (c.deref.ensures, ← c.deref-then-is_iterated.ensures) at
+    (c.is_iterated.ensures.first c.if-is_iterated.true) in
+    let second : right ≡ repetition left =
+    rw (c.deref.ensures, ← c.deref-then-is_iterated.ensures) at
+    (c.is_iterated.ensures.second c.if-is_iterated.true) in
+    short_of_form c.matches_of.result c.args.longest rest tree _
+    (λ zones exact. iterated_exact c.args.longest left right rest zones first second exact)
+    c.matches_of.ensures
 
 pub returns-in_ok-second-in-Seq : goal.returns-in_ok-second-in-Seq
 returns-in_ok-second-in-Seq g t c =
     let rest = g.A.Atoms.rest c.args.atoms.now in
-    let left = tree_of c.deref.result.now in
-    let right = tree_of c.deref-in-Seq.result.now in
+    let left = tree_of c.deref-in-Seq-2.result.now in
+    let right = tree_of c.deref-in-Seq-3.result.now in
     let tree : tree_of c.args.expr.now ≡ sequence left right =
-    rw (c.deref.ensures, c.deref-in-Seq.ensures) (ap tree_of c.in-Seq.is) in
+    rw (c.deref-in-Seq-2.ensures, c.deref-in-Seq-3.ensures) (ap tree_of c.in-Seq.is) in
     short_of_form c.followed.result c.args.longest rest tree _
     (λ zones exact. exact left right rest c.in_ok-first-in-Seq.ensures
     c.in_ok-second-in-Seq.ensures)
@@ -30,24 +48,71 @@ returns-in_ok-other-in-Alt g t c =
     c.in_ok-other-in-Alt.ensures)
     c.joined.ensures
 
-pub returns-in_ok-other-in-Meet : goal.returns-in_ok-other-in-Meet
-returns-in_ok-other-in-Meet g t c =
+pub returns-then-goes_first : goal.returns-then-goes_first
+returns-then-goes_first g t c =
     let rest = g.A.Atoms.rest c.args.atoms.now in
-    let left = tree_of c.deref-in-Meet.result.now in
-    let right = tree_of c.deref-in-Meet-2.result.now in
+    let left = tree_of c.deref-then-goes_first-3.result.now in
+    let right = tree_of c.deref-then-goes_first.result.now in
     let tree : tree_of c.args.expr.now ≡ intersection left right =
-    rw (c.deref-in-Meet.ensures, c.deref-in-Meet-2.ensures) (ap tree_of c.in-Meet.is) in
+    rw (c.deref-then-goes_first.ensures, c.deref-then-goes_first-3.ensures)
+    (ap tree_of c.in-Meet.is) in
     short_of_form c.met.result c.args.longest rest tree _
-    (λ zones exact. exact c.args.longest left right rest c.in_ok-one-in-Meet.ensures
-    c.in_ok-other-in-Meet.ensures)
+    (λ zones exact. (exact c.args.longest c.longest_beside-inner.result right left rest
+    (c.longest_beside-inner.ensures.all right rest c.in_ok-other-in-Meet.ensures)
+    c.in_ok-other-in-Meet.ensures c.in_ok-one-in-Meet.ensures).1)
     c.met.ensures
+
+pub returns-in_ok-other-in-Meet-2 : goal.returns-in_ok-other-in-Meet-2
+returns-in_ok-other-in-Meet-2 g t c =
+    let rest = g.A.Atoms.rest c.args.atoms.now in
+    let left = tree_of c.deref-in-Meet-3.result.now in
+    let right = tree_of c.deref-in-Meet-5.result.now in
+    let tree : tree_of c.args.expr.now ≡ intersection left right =
+    rw (c.deref-in-Meet-3.ensures, c.deref-in-Meet-5.ensures) (ap tree_of c.in-Meet.is) in
+    short_of_form c.met-in-Meet.result c.args.longest rest tree _
+    (λ zones exact. (exact c.args.longest c.longest_beside-inner-in-Meet.result left right rest
+    (c.longest_beside-inner-in-Meet.ensures.all left rest c.in_ok-one-in-Meet-2.ensures)
+    c.in_ok-one-in-Meet-2.ensures c.in_ok-other-in-Meet-2.ensures).0)
+    c.met-in-Meet.ensures
+
+pub returns-then-is_repetition : goal.returns-then-is_repetition
+returns-then-is_repetition g t c =
+    let rest = g.A.Atoms.rest c.args.atoms.now in
+    let step = tree_of c.deref-then-is_repetition.result.now in
+    let tree : tree_of c.args.expr.now ≡ repetition step =
+    rw c.deref-then-is_repetition.ensures (ap tree_of c.in-Star.is) in
+    let nested : IsRepetition step =
+    rw (c.deref-in-Star.ensures, ← c.deref-then-is_repetition.ensures) at
+    (c.is_repetition.ensures c.if-is_repetition.true) in
+    short_of_form c.matches_of-then-is_repetition.result c.args.longest rest tree _
+    (λ zones exact. nested_exact c.args.longest step rest zones nested exact)
+    c.matches_of-then-is_repetition.ensures
+
+pub returns-then-repeats : goal.returns-then-repeats
+returns-then-repeats g t c =
+    let rest = g.A.Atoms.rest c.args.atoms.now in
+    let once = tree_of c.deref-in-Seq-deref-2.result.now in
+    let more = tree_of c.deref-then-repeats.result.now in
+    let step : tree_of c.deref-in-Star-2.result.now ≡ sequence once more =
+    rw (c.deref-in-Seq-deref-2.ensures, c.deref-then-repeats.ensures)
+    (ap tree_of c.in-Seq-deref.is) in
+    let star : tree_of c.args.expr.now ≡ repetition (tree_of c.deref-in-Star-2.result.now) =
+    rw c.deref-in-Star-2.ensures (ap tree_of c.in-Star.is) in
+    let tree : tree_of c.args.expr.now ≡ repetition (sequence once more) =
+    star ∙ ap (λ (t : PatternTree). repetition t) step in
+    let again : more ≡ repetition once =
+    rw (c.deref-in-Seq-deref.ensures, ← c.deref-then-repeats.ensures) at
+    (c.repeats.ensures c.if-repeats.true) in
+    short_of_form c.matches_of-then-repeats.result c.args.longest rest tree _
+    (λ zones exact. iteration_exact c.args.longest once more rest zones again exact)
+    c.matches_of-then-repeats.ensures
 
 pub returns-in_ok-step-in-Star : goal.returns-in_ok-step-in-Star
 returns-in_ok-step-in-Star g t c =
     let rest = g.A.Atoms.rest c.args.atoms.now in
-    let step = tree_of c.deref-in-Star.result.now in
+    let step = tree_of c.deref-in-Star-3.result.now in
     let tree : tree_of c.args.expr.now ≡ repetition step =
-    rw c.deref-in-Star.ensures (ap tree_of c.in-Star.is) in
+    rw c.deref-in-Star-3.ensures (ap tree_of c.in-Star.is) in
     short_of_form c.repeated.result c.args.longest rest tree _
     (λ zones exact. exact step rest c.begin.ensures c.end.ensures.end
     c.in_ok-step-in-Star.ensures)

@@ -1,4 +1,3 @@
-use Rattle.tre_zoneset.specs.Cut.{IsCut}
 use Rattle.tre_zoneset.proofs.Cuts.{HoldExactly-up_to, IsCut-up_to}
 use Rattle.tre_zoneset.proofs.zone_set.ZoneSet.up_to.Goals as goal
 

@@ -5,8 +5,8 @@ use Rattle.tre_zone.specs.Zone.{ZoneHolds}
 use Rattle.tre_zone.specs.ZoneList.{SetHolds}
 use Rattle.tre_zone.proofs.ZoneListLemmas.{SetHolds-empty}
 use Rattle.tre_zoneset.proofs.Unions.{HoldExactly-each, HoldExactly-none, HoldExactly-all}
-use Rattle.tre_minus.proofs.Differences.{Except-additive, Together-first}
-use Rattle.tre_minus.proofs.difference.zones_left.Goals as goal
+use Rattle.tre_minus.proofs.Differences.{Except-additive}
+use Rattle.tre_minus.proofs.difference.left_in_turn.Goals as goal
 
 pub loop-zone-init : goal.loop-zone-init
 loop-zone-init c = record {
@@ -17,19 +17,14 @@ loop-zone-init c = record {
 
 pub loop-zone-preserved : goal.loop-zone-preserved
 loop-zone-preserved c = record {
-  none = c.in_ok-compare_all.ensures.none;
+  none = c.in_ok-near.ensures.none;
   held =
       HoldExactly-each (λ (R : Pairs). Except R (SetHolds c.args.taken.now))
       (Except-additive (SetHolds c.args.taken.now)) c.loop-zone.found.items
-      c.compare_all.new.found.items c.args.zones.now c.loop-zone.zone-index
+      c.leave_near.new.found.items c.args.zones.now c.loop-zone.zone-index
       c.zone-item.result (Except (ZoneHolds c.zone-item.result) (SetHolds c.args.taken.now))
       c.loop-zone-test.true c.zone-item.is c.loop-zone.invariant.held
-      (Together-first c.args.taken.now c.loop-zone.found.items c.zone-item.result
-      c.loop-zone.parts.items _ c.compare_all.new.found.items c.loop-zone.invariant.none
-      refl refl
-      (rw (c.in_ok-index.ensures, c.in_ok-push.ensures.items) at
-      c.in_ok-compare_all.ensures.held))
-      (λ a b n some le. ((λ h. h), (λ h. h)));
+      c.in_ok-near.ensures.held (λ a b n some le. ((λ h. h), (λ h. h)));
 }
 
 pub returns : goal.returns
@@ -37,6 +32,3 @@ returns c =
     HoldExactly-all (λ (R : Pairs). Except R (SetHolds c.args.taken.now))
     c.loop-zone.found.items c.args.zones.now c.args.zones.now c.loop-zone.zone-index
     c.loop-zone-test.false refl c.loop-zone.invariant.held
-
-pub compare_all-requires : goal.compare_all-requires
-compare_all-requires c = rw c.in_ok-index.ensures c.requires

@@ -1,0 +1,126 @@
+// Expressions that are read as another, one or more times: `E+` is `E;E*`.
+ghost use Rattle.std.specs.Prelude.{◌≡◌, IsTrue};
+ghost use Rattle.tre_state.specs.State as states;
+ghost use Rattle.tre_syntax.specs.Expr.{tree_of};
+ghost use Rattle.tre_syntax.specs.PatternTree.{repetition};
+ghost use Rattle.tre_offline.specs.Lengths.{IsIteration};
+
+use tre_state::State;
+use tre_syntax::Expr;
+
+// Whether the expression is another one or more times.
+fn is_iteration(expr: &Expr) -> bool
+    ensures { IsTrue result → IsIteration (tree_of expr.now) }
+{
+    match expr {
+        Expr::Seq(once, more) => repeats(more, once),
+        _ => false,
+    }
+}
+
+/// Whether a sequence of the two is the first one or more times, where the first is another one or
+/// more times itself.
+pub(crate) fn is_iterated(first: &Expr, second: &Expr) -> bool
+    ensures first { IsTrue result → IsIteration (tree_of first.now) }
+    ensures second { IsTrue result → tree_of second.now ≡ repetition (tree_of first.now) }
+{
+    is_iteration(first) && repeats(second, first)
+}
+
+/// Whether the expression is the repetition of the step.
+pub(crate) fn repeats(expr: &Expr, step: &Expr) -> bool
+    ensures { IsTrue result → tree_of expr.now ≡ repetition (tree_of step.now) }
+{
+    match expr {
+        Expr::Star(body) => is_same(body, step),
+        _ => false,
+    }
+}
+
+// Whether the two are the same expression, of the same states.
+fn is_same(one: &Expr, other: &Expr) -> bool
+    ensures { IsTrue result → tree_of one.now ≡ tree_of other.now }
+{
+    match one {
+        Expr::Seq(left, right) => match other {
+            Expr::Seq(first, second) => is_same(left, first) && is_same(right, second),
+            _ => false,
+        },
+        Expr::Alt(left, right) => match other {
+            Expr::Alt(first, second) => is_same(left, first) && is_same(right, second),
+            _ => false,
+        },
+        Expr::Meet(left, right) => match other {
+            Expr::Meet(first, second) => is_same(left, first) && is_same(right, second),
+            _ => false,
+        },
+        Expr::Star(step) => match other {
+            Expr::Star(body) => is_same(step, body),
+            _ => false,
+        },
+        Expr::Within(all, interval) => match other {
+            Expr::Within(body, within) => interval == within && is_same(all, body),
+            _ => false,
+        },
+        _ => is_same_atom(one, other),
+    }
+}
+
+// Whether the two are the same atom.
+fn is_same_atom(one: &Expr, other: &Expr) -> bool
+    ensures { IsTrue result → tree_of one.now ≡ tree_of other.now }
+{
+    match one {
+        Expr::Lit(state) => match other {
+            Expr::Lit(it) => is_same_state(state, it),
+            _ => false,
+        },
+        Expr::Rise(state) => match other {
+            Expr::Rise(it) => is_same_state(state, it),
+            _ => false,
+        },
+        Expr::Fall(state) => match other {
+            Expr::Fall(it) => is_same_state(state, it),
+            _ => false,
+        },
+        Expr::Event(number) => match other {
+            Expr::Event(it) => *number == *it,
+            _ => false,
+        },
+        Expr::Eps => match other {
+            Expr::Eps => true,
+            _ => false,
+        },
+        _ => false,
+    }
+}
+
+// Whether the two are the same state.
+fn is_same_state(one: &State, other: &State) -> bool
+    ensures { IsTrue result → states.tree_of one.now ≡ states.tree_of other.now }
+{
+    match one {
+        State::Yes => match other {
+            State::Yes => true,
+            _ => false,
+        },
+        State::Prop(number) => match other {
+            State::Prop(it) => *number == *it,
+            _ => false,
+        },
+        State::Not(state) => match other {
+            State::Not(it) => is_same_state(state, it),
+            _ => false,
+        },
+        State::And(left, right) => match other {
+            State::And(first, second) => {
+                is_same_state(left, first) && is_same_state(right, second)
+            }
+            _ => false,
+        },
+        State::Or(left, right) => match other {
+            State::Or(first, second) => is_same_state(left, first) && is_same_state(right, second),
+            _ => false,
+        },
+    }
+}
