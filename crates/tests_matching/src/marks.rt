@@ -1,9 +1,8 @@
 // What a mark keeps, and its step over one piece.
 
 use crate::given::pattern;
-use crate::pieces::{first_piece, moments_of};
+use crate::pieces::{advanced, first_piece, moments_of};
 use std::test::Fail;
-use tre_advance::advance;
 use tre_mark::{Mark, moments};
 
 #[test]
@@ -25,7 +24,7 @@ fn a_literal_over_a_piece(rt: HostRuntime) -> Result<(), Fail> {
     let mut mark = Mark::empty(rt.alloc(), pattern.expr())?;
     let piece = first_piece((2, 1));
     let entering = moments_of(rt.alloc(), &piece)?;
-    let told = advance(rt.alloc(), &mut mark, pattern.expr(), &entering, &piece)?;
+    let told = advanced(rt.alloc(), &mut mark, pattern.expr(), &entering, &piece)?;
     assert!(rt; told.holds(0, 2, 1));
     assert!(rt; told.holds(1, 3, 2));
     assert!(rt; !told.holds(0, 3, 1));

@@ -1,11 +1,17 @@
 // Pieces of a trace, one behind another.
 ghost use Rattle.std.specs.Prelude.{◌≡◌, ◌≤◌, IfOk};
 ghost use Rattle.tre_edges.specs.Piece.{end_of_piece};
-ghost use Rattle.tre_mark.specs.Marked.{EndBetween};
+ghost use Rattle.tre_mark.specs.MarkTree.{mark_of};
+ghost use Rattle.tre_mark.specs.Marked.{EndBetween, IsWellAt};
+ghost use Rattle.tre_state.specs.declared.names.TheConstants.{NAMES_MAX};
+ghost use Rattle.tre_syntax.specs.Expr.{tree_of};
+ghost use Rattle.tre_syntax.specs.PatternTree.{NumbersBelow};
 
 use std::alloc::{AllocError, Global};
+use tre_advance::advance;
 use tre_edges::Piece;
-use tre_mark::moments;
+use tre_mark::{Mark, moments};
+use tre_syntax::Expr;
 use tre_trace::Segment;
 use tre_zoneset::ZoneSet;
 
@@ -72,4 +78,24 @@ pub(crate) fn moments_of(alloc: Global, piece: &Piece) -> Result<ZoneSet, AllocE
     ensures { IfOk result (λ all. EndBetween piece.now.begin (end_of_piece piece.now) all) }
 {
     moments(alloc, piece.begin, piece.begin + piece.segment.len)
+}
+
+/// What is told where the mark goes over the piece and the pairs of the set enter.
+pub(crate) fn advanced(
+    alloc: Global,
+    mark: &mut Mark,
+    expr: &Expr,
+    entering: &ZoneSet,
+    piece: &Piece,
+) -> Result<ZoneSet, AllocError>
+    requires numbers { NumbersBelow NAMES_MAX (tree_of expr.now) }
+    requires well { IsWellAt piece.now.begin (mark_of mark.old) (tree_of expr.now) }
+    requires enter { EndBetween piece.now.begin (end_of_piece piece.now) entering.now }
+    ensures { IfOk result (λ told.
+        IsWellAt (end_of_piece piece.now) (mark_of mark.new) (tree_of expr.now)) }
+{
+    let mut told = Vec::new(alloc);
+    advance(alloc, mark, expr, entering.zones(), piece, &mut told)?;
+    let told = ZoneSet::of_zones(alloc, told)?;
+    Ok(told)
 }

@@ -123,9 +123,9 @@ fn most_zones(alloc: Global, text: &str) -> Result<usize, Fail> {
     Ok(most)
 }
 
-/// The most zones that a block has: what began earlier and ends where the segment begins, what
-/// began earlier and ends in the segment, and what begins in it.
-const ZONES: [(&str, usize); 3] = [("p", 3), ("true", 3), ("{p || q}", 3)];
+/// The most zones that a block has: what began earlier and ends where the segment begins or later,
+/// and what begins in it.
+const ZONES: [(&str, usize); 3] = [("p", 2), ("true", 2), ("{p || q}", 2)];
 
 #[test]
 fn a_block_has_few_zones(rt: HostRuntime) -> Result<(), Fail> {

@@ -10,10 +10,9 @@ ghost use Rattle.tre_syntax.specs.Expr.{tree_of};
 ghost use Rattle.tre_syntax.specs.PatternTree.{NumbersBelow};
 
 use crate::given::pattern;
-use crate::pieces::{Length, first_piece, moments_of, next_piece};
+use crate::pieces::{Length, advanced, first_piece, moments_of, next_piece};
 use std::alloc::{AllocError, Global};
 use std::test::Fail;
-use tre_advance::advance;
 use tre_derive::{fresh, step};
 use tre_edges::Piece;
 use tre_mark::Mark;
@@ -56,7 +55,7 @@ fn begun(alloc: Global, expr: &Expr, piece: &Piece) -> Result<Twins, AllocError>
     let forms = fresh(alloc, expr, piece)?;
     let mut mark = Mark::empty(alloc, expr)?;
     let all = moments_of(alloc, piece)?;
-    advance(alloc, &mut mark, expr, &all, piece)?;
+    advanced(alloc, &mut mark, expr, &all, piece)?;
     Ok(Twins { forms, mark })
 }
 
@@ -86,7 +85,7 @@ fn read(alloc: Global, twins: Twins, expr: &Expr, piece: &Piece) -> Result<Twins
     let mut mark = mark;
     let forms = step(alloc, &forms, piece)?;
     let none = ZoneSet::new(alloc);
-    let told = advance(alloc, &mut mark, expr, &none, piece)?;
+    let told = advanced(alloc, &mut mark, expr, &none, piece)?;
     if !are_same(&forms.told, &told) {
         return Err("they tell other pairs".into());
     }

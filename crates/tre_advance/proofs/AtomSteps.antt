@@ -8,7 +8,7 @@ use Rattle.tre_pairs.proofs.Laws.{IsInstant, Agree}
 use Rattle.tre_pairs.proofs.Scaling.{moved}
 use Rattle.tre_pairs.proofs.Ticks.{le_up}
 use Rattle.tre_zone.specs.Held.{Held, EndAt}
-use Rattle.tre_zone.proofs.HeldSets.{Scales-Held, IsOrdered-Held, Held-empty}
+use Rattle.tre_zone.proofs.HeldSets.{Scales-Held, IsOrdered-Held}
 use Rattle.tre_zone.proofs.JoinedPairs.{Scales-JoinedAt}
 use Rattle.tre_state.specs.StateTree.{StateTree, HoldsOn}
 use Rattle.tre_syntax.specs.Meaning.{MatchesRest}
@@ -21,15 +21,15 @@ use Rattle.tre_zone.specs.Zone.{EndsAt}
 use Rattle.tre_zone.specs.declared.zone_bounds.ZoneBounds.{ZoneBounds}
 use Rattle.tre_edges.specs.declared.piece.Piece.{Piece}
 use Rattle.tre_mark.specs.MarkTree.{MarkTree, atom_mark}
-use Rattle.tre_mark.specs.Marked.{GoesOn, Marked, EndBetween, IsBegun, IsWellAt}
-use Rattle.tre_mark.proofs.Agreeing.{agree_refl, agree_sym, agree_then, agree_either, joined_composed}
+use Rattle.tre_mark.specs.Marked.{GoesOn, Marked, EndBetween, IsBegun}
+use Rattle.tre_mark.proofs.Agreeing.{joined_composed}
 use Rattle.tre_mark.proofs.Meanings.{Scales-Marked, IsOrdered-GoesOn}
 use Rattle.tre_mark.proofs.Starts.{nothing_atom}
 use Rattle.tre_edges.specs.Piece.{end_of_piece}
-use Rattle.tre_advance.proofs.Crossings.{agree_crossing, distributes}
+use Rattle.tre_advance.proofs.Crossings.{distributes}
 use Rattle.tre_advance.proofs.Going.{over, alone, behind, cut_of, long_front, mark_front, followed_front}
 use Rattle.tre_advance.proofs.SetsOf.{no_pair}
-use Rattle.tre_advance.proofs.Steps.{Beside, Followed}
+use Rattle.tre_advance.proofs.Steps.{Followed}
 
 -- The pairs of a mark, and those that enter and that a match follows.
 abbrev Going : Rest → MarkTree → PatternTree → Pairs → Pairs
@@ -420,77 +420,3 @@ two_marks rest x here begun one two three four heres beguns = record {
             (λ z. inr (record { left = g.1 (inl z.left); right = z.right })) y) h),
       );
 }
-
-pub brief_beside : (piece : Piece) (here begun enter told last here' : List ZoneBounds) (x : Atom)
-    → IsBrief x → EndBetween piece.begin (end_of_piece piece) enter
-    → IsWellAt (end_of_piece piece) (atom_mark here begun) (atom x)
-    → Agree (Held told) (Followed (Held enter) (atom x) (alone piece))
-    → Agree (Held last) (Both (Held enter) (EndsAt (end_of_piece piece)))
-    → Agree (Held here') (Either (Held last) (Held here))
-    → Beside (Unit {0}) piece (atom x) (atom_mark here begun) (Followed (Held enter) (atom x)) told
-    (atom_mark here' begun)
-brief_beside piece here begun enter told last here' x brief between well whole kept union = record {
-  tells = whole;
-  leaves = λ can next long.
-      let V = behind piece next in
-      agree_then (two_marks V x here' begun last [] here begun union (record {
-        at = λ a b n some. (
-          (λ h. inr h),
-          (λ h. ⊎_elim (λ y. absurd (Held-empty a b n y)) (λ y. y) h),
-        );
-      }))
-      (agree_either (agree_refl (Marked V (atom_mark here begun) (atom x)))
-      (agree_then (brief_leaves piece [] [] enter last x brief between kept next)
-      (agree_crossing (end_of_piece piece)
-      (nothing_begun (over piece next) x (Held enter)))));
-  takes = λ can. tt;
-  well = record {
-    well = (
-      record {
-        ends = λ a b n some h. ⊎_elim (λ y. ((kept.at a b n some).0 y).right.ends)
-            (λ y. well.well.0.ends a b n some y) ((union.at a b n some).0 h);
-      },
-      well.well.1,
-    );
-  };
-}
-
-pub literal_beside : (piece : Piece)
-    (here begun enter told last last' here' begun' : List ZoneBounds) (state : StateTree)
-    → EndBetween piece.begin (end_of_piece piece) enter
-    → IsWellAt (end_of_piece piece) (atom_mark here begun) (atom (literal state))
-    → Agree (Held told) (Followed (Held enter) (atom (literal state)) (alone piece))
-    → Agree (Held last) (Both (Held enter) (EndsAt (end_of_piece piece)))
-    → Agree (Held last') (Both (Held told) (EndsAt (end_of_piece piece)))
-    → Agree (Held here') (Either (Held last) (Held here))
-    → Agree (Held begun') (Either (Held last') (Held begun))
-    → Beside (Unit {0}) piece (atom (literal state)) (atom_mark here begun)
-    (Followed (Held enter) (atom (literal state))) told (atom_mark here' begun')
-literal_beside piece here begun enter told last last' here' begun' state between well whole kept
-    kept' union union' =
-    let x = literal state in
-    record {
-      tells = whole;
-      leaves = λ can next long.
-          let V = behind piece next in
-          agree_then (two_marks V x here' begun' last last' here begun union union')
-          (agree_either (agree_refl (Marked V (atom_mark here begun) (atom x)))
-          (agree_then (literal_leaves piece [] [] enter told last last' state between
-          (agree_then whole (agree_sym (nothing_begun (alone piece) x (Held enter)))) kept kept'
-          next long)
-          (agree_crossing (end_of_piece piece)
-          (nothing_begun (over piece next) x (Held enter)))));
-      takes = λ can. tt;
-      well = record {
-        well = (
-          record {
-            ends = λ a b n some h. ⊎_elim (λ y. ((kept.at a b n some).0 y).right.ends)
-                (λ y. well.well.0.ends a b n some y) ((union.at a b n some).0 h);
-          },
-          record {
-            ends = λ a b n some h. ⊎_elim (λ y. ((kept'.at a b n some).0 y).right.ends)
-                (λ y. well.well.1.ends a b n some y) ((union'.at a b n some).0 h);
-          },
-        );
-      };
-    }

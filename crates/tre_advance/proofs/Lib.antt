@@ -2,6 +2,7 @@
 pub mod SetsOf
 pub mod FoundSets
 pub mod Among
+pub mod Lists
 -- what crosses the end of a piece
 pub mod Crossings
 -- what a mark goes on with, over a piece and alone
@@ -14,17 +15,17 @@ pub mod FormSteps
 pub mod StarSteps
 pub mod AtomSteps
 pub mod Onward
-pub mod Nested
 pub mod Takings
 -- marks without what lasts too long
 pub mod Shortenings
 pub mod Recent
 pub mod InstanceSteps
 pub mod Passings
--- what a mark tells where the trace ends
+-- what a mark stands for where nothing more comes
 pub mod Closings
+pub mod Endings
 -- and as the calls say it
 pub mod AtomForms
+pub mod AtomLists
 pub mod CallForms
-pub mod ShapeForms
 pub mod StepForms

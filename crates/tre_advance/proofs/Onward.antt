@@ -23,14 +23,14 @@ use Rattle.tre_mark.proofs.Agreeing.{agree_refl, agree_sym, agree_then, agree_co
 use Rattle.tre_mark.proofs.Growth.{mark_ends, ends_composed, tree_ends}
 use Rattle.tre_mark.proofs.Meanings.{around_present, IsOrdered-Marked}
 use Rattle.tre_advance.specs.Advance.{GoesOver, MarkedBehind, before_piece, with_piece, Advances}
-use Rattle.tre_advance.specs.Moves.{EntersTo, TakesEnds, IsBriefTree, IsLiteralTree}
+use Rattle.tre_advance.specs.Moves.{IsBriefTree, IsLiteralTree}
 use Rattle.tre_advance.proofs.AtomSteps.{IsBrief, brief_empty, brief_rise, brief_fall, brief_event, literal_tells, brief_tells, brief_leaves, literal_leaves}
 use Rattle.tre_advance.proofs.Crossings.{IsFront, agree_crossing, cross_either, distributes}
 use Rattle.tre_advance.proofs.FormSteps.{cross_second, followed_either}
 use Rattle.tre_advance.proofs.Going.{over, alone, behind, begin_le, begin_end, mark_front, followed_front}
 use Rattle.tre_advance.proofs.SetsOf.{set_agrees, set_none, exact_set, set_exact, no_pair}
 use Rattle.tre_advance.proofs.StarSteps.{Starts, Started, marked_repetition, leaves_repetition}
-use Rattle.tre_advance.proofs.Steps.{Followed, of_enters}
+use Rattle.tre_advance.proofs.Steps.{Followed}
 
 -- The pairs of a mark, and those that enter and that a match follows.
 abbrev pub Onward : Rest → MarkTree → PatternTree → List ZoneBounds → Pairs
@@ -423,27 +423,15 @@ module _ (piece : Piece) (here enter : List ZoneBounds) (body : MarkTree) (tree 
         );
       }) (agree_refl X)))
 
-  module _ (none ended starts : List ZoneBounds) (body' : MarkTree) (nothing : none ≡ [])
-      (f : Advances body tree none piece ended body')
+  -- Where what the body ends with is known, it goes on once, behind all that the repetition tells.
+  module _ (ended starts : List ZoneBounds)
+      (known : IsSetOf ended (Marked (alone piece) body tree))
       (union : IsSetOf starts (Either (Either (Held ended) (Held here)) (Held enter))) where
-    -- Where nothing enters, the body goes on alone.
-    body_alone : (rest : Rest) → Agree (Onward rest body tree none) (Marked rest body tree)
-    body_alone rest = record {
-      at = λ a b n some. (
-        (λ h. ⊎_elim (λ x. x)
-            (λ x. absurd (no_pair none nothing (x.factor * a) x.midpoint (x.factor * n) x.left)) h),
-        (λ h. inl h),
-      );
-    }
-
-    inner : Proceeds piece body tree none ended body'
-    inner = proceeds_by piece body tree none ended body' f
-
-    starts_are : CanTakeIn (before_piece piece) body tree → Agree (Held starts) (From (alone piece))
-    starts_are can =
+    starts_once : Agree (Held starts) (From (alone piece))
+    starts_once =
         agree_then (record { at = union.pairs }) (record {
           at = λ a b n some.
-              let same = (agree_then (inner.tells can) (body_alone (alone piece))).at a b n some in (
+              let same = known.pairs a b n some in (
                 (λ h. ⊎_elim
                     (λ x. ⊎_elim (λ y. inl (same.0 y)) (λ y. inr (inl y)) x)
                     (λ x. inr (inr x)) h),
@@ -452,14 +440,17 @@ module _ (piece : Piece) (here enter : List ZoneBounds) (body : MarkTree) (tree 
               );
         })
 
-    pub again_between : EndBetween piece.begin (end_of_piece piece) starts
-    again_between = record {
+    pub once_between : EndBetween piece.begin (end_of_piece piece) starts
+    once_between = record {
       begin = λ a b n some h. ⊎_elim
-          (λ x. ⊎_elim (λ y. f.between.begin a b n some y)
+          (λ x. ⊎_elim
+          (λ y. (around_present (alone piece) body tree a b n ((known.pairs a b n some).0 y)).1)
           (λ y. let at = ends.ends a b n some y in omega (arith, at)) x)
           (λ x. between.begin a b n some x) ((union.pairs a b n some).0 h);
       end = λ a b n some h. ⊎_elim
-          (λ x. ⊎_elim (λ y. f.between.end a b n some y)
+          (λ x. ⊎_elim
+          (λ y. mark_ends (alone piece) (begin_le piece) body tree a b n
+          ((known.pairs a b n some).0 y))
           (λ y.
           let at = ends.ends a b n some y in
           let later = begin_end piece n in
@@ -467,48 +458,38 @@ module _ (piece : Piece) (here enter : List ZoneBounds) (body : MarkTree) (tree 
           (λ x. between.end a b n some x) ((union.pairs a b n some).0 h);
     }
 
-    pub repetition_advances : (told told' here' : List ZoneBounds) (body'' : MarkTree)
+    pub repetition_once : (told told' here' : List ZoneBounds) (body' : MarkTree)
         → IsSetOf told (Followed (Held starts) (repetition tree) (alone piece))
         → EndBetween piece.begin (end_of_piece piece) told
-        → EntersTo body' tree told piece told' body''
-        → TakesEnds (end_of_piece piece) none told here'
+        → Advances body tree told piece told' body'
+        → IsSetOf here' (Both (Held told) (EndsAt (end_of_piece piece)))
         → Advances (repetition_mark here body) (repetition tree) enter piece told
-        (repetition_mark here' body'')
-    repetition_advances told told' here' body'' set told_ends e kept =
+        (repetition_mark here' body')
+    repetition_once told told' here' body' set told_ends f kept =
         let T' = end_of_piece piece in
-        let beside = of_enters piece tree told' body'' body' told e in
-        let whole : CanTakeIn (before_piece piece) body tree → Agree (Held told)
+        let goes = proceeds_by piece body tree told told' body' f in
+        let whole : Agree (Held told)
         (Composed (From (alone piece)) (MatchesRest (repetition tree) (alone piece))) =
-        λ can. agree_then (record { at = set.pairs })
-        (agree_composed (starts_are can) (agree_refl (MatchesRest (repetition tree) (alone piece)))) in
-        let last : Agree (Held here') (Both (Held told) (EndsAt T')) =
-        agree_then (record { at = kept.union.pairs })
-        (agree_then (record {
-          at = λ a b n some. (
-            (λ h. ⊎_elim (λ x. x) (λ x. absurd (no_pair none nothing a b n x)) h),
-            (λ h. inl h),
-          );
-        }) (record { at = kept.ends.pairs })) in
+        agree_then (record { at = set.pairs })
+        (agree_composed starts_once (agree_refl (MatchesRest (repetition tree) (alone piece)))) in
         advances_by piece (repetition_mark here body) (repetition tree) enter told
-        (repetition_mark here' body'')
+        (repetition_mark here' body')
         (record {
-          tells = λ can. agree_then (whole can) (agree_sym (from_starts (quiet [])));
+          tells = λ can. agree_then whole (agree_sym (from_starts (quiet [])));
           leaves = λ can next long.
               agree_then (leaves_repetition piece here enter body tree ends between told
-              here' (λ next. Marked (behind piece next) body'' tree) (whole can) last
-              (λ next long. agree_then (beside.leaves (inner.takes can) next long)
-              (agree_either
-              (agree_then (inner.leaves can next long)
-              (agree_crossing T' (body_alone (over piece next))))
-              (agree_refl (Crossing T' (Followed (Held told) tree (over piece next))))))
+              here' (λ next. Marked (behind piece next) body' tree) whole (record { at = kept.pairs })
+              (λ next long. agree_then (goes.leaves can next long)
+              (cross_either T' (Marked (over piece next) body tree)
+              (Followed (Held told) tree (over piece next))))
               next long)
               (agree_crossing T' (agree_sym (from_starts next)));
-          takes = λ can. beside.takes (inner.takes can);
+          takes = goes.takes;
           between = told_ends;
           well = record {
             well = (
-              record { ends = λ a b n some h. ((last.at a b n some).0 h).right.ends },
-              beside.well.well,
+              record { ends = λ a b n some h. ((kept.pairs a b n some).0 h).right.ends },
+              goes.well.well,
             );
           };
         })

@@ -4,7 +4,6 @@ use Rattle.std.proofs.Math.Nat.{mul-le-mul_right}
 use Rattle.std.proofs.lemmas.List.{take_more}
 use Rattle.tre_zone.specs.Held.{EndBy, IsLatest}
 use Rattle.tre_zone.specs.Interval.{IntervalEnds}
-use Rattle.tre_zone.specs.ZoneList.{SetHolds, HoldExactly}
 use Rattle.tre_zone.specs.declared.zone_bounds.ZoneBounds.{ZoneBounds}
 use Rattle.tre_zone.proofs.ZoneListLemmas.{SetHolds-append}
 use Rattle.tre_advance.specs.Instances.{IsPast}
@@ -81,19 +80,6 @@ module _ (interval : IntervalEnds) (time : ℕ) where
       → AreRecent interval time (take (i + 1) zones) new
   recent_more zones kept new i zone below is are keeps =
       rw (take_more zones i zone below, ← is) (recent_next (take i zones) kept new zone are keeps)
-
-  -- A set of the zones that were kept.
-  pub recent_set : (zones kept set : List ZoneBounds) → AreRecent interval time zones kept
-      → HoldExactly set (SetHolds kept) → AreRecent interval time zones set
-  recent_set zones kept set are exact = record {
-    less = λ a m n some h. are.less a m n some (record {
-      rising = h.rising;
-      held = (exact.exact a m n some h.rising).0 h.held;
-    });
-    more = λ a m n some h may.
-        let x = are.more a m n some h may in
-        record { rising = h.rising; held = (exact.exact a m n some h.rising).1 x.held };
-  }
 
   pub recent_ends : (bound : ℕ) (zones recent : List ZoneBounds)
       → AreRecent interval time zones recent → EndBy bound zones → EndBy bound recent

@@ -1,14 +1,13 @@
 -- Sets of ordered pairs, made by the operators.
-use Rattle.std.proofs.Common.{◌≡◌, ℕ, ◌+◌, ◌*◌, ◌<◌, ◌≤◌, ◌⊎◌, List, [], inl, inr, ⊎_elim, subst, refl, sym, arith}
-use Rattle.std.proofs.Math.Nat.{mul-le-mul_right}
-use Rattle.tre_pairs.specs.Pairs.{Pairs, Composed, Either, Both, Lasting, Chain}
+use Rattle.std.proofs.Common.{◌≡◌, ℕ, ◌*◌, ◌<◌, ◌⊎◌, List, [], ⊎_elim, subst, refl}
+use Rattle.tre_pairs.specs.Pairs.{Pairs, Composed, Both, Lasting, Chain}
 use Rattle.tre_pairs.proofs.Agreement.{Agree-Chain}
 use Rattle.tre_pairs.proofs.Chains.{Composed-at, Chain-none, Chain-cases}
 use Rattle.tre_pairs.proofs.Laws.{IsOrdered, IsInstant, Agree}
 use Rattle.tre_pairs.proofs.Order.{IsOrdered-Chain}
 use Rattle.tre_pairs.proofs.Scaling.{moved}
 use Rattle.tre_offline.proofs.Unions.{Agree-held}
-use Rattle.tre_zone.specs.Held.{Held, IsLatest, IsSetOf}
+use Rattle.tre_zone.specs.Held.{Held, IsSetOf}
 use Rattle.tre_zone.proofs.HeldSets.{Scales-Held, IsOrdered-Held, Held-empty}
 use Rattle.tre_star.proofs.Chaining.{Scales-instants}
 use Rattle.tre_zone.specs.Interval.{IntervalEnds, LastsWithin}
@@ -57,58 +56,6 @@ set_none zones R empty never = record {
 pub no_pair : (zones : List ZoneBounds) → zones ≡ [] → (a b n : ℕ) → Held zones a b n → ⊥
 no_pair zones empty a b n h = Held-empty a b n (subst (λ list. Held list a b n) empty h)
 
-pub either_set : (zones one other : List ZoneBounds)
-    → HoldExactly zones (Either (SetHolds one) (SetHolds other))
-    → IsSetOf zones (Either (Held one) (Held other))
-either_set zones one other held = record {
-  pairs = λ a b n some. (
-    (λ h. ⊎_elim (λ x. inl (record { rising = h.rising; held = x }))
-        (λ x. inr (record { rising = h.rising; held = x }))
-        ((held.exact a b n some h.rising).0 h.held)),
-    (λ h. ⊎_elim
-        (λ x. record {
-          rising = x.rising;
-          held = (held.exact a b n some x.rising).1 (inl x.held);
-        })
-        (λ x. record {
-          rising = x.rising;
-          held = (held.exact a b n some x.rising).1 (inr x.held);
-        }) h),
-  );
-}
-
--- One of the two has no pair.
-pub either_left : (one other : List ZoneBounds) → other ≡ []
-    → IsSetOf one (Either (Held one) (Held other))
-either_left one other empty = record {
-  pairs = λ a b n some. (
-    (λ h. inl h),
-    (λ h. ⊎_elim (λ x. x)
-        (λ x. absurd (no_pair other empty a b n x)) h),
-  );
-}
-
-pub either_right : (zones one other : List ZoneBounds) → one ≡ [] → zones ≡ other
-    → IsSetOf zones (Either (Held one) (Held other))
-either_right zones one other empty same = record {
-  pairs = λ a b n some. (
-    (λ h. inr (subst (λ list. Held list a b n) same h)),
-    (λ h. subst (λ list. Held list a b n) (sym same)
-        (⊎_elim (λ x. absurd (no_pair one empty a b n x)) (λ x. x) h)),
-  );
-}
-
--- The same in the other order.
-pub either_turned : (zones one other : List ZoneBounds)
-    → IsSetOf zones (Either (Held one) (Held other)) → IsSetOf zones (Either (Held other) (Held one))
-either_turned zones one other set = record {
-  pairs = λ a b n some.
-      let p = set.pairs a b n some in (
-        (λ h. ⊎_elim (λ x. inr x) (λ x. inl x) (p.0 h)),
-        (λ h. p.1 (⊎_elim (λ x. inr x) (λ x. inl x) h)),
-      );
-}
-
 pub both_set : (zones one other : List ZoneBounds)
     → HoldExactly zones (Both (SetHolds one) (SetHolds other))
     → IsSetOf zones (Both (Held one) (Held other))
@@ -127,16 +74,6 @@ both_set zones one other held = record {
     }),
   );
 }
-
--- No pair ends at a time by which all have ended before.
-pub ends_before : (zones : List ZoneBounds) (latest time : ℕ) → IsLatest latest zones
-    → latest < time → (a b n : ℕ) → 0 < n → Both (Held zones) (EndsAt time) a b n → ⊥
-ends_before zones latest time is before a b n some h =
-    let by = is.ends.ends a b n some h.left in
-    let at = h.right.ends in
-    let more : latest + 1 ≤ time = omega (arith, before) in
-    let later = mul-le-mul_right n more in
-    omega (arith, by, at, later, some)
 
 pub ending_set : (time : ℕ) (zones all : List ZoneBounds)
     → HoldExactly zones (Both (SetHolds all) (EndsAt time))
@@ -215,12 +152,6 @@ repeat_none from to starts steps between empty =
             (h.factor * n) h.right)),
       );
     }
-
-pub repeat_nothing : (from to : ℕ) (starts steps : List ZoneBounds) → starts ≡ []
-    → IsSetOf starts (Composed (Held starts) (Chain (Held steps) (IsInstantBetween from to)))
-repeat_nothing from to starts steps empty =
-    set_none starts (Composed (Held starts) (Chain (Held steps) (IsInstantBetween from to))) empty
-    (λ a b n some h. no_pair starts empty (h.factor * a) h.midpoint (h.factor * n) h.left)
 
 -- The set that is composed agrees with what it is to hold.
 pub followed_set : (starts any zones : List ZoneBounds) (R : Pairs)

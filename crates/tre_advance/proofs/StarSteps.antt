@@ -22,15 +22,15 @@ use Rattle.tre_zone.specs.Zone.{IsInstantBetween, EndsAt}
 use Rattle.tre_zone.specs.declared.zone_bounds.ZoneBounds.{ZoneBounds}
 use Rattle.tre_edges.specs.declared.piece.Piece.{Piece}
 use Rattle.tre_mark.specs.MarkTree.{MarkTree, repetition_mark, restriction_none}
-use Rattle.tre_mark.specs.Marked.{Marked, EndBetween, IsWellAt}
+use Rattle.tre_mark.specs.Marked.{Marked, EndBetween}
 use Rattle.tre_mark.proofs.Agreeing.{agree_refl, agree_sym, agree_then, agree_composed, agree_either, agree_assoc, joined_composed}
 use Rattle.tre_mark.proofs.Meanings.{Scales-Marked, IsOrdered-Marked, around_present}
 use Rattle.tre_mark.proofs.Starts.{end_at_none, nothing_restriction}
 use Rattle.tre_edges.specs.Piece.{end_of_piece, cut_behind}
-use Rattle.tre_advance.proofs.Crossings.{IsFront, agree_crossing, cross_followed, cross_after, distributes}
+use Rattle.tre_advance.proofs.Crossings.{IsFront, cross_followed, cross_after, distributes}
 use Rattle.tre_mark.proofs.Growth.{mark_grows, mark_early, mark_ends, ends_composed, tree_ends}
 use Rattle.tre_advance.proofs.Going.{over, alone, behind, cut_of, long_front, begin_end, begin_le}
-use Rattle.tre_advance.proofs.Steps.{Beside, Followed}
+use Rattle.tre_advance.proofs.Steps.{Followed}
 
 module _ (piece : Piece) (here enter : List ZoneBounds) (body : MarkTree) (tree : PatternTree)
     (ends : EndAt piece.begin here)
@@ -408,73 +408,3 @@ module _ (piece : Piece) (enter : List ZoneBounds) (tree : PatternTree)
       steps told (agree_sym (entered_is (alone piece))) one two)
       (agree_composed (entered_is (alone piece))
       (agree_refl (MatchesRest (repetition tree) (alone piece))))
-
-  pub repetition_beside : {Q : Type 0} → (old told told' last here' : List ZoneBounds) (body body' : MarkTree)
-      → IsWellAt (end_of_piece piece) (repetition_mark old body) (repetition tree)
-      → Agree (Held told) (Followed (Held enter) (repetition tree) (alone piece))
-      → Agree (Held last) (Both (Held told) (EndsAt (end_of_piece piece)))
-      → Agree (Held here') (Either (Held last) (Held old))
-      → Beside Q piece tree body (Followed (Held told) tree) told' body'
-      → Beside Q piece (repetition tree) (repetition_mark old body)
-      (Followed (Held enter) (repetition tree)) told (repetition_mark here' body')
-  repetition_beside old told told' last here' body body' well whole kept union e =
-      let T' = end_of_piece piece in
-      let P = alone piece in
-      record {
-        tells = whole;
-        leaves = λ can next long.
-            let W = over piece next in
-            let V = behind piece next in
-            let X = MatchesRest (repetition tree) V in
-            let Cross = Crossing T' (Followed (Held told) tree W) in
-            let fresh : Agree (Either (JoinedAt T' (Held last) X) (Composed Cross X))
-            (Crossing T' (Followed (Held enter) (repetition tree) W)) =
-            agree_then (leaves_repetition piece [] enter restriction_none tree
-            (end_at_none piece.begin) between told last
-            (λ next. Crossing T' (Followed (Held told) tree (over piece next)))
-            (agree_then whole (agree_composed (agree_sym (entered_is P))
-            (agree_refl (MatchesRest (repetition tree) P)))) kept
-            (λ next long. record {
-              at = λ a b n some. (
-                (λ h. inr h),
-                (λ h. ⊎_elim
-                    (λ x. absurd (nothing_restriction.never tree (over piece next) a b n
-                    x.related)) (λ x. x) h),
-              );
-            }) next long)
-            (agree_crossing T' (agree_composed (entered_is W)
-            (agree_refl (MatchesRest (repetition tree) W)))) in
-            let inside = agree_then
-            (agree_composed (e.leaves can next long) (agree_refl X))
-            (distributes (Marked V body tree) Cross X) in
-            record {
-              at = λ a b n some.
-                  let u = union.at a (T' * n) n some in
-                  let i = inside.at a b n some in
-                  let f = fresh.at a b n some in (
-                    (λ h. ⊎_elim
-                        (λ x. ⊎_elim
-                        (λ y. inr (f.0 (inl (record { left = y; right = x.right }))))
-                        (λ y. inl (inl (record { left = y; right = x.right }))) (u.0 x.left))
-                        (λ x. ⊎_elim (λ y. inl (inr y)) (λ y. inr (f.0 (inr y))) (i.0 x)) h),
-                    (λ h. ⊎_elim
-                        (λ x. ⊎_elim
-                        (λ y. inl (record { left = u.1 (inr y.left); right = y.right }))
-                        (λ y. inr (i.1 (inl y))) x)
-                        (λ x. ⊎_elim
-                        (λ y. inl (record { left = u.1 (inl y.left); right = y.right }))
-                        (λ y. inr (i.1 (inr y))) (f.1 x)) h),
-                  );
-            };
-        takes = e.takes;
-        well = record {
-          well = (
-            record {
-              ends = λ a b n some h. ⊎_elim
-                  (λ x. ((kept.at a b n some).0 x).right.ends)
-                  (λ x. well.well.0.ends a b n some x) ((union.at a b n some).0 h);
-            },
-            e.well.well,
-          );
-        };
-      }

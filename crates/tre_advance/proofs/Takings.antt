@@ -1,25 +1,11 @@
 -- What an intersection or a restriction that has begun becomes as it takes in what begins later.
 use Rattle.std.proofs.Common.{ℕ, ◌-◌, ◌*◌, ◌<◌, List, inl, inr, ⊎_elim}
 use Rattle.std.proofs.Math.Nat.{mul-pos}
-use Rattle.tre_pairs.specs.Cuts.{Crossing}
 use Rattle.tre_pairs.specs.Pairs.{Pairs, Composed, Either, Both, Lasting}
 use Rattle.tre_pairs.proofs.Laws.{Agree}
 use Rattle.tre_zone.specs.Held.{Held, IsSetOf}
-use Rattle.tre_zone.specs.Zone.{IsInstantBetween}
-use Rattle.tre_zone.specs.ZoneList.{HoldExactly}
 use Rattle.tre_zone.specs.declared.zone_bounds.ZoneBounds.{ZoneBounds}
-use Rattle.tre_syntax.specs.Meaning.{MatchesRest}
-use Rattle.tre_syntax.specs.PatternTree.{PatternTree}
-use Rattle.tre_syntax.proofs.CutMeaning.{IsBounded-rest}
-use Rattle.tre_trace.specs.Trace.{Timeline, AreLong}
-use Rattle.tre_edges.specs.Piece.{end_of_piece}
-use Rattle.tre_edges.specs.declared.piece.Piece.{Piece}
-use Rattle.tre_mark.specs.MarkTree.{MarkTree}
-use Rattle.tre_mark.specs.Marked.{IsOpen, AnyDuration, Marked, EndBetween}
-use Rattle.tre_mark.proofs.Meanings.{around_present}
-use Rattle.tre_advance.specs.Advance.{with_piece}
-use Rattle.tre_advance.proofs.Going.{over, behind}
-use Rattle.tre_advance.proofs.Steps.{Followed, from_moment, to_moment}
+use Rattle.tre_mark.specs.Marked.{AnyDuration}
 
 -- M' has what M has, and behind a pair that enters it has just what X has. Behind a pair of `outer`
 -- it has nothing more that is admitted.
@@ -154,66 +140,3 @@ module _ (outer enter whole : List ZoneBounds)
           }) h),
     );
   }
-
--- Every moment of the piece enters a mark that is open.
-module _ (piece : Piece) (tree : PatternTree) (all : List ZoneBounds)
-    (held : HoldExactly all (IsInstantBetween piece.begin (end_of_piece piece)))
-    (admitted : ℕ → ℕ → Type 0) (outer : List ZoneBounds) (mark rest : MarkTree)
-    (is : IsOpen (with_piece piece) admitted outer mark tree)
-    (leaves : (next : Timeline) → AreLong next.segments
-    → Agree (Marked (behind piece next) rest tree)
-    (Either (Marked (behind piece next) mark tree)
-    (Crossing (end_of_piece piece) (Followed (Held all) tree (over piece next))))) where
-  -- Then it serves whatever enters.
-  pub entered_open : (admitted' : ℕ → ℕ → Type 0) (outer' : List ZoneBounds)
-      → IsOpen (with_piece piece) admitted' outer' rest tree
-  entered_open admitted' outer' = record {
-    sound = λ next a b n long some from h. ⊎_elim
-        (λ x. is.sound next a b n long some from x)
-        (λ x. from_moment piece tree all held (over piece next) a b n some x.related)
-        (((leaves next long).at a b n some).0 h);
-    complete = λ next a m b n long some before from last h.
-        ((leaves next long).at m b n some).1 (inr (record {
-          related = to_moment piece tree all held (over piece next) m b n some from h.begin
-              h.related;
-          begin = h.begin;
-          end = h.end;
-        }));
-  }
-
-  pub takes_of : (enter : List ZoneBounds) → EndBetween piece.begin (end_of_piece piece) enter
-      → (next : Timeline) → AreLong next.segments
-      → Takes admitted outer enter (Marked (behind piece next) mark tree)
-      (Marked (behind piece next) rest tree)
-      (Crossing (end_of_piece piece) (MatchesRest tree (over piece next)))
-  takes_of enter between next long =
-      let W = over piece next in
-      let V = behind piece next in
-      record {
-        old = λ a m b n some before last h. ⊎_elim (λ x. x)
-            (λ x.
-            let match = from_moment piece tree all held W m b n some x.related in
-            is.complete next a m b n long some before ((IsBounded-rest tree W).begin m b n match)
-            last (record { related = match; begin = x.begin; end = x.end }))
-            (((leaves next long).at m b n some).0 h);
-        new = λ a m b n some before h. ⊎_elim
-            (λ x.
-            let around = around_present V mark tree m b n x in
-            record {
-              related = is.sound next m b n long some (between.begin a m n some before) x;
-              begin = around.0;
-              end = around.1;
-            })
-            (λ x. record {
-              related = from_moment piece tree all held W m b n some x.related;
-              begin = x.begin;
-              end = x.end;
-            }) (((leaves next long).at m b n some).0 h);
-        keeps = λ a b n some h. ((leaves next long).at a b n some).1 (inl h);
-        gains = λ a m b n some before h. ((leaves next long).at m b n some).1 (inr (record {
-          related = to_moment piece tree all held W m b n some (between.begin a m n some before)
-              h.begin h.related;
-          begin = h.begin;
-          end = h.end;
-        }));
-      }

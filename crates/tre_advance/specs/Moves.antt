@@ -1,19 +1,15 @@
 -- What enters in a piece, and what its atoms and repetitions keep.
-use Rattle.std.specs.Prelude.{◌≡◌, ℕ, ◌<◌, ◌↔◌, List, []}
-use Rattle.tre_pairs.specs.Cuts.{Crossing}
-use Rattle.tre_pairs.specs.Pairs.{Composed, Either, Both}
+use Rattle.std.specs.Prelude.{◌≡◌, ℕ, ◌<◌, List, [], ◌∷◌}
+use Rattle.tre_pairs.specs.Pairs.{Composed, Either}
 use Rattle.tre_zone.specs.Held.{Held, IsSetOf}
-use Rattle.tre_zone.specs.Zone.{IsInstantBetween, EndsAt}
+use Rattle.tre_zone.specs.Zone.{HoldsSome, IsInstantBetween, IsOnward}
 use Rattle.tre_zone.specs.declared.zone_bounds.ZoneBounds.{ZoneBounds}
-use Rattle.tre_trace.specs.Trace.{Timeline, quiet, AreLong}
-use Rattle.tre_syntax.specs.Cut.{uncut, back_of}
+use Rattle.tre_trace.specs.Trace.{quiet}
+use Rattle.tre_syntax.specs.Cut.{uncut}
 use Rattle.tre_syntax.specs.Meaning.{MatchesRest}
 use Rattle.tre_syntax.specs.PatternTree.{PatternTree, empty, literal, rise, fall, event, atom, repetition}
 use Rattle.tre_edges.specs.declared.piece.Piece.{Piece}
-use Rattle.tre_mark.specs.MarkTree.{MarkTree}
-use Rattle.tre_mark.specs.Marked.{CanTakeIn, Marked, EndBetween, IsWellAt}
 use Rattle.tre_edges.specs.Piece.{end_of_piece, cut_behind}
-use Rattle.tre_advance.specs.Advance.{with_piece}
 
 -- Each pair of the set is a moment of the piece, and where a pair enters, the moment at which it
 -- ends is one of them.
@@ -23,28 +19,21 @@ pub record AreMomentsFor (enter : List ZoneBounds) (piece : Piece) (moments : Li
       → IsInstantBetween piece.begin (end_of_piece piece) a b n
   pub ends : (a m n : ℕ) → 0 < n → Held enter a m n → Held moments m m n
 
--- The pairs of the set entered in the piece: told are those that a match inside the piece follows,
--- and the mark at its end stands for those that go on too.
-pub record EntersTo (old : MarkTree) (tree : PatternTree) (enter : List ZoneBounds) (piece : Piece)
-    (told : List ZoneBounds) (rest : MarkTree) : Type 0 where
-  pub tells : IsSetOf told
-      (Composed (Held enter) (MatchesRest tree (uncut (cut_behind piece (quiet [])))))
-  pub leaves : CanTakeIn (with_piece piece) old tree → (next : Timeline)
-      → AreLong next.segments → (a b n : ℕ) → 0 < n
-      → Marked (back_of (cut_behind piece next)) rest tree a b n
-      ↔ Either (Marked (back_of (cut_behind piece next)) old tree)
-      (Crossing (end_of_piece piece)
-      (Composed (Held enter) (MatchesRest tree (uncut (cut_behind piece next))))) a b n
-  pub takes : CanTakeIn (with_piece piece) old tree → CanTakeIn (with_piece piece) rest tree
-  pub between : EndBetween piece.begin (end_of_piece piece) told
-  pub well : IsWellAt (end_of_piece piece) rest tree
-
 -- Over the piece an atom tells the pairs that are here, have begun or enter, each followed by a
 -- match, and those that have begun.
 pub record TellsAtom (here begun enter : List ZoneBounds) (tree : PatternTree) (piece : Piece)
     (told : List ZoneBounds) : Type 0 where
   pub set : IsSetOf told (Either (Composed (Either (Either (Held here) (Held begun)) (Held enter))
       (MatchesRest tree (uncut (cut_behind piece (quiet []))))) (Held begun))
+
+-- Where the atom matches the pairs of the zone, some at least, these are the pairs that have begun
+-- and hold on over the piece, and those that are here or enter, each followed by one of the zone.
+pub record HoldsOnOver (here begun enter : List ZoneBounds) (inside : ZoneBounds) (piece : Piece)
+    (told : List ZoneBounds) : Type 0 where
+  pub some : HoldsSome inside
+  pub set : IsSetOf told (Either
+      (Composed (Held begun) (IsOnward piece.begin (end_of_piece piece)))
+      (Composed (Either (Held here) (Held enter)) (Held (inside ∷ []))))
 
 -- Each pair of the zones is one of the others.
 pub record AreAmong (zones others : List ZoneBounds) : Type 0 where
@@ -53,12 +42,6 @@ pub record AreAmong (zones others : List ZoneBounds) : Type 0 where
 -- Each pair of the zones is an instant.
 pub record AreInstants (zones : List ZoneBounds) : Type 0 where
   pub same : (a b n : ℕ) → 0 < n → Held zones a b n → a ≡ b
-
--- The new set has the pairs of the old one and those of the others that end at the time.
-pub record TakesEnds (time : ℕ) (old others new : List ZoneBounds) : Type 0 where
-  pub last : List ZoneBounds
-  pub ends : IsSetOf last (Both (Held others) (EndsAt time))
-  pub union : IsSetOf new (Either (Held last) (Held old))
 
 -- The expression is an atom that lasts no time, or a literal.
 abbrev pub IsBriefTree : PatternTree → Type 0

@@ -1,192 +1,145 @@
 // What an atom does over a piece, and what enters it.
-ghost use Rattle.std.specs.Prelude.{◌≡◌, List, [], IfOk, IsTrue};
+ghost use Rattle.std.specs.Prelude.{◌≡◌, [], ◌⊎◌, OnOk};
 ghost use Rattle.tre_state.specs.declared.names.TheConstants.{NAMES_MAX};
 ghost use Rattle.tre_syntax.specs.Expr.{tree_of};
 ghost use Rattle.tre_syntax.specs.Meaning.{MatchesRest};
 ghost use Rattle.tre_syntax.specs.PatternTree.{NumbersBelow};
-ghost use Rattle.tre_zone.specs.declared.zone_bounds.ZoneBounds.{ZoneBounds};
 ghost use Rattle.tre_mark.specs.MarkTree.{atom_mark};
 ghost use Rattle.tre_mark.specs.Marked.{EndBetween, IsWellAt};
 ghost use Rattle.tre_edges.specs.Piece.{end_of_piece, rest_of_piece};
-ghost use Rattle.tre_pairs.specs.Pairs.{Composed, Either};
-ghost use Rattle.tre_zone.specs.Held.{Held, IsSetOf};
-ghost use Rattle.tre_zone.specs.ZoneList.{HoldExactly};
+ghost use Rattle.tre_zone.specs.Zone.{GivesZone};
+ghost use Rattle.tre_advance.specs.Adds.{Adds};
 ghost use Rattle.tre_advance.specs.Advance.{Advances};
-ghost use Rattle.tre_advance.specs.Moves.{EntersTo, TellsAtom, AreAmong, IsBriefTree, IsLiteralTree};
+ghost use Rattle.tre_advance.specs.Moves.{TellsAtom, HoldsOnOver, IsBriefTree, IsLiteralTree};
 
-use crate::sets::{all_among, ending_at, followed, joined, joined_behind, joined_both, set_of};
-use crate::stepping::take_ends;
+use crate::vectors::{all_among, gather_behind, keep_ending, known};
 use std::alloc::{AllocError, Global};
-use std::mem;
-use tre_edges::{Piece, literal_in};
-use tre_offline::local;
+use tre_edges::{Piece, event_in, fall_in, literal_in, moments_in, rise_in};
 use tre_syntax::Expr;
-use tre_zoneset::ZoneSet;
+use tre_zone::Zone;
 
-/// What enters an atom that lasts no time: at the end of the piece it may begin, and what comes
-/// decides. Nothing has begun, or does.
-pub fn enter_brief(
-    alloc: Global,
-    here: &mut ZoneSet,
-    expr: &Expr,
-    enter: &ZoneSet,
-    piece: &Piece,
-) -> Result<ZoneSet, AllocError>
-    requires numbers { NumbersBelow NAMES_MAX (tree_of expr.now) }
-    requires brief { IsBriefTree (tree_of expr.now) }
-    requires enter { EndBetween piece.now.begin (end_of_piece piece.now) enter.now }
-    ensures { IfOk result (λ told. (begun : List ZoneBounds)
-        → IsWellAt (end_of_piece piece.now) (atom_mark here.old begun) (tree_of expr.now)
-        → EntersTo (atom_mark here.old begun) (tree_of expr.now) enter.now piece.now told
-        (atom_mark here.new begun)) }
-{
-    let inside = inside_of(alloc, expr, piece)?;
-    let told = followed(alloc, enter, &inside)?;
-    take_ends(alloc, here, enter, piece.begin + piece.segment.len)?;
-    Ok(told)
-}
-
-/// What enters a literal: what it tells at the end of the piece may hold on.
-pub fn enter_literal(
-    alloc: Global,
-    here: &mut ZoneSet,
-    begun: &mut ZoneSet,
-    expr: &Expr,
-    enter: &ZoneSet,
-    piece: &Piece,
-) -> Result<ZoneSet, AllocError>
-    requires numbers { NumbersBelow NAMES_MAX (tree_of expr.now) }
-    requires literal { IsLiteralTree (tree_of expr.now) }
-    requires well { IsWellAt (end_of_piece piece.now) (atom_mark here.old begun.old)
-        (tree_of expr.now) }
-    requires enter { EndBetween piece.now.begin (end_of_piece piece.now) enter.now }
-    ensures { IfOk result (λ told. EntersTo (atom_mark here.old begun.old) (tree_of expr.now)
-        enter.now piece.now told (atom_mark here.new begun.new)) }
-{
-    let end = piece.begin + piece.segment.len;
-    let inside = inside_of(alloc, expr, piece)?;
-    let told = followed(alloc, enter, &inside)?;
-    take_ends(alloc, here, enter, end)?;
-    take_ends(alloc, begun, &told, end)?;
-    Ok(told)
-}
-
-/// A piece of an atom that lasts no time, into which the pairs of the set enter on the way. Nothing
-/// has begun, or does.
+/// A piece of an atom that lasts no time, into which the pairs enter on the way. Nothing has begun,
+/// or does.
 pub fn advance_brief(
     alloc: Global,
-    here: &mut ZoneSet,
-    begun: &ZoneSet,
+    here: &mut Vec<Zone>,
+    begun: &[Zone],
+    mid: &mut Vec<Zone>,
     expr: &Expr,
-    entering: &ZoneSet,
+    entering: &[Zone],
     piece: &Piece,
-) -> Result<ZoneSet, AllocError>
+    told: &mut Vec<Zone>,
+) -> Result<(), AllocError>
     requires numbers { NumbersBelow NAMES_MAX (tree_of expr.now) }
     requires brief { IsBriefTree (tree_of expr.now) }
-    requires well { IsWellAt piece.now.begin (atom_mark here.old begun.now) (tree_of expr.now) }
+    requires well { IsWellAt piece.now.begin (atom_mark here.old.items begun.now)
+        (tree_of expr.now) }
     requires enter { EndBetween piece.now.begin (end_of_piece piece.now) entering.now }
-    ensures { IfOk result (λ told. Advances (atom_mark here.old begun.now) (tree_of expr.now)
-        entering.now piece.now told (atom_mark here.new begun.now)) }
+    ensures { OnOk result (Adds told.old.items told.new.items (λ added.
+        Advances (atom_mark here.old.items begun.now) (tree_of expr.now) entering.now piece.now
+        added (atom_mark here.new.items begun.now))) }
 {
-    if are_empty(here, begun, entering) {
-        return Ok(ZoneSet::new(alloc));
-    }
-    let none = ZoneSet::new(alloc);
-    let told = tell_atom(alloc, here, none, expr, entering, piece)?;
-    *here = ending_at(alloc, entering, piece.begin + piece.segment.len)?;
-    Ok(told)
+    mid.clear();
+    tell_atom(here, begun, expr, entering, piece, mid)?;
+    keep_ending(alloc, here, entering, piece.begin + piece.segment.len)?;
+    told.extend_from_slice(mid)?;
+    Ok(())
 }
 
 /// The same of a literal: what it tells at the end of the piece may hold on.
 pub fn advance_literal(
     alloc: Global,
-    here: &mut ZoneSet,
-    begun: &mut ZoneSet,
+    here: &mut Vec<Zone>,
+    begun: &mut Vec<Zone>,
+    mid: &mut Vec<Zone>,
     expr: &Expr,
-    entering: &ZoneSet,
+    entering: &[Zone],
     piece: &Piece,
-) -> Result<ZoneSet, AllocError>
+    told: &mut Vec<Zone>,
+) -> Result<(), AllocError>
     requires numbers { NumbersBelow NAMES_MAX (tree_of expr.now) }
     requires literal { IsLiteralTree (tree_of expr.now) }
-    requires well { IsWellAt piece.now.begin (atom_mark here.old begun.old) (tree_of expr.now) }
+    requires well { IsWellAt piece.now.begin (atom_mark here.old.items begun.old.items)
+        (tree_of expr.now) }
     requires enter { EndBetween piece.now.begin (end_of_piece piece.now) entering.now }
-    ensures { IfOk result (λ told. Advances (atom_mark here.old begun.old) (tree_of expr.now)
-        entering.now piece.now told (atom_mark here.new begun.new)) }
+    ensures { OnOk result (Adds told.old.items told.new.items (λ added.
+        Advances (atom_mark here.old.items begun.old.items) (tree_of expr.now) entering.now
+        piece.now added (atom_mark here.new.items begun.new.items))) }
 {
-    if are_empty(here, begun, entering) {
-        return Ok(ZoneSet::new(alloc));
-    }
     let end = piece.begin + piece.segment.len;
-    let old = mem::replace(begun, ZoneSet::new(alloc));
-    let told = tell_atom(alloc, here, old, expr, entering, piece)?;
-    *here = ending_at(alloc, entering, end)?;
-    *begun = ending_at(alloc, &told, end)?;
-    Ok(told)
+    mid.clear();
+    tell_atom(here, begun, expr, entering, piece, mid)?;
+    keep_ending(alloc, here, entering, end)?;
+    keep_ending(alloc, begun, mid, end)?;
+    told.extend_from_slice(mid)?;
+    Ok(())
 }
 
-// What an atom tells over the piece. What has begun is told too, and so given away.
+// What an atom tells over the piece.
 fn tell_atom(
-    alloc: Global,
-    here: &ZoneSet,
-    begun: ZoneSet,
+    here: &[Zone],
+    begun: &[Zone],
     expr: &Expr,
-    entering: &ZoneSet,
+    entering: &[Zone],
     piece: &Piece,
-) -> Result<ZoneSet, AllocError>
-    requires { NumbersBelow NAMES_MAX (tree_of expr.now) }
-    ensures { IfOk result (λ told.
-        TellsAtom here.now begun entering.now (tree_of expr.now) piece.now told) }
+    told: &mut Vec<Zone>,
+) -> Result<(), AllocError>
+    requires numbers { NumbersBelow NAMES_MAX (tree_of expr.now) }
+    requires atom { IsBriefTree (tree_of expr.now) ⊎ IsLiteralTree (tree_of expr.now) }
+    requires well { IsWellAt piece.now.begin (atom_mark here.now begun.now) (tree_of expr.now) }
+    requires none { told.old.items ≡ [] }
+    ensures { OnOk result (TellsAtom here.now begun.now entering.now (tree_of expr.now) piece.now
+        told.new.items) }
 {
-    let inside = inside_of(alloc, expr, piece)?;
-    let going = going_on(alloc, here, &begun, entering, &inside)?;
-    joined_behind(begun, going)
+    match inside_of(expr, piece) {
+        None => {
+            told.extend_from_slice(begun)?;
+            Ok(())
+        }
+        Some(inside) => gather_all(here, begun, entering, &inside, piece, told),
+    }
 }
 
 // The matches of the atom inside the piece.
-fn inside_of(alloc: Global, expr: &Expr, piece: &Piece) -> Result<ZoneSet, AllocError>
-    requires { NumbersBelow NAMES_MAX (tree_of expr.now) }
-    ensures { IfOk result (λ inside.
-        HoldExactly inside (MatchesRest (tree_of expr.now) (rest_of_piece piece.now))) }
+fn inside_of(expr: &Expr, piece: &Piece) -> Option<Zone>
+    requires numbers { NumbersBelow NAMES_MAX (tree_of expr.now) }
+    requires atom { IsBriefTree (tree_of expr.now) ⊎ IsLiteralTree (tree_of expr.now) }
+    ensures { GivesZone result (MatchesRest (tree_of expr.now) (rest_of_piece piece.now)) }
 {
     match expr {
-        Expr::Lit(state) => set_of(alloc, literal_in(state, piece)),
-        _ => local(alloc, expr, piece),
+        Expr::Eps => Some(moments_in(piece)),
+        Expr::Lit(state) => literal_in(state, piece),
+        Expr::Rise(state) => rise_in(state, piece),
+        Expr::Fall(state) => fall_in(state, piece),
+        Expr::Event(number) => event_in(*number, piece),
+        _ => unreachable!(),
     }
 }
 
-// Whether nothing is here, has begun or enters.
-fn are_empty(here: &ZoneSet, begun: &ZoneSet, entering: &ZoneSet) -> bool
-    ensures { IsTrue result → (here.now ≡ []) × (begun.now ≡ []) × (entering.now ≡ []) }
+// Adds what has begun, which holds on over the piece, and the pairs that are here or enter, each
+// followed by one of the zone.
+fn gather_all(
+    here: &[Zone],
+    begun: &[Zone],
+    entering: &[Zone],
+    inside: &Zone,
+    piece: &Piece,
+    found: &mut Vec<Zone>,
+) -> Result<(), AllocError>
+    requires { found.old.items ≡ [] }
+    ensures { OnOk result (HoldsOnOver here.now begun.now entering.now inside.now piece.now
+        found.new.items) }
 {
-    here.is_empty() && begun.is_empty() && entering.is_empty()
-}
-
-// The pairs that are here, have begun or enter, each followed by one of those inside the piece.
-fn going_on(
-    alloc: Global,
-    here: &ZoneSet,
-    begun: &ZoneSet,
-    entering: &ZoneSet,
-    inside: &ZoneSet,
-) -> Result<ZoneSet, AllocError>
-    ensures { IfOk result (λ going. IsSetOf going (Composed
-        (Either (Either (Held here.now) (Held begun.now)) (Held entering.now))
-        (Held inside.now))) }
-{
-    if inside.is_empty() {
-        return Ok(ZoneSet::new(alloc));
+    known(here);
+    known(begun);
+    known(entering);
+    let _bounds = inside.bounds();
+    let onward = Zone::onward(piece.begin, piece.begin + piece.segment.len);
+    let _long = onward.bounds();
+    gather_behind(found, begun, &onward)?;
+    gather_behind(found, entering, inside)?;
+    if all_among(here, entering) {
+        return Ok(());
     }
-    if enter_alone(here, begun, entering) {
-        return followed(alloc, entering, inside);
-    }
-    let before = joined_both(alloc, here, begun)?;
-    let starts = joined(before, entering)?;
-    followed(alloc, &starts, inside)
-}
-
-// Whether nothing has begun, and all that is here enters too.
-fn enter_alone(here: &ZoneSet, begun: &ZoneSet, entering: &ZoneSet) -> bool
-    ensures { IsTrue result → (begun.now ≡ []) × AreAmong here.now entering.now }
-{
-    begun.is_empty() && all_among(here, entering)
+    gather_behind(found, here, inside)
 }

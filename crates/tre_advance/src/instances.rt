@@ -1,120 +1,309 @@
-// What an intersection or a restriction that has begun tells, and what is left of it.
-ghost use Rattle.std.specs.Prelude.{◌≤◌, IfOk};
-ghost use Rattle.tre_pairs.specs.Pairs.{Composed, Both, Lasting};
+// What an intersection or a restriction tells that has begun, and what is left of it.
+ghost use Rattle.std.specs.Prelude.{◌≡◌, ◌≤◌, ◌↔◌, List, [], IsTrue, OnOk};
+ghost use Rattle.tre_pairs.specs.Pairs.{Composed, Either, Both, Lasting};
+ghost use Rattle.tre_syntax.specs.Expr.{tree_of};
+ghost use Rattle.tre_syntax.specs.PatternTree.{PatternTree, intersection, restriction};
 ghost use Rattle.tre_zone.specs.Interval.{LastsWithin};
 ghost use Rattle.tre_zone.specs.Held.{Held, EndBy, IsLatest, IsSetOf};
-ghost use Rattle.tre_mark.specs.MarkTree.{mark_of};
-ghost use Rattle.tre_advance.specs.Instances.{LeavesRestriction, LeavesIntersection};
+ghost use Rattle.tre_zone.specs.ZoneList.{SetHolds, HoldExactly};
+ghost use Rattle.tre_zone.specs.declared.zone_bounds.ZoneBounds.{ZoneBounds};
+ghost use Rattle.tre_edges.specs.Piece.{end_of_piece};
+ghost use Rattle.tre_mark.specs.MarkTree.{MarkTree, mark_of, intersection_of, restriction_of};
+ghost use Rattle.tre_mark.specs.Marked.{EndBetween, IsWellAt, IsUnbegun};
+ghost use Rattle.tre_advance.specs.Adds.{Adds};
+ghost use Rattle.tre_advance.specs.Advance.{Advances};
+ghost use Rattle.tre_advance.specs.Instances.{IsRestriction, IsIntersection, LeavesRestriction, LeavesIntersection};
+ghost use Rattle.tre_advance.specs.Moves.{AreMomentsFor, AreInstants};
 
-use crate::sets::{followed, met, within};
-use crate::shortening::{is_past, recent, shorten};
+use crate::shortening::{is_past, keep_recent, shorten};
+use crate::vectors::{gather_each, gather_meets, is_none, known, unite};
 use std::alloc::{AllocError, Global};
-use tre_mark::{Mark, intersection, restriction};
-use tre_zone::{Interval, latest_end};
-use tre_zoneset::ZoneSet;
+use tre_edges::Piece;
+use tre_mark::{Mark, Room};
+use tre_syntax::Expr;
+use tre_zone::{Interval, Zone, latest_end};
+use tre_zoneset::gather;
 
-/// What a restriction that began behind each pair of `outer` tells where its body told `ended`.
-pub fn tell_lasting(
+/// Whether nothing has begun, and nothing enters.
+pub fn is_idle(outer: &[Zone], entering: &[Zone]) -> bool
+    ensures { IsTrue result → (outer.now ≡ []) × (entering.now ≡ []) }
+{
+    outer.is_empty() && entering.is_empty()
+}
+
+/// The mark of what a restriction restricts is made unbegun where the restriction has not begun.
+pub fn make_ready(
     alloc: Global,
-    outer: &ZoneSet,
-    ended: &ZoneSet,
+    to: u64,
+    outer: &[Zone],
+    inner: &mut Mark,
+    body: &Expr,
     interval: &Interval,
-) -> Result<ZoneSet, AllocError>
-    ensures { IfOk result (λ zones. IsSetOf zones
-        (Composed (Held outer.now) (Lasting (LastsWithin interval.now) (Held ended.now)))) }
+    piece: &Piece,
+) -> Result<(), AllocError>
+    requires { IsWellAt piece.now.begin (restriction_of to outer.now (mark_of inner.old))
+        (restriction (tree_of body.now) interval.now) }
+    ensures is { OnOk result (IsRestriction (tree_of body.now) interval.now outer.now
+        (mark_of inner.new) (restriction_of to outer.now (mark_of inner.old))) }
+    ensures well { OnOk result (IsWellAt piece.now.begin (mark_of inner.new) (tree_of body.now)) }
+    ensures ends { EndBy piece.now.begin outer.now }
 {
-    let lasting = within(alloc, ended, interval)?;
-    followed(alloc, outer, &lasting)
+    if is_none(outer) {
+        return reset(alloc, inner, body);
+    }
+    Ok(())
 }
 
-/// What an intersection that began behind each pair of `outer` tells where its sides told these.
-pub fn tell_both(
-    alloc: Global,
-    outer: &ZoneSet,
-    one: &ZoneSet,
-    other: &ZoneSet,
-) -> Result<ZoneSet, AllocError>
-    ensures { IfOk result (λ zones. IsSetOf zones
-        (Composed (Held outer.now) (Both (Held one.now) (Held other.now)))) }
+// Nothing has begun of the mark.
+fn reset(alloc: Global, mark: &mut Mark, expr: &Expr) -> Result<(), AllocError>
+    ensures { OnOk result (IsUnbegun (mark_of mark.new) (tree_of expr.now)) }
 {
-    let both = met(alloc, one, other)?;
-    followed(alloc, outer, &both)
+    let fresh = Mark::empty(alloc, expr)?;
+    *mark = fresh;
+    Ok(())
 }
 
-/// What is left at the time of a restriction, without what can no longer count in its interval:
-/// nothing where it is too old or its body has nothing left.
-pub fn leave_lasting(
+/// Moments for what enters: those that enter serve, else all of the piece do.
+pub fn moments_for(
+    entering: &[Zone],
+    piece: &Piece,
+    moments: &mut Vec<Zone>,
+) -> Result<(), AllocError>
+    requires { EndBetween piece.now.begin (end_of_piece piece.now) entering.now }
+    ensures { OnOk result (AreMomentsFor entering.now piece.now moments.new.items) }
+{
+    moments.clear();
+    if are_instants(entering) {
+        moments.extend_from_slice(entering)?;
+        return Ok(());
+    }
+    moments.push(Zone::instants(piece.begin, piece.begin + piece.segment.len))?;
+    Ok(())
+}
+
+fn are_instants(zones: &[Zone]) -> bool
+    ensures { IsTrue result → AreInstants zones.now }
+{
+    for zone in zones {
+        if !zone.is_up_to(Some(0)) {
+            return false;
+        }
+    }
+    true
+}
+
+// The pairs behind which something began before or begins in the piece.
+fn enter_outer(alloc: Global, outer: &mut Vec<Zone>, entering: &[Zone]) -> Result<(), AllocError>
+    ensures { OnOk result (IsSetOf outer.new.items
+        (Either (Held outer.old.items) (Held entering.now))) }
+{
+    outer.extend_from_slice(entering)?;
+    unite(alloc, outer)
+}
+
+/// A restriction goes on as its body does, behind what was there and what enters. The body told
+/// what is in the middle of the room.
+pub fn go_on_lasting(
     alloc: Global,
-    outer: ZoneSet,
-    body: Mark,
+    to: &mut u64,
+    outer: &mut Vec<Zone>,
+    inner: &mut Mark,
+    room: &mut Room,
+    interval: &Interval,
+    entering: &[Zone],
+    piece: &Piece,
+    told: &mut Vec<Zone>,
+) -> Result<(), AllocError>
+    requires ends { EndBy piece.now.begin outer.old.items }
+    requires enter { EndBetween piece.now.begin (end_of_piece piece.now) entering.now }
+    ensures { OnOk result ((tree : PatternTree) (moments : List ZoneBounds)
+        (one mark : MarkTree) → AreMomentsFor entering.now piece.now moments
+        → Advances one tree moments piece.now room.old.mid.items (mark_of inner.old)
+        → IsRestriction tree interval.now outer.old.items one mark
+        → Adds told.old.items told.new.items (λ added. Advances mark
+        (restriction tree interval.now) entering.now piece.now added
+        (restriction_of to.new outer.new.items (mark_of inner.new)))) }
+{
+    let end = piece.begin + piece.segment.len;
+    enter_outer(alloc, outer, entering)?;
+    tell_lasting(outer, room, interval)?;
+    told.extend_from_slice(&room.mid)?;
+    leave_lasting(to, outer, inner, room, interval, end)?;
+    Ok(())
+}
+
+// What a restriction that began behind each pair of `outer` tells where its body told what is in
+// the middle of the room: it takes its place.
+fn tell_lasting(outer: &[Zone], room: &mut Room, interval: &Interval) -> Result<(), AllocError>
+    ensures { OnOk result (IsSetOf room.new.mid.items (Composed (Held outer.now)
+        (Lasting (LastsWithin interval.now) (Held room.old.mid.items)))) }
+{
+    room.aux.clear();
+    gather_within(&mut room.aux, &room.mid, interval)?;
+    room.mid.clear();
+    known(outer);
+    known(&room.aux);
+    gather_each(&mut room.mid, outer, &room.aux)?;
+    Ok(())
+}
+
+/// Adds the pairs of the zones whose duration is in the interval.
+pub fn gather_within(
+    found: &mut Vec<Zone>,
+    zones: &[Zone],
+    interval: &Interval,
+) -> Result<(), AllocError>
+    ensures { OnOk result (HoldExactly found.new.items (Either (SetHolds found.old.items)
+        (Lasting (LastsWithin interval.now) (SetHolds zones.now)))) }
+{
+    for zone in zones {
+        gather(found, zone.within(interval))?;
+    }
+    Ok(())
+}
+
+// What is left of it at the time, without what can no longer count in its interval.
+fn leave_lasting(
+    to: &mut u64,
+    outer: &mut Vec<Zone>,
+    inner: &mut Mark,
+    room: &mut Room,
     interval: &Interval,
     time: u64,
-) -> Result<Mark, AllocError>
-    requires { EndBy time outer }
-    ensures { IfOk result (λ mark.
-        LeavesRestriction time interval.now outer (mark_of body) (mark_of mark)) }
+) -> Result<(), AllocError>
+    requires { EndBy time outer.old.items }
+    ensures { OnOk result (LeavesRestriction time interval.now outer.old.items (mark_of inner.old)
+        (restriction_of to.new outer.new.items (mark_of inner.new))) }
 {
     let longest = interval.up_to(None);
-    let outer = recent(alloc, outer, interval, time)?;
-    let body = shorten(alloc, body, longest)?;
-    keep_lasting(alloc, outer, body, interval, time)
+    keep_recent(outer, &mut room.aux, interval, time)?;
+    shorten(inner, longest)?;
+    keep_lasting(to, outer, inner, interval, time);
+    Ok(())
 }
 
 // What is kept of it.
-fn keep_lasting(
-    alloc: Global,
-    outer: ZoneSet,
-    body: Mark,
-    interval: &Interval,
-    time: u64,
-) -> Result<Mark, AllocError>
-    requires { EndBy time outer }
-    ensures { IfOk result (λ mark.
-        LeavesRestriction time interval.now outer (mark_of body) (mark_of mark)) }
+fn keep_lasting(to: &mut u64, outer: &mut Vec<Zone>, body: &Mark, interval: &Interval, time: u64)
+    requires { EndBy time outer.old.items }
+    ensures { LeavesRestriction time interval.now outer.old.items (mark_of body.now)
+        (restriction_of to.new outer.new.items (mark_of body.now)) }
 {
-    if outer.is_empty() {
-        return Ok(Mark::NoWithin);
+    if is_none(outer) {
+        return;
     }
     if body.is_nothing() {
-        return Ok(Mark::NoWithin);
+        outer.clear();
+        return;
     }
-    let to = ended_by(&outer, time);
-    if is_past(to, interval, time) {
-        return Ok(Mark::NoWithin);
+    let last = ended_by(outer, time);
+    if is_past(last, interval, time) {
+        outer.clear();
+        return;
     }
-    restriction(alloc, to, outer, body)
+    *to = last;
 }
 
-/// What is left at the time of an intersection: nothing where one of its sides has nothing left.
-pub fn leave_both(
-    alloc: Global,
-    outer: ZoneSet,
-    left: Mark,
-    right: Mark,
-    time: u64,
-) -> Result<Mark, AllocError>
-    requires { EndBy time outer }
-    ensures { IfOk result (λ mark.
-        LeavesIntersection time outer (mark_of left) (mark_of right) (mark_of mark)) }
-{
-    if outer.is_empty() {
-        return Ok(Mark::NoMeet);
-    }
-    if left.is_nothing() {
-        return Ok(Mark::NoMeet);
-    }
-    if right.is_nothing() {
-        return Ok(Mark::NoMeet);
-    }
-    let to = ended_by(&outer, time);
-    intersection(alloc, to, outer, left, right)
-}
-
-// The first tick by which each pair of the set has ended.
-fn ended_by(zones: &ZoneSet, time: u64) -> u64
+// The first tick by which each pair of the zones has ended.
+fn ended_by(zones: &[Zone], time: u64) -> u64
     requires { EndBy time zones.now }
     ensures latest { IsLatest result zones.now }
     ensures past { result ≤ time }
 {
-    latest_end(zones.zones())
+    latest_end(zones)
+}
+
+/// The marks of both sides are made unbegun where the intersection has not begun.
+pub fn ready_both(
+    alloc: Global,
+    to: u64,
+    outer: &[Zone],
+    one: &mut Mark,
+    other: &mut Mark,
+    left: &Expr,
+    right: &Expr,
+    piece: &Piece,
+) -> Result<(), AllocError>
+    requires { IsWellAt piece.now.begin
+        (intersection_of to outer.now (mark_of one.old) (mark_of other.old))
+        (intersection (tree_of left.now) (tree_of right.now)) }
+    ensures is { OnOk result (IsIntersection (tree_of left.now) (tree_of right.now) outer.now
+        (mark_of one.new) (mark_of other.new)
+        (intersection_of to outer.now (mark_of one.old) (mark_of other.old))) }
+    ensures one { OnOk result (IsWellAt piece.now.begin (mark_of one.new) (tree_of left.now)) }
+    ensures other { OnOk result
+        (IsWellAt piece.now.begin (mark_of other.new) (tree_of right.now)) }
+    ensures ends { OnOk result (EndBy piece.now.begin outer.now) }
+{
+    if is_none(outer) {
+        reset(alloc, one, left)?;
+        reset(alloc, other, right)?;
+        return Ok(());
+    }
+    Ok(())
+}
+
+/// An intersection goes on as its sides do, behind what was there and what enters. They told what
+/// is in the middle of the room and what more there is in it.
+pub fn go_on_both(
+    alloc: Global,
+    to: &mut u64,
+    outer: &mut Vec<Zone>,
+    one: &Mark,
+    other: &Mark,
+    room: &mut Room,
+    entering: &[Zone],
+    piece: &Piece,
+    told: &mut Vec<Zone>,
+) -> Result<(), AllocError>
+    requires ends { EndBy piece.now.begin outer.old.items }
+    requires enter { EndBetween piece.now.begin (end_of_piece piece.now) entering.now }
+    ensures { OnOk result ((left right : PatternTree) (moments : List ZoneBounds)
+        (old old' mark : MarkTree) → AreMomentsFor entering.now piece.now moments
+        → Advances old left moments piece.now room.old.mid.items (mark_of one.now)
+        → Advances old' right moments piece.now room.old.more.items (mark_of other.now)
+        → IsIntersection left right outer.old.items old old' mark
+        → Adds told.old.items told.new.items (λ added. Advances mark
+        (intersection left right) entering.now piece.now added
+        (intersection_of to.new outer.new.items (mark_of one.now) (mark_of other.now)))) }
+{
+    let end = piece.begin + piece.segment.len;
+    enter_outer(alloc, outer, entering)?;
+    tell_both(outer, room)?;
+    told.extend_from_slice(&room.mid)?;
+    keep_both(to, outer, one, other, end);
+    Ok(())
+}
+
+// What an intersection that began behind each pair of `outer` tells.
+fn tell_both(outer: &[Zone], room: &mut Room) -> Result<(), AllocError>
+    ensures { OnOk result (IsSetOf room.new.mid.items (Composed (Held outer.now)
+        (Both (Held room.old.mid.items) (Held room.old.more.items)))) }
+{
+    room.aux.clear();
+    gather_meets(&mut room.aux, &room.mid, &room.more)?;
+    room.mid.clear();
+    known(outer);
+    known(&room.aux);
+    gather_each(&mut room.mid, outer, &room.aux)?;
+    Ok(())
+}
+
+// What is left of it at the time: nothing where one of its sides has nothing left.
+fn keep_both(to: &mut u64, outer: &mut Vec<Zone>, one: &Mark, other: &Mark, time: u64)
+    requires { EndBy time outer.old.items }
+    ensures { LeavesIntersection time outer.old.items (mark_of one.now) (mark_of other.now)
+        (intersection_of to.new outer.new.items (mark_of one.now) (mark_of other.now)) }
+{
+    if is_none(outer) {
+        return;
+    }
+    if one.is_nothing() {
+        outer.clear();
+        return;
+    }
+    if other.is_nothing() {
+        outer.clear();
+        return;
+    }
+    *to = ended_by(outer, time);
 }

@@ -11,18 +11,19 @@
 //! end.
 //!
 //! ```
-//! let told = advance(alloc, &mut mark, expr, &enter, &piece)?;
+//! let mut told = Vec::new(alloc);
+//! advance(alloc, &mut mark, expr, &enter, &piece, &mut told)?;
 //! ```
 #![tactic(auto)]
 
-mod advancing;
+mod again;
 mod atoms;
-mod closing;
-mod enter;
+mod ending;
 mod instances;
-mod sets;
 mod shortening;
-mod stepping;
+mod tail;
+mod vectors;
+mod walk;
 
-pub use advancing::advance;
-pub use closing::close;
+pub use ending::close;
+pub use walk::advance;

@@ -1,118 +1,108 @@
 // A restriction without what can no longer count in its interval.
-ghost use Rattle.std.specs.Prelude.{◌↔◌, IfOk, OnOk, IsTrue};
-ghost use Rattle.tre_zone.specs.Longest.{IsLongest};
+ghost use Rattle.std.specs.Prelude.{◌≡◌, ◌↔◌, [], IsTrue, OnOk};
+ghost use Rattle.tre_pairs.specs.Pairs.{Either, Lasting};
+ghost use Rattle.tre_zone.specs.Longest.{IsLongest, LastsUpTo};
+ghost use Rattle.tre_zone.specs.ZoneList.{SetHolds, HoldExactly};
 ghost use Rattle.tre_mark.specs.MarkTree.{mark_of};
 ghost use Rattle.tre_advance.specs.Instances.{IsPast};
 ghost use Rattle.tre_advance.specs.Shortening.{Shortens, AreShort, AreRecent, IsOld, KeepsRecent};
 
-use std::alloc::{AllocError, Global};
-use tre_mark::{Mark, alternation, atom, repetition, sequence};
+use crate::vectors::is_none;
+use std::alloc::AllocError;
+use std::mem;
+use tre_mark::Mark;
 use tre_zone::{Interval, Zone};
-use tre_zoneset::ZoneSet;
+use tre_zoneset::gather;
 
-/// The mark without the pairs that last longer than `longest` by now. What began inside an
-/// intersection or a restriction in it stays. Where no pair does, it is the mark itself.
-pub fn shorten(alloc: Global, mark: Mark, longest: Option<u64>) -> Result<Mark, AllocError>
+/// The mark loses the pairs that last longer than `longest` by now. What began inside an
+/// intersection or a restriction in it stays.
+pub fn shorten(mark: &mut Mark, longest: Option<u64>) -> Result<(), AllocError>
     requires { IsLongest longest }
-    ensures { IfOk result (λ short. Shortens longest (mark_of mark) (mark_of short)) }
-{
-    if is_short(&mark, longest) {
-        return Ok(mark);
-    }
-    cut(alloc, mark, longest)
-}
-
-// Whether no pair of the mark lasts longer than `longest`. It goes as deep as the expression does.
-fn is_short(mark: &Mark, longest: Option<u64>) -> bool
-    requires { IsLongest longest }
+    ensures { OnOk result (Shortens longest (mark_of mark.old) (mark_of mark.new)) }
 {
     match mark {
-        Mark::Atom { here, begun } => are_short(here, longest) && are_short(begun, longest),
-        Mark::Seq(left, right) => is_short(left, longest) && is_short(right, longest),
-        Mark::Alt(left, right) => is_short(left, longest) && is_short(right, longest),
-        Mark::Star { here, body } => are_short(here, longest) && is_short(body, longest),
-        _ => true,
-    }
-}
-
-fn are_short(zones: &ZoneSet, longest: Option<u64>) -> bool
-    requires { IsLongest longest }
-{
-    for zone in zones.zones() {
-        if !zone.is_up_to(longest) {
-            return false;
+        Mark::Atom { here, begun, room } => {
+            short(here, &mut room.aux, longest)?;
+            short(begun, &mut room.aux, longest)
         }
-    }
-    true
-}
-
-// The mark without those pairs, made anew. It goes as deep as the expression does.
-fn cut(alloc: Global, mark: Mark, longest: Option<u64>) -> Result<Mark, AllocError>
-    requires { IsLongest longest }
-    ensures { IfOk result (λ short. Shortens longest (mark_of mark) (mark_of short)) }
-{
-    match mark {
-        Mark::Atom { here, begun } => {
-            let here = short(here, longest)?;
-            let begun = short(begun, longest)?;
-            Ok(atom(here, begun))
-        }
-        Mark::Seq(left, right) => {
-            let left = cut(alloc, Box::into_inner(left), longest)?;
-            let right = cut(alloc, Box::into_inner(right), longest)?;
-            sequence(alloc, left, right)
+        Mark::Seq { left, right, .. } => {
+            shorten(left, longest)?;
+            shorten(right, longest)
         }
         Mark::Alt(left, right) => {
-            let left = cut(alloc, Box::into_inner(left), longest)?;
-            let right = cut(alloc, Box::into_inner(right), longest)?;
-            alternation(alloc, left, right)
+            shorten(left, longest)?;
+            shorten(right, longest)
         }
-        Mark::Star { here, body } => {
-            let here = short(here, longest)?;
-            let body = cut(alloc, Box::into_inner(body), longest)?;
-            repetition(alloc, here, body)
+        Mark::Star { here, body, room } => {
+            short(here, &mut room.aux, longest)?;
+            shorten(body, longest)
         }
-        _ => Ok(mark),
+        _ => Ok(()),
     }
 }
 
 // The pairs that last at most `longest`.
-fn short(zones: ZoneSet, longest: Option<u64>) -> Result<ZoneSet, AllocError>
+fn short(zones: &mut Vec<Zone>, aux: &mut Vec<Zone>, longest: Option<u64>) -> Result<(), AllocError>
     requires { IsLongest longest }
-    ensures { IfOk result (λ short. AreShort longest zones short) }
+    ensures { OnOk result (AreShort longest zones.old.items zones.new.items) }
 {
-    if zones.is_empty() {
-        return Ok(zones);
+    if is_none(zones) {
+        return Ok(());
     }
-    zones.up_to(longest)
+    aux.clear();
+    gather_short(aux, zones, longest)?;
+    mem::swap(zones, aux);
+    Ok(())
 }
 
-/// The zones of the set behind which something may still be in the interval where it ends at the
-/// time or later.
-pub fn recent(
-    alloc: Global,
-    zones: ZoneSet,
+fn gather_short(
+    found: &mut Vec<Zone>,
+    zones: &[Zone],
+    longest: Option<u64>,
+) -> Result<(), AllocError>
+    requires { IsLongest longest }
+    ensures { OnOk result (HoldExactly found.new.items (Either (SetHolds found.old.items)
+        (Lasting (LastsUpTo longest) (SetHolds zones.now)))) }
+{
+    for zone in zones {
+        gather(found, zone.up_to(longest))?;
+    }
+    Ok(())
+}
+
+/// The zones stay behind which something may still be in the interval where it ends at the time or
+/// later.
+pub fn keep_recent(
+    zones: &mut Vec<Zone>,
+    aux: &mut Vec<Zone>,
     interval: &Interval,
     time: u64,
-) -> Result<ZoneSet, AllocError>
-    ensures { IfOk result (λ recent. AreRecent interval.now time zones recent) }
+) -> Result<(), AllocError>
+    ensures { OnOk result (AreRecent interval.now time zones.old.items zones.new.items) }
 {
-    if !zones
-        .zones()
-        .iter()
-        .any(|zone| is_old(zone, interval, time))
-    {
-        return Ok(zones);
+    aux.clear();
+    gather_recent(aux, zones, interval, time)?;
+    mem::swap(zones, aux);
+    Ok(())
+}
+
+fn gather_recent(
+    found: &mut Vec<Zone>,
+    zones: &[Zone],
+    interval: &Interval,
+    time: u64,
+) -> Result<(), AllocError>
+    requires { found.old.items ≡ [] }
+    ensures { OnOk result (AreRecent interval.now time zones.now found.new.items) }
+{
+    for zone in zones {
+        push_recent(found, zone, interval, time)?;
     }
-    let mut kept = Vec::new(alloc);
-    for zone in zones.zones() {
-        keep_recent(&mut kept, zone, interval, time)?;
-    }
-    ZoneSet::of_zones(alloc, kept)
+    Ok(())
 }
 
 // Adds the zone to the list, unless it is old.
-fn keep_recent(
+fn push_recent(
     kept: &mut Vec<Zone>,
     zone: &Zone,
     interval: &Interval,

@@ -1,19 +1,23 @@
 -- A mark stands for what residuals of its parts stand for.
-use Rattle.std.proofs.Common.{◌≡◌, ℕ, ◌*◌, ◌<◌, ◌↔◌, List, [], inl, inr, ⊎_elim, refl, sym, subst}
+use Rattle.std.proofs.Common.{◌≡◌, ℕ, ◌*◌, ◌<◌, ◌↔◌, List, [], ◌∷◌, inl, inr, ⊎_elim, refl, sym, subst}
 use Rattle.tre_zone.specs.Held.{Held, EndAt}
 use Rattle.tre_zone.specs.Interval.{IntervalEnds}
 use Rattle.tre_zone.specs.declared.zone_bounds.ZoneBounds.{ZoneBounds}
+use Rattle.tre_zone.specs.ZoneList.{SetHolds, HoldExactly}
 use Rattle.tre_zone.proofs.HeldSets.{Held-empty}
 use Rattle.tre_syntax.specs.Cut.{uncut}
 use Rattle.tre_syntax.specs.PatternTree.{Atom, PatternTree, empty, literal, rise, fall, event, atom, sequence, alternation, intersection, repetition, restriction}
 use Rattle.tre_syntax.specs.Rest.{Rest}
 use Rattle.tre_edges.specs.Piece.{rest_of_piece, cut_behind}
 use Rattle.tre_edges.specs.declared.piece.Piece.{Piece}
-use Rattle.tre_mark.specs.MarkTree.{MarkTree, atom_mark, sequence_mark, alternation_mark, repetition_mark, intersection_none, intersection_one, restriction_none, restriction_one}
+use Rattle.tre_mark.specs.MarkTree.{MarkTree, atom_mark, sequence_mark, alternation_mark, repetition_mark, intersection_none, intersection_one, intersection_of, restriction_none, restriction_one, restriction_of}
 use Rattle.tre_mark.specs.Marked.{IsWell}
+use Rattle.tre_mark.proofs.Agreeing.{agree_refl, agree_composed}
 use Rattle.tre_advance.specs.Moves.{IsBriefTree, IsLiteralTree}
+use Rattle.tre_advance.proofs.Lists.{held_again}
 use Rattle.tre_residual.specs.Residual.{ResidualTree, nothing, here, joined, preceded, followed, either, both, lasting, marked, Means}
 use Rattle.tre_derive.specs.Derivative.{StepsTo}
+use Rattle.tre_derive.proofs.StepsOfForms.{step_here}
 
 -- Where two residuals stand for the same pairs as the piece begins, what one does the other does.
 module _ (piece : Piece) (one other : ResidualTree)
@@ -40,6 +44,36 @@ module _ (piece : Piece) (one other : ResidualTree)
       well = steps.leaves.well;
     };
   }
+
+-- What is said of a set is said of the zones that it is of.
+module _ (piece : Piece) (set zones : List ZoneBounds) (held : HoldExactly set (SetHolds zones))
+    (told : List ZoneBounds) (rest : ResidualTree) where
+  pub joined_alike : (tree : PatternTree) → StepsTo (joined set tree) piece told rest
+      → StepsTo (joined zones tree) piece told rest
+  joined_alike tree steps = steps_alike piece (joined set tree) (joined zones tree)
+      (λ rest at a b n some.
+      let same = (held_again set zones held).at a (rest.start * n) n some in (
+        (λ h. record { left = same.0 h.left; right = h.right }),
+        (λ h. record { left = same.1 h.left; right = h.right }),
+      )) told rest steps
+
+  pub preceded_alike : (residual : ResidualTree) → StepsTo (preceded set residual) piece told rest
+      → StepsTo (preceded zones residual) piece told rest
+  preceded_alike residual steps =
+      steps_alike piece (preceded set residual) (preceded zones residual)
+      (λ rest at.
+      (agree_composed (held_again set zones held) (agree_refl (Means residual rest))).at)
+      told rest steps
+
+pub here_alike : (piece : Piece) (set zones : List ZoneBounds)
+    → HoldExactly set (SetHolds zones) → EndAt piece.begin zones
+    → StepsTo (here zones) piece set nothing
+here_alike piece set zones held ends =
+    let same = held_again set zones held in
+    steps_alike piece (here set) (here zones)
+    (λ rest at a b n some. same.at a b n some) set nothing
+    (step_here piece set set
+    (record { ends = λ a b n some h. ends.ends a b n some ((same.at a b n some).0 h) }) refl)
 
 -- ---- atoms
 
@@ -161,32 +195,45 @@ module _ (piece : Piece) (told : List ZoneBounds) (rest : ResidualTree) where
   pub steps_intersection : (to : ℕ) (outer : List ZoneBounds) (one other : MarkTree)
       (left right : PatternTree)
       → StepsTo (preceded outer (both (marked one left) (marked other right))) piece told rest
-      → StepsTo (marked (intersection_one to outer one other) (intersection left right)) piece told
+      → (outer ≡ [] → ⊥)
+      → StepsTo (marked (intersection_of to outer one other) (intersection left right)) piece told
       rest
-  steps_intersection to outer one other left right steps =
-      steps_alike piece (preceded outer (both (marked one left) (marked other right)))
-      (marked (intersection_one to outer one other) (intersection left right))
+  steps_intersection to [] one other left right steps some = absurd (some refl)
+  steps_intersection to (zone ∷ zones) one other left right steps some =
+      steps_alike piece (preceded (zone ∷ zones) (both (marked one left) (marked other right)))
+      (marked (intersection_one to (zone ∷ zones) one other) (intersection left right))
       (λ rest at a b n some. ((λ h. h), (λ h. h))) told rest steps
 
   pub steps_restriction : (to : ℕ) (outer : List ZoneBounds) (body : MarkTree)
       (tree : PatternTree) (interval : IntervalEnds)
       → StepsTo (preceded outer (lasting (marked body tree) interval)) piece told rest
-      → StepsTo (marked (restriction_one to outer body) (restriction tree interval)) piece told
+      → (outer ≡ [] → ⊥)
+      → StepsTo (marked (restriction_of to outer body) (restriction tree interval)) piece told
       rest
-  steps_restriction to outer body tree interval steps =
-      steps_alike piece (preceded outer (lasting (marked body tree) interval))
-      (marked (restriction_one to outer body) (restriction tree interval))
+  steps_restriction to [] body tree interval steps some = absurd (some refl)
+  steps_restriction to (zone ∷ zones) body tree interval steps some =
+      steps_alike piece (preceded (zone ∷ zones) (lasting (marked body tree) interval))
+      (marked (restriction_one to (zone ∷ zones) body) (restriction tree interval))
       (λ rest at a b n some. ((λ h. h), (λ h. h))) told rest steps
 
-  pub steps_no_intersection : (left right : PatternTree) → StepsTo nothing piece told rest
-      → StepsTo (marked intersection_none (intersection left right)) piece told rest
-  steps_no_intersection left right steps =
-      steps_alike piece nothing (marked intersection_none (intersection left right))
-      (λ rest at a b n some. ((λ h. h), (λ h. h))) told rest steps
+  pub steps_no_intersection : (to : ℕ) (outer : List ZoneBounds) (one other : MarkTree)
+      (left right : PatternTree) → outer ≡ [] → StepsTo nothing piece told rest
+      → StepsTo (marked (intersection_of to outer one other) (intersection left right)) piece told
+      rest
+  steps_no_intersection to outer one other left right none steps =
+      subst (λ (list : List ZoneBounds). StepsTo
+      (marked (intersection_of to list one other) (intersection left right)) piece told rest)
+      (sym none)
+      (steps_alike piece nothing (marked intersection_none (intersection left right))
+      (λ rest at a b n some. ((λ h. h), (λ h. h))) told rest steps)
 
-  pub steps_no_restriction : (tree : PatternTree) (interval : IntervalEnds)
-      → StepsTo nothing piece told rest
-      → StepsTo (marked restriction_none (restriction tree interval)) piece told rest
-  steps_no_restriction tree interval steps =
-      steps_alike piece nothing (marked restriction_none (restriction tree interval))
-      (λ rest at a b n some. ((λ h. h), (λ h. h))) told rest steps
+  pub steps_no_restriction : (to : ℕ) (outer : List ZoneBounds) (body : MarkTree)
+      (tree : PatternTree) (interval : IntervalEnds) → outer ≡ [] → StepsTo nothing piece told rest
+      → StepsTo (marked (restriction_of to outer body) (restriction tree interval)) piece told
+      rest
+  steps_no_restriction to outer body tree interval none steps =
+      subst (λ (list : List ZoneBounds). StepsTo
+      (marked (restriction_of to list body) (restriction tree interval)) piece told rest)
+      (sym none)
+      (steps_alike piece nothing (marked restriction_none (restriction tree interval))
+      (λ rest at a b n some. ((λ h. h), (λ h. h))) told rest steps)

@@ -4,20 +4,23 @@ ghost use Rattle.tre_state.specs.declared.names.TheConstants.{NAMES_MAX};
 ghost use Rattle.tre_syntax.specs.Expr.{tree_of};
 ghost use Rattle.tre_syntax.specs.PatternTree.{NumbersBelow, sequence, alternation, intersection, repetition, restriction};
 ghost use Rattle.tre_zone.specs.declared.zone_bounds.ZoneBounds.{ZoneBounds};
-ghost use Rattle.tre_residual.specs.Residual.{marked, residual_tree};
+ghost use Rattle.tre_edges.specs.declared.piece.Piece.{Piece};
+ghost use Rattle.tre_zone.specs.Held.{EndAt};
+ghost use Rattle.tre_residual.specs.Residual.{here, joined, marked, residual_tree};
 ghost use Rattle.tre_mark.specs.MarkTree.{mark_of, atom_mark};
 ghost use Rattle.tre_mark.specs.Marked.{IsWellAt};
 ghost use Rattle.tre_advance.specs.Moves.{IsBriefTree, IsLiteralTree};
 ghost use Rattle.tre_derive.specs.Derivative.{StepsTo, IsStepOfNothing};
 
 use crate::forms::{begin_now, choose, follow, meet, precede, restrict};
+use crate::sets::{is_none, set_of};
 use crate::stepped::Stepped;
 use std::alloc::{AllocError, Global};
 use tre_edges::Piece;
 use tre_mark::Mark;
 use tre_residual::Residual;
 use tre_syntax::Expr;
-use tre_zone::Interval;
+use tre_zone::{Interval, Zone};
 use tre_zoneset::ZoneSet;
 
 /// What a mark stands for goes on over the piece.
@@ -59,7 +62,11 @@ fn sequence_goes_on(
         piece.now whole.told (residual_tree whole.rest)) }
 {
     match mark {
-        Mark::Seq(one, other) => {
+        Mark::Seq {
+            left: one,
+            right: other,
+            ..
+        } => {
             let inner = go_on(alloc, one, left, piece)?;
             let first = follow(alloc, inner, right, piece)?;
             let second = go_on(alloc, other, right, piece)?;
@@ -112,8 +119,12 @@ fn repetition_goes_on(
         (residual_tree whole.rest)) }
 {
     match mark {
-        Mark::Star { here, body: part } => {
-            let first = begin_now(alloc, here, expr, piece)?;
+        Mark::Star {
+            here,
+            body: part,
+            ..
+        } => {
+            let first = begin_here(alloc, here, expr, piece)?;
             let inner = go_on(alloc, part, body, piece)?;
             let second = follow(alloc, inner, expr, piece)?;
             choose(alloc, first, second)
@@ -139,17 +150,20 @@ fn intersection_goes_on(
         piece.now whole.told (residual_tree whole.rest)) }
 {
     match mark {
-        Mark::NoMeet => Ok(nothing(alloc)),
         Mark::Meet {
             outer,
             left: one,
             right: other,
             ..
         } => {
+            if is_none(outer) {
+                return Ok(nothing(alloc));
+            }
+            let zones = set_of(alloc, outer)?;
             let first = go_on(alloc, one, left, piece)?;
             let second = go_on(alloc, other, right, piece)?;
             let both = meet(alloc, first, second)?;
-            precede(alloc, outer, both)
+            precede(alloc, &zones, both)
         }
         _ => unreachable!(),
     }
@@ -171,15 +185,18 @@ fn restriction_goes_on(
         piece.now whole.told (residual_tree whole.rest)) }
 {
     match mark {
-        Mark::NoWithin => Ok(nothing(alloc)),
         Mark::Within {
             outer,
             body: inner,
             ..
         } => {
+            if is_none(outer) {
+                return Ok(nothing(alloc));
+            }
+            let zones = set_of(alloc, outer)?;
             let next = go_on(alloc, inner, body, piece)?;
             let lasting = restrict(alloc, next, interval)?;
-            precede(alloc, outer, lasting)
+            precede(alloc, &zones, lasting)
         }
         _ => unreachable!(),
     }
@@ -199,7 +216,7 @@ fn atom_goes_on(
         (residual_tree whole.rest)) }
 {
     match mark {
-        Mark::Atom { here, begun } => match expr {
+        Mark::Atom { here, begun, .. } => match expr {
             Expr::Lit(_) => literal_goes_on(alloc, here, begun, expr, piece),
             _ => brief_goes_on(alloc, here, expr, piece),
         },
@@ -210,7 +227,7 @@ fn atom_goes_on(
 // An atom that lasts no time begins as the piece does.
 fn brief_goes_on(
     alloc: Global,
-    here: &ZoneSet,
+    here: &[Zone],
     expr: &Expr,
     piece: &Piece,
 ) -> Result<Stepped, AllocError>
@@ -221,14 +238,14 @@ fn brief_goes_on(
         → StepsTo (marked (atom_mark here.now begun) (tree_of expr.now)) piece.now whole.told
         (residual_tree whole.rest)) }
 {
-    begin_now(alloc, here, expr, piece)
+    begin_here(alloc, here, expr, piece)
 }
 
 // A literal that has begun ends as the piece begins, or holds on as one that begins there.
 fn literal_goes_on(
     alloc: Global,
-    here: &ZoneSet,
-    begun: &ZoneSet,
+    here: &[Zone],
+    begun: &[Zone],
     expr: &Expr,
     piece: &Piece,
 ) -> Result<Stepped, AllocError>
@@ -239,14 +256,39 @@ fn literal_goes_on(
         StepsTo (marked (atom_mark here.now begun.now) (tree_of expr.now)) piece.now whole.told
         (residual_tree whole.rest)) }
 {
-    let first = begin_now(alloc, here, expr, piece)?;
-    let second = begin_now(alloc, begun, expr, piece)?;
-    let ended = Stepped {
-        told: begun.try_clone()?,
-        rest: Residual::Nil,
-    };
+    let first = begin_here(alloc, here, expr, piece)?;
+    let second = begin_here(alloc, begun, expr, piece)?;
+    let ended = end_here(alloc, begun)?;
     let going = choose(alloc, ended, second)?;
     choose(alloc, first, going)
+}
+
+// A pair of the zones that ends as the piece begins, and then a match of the expression.
+fn begin_here(
+    alloc: Global,
+    zones: &[Zone],
+    expr: &Expr,
+    piece: &Piece,
+) -> Result<Stepped, AllocError>
+    requires { NumbersBelow NAMES_MAX (tree_of expr.now) }
+    ensures { IfOk result (λ whole.
+        StepsTo (joined zones.now (tree_of expr.now)) piece.now whole.told
+        (residual_tree whole.rest)) }
+{
+    let set = set_of(alloc, zones)?;
+    begin_now(alloc, &set, expr, piece)
+}
+
+// The pairs of the zones, which end as the piece begins.
+fn end_here(alloc: Global, zones: &[Zone]) -> Result<Stepped, AllocError>
+    ensures { IfOk result (λ whole. (piece : Piece) → EndAt piece.begin zones.now
+        → StepsTo (here zones.now) piece whole.told (residual_tree whole.rest)) }
+{
+    let told = set_of(alloc, zones)?;
+    Ok(Stepped {
+        told,
+        rest: Residual::Nil,
+    })
 }
 
 // Where nothing has begun, nothing goes on.

@@ -1,5 +1,5 @@
 // Sets of zones around the ends of a piece.
-ghost use Rattle.std.specs.Prelude.{◌≡◌, ◌≤◌, IfOk};
+ghost use Rattle.std.specs.Prelude.{◌≡◌, ◌≤◌, ◌↔◌, [], IfOk, IsTrue};
 ghost use Rattle.tre_pairs.specs.Cuts.{IsMoment};
 ghost use Rattle.tre_pairs.specs.Pairs.{Either};
 ghost use Rattle.tre_pairs.specs.declared.TheConstants.{TIME_MAX};
@@ -8,6 +8,7 @@ ghost use Rattle.tre_edges.specs.Piece.{end_of_piece};
 
 use std::alloc::{AllocError, Global};
 use tre_edges::Piece;
+use tre_mark::copied;
 use tre_zone::Zone;
 use tre_zoneset::ZoneSet;
 
@@ -36,4 +37,19 @@ pub fn of_either(mut one: ZoneSet, other: &ZoneSet) -> Result<ZoneSet, AllocErro
 {
     one.join(other)?;
     Ok(one)
+}
+
+/// The set of the zones.
+pub fn set_of(alloc: Global, zones: &[Zone]) -> Result<ZoneSet, AllocError>
+    ensures { IfOk result (λ set. HoldExactly set (SetHolds zones.now)) }
+{
+    let list = copied(alloc, zones)?;
+    ZoneSet::of_zones(alloc, list)
+}
+
+/// Whether there is no zone.
+pub fn is_none(zones: &[Zone]) -> bool
+    ensures { IsTrue result ↔ (zones.now ≡ []) }
+{
+    zones.is_empty()
 }

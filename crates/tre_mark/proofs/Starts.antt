@@ -1,5 +1,5 @@
 -- Marks of which nothing has begun, and marks that start.
-use Rattle.std.proofs.Common.{◌≡◌, ◌∙◌, ℕ, ◌*◌, ◌≤◌, ◌<◌, List, [], Option, None, Some, MatchOption, ◌+◌, ap, subst, refl, sym, inl, ⊎_elim, arith}
+use Rattle.std.proofs.Common.{◌≡◌, ◌∙◌, ℕ, ◌*◌, ◌≤◌, ◌<◌, List, [], ◌∷◌, Option, None, Some, MatchOption, ◌+◌, ap, subst, refl, sym, inl, ⊎_elim, arith}
 use Rattle.std.proofs.Math.Nat.{mul-pos}
 use Rattle.tre_pairs.specs.Cuts.{JoinedAt}
 use Rattle.tre_pairs.specs.Pairs.{Pairs, Composed, Both, Lasting}
@@ -20,7 +20,7 @@ use Rattle.tre_zone.specs.ZoneList.{SetHolds, AreTight, HoldExactly}
 use Rattle.tre_zone.proofs.LatestEnds.{latest_at}
 use Rattle.tre_zone.proofs.ZoneListLemmas.{SetHolds-empty}
 use Rattle.tre_zone.specs.declared.zone_bounds.ZoneBounds.{ZoneBounds}
-use Rattle.tre_mark.specs.MarkTree.{MarkTree, atom_mark, sequence_mark, alternation_mark, repetition_mark, intersection_none, intersection_one, restriction_none, restriction_one}
+use Rattle.tre_mark.specs.MarkTree.{MarkTree, atom_mark, sequence_mark, alternation_mark, repetition_mark, intersection_none, intersection_one, restriction_none, restriction_one, intersection_of, restriction_of}
 use Rattle.tre_mark.specs.Marked.{Since, since, cut_since, IsOpen, AnyDuration, CanTakeIn, Marked, IsBare, IsBegun, IsNothing, IsUnbegun, IsEntered, IsEnteredAt, IsInReach, IsStart}
 use Rattle.tre_mark.proofs.Agreeing.{agree_refl, agree_sym, agree_then, agree_composed, agree_assoc, joined_composed}
 
@@ -115,6 +115,33 @@ unbegun_repetition body tree inner = record {
   nothing = nothing_repetition body inner.nothing;
   well = λ time. record { well = (end_at_none time, (inner.well time).well) };
 }
+
+pub unbegun_intersection : (left right : PatternTree)
+    → IsUnbegun intersection_none (intersection left right)
+unbegun_intersection left right = record {
+  bare = tt;
+  nothing = nothing_intersection;
+  well = λ time. record { well = tt };
+}
+
+pub unbegun_restriction : (tree : PatternTree) (ends : IntervalEnds)
+    → IsUnbegun restriction_none (restriction tree ends)
+unbegun_restriction tree ends = record {
+  bare = tt;
+  nothing = nothing_restriction;
+  well = λ time. record { well = tt };
+}
+
+-- Where there are pairs behind which it began, it has begun.
+pub intersection_some : (to : ℕ) (outer : List ZoneBounds) (one other : MarkTree)
+    → (outer ≡ [] → ⊥) → intersection_of to outer one other ≡ intersection_one to outer one other
+intersection_some to [] one other some = absurd (some refl)
+intersection_some to (zone ∷ zones) one other some = refl
+
+pub restriction_some : (to : ℕ) (outer : List ZoneBounds) (body : MarkTree)
+    → (outer ≡ [] → ⊥) → restriction_of to outer body ≡ restriction_one to outer body
+restriction_some to [] body some = absurd (some refl)
+restriction_some to (zone ∷ zones) body some = refl
 
 -- ---- marks that start
 

@@ -4,11 +4,10 @@ ghost use Rattle.tre_syntax.specs.PatternTree.{Atom, atom};
 ghost use Rattle.tre_mark.specs.MarkTree.{mark_of};
 ghost use Rattle.tre_mark.specs.Marked.{IsUnbegun};
 
-use crate::forms::{alternation, atom, repetition, sequence};
+use crate::forms::{alternation, atom, intersection, repetition, restriction, sequence};
 use crate::mark::Mark;
 use std::alloc::{AllocError, Global};
 use tre_syntax::Expr;
-use tre_zoneset::ZoneSet;
 
 impl Mark {
     /// The mark of an expression of which nothing has begun.
@@ -35,10 +34,17 @@ impl Mark {
             }
             Expr::Star(body) => {
                 let body = Mark::empty(alloc, body)?;
-                repetition(alloc, ZoneSet::new(alloc), body)
+                repetition(alloc, Vec::new(alloc), body)
             }
-            Expr::Meet(_, _) => Ok(Mark::NoMeet),
-            Expr::Within(_, _) => Ok(Mark::NoWithin),
+            Expr::Meet(left, right) => {
+                let left = Mark::empty(alloc, left)?;
+                let right = Mark::empty(alloc, right)?;
+                intersection(alloc, 0, Vec::new(alloc), left, right)
+            }
+            Expr::Within(body, _) => {
+                let body = Mark::empty(alloc, body)?;
+                restriction(alloc, 0, Vec::new(alloc), body)
+            }
         }
     }
 }
@@ -47,5 +53,5 @@ impl Mark {
 fn no_atom(alloc: Global) -> Mark
     ensures { (x : Atom) → IsUnbegun (mark_of result) (atom x) }
 {
-    atom(ZoneSet::new(alloc), ZoneSet::new(alloc))
+    atom(alloc, Vec::new(alloc), Vec::new(alloc))
 }

@@ -3,18 +3,22 @@ ghost use Rattle.std.specs.Prelude.{◌≡◌, ◌≤◌, IfOk};
 ghost use Rattle.tre_pairs.specs.declared.TheConstants.{TIME_MAX};
 ghost use Rattle.tre_zone.specs.Zone.{IsInstantBetween};
 ghost use Rattle.tre_zone.specs.ZoneList.{HoldExactly};
-ghost use Rattle.tre_mark.specs.MarkTree.{atom_mark, sequence_mark, alternation_mark, repetition_mark, intersection_one, restriction_one, mark_of};
+ghost use Rattle.tre_mark.specs.MarkTree.{atom_mark, sequence_mark, alternation_mark, repetition_mark, intersection_of, restriction_of, mark_of};
 
-use crate::mark::Mark;
+use crate::mark::{Mark, Room};
 use std::alloc::{AllocError, Global};
 use tre_zone::Zone;
 use tre_zoneset::ZoneSet;
 
 /// The mark of an atom.
-pub fn atom(here: ZoneSet, begun: ZoneSet) -> Mark
-    ensures { mark_of result ≡ atom_mark here begun }
+pub fn atom(alloc: Global, here: Vec<Zone>, begun: Vec<Zone>) -> Mark
+    ensures { mark_of result ≡ atom_mark here.items begun.items }
 {
-    Mark::Atom { here, begun }
+    Mark::Atom {
+        here,
+        begun,
+        room: Room::new(alloc),
+    }
 }
 
 /// The mark of a sequence.
@@ -23,7 +27,11 @@ pub fn sequence(alloc: Global, left: Mark, right: Mark) -> Result<Mark, AllocErr
 {
     let left = Box::new(alloc, left)?;
     let right = Box::new(alloc, right)?;
-    Ok(Mark::Seq(left, right))
+    Ok(Mark::Seq {
+        left,
+        right,
+        room: Room::new(alloc),
+    })
 }
 
 /// The mark of an alternation.
@@ -36,11 +44,15 @@ pub fn alternation(alloc: Global, left: Mark, right: Mark) -> Result<Mark, Alloc
 }
 
 /// The mark of a repetition.
-pub fn repetition(alloc: Global, here: ZoneSet, body: Mark) -> Result<Mark, AllocError>
-    ensures { IfOk result (λ mark. mark_of mark ≡ repetition_mark here (mark_of body)) }
+pub fn repetition(alloc: Global, here: Vec<Zone>, body: Mark) -> Result<Mark, AllocError>
+    ensures { IfOk result (λ mark. mark_of mark ≡ repetition_mark here.items (mark_of body)) }
 {
     let body = Box::new(alloc, body)?;
-    Ok(Mark::Star { here, body })
+    Ok(Mark::Star {
+        here,
+        body,
+        room: Room::new(alloc),
+    })
 }
 
 /// The mark of an intersection that began behind each pair of `outer`, the last of which has ended
@@ -48,12 +60,12 @@ pub fn repetition(alloc: Global, here: ZoneSet, body: Mark) -> Result<Mark, Allo
 pub fn intersection(
     alloc: Global,
     to: u64,
-    outer: ZoneSet,
+    outer: Vec<Zone>,
     left: Mark,
     right: Mark,
 ) -> Result<Mark, AllocError>
     ensures { IfOk result (λ mark.
-        mark_of mark ≡ intersection_one to outer (mark_of left) (mark_of right)) }
+        mark_of mark ≡ intersection_of to outer.items (mark_of left) (mark_of right)) }
 {
     let left = Box::new(alloc, left)?;
     let right = Box::new(alloc, right)?;
@@ -62,16 +74,22 @@ pub fn intersection(
         outer,
         left,
         right,
+        room: Room::new(alloc),
     })
 }
 
 /// The mark of a restriction that began behind each pair of `outer`, the last of which has ended by
 /// `to`.
-pub fn restriction(alloc: Global, to: u64, outer: ZoneSet, body: Mark) -> Result<Mark, AllocError>
-    ensures { IfOk result (λ mark. mark_of mark ≡ restriction_one to outer (mark_of body)) }
+pub fn restriction(alloc: Global, to: u64, outer: Vec<Zone>, body: Mark) -> Result<Mark, AllocError>
+    ensures { IfOk result (λ mark. mark_of mark ≡ restriction_of to outer.items (mark_of body)) }
 {
     let body = Box::new(alloc, body)?;
-    Ok(Mark::Within { to, outer, body })
+    Ok(Mark::Within {
+        to,
+        outer,
+        body,
+        room: Room::new(alloc),
+    })
 }
 
 /// The moments from one time to another.

@@ -19,5 +19,6 @@ mod mark;
 mod nothing;
 mod start;
 
+pub use copy::copied;
 pub use forms::{alternation, atom, intersection, moments, repetition, restriction, sequence};
-pub use mark::Mark;
+pub use mark::{Mark, Room};

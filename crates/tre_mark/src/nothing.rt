@@ -11,14 +11,12 @@ impl Mark {
         ensures { IsTrue result ↔ IsBare (mark_of self.now) }
     {
         match self {
-            Mark::Atom { here, begun } => here.is_empty() && begun.is_empty(),
-            Mark::Seq(left, right) => left.is_nothing() && right.is_nothing(),
+            Mark::Atom { here, begun, .. } => here.is_empty() && begun.is_empty(),
+            Mark::Seq { left, right, .. } => left.is_nothing() && right.is_nothing(),
             Mark::Alt(left, right) => left.is_nothing() && right.is_nothing(),
-            Mark::Star { here, body } => here.is_empty() && body.is_nothing(),
-            Mark::NoMeet => true,
-            Mark::Meet { .. } => false,
-            Mark::NoWithin => true,
-            Mark::Within { .. } => false,
+            Mark::Star { here, body, .. } => here.is_empty() && body.is_nothing(),
+            Mark::Meet { outer, .. } => outer.is_empty(),
+            Mark::Within { outer, .. } => outer.is_empty(),
         }
     }
 }

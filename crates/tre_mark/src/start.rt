@@ -6,6 +6,7 @@ ghost use Rattle.tre_syntax.specs.PatternTree.{Atom, atom};
 ghost use Rattle.tre_mark.specs.MarkTree.{mark_of};
 ghost use Rattle.tre_mark.specs.Marked.{IsStart};
 
+use crate::copy::copied;
 use crate::forms::{alternation, atom, intersection, moments, repetition, restriction, sequence};
 use crate::mark::Mark;
 use std::alloc::{AllocError, Global};
@@ -44,7 +45,7 @@ impl Mark {
             }
             Expr::Star(body) => {
                 let body = Mark::empty(alloc, body)?;
-                let here = zones.try_clone()?;
+                let here = copied(alloc, zones.zones())?;
                 repetition(alloc, here, body)
             }
             Expr::Meet(left, right) => {
@@ -53,7 +54,7 @@ impl Mark {
                 let moment = moments(alloc, time, time)?;
                 let left = Mark::start(alloc, left, &moment, time)?;
                 let right = Mark::start(alloc, right, &moment, time)?;
-                let outer = zones.try_clone()?;
+                let outer = copied(alloc, zones.zones())?;
                 intersection(alloc, time, outer, left, right)
             }
             Expr::Within(body, _) => {
@@ -61,7 +62,7 @@ impl Mark {
                 let _zones = zones.zones();
                 let moment = moments(alloc, time, time)?;
                 let body = Mark::start(alloc, body, &moment, time)?;
-                let outer = zones.try_clone()?;
+                let outer = copied(alloc, zones.zones())?;
                 restriction(alloc, time, outer, body)
             }
         }
@@ -73,6 +74,6 @@ fn atom_at(alloc: Global, zones: &ZoneSet) -> Result<Mark, AllocError>
     ensures { IfOk result (λ mark. (time : ℕ) (x : Atom) → EndAt time zones.now
         → IsStart time zones.now (mark_of mark) (atom x)) }
 {
-    let here = zones.try_clone()?;
-    Ok(atom(here, ZoneSet::new(alloc)))
+    let here = copied(alloc, zones.zones())?;
+    Ok(atom(alloc, here, Vec::new(alloc)))
 }

@@ -29,7 +29,7 @@ use Rattle.tre_mark.specs.MarkTree.{MarkTree, mark_of}
 use Rattle.tre_mark.specs.Marked.{since, CanTakeIn, Marked, IsStart, IsWellAt}
 use Rattle.tre_advance.specs.Advance.{GoesOver, MarkedBehind, before_piece, Advances}
 use Rattle.tre_advance.proofs.Opening.{all_later}
-use Rattle.tre_online.specs.Reading.{AreMoments, IsPieceFor, IsBehind, Reads}
+use Rattle.tre_online.specs.Reading.{AreMoments, IsPieceFor, IsBehind, Finds, Reads}
 use Rattle.tre_online.specs.Session.{pattern_of, at_of, held_of, ended_of, kept_of, cut_after, AwaitsMatches, StandsFor, TellsNew}
 use Rattle.tre_online.specs.Told.{WasTold}
 use Rattle.tre_online.specs.declared.session.Progress.{Progress}
@@ -382,6 +382,9 @@ module _ (old : Session) (whole : MarkTree) (u : List Segment) (segment : Segmen
     (is_piece : IsPieceFor old segment piece)
     (reads : Reads (kept_of old) (pattern_tree old.pattern.value) (ended_of old) piece told
     whole) where
+  abbrev finds : Finds (kept_of old) (pattern_tree old.pattern.value) piece reads.found whole
+  finds = reads.finds
+
   -- What begins in the piece can be taken in.
   can_here : CanTakeIn (before_piece piece) (kept_of old) (pattern_tree old.pattern.value)
   can_here = subst (λ (time : ℕ). CanTakeIn (since time piece.before []) (kept_of old)
@@ -396,8 +399,8 @@ module _ (old : Session) (whole : MarkTree) (u : List Segment) (segment : Segmen
       is_piece.same
       (tells_new (pattern_tree old.pattern.value) u piece (kept_of old)
       (is_piece.begin ∙ standing.at) (is_piece.before ∙ standing.last) standing.trace.long
-      standing.awaits reads.entering reads.found whole reads.moments reads.advances can_here (ended_of old)
-      told reads.set reads.without
+      standing.awaits finds.entering reads.found whole finds.moments finds.advances can_here
+      (ended_of old) told finds.set reads.without
       standing.ended standing.unstarted)
 
   pub fits_after : Fits u segment
@@ -430,14 +433,16 @@ module _ (old : Session) (whole : MarkTree) (u : List Segment) (segment : Segmen
             (pattern_tree (pattern_of old)) at last mark pattern
             (subst (λ (s : Segment). CanTakeIn (since (piece.begin + s.len) (Some s.val) []) whole
             (pattern_tree old.pattern.value)) is_piece.same
-            (all_later piece whole (pattern_tree old.pattern.value) (reads.advances.takes can_here)));
+            (all_later piece whole (pattern_tree old.pattern.value)
+            (finds.advances.takes can_here)));
         awaits = awaits_same (kept_of new) whole (pattern_tree (pattern_of new))
             (pattern_tree (pattern_of old)) (u ++ segment ∷ []) mark pattern
             (subst (λ (s : Segment). AwaitsMatches whole
             (pattern_tree old.pattern.value) (u ++ s ∷ [])) is_piece.same
             (awaits_after (pattern_tree old.pattern.value) u piece (kept_of old)
             (is_piece.begin ∙ standing.at) (is_piece.before ∙ standing.last) standing.trace.long
-            standing.awaits reads.entering reads.found whole reads.moments reads.advances can_here));
+            standing.awaits finds.entering reads.found whole finds.moments finds.advances
+            can_here));
         ended = λ a b n some le h. rw pattern
             ((tells_after.all a b n some le).0
             (inl (subst (λ (list : List ZoneBounds). SetHolds list a b n) ends.ended h)));
@@ -456,4 +461,4 @@ pub well_after : (before : MarkTree) (tree : PatternTree) (earlier told : List Z
     → IsBehind piece told progress → IsWellAt progress.at (mark_of progress.mark) tree
 well_after before tree earlier told piece progress reads behind =
     subst (λ (time : ℕ). IsWellAt time (mark_of progress.mark) tree) (sym behind.at)
-    reads.advances.well
+    reads.finds.advances.well

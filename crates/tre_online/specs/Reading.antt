@@ -27,15 +27,20 @@ pub record IsPieceFor (session : Session) (segment : Segment) (piece : Piece) : 
   pub same : piece.segment ≡ segment
   pub before : piece.before ≡ held_of session
 
--- The mark has gone over the piece, with matches entering at every moment of it. What is told is
--- what was found, without what was told earlier.
-pub record Reads (mark : MarkTree) (tree : PatternTree) (earlier : List ZoneBounds) (piece : Piece)
-    (told : List ZoneBounds) (rest : MarkTree) : Type 0 where
+-- The mark has gone over the piece, with matches entering at every moment of it, and told what was
+-- found.
+pub record Finds (mark : MarkTree) (tree : PatternTree) (piece : Piece) (found : List ZoneBounds)
+    (rest : MarkTree) : Type 0 where
   pub entering : List ZoneBounds
   pub moments : AreMoments piece.begin (end_of_piece piece) entering
-  pub found : List ZoneBounds
   pub set : IsZoneSet found
   pub advances : Advances mark tree entering piece found rest
+
+-- What is told is what was found, without what was told earlier.
+pub record Reads (mark : MarkTree) (tree : PatternTree) (earlier : List ZoneBounds) (piece : Piece)
+    (told : List ZoneBounds) (rest : MarkTree) : Type 0 where
+  pub found : List ZoneBounds
+  pub finds : Finds mark tree piece found rest
   pub without : Without (WasTold earlier) found told
 
 -- The progress is that at the end of the piece, of which this was told.

@@ -46,7 +46,7 @@ impl Session {
     ghost use Rattle.tre_syntax.specs.PatternTree.{node_count};
     ghost use Rattle.tre_syntax.specs.Pattern.{pattern_tree, names_of};
     ghost use Rattle.tre_online.specs.Session.{pattern_of, at_of, ended_of, kept_of, StandsFor, TellsNew, TellsLast};
-    ghost use Rattle.tre_online.specs.Reading.{AreMoments, IsPieceFor, IsBehind, Reads};
+    ghost use Rattle.tre_online.specs.Reading.{AreMoments, IsPieceFor, IsBehind, Finds, Reads};
 
     /// A session that has read no segment.
     pub fn new(alloc: Global, pattern: Pattern) -> Result<Session, AllocError>
@@ -252,16 +252,40 @@ impl Session {
             (mark_of progress.new.mark)) }
         ensures behind { IfOk result (λ told. IsBehind piece.now told progress.new) }
     {
-        let end = piece.begin + piece.segment.len;
-        let entering = Session::moments(alloc, piece.begin, end)?;
-        let found = advance(alloc, &mut progress.mark, pattern.expr(), &entering, piece)?;
-        // For the proof: the call says that it is a set of zones.
-        let _found = found.zones();
+        let found = Session::found(alloc, pattern, &mut progress.mark, piece)?;
         let told = not_told(alloc, found, &progress.ended)?;
         progress.ended = told.try_clone()?;
-        progress.at = end;
+        progress.at = piece.begin + piece.segment.len;
         progress.last = Some(piece.segment.val);
         Ok(told)
+    }
+
+    // What the mark tells of the piece, over which it goes, as a set.
+    fn found(
+        alloc: Global,
+        pattern: &Pattern,
+        mark: &mut Mark,
+        piece: &Piece,
+    ) -> Result<ZoneSet, AllocError>
+        requires { IsWellAt piece.now.begin (mark_of mark.old) (pattern_tree pattern.now) }
+        ensures { IfOk result (λ found. Finds (mark_of mark.old) (pattern_tree pattern.now)
+            piece.now found (mark_of mark.new)) }
+    {
+        let end = piece.begin + piece.segment.len;
+        let entering = Session::moments(alloc, piece.begin, end)?;
+        let mut told = Vec::new(alloc);
+        advance(
+            alloc,
+            mark,
+            pattern.expr(),
+            entering.zones(),
+            piece,
+            &mut told,
+        )?;
+        let found = ZoneSet::of_zones(alloc, told)?;
+        // For the proof: the call says that it is a set of zones.
+        let _found = found.zones();
+        Ok(found)
     }
 
     // What is told where the trace ends with these events.

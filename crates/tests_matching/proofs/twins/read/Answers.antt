@@ -5,8 +5,8 @@ use Rattle.tre_mark.specs.Marked.{EndBetween}
 use Rattle.tre_advance.proofs.StarSteps.{between_none}
 use Rattle.tests_matching.proofs.twins.read.Goals as goal
 
-pub advance-requires-clause-enter : goal.advance-requires-clause-enter
-advance-requires-clause-enter c =
+pub advanced-requires-clause-enter : goal.advanced-requires-clause-enter
+advanced-requires-clause-enter c =
     let begin = c.args.piece.now.begin in
     let end = end_of_piece c.args.piece.now in
     subst (λ (list : List ZoneBounds). EndBetween begin end list) (sym c.new-none.ensures)

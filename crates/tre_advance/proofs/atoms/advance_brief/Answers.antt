@@ -1,12 +1,11 @@
-use Rattle.std.proofs.Common.{◌≡◌, ℕ, ◌∙◌, List, [], sym, subst}
+use Rattle.std.proofs.Common.{◌≡◌, ℕ, List, [], sym, subst}
 use Rattle.tre_zone.specs.declared.zone_bounds.ZoneBounds.{ZoneBounds}
 use Rattle.tre_syntax.specs.Expr.{tree_of}
 use Rattle.tre_syntax.specs.PatternTree.{PatternTree, empty, literal, rise, fall, event, atom, sequence, alternation, intersection, repetition, restriction}
 use Rattle.tre_mark.specs.MarkTree.{atom_mark}
 use Rattle.tre_mark.specs.Marked.{IsWell}
 use Rattle.tre_advance.specs.Advance.{Advances}
-use Rattle.tre_advance.specs.Moves.{IsBriefTree, TellsAtom}
-use Rattle.tre_advance.proofs.AtomForms.{brief_idle}
+use Rattle.tre_advance.specs.Moves.{IsBriefTree}
 use Rattle.tre_advance.proofs.Onward.{brief_advances}
 use Rattle.tre_advance.proofs.atoms.advance_brief.Goals as goal
 
@@ -24,25 +23,22 @@ none_begun time here begun (intersection left right) is well = absurd is
 none_begun time here begun (repetition tree) is well = absurd is
 none_begun time here begun (restriction tree ends) is well = absurd is
 
-pub returns-then-are_empty : goal.returns-then-are_empty
-returns-then-are_empty c =
-    brief_idle c.args.piece.now c.args.here.now c.args.begun.now c.args.entering.now c.new.result
-    c.new.ensures (c.are_empty.ensures c.if-are_empty.true) (tree_of c.args.expr.now)
-    c.requires.well c.requires.enter c.requires.brief
-
 pub returns : goal.returns
 returns c =
-    let here = c.args.here.now in
+    let here = c.args.here.now.items in
     let begun = c.args.begun.now in
     let enter = c.args.entering.now in
     let piece = c.args.piece.now in
     let tree = tree_of c.args.expr.now in
-    let told = c.in_ok-told.told in
-    let last = c.in_ok-here.field-0 in
+    let mid = c.tell_atom.new.told.items in
+    let last = c.keep_ending.new.kept.items in
     let none = none_begun piece.begin here begun tree c.requires.brief c.requires.well.well in
-    let tells = subst (λ (list : List ZoneBounds). TellsAtom here list enter tree piece told)
-    (c.new-none.ensures ∙ sym none) c.in_ok-told.ensures in
-    subst (λ (list : List ZoneBounds). Advances (atom_mark here begun) tree enter piece told
-    (atom_mark last list)) (sym none)
-    (brief_advances piece here begun enter told last c.requires.enter c.in_ok-here.ensures tree
-    c.requires.brief c.requires.well tells.set)
+    record {
+      added = mid;
+      is = rw c.deref-2.ensures.value at c.in_ok-extend_from_slice.ensures.items;
+      what = subst (λ (list : List ZoneBounds). Advances (atom_mark here begun) tree enter piece
+          mid (atom_mark last list)) (sym none)
+          (brief_advances piece here begun enter mid last c.requires.enter
+          c.in_ok-keep_ending.ensures tree c.requires.brief c.requires.well
+          (rw c.deref.ensures.value at c.in_ok-tell_atom.ensures).set);
+    }

@@ -1,10 +1,22 @@
-use Rattle.std.proofs.lemmas.Result.{IfOk-weaker}
+use Rattle.std.proofs.Common.{◌∙◌, ◌++◌, ap}
+use Rattle.std.proofs.lemmas.Result.{on_ok_weaker}
 use Rattle.tre_syntax.specs.Expr.{tree_of}
-use Rattle.tre_advance.proofs.AtomForms.{tells_atom}
+use Rattle.tre_advance.proofs.AtomLists.{tells_some, tells_none}
 use Rattle.tre_advance.proofs.atoms.tell_atom.Goals as goal
 
-pub returns : goal.returns
-returns c = IfOk-weaker c.joined_behind.result _ _
-    (λ told union. tells_atom c.args.piece.now c.args.here.now c.args.begun
-    c.args.entering.now c.in_ok-inside.inside c.in_ok-going.going told (tree_of c.args.expr.now)
-    c.in_ok-inside.ensures c.in_ok-going.ensures union) c.joined_behind.ensures
+pub returns-in_ok-extend_from_slice-in-None : goal.returns-in_ok-extend_from_slice-in-None
+returns-in_ok-extend_from_slice-in-None c =
+    let begun = c.args.begun.now in
+    tells_none c.args.piece.now c.args.here.now begun c.args.entering.now
+    c.extend_from_slice.new.self.items (tree_of c.args.expr.now) c.inside_of.result
+    c.inside_of.ensures c.requires.well
+    (c.in_ok-extend_from_slice-in-None.ensures.items ∙ ap (λ list. list ++ begun) c.requires.none)
+    c.in-None.is
+
+pub returns-in-Some : goal.returns-in-Some
+returns-in-Some c =
+    on_ok_weaker c.gather_all.result
+    (λ set. tells_some c.args.piece.now c.args.here.now c.args.begun.now c.args.entering.now
+    c.gather_all.new.found.items (tree_of c.args.expr.now) c.inside_of.result c.inside_of.ensures
+    c.requires.well c.in-Some.inside set.some c.in-Some.is set.set)
+    c.gather_all.ensures

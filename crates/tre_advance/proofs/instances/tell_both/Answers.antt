@@ -1,12 +1,19 @@
-use Rattle.std.proofs.lemmas.Result.{IfOk-weaker}
-use Rattle.tre_zone.specs.Held.{Held}
-use Rattle.tre_mark.proofs.Agreeing.{agree_refl, agree_then, agree_composed}
-use Rattle.tre_advance.proofs.SetsOf.{set_agrees, set_of}
+use Rattle.tre_zone.proofs.HeldSets.{composed_set}
+use Rattle.tre_advance.proofs.Lists.{gathered_alone}
+use Rattle.tre_advance.proofs.SetsOf.{both_set, followed_set}
 use Rattle.tre_advance.proofs.instances.tell_both.Goals as goal
 
 pub returns : goal.returns
 returns c =
-    IfOk-weaker c.followed.result _ _
-    (λ zones set. set_of (agree_then (set_agrees set)
-    (agree_composed (agree_refl (Held c.args.outer.now)) (set_agrees c.in_ok-both.ensures))))
-    c.followed.ensures
+    let outer = c.args.outer.now in
+    let mid = c.args.room.now.mid.items in
+    let more = c.args.room.now.more.items in
+    let aux = c.gather_meets.new.found.items in
+    let new = c.gather_each.new.found.items in
+    followed_set outer aux new _
+    (composed_set outer aux new c.known.ensures (rw c.deref-3.ensures.value at c.known-2.ensures)
+    (gathered_alone c.clear-2.new.self.items new _ c.clear-2.ensures.items
+    (rw c.deref-4.ensures.value at c.in_ok-gather_each.ensures)))
+    (both_set aux mid more
+    (gathered_alone c.clear.new.self.items aux _ c.clear.ensures.items
+    (rw (c.deref.ensures.value, c.deref-2.ensures.value) at c.in_ok-gather_meets.ensures)))

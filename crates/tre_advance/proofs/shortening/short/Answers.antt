@@ -1,15 +1,19 @@
 use Rattle.std.proofs.lemmas.Bool.{both_ways}
-use Rattle.std.proofs.lemmas.Result.{IfOk-weaker}
+use Rattle.tre_advance.proofs.Lists.{gathered_alone}
 use Rattle.tre_advance.proofs.Shortenings.{short_none, short_some}
 use Rattle.tre_advance.proofs.shortening.short.Goals as goal
 
-pub returns-then-is_empty : goal.returns-then-is_empty
-returns-then-is_empty c =
-    short_none c.args.longest c.args.zones (c.is_empty.ensures.0 c.if-is_empty.true)
+pub returns-then-is_none : goal.returns-then-is_none
+returns-then-is_none c =
+    short_none c.args.longest c.args.zones.now.items
+    (rw c.deref.ensures.value at (c.is_none.ensures.0 c.if-is_none.true))
 
 pub returns : goal.returns
 returns c =
-    IfOk-weaker c.up_to.result _ _
-    (λ short exact. short_some c.args.longest c.args.zones short
-    (λ none. both_ways c.is_empty.result c.if-is_empty.false (c.is_empty.ensures.1 none)) exact)
-    c.up_to.ensures
+    let new = c.gather_short.new.found.items in
+    rw c.swap.ensures.x_after
+    (short_some c.args.longest c.args.zones.now.items new
+    (λ none. both_ways c.is_none.result c.if-is_none.false
+    (c.is_none.ensures.1 (rw (← c.deref.ensures.value) at none)))
+    (gathered_alone c.clear.new.self.items new _ c.clear.ensures.items
+    (rw c.deref-2.ensures.value at c.in_ok-gather_short.ensures)))

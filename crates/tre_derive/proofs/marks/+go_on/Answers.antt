@@ -1,21 +1,16 @@
 -- Each form goes on as its parts do.
 use Rattle.std.proofs.Common.{◌≡◌, ◌∙◌, ap, sym, subst}
+use Rattle.std.proofs.lemmas.Bool.{both_ways}
 use Rattle.std.proofs.lemmas.Result.{IfOk-weaker}
 use Rattle.tre_syntax.specs.Expr.{tree_of}
 use Rattle.tre_syntax.specs.PatternTree.{PatternTree, sequence, alternation, intersection, restriction}
-use Rattle.tre_mark.specs.MarkTree.{MarkTree, mark_of, sequence_mark, alternation_mark, repetition_mark, intersection_one, restriction_one}
-use Rattle.tre_advance.proofs.ShapeForms.{shape_sequence, shape_alternation, shape_repetition, shape_intersection, shape_restriction}
+use Rattle.tre_mark.specs.MarkTree.{MarkTree, mark_of, sequence_mark, alternation_mark, repetition_mark, intersection_of, restriction_of}
 use Rattle.tre_residual.specs.Residual.{joined, followed, either, both, lasting, marked, residual_tree}
 use Rattle.tre_derive.specs.Derivative.{StepsTo}
-use Rattle.tre_derive.proofs.MarkForms.{steps_sequence, steps_alternation, steps_repetition, steps_intersection, steps_restriction, steps_no_intersection, steps_no_restriction}
+use Rattle.tre_derive.proofs.MarkForms.{preceded_alike, steps_sequence, steps_alternation, steps_repetition, steps_intersection, steps_restriction, steps_no_intersection, steps_no_restriction}
 use Rattle.tre_derive.proofs.marks.+go_on.Goals as goal
 
 -- ---- a sequence
-
-pub sequence_goes_on-unreachable-requires : goal.sequence_goes_on-unreachable-requires
-sequence_goes_on-unreachable-requires t c =
-    shape_sequence c.args.piece.now.begin c.args.mark.now (tree_of c.args.left.now)
-    (tree_of c.args.right.now) c.requires.well.well c.in_default.not-Seq
 
 pub sequence_goes_on-returns : goal.sequence_goes_on-returns
 sequence_goes_on-returns t c =
@@ -39,11 +34,6 @@ sequence_goes_on-returns t c =
 
 -- ---- an alternation
 
-pub alternation_goes_on-unreachable-requires : goal.alternation_goes_on-unreachable-requires
-alternation_goes_on-unreachable-requires t c =
-    shape_alternation c.args.piece.now.begin c.args.mark.now (tree_of c.args.left.now)
-    (tree_of c.args.right.now) c.requires.well.well c.in_default.not-Alt
-
 pub alternation_goes_on-returns : goal.alternation_goes_on-returns
 alternation_goes_on-returns t c =
     let piece = c.args.piece.now in
@@ -65,20 +55,16 @@ alternation_goes_on-returns t c =
 
 -- ---- a repetition
 
-pub repetition_goes_on-unreachable-requires : goal.repetition_goes_on-unreachable-requires
-repetition_goes_on-unreachable-requires t c =
-    shape_repetition c.args.piece.now.begin c.args.mark.now (tree_of c.args.body.now)
-    c.requires.well.well c.in_default.not-Star
-
 pub repetition_goes_on-returns : goal.repetition_goes_on-returns
 repetition_goes_on-returns t c =
     let piece = c.args.piece.now in
-    let here = c.in-Star.here in
-    let body = mark_of c.deref.result.now in
+    let here = c.in-Star.here.items in
+    let body = mark_of c.deref-in-Star.result.now in
     let tree = tree_of c.args.body.now in
     let whole = tree_of c.args.expr.now in
     let shape : mark_of c.args.mark.now ≡ repetition_mark here body =
-    ap mark_of c.in-Star.is ∙ ap (λ m. repetition_mark here (mark_of m)) (sym c.deref.ensures) in
+    ap mark_of c.in-Star.is
+    ∙ ap (λ m. repetition_mark here (mark_of m)) (sym c.deref-in-Star.ensures) in
     IfOk-weaker c.choose.result _ _
     (λ r steps. subst (λ (m : MarkTree). StepsTo (marked m whole) piece r.told
     (residual_tree r.rest)) (sym shape)
@@ -88,85 +74,90 @@ repetition_goes_on-returns t c =
     (subst (λ (t : PatternTree). StepsTo (either (joined here t) (followed (marked body tree) t))
     piece r.told (residual_tree r.rest)) c.requires.form
     (steps (joined here whole) (followed (marked body tree) whole) piece
-    c.in_ok-first-in-Star.ensures
+    (rw c.deref.ensures.value at c.in_ok-first-in-Star.ensures)
     (c.in_ok-second-in-Star.ensures (marked body tree) c.in_ok-inner-in-Star.ensures))))))
     c.choose.ensures
 
 -- ---- an intersection
 
-pub intersection_goes_on-unreachable-requires : goal.intersection_goes_on-unreachable-requires
-intersection_goes_on-unreachable-requires t c =
-    shape_intersection c.args.piece.now.begin c.args.mark.now (tree_of c.args.left.now)
-    (tree_of c.args.right.now) c.requires.well.well c.in_default.not-NoMeet c.in_default.not-Meet
-
-pub intersection_goes_on-returns-in-NoMeet : goal.intersection_goes_on-returns-in-NoMeet
-intersection_goes_on-returns-in-NoMeet t c =
+pub intersection_goes_on-returns-then-is_none : goal.intersection_goes_on-returns-then-is_none
+intersection_goes_on-returns-then-is_none t c =
     let piece = c.args.piece.now in
     let left = tree_of c.args.left.now in
     let right = tree_of c.args.right.now in
     let r = c.nothing.result in
     subst (λ (m : MarkTree). StepsTo (marked m (intersection left right)) piece r.told
-    (residual_tree r.rest)) (sym (ap mark_of c.in-NoMeet.is))
-    (steps_no_intersection piece r.told (residual_tree r.rest) left right (c.nothing.ensures piece))
+    (residual_tree r.rest)) (sym (ap mark_of c.in-Meet.is))
+    (steps_no_intersection piece r.told (residual_tree r.rest) c.in-Meet.to
+    c.in-Meet.outer.items (mark_of c.in-Meet.one.value) (mark_of c.in-Meet.other.value) left
+    right (sym c.deref.ensures.value ∙ c.is_none.ensures.0 c.if-is_none.true)
+    (c.nothing.ensures piece))
 
-pub intersection_goes_on-returns-in_ok-both-in-Meet :
-    goal.intersection_goes_on-returns-in_ok-both-in-Meet
-intersection_goes_on-returns-in_ok-both-in-Meet t c =
+pub intersection_goes_on-returns : goal.intersection_goes_on-returns
+intersection_goes_on-returns t c =
     let piece = c.args.piece.now in
     let to = c.in-Meet.to in
-    let outer = c.in-Meet.outer in
-    let one = mark_of c.deref.result.now in
-    let other = mark_of c.deref-in-Meet.result.now in
+    let outer = c.in-Meet.outer.items in
+    let set = c.in_ok-zones-in-Meet.zones in
+    let one = mark_of c.deref-in-Meet-2.result.now in
+    let other = mark_of c.deref-in-Meet-3.result.now in
     let left = tree_of c.args.left.now in
     let right = tree_of c.args.right.now in
-    let shape : mark_of c.args.mark.now ≡ intersection_one to outer one other =
+    let shape : mark_of c.args.mark.now ≡ intersection_of to outer one other =
     ap mark_of c.in-Meet.is
-    ∙ ap (λ m. intersection_one to outer (mark_of m) (mark_of c.in-Meet.other.value))
-    (sym c.deref.ensures)
-    ∙ ap (λ m. intersection_one to outer one (mark_of m)) (sym c.deref-in-Meet.ensures) in
+    ∙ ap (λ m. intersection_of to outer (mark_of m) (mark_of c.in-Meet.other.value))
+    (sym c.deref-in-Meet-2.ensures)
+    ∙ ap (λ m. intersection_of to outer one (mark_of m)) (sym c.deref-in-Meet-3.ensures) in
     IfOk-weaker c.precede.result _ _
     (λ r steps. subst (λ (m : MarkTree). StepsTo (marked m (intersection left right)) piece r.told
     (residual_tree r.rest)) (sym shape)
     (steps_intersection piece r.told (residual_tree r.rest) to outer one other left right
+    (preceded_alike piece set outer
+    (rw c.deref-in-Meet.ensures.value at c.in_ok-zones-in-Meet.ensures) r.told
+    (residual_tree r.rest) (both (marked one left) (marked other right))
     (steps (both (marked one left) (marked other right)) piece
     (c.in_ok-both-in-Meet.ensures (marked one left) (marked other right) piece
-    c.in_ok-first-in-Meet.ensures c.in_ok-second-in-Meet.ensures))))
+    c.in_ok-first-in-Meet.ensures c.in_ok-second-in-Meet.ensures)))
+    (λ none. both_ways c.is_none.result c.if-is_none.false
+    (c.is_none.ensures.1 (c.deref.ensures.value ∙ none)))))
     c.precede.ensures
 
 -- ---- a restriction
 
-pub restriction_goes_on-unreachable-requires : goal.restriction_goes_on-unreachable-requires
-restriction_goes_on-unreachable-requires t c =
-    shape_restriction c.args.piece.now.begin c.args.mark.now (tree_of c.args.body.now)
-    c.args.interval.now c.requires.well.well c.in_default.not-NoWithin c.in_default.not-Within
-
-pub restriction_goes_on-returns-in-NoWithin : goal.restriction_goes_on-returns-in-NoWithin
-restriction_goes_on-returns-in-NoWithin t c =
+pub restriction_goes_on-returns-then-is_none : goal.restriction_goes_on-returns-then-is_none
+restriction_goes_on-returns-then-is_none t c =
     let piece = c.args.piece.now in
     let body = tree_of c.args.body.now in
     let interval = c.args.interval.now in
     let r = c.nothing.result in
     subst (λ (m : MarkTree). StepsTo (marked m (restriction body interval)) piece r.told
-    (residual_tree r.rest)) (sym (ap mark_of c.in-NoWithin.is))
-    (steps_no_restriction piece r.told (residual_tree r.rest) body interval
+    (residual_tree r.rest)) (sym (ap mark_of c.in-Within.is))
+    (steps_no_restriction piece r.told (residual_tree r.rest) c.in-Within.to
+    c.in-Within.outer.items (mark_of c.in-Within.inner.value) body interval
+    (sym c.deref.ensures.value ∙ c.is_none.ensures.0 c.if-is_none.true)
     (c.nothing.ensures piece))
 
-pub restriction_goes_on-returns-in_ok-lasting-in-Within :
-    goal.restriction_goes_on-returns-in_ok-lasting-in-Within
-restriction_goes_on-returns-in_ok-lasting-in-Within t c =
+pub restriction_goes_on-returns : goal.restriction_goes_on-returns
+restriction_goes_on-returns t c =
     let piece = c.args.piece.now in
     let to = c.in-Within.to in
-    let outer = c.in-Within.outer in
-    let one = mark_of c.deref.result.now in
+    let outer = c.in-Within.outer.items in
+    let set = c.in_ok-zones-in-Within.zones in
+    let one = mark_of c.deref-in-Within-2.result.now in
     let body = tree_of c.args.body.now in
     let interval = c.args.interval.now in
-    let shape : mark_of c.args.mark.now ≡ restriction_one to outer one =
+    let shape : mark_of c.args.mark.now ≡ restriction_of to outer one =
     ap mark_of c.in-Within.is
-    ∙ ap (λ m. restriction_one to outer (mark_of m)) (sym c.deref.ensures) in
+    ∙ ap (λ m. restriction_of to outer (mark_of m)) (sym c.deref-in-Within-2.ensures) in
     IfOk-weaker c.precede.result _ _
     (λ r steps. subst (λ (m : MarkTree). StepsTo (marked m (restriction body interval)) piece
     r.told (residual_tree r.rest)) (sym shape)
     (steps_restriction piece r.told (residual_tree r.rest) to outer one body interval
+    (preceded_alike piece set outer
+    (rw c.deref-in-Within.ensures.value at c.in_ok-zones-in-Within.ensures) r.told
+    (residual_tree r.rest) (lasting (marked one body) interval)
     (steps (lasting (marked one body) interval) piece
-    (c.in_ok-lasting-in-Within.ensures (marked one body) piece c.in_ok-next-in-Within.ensures))))
+    (c.in_ok-lasting-in-Within.ensures (marked one body) piece c.in_ok-next-in-Within.ensures)))
+    (λ none. both_ways c.is_none.result c.if-is_none.false
+    (c.is_none.ensures.1 (c.deref.ensures.value ∙ none)))))
     c.precede.ensures

@@ -6,7 +6,7 @@ use Rattle.tre_derive.proofs.marks.brief_goes_on.Goals as goal
 
 pub returns : goal.returns
 returns c =
-    IfOk-weaker c.begin_now.result _ _
+    IfOk-weaker c.begin_here.result _ _
     (λ r steps begun well. steps_brief c.args.piece.now (tree_of c.args.expr.now) c.args.here.now
     begun r.told (residual_tree r.rest) c.requires.brief well.well steps)
-    c.begin_now.ensures
+    c.begin_here.ensures

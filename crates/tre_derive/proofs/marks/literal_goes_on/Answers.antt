@@ -2,7 +2,6 @@ use Rattle.std.proofs.lemmas.Result.{IfOk-weaker}
 use Rattle.tre_syntax.specs.Expr.{tree_of}
 use Rattle.tre_residual.specs.Residual.{either, here, joined, residual_tree}
 use Rattle.tre_derive.proofs.MarkForms.{literal_ends, steps_literal}
-use Rattle.tre_derive.proofs.StepsOfForms.{step_here}
 use Rattle.tre_derive.proofs.marks.literal_goes_on.Goals as goal
 
 pub returns : goal.returns
@@ -18,7 +17,7 @@ returns c =
     (steps (joined set tree) (either (here begun) (joined begun tree)) piece
     c.in_ok-first.ensures
     (c.in_ok-going.ensures (here begun) (joined begun tree) piece
-    (step_here piece begun c.in_ok-try_clone.field-0
-    (literal_ends piece.begin tree set begun c.requires.literal well) c.in_ok-try_clone.ensures)
+    (c.in_ok-ended.ensures piece
+    (literal_ends piece.begin tree set begun c.requires.literal well))
     c.in_ok-second.ensures)))
     c.choose-2.ensures

@@ -4,8 +4,8 @@ use Rattle.std.proofs.lemmas.Bool.{both_ways}
 use Rattle.std.proofs.lemmas.Result.{IfOk-weaker}
 use Rattle.tre_syntax.specs.Expr.{tree_of}
 use Rattle.tre_syntax.specs.PatternTree.{sequence, intersection, repetition, restriction}
-use Rattle.tre_mark.specs.MarkTree.{mark_of, sequence_mark, repetition_mark, intersection_one, restriction_one}
-use Rattle.tre_mark.proofs.Starts.{start_moved, start_nothing, start_sequence, start_repetition, start_intersection, start_restriction}
+use Rattle.tre_mark.specs.MarkTree.{mark_of, sequence_mark, repetition_mark, intersection_one, restriction_one, intersection_of, restriction_of}
+use Rattle.tre_mark.proofs.Starts.{intersection_some, restriction_some, start_moved, start_nothing, start_sequence, start_repetition, start_intersection, start_restriction}
 use Rattle.tre_mark.proofs.mark.Mark.+start.Goals as goal
 
 pub returns-then-is_empty : goal.returns-then-is_empty
@@ -41,7 +41,8 @@ returns-in_ok-here-in-Star t c =
     IfOk-weaker c.repetition.result _ _
     (λ mark is. start_moved c.args.time zones (repetition_mark zones body) (mark_of mark)
     (repetition tree) (tree_of c.args.expr.now)
-    (is ∙ ap (λ here. repetition_mark here body) c.in_ok-here-in-Star.ensures) form
+    (is ∙ ap (λ here. repetition_mark here body)
+    (c.in_ok-here-in-Star.ensures ∙ c.zones.ensures.same)) form
     (start_repetition c.args.time zones c.requires.ends body tree c.in_ok-body-in-Star.ensures))
     c.repetition.ensures
 
@@ -62,7 +63,10 @@ returns-in_ok-outer-in-Meet t c =
     (λ mark is. start_moved time zones
     (intersection_one time zones one other) (mark_of mark)
     (intersection left right) (tree_of c.args.expr.now)
-    (is ∙ ap (λ outer. intersection_one time outer one other) c.in_ok-outer-in-Meet.ensures) form
+    (is ∙ ap (λ outer. intersection_of time outer one other)
+    (c.in_ok-outer-in-Meet.ensures ∙ c.zones-in-Meet.ensures.same)
+    ∙ intersection_some time zones one other
+    (λ none. both_ways c.is_empty.result c.if-is_empty.false (c.is_empty.ensures.1 none))) form
     (start_intersection time zones c.zones-zones.ensures.tight
     (λ none. both_ways c.is_empty.result c.if-is_empty.false (c.is_empty.ensures.1 none))
     c.requires.ends c.in_ok-moment-in-Meet.moment
@@ -83,7 +87,10 @@ returns-in_ok-outer-in-Within t c =
     IfOk-weaker c.restriction.result _ _
     (λ mark is. start_moved time zones (restriction_one time zones body)
     (mark_of mark) (restriction tree ends) (tree_of c.args.expr.now)
-    (is ∙ ap (λ outer. restriction_one time outer body) c.in_ok-outer-in-Within.ensures) form
+    (is ∙ ap (λ outer. restriction_of time outer body)
+    (c.in_ok-outer-in-Within.ensures ∙ c.zones-in-Within.ensures.same)
+    ∙ restriction_some time zones body
+    (λ none. both_ways c.is_empty.result c.if-is_empty.false (c.is_empty.ensures.1 none))) form
     (start_restriction time zones c.zones-zones-in-Within.ensures.tight
     (λ none. both_ways c.is_empty.result c.if-is_empty.false (c.is_empty.ensures.1 none))
     c.requires.ends c.in_ok-moment-in-Within.moment

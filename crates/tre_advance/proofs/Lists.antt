@@ -1,0 +1,220 @@
+-- Lists of zones that are put behind others.
+use Rattle.std.proofs.Common.{◌≡◌, ◌↔◌, ◌∙◌, ℕ, ◌+◌, ◌<◌, ◌≤◌, List, [], ◌∷◌, ◌++◌, length, get_or, slice_index_or, take, Option, Some, None, IfSome, inl, inr, ⊎_elim, ap, refl, sym, subst, arith}
+use Rattle.std.proofs.lemmas.List.{append_assoc, take_all, take_more}
+use Rattle.tre_pairs.specs.Pairs.{Pairs, Either}
+use Rattle.tre_pairs.proofs.Laws.{Agree}
+use Rattle.tre_zone.specs.Held.{Held, IsSetOf}
+use Rattle.tre_zone.specs.Interval.{IntervalEnds}
+use Rattle.tre_zone.specs.Zone.{ZoneHolds, IsCanonical, IsZoneOf}
+use Rattle.tre_zone.specs.United.{GivesUnion}
+use Rattle.tre_zone.specs.ZoneList.{SetHolds, AreCanonical, HoldExactly}
+use Rattle.tre_zone.specs.declared.zone_bounds.ZoneBounds.{ZoneBounds}
+use Rattle.tre_zone.proofs.ZoneListLemmas.{AreCanonical-push, SetHolds-append, SetHolds-empty}
+use Rattle.tre_edges.specs.declared.piece.Piece.{Piece}
+use Rattle.tre_syntax.specs.PatternTree.{PatternTree, intersection, restriction}
+use Rattle.tre_mark.specs.MarkTree.{MarkTree, intersection_of, restriction_of}
+use Rattle.tre_mark.proofs.Agreeing.{agree_then}
+use Rattle.tre_advance.specs.Adds.{Adds}
+use Rattle.tre_advance.specs.Moves.{AreAmong}
+use Rattle.tre_advance.specs.Advance.{Advances}
+use Rattle.tre_advance.proofs.FoundSets.{holds_alone}
+use Rattle.tre_advance.proofs.Onward.{both_nothing, lasting_nothing}
+use Rattle.tre_advance.proofs.SetsOf.{set_agrees, set_of}
+
+pub canonical_more : (zones : List ZoneBounds) (i : ℕ) (zone : ZoneBounds) → i < length zones
+    → zone ≡ get_or zones i zone → AreCanonical (take i zones) → IsCanonical zone
+    → AreCanonical (take (i + 1) zones)
+canonical_more zones i zone below is old one =
+    rw (take_more zones i zone below, ← is) (AreCanonical-push (take i zones) zone old one)
+
+pub canonical_all : (zones : List ZoneBounds) (i : ℕ) → length zones ≤ i
+    → AreCanonical (take i zones) → AreCanonical zones
+canonical_all zones i all old =
+    subst (λ (list : List ZoneBounds). AreCanonical list) (take_all i zones all) old
+
+-- What is gathered where there was nothing.
+pub gathered_alone : (old new : List ZoneBounds) (R : Pairs) → old ≡ []
+    → HoldExactly new (Either (SetHolds old) R) → HoldExactly new R
+gathered_alone old new R none held = record {
+  exact = λ a b n some rising.
+      let one = held.exact a b n some rising in (
+        λ h. ⊎_elim
+            (λ x. absurd (SetHolds-empty a b n
+            (subst (λ (list : List ZoneBounds). SetHolds list a b n) none x)))
+            (λ x. x) (one.0 h),
+        λ h. one.1 (inr h),
+      );
+}
+
+-- Of a list that holds the same.
+pub exact_again : (new old : List ZoneBounds) (R : Pairs) → HoldExactly new (SetHolds old)
+    → HoldExactly old R → HoldExactly new R
+exact_again new old R same held = record {
+  exact = λ a b n some rising.
+      let one = same.exact a b n some rising in
+      let two = held.exact a b n some rising in ((λ h. two.0 (one.0 h)), (λ h. one.1 (two.1 h)));
+}
+
+pub held_again : (new old : List ZoneBounds) → HoldExactly new (SetHolds old)
+    → Agree (Held new) (Held old)
+held_again new old same = record {
+  at = λ a b n some. (
+    (λ h. record { rising = h.rising; held = (same.exact a b n some h.rising).0 h.held }),
+    (λ h. record { rising = h.rising; held = (same.exact a b n some h.rising).1 h.held }),
+  );
+}
+
+-- What was told may be cut otherwise.
+pub advances_told : {mark : MarkTree} {tree : PatternTree} {enter : List ZoneBounds}
+    {piece : Piece} {rest : MarkTree} (told told' : List ZoneBounds)
+    → HoldExactly told' (SetHolds told) → Advances mark tree enter piece told rest
+    → Advances mark tree enter piece told' rest
+advances_told told told' same h = record {
+  tells = λ can. exact_again told' told _ same (h.tells can);
+  leaves = h.leaves;
+  takes = h.takes;
+  between = record {
+    begin = λ a b n some x. h.between.begin a b n some
+        (((held_again told' told same).at a b n some).0 x);
+    end = λ a b n some x. h.between.end a b n some
+        (((held_again told' told same).at a b n some).0 x);
+  };
+  well = h.well;
+}
+
+-- What is put behind an empty list is all of it.
+pub adds_alone : (old new : List ZoneBounds) (P : List ZoneBounds → Type 0) → old ≡ []
+    → Adds old new P → P new
+adds_alone old new P none h =
+    subst P (sym (h.is ∙ ap (λ list. list ++ h.added) none)) h.what
+
+pub held_append : (one other : List ZoneBounds)
+    → IsSetOf (one ++ other) (Either (Held one) (Held other))
+held_append one other = record {
+  pairs = λ a b n some.
+      let both = SetHolds-append one other a b n in (
+        (λ h. ⊎_elim (λ x. inl (record { rising = h.rising; held = x }))
+            (λ x. inr (record { rising = h.rising; held = x })) (both.0 h.held)),
+        (λ h. ⊎_elim (λ x. record { rising = x.rising; held = both.1 (inl x.held) })
+            (λ x. record { rising = x.rising; held = both.1 (inr x.held) }) h),
+      );
+}
+
+-- One after the other.
+pub adds_then : {old mid new : List ZoneBounds} {P Q R : List ZoneBounds → Type 0}
+    → Adds old mid P → Adds mid new Q
+    → ((x y : List ZoneBounds) → P x → Q y → R (x ++ y)) → Adds old new R
+adds_then {old} f g both = record {
+  added = f.added ++ g.added;
+  is = g.is ∙ ap (λ list. list ++ g.added) f.is ∙ append_assoc old f.added g.added;
+  what = both f.added g.added f.what g.what;
+}
+
+pub adds_weaker : {old new : List ZoneBounds} {P Q : List ZoneBounds → Type 0} → Adds old new P
+    → ((x : List ZoneBounds) → P x → Q x) → Adds old new Q
+adds_weaker f weaker = record { added = f.added; is = f.is; what = weaker f.added f.what }
+
+module _ (starts here enter new : List ZoneBounds) where
+  abbrev Three : Pairs
+  Three = Either (Either (Held starts) (Held here)) (Held enter)
+
+  pub put_all : new ≡ (starts ++ enter) ++ here → IsSetOf new Three
+  put_all is = subst (λ (list : List ZoneBounds). IsSetOf list Three) (sym is) (record {
+    pairs = λ a b n some.
+        let f = (held_append (starts ++ enter) here).pairs a b n some in
+        let g = (held_append starts enter).pairs a b n some in (
+          (λ h. ⊎_elim (λ x. ⊎_elim (λ y. inl (inl y)) (λ y. inr y) (g.0 x))
+              (λ x. inl (inr x)) (f.0 h)),
+          (λ h. ⊎_elim (λ x. ⊎_elim (λ y. f.1 (inl (g.1 (inl y)))) (λ y. f.1 (inr y)) x)
+              (λ x. f.1 (inl (g.1 (inr x)))) h),
+        );
+  })
+
+  pub put_among : new ≡ starts ++ enter → AreAmong here enter → IsSetOf new Three
+  put_among is among = subst (λ (list : List ZoneBounds). IsSetOf list Three) (sym is) (record {
+    pairs = λ a b n some.
+        let g = (held_append starts enter).pairs a b n some in (
+          (λ h. ⊎_elim (λ y. inl (inl y)) (λ y. inr y) (g.0 h)),
+          (λ h. ⊎_elim (λ x. ⊎_elim (λ y. g.1 (inl y))
+              (λ y. g.1 (inr (among.each a b n some y))) x)
+              (λ x. g.1 (inr x)) h),
+        );
+  })
+
+-- A list of one zone.
+pub zone_alone : (old new : List ZoneBounds) (zone : ZoneBounds) (R : Pairs) → old ≡ []
+    → new ≡ old ++ zone ∷ [] → IsZoneOf zone R → HoldExactly new R
+zone_alone old new zone R none is one =
+    subst (λ (list : List ZoneBounds). HoldExactly list R)
+    (sym (is ∙ ap (λ list. list ++ zone ∷ []) none)) (record {
+      exact = λ a b n some le.
+          let held = one.exact a b n some le in
+          let alike = holds_alone (zone ∷ []) zone refl a b n in
+          ((λ h. held.0 (alike.1 h)), (λ h. alike.0 (held.1 h)));
+    })
+
+pub put_more : (old more all new : List ZoneBounds) → all ≡ old ++ more
+    → HoldExactly new (SetHolds all) → IsSetOf new (Either (Held old) (Held more))
+put_more old more all new is same =
+    set_of (agree_then (held_again new all same)
+    (set_agrees (subst (λ (list : List ZoneBounds). IsSetOf list (Either (Held old) (Held more)))
+    (sym is) (held_append old more))))
+
+-- Nothing is told where nothing has begun or enters.
+pub lasting_idle : (piece : Piece) (to : ℕ) (outer enter : List ZoneBounds) (body : MarkTree)
+    (tree : PatternTree) (interval : IntervalEnds) → outer ≡ [] → enter ≡ []
+    → Advances (restriction_of to outer body) (restriction tree interval) enter piece []
+    (restriction_of to outer body)
+lasting_idle piece to outer enter body tree interval none nothing =
+    subst (λ (list : List ZoneBounds). Advances (restriction_of to list body)
+    (restriction tree interval) enter piece [] (restriction_of to list body)) (sym none)
+    (lasting_nothing piece enter [] nothing refl tree interval)
+
+pub both_idle : (piece : Piece) (to : ℕ) (outer enter : List ZoneBounds) (one other : MarkTree)
+    (left right : PatternTree) → outer ≡ [] → enter ≡ []
+    → Advances (intersection_of to outer one other) (intersection left right) enter piece []
+    (intersection_of to outer one other)
+both_idle piece to outer enter one other left right none nothing =
+    subst (λ (list : List ZoneBounds). Advances (intersection_of to list one other)
+    (intersection left right) enter piece [] (intersection_of to list one other)) (sym none)
+    (both_nothing piece enter [] nothing refl left right)
+
+-- Two zones that are one together.
+two_held : (one other : ZoneBounds) (a b n : ℕ)
+    → Either (ZoneHolds one) (ZoneHolds other) a b n ↔ SetHolds (one ∷ other ∷ []) a b n
+unfolding SetHolds
+two_held one other a b n = (
+  (λ h. ⊎_elim (λ x. inl x) (λ x. inr (inl x)) h),
+  (λ h. ⊎_elim (λ x. inl x) (λ x. ⊎_elim (λ y. inr y) (λ y. absurd y) x) h),
+)
+
+two_zones : (zones : List ZoneBounds) (one other : ZoneBounds) → 2 ≤ length zones
+    → length zones < 3 → one ≡ slice_index_or zones 0 one → other ≡ slice_index_or zones 1 other
+    → zones ≡ one ∷ other ∷ []
+two_zones [] one other least most is is' = absurd (omega arith)
+two_zones (first ∷ []) one other least most is is' = absurd (omega arith)
+two_zones (first ∷ second ∷ []) one other least most is is' =
+    ap (λ (z : ZoneBounds). z ∷ second ∷ []) (sym is) ∙ ap (λ (z : ZoneBounds). one ∷ z ∷ []) (sym is')
+two_zones (first ∷ second ∷ third ∷ zones) one other least most is is' = absurd (omega arith)
+
+two_as_one : (zones : List ZoneBounds) (one other : ZoneBounds) → 2 ≤ length zones
+    → length zones < 3 → one ≡ slice_index_or zones 0 one → other ≡ slice_index_or zones 1 other
+    → (whole : ZoneBounds) → IsZoneOf whole (Either (ZoneHolds one) (ZoneHolds other))
+    → HoldExactly (whole ∷ []) (SetHolds zones)
+two_as_one zones one other least most is is' whole union =
+    subst (λ (list : List ZoneBounds). HoldExactly (whole ∷ []) (SetHolds list))
+    (sym (two_zones zones one other least most is is')) (record {
+      exact = λ a b n some le.
+          let held = union.exact a b n some le in
+          let alike = holds_alone (whole ∷ []) whole refl a b n in
+          let both = two_held one other a b n in
+          ((λ h. both.0 (held.0 (alike.1 h))), (λ h. alike.0 (held.1 (both.1 h))));
+    })
+
+pub two_found : (zones : List ZoneBounds) (one other : ZoneBounds) → 2 ≤ length zones
+    → length zones < 3 → one ≡ slice_index_or zones 0 one → other ≡ slice_index_or zones 1 other
+    → (found : Option ZoneBounds) → GivesUnion found one other
+    → IfSome found (λ whole. HoldExactly (whole ∷ []) (SetHolds zones))
+two_found zones one other least most is is' None gives = tt
+two_found zones one other least most is is' (Some whole) gives =
+    two_as_one zones one other least most is is' whole gives

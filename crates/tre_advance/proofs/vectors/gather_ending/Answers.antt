@@ -1,0 +1,32 @@
+use Rattle.std.proofs.Common.{refl}
+use Rattle.tre_pairs.specs.Pairs.{Pairs, Either, Both}
+use Rattle.tre_zone.specs.Zone.{ZoneHolds, EndsAt}
+use Rattle.tre_zone.specs.ZoneList.{SetHolds}
+use Rattle.tre_zone.proofs.ZoneListLemmas.{SetHolds-empty}
+use Rattle.tre_zoneset.specs.ZoneSet.{FoundHolds}
+use Rattle.tre_zoneset.proofs.Unions.{HoldExactly-each_beside, HoldExactly-none_beside, HoldExactly-all, FoundHolds-exact, Both-additive_left}
+use Rattle.tre_advance.proofs.vectors.gather_ending.Goals as goal
+
+pub loop-zone-init : goal.loop-zone-init
+loop-zone-init c =
+    HoldExactly-none_beside c.args.found.now.items _ (λ a b n h. SetHolds-empty _ _ _ h.left)
+
+pub loop-zone-preserved : goal.loop-zone-preserved
+loop-zone-preserved c =
+    HoldExactly-each_beside
+    (λ (R : Pairs). Both R (EndsAt c.args.time))
+    (Both-additive_left (EndsAt c.args.time))
+    c.args.found.now.items c.loop-zone.found.items c.gather.new.found.items
+    c.args.zones.now c.loop-zone.zone-index c.zone-item.result
+    (FoundHolds c.ending_at.result)
+    c.loop-zone-test.true c.zone-item.is c.loop-zone.invariant c.in_ok-gather.ensures
+    (FoundHolds-exact c.ending_at.result (Both (ZoneHolds c.zone-item.result)
+    (EndsAt c.args.time)) c.ending_at.ensures)
+
+pub returns : goal.returns
+returns c =
+    HoldExactly-all
+    (λ (R : Pairs). Either (SetHolds c.args.found.now.items)
+    (Both R (EndsAt c.args.time)))
+    c.loop-zone.found.items c.args.zones.now c.args.zones.now c.loop-zone.zone-index
+    c.loop-zone-test.false refl c.loop-zone.invariant

@@ -1,0 +1,150 @@
+-- Each form goes on as its parts do.
+use Rattle.std.proofs.Common.{◌≡◌, ◌∙◌, [], None, ap, sym}
+use Rattle.std.proofs.lemmas.List.{append-nil}
+use Rattle.std.proofs.lemmas.Result.{on_ok_weaker}
+use Rattle.tre_syntax.specs.Expr.{tree_of}
+use Rattle.tre_mark.specs.MarkTree.{mark_of, sequence_mark, alternation_mark, intersection_of, restriction_of}
+use Rattle.tre_advance.proofs.Endings.{tells_alone}
+use Rattle.tre_advance.proofs.Lists.{both_idle, lasting_idle, adds_alone, adds_then, adds_weaker, advances_told, held_append}
+use Rattle.tre_advance.proofs.Onward.{advances_moved, sequence_advances, alternation_advances, once_between, repetition_once}
+use Rattle.tre_advance.proofs.walk.+advance.Goals as goal
+
+-- ---- a sequence
+
+pub advance_sequence-returns : goal.advance_sequence-returns
+advance_sequence-returns t c =
+    let one = mark_of c.deref_mut.result.now in
+    let other = mark_of c.deref_mut-in-Seq.result.now in
+    let one' = mark_of c.advance.new.mark in
+    let other' = mark_of c.advance-in-Seq.new.mark in
+    let left = tree_of c.args.left.now in
+    let right = tree_of c.args.right.now in
+    let first = c.advance.new.told.items in
+    let mid = c.prune.new.zones.items in
+    let shape : mark_of c.args.mark.now ≡ sequence_mark one other =
+    ap mark_of c.in-Seq.is
+    ∙ ap (λ m. sequence_mark (mark_of m) (mark_of c.in-Seq.other.value))
+    (sym c.deref_mut.ensures.value)
+    ∙ ap (λ m. sequence_mark one (mark_of m)) (sym c.deref_mut-in-Seq.ensures.value) in
+    on_ok_weaker c.advance-in-Seq.result
+    (λ second. adds_weaker second (λ told goes. advances_moved shape
+    (sequence_advances c.args.piece.now one other one' other' left right c.args.entering.now mid
+    told c.requires.enter
+    (advances_told first mid c.in_ok-prune-in-Seq.ensures
+    (adds_alone c.clear.new.self.items first _ c.clear.ensures.items
+    c.in_ok-advance-in-Seq.ensures))
+    (rw c.deref.ensures.value at goes))))
+    c.advance-in-Seq.ensures
+
+-- ---- an alternation
+
+pub advance_alternation-returns : goal.advance_alternation-returns
+advance_alternation-returns t c =
+    let one = mark_of c.deref_mut.result.now in
+    let other = mark_of c.deref_mut-in-Alt.result.now in
+    let one' = mark_of c.advance.new.mark in
+    let other' = mark_of c.advance-in-Alt.new.mark in
+    let left = tree_of c.args.left.now in
+    let right = tree_of c.args.right.now in
+    let shape : mark_of c.args.mark.now ≡ alternation_mark one other =
+    ap mark_of c.in-Alt.is
+    ∙ ap (λ m. alternation_mark (mark_of m) (mark_of c.in-Alt.other.value))
+    (sym c.deref_mut.ensures.value)
+    ∙ ap (λ m. alternation_mark one (mark_of m)) (sym c.deref_mut-in-Alt.ensures.value) in
+    on_ok_weaker c.advance-in-Alt.result
+    (λ second. adds_then c.in_ok-advance-in-Alt.ensures second
+    (λ x y f g. advances_moved shape
+    (alternation_advances c.args.piece.now one other one' other' left right c.args.entering.now
+    x y _ (held_append x y) f g)))
+    c.advance-in-Alt.ensures
+
+-- ---- a repetition
+
+pub advance_body-repeat-requires-clause-starts : goal.advance_body-repeat-requires-clause-starts
+advance_body-repeat-requires-clause-starts t c =
+    let ended = c.ending.new.found.items in
+    once_between c.args.piece.now c.args.here.now.items c.args.entering.now
+    (mark_of c.args.inner.now) (tree_of c.args.body.now) c.requires.ends c.requires.enter
+    ended c.put_starts.new.starts.items
+    (tells_alone c.clear.ensures.items c.in_ok-ending.ensures None)
+    (rw c.deref.ensures.value at c.in_ok-put_starts.ensures)
+
+pub advance_body-returns : goal.advance_body-returns
+advance_body-returns t c =
+    let ended = c.ending.new.found.items in
+    let mid = c.repeat.new.starts.items in
+    let last = c.advance.new.told.items in
+    record {
+      added = mid;
+      is = rw c.deref-3.ensures.value at c.in_ok-extend_from_slice.ensures.items;
+      what = repetition_once c.args.piece.now c.args.here.now.items c.args.entering.now
+          (mark_of c.args.inner.now) (tree_of c.args.body.now) c.requires.ends c.requires.enter
+          ended c.put_starts.new.starts.items
+          (tells_alone c.clear.ensures.items c.in_ok-ending.ensures None)
+          (rw c.deref.ensures.value at c.in_ok-put_starts.ensures)
+          mid last c.keep_ending.new.kept.items (mark_of c.advance.new.mark)
+          c.in_ok-repeat.ensures.tells c.in_ok-repeat.ensures.between
+          (adds_alone c.clear-2.new.self.items last _ c.clear-2.ensures.items
+          (rw c.deref-4.ensures.value at c.in_ok-advance.ensures))
+          (rw c.deref-2.ensures.value at c.in_ok-keep_ending.ensures);
+    }
+
+-- ---- a restriction
+
+pub advance_lasting-returns-then-is_idle : goal.advance_lasting-returns-then-is_idle
+advance_lasting-returns-then-is_idle t c =
+    let both = c.is_idle.ensures c.if-is_idle.true in
+    record {
+      added = [];
+      is = sym (append-nil c.args.told.now.items);
+      what = lasting_idle c.args.piece.now c.args.to.now c.args.outer.now.items c.args.entering.now
+          (mark_of c.args.inner.now) (tree_of c.args.body.now) c.args.interval.now
+          (rw c.deref.ensures.value at both.0) both.1;
+    }
+
+pub advance_lasting-returns : goal.advance_lasting-returns
+advance_lasting-returns t c =
+    let outer = c.args.outer.now.items in
+    let inner = mark_of c.args.inner.now in
+    let mid = c.advance.new.told.items in
+    on_ok_weaker c.go_on_lasting.result
+    (λ goes. goes (tree_of c.args.body.now) c.moments_for.new.moments.items
+    (mark_of c.make_ready.new.inner) (restriction_of c.args.to.now outer inner)
+    c.in_ok-moments_for.ensures
+    (adds_alone c.clear.new.self.items mid _ c.clear.ensures.items
+    (rw c.deref-3.ensures.value at c.in_ok-advance.ensures))
+    (rw c.deref-2.ensures.value at c.in_ok-make_ready.ensures.is))
+    c.go_on_lasting.ensures
+
+-- ---- an intersection
+
+pub advance_both-returns-then-is_idle : goal.advance_both-returns-then-is_idle
+advance_both-returns-then-is_idle t c =
+    let both = c.is_idle.ensures c.if-is_idle.true in
+    record {
+      added = [];
+      is = sym (append-nil c.args.told.now.items);
+      what = both_idle c.args.piece.now c.args.to.now c.args.outer.now.items c.args.entering.now
+          (mark_of c.args.one.now) (mark_of c.args.other.now) (tree_of c.args.left.now)
+          (tree_of c.args.right.now) (rw c.deref.ensures.value at both.0) both.1;
+    }
+
+pub advance_both-returns : goal.advance_both-returns
+advance_both-returns t c =
+    let outer = c.args.outer.now.items in
+    let one = mark_of c.args.one.now in
+    let other = mark_of c.args.other.now in
+    let mid = c.advance.new.told.items in
+    let more = c.advance-2.new.told.items in
+    on_ok_weaker c.go_on_both.result
+    (λ goes. goes (tree_of c.args.left.now) (tree_of c.args.right.now)
+    c.moments_for.new.moments.items
+    (mark_of c.ready_both.new.one) (mark_of c.ready_both.new.other)
+    (intersection_of c.args.to.now outer one other)
+    c.in_ok-moments_for.ensures
+    (adds_alone c.clear.new.self.items mid _ c.clear.ensures.items
+    (rw c.deref-3.ensures.value at c.in_ok-advance.ensures))
+    (adds_alone c.clear-2.new.self.items more _ c.clear-2.ensures.items
+    (rw c.deref-4.ensures.value at c.in_ok-advance-2.ensures))
+    (rw c.deref-2.ensures.value at c.in_ok-ready_both.ensures.is))
+    c.go_on_both.ensures

@@ -1,0 +1,202 @@
+// Small operations on lists of zones, in vectors that stay.
+ghost use Rattle.std.specs.Prelude.{◌≡◌, ◌≤◌, ◌↔◌, [], ◌∷◌, Any, IfSome, IsTrue, OnOk};
+ghost use Rattle.tre_pairs.specs.Pairs.{Composed, Either, Both};
+ghost use Rattle.tre_pairs.specs.declared.TheConstants.{TIME_MAX};
+ghost use Rattle.tre_zone.specs.Held.{Held, IsSetOf};
+ghost use Rattle.tre_zone.specs.Zone.{ZoneHolds, EndsAt, Includes};
+ghost use Rattle.tre_zone.specs.ZoneList.{SetHolds, AreCanonical, HoldExactly};
+ghost use Rattle.tre_advance.specs.Moves.{AreAmong};
+
+use std::alloc::{AllocError, Global};
+use std::mem;
+use tre_compose::compose;
+use tre_zone::Zone;
+use tre_zoneset::{ZoneSet, are_few, gather};
+
+/// For the proof: each of the zones is one by its bounds. It changes nothing.
+pub fn known(zones: &[Zone])
+    ensures { AreCanonical zones.now }
+{
+    for zone in zones {
+        let _bounds = zone.bounds();
+    }
+}
+
+/// Whether there is no zone.
+pub fn is_none(zones: &[Zone]) -> bool
+    ensures { IsTrue result ↔ (zones.now ≡ []) }
+{
+    zones.is_empty()
+}
+
+/// Adds the pairs of the first zones, each followed by one of the second.
+pub fn gather_behind(found: &mut Vec<Zone>, first: &[Zone], second: &Zone) -> Result<(), AllocError>
+    ensures { OnOk result (HoldExactly found.new.items
+        (Either (SetHolds found.old.items)
+        (Composed (SetHolds first.now) (ZoneHolds second.now)))) }
+{
+    for one in first {
+        gather(found, compose(one, second))?;
+    }
+    Ok(())
+}
+
+/// The same of several zones.
+pub fn gather_each(found: &mut Vec<Zone>, first: &[Zone], second: &[Zone]) -> Result<(), AllocError>
+    ensures { OnOk result (HoldExactly found.new.items
+        (Either (SetHolds found.old.items)
+        (Composed (SetHolds first.now) (SetHolds second.now)))) }
+{
+    for other in second {
+        gather_behind(found, first, other)?;
+    }
+    Ok(())
+}
+
+/// Adds what the zones have in common with the others, two by two.
+pub fn gather_meets(
+    found: &mut Vec<Zone>,
+    zones: &[Zone],
+    others: &[Zone],
+) -> Result<(), AllocError>
+    ensures { OnOk result (HoldExactly found.new.items
+        (Either (SetHolds found.old.items) (Both (SetHolds zones.now) (SetHolds others.now)))) }
+{
+    for zone in zones {
+        gather_meet(found, zone, others)?;
+    }
+    Ok(())
+}
+
+fn gather_meet(found: &mut Vec<Zone>, zone: &Zone, others: &[Zone]) -> Result<(), AllocError>
+    ensures { OnOk result (HoldExactly found.new.items
+        (Either (SetHolds found.old.items) (Both (ZoneHolds zone.now) (SetHolds others.now)))) }
+{
+    for other in others {
+        gather(found, zone.meet(other))?;
+    }
+    Ok(())
+}
+
+// Adds the pairs of the zones that end at the time.
+fn gather_ending(found: &mut Vec<Zone>, zones: &[Zone], time: u64) -> Result<(), AllocError>
+    requires { time ≤ TIME_MAX }
+    ensures { OnOk result (HoldExactly found.new.items
+        (Either (SetHolds found.old.items) (Both (SetHolds zones.now) (EndsAt time)))) }
+{
+    for zone in zones {
+        gather(found, zone.ending_at(time))?;
+    }
+    Ok(())
+}
+
+/// The pairs of the zones that end at the time, in place of what was kept.
+pub fn keep_ending(
+    alloc: Global,
+    kept: &mut Vec<Zone>,
+    zones: &[Zone],
+    time: u64,
+) -> Result<(), AllocError>
+    requires { time ≤ TIME_MAX }
+    ensures { OnOk result (IsSetOf kept.new.items (Both (Held zones.now) (EndsAt time))) }
+{
+    kept.clear();
+    gather_ending(kept, zones, time)?;
+    unite(alloc, kept)
+}
+
+/// Leaves out zones that others include.
+#[inline(always)]
+pub fn prune(alloc: Global, zones: &mut Vec<Zone>) -> Result<(), AllocError>
+    ensures { OnOk result (HoldExactly zones.new.items (SetHolds zones.old.items)) }
+{
+    if zones.len() < 2 {
+        return Ok(());
+    }
+    if zones.len() == 2 {
+        return prune_two(zones);
+    }
+    prune_more(alloc, zones)
+}
+
+/// The same, with one zone for zones that touch and are one together.
+#[inline(always)]
+pub fn unite(alloc: Global, zones: &mut Vec<Zone>) -> Result<(), AllocError>
+    ensures { OnOk result (HoldExactly zones.new.items (SetHolds zones.old.items)) }
+{
+    if zones.len() < 2 {
+        return Ok(());
+    }
+    if zones.len() == 2 {
+        return prune_two(zones);
+    }
+    unite_more(alloc, zones)
+}
+
+// Two zones, as one where they are one together.
+fn prune_two(zones: &mut Vec<Zone>) -> Result<(), AllocError>
+    ensures { OnOk result (HoldExactly zones.new.items (SetHolds zones.old.items)) }
+{
+    match one_of_two(zones) {
+        Some(whole) => {
+            zones.clear();
+            zones.push(whole)?;
+            Ok(())
+        }
+        None => Ok(()),
+    }
+}
+
+fn one_of_two(zones: &[Zone]) -> Option<Zone>
+    ensures { IfSome result (λ whole. HoldExactly (whole ∷ []) (SetHolds zones.now)) }
+{
+    match zones {
+        [one, other] => one.united(other),
+        _ => None,
+    }
+}
+
+fn prune_more(alloc: Global, zones: &mut Vec<Zone>) -> Result<(), AllocError>
+    ensures { OnOk result (HoldExactly zones.new.items (SetHolds zones.old.items)) }
+{
+    let all = mem::replace(zones, Vec::new(alloc));
+    let set = ZoneSet::of_zones(alloc, all)?;
+    *zones = set.into_zones();
+    Ok(())
+}
+
+fn unite_more(alloc: Global, zones: &mut Vec<Zone>) -> Result<(), AllocError>
+    ensures { OnOk result (HoldExactly zones.new.items (SetHolds zones.old.items)) }
+{
+    let all = mem::replace(zones, Vec::new(alloc));
+    let set = ZoneSet::of_touching(alloc, all)?;
+    *zones = set.into_zones();
+    Ok(())
+}
+
+/// Whether each of the zones is seen to be in one of the others: where both are few.
+pub fn all_among(zones: &[Zone], others: &[Zone]) -> bool
+    ensures { IsTrue result → AreAmong zones.now others.now }
+{
+    if !are_few(zones) || !are_few(others) {
+        return false;
+    }
+    all_included(zones, others)
+}
+
+fn all_included(zones: &[Zone], others: &[Zone]) -> bool
+    ensures { IsTrue result → AreAmong zones.now others.now }
+{
+    for zone in zones {
+        if !is_included(zone, others) {
+            return false;
+        }
+    }
+    true
+}
+
+fn is_included(zone: &Zone, others: &[Zone]) -> bool
+    ensures { IsTrue result ↔ Any (λ other. Includes other zone.now) others.now }
+{
+    others.iter().any(|other| other.includes(zone))
+}
