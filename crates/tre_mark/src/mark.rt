@@ -49,9 +49,9 @@ pub enum Mark {
         body: Box<Mark>,
         room: Room,
     },
-    /// Of an intersection that began behind each pair of `outer`, and of both its sides. `to` is the
-    /// first tick by which each of these pairs has ended. Where there is none, it has not begun, or
-    /// nothing is left of it: then the marks of its sides mean nothing.
+    /// Of an intersection that began behind each pair of `outer`, and of both its sides. `to` is
+    /// the first tick by which each of these pairs has ended. Where there is none, it has not
+    /// begun, or nothing is left of it: then the marks of its sides mean nothing.
     Meet {
         to: u64,
         outer: Vec<Zone>,
