@@ -1,9 +1,11 @@
 //! Laws of the words of a command line, each as a function whose contract it is.
 
-ghost use Rattle.std.specs.Prelude.{◌≡◌, ◌≢◌, ◌∷◌, ℕ, true, List, [], Some, codes};
-ghost use Rattle.clap.specs.Words.{fault_of};
+ghost use Rattle.std.specs.Prelude.{◌≡◌, ◌≢◌, ◌∷◌, ◌++◌, ℕ, true, List, [], Some, codes};
+ghost use Rattle.std.specs.Option.{option_or};
+ghost use Rattle.clap.specs.Words.{fault_of, first_of, matches_of};
 ghost use Rattle.tre_words.specs.CommandLine.{command_line};
 ghost use Rattle.tre_words.specs.Job.{IsJob, GivesJob, GivesNoJob, plain_job, watch_job};
+ghost use Rattle.tre_words.specs.Settings.{Setting, Types, default_of, value_in};
 ghost use Rattle.tre_words.specs.declared.job.Format.TheVariants.{Csv, Vcd};
 ghost use Rattle.tre_words.specs.declared.job.Job.{Job};
 ghost use Rattle.tre_words.specs.declared.job.Mode.TheVariants.{Offline, Online};
@@ -79,4 +81,29 @@ pub fn watches_refused()
         (codes "--watch" ∷ codes "--format" ∷ codes "csv" ∷ codes "f" ∷ []) }
     ensures both_standard_input { GivesNoJob (codes "--watch" ∷ codes "-" ∷ []) }
     ensures made_run { GivesNoJob (codes "--watch" ∷ codes "--generate" ∷ codes "5" ∷ []) }
+{}
+
+/// Texts that are whatever they are: the values of options, and what stands behind `--`.
+pub fn any_values()
+    ensures behind { (input text : List ℕ) →
+        GivesJob ((codes "--input=" ++ input) ∷ codes "--" ∷ text ∷ [])
+        (plain_job Offline input text) }
+    ensures two { (input minus text : List ℕ) →
+        GivesJob ((codes "--minus=" ++ minus) ∷ codes "--format=vcd"
+        ∷ (codes "--input=" ++ input) ∷ codes "--" ∷ text ∷ [])
+        (record (plain_job Offline input text) { minus = Some minus; format = Vcd }) }
+{}
+
+/// Options in any order, each once, and among them a word that is no option: `clap` has no fault
+/// of them, and finds what they say.
+pub fn typed_settings()
+    ensures faultless { (before after : List Setting) (text : List ℕ) (words : List (List ℕ)) →
+        Types before after text words → fault_of command_line words ≡ [] }
+    ensures text { (before after : List Setting) (text : List ℕ) (words : List (List ℕ)) →
+        Types before after text words →
+        first_of (codes "EXPR") (matches_of command_line words) ≡ Some text }
+    ensures values { (before after : List Setting) (text : List ℕ) (words : List (List ℕ)) →
+        Types before after text words → (name : List ℕ) → name ≢ codes "EXPR" →
+        first_of name (matches_of command_line words)
+        ≡ option_or (value_in name (before ++ after)) (default_of name) }
 {}
