@@ -85,7 +85,8 @@ LastUpTo-next zones i most own larger zone within is old all same =
 
 pub LastUpTo-all : (zones : List ZoneBounds) (i most : ℕ) → length zones ≤ i
     → LastUpTo (Some most) (take i zones) → LastUpTo (Some most) zones
-LastUpTo-all zones i most past all = subst (λ (list : List ZoneBounds). LastUpTo (Some most) list) (take_all i zones past) all
+LastUpTo-all zones i most past all =
+    subst (λ (list : List ZoneBounds). LastUpTo (Some most) list) (take_all i zones past) all
 
 pub LastUpTo-any : (zones : List ZoneBounds) → LastUpTo None zones
 LastUpTo-any zones = record { each = λ a b n some le h. record { within = tt } }
