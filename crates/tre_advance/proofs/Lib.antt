@@ -15,6 +15,7 @@ pub mod FormSteps
 pub mod StarSteps
 pub mod AtomSteps
 pub mod Onward
+pub mod Nested
 pub mod Takings
 -- marks without what lasts too long
 pub mod Shortenings

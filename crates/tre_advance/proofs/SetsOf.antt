@@ -1,5 +1,5 @@
 -- Sets of ordered pairs, made by the operators.
-use Rattle.std.proofs.Common.{◌≡◌, ℕ, ◌*◌, ◌<◌, ◌⊎◌, List, [], ⊎_elim, subst, refl}
+use Rattle.std.proofs.Common.{◌≡◌, ℕ, ◌*◌, ◌<◌, List, [], ⊎_elim, subst, refl}
 use Rattle.tre_pairs.specs.Pairs.{Pairs, Composed, Both, Lasting, Chain}
 use Rattle.tre_pairs.proofs.Agreement.{Agree-Chain}
 use Rattle.tre_pairs.proofs.Chains.{Composed-at, Chain-none, Chain-cases}

@@ -10,7 +10,7 @@ ghost use Rattle.tre_mark.specs.Marked.{EndBetween, IsWellAt};
 ghost use Rattle.tre_edges.specs.Piece.{end_of_piece};
 ghost use Rattle.tre_advance.specs.Adds.{Adds};
 ghost use Rattle.tre_advance.specs.Advance.{Advances};
-ghost use Rattle.tre_advance.specs.Moves.{IsBriefTree, IsLiteralTree};
+ghost use Rattle.tre_advance.specs.Moves.{IsBriefTree, IsLiteralTree, IsRepetitionTree};
 
 use crate::again::{put_starts, repeat};
 use crate::atoms::{advance_brief, advance_literal};
@@ -192,9 +192,40 @@ fn advance_repetition(
             here,
             body: inner,
             room,
-        } => advance_body(alloc, here, inner, room, body, entering, piece, told),
+        } => match body {
+            Expr::Star(_) => advance_nested(alloc, here, inner, room, body, entering, piece, told),
+            _ => advance_body(alloc, here, inner, room, body, entering, piece, told),
+        },
         _ => unreachable!(),
     }
+}
+
+// A repetition of a repetition: the inner one does all of it.
+#[cycle(advance)]
+fn advance_nested(
+    alloc: Global,
+    here: &mut Vec<Zone>,
+    inner: &mut Mark,
+    room: &mut Room,
+    body: &Expr,
+    entering: &[Zone],
+    piece: &Piece,
+    told: &mut Vec<Zone>,
+) -> Result<(), AllocError>
+    requires numbers { NumbersBelow NAMES_MAX (tree_of body.now) }
+    requires nested { IsRepetitionTree (tree_of body.now) }
+    requires well { IsWellAt piece.now.begin (mark_of inner.old) (tree_of body.now) }
+    requires ends { EndAt piece.now.begin here.old.items }
+    requires enter { EndBetween piece.now.begin (end_of_piece piece.now) entering.now }
+    ensures { OnOk result (Adds told.old.items told.new.items (λ added.
+        Advances (repetition_mark here.old.items (mark_of inner.old))
+        (repetition (tree_of body.now)) entering.now piece.now added
+        (repetition_mark here.new.items (mark_of inner.new)))) }
+{
+    room.mid.clear();
+    put_starts(here, entering, &mut room.mid)?;
+    here.clear();
+    advance(alloc, inner, body, &room.mid, piece, told)
 }
 
 // The body goes on, and begins again behind each pair behind which it may: those are known before

@@ -1,11 +1,14 @@
 -- Each form goes on as its parts do.
-use Rattle.std.proofs.Common.{◌≡◌, ◌∙◌, [], None, ap, sym}
+use Rattle.std.proofs.Common.{◌≡◌, ◌∙◌, [], None, ap, subst, sym, arith}
 use Rattle.std.proofs.lemmas.List.{append-nil}
 use Rattle.std.proofs.lemmas.Result.{on_ok_weaker}
 use Rattle.tre_syntax.specs.Expr.{tree_of}
+use Rattle.tre_edges.specs.Piece.{end_of_piece}
+use Rattle.tre_mark.specs.Marked.{EndBetween}
 use Rattle.tre_mark.specs.MarkTree.{mark_of, sequence_mark, alternation_mark, intersection_of, restriction_of}
 use Rattle.tre_advance.proofs.Endings.{tells_alone}
 use Rattle.tre_advance.proofs.Lists.{both_idle, lasting_idle, adds_alone, adds_then, adds_weaker, advances_told, held_append}
+use Rattle.tre_advance.proofs.Nested.{nested_advances, nested_between, starts_alone}
 use Rattle.tre_advance.proofs.Onward.{advances_moved, sequence_advances, alternation_advances, once_between, repetition_once}
 use Rattle.tre_advance.proofs.walk.+advance.Goals as goal
 
@@ -59,6 +62,29 @@ advance_alternation-returns t c =
     c.advance-in-Alt.ensures
 
 -- ---- a repetition
+
+pub advance_nested-advance-requires : goal.advance_nested-advance-requires
+advance_nested-advance-requires t c =
+    let starts = c.put_starts.new.starts.items in
+    let enter = subst (EndBetween c.args.piece.now.begin (end_of_piece c.args.piece.now))
+    (sym c.deref-2.ensures.value)
+    (nested_between c.args.piece.now c.args.here.now.items c.args.entering.now starts
+    (mark_of c.args.inner.now) c.requires.ends c.requires.enter
+    (starts_alone c.clear.new.self.items c.args.here.now.items c.args.entering.now starts
+    c.clear.ensures.items (rw c.deref.ensures.value at c.in_ok-put_starts.ensures))) in
+    (omega arith, (c.requires.numbers, (c.requires.well, enter)))
+
+pub advance_nested-returns : goal.advance_nested-returns
+advance_nested-returns t c =
+    let starts = c.put_starts.new.starts.items in
+    on_ok_weaker c.advance.result
+    (λ more. adds_weaker more (λ told goes. nested_advances c.args.piece.now c.args.here.now.items
+    c.args.entering.now starts (mark_of c.args.inner.now) c.requires.ends c.requires.enter
+    (starts_alone c.clear.new.self.items c.args.here.now.items c.args.entering.now starts
+    c.clear.ensures.items (rw c.deref.ensures.value at c.in_ok-put_starts.ensures))
+    c.clear-2.new.self.items told (mark_of c.advance.new.mark) c.clear-2.ensures.items
+    (tree_of c.args.body.now) c.requires.nested (rw c.deref-2.ensures.value at goes)))
+    c.advance.ensures
 
 pub advance_body-repeat-requires-clause-starts : goal.advance_body-repeat-requires-clause-starts
 advance_body-repeat-requires-clause-starts t c =

@@ -15,6 +15,9 @@ decreases-advance_alternation l = 5 * max (size-Expr l.left.now) (size-Expr l.ri
 abbrev pub decreases-advance_repetition : goal.decreases-advance_repetition
 decreases-advance_repetition l = 5 * size-Expr l.body.now + 4
 
+abbrev pub decreases-advance_nested : goal.decreases-advance_nested
+decreases-advance_nested l = 5 * size-Expr l.body.now + 2
+
 abbrev pub decreases-advance_body : goal.decreases-advance_body
 decreases-advance_body l = 5 * size-Expr l.body.now + 2
 
