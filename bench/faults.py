@@ -142,7 +142,8 @@ def try_case(runs, words):
 def try_closed(runs, words):
     """Each stream closed in turn: the run ends as where that stream can't be read or written."""
     whole = runs.run(words, "")
-    unread = whole if "--input" in words else (READ[0], b"", READ[1])
+    reads = whole[0] == 0 and "--input" not in words
+    unread = (READ[0], b"", READ[1]) if reads else whole
     unwritten = (WRITE[0], b"", WRITE[1]) if whole[1] else whole
     wanted = (unread, unwritten, (whole[0], whole[1], ""))
     for stream in range(3):
