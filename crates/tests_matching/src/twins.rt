@@ -1,6 +1,6 @@
 // Random pieces of a trace read with residuals and with a mark: both tell the same pairs, piece by
 // piece.
-ghost use Rattle.std.specs.Prelude.{IfOk};
+ghost use Rattle.std.specs.Prelude.{IfOk, OnOk};
 ghost use Rattle.tre_edges.specs.Piece.{end_of_piece};
 ghost use Rattle.tre_mark.specs.MarkTree.{mark_of};
 ghost use Rattle.tre_mark.specs.Marked as marks;
@@ -71,28 +71,39 @@ fn are_same(one: &ZoneSet, other: &ZoneSet) -> bool {
     true
 }
 
-// Reads the piece with both. A failure where they tell other pairs.
-fn read(alloc: Global, twins: Twins, expr: &Expr, piece: &Piece) -> Result<Twins, Fail>
+// Reads the piece with a mark in which nothing begins.
+fn read_mark(
+    alloc: Global,
+    mark: &mut Mark,
+    expr: &Expr,
+    piece: &Piece,
+) -> Result<ZoneSet, AllocError>
     requires numbers { NumbersBelow NAMES_MAX (tree_of expr.now) }
-    requires forms { IsWellAt piece.now.begin (residual_tree twins.forms) }
-    requires mark { marks.IsWellAt piece.now.begin (mark_of twins.mark) (tree_of expr.now) }
-    ensures forms { IfOk result (λ twins.
-        IsWellAt (end_of_piece piece.now) (residual_tree twins.forms)) }
-    ensures mark { IfOk result (λ twins.
-        marks.IsWellAt (end_of_piece piece.now) (mark_of twins.mark) (tree_of expr.now)) }
+    requires well { marks.IsWellAt piece.now.begin (mark_of mark.old) (tree_of expr.now) }
+    ensures { IfOk result (λ told.
+        marks.IsWellAt (end_of_piece piece.now) (mark_of mark.new) (tree_of expr.now)) }
 {
-    let Twins { forms, mark } = twins;
-    let mut mark = mark;
-    let forms = step(alloc, &forms, piece)?;
     let none = ZoneSet::new(alloc);
-    let told = advanced(alloc, &mut mark, expr, &none, piece)?;
+    advanced(alloc, mark, expr, &none, piece)
+}
+
+// Reads the piece with both. A failure where they tell other pairs.
+fn read(alloc: Global, twins: &mut Twins, expr: &Expr, piece: &Piece) -> Result<(), Fail>
+    requires numbers { NumbersBelow NAMES_MAX (tree_of expr.now) }
+    requires forms { IsWellAt piece.now.begin (residual_tree twins.old.forms) }
+    requires mark { marks.IsWellAt piece.now.begin (mark_of twins.old.mark) (tree_of expr.now) }
+    ensures forms { OnOk result
+        (IsWellAt (end_of_piece piece.now) (residual_tree twins.new.forms)) }
+    ensures mark { OnOk result
+        (marks.IsWellAt (end_of_piece piece.now) (mark_of twins.new.mark) (tree_of expr.now)) }
+{
+    let told = read_mark(alloc, &mut twins.mark, expr, piece)?;
+    let forms = step(alloc, &twins.forms, piece)?;
     if !are_same(&forms.told, &told) {
         return Err("they tell other pairs".into());
     }
-    Ok(Twins {
-        forms: forms.rest,
-        mark,
-    })
+    twins.forms = forms.rest;
+    Ok(())
 }
 
 // Four pieces, of which the first has the begins. A failure where the twins tell other pairs.
@@ -100,14 +111,13 @@ fn compare(alloc: Global, expr: &Expr, lengths: [Length; 4]) -> Result<(), Fail>
     requires { NumbersBelow NAMES_MAX (tree_of expr.now) }
 {
     let one = first_piece(lengths[0]);
-    let twins = begun(alloc, expr, &one)?;
+    let mut twins = begun(alloc, expr, &one)?;
     let two = next_piece(&one, lengths[1]);
-    let twins = read(alloc, twins, expr, &two)?;
+    read(alloc, &mut twins, expr, &two)?;
     let three = next_piece(&two, lengths[2]);
-    let twins = read(alloc, twins, expr, &three)?;
+    read(alloc, &mut twins, expr, &three)?;
     let four = next_piece(&three, lengths[3]);
-    let _twins = read(alloc, twins, expr, &four)?;
-    Ok(())
+    read(alloc, &mut twins, expr, &four)
 }
 
 // Compares over as many random runs of pieces.

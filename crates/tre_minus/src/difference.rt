@@ -11,7 +11,7 @@ use crate::cut::{Part, take_away};
 use std::alloc::{AllocError, Global};
 use tre_index::{Row, ZoneIndex, are_in_turn, find_stretch, key_meeting, next_of_few};
 use tre_zone::Zone;
-use tre_zoneset::{ZoneSet, index_of, is_short_pass};
+use tre_zoneset::{ZoneSet, index_of};
 
 /// The pairs that `set` holds and `taken` does not.
 pub fn minus(alloc: Global, set: &ZoneSet, taken: &ZoneSet) -> Result<ZoneSet, AllocError>
@@ -23,13 +23,32 @@ pub fn minus(alloc: Global, set: &ZoneSet, taken: &ZoneSet) -> Result<ZoneSet, A
     Ok(left)
 }
 
+// Where a zone meets more than so many of those to be taken away, an index finds them.
+const FEW_TAKEN: usize = 32;
+
+// Whether each zone meets a few of the others alone. What is left of a zone goes over all that it
+// meets once for each of its parts.
+fn are_short_stretches(zones: &[Zone], others: &[Zone]) -> bool
+    requires { AreInTurn (map row_of others.now) }
+{
+    let mut near = 0;
+    for zone in zones {
+        let stretch = find_stretch(others, near, &key_meeting(zone));
+        if stretch.to - stretch.from > FEW_TAKEN {
+            return false;
+        }
+        near = stretch.from;
+    }
+    true
+}
+
 // Zones of what is left of the zones.
 fn zones_left(alloc: Global, zones: &[Zone], taken: &[Zone]) -> Result<Vec<Zone>, AllocError>
     requires { AreCanonical taken.now }
     ensures { IfOk result (λ found.
         HoldExactly found.items (Except (SetHolds zones.now) (SetHolds taken.now))) }
 {
-    if are_in_turn(taken) && is_short_pass(zones, taken) {
+    if are_in_turn(taken) && are_short_stretches(zones, taken) {
         return left_in_turn(alloc, zones, taken);
     }
     left_by_index(alloc, zones, taken)

@@ -3,7 +3,7 @@ use Rattle.tre_zone.specs.declared.zone_bounds.ZoneBounds.{ZoneBounds}
 use Rattle.tre_edges.specs.Piece.{end_of_piece}
 use Rattle.tre_mark.specs.Marked.{EndBetween}
 use Rattle.tre_advance.proofs.StarSteps.{between_none}
-use Rattle.tests_matching.proofs.twins.read.Goals as goal
+use Rattle.tests_matching.proofs.twins.read_mark.Goals as goal
 
 pub advanced-requires-clause-enter : goal.advanced-requires-clause-enter
 advanced-requires-clause-enter c =
