@@ -1,8 +1,8 @@
 # The answers of check_dump.sh to many dumps, in one table: awk -v answers=FOLDER -f counts.awk CHECKS LIST
 # LIST has the name of a dump on each line. Printed are the dumps that have no whole answer, with the
 # reason, and for each check how many zones it has in how many dumps. The status is 1 if a dump has none.
+{ sub(/\r$/, "") }
 FNR == NR {
-    sub(/\r$/, "")
     if ($0 !~ /^[ \t]*(#|$)/) {
         split($0, part, "=")
         gsub(/[ \t]/, "", part[1])
