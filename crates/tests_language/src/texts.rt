@@ -3,74 +3,8 @@ use std::alloc::{AllocError, Global};
 use std::test::Fail;
 use tests_support::{set_of, zone_of};
 use tre_decimal::SCALE_MAX;
-use tre_parse::parse;
-use tre_show::{offline_text, pattern_text, printed_order, zone_line, zone_lines};
+use tre_show::{offline_text, printed_order, zone_line, zone_lines};
 use tre_zone::Zone;
-
-// Patterns as an engineer writes them, and as they are printed.
-const PATTERNS: [(&str, &str); 9] = [
-    ("<:p:> % [2,inf)", "(rise(p);p;fall(p)) % [2,inf)"),
-    ("p+?", "p;p* | eps"),
-    ("p|(q|p)", "p | (q | p)"),
-    ("(p|q);p&q", "(p | q);p & q"),
-    ("{p || q && !p}*", "{p || q && !p}*"),
-    ("fall(!(p && q)) % (0,4]", "fall(!(p && q)) % (0,4]"),
-    ("event ( ready )", "event(ready)"),
-    (
-        "(event(a);p)*&event(b)?",
-        "(event(a);p)* & (event(b) | eps)",
-    ),
-    ("p ; event(q) ; q ; event(p)", "p;event(q);q;event(p)"),
-];
-
-// The text of the pattern that a text spells at a scale.
-fn printed(alloc: Global, text: &str, scale: u8) -> Result<String, Fail> {
-    let scale = scale.min(SCALE_MAX);
-    let pattern = parse(alloc, text, scale)?;
-    let printed = pattern_text(alloc, &pattern, scale)?;
-    Ok(printed)
-}
-
-// Whether that is this text.
-fn is_printed(alloc: Global, text: &str, scale: u8, want: &str) -> Result<bool, Fail> {
-    Ok(printed(alloc, text, scale)?.as_str() == want)
-}
-
-#[test]
-fn the_text_of_a_pattern_has_only_the_brackets_that_it_needs(rt: HostRuntime) -> Result<(), Fail> {
-    for (text, want) in &PATTERNS {
-        assert!(rt; is_printed(rt.alloc(), *text, 0, *want)?, "{text}");
-    }
-    Ok(())
-}
-
-// Patterns, a scale, and as they are printed at it.
-const SCALED: [(&str, u8, &str); 7] = [
-    ("p % [0.5,inf)", 2, "p % [0.50,inf)"),
-    ("p % (000.500,7]", 2, "p % (0.50,7.00]"),
-    ("p % [3.0,4]", 0, "p % [3,4]"),
-    ("p % [3.0,4]", 1, "p % [3.0,4.0]"),
-    ("p;(q % [0.001,0.01)|r)", 3, "p;(q % [0.001,0.010) | r)"),
-    ("p % [0,109951162777.6]", 1, "p % [0.0,109951162777.6]"),
-    (
-        "p % (0.000000001,1099.511627776]",
-        9,
-        "p % (0.000000001,1099.511627776]",
-    ),
-];
-
-#[test]
-fn the_numbers_of_a_pattern_have_as_many_decimals_as_the_scale(
-    rt: HostRuntime,
-) -> Result<(), Fail> {
-    for (text, scale, want) in &SCALED {
-        assert!(rt;
-            is_printed(rt.alloc(), *text, *scale, *want)?,
-            "{text} {scale}"
-        );
-    }
-    Ok(())
-}
 
 // The line of the zone, behind another text.
 fn behind_text(alloc: Global, zone: &Zone, scale: u8) -> Result<String, AllocError> {

@@ -27,8 +27,6 @@ mod session_ends;
 #[cfg(test)]
 mod sessions;
 #[cfg(test)]
-mod steady;
-#[cfg(test)]
 mod twins;
 #[cfg(test)]
 mod whole_traces;

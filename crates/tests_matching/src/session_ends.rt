@@ -1,11 +1,10 @@
 // What sessions tell of events: with the segments at whose begins these happen, and with the end.
 
-use crate::given::{are_matches, pattern};
+use crate::given::pattern;
 use std::alloc::Global;
 use std::test::Fail;
 use tre_online::Session;
-use tre_trace::{Segment, Trace};
-use tre_zoneset::ZoneSet;
+use tre_trace::Segment;
 
 /// The lengths, valuations and events of segments. On a valuation of 1 p is true, of 2 q, of 3
 /// both; of events of 1 a happens, of 2 b, of 3 both.
@@ -71,85 +70,6 @@ fn the_end_tells_the_pair(rt: HostRuntime) -> Result<(), Fail> {
             tells(rt.alloc(), *text, *segments, *events, pair)? == *want,
             "{text} {events} {pair:?}"
         );
-    }
-    Ok(())
-}
-
-// Whether what is told up to any segment are the matches up to its end, and with the end all
-// matches.
-fn tells_matches(alloc: Global, text: &str, segments: Segments, events: u64) -> Result<bool, Fail> {
-    let pattern = pattern(alloc, text)?;
-    let mut session = session(alloc, text, &[])?;
-    let mut trace = Trace::new(alloc);
-    let mut told = ZoneSet::new(alloc);
-    for &(len, val, ev) in segments {
-        let segment = Segment { len, val, ev };
-        trace.push(segment)?;
-        told.join(&session.segment(segment)?)?;
-        if !are_matches(alloc, &pattern, &trace, &told, 24)? {
-            return Ok(false);
-        }
-    }
-    trace.set_last(events);
-    told.join(&session.close(events)?)?;
-    let right = are_matches(alloc, &pattern, &trace, &told, 24)?;
-    Ok(right)
-}
-
-/// `@ a / 2 p / @ a b / 1 p q / 1 q / @ b / 2 p / @ a / 1 p / 1`
-const EVENTFUL: Segments<'static> = &[
-    (2, 1, 1),
-    (1, 3, 3),
-    (1, 2, 0),
-    (2, 1, 2),
-    (1, 1, 1),
-    (1, 0, 0),
-];
-
-/// `1 p / 1 p / @ a / 1 p / @ a / 2 p q / @ b / 2 p`
-const STEADY: Segments<'static> = &[(1, 1, 0), (1, 1, 0), (1, 1, 1), (2, 3, 1), (2, 1, 2)];
-
-const PATTERNS: [&str; 11] = [
-    "event(a)",
-    "p;event(a)",
-    "(event(a);p)*",
-    "event(a) & event(b)",
-    "p % [2,2];event(a)",
-    "(p;event(a)) % [1,3] | event(b);q",
-    "((p;event(a)) & (p;event(b)))*",
-    "rise(p);event(a)",
-    "event(a);(p & (p;event(b)));q",
-    "((event(a) | event(b));(p % [1,2]))+ % [2,5]",
-    "((event(a);p)*)*",
-];
-
-#[test]
-fn told_with_the_end_are_the_matches(rt: HostRuntime) -> Result<(), Fail> {
-    for text in &PATTERNS {
-        for events in 0..4 {
-            assert!(rt;
-                tells_matches(rt.alloc(), *text, EVENTFUL, events)?,
-                "{text} {events}"
-            );
-            assert!(rt;
-                tells_matches(rt.alloc(), *text, STEADY, events)?,
-                "{text} {events}"
-            );
-        }
-    }
-    Ok(())
-}
-
-// Where no segment came and no event happens, a session has told nothing, also of an empty match.
-#[test]
-fn told_with_the_end_alone_are_the_matches(rt: HostRuntime) -> Result<(), Fail> {
-    for text in &PATTERNS {
-        for events in 1..4 {
-            assert!(rt;
-                tells_matches(rt.alloc(), *text, &[], events)?,
-                "{text} {events}"
-            );
-        }
     }
     Ok(())
 }

@@ -1,10 +1,10 @@
 // What sessions tell of the segments that come, and what they keep.
 
-use crate::given::{Lengths, are_matches, pattern};
+use crate::given::{Lengths, pattern};
 use std::alloc::Global;
 use std::test::Fail;
 use tre_online::Session;
-use tre_trace::{PushFault, Segment, Trace};
+use tre_trace::{PushFault, Segment};
 use tre_zoneset::ZoneSet;
 
 fn session(alloc: Global, text: &str) -> Result<Session, Fail> {
@@ -104,102 +104,6 @@ fn a_refused_segment_changes_nothing(rt: HostRuntime) -> Result<(), Fail> {
     Ok(())
 }
 
-// A session, the trace that it has read, and what it told of it.
-#[derive(Drop)]
-struct Reading {
-    session: Session,
-    trace: Trace,
-    told: ZoneSet,
-}
-
-impl Reading {
-    // Reads a segment, and says whether what was told so far are the matches so far.
-    fn read(&mut self, alloc: Global, len: u64, val: u64) -> Result<bool, Fail> {
-        let new = read(&mut self.session, len, val)?;
-        self.told.join(&new)?;
-        self.trace.push(Segment::plain(len, val))?;
-        let right = are_matches(alloc, self.session.pattern(), &self.trace, &self.told, 40)?;
-        Ok(right)
-    }
-}
-
-// Whether after each of the segments what was told so far are the matches so far.
-fn tells_matches(alloc: Global, text: &str, lengths: Lengths) -> Result<bool, Fail> {
-    let mut reading = Reading {
-        session: session(alloc, text)?,
-        trace: Trace::new(alloc),
-        told: ZoneSet::new(alloc),
-    };
-    for &(len, val) in lengths {
-        if !reading.read(alloc, len, val)? {
-            return Ok(false);
-        }
-    }
-    Ok(true)
-}
-
-/// `1 p / 2 p q / 1 q / 1 p / 1 q / 3 p q / 1 / 2 p / 1 p q / 1 q`
-const MIXED: Lengths<'static> = &[
-    (1, 1),
-    (2, 3),
-    (1, 2),
-    (1, 1),
-    (1, 2),
-    (3, 3),
-    (1, 0),
-    (2, 1),
-    (1, 3),
-    (1, 2),
-];
-
-/// `2 p / 1 p / 1 q / 1 / 2 p q / 2 q / 1 p / 1 p / 2 q / 1 p q`
-const REPEATED: Lengths<'static> = &[
-    (2, 1),
-    (1, 1),
-    (1, 2),
-    (1, 0),
-    (2, 3),
-    (2, 2),
-    (1, 1),
-    (1, 1),
-    (2, 2),
-    (1, 3),
-];
-
-const PATTERNS: [&str; 22] = [
-    "p",
-    "p;q",
-    "(p % [1,1]);q",
-    "(p;fall(p)) & p",
-    "p;rise(q)",
-    "(p;q)*",
-    "(p % [1,1])*",
-    "p % [0,3]",
-    "(p;q) % [2,3]",
-    "((p % [1,1]);q) & ((p;q) % [2,3])",
-    "p;rise(q) | (p % [1,1])*",
-    "((p;q) % [2,3])*",
-    "((p;q)* & (p % [1,1])*) | (p;fall(p)) & p",
-    "p;(q % [1,2])",
-    "rise(p);(p & (p;q))",
-    "(p & (true % [1,2]))*",
-    "(p|q) % [2,inf)",
-    "(p;q) & (p|q)",
-    "((p % [1,2]);(q % [1,2]))+ % [2,5]",
-    "((p;q)*)*",
-    "p***;q",
-    "(((p % [1,1])* | q)*)* & (p|q)+",
-];
-
-#[test]
-fn told_so_far_are_the_matches(rt: HostRuntime) -> Result<(), Fail> {
-    for text in &PATTERNS {
-        assert!(rt; tells_matches(rt.alloc(), *text, MIXED)?, "{text}");
-        assert!(rt; tells_matches(rt.alloc(), *text, REPEATED)?, "{text}");
-    }
-    Ok(())
-}
-
 // How many nodes are kept after each of the segments, which are ticks on which these hold in turn:
 // the fewest and the most.
 fn kept(alloc: Global, text: &str, vals: [u64; 2], turns: u16) -> Result<(u64, u64), Fail> {
@@ -230,5 +134,29 @@ fn what_is_kept_stays_small(rt: HostRuntime) -> Result<(), Fail> {
     assert!(rt; kept(rt.alloc(), "(p;q)*", [1, 2], 500)? == (4, 4));
     assert!(rt; kept_after(rt.alloc(), "p % [0,3]", 100)? == 2);
     assert!(rt; kept_after(rt.alloc(), "p & p", 100)? == 3);
+    Ok(())
+}
+
+// The most zones that a block has, of eight segments of one tick and two by turns on which p stays
+// true.
+fn most_zones(alloc: Global, text: &str) -> Result<usize, Fail> {
+    let mut session = session(alloc, text)?;
+    let mut most = 0;
+    for place in 0u64..8 {
+        let told = read(&mut session, 1 + place % 2, 1)?;
+        most = most.max(told.zones().len());
+    }
+    Ok(most)
+}
+
+/// The most zones that a block has, however long the stretch is: what began earlier and ends where
+/// the segment begins or later, and what begins in it.
+const ZONES: [(&str, usize); 3] = [("p", 2), ("true", 2), ("{p || q}", 2)];
+
+#[test]
+fn a_block_has_few_zones(rt: HostRuntime) -> Result<(), Fail> {
+    for (text, most) in &ZONES {
+        assert!(rt; most_zones(rt.alloc(), *text)? == *most, "{text}");
+    }
     Ok(())
 }

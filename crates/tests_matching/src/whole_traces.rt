@@ -30,40 +30,6 @@ const TICKS: &str = "[0,0] [3,3] [3,3]\n[0,1] [2,3] [2,2]\n[0,2] [1,3] [1,1]\n[0
 /// p asks, and q answers within four ticks.
 const ANSWERED: &str = "<:p:> ; (!q % [1,4]) ; rise(q)";
 
-/// Of each row: the pattern, the segments and the zones.
-const ZONES: [(&str, Lengths<'static>, &str); 13] = [
-    ("eps", NOTHING, "[0,0] [0,0] [0,0]\n"),
-    ("p;p", TICK, "[0,1) (0,1] (0,1]\n"),
-    ("p;q", MIXED, "[0,3) (3,9] (0,9]\n[5,9) (5,9] (0,4]\n"),
-    ("p % (1,2)", LONG, "[0,2) (1,3] (1,2)\n"),
-    ("<:p:>", PULSE, "[2,2] [5,5] [3,3]\n"),
-    ("<:p:>", LONG, ""),
-    ("(p % [1,1])*", LONG, TICKS),
-    ("eps*", TICK, "[0,1] [0,1] [0,0]\n"),
-    ("(p*)*", TICK, "[0,1) (0,1] (0,1]\n[0,1] [0,1] [0,0]\n"),
-    ("{p || q}", TURNS, "[0,2) (0,2] (0,2]\n"),
-    ("p|q", TURNS, "[0,1) (0,1] (0,1]\n[1,2) (1,2] (0,1]\n"),
-    ("p & q", MIXED, "[5,9) (5,9] (0,4]\n"),
-    (ANSWERED, BUS, "[10,10] [15,15] [5,5]\n"),
-];
-
-/// Whether the pattern has just these zones.
-fn matches_zones(alloc: Global, text: &str, lengths: Lengths, zones: &str) -> Result<bool, Fail> {
-    let found = found(alloc, text, lengths)?;
-    Ok(has_text(alloc, &found, zones)?)
-}
-
-#[test]
-fn matches_are_the_zones(rt: HostRuntime) -> Result<(), Fail> {
-    for (text, lengths, zones) in &ZONES {
-        assert!(rt;
-            matches_zones(rt.alloc(), *text, *lengths, *zones)?,
-            "{text}"
-        );
-    }
-    Ok(())
-}
-
 /// Whether a pair of times is matched.
 fn has(alloc: Global, text: &str, lengths: Lengths, pair: &(u64, u64, u32)) -> Result<bool, Fail> {
     let (a, b, n) = *pair;

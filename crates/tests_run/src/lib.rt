@@ -1,4 +1,4 @@
-//! Tests of whole runs: of tre_tool over memory, from words and bytes to bytes.
+//! Tests of runs that no row of the program `cases` can say: calls that fail in turn, large inputs.
 //! Also of tre_words and tre_generate.
 //!
 //! The crate has nothing but tests, and uses what it tests by its public calls, so that those
@@ -8,28 +8,16 @@
 #[cfg(test)]
 mod at_last_count;
 #[cfg(test)]
-mod dumps;
-#[cfg(test)]
-mod events;
-#[cfg(test)]
 mod failures;
 #[cfg(test)]
 mod jobs;
-#[cfg(test)]
-mod limits;
 #[cfg(test)]
 mod made_runs;
 #[cfg(test)]
 mod memory;
 #[cfg(test)]
-mod offline;
-#[cfg(test)]
 mod online;
-#[cfg(test)]
-mod options;
 #[cfg(test)]
 mod refusals;
 #[cfg(test)]
 mod watch;
-#[cfg(test)]
-mod words;

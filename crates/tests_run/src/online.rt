@@ -1,6 +1,6 @@
 // What a run with `--online` prints, block by block.
 
-use crate::memory::{Device, Ran, SOUND, ran_slowly, ran_soundly, ran_with, times};
+use crate::memory::{Device, SOUND, ran_slowly, ran_soundly, ran_with, times};
 use std::alloc::{AllocError, Global};
 use std::test::Fail;
 use tests_support::zone_of;
@@ -101,119 +101,6 @@ fn blocks_tell_stretches(rt: HostRuntime) -> Result<(), Fail> {
         assert!(rt;
             tells(rt.alloc(), row, 4096)? == *told,
             "{pattern}, block {block}"
-        );
-    }
-    Ok(())
-}
-
-/// Of each row: the pattern, the trace, and the output. The last lines say where the segments end,
-/// and the trace.
-const ENDS: [(&str, &str, &str); 5] = [
-    ("eps", "", "end 0\n"),
-    ("q", "2 p\n3 p\n", "at 2\nat 5\nend 5\n"),
-    ("q", "2 p\n3 p", "at 2\nat 5\nend 5\n"),
-    ("q", "# bus\n2 p\n\n", "at 2\nend 2\n"),
-    (
-        "rise(q)",
-        "2 p\n3 p\n1 q\n",
-        "at 2\nat 5\n[5,5] [5,5] [0,0]\nat 6\nend 6\n",
-    ),
-];
-
-#[test]
-fn blocks_and_the_end(rt: HostRuntime) -> Result<(), Fail> {
-    for (pattern, text, out) in &ENDS {
-        let ran = ran_soundly(rt.alloc(), &["--online", *pattern], *text)?;
-        assert!(rt; ran.is(0, *out, ""), "{pattern} on {text}");
-    }
-    Ok(())
-}
-
-/// Of each row: the trace, the code, and both outputs. The blocks before a fault of the input stand
-/// there, and no end.
-const FAULTS: [(&str, u8, &str, &str); 4] = [
-    ("2 p\n0 p\n3 p\n", 4, "at 2\n", "montre: trace: Zero at 2\n"),
-    ("2 p\nx", 4, "at 2\n", "montre: trace: BadNumber at 2\n"),
-    ("x\n", 4, "", "montre: trace: BadNumber at 1\n"),
-    ("2 p\n3 p\n4", 5, "at 2\nat 5\n", "montre: input too long\n"),
-];
-
-fn limited(alloc: Global, text: &str, most: usize) -> Result<Ran, AllocError> {
-    ran_slowly(alloc, &["--online", "--max-bytes", "8", "q"], text, most)
-}
-
-#[test]
-fn blocks_before_a_fault(rt: HostRuntime) -> Result<(), Fail> {
-    for (text, code, out, err) in &FAULTS {
-        assert!(rt;
-            limited(rt.alloc(), *text, 1)?.is(*code, *out, *err),
-            "{text}"
-        );
-        assert!(rt;
-            limited(rt.alloc(), *text, 4096)?.is(*code, *out, *err),
-            "{text}"
-        );
-    }
-    Ok(())
-}
-
-/// How many bytes a read gives at most, the call of the input that fails, or 0, and the write that
-/// fails.
-type Failing = (usize, u64, u64);
-
-/// Whether a run over such devices ends with this code and writes this.
-fn ends(
-    alloc: Global,
-    words: &[&str],
-    failing: &Failing,
-    out: &str,
-    code: u8,
-) -> Result<bool, AllocError> {
-    let (most, fails, write_fails) = *failing;
-    let read = Device {
-        most: most.max(1),
-        fails,
-    };
-    let write = Device {
-        most: 4096,
-        fails: write_fails,
-    };
-    let ran = ran_with(alloc, words, "2 p\n3 p\n1 q\n", [read, write, SOUND])?;
-    Ok(ran.has_out(code, out))
-}
-
-const ALL: &str = "[5,5] [5,5] [0,0]\nend 6\n";
-
-const BLOCKS: &str = "at 2\nat 5\n[5,5] [5,5] [0,0]\nat 6\n";
-
-/// Of each row: what fails, and the output and the code offline and online.
-const FAILS: [(Failing, &str, u8, &str, u8); 13] = [
-    ((4, 1, 0), "", 6, "", 6),
-    ((4, 2, 0), "", 6, "", 6),
-    ((4, 3, 0), "", 6, "at 2\n", 6),
-    ((4, 4, 0), "", 6, "at 2\nat 5\n", 6),
-    ((4, 5, 0), "", 6, BLOCKS, 6),
-    ((4, 0, 1), "", 7, "", 7),
-    ((4, 0, 2), ALL, 0, "at 2\n", 7),
-    ((4, 0, 3), ALL, 0, "at 2\nat 5\n", 7),
-    ((4, 0, 4), ALL, 0, BLOCKS, 7),
-    ((4096, 0, 2), ALL, 0, "at 2\n", 7),
-    ((4096, 0, 3), ALL, 0, "at 2\nat 5\n", 7),
-    ((1, 5, 0), "", 6, "", 6),
-    ((1, 6, 0), "", 6, "at 2\n", 6),
-];
-
-#[test]
-fn each_device_fails(rt: HostRuntime) -> Result<(), Fail> {
-    for (failing, out, code, blocks, online) in &FAILS {
-        assert!(rt;
-            ends(rt.alloc(), &["rise(q)"], failing, *out, *code)?,
-            "{failing:?}"
-        );
-        let words = ["--online", "rise(q)"];
-        assert!(rt;
-            ends(rt.alloc(), &words, failing, *blocks, *online)?,
-            "{failing:?}"
         );
     }
     Ok(())

@@ -79,18 +79,3 @@ pub(crate) fn read<R: TraceReader>(
     let end = feed_whole(reader, bytes, most, &mut segments);
     told(alloc, &segments, &end)
 }
-
-// The same, behind some bytes that are fed before, as one piece.
-pub(crate) fn read_cut<R: TraceReader>(
-    alloc: Global,
-    reader: &mut R,
-    front: &[u8],
-    back: &[u8],
-) -> Result<String, AllocError> {
-    let mut segments = Vec::new(alloc);
-    let end = match feed(reader, front, &mut segments) {
-        Ok(()) => feed_whole(reader, back, 1 << 40, &mut segments),
-        Err(fault) => Err(fault),
-    };
-    told(alloc, &segments, &end)
-}

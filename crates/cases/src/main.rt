@@ -1,0 +1,53 @@
+//! Runs of the program over memory, as files of cases say them: what a run is given, and what it
+//! must come to.
+//!
+//! A case is a block of lines. Each line is a word and, behind a blank, a text.
+//!
+//! ```text
+//! # Two stretches of p, of which the second goes on.
+//! montre --online 'p;q'
+//! < 2 p\n
+//! < 3 q\n
+//! > at 2\n[0,2) (2,5] (0,5]\nat 5\nend 5\n
+//! ```
+//!
+//! - `montre`: a case begins, with the words of the run; in `'..'` a word may have blanks.
+//! - `<`: the bytes of the input.
+//! - `checks`: the bytes of the file `f` of checks; where there is no such line, to open it fails.
+//! - `>` and `!`: what the output and standard error are given.
+//! - `=`: the code with which the run ends, where it isn't 0.
+//! - `file`: the name of the input, where it isn't `-`.
+//! - `reads`, `asks`, `writes`, `tells`: how many bytes a call takes at most, and which call fails
+//!   (0: none), of the input, of the file of checks, of the output, of standard error.
+//! - `alike`, in the place of all that must come: on so many halves of ticks, the blocks of a run
+//!   with `--online` over the first lines of the input, however many, tell just what the run finds.
+//! - `says`, in the place of all that must come: what a watch of the checks `p0`, `p1` .. and `e0`,
+//!   `e1` .. tells of the input, with reads of 1 to 5 bytes too: each segment as its length and its
+//!   valuation, with `@` and the events at its begin, and then the events at the end, or the fault.
+//!
+//! Texts of several lines of one word follow one another as they are. In a text `\n`, `\r`, `\t`
+//! and `\\` are one byte, and so is `\x` with two digits. Behind `#` is a comment.
+//!
+//! A case is run with reads of 4,096 bytes and again with reads of one byte, but where `reads` says
+//! otherwise. The program prints what differs, and how many cases each file has.
+#![tactic(auto)]
+
+mod alike;
+mod case;
+mod device;
+mod running;
+mod says;
+mod text;
+
+use crate::running::run_file;
+use std::{env, fs};
+
+fn main(rt: HostRuntime) -> Result<(), anyhow::Error> {
+    let alloc = rt.alloc();
+    let words = env::args(&rt)?.collect::<Vec<String>>(alloc)?;
+    for name in words.iter().skip(1) {
+        let text = fs::read_to_string(&rt, name.as_str())?;
+        run_file(&rt, alloc, name.as_str(), text.as_str())?;
+    }
+    Ok(())
+}
