@@ -1,13 +1,15 @@
 #!/usr/bin/env python3
-"""How time and memory of an online run grow with the trace, and what a run takes over a literal that
-stays true: two markdown tables.
+"""How time and memory of an online run grow with the trace, what a run takes over a literal that
+stays true, over segments by chance and in turn, and how deep repetitions may go: four markdown
+tables.
 
     python3 bench/online.py PATH_OF_MONTRE [MOST_SEGMENTS]
 
-For Linux. Standard library alone, and valgrind for the second table.
+For Linux. Standard library alone, and valgrind for all tables but the first.
 """
 
 import os
+import random
 import re
 import shutil
 import subprocess
@@ -32,6 +34,13 @@ STEADY = [
 ]
 STEADY_SIZES = [10**3, 10**4, 10**5]
 BYTES = 10**8  # a run that writes more is stopped
+# Over these what a block tells grows with the trace, so look at what a zone takes.
+MANY = ["(p;q)*", "(p % [1,1])*"]
+MANY_SIZES = [200, 800]
+# Repetitions in repetitions, over a few segments.
+DEEP = ["*", "*?"]
+DEEP_SIZES = [4, 100, 200, 400]
+DEEP_SEGMENTS = 8
 
 
 def write_steady(folder, size):
@@ -39,6 +48,27 @@ def write_steady(folder, size):
     if not os.path.exists(path):
         with open(path, "w") as file:
             file.writelines("1 p\n" for _ in range(size))
+    return path
+
+
+def write_turns(folder, size):
+    """p and q in turn."""
+    path = os.path.join(folder, "turns%d" % size)
+    if not os.path.exists(path):
+        with open(path, "w") as file:
+            file.writelines("1 %s\n" % "pq"[place % 2] for place in range(size))
+    return path
+
+
+def write_chance(folder, size):
+    """p, q and r by chance, by a fixed seed."""
+    path = os.path.join(folder, "chance%d" % size)
+    if not os.path.exists(path):
+        chance = random.Random(1)
+        with open(path, "w") as file:
+            for _ in range(size):
+                names = [name for name in "pqr" if chance.random() < 0.5]
+                file.write(" ".join([str(chance.randint(1, 5))] + names) + "\n")
     return path
 
 
@@ -97,6 +127,38 @@ def print_steady(montre, folder, most):
                      [montre, "--online", "--format", "vcd", "top.req"], write_clock, folder, sizes)
 
 
+def print_many(montre, folder):
+    print_head(["pattern", "trace", "segments", "instructions a segment", "bytes a segment",
+                "instructions a byte"])
+    for pattern in MANY:
+        for label, write in (("in turn", write_turns), ("by chance", write_chance)):
+            for size in MANY_SIZES:
+                trace = write(folder, size)
+                instructions, written = counted([montre, "--online", pattern], trace)
+                if instructions is None:
+                    print_row([cell(pattern), label, str(size), written, "-", "-"])
+                    continue
+                print_row([cell(pattern), label, str(size), "%.0f" % (instructions / size),
+                           "%.0f" % (written / size), "%.0f" % (instructions / written)])
+
+
+def print_deep(montre, folder):
+    print_head(["pattern", "times", "instructions a segment", "growth with the depth"])
+    for sign in DEEP:
+        before = None
+        for depth in DEEP_SIZES:
+            pattern = "p" + depth * sign
+            instructions, written = counted([montre, "--online", pattern],
+                                            write_chance(folder, DEEP_SEGMENTS))
+            if instructions is None:
+                print_row([cell("p" + sign), str(depth), written, "-"])
+                break
+            each = instructions / DEEP_SEGMENTS
+            growth = ratio(each, before[0] * depth / before[1]) if before else "-"
+            print_row([cell("p" + sign), str(depth), "%.0f" % each, growth])
+            before = each, depth
+
+
 def print_rows(montre, folder, sizes, pattern, of_p):
     """A row for each size; `of_p` keeps the seconds of `p` by size."""
     output = os.path.join(folder, "output")
@@ -132,6 +194,10 @@ def main():
         if shutil.which("valgrind"):
             print("")
             print_steady(montre, folder, most)
+            print("")
+            print_many(montre, folder)
+            print("")
+            print_deep(montre, folder)
 
 
 if __name__ == "__main__":

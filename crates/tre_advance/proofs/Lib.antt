@@ -16,6 +16,7 @@ pub mod StarSteps
 pub mod AtomSteps
 pub mod Onward
 pub mod Nested
+pub mod Optional
 pub mod Takings
 -- marks without what lasts too long
 pub mod Shortenings

@@ -1,11 +1,12 @@
 -- Lists of zones that are put behind others.
 use Rattle.std.proofs.Common.{◌≡◌, ◌↔◌, ◌∙◌, ℕ, ◌+◌, ◌<◌, ◌≤◌, List, [], ◌∷◌, ◌++◌, length, get_or, slice_index_or, take, Option, Some, None, IfSome, inl, inr, ⊎_elim, ap, refl, sym, subst, arith}
 use Rattle.std.proofs.lemmas.List.{append_assoc, take_all, take_more}
-use Rattle.tre_pairs.specs.Pairs.{Pairs, Either}
+use Rattle.std.proofs.Math.Nat.{mul-le-mul_right}
+use Rattle.tre_pairs.specs.Pairs.{Pairs, Either, Both}
 use Rattle.tre_pairs.proofs.Laws.{Agree}
-use Rattle.tre_zone.specs.Held.{Held, IsSetOf}
+use Rattle.tre_zone.specs.Held.{Held, IsLatest, IsSetOf}
 use Rattle.tre_zone.specs.Interval.{IntervalEnds}
-use Rattle.tre_zone.specs.Zone.{ZoneHolds, IsCanonical, IsZoneOf}
+use Rattle.tre_zone.specs.Zone.{ZoneHolds, EndsAt, HasNoPair, Includes, IsCanonical, IsZoneOf}
 use Rattle.tre_zone.specs.United.{GivesUnion}
 use Rattle.tre_zone.specs.ZoneList.{SetHolds, AreCanonical, HoldExactly}
 use Rattle.tre_zone.specs.declared.zone_bounds.ZoneBounds.{ZoneBounds}
@@ -64,6 +65,12 @@ held_again new old same = record {
   );
 }
 
+-- The set of a relation may be cut otherwise.
+pub set_moved : (new old : List ZoneBounds) (R : Pairs) → HoldExactly new (SetHolds old)
+    → IsSetOf old R → IsSetOf new R
+set_moved new old R same set =
+    set_of (agree_then (held_again new old same) (set_agrees set))
+
 -- What was told may be cut otherwise.
 pub advances_told : {mark : MarkTree} {tree : PatternTree} {enter : List ZoneBounds}
     {piece : Piece} {rest : MarkTree} (told told' : List ZoneBounds)
@@ -118,15 +125,13 @@ module _ (starts here enter new : List ZoneBounds) where
   abbrev Three : Pairs
   Three = Either (Either (Held starts) (Held here)) (Held enter)
 
-  pub put_all : new ≡ (starts ++ enter) ++ here → IsSetOf new Three
+  pub put_all : new ≡ (starts ++ here) ++ enter → IsSetOf new Three
   put_all is = subst (λ (list : List ZoneBounds). IsSetOf list Three) (sym is) (record {
     pairs = λ a b n some.
-        let f = (held_append (starts ++ enter) here).pairs a b n some in
-        let g = (held_append starts enter).pairs a b n some in (
-          (λ h. ⊎_elim (λ x. ⊎_elim (λ y. inl (inl y)) (λ y. inr y) (g.0 x))
-              (λ x. inl (inr x)) (f.0 h)),
-          (λ h. ⊎_elim (λ x. ⊎_elim (λ y. f.1 (inl (g.1 (inl y)))) (λ y. f.1 (inr y)) x)
-              (λ x. f.1 (inl (g.1 (inr x)))) h),
+        let f = (held_append (starts ++ here) enter).pairs a b n some in
+        let g = (held_append starts here).pairs a b n some in (
+          (λ h. ⊎_elim (λ x. inl (g.0 x)) (λ x. inr x) (f.0 h)),
+          (λ h. ⊎_elim (λ x. f.1 (inl (g.1 x))) (λ x. f.1 (inr x)) h),
         );
   })
 
@@ -211,9 +216,48 @@ two_as_one zones one other least most is is' whole union =
           ((λ h. both.0 (held.0 (alike.1 h))), (λ h. alike.0 (held.1 (both.1 h))));
     })
 
+-- Of two zones one that includes the other is both together.
+pub first_includes : (one other : ZoneBounds) → Includes one other
+    → IsZoneOf one (Either (ZoneHolds one) (ZoneHolds other))
+first_includes one other includes = record {
+  exact = λ a b n some le. (
+    (λ h. inl h),
+    (λ h. ⊎_elim (λ x. x) (λ x. includes.every a b n some le x) h),
+  );
+}
+
+pub second_includes : (one other : ZoneBounds) → Includes other one
+    → IsZoneOf other (Either (ZoneHolds one) (ZoneHolds other))
+second_includes one other includes = record {
+  exact = λ a b n some le. (
+    (λ h. inr h),
+    (λ h. ⊎_elim (λ x. includes.every a b n some le x) (λ x. x) h),
+  );
+}
+
+pub union_given : (found : Option ZoneBounds) (one other : ZoneBounds)
+    → GivesUnion found one other
+    → IfSome found (λ whole. IsZoneOf whole (Either (ZoneHolds one) (ZoneHolds other)))
+union_given None one other gives = tt
+union_given (Some whole) one other gives = gives
+
+-- Where all pairs of a zone have ended before, none ends at the time.
+pub ended_before : (zone : ZoneBounds) (last time : ℕ) → IsLatest last (zone ∷ []) → last < time
+    → HasNoPair (Both (ZoneHolds zone) (EndsAt time))
+ended_before zone last time latest before = record {
+  never = λ a b n some rising h.
+      let held = (holds_alone (zone ∷ []) zone refl a b n).0 h.left in
+      let end = latest.ends.ends a b n some (record { rising = rising; held = held }) in
+      let later : last + 1 ≤ time = omega (arith, before) in
+      let finer = mul-le-mul_right n later in
+      let at = h.right.ends in
+      omega (arith, end, finer, at, some);
+}
+
 pub two_found : (zones : List ZoneBounds) (one other : ZoneBounds) → 2 ≤ length zones
     → length zones < 3 → one ≡ slice_index_or zones 0 one → other ≡ slice_index_or zones 1 other
-    → (found : Option ZoneBounds) → GivesUnion found one other
+    → (found : Option ZoneBounds)
+    → IfSome found (λ whole. IsZoneOf whole (Either (ZoneHolds one) (ZoneHolds other)))
     → IfSome found (λ whole. HoldExactly (whole ∷ []) (SetHolds zones))
 two_found zones one other least most is is' None gives = tt
 two_found zones one other least most is is' (Some whole) gives =

@@ -1,13 +1,14 @@
 -- Marks without the pairs that last too long.
-use Rattle.std.proofs.Common.{◌≡◌, ℕ, ◌+◌, ◌-◌, ◌*◌, ◌<◌, ◌≤◌, List, [], Option, None, Some, MatchOption, Bool, true, false, MatchBool, inl, inr, ⊎_elim, subst, sym, arith}
+use Rattle.std.proofs.Common.{◌≡◌, ℕ, ◌+◌, ◌-◌, ◌*◌, ◌<◌, ◌≤◌, List, [], length, get_or, take, Option, None, Some, MatchOption, Bool, true, false, MatchBool, inl, inr, ⊎_elim, subst, sym, arith}
 use Rattle.std.proofs.Math.Nat.{mul-pos}
+use Rattle.std.proofs.lemmas.List.{take_all}
 use Rattle.tre_pairs.specs.Cuts.{JoinedAt}
 use Rattle.tre_pairs.specs.Pairs.{Pairs, Lasting}
 use Rattle.tre_pairs.proofs.Laws.{IsOrdered}
 use Rattle.tre_pairs.proofs.Shortening.{finer_duration}
 use Rattle.tre_zone.specs.Held.{Held, EndAt}
 use Rattle.tre_zone.specs.Interval.{IntervalEnds, LastsWithin}
-use Rattle.tre_zone.specs.Longest.{LastsUpTo}
+use Rattle.tre_zone.specs.Longest.{AllLastUpTo, LastsUpTo}
 use Rattle.tre_zone.specs.ZoneList.{SetHolds, HoldExactly}
 use Rattle.tre_zone.proofs.Lasting.{LastsUpTo-downward, LastsUpTo-scales}
 use Rattle.tre_zone.specs.declared.zone_bounds.ZoneBounds.{ZoneBounds}
@@ -18,6 +19,7 @@ use Rattle.tre_syntax.proofs.CutMeaning.{IsOrdered-rest}
 use Rattle.tre_mark.specs.MarkTree.{MarkTree, atom_mark, sequence_mark, alternation_mark, repetition_mark}
 use Rattle.tre_mark.specs.Marked.{GoesOn, Since, CanTakeIn, Marked, IsBegun, IsWellAt}
 use Rattle.tre_mark.proofs.Meanings.{IsOrdered-GoesOn, around_present}
+use Rattle.tre_zoneset.proofs.Members.{SetHolds-more}
 use Rattle.tre_advance.specs.Instances.{LeavesRestriction}
 use Rattle.tre_advance.proofs.SetsOf.{no_pair}
 use Rattle.tre_advance.specs.Shortening.{Shortens, AreRecent, AreShort}
@@ -414,3 +416,29 @@ short_some longest zones short filled exact = record {
   };
   none = λ none. absurd (filled none);
 }
+
+-- Zones that are short as they stand.
+pub short_more : (longest : Option ℕ) (zones : List ZoneBounds) (i : ℕ) (zone : ZoneBounds)
+    → i < length zones → zone ≡ get_or zones i zone
+    → AreShort longest (take i zones) (take i zones) → AllLastUpTo longest zone
+    → AreShort longest (take (i + 1) zones) (take (i + 1) zones)
+short_more longest zones i zone below is old last = record {
+  set = record {
+    pairs = λ a b n some. (
+      (λ h. record {
+        related = h;
+        admitted = ⊎_elim
+            (λ x. ((old.set.pairs a b n some).0 (record { rising = h.rising; held = x })).admitted)
+            (λ x. last.each a b n some h.rising x)
+            ((SetHolds-more zones i zone below is a b n).0 h.held);
+      }),
+      (λ h. h.related),
+    );
+  };
+  none = λ is. is;
+}
+
+pub short_all : (longest : Option ℕ) (zones : List ZoneBounds) (i : ℕ) → length zones ≤ i
+    → AreShort longest (take i zones) (take i zones) → AreShort longest zones zones
+short_all longest zones i all old =
+    subst (λ (list : List ZoneBounds). AreShort longest list list) (take_all i zones all) old

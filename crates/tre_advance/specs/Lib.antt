@@ -9,4 +9,5 @@ pub mod Closing
 pub mod Instances
 pub mod Shortening
 pub mod Moves
+pub mod Taking
 pub mod Tail

@@ -8,12 +8,15 @@ ghost use Rattle.tre_syntax.specs.Meaning.{MatchesRest};
 ghost use Rattle.tre_syntax.specs.PatternTree.{NumbersBelow, repetition};
 ghost use Rattle.tre_zone.specs.Held.{Held, IsSetOf};
 ghost use Rattle.tre_zone.specs.Zone.{IsInstantBetween};
+ghost use Rattle.tre_mark.specs.MarkTree.{mark_of};
 ghost use Rattle.tre_mark.specs.Marked.{EndBetween};
 ghost use Rattle.tre_edges.specs.Piece.{end_of_piece, rest_of_piece};
+ghost use Rattle.tre_advance.specs.Taking.{IsAtomMark, TakesHere};
 
 use crate::vectors::{all_among, gather_each, is_none, known, prune};
 use std::alloc::{AllocError, Global};
 use tre_edges::Piece;
+use tre_mark::Mark;
 use tre_offline::local;
 use tre_star::closure;
 use tre_syntax::Expr;
@@ -29,12 +32,29 @@ pub fn put_starts(
     ensures { OnOk result (IsSetOf starts.new.items
         (Either (Either (Held starts.old.items) (Held here.now)) (Held entering.now))) }
 {
-    starts.extend_from_slice(entering)?;
     if all_among(here, entering) {
+        starts.extend_from_slice(entering)?;
         return Ok(());
     }
     starts.extend_from_slice(here)?;
+    starts.extend_from_slice(entering)?;
     Ok(())
+}
+
+/// What is here of an atom is put behind what is here.
+pub fn take_here(mark: &mut Mark, here: &mut Vec<Zone>) -> Result<(), AllocError>
+    requires { IsAtomMark (mark_of mark.old) }
+    ensures { OnOk result (TakesHere here.old.items (mark_of mark.old) here.new.items
+        (mark_of mark.new)) }
+{
+    match mark {
+        Mark::Atom { here: late, .. } => {
+            here.extend_from_slice(late)?;
+            late.clear();
+            Ok(())
+        }
+        _ => unreachable!(),
+    }
 }
 
 /// The pairs, each followed by any number of matches of the expression inside the piece.

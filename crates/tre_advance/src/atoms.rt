@@ -12,7 +12,7 @@ ghost use Rattle.tre_advance.specs.Adds.{Adds};
 ghost use Rattle.tre_advance.specs.Advance.{Advances};
 ghost use Rattle.tre_advance.specs.Moves.{TellsAtom, HoldsOnOver, IsBriefTree, IsLiteralTree};
 
-use crate::vectors::{all_among, gather_behind, keep_ending, known};
+use crate::vectors::{all_among, gather_behind, keep_ending, known, unite_ending};
 use std::alloc::{AllocError, Global};
 use tre_edges::{Piece, event_in, fall_in, literal_in, moments_in, rise_in};
 use tre_syntax::Expr;
@@ -21,7 +21,6 @@ use tre_zone::Zone;
 /// A piece of an atom that lasts no time, into which the pairs enter on the way. Nothing has begun,
 /// or does.
 pub fn advance_brief(
-    alloc: Global,
     here: &mut Vec<Zone>,
     begun: &[Zone],
     mid: &mut Vec<Zone>,
@@ -41,7 +40,7 @@ pub fn advance_brief(
 {
     mid.clear();
     tell_atom(here, begun, expr, entering, piece, mid)?;
-    keep_ending(alloc, here, entering, piece.begin + piece.segment.len)?;
+    keep_ending(here, entering, piece.begin + piece.segment.len)?;
     told.extend_from_slice(mid)?;
     Ok(())
 }
@@ -69,8 +68,8 @@ pub fn advance_literal(
     let end = piece.begin + piece.segment.len;
     mid.clear();
     tell_atom(here, begun, expr, entering, piece, mid)?;
-    keep_ending(alloc, here, entering, end)?;
-    keep_ending(alloc, begun, mid, end)?;
+    keep_ending(here, entering, end)?;
+    unite_ending(alloc, begun, mid, end)?;
     told.extend_from_slice(mid)?;
     Ok(())
 }

@@ -49,10 +49,26 @@ fn short(zones: &mut Vec<Zone>, aux: &mut Vec<Zone>, longest: Option<u64>) -> Re
     if is_none(zones) {
         return Ok(());
     }
+    if are_short(zones, longest) {
+        return Ok(());
+    }
     aux.clear();
     gather_short(aux, zones, longest)?;
     mem::swap(zones, aux);
     Ok(())
+}
+
+// Whether all of them last at most `longest` as they stand.
+fn are_short(zones: &[Zone], longest: Option<u64>) -> bool
+    requires { IsLongest longest }
+    ensures { IsTrue result → AreShort longest zones.now zones.now }
+{
+    for zone in zones {
+        if !zone.is_up_to(longest) {
+            return false;
+        }
+    }
+    true
 }
 
 fn gather_short(

@@ -3,7 +3,7 @@ ghost use Rattle.std.specs.Prelude.{◌≡◌, ◌≤◌, ◌↔◌, [], ◌∷�
 ghost use Rattle.tre_pairs.specs.Pairs.{Composed, Either, Both};
 ghost use Rattle.tre_pairs.specs.declared.TheConstants.{TIME_MAX};
 ghost use Rattle.tre_zone.specs.Held.{Held, IsSetOf};
-ghost use Rattle.tre_zone.specs.Zone.{ZoneHolds, EndsAt, Includes};
+ghost use Rattle.tre_zone.specs.Zone.{ZoneHolds, EndsAt, GivesZone, Includes, IsZoneOf};
 ghost use Rattle.tre_zone.specs.ZoneList.{SetHolds, AreCanonical, HoldExactly};
 ghost use Rattle.tre_advance.specs.Moves.{AreAmong};
 
@@ -78,6 +78,18 @@ fn gather_meet(found: &mut Vec<Zone>, zone: &Zone, others: &[Zone]) -> Result<()
     Ok(())
 }
 
+// The pairs of the zone that end at the time. Where all have ended before, that is seen at once.
+#[inline(always)]
+fn ending_of(zone: &Zone, time: u64) -> Option<Zone>
+    requires { time ≤ TIME_MAX }
+    ensures { GivesZone result (Both (ZoneHolds zone.now) (EndsAt time)) }
+{
+    if zone.latest_end() < time {
+        return None;
+    }
+    zone.ending_at(time)
+}
+
 // Adds the pairs of the zones that end at the time.
 fn gather_ending(found: &mut Vec<Zone>, zones: &[Zone], time: u64) -> Result<(), AllocError>
     requires { time ≤ TIME_MAX }
@@ -85,13 +97,23 @@ fn gather_ending(found: &mut Vec<Zone>, zones: &[Zone], time: u64) -> Result<(),
         (Either (SetHolds found.old.items) (Both (SetHolds zones.now) (EndsAt time)))) }
 {
     for zone in zones {
-        gather(found, zone.ending_at(time))?;
+        gather(found, ending_of(zone, time))?;
     }
     Ok(())
 }
 
 /// The pairs of the zones that end at the time, in place of what was kept.
-pub fn keep_ending(
+pub fn keep_ending(kept: &mut Vec<Zone>, zones: &[Zone], time: u64) -> Result<(), AllocError>
+    requires { time ≤ TIME_MAX }
+    ensures { OnOk result (IsSetOf kept.new.items (Both (Held zones.now) (EndsAt time))) }
+{
+    kept.clear();
+    gather_ending(kept, zones, time)
+}
+
+/// The same, with one zone for each stretch of starts: what is kept from piece to piece would grow
+/// without.
+pub fn unite_ending(
     alloc: Global,
     kept: &mut Vec<Zone>,
     zones: &[Zone],
@@ -100,8 +122,7 @@ pub fn keep_ending(
     requires { time ≤ TIME_MAX }
     ensures { OnOk result (IsSetOf kept.new.items (Both (Held zones.now) (EndsAt time))) }
 {
-    kept.clear();
-    gather_ending(kept, zones, time)?;
+    keep_ending(kept, zones, time)?;
     unite(alloc, kept)
 }
 
@@ -151,9 +172,23 @@ fn one_of_two(zones: &[Zone]) -> Option<Zone>
     ensures { IfSome result (λ whole. HoldExactly (whole ∷ []) (SetHolds zones.now)) }
 {
     match zones {
-        [one, other] => one.united(other),
+        [one, other] => whole_of(one, other),
         _ => None,
     }
+}
+
+// The zone of both, where it is seen: one that includes the other is seen first.
+fn whole_of(one: &Zone, other: &Zone) -> Option<Zone>
+    ensures { IfSome result (λ whole.
+        IsZoneOf whole (Either (ZoneHolds one.now) (ZoneHolds other.now))) }
+{
+    if one.includes(other) {
+        return Some(*one);
+    }
+    if other.includes(one) {
+        return Some(*other);
+    }
+    one.united(other)
 }
 
 fn prune_more(alloc: Global, zones: &mut Vec<Zone>) -> Result<(), AllocError>
@@ -174,14 +209,15 @@ fn unite_more(alloc: Global, zones: &mut Vec<Zone>) -> Result<(), AllocError>
     Ok(())
 }
 
-/// Whether each of the zones is seen to be in one of the others: where both are few.
+/// Whether each of the zones is seen to be in one of the others: of many zones, where those that
+/// include them come in their order.
 pub fn all_among(zones: &[Zone], others: &[Zone]) -> bool
     ensures { IsTrue result → AreAmong zones.now others.now }
 {
-    if !are_few(zones) || !are_few(others) {
-        return false;
+    if are_few(zones) && are_few(others) {
+        return all_included(zones, others);
     }
-    all_included(zones, others)
+    all_in_turn(zones, others)
 }
 
 fn all_included(zones: &[Zone], others: &[Zone]) -> bool
@@ -199,4 +235,36 @@ fn is_included(zone: &Zone, others: &[Zone]) -> bool
     ensures { IsTrue result ↔ Any (λ other. Includes other zone.now) others.now }
 {
     others.iter().any(|other| other.includes(zone))
+}
+
+// The same by one look at each.
+fn all_in_turn(zones: &[Zone], others: &[Zone]) -> bool
+    ensures { IsTrue result → AreAmong zones.now others.now }
+{
+    let mut place = 0;
+    for zone in zones {
+        place = first_including(zone, others, place);
+        if !is_included_at(zone, others, place) {
+            return false;
+        }
+    }
+    true
+}
+
+// The first place from there on at which the zone is included, else the end.
+fn first_including(zone: &Zone, others: &[Zone], from: usize) -> usize {
+    let mut place = from;
+    while place < others.len() && !others[place].includes(zone) {
+        place += 1;
+    }
+    place
+}
+
+fn is_included_at(zone: &Zone, others: &[Zone], place: usize) -> bool
+    ensures { IsTrue result → Any (λ other. Includes other zone.now) others.now }
+{
+    match others.get(place) {
+        Some(other) => other.includes(zone),
+        None => false,
+    }
 }

@@ -1,8 +1,8 @@
 // What a mark does over a piece in which pairs enter on the way.
-ghost use Rattle.std.specs.Prelude.{◌⊎◌, OnOk};
+ghost use Rattle.std.specs.Prelude.{◌≡◌, ◌⊎◌, IsTrue, OnOk};
 ghost use Rattle.tre_state.specs.declared.names.TheConstants.{NAMES_MAX};
 ghost use Rattle.tre_syntax.specs.Expr.{tree_of};
-ghost use Rattle.tre_syntax.specs.PatternTree.{NumbersBelow, sequence, alternation, intersection, repetition, restriction};
+ghost use Rattle.tre_syntax.specs.PatternTree.{NumbersBelow, atom, empty, sequence, alternation, intersection, repetition, restriction};
 ghost use Rattle.tre_edges.specs.declared.piece.Piece.{Piece};
 ghost use Rattle.tre_mark.specs.MarkTree.{mark_of, repetition_mark, intersection_of, restriction_of};
 ghost use Rattle.tre_zone.specs.Held.{EndAt};
@@ -12,7 +12,7 @@ ghost use Rattle.tre_advance.specs.Adds.{Adds};
 ghost use Rattle.tre_advance.specs.Advance.{Advances};
 ghost use Rattle.tre_advance.specs.Moves.{IsBriefTree, IsLiteralTree, IsRepetitionTree};
 
-use crate::again::{put_starts, repeat};
+use crate::again::{put_starts, repeat, take_here};
 use crate::atoms::{advance_brief, advance_literal};
 use crate::ending::ending;
 use crate::instances::{go_on_both, go_on_lasting, is_idle, make_ready, moments_for, ready_both};
@@ -95,16 +95,7 @@ fn advance_atom(
                     told,
                 )
             }
-            _ => advance_brief(
-                alloc,
-                here,
-                begun,
-                &mut room.mid,
-                expr,
-                entering,
-                piece,
-                told,
-            ),
+            _ => advance_brief(here, begun, &mut room.mid, expr, entering, piece, told),
         },
         _ => unreachable!(),
     }
@@ -192,10 +183,80 @@ fn advance_repetition(
             here,
             body: inner,
             room,
-        } => match body {
-            Expr::Star(_) => advance_nested(alloc, here, inner, room, body, entering, piece, told),
-            _ => advance_body(alloc, here, inner, room, body, entering, piece, told),
-        },
+        } => advance_star(alloc, here, inner, room, body, entering, piece, told),
+        _ => unreachable!(),
+    }
+}
+
+// The same by the parts of the mark.
+#[cycle(advance)]
+fn advance_star(
+    alloc: Global,
+    here: &mut Vec<Zone>,
+    inner: &mut Mark,
+    room: &mut Room,
+    body: &Expr,
+    entering: &[Zone],
+    piece: &Piece,
+    told: &mut Vec<Zone>,
+) -> Result<(), AllocError>
+    requires numbers { NumbersBelow NAMES_MAX (tree_of body.now) }
+    requires well { IsWellAt piece.now.begin (mark_of inner.old) (tree_of body.now) }
+    requires ends { EndAt piece.now.begin here.old.items }
+    requires enter { EndBetween piece.now.begin (end_of_piece piece.now) entering.now }
+    ensures { OnOk result (Adds told.old.items told.new.items (λ added.
+        Advances (repetition_mark here.old.items (mark_of inner.old))
+        (repetition (tree_of body.now)) entering.now piece.now added
+        (repetition_mark here.new.items (mark_of inner.new)))) }
+{
+    match body {
+        Expr::Star(_) => advance_nested(alloc, here, inner, room, body, entering, piece, told),
+        Expr::Alt(first, last) => {
+            if is_eps(last) {
+                return advance_optional(alloc, here, inner, room, first, entering, piece, told);
+            }
+            advance_body(alloc, here, inner, room, body, entering, piece, told)
+        }
+        _ => advance_body(alloc, here, inner, room, body, entering, piece, told),
+    }
+}
+
+fn is_eps(expr: &Expr) -> bool
+    ensures { IsTrue result → tree_of expr.now ≡ atom empty }
+{
+    match expr {
+        Expr::Eps => true,
+        _ => false,
+    }
+}
+
+// A repetition of what may be left out: it is a repetition of it.
+#[cycle(advance)]
+fn advance_optional(
+    alloc: Global,
+    here: &mut Vec<Zone>,
+    inner: &mut Mark,
+    room: &mut Room,
+    first: &Expr,
+    entering: &[Zone],
+    piece: &Piece,
+    told: &mut Vec<Zone>,
+) -> Result<(), AllocError>
+    requires numbers { NumbersBelow NAMES_MAX (tree_of first.now) }
+    requires well { IsWellAt piece.now.begin (mark_of inner.old)
+        (alternation (tree_of first.now) (atom empty)) }
+    requires ends { EndAt piece.now.begin here.old.items }
+    requires enter { EndBetween piece.now.begin (end_of_piece piece.now) entering.now }
+    ensures { OnOk result (Adds told.old.items told.new.items (λ added.
+        Advances (repetition_mark here.old.items (mark_of inner.old))
+        (repetition (alternation (tree_of first.now) (atom empty))) entering.now piece.now added
+        (repetition_mark here.new.items (mark_of inner.new)))) }
+{
+    match inner {
+        Mark::Alt(one, other) => {
+            take_here(other, here)?;
+            advance_star(alloc, here, one, room, first, entering, piece, told)
+        }
         _ => unreachable!(),
     }
 }
@@ -254,7 +315,7 @@ fn advance_body(
     ending(alloc, inner, body, &Tail::Over(*piece), &mut room.mid)?;
     put_starts(here, entering, &mut room.mid)?;
     repeat(alloc, body, piece, &mut room.mid)?;
-    keep_ending(alloc, here, &room.mid, piece.begin + piece.segment.len)?;
+    keep_ending(here, &room.mid, piece.begin + piece.segment.len)?;
     told.extend_from_slice(&room.mid)?;
     room.aux.clear();
     advance(alloc, inner, body, &room.mid, piece, &mut room.aux)?;

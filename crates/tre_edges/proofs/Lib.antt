@@ -1,6 +1,7 @@
 pub mod EndsOfLists
 pub mod EmptySets
 pub mod RunLists
+pub mod SpansWithin
 pub mod InstantLists
 pub mod Literals
 pub mod InstantsOfRests

@@ -1,11 +1,11 @@
 //! The atoms of a pattern over a trace, each as a set of zones.
 //!
 //! [`literal`] holds exactly the stretches on which a state is true throughout, one zone for each
-//! longest run; [`rises`] and [`falls`] hold exactly the instants at which it changes, one zone
-//! each; [`events`] holds those at which an event happens; [`moments`] holds every moment. Their
-//! zones stand in the order of time. There is no edge at time 0, and none at the end of the trace.
-//! Edges and runs are found in the words of [`truth`], which says where the state holds, 64
-//! segments at a time.
+//! longest run, and [`literal_within`] those of them whose duration is in an interval; [`rises`]
+//! and [`falls`] hold exactly the instants at which it changes, one zone each; [`events`] holds
+//! those at which an event happens; [`moments`] holds every moment. Their zones stand in the order
+//! of time. There is no edge at time 0, and none at the end of the trace. Edges and runs are found
+//! in the words of [`truth`], which says where the state holds, 64 segments at a time.
 //!
 //! [`literal_in`], [`rise_in`], [`fall_in`], [`event_in`] and [`moments_in`] are the same over one
 //! [`Piece`] of a trace: a segment with its begin and the valuation before it. Each gives one zone
@@ -29,6 +29,7 @@ mod next_place;
 mod piece;
 mod room;
 mod runs;
+mod span_within;
 mod truth_words;
 
 pub use all_moments::moments;
@@ -36,5 +37,5 @@ pub use edges::{falls, rises};
 pub use event::{event_in, events, happens};
 pub use in_piece::{fall_in, literal_in, moments_in, rise_in};
 pub use piece::Piece;
-pub use runs::literal;
+pub use runs::{literal, literal_within};
 pub use truth_words::truth;

@@ -1,11 +1,12 @@
 // The stretches of a trace on which a state holds.
 ghost use Rattle.std.specs.Prelude.{◌+◌, ◌≤◌, IfOk, OnOk};
-ghost use Rattle.tre_pairs.specs.Pairs.{Either};
+ghost use Rattle.tre_pairs.specs.Pairs.{Either, Lasting};
 ghost use Rattle.tre_pairs.specs.declared.TheConstants.{TIME_MAX};
 ghost use Rattle.tre_state.specs.State.{tree_of};
 ghost use Rattle.tre_state.specs.StateTree.{NumbersBelow};
 ghost use Rattle.tre_syntax.specs.PatternTree as pattern;
 ghost use Rattle.tre_syntax.specs.Rest.{whole, AtomMatches};
+ghost use Rattle.tre_zone.specs.Interval.{LastsWithin};
 ghost use Rattle.tre_zone.specs.Zone.{IsInSpan};
 ghost use Rattle.tre_zone.specs.ZoneList.{SetHolds, HoldExactly};
 ghost use Rattle.tre_edges.specs.Ends.{EndBefore};
@@ -13,11 +14,12 @@ ghost use Rattle.tre_edges.specs.Runs.{AreRuns};
 
 use crate::next_place::next_place;
 use crate::room::room_for_runs;
+use crate::span_within::span_within;
 use crate::truth_words::truth;
 use std::alloc::{AllocError, Global};
 use tre_state::{NAMES_MAX, State};
 use tre_trace::{Start, Trace};
-use tre_zone::Zone;
+use tre_zone::{Interval, Zone};
 use tre_zoneset::ZoneSet;
 
 /// The stretches on which the state holds throughout, one zone for each longest run of segments on
@@ -45,6 +47,35 @@ pub fn literal(alloc: Global, state: &State, trace: &Trace) -> Result<ZoneSet, A
     Ok(zones)
 }
 
+/// The stretches of [`literal`] whose duration is in the interval, one zone at most for each
+/// longest run, in the order of time.
+pub fn literal_within(
+    alloc: Global,
+    state: &State,
+    trace: &Trace,
+    interval: &Interval,
+) -> Result<ZoneSet, AllocError>
+    requires { NumbersBelow NAMES_MAX (tree_of state.now) }
+    ensures { IfOk result (λ zones. HoldExactly zones (Lasting (LastsWithin interval.now)
+        (AtomMatches (whole trace.now) (pattern.literal (tree_of state.now))))) }
+{
+    let words = truth(alloc, state, trace)?;
+    let count = trace.segments().len();
+    let mut zones = room_for_runs(alloc, &words)?;
+    // As above: all runs that begin before `at` are in.
+    let mut at = 0;
+    let mut seen = Start { place: 0, time: 0 };
+    while at < count {
+        let begin = next_place(&words, true, at, count);
+        let end = next_place(&words, false, begin, count);
+        let from = trace.start_from(seen, begin);
+        seen = trace.start_from(from, end);
+        close_within(&mut zones, from.time, seen.time, interval)?;
+        at = end + 1;
+    }
+    Ok(zones)
+}
+
 // Adds the run from `begin` to `end`, where it lasts some time.
 fn close(zones: &mut ZoneSet, begin: u64, end: u64) -> Result<(), AllocError>
     requires runs { AreRuns 0 zones.old }
@@ -60,4 +91,27 @@ fn close(zones: &mut ZoneSet, begin: u64, end: u64) -> Result<(), AllocError>
         zones.push_disjoint(Zone::span(begin, end))?;
     }
     Ok(())
+}
+
+// The same of those of its stretches whose duration is in the interval.
+fn close_within(
+    zones: &mut ZoneSet,
+    begin: u64,
+    end: u64,
+    interval: &Interval,
+) -> Result<(), AllocError>
+    requires ended { EndBefore begin zones.old }
+    requires order { begin ≤ end }
+    requires limit { end ≤ TIME_MAX }
+    ensures held { OnOk result (HoldExactly zones.new
+        (Either (SetHolds zones.old) (Lasting (LastsWithin interval.now) (IsInSpan begin end)))) }
+    ensures ended { OnOk result (EndBefore (end + 1) zones.new) }
+{
+    if begin == end {
+        return Ok(());
+    }
+    match span_within(begin, end, interval) {
+        Some(zone) => zones.push_disjoint(zone),
+        None => Ok(()),
+    }
 }

@@ -36,6 +36,19 @@ Agree-moments rest = record {
 IsInstant-moments : (rest : Rest) → IsInstant (AtomMatches rest empty)
 IsInstant-moments rest = record { same = λ a b n h. h.same }
 
+-- Of a list that was cut to durations: the pairs of all that last so long.
+pub lasting_exact : (D : ℕ → ℕ → Type 0) (P : Pairs) (all zones : List ZoneBounds)
+    → HoldExactly all P → HoldExactly zones (Lasting D (SetHolds all))
+    → HoldExactly zones (Lasting D P)
+lasting_exact D P all zones exact held = record {
+  exact = λ a b n some le.
+      let one = held.exact a b n some le in
+      let two = exact.exact a b n some le in (
+        (λ h. let x = one.0 h in record { related = two.0 x.related; admitted = x.admitted }),
+        (λ h. one.1 (record { related = two.1 h.related; admitted = h.admitted })),
+      );
+}
+
 module _ (longest : Option ℕ) (tree : PatternTree) (rest : Rest) where
   -- The short matches of the expression.
   abbrev Short : Pairs
@@ -47,16 +60,8 @@ module _ (longest : Option ℕ) (tree : PatternTree) (rest : Rest) where
 
   pub shortened_exact : (all zones : List ZoneBounds) → HoldExactly all (MatchesRest tree rest)
       → HoldExactly zones (Lasting (LastsUpTo longest) (SetHolds all)) → HoldExactly zones Short
-  shortened_exact all zones exact held = record {
-    exact = λ a b n some le.
-        let one = held.exact a b n some le in
-        let two = exact.exact a b n some le in (
-          (λ h.
-              let x = one.0 h in
-              record { related = two.0 x.related; admitted = x.admitted }),
-          (λ h. one.1 (record { related = two.1 h.related; admitted = h.admitted })),
-        );
-  }
+  shortened_exact all zones exact held =
+      lasting_exact (LastsUpTo longest) (MatchesRest tree rest) all zones exact held
 
 module _ (longest : Option ℕ) (left right : PatternTree) (rest : Rest)
     (one other zones : List ZoneBounds)

@@ -1,5 +1,6 @@
 // What the atoms of an expression match, over what is still to come of a trace.
 ghost use Rattle.std.specs.Prelude.{◌≡◌, ◌<◌, ◌≤◌, IfOk};
+ghost use Rattle.tre_pairs.specs.Pairs.{Lasting};
 ghost use Rattle.tre_pairs.specs.declared.TheConstants.{TIME_MAX};
 ghost use Rattle.tre_state.specs.State.{tree_of};
 ghost use Rattle.tre_state.specs.StateTree.{NumbersBelow};
@@ -7,18 +8,19 @@ ghost use Rattle.tre_syntax.specs.PatternTree as pattern;
 ghost use Rattle.tre_syntax.specs.PatternTree.{Atom};
 ghost use Rattle.tre_syntax.specs.Rest.{Rest, whole, AtomMatches};
 ghost use Rattle.tre_trace.specs.Trace.{end_of};
+ghost use Rattle.tre_zone.specs.Interval.{LastsWithin};
 ghost use Rattle.tre_zone.specs.Zone.{GivesZone};
 ghost use Rattle.tre_zone.specs.ZoneList.{HoldExactly};
 ghost use Rattle.tre_edges.specs.Piece.{rest_of_piece};
 
 use std::alloc::{AllocError, Global};
 use tre_edges::{
-    Piece, event_in, events, fall_in, falls, literal, literal_in, moments, moments_in, rise_in,
-    rises,
+    Piece, event_in, events, fall_in, falls, literal, literal_in, literal_within, moments,
+    moments_in, rise_in, rises,
 };
 use tre_state::{NAMES_MAX, State};
 use tre_trace::Trace;
-use tre_zone::Zone;
+use tre_zone::{Interval, Zone};
 use tre_zoneset::ZoneSet;
 
 /// A trace, or a part of one: it has a begin and an end, and the matches of each atom over it.
@@ -45,6 +47,18 @@ pub trait Atoms {
         ensures { IfOk result (λ zones.
             HoldExactly zones
             (AtomMatches (rest self.now) (pattern.literal (tree_of state.now)))) };
+
+    /// Those of them whose duration is in the interval.
+    fn literal_within(
+        &self,
+        alloc: Global,
+        state: &State,
+        interval: &Interval,
+    ) -> Result<ZoneSet, AllocError>
+        requires { NumbersBelow NAMES_MAX (tree_of state.now) }
+        ensures { IfOk result (λ zones.
+            HoldExactly zones (Lasting (LastsWithin interval.now)
+            (AtomMatches (rest self.now) (pattern.literal (tree_of state.now))))) };
 
     /// The instants at which the state becomes true.
     fn rises(&self, alloc: Global, state: &State) -> Result<ZoneSet, AllocError>
@@ -84,6 +98,15 @@ impl Atoms for Trace {
         literal(alloc, state, self)
     }
 
+    fn literal_within(
+        &self,
+        alloc: Global,
+        state: &State,
+        interval: &Interval,
+    ) -> Result<ZoneSet, AllocError> {
+        literal_within(alloc, state, self, interval)
+    }
+
     fn rises(&self, alloc: Global, state: &State) -> Result<ZoneSet, AllocError> {
         rises(alloc, state, self)
     }
@@ -114,6 +137,16 @@ impl Atoms for Piece {
 
     fn literal(&self, alloc: Global, state: &State) -> Result<ZoneSet, AllocError> {
         set_of(alloc, literal_in(state, self))
+    }
+
+    fn literal_within(
+        &self,
+        alloc: Global,
+        state: &State,
+        interval: &Interval,
+    ) -> Result<ZoneSet, AllocError> {
+        let all = self.literal(alloc, state)?;
+        all.into_within(interval)
     }
 
     fn rises(&self, alloc: Global, state: &State) -> Result<ZoneSet, AllocError> {

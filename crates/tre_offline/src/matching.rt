@@ -150,6 +150,10 @@ fn matches_of<A: Atoms>(
             repeated(alloc, &step, atoms.begin(), atoms.end(), longest)
         }
         Expr::Within(all, interval) => {
+            if let Expr::Lit(state) = &**all {
+                let within = atoms.literal_within(alloc, state, interval)?;
+                return shortened(within, longest);
+            }
             let inner = interval.up_to(longest);
             let all = matches_of(alloc, all, atoms, inner)?;
             restricted(all, interval)
@@ -211,6 +215,9 @@ fn last_matches_of(
             repeated(alloc, &step, begin, end, longest)
         }
         Expr::Within(all, interval) => {
+            if let Expr::Lit(_) = &**all {
+                return matches_of(alloc, expr, &trace, longest);
+            }
             let inner = interval.up_to(longest);
             let all = last_matches_of(alloc, all, trace, inner)?;
             restricted(all, interval)

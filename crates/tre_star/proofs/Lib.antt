@@ -6,3 +6,4 @@ pub mod Chaining
 pub mod Powers
 pub mod Separate
 pub mod OneWay
+pub mod Single

@@ -331,17 +331,16 @@ module _ (zones : List ZoneBounds) (canonical : AreCanonical zones) (start end :
           ((SetHolds-split zones start end rises a b n).0 x);
     }
 
-    module _ (D : ℕ → ℕ → Type 0) (E : Pairs) (chains part : List ZoneBounds)
-        (held : HoldExactly chains (Lasting D (SomeSteps (SetHolds (take start zones)) E)))
-        (own : HoldExactly part
-        (Lasting D (SomeSteps (SetHolds (slice_range zones start end)) E))) where
+    module _ (D : ℕ → ℕ → Type 0) (E : Pairs) (chains : List ZoneBounds)
+        (held : HoldExactly chains (Lasting D (SomeSteps (SetHolds (take start zones)) E))) where
       before_part : (a b c d n : ℕ) → 0 < n → SetHolds (take start zones) a b n
           → SetHolds (slice_range zones start end) c d n → b < c
       before_part a b c d n some x y = before.each a b c d n some x
           (SetHolds-behind zones start end rises c d n (inl y))
 
       -- Their chains are others,
-      pub parts_disjoint : HasNoPair (Both (SetHolds chains) (SetHolds part))
+      pub parts_disjoint : HasNoPair (Both (SetHolds chains)
+          (Lasting D (SomeSteps (SetHolds (slice_range zones start end)) E)))
       parts_disjoint = record {
         never = λ a b n some le h.
             SomeSteps-disjoint (SetHolds (take start zones))
@@ -350,19 +349,18 @@ module _ (zones : List ZoneBounds) (canonical : AreCanonical zones) (start end :
             (SetHolds-rising (take start zones) first_canonical)
             (SetHolds-rising (slice_range zones start end) part_canonical) before_part
             (SetHolds-split zones start end rises) a b n some
-            ((held.exact a b n some le).0 h.left).related
-            ((own.exact a b n some le).0 h.right).related;
+            ((held.exact a b n some le).0 h.left).related h.right.related;
       }
 
       -- and both together are those of all these zones.
       pub parts_joined : (new : List ZoneBounds)
-          → HoldExactly new (Either (SetHolds chains) (SetHolds part))
+          → HoldExactly new (Either (SetHolds chains)
+          (Lasting D (SomeSteps (SetHolds (slice_range zones start end)) E)))
           → HoldExactly new (Lasting D (SomeSteps (SetHolds (take end zones)) E))
       parts_joined new joined = record {
         exact = λ a b n some le.
             let one = held.exact a b n some le in
-            let two = own.exact a b n some le in
-            let three = joined.exact a b n some le in
+            let two = joined.exact a b n some le in
             let both = SomeSteps-apart (SetHolds (take start zones))
             (SetHolds (slice_range zones start end)) (SetHolds (take end zones)) E
             (Scales-SetHolds (take start zones)) (Scales-SetHolds (slice_range zones start end))
@@ -372,12 +370,11 @@ module _ (zones : List ZoneBounds) (canonical : AreCanonical zones) (start end :
               (λ h. ⊎_elim
                   (λ x. let old = one.0 x in
                   record { related = both.1 (inl old.related); admitted = old.admitted })
-                  (λ x. let last = two.0 x in
-                  record { related = both.1 (inr last.related); admitted = last.admitted })
-                  (three.0 h)),
-              (λ h. three.1 (⊎_elim
+                  (λ x. record { related = both.1 (inr x.related); admitted = x.admitted })
+                  (two.0 h)),
+              (λ h. two.1 (⊎_elim
                   (λ x. inl (one.1 (record { related = x; admitted = h.admitted })))
-                  (λ x. inr (two.1 (record { related = x; admitted = h.admitted })))
+                  (λ x. inr (record { related = x; admitted = h.admitted }))
                   (both.0 h.related))),
             );
       }

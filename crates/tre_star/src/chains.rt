@@ -1,14 +1,14 @@
 ghost use Rattle.std.specs.Prelude.{◌≡◌, ◌≤◌, IfSome, OnOk, IfOk};
-ghost use Rattle.tre_pairs.specs.Pairs.{Either, Composed, Lasting, Chain};
+ghost use Rattle.tre_pairs.specs.Pairs.{Either, Both, Composed, Lasting, Chain};
 ghost use Rattle.tre_zone.specs.Longest.{LastsUpTo, IsLongest};
-ghost use Rattle.tre_zone.specs.Zone.{ZoneHolds, IsInstantBetween};
+ghost use Rattle.tre_zone.specs.Zone.{ZoneHolds, IsInstantBetween, HasNoPair, GivesZone};
 ghost use Rattle.tre_zone.specs.ZoneList.{SetHolds, AreCanonical, HoldExactly};
 ghost use Rattle.tre_zoneset.specs.ZoneSet.{FoundHolds};
 ghost use Rattle.tre_star.specs.Growth.{HasGrown};
 ghost use Rattle.tre_star.specs.Limits.{AreLimits, ChainsWithin};
 
 use crate::limits::Limits;
-use crate::one_way::{chains_one_way, lead_on};
+use crate::one_way::{chains_one_way, is_single, lead_on};
 use crate::parts::{last_begins, part_end};
 use crate::power_limit::steps_of;
 use std::alloc::{AllocError, Global};
@@ -62,11 +62,58 @@ fn chains_in_parts(alloc: Global, steps: &[Zone], limits: &Limits) -> Result<Zon
     let mut start = 0;
     while start < steps.len() {
         let end = part_end(steps, &begins, start);
-        let part = chains_of_part(alloc, &steps[start..end], limits)?;
-        chains.join_disjoint(&part)?;
+        add_part(alloc, &mut chains, &steps[start..end], limits)?;
         start = end;
     }
     Ok(chains)
+}
+
+// Adds the chains of one part, which share no pair with those that are there. A single step that
+// can't follow itself is looked at alone.
+fn add_part(
+    alloc: Global,
+    chains: &mut ZoneSet,
+    steps: &[Zone],
+    limits: &Limits,
+) -> Result<(), AllocError>
+    requires steps { AreCanonical steps.now }
+    requires limits { AreLimits limits.now }
+    requires apart { HasNoPair
+        (Both (SetHolds chains.old) (ChainsWithin limits.now (SetHolds steps.now))) }
+    ensures { OnOk result (HoldExactly chains.new
+        (Either (SetHolds chains.old) (ChainsWithin limits.now (SetHolds steps.now)))) }
+{
+    if is_single(steps) {
+        let instants = Zone::instants(limits.from, limits.to);
+        let found = composed_up_to(&steps[0], &instants, limits.longest);
+        return push_found(chains, found);
+    }
+    let part = chains_of_part(alloc, steps, limits)?;
+    chains.join_disjoint(&part)
+}
+
+// Adds the zone that was found, if there is one: it shares no pair with those that are there.
+fn push_found(chains: &mut ZoneSet, found: Option<Zone>) -> Result<(), AllocError>
+    requires { HasNoPair (Both (SetHolds chains.old) (FoundHolds found)) }
+    ensures { OnOk result
+        (HoldExactly chains.new (Either (SetHolds chains.old) (FoundHolds found))) }
+{
+    match found {
+        Some(zone) => chains.push_disjoint(zone),
+        None => Ok(()),
+    }
+}
+
+// The composition of the two as far as it lasts at most `longest`.
+fn composed_up_to(first: &Zone, second: &Zone, longest: Option<u64>) -> Option<Zone>
+    requires { IsLongest longest }
+    ensures { GivesZone result
+        (Lasting (LastsUpTo longest) (Composed (ZoneHolds first.now) (ZoneHolds second.now))) }
+{
+    match compose(first, second) {
+        Some(zone) => zone.up_to(longest),
+        None => None,
+    }
 }
 
 // The same of the steps of one part.

@@ -29,6 +29,14 @@ pub(crate) fn lead_on(steps: &[Zone]) -> bool
     each_leads_on(steps)
 }
 
+/// Whether there is one step alone, and it can't follow itself.
+pub(crate) fn is_single(steps: &[Zone]) -> bool
+    requires { AreCanonical steps.now }
+    ensures { IsTrue result → (length steps.now ≡ 1) × LeadOn steps.now }
+{
+    steps.len() == 1 && lead_on(steps)
+}
+
 fn each_leads_on(steps: &[Zone]) -> bool
     requires turn { AreInTurn (map row_of steps.now) }
     requires canonical { AreCanonical steps.now }

@@ -8,3 +8,4 @@ pub mod Cuts
 pub mod Stretches
 pub mod AsOne
 pub mod NearZones
+pub mod Merging

@@ -256,10 +256,10 @@ IsZoneSet-thinned first second later thinned = record {
 }
 
 pub HoldExactly-thinned : (zones sorted first turned second last : List ZoneBounds)
-    → IsPermutation zones sorted → IsThinned sorted first → IsPermutation first turned
+    → HoldExactly sorted (SetHolds zones) → IsThinned sorted first → IsPermutation first turned
     → IsThinned turned second → IsPermutation second last → HoldExactly last (SetHolds zones)
 HoldExactly-thinned zones sorted first turned second last p one q two r =
     HoldExactly-trans last second zones (HoldExactly-moved second last r)
     (HoldExactly-trans second turned zones two.held
     (HoldExactly-trans turned first zones (HoldExactly-moved first turned q)
-    (HoldExactly-trans first sorted zones one.held (HoldExactly-moved zones sorted p))))
+    (HoldExactly-trans first sorted zones one.held p)))

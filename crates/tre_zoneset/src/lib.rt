@@ -17,6 +17,7 @@
 pub use zone_set::{ZoneSet, are_few, gather, index_of, is_short_pass};
 
 mod cut;
+mod merge;
 mod near;
 mod rise;
 mod touching;

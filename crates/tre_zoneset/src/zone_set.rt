@@ -9,6 +9,7 @@ ghost use Rattle.tre_zoneset.specs.ZoneSet.{IsZoneSet, Without, Stays, IsAdded, 
 ghost use Rattle.tre_zoneset.specs.Cut.{Leaves, IsCut, IsCutSet};
 
 use crate::cut::{Cut, cut_each, leaves_all};
+use crate::merge::{in_order, merged};
 use crate::near::thin_near;
 use crate::rise::{all_apart, all_rise};
 use std::alloc::{AllocError, Global};
@@ -275,9 +276,7 @@ impl ZoneSet {
             HoldExactly set (Either (SetHolds self.now) (SetHolds other.now))) }
     {
         let alloc = *self.zones.allocator();
-        let mut zones = Vec::new(alloc);
-        zones.extend_from_slice(self.zones())?;
-        zones.extend_from_slice(other.zones())?;
+        let zones = merged(alloc, self.zones(), other.zones())?;
         let joined = ZoneSet::of_zones(alloc, zones)?;
         Ok(joined)
     }
@@ -446,8 +445,7 @@ fn none_included(alloc: Global, zones: Vec<Zone>) -> Result<Vec<Zone>, AllocErro
     ensures held { IfOk result (λ kept. HoldExactly kept.items (SetHolds zones.items)) }
     ensures set { IfOk result (λ kept. IsZoneSet kept.items) }
 {
-    let mut zones = zones;
-    zones.sort_unstable_by_key(|zone| order_of(zone));
+    let zones = in_order(zones);
     if stand_apart(&zones) {
         return Ok(zones);
     }
@@ -481,12 +479,6 @@ fn few_apart(alloc: Global, zones: &[Zone]) -> Result<Vec<Zone>, AllocError>
         kept.add(*zone)?;
     }
     Ok(kept.into_zones())
-}
-
-// By this zones are sorted: the earlier begin first, and then the wider zone.
-fn order_of(zone: &Zone) -> [i64; 6] {
-    let row = zone.row();
-    [!row[0], !row[1], !row[2], !row[3], !row[4], !row[5]]
 }
 
 // Those of the zones that none before them includes.

@@ -10,7 +10,7 @@ returns-then-all_among c =
 
 pub returns : goal.returns
 returns c =
-    let here = c.args.here.now in
-    put_all c.args.starts.now.items here c.args.entering.now c.extend_from_slice-2.new.self.items
-    (c.in_ok-extend_from_slice-2.ensures.items
-    ∙ ap (λ list. list ++ here) c.in_ok-extend_from_slice.ensures.items)
+    let enter = c.args.entering.now in
+    put_all c.args.starts.now.items c.args.here.now enter c.extend_from_slice-3.new.self.items
+    (c.in_ok-extend_from_slice-3.ensures.items
+    ∙ ap (λ list. list ++ enter) c.in_ok-extend_from_slice-2.ensures.items)

@@ -10,7 +10,7 @@ returns c =
       is = rw c.deref-4.ensures.value at c.in_ok-extend_from_slice.ensures.items;
       what = literal_advances c.args.piece.now c.args.here.now.items c.args.begun.now.items
           c.args.entering.now mid c.keep_ending.new.kept.items c.requires.enter
-          c.in_ok-keep_ending.ensures c.keep_ending-2.new.kept.items (tree_of c.args.expr.now)
+          c.in_ok-keep_ending.ensures c.unite_ending.new.kept.items (tree_of c.args.expr.now)
           c.requires.literal c.requires.well (rw (c.deref.ensures.value, c.deref-2.ensures.value) at c.in_ok-tell_atom.ensures).set
-          (rw c.deref-3.ensures.value at c.in_ok-keep_ending-2.ensures);
+          (rw c.deref-3.ensures.value at c.in_ok-unite_ending.ensures);
     }

@@ -18,10 +18,10 @@ loop-zone-preserved c =
     (Both-additive_left (EndsAt c.args.time))
     c.args.found.now.items c.loop-zone.found.items c.gather.new.found.items
     c.args.zones.now c.loop-zone.zone-index c.zone-item.result
-    (FoundHolds c.ending_at.result)
+    (FoundHolds c.ending_of.result)
     c.loop-zone-test.true c.zone-item.is c.loop-zone.invariant c.in_ok-gather.ensures
-    (FoundHolds-exact c.ending_at.result (Both (ZoneHolds c.zone-item.result)
-    (EndsAt c.args.time)) c.ending_at.ensures)
+    (FoundHolds-exact c.ending_of.result (Both (ZoneHolds c.zone-item.result)
+    (EndsAt c.args.time)) c.ending_of.ensures)
 
 pub returns : goal.returns
 returns c =

@@ -4,11 +4,13 @@ use Rattle.std.proofs.lemmas.List.{append-nil}
 use Rattle.std.proofs.lemmas.Result.{on_ok_weaker}
 use Rattle.tre_syntax.specs.Expr.{tree_of}
 use Rattle.tre_edges.specs.Piece.{end_of_piece}
-use Rattle.tre_mark.specs.Marked.{EndBetween}
-use Rattle.tre_mark.specs.MarkTree.{mark_of, sequence_mark, alternation_mark, intersection_of, restriction_of}
+use Rattle.tre_mark.specs.Marked.{EndBetween, IsWellAt}
+use Rattle.tre_mark.specs.MarkTree.{MarkTree, mark_of, sequence_mark, alternation_mark, repetition_mark, intersection_of, restriction_of}
+use Rattle.tre_syntax.specs.PatternTree.{empty, atom, alternation}
 use Rattle.tre_advance.proofs.Endings.{tells_alone}
 use Rattle.tre_advance.proofs.Lists.{both_idle, lasting_idle, adds_alone, adds_then, adds_weaker, advances_told, held_append}
 use Rattle.tre_advance.proofs.Nested.{nested_advances, nested_between, starts_alone}
+use Rattle.tre_advance.proofs.Optional.{optional_advances, taken_ends}
 use Rattle.tre_advance.proofs.Onward.{advances_moved, sequence_advances, alternation_advances, once_between, repetition_once}
 use Rattle.tre_advance.proofs.walk.+advance.Goals as goal
 
@@ -62,6 +64,46 @@ advance_alternation-returns t c =
     c.advance-in-Alt.ensures
 
 -- ---- a repetition
+
+pub advance_optional-advance_star-requires : goal.advance_optional-advance_star-requires
+advance_optional-advance_star-requires t c =
+    let one = mark_of c.deref_mut-in-Alt.result.now in
+    let other = mark_of c.deref_mut.result.now in
+    let piece = c.args.piece.now in
+    let tree = tree_of c.args.first.now in
+    let shape : mark_of c.args.inner.now ≡ alternation_mark one other =
+    ap mark_of c.in-Alt.is
+    ∙ ap (λ m. alternation_mark (mark_of m) (mark_of c.in-Alt.other.value))
+    (sym c.deref_mut-in-Alt.ensures.value)
+    ∙ ap (λ m. alternation_mark one (mark_of m)) (sym c.deref_mut.ensures.value) in
+    let well = subst (λ (m : MarkTree). IsWellAt piece.begin m (alternation tree (atom empty))) shape
+    c.requires.well in
+    let ends = taken_ends piece c.args.here.now.items one other tree well
+    c.take_here.new.here.items (mark_of c.take_here.new.mark) c.in_ok-take_here-in-Alt.ensures
+    c.requires.ends in
+    (omega arith, (c.requires.numbers, (record { well = well.well.0 }, (ends, c.requires.enter))))
+
+pub advance_optional-returns : goal.advance_optional-returns
+advance_optional-returns t c =
+    let one = mark_of c.deref_mut-in-Alt.result.now in
+    let other = mark_of c.deref_mut.result.now in
+    let piece = c.args.piece.now in
+    let tree = tree_of c.args.first.now in
+    let here = c.args.here.now.items in
+    let shape : mark_of c.args.inner.now ≡ alternation_mark one other =
+    ap mark_of c.in-Alt.is
+    ∙ ap (λ m. alternation_mark (mark_of m) (mark_of c.in-Alt.other.value))
+    (sym c.deref_mut-in-Alt.ensures.value)
+    ∙ ap (λ m. alternation_mark one (mark_of m)) (sym c.deref_mut.ensures.value) in
+    let well = subst (λ (m : MarkTree). IsWellAt piece.begin m (alternation tree (atom empty))) shape
+    c.requires.well in
+    on_ok_weaker c.advance_star.result
+    (λ goes. adds_weaker goes (λ told h. advances_moved (ap (λ m. repetition_mark here m) shape)
+    (optional_advances piece here one other tree well c.take_here.new.here.items
+    (mark_of c.take_here.new.mark) c.in_ok-take_here-in-Alt.ensures c.requires.ends
+    c.args.entering.now told c.advance_star.new.here.items (mark_of c.advance_star.new.inner)
+    c.requires.enter h)))
+    c.advance_star.ensures
 
 pub advance_nested-advance-requires : goal.advance_nested-advance-requires
 advance_nested-advance-requires t c =

@@ -15,6 +15,12 @@ decreases-advance_alternation l = 5 * max (size-Expr l.left.now) (size-Expr l.ri
 abbrev pub decreases-advance_repetition : goal.decreases-advance_repetition
 decreases-advance_repetition l = 5 * size-Expr l.body.now + 4
 
+abbrev pub decreases-advance_star : goal.decreases-advance_star
+decreases-advance_star l = 5 * size-Expr l.body.now + 3
+
+abbrev pub decreases-advance_optional : goal.decreases-advance_optional
+decreases-advance_optional l = 5 * size-Expr l.first.now + 4
+
 abbrev pub decreases-advance_nested : goal.decreases-advance_nested
 decreases-advance_nested l = 5 * size-Expr l.body.now + 2
 

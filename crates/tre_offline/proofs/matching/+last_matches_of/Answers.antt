@@ -121,9 +121,9 @@ returns-in_ok-step-in-Star t c =
 pub returns-in_ok-all-in-Within : goal.returns-in_ok-all-in-Within
 returns-in_ok-all-in-Within t c =
     let rest = whole c.args.trace in
-    let all = tree_of c.deref-in-Within.result.now in
+    let all = tree_of c.deref-in-Within-2.result.now in
     let tree : tree_of c.args.expr.now ≡ restriction all c.in-Within.interval =
-    rw c.deref-in-Within.ensures (ap tree_of c.in-Within.is) in
+    rw c.deref-in-Within-2.ensures (ap tree_of c.in-Within.is) in
     short_of_form c.restricted.result c.args.longest rest tree _
     (λ zones exact. exact c.up_to-inner.result c.args.longest all rest c.up_to-inner.ensures.same
     c.in_ok-all-in-Within.ensures)

@@ -118,12 +118,27 @@ returns-in_ok-step-in-Star g t c =
     c.in_ok-step-in-Star.ensures)
     c.repeated.ensures
 
+pub returns-in-Lit-deref : goal.returns-in-Lit-deref
+returns-in-Lit-deref g t c =
+    let rest = g.A.Atoms.rest c.args.atoms.now in
+    let part : PatternTree = atom (literal (states.tree_of c.in-Lit-deref.state)) in
+    let inner : tree_of c.deref-in-Within.result.now ≡ part = ap tree_of c.in-Lit-deref.is in
+    let whole : tree_of c.args.expr.now
+    ≡ restriction (tree_of c.deref-in-Within.result.now) c.in-Within.interval =
+    rw c.deref-in-Within.ensures (ap tree_of c.in-Within.is) in
+    let tree : tree_of c.args.expr.now ≡ restriction part c.in-Within.interval =
+    whole ∙ ap (λ (t : PatternTree). restriction t c.in-Within.interval) inner in
+    short_of_form c.shortened-in-Lit-deref.result c.args.longest rest tree _
+    (λ zones exact. exact (restriction part c.in-Within.interval) rest
+    c.in_ok-within-in-Within.ensures)
+    c.shortened-in-Lit-deref.ensures
+
 pub returns-in_ok-all-in-Within : goal.returns-in_ok-all-in-Within
 returns-in_ok-all-in-Within g t c =
     let rest = g.A.Atoms.rest c.args.atoms.now in
-    let all = tree_of c.deref-in-Within.result.now in
+    let all = tree_of c.deref-in-Within-2.result.now in
     let tree : tree_of c.args.expr.now ≡ restriction all c.in-Within.interval =
-    rw c.deref-in-Within.ensures (ap tree_of c.in-Within.is) in
+    rw c.deref-in-Within-2.ensures (ap tree_of c.in-Within.is) in
     short_of_form c.restricted.result c.args.longest rest tree _
     (λ zones exact. exact c.up_to-inner.result c.args.longest all rest c.up_to-inner.ensures.same
     c.in_ok-all-in-Within.ensures)

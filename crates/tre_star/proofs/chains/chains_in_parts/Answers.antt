@@ -29,9 +29,9 @@ loop-start-preserved c =
       before = LieBefore-next steps c.requires.steps start end rises before
           c.part_end-end.ensures.apart;
       held = parts_joined steps c.requires.steps start end rises before
-          (LastsUpTo c.args.limits.now.longest) (IsInstantBetween c.args.limits.now.from c.args.limits.now.to) c.loop-start.chains
-          c.in_ok-part.part c.loop-start.invariant.held c.in_ok-part.ensures
-          c.join_disjoint.new.self c.in_ok-join_disjoint.ensures.held;
+          (LastsUpTo c.args.limits.now.longest)
+          (IsInstantBetween c.args.limits.now.from c.args.limits.now.to) c.loop-start.chains
+          c.loop-start.invariant.held c.add_part.new.chains c.in_ok-add_part.ensures;
     }
 
 pub returns : goal.returns
@@ -41,8 +41,8 @@ returns c =
     c.loop-start.chains c.args.steps.now c.args.steps.now c.loop-start.start
     c.loop-start-test.false refl c.loop-start.invariant.held
 
-pub join_disjoint-requires : goal.join_disjoint-requires
-join_disjoint-requires c =
+pub add_part-requires-clause-apart : goal.add_part-requires-clause-apart
+add_part-requires-clause-apart c =
     let start = c.loop-start.start in
     let end = c.part_end-end.result in
     let later = c.part_end-end.ensures.rising in
@@ -50,10 +50,10 @@ join_disjoint-requires c =
     parts_disjoint c.args.steps.now c.requires.steps start end rises
     c.loop-start.invariant.before (LastsUpTo c.args.limits.now.longest)
     (IsInstantBetween c.args.limits.now.from c.args.limits.now.to) c.loop-start.chains
-    c.in_ok-part.part c.loop-start.invariant.held c.in_ok-part.ensures
+    c.loop-start.invariant.held
 
-pub chains_of_part-requires-clause-steps : goal.chains_of_part-requires-clause-steps
-chains_of_part-requires-clause-steps c =
+pub add_part-requires-clause-steps : goal.add_part-requires-clause-steps
+add_part-requires-clause-steps c =
     let start = c.loop-start.start in
     let end = c.part_end-end.result in
     let later = c.part_end-end.ensures.rising in

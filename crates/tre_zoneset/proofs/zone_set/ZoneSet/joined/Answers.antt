@@ -1,14 +1,7 @@
-use Rattle.tre_zoneset.proofs.Unions.{HoldExactly-append}
+use Rattle.tre_zoneset.proofs.Unions.{HoldExactly-gathered}
 use Rattle.tre_zoneset.proofs.zone_set.ZoneSet.joined.Goals as goal
 
 pub returns : goal.returns
 returns c =
-    HoldExactly-append c.in_ok-joined.joined c.args.self.now c.args.other.now
-    (rw (
-      c.in_ok-extend_from_slice-2.ensures.items,
-      c.in_ok-extend_from_slice.ensures.items,
-      c.new-zones.ensures.items,
-      c.zones.ensures.same,
-      c.zones-2.ensures.same,
-    )
-    at c.in_ok-joined.ensures)
+    HoldExactly-gathered c.in_ok-joined.joined c.in_ok-zones.zones.items _ c.in_ok-joined.ensures
+    (rw (c.zones.ensures.same, c.zones-2.ensures.same) at c.in_ok-zones.ensures)

@@ -1,0 +1,28 @@
+use Rattle.std.proofs.Common.{◌≡◌, ℕ, ◌-◌, ◌<◌, ◌≤◌, ◌↔◌, ◌⊎◌, length}
+use Rattle.tre_state.specs.State.{tree_of}
+use Rattle.tre_state.specs.StateTree.{HoldsOn}
+use Rattle.tre_pairs.specs.Pairs.{Lasting}
+use Rattle.tre_trace.specs.Literal.{LiteralMatches}
+use Rattle.tre_zone.specs.Interval.{LastsWithin}
+use Rattle.tre_zone.specs.ZoneList.{SetHolds}
+use Rattle.tre_edges.specs.Ends.{EndBefore}
+use Rattle.tre_edges.proofs.Places.{time_of}
+use Rattle.tre_edges.proofs.RunsOfTraces.{FromPlace}
+use Rattle.tre_edges.proofs.runs.literal_within.Given as goal
+
+-- The zones hold those stretches that have ended before the place `at`.
+abbrev pub invariant-loop-at : goal.invariant-loop-at
+invariant-loop-at l =
+    let holds = HoldsOn (tree_of l.state) in
+    record {
+      exact : (a b n : ℕ) → 0 < n → a ≤ b
+          → Lasting (LastsWithin l.interval) (LiteralMatches holds 0 l.trace.segments) a b n
+          ↔ (SetHolds l.zones a b n ⊎ Lasting (LastsWithin l.interval)
+          (FromPlace holds l.trace.segments (time_of l.trace.segments l.at) l.at) a b n);
+      passed : l.seen.place ≤ l.at;
+      seen : l.seen.time ≡ time_of l.trace.segments l.seen.place;
+      ended : l.at < length l.trace.segments → EndBefore (time_of l.trace.segments l.at) l.zones;
+    }
+
+abbrev pub decreases-loop-at : goal.decreases-loop-at
+decreases-loop-at l = l.count - l.at

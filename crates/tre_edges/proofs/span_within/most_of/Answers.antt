@@ -1,0 +1,19 @@
+use Rattle.std.proofs.Common.{arith}
+use Rattle.std.proofs.lemmas.Int.{ints}
+use Rattle.tre_zone.proofs.Ends.{tightened}
+use Rattle.tre_edges.proofs.SpansWithin.{in_whole, in_whole_too}
+use Rattle.tre_edges.proofs.span_within.most_of.Goals as goal
+
+pub returns-in-None-clause-meaning : goal.returns-in-None-clause-meaning
+returns-in-None-clause-meaning c = λ p q n some le.
+    let whole = in_whole c.weak-whole.result c.args.length
+    (omega (arith, ints, c.weak-whole.ensures.key)) p q n le in
+    rw (← c.high.ensures.high, c.in-None.is) ((λ m. (whole.0 m, tt)), (λ h. whole.1 h.0))
+
+pub returns-in-Some-clause-meaning : goal.returns-in-Some-clause-meaning
+returns-in-Some-clause-meaning c = λ p q n some le.
+    rw (← c.high.ensures.high, c.in-Some.is, ← c.high_weak.ensures.weak)
+    (in_whole_too c.weak-whole.result c.args.length
+    (omega (arith, ints, c.weak-whole.ensures.key)) p q n le _ _
+    (tightened c.tighter.result c.weak-whole.result c.high_end.result c.tighter.ensures p q n some _
+    (c.high_end.ensures.meaning p q n le)))
