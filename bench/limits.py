@@ -93,6 +93,13 @@ HEAD, WIDE = b"$enddefinitions $end\n", b"x" * 65536
 DUMP, CSV = ["--format", "vcd", "true"], ["--format", "csv", "p", "--let"]
 LATE, BAD_LET = b"montre: trace: TooLate at ", b"montre: definitions: BadLet at 1\n"
 
+
+def long_paths(scopes, variables):
+    """A dump whose paths are far longer than any name."""
+    return (b"$var wire 1 a a $end\n" + b"$scope module %s $end\n" % (b"s" * 60000) * scopes
+            + b"$var wire 1 b a $end\n" * variables + HEAD + b"#1\n1a #2\n")
+
+
 # Words and standard input, and the status and the line that are wanted.
 INPUTS = [
     (["p"], WIDE + b"\n", 4, b"montre: trace: BadNumber at 1\n"),
@@ -112,6 +119,7 @@ INPUTS = [
     (["--scale", "9", *DUMP], HEAD + b"#1100", 4, LATE + b"21\n"),
     (DUMP, b"$comment " + WIDE + b" $end " + HEAD + b"#1", 0, b""),
     (DUMP, b"$comment " + WIDE + b"x $end " + HEAD, 4, b"montre: trace: LineTooLong at 9\n"),
+    (["--format", "vcd", "a"], long_paths(100, 100000), 0, b""),
     ([*CSV, "p = x >= -9223372036854775808"],
      b"dt,x\n1,9223372036854775807\n2,-9223372036854775808", 0, b""),
     ([*CSV, "p = x >= -9223372036854775809"], b"", 11, BAD_LET),

@@ -1,5 +1,5 @@
 #!/usr/bin/env python3
-"""What a watch of several patterns takes beside runs of one pattern each: two markdown tables.
+"""What a watch of several patterns takes beside runs of one pattern each: three markdown tables.
 
     python3 bench/watch.py PATH_OF_MONTRE [SEGMENTS]
 
@@ -99,6 +99,29 @@ def print_dump(montre, folder, changes):
                    ratio(watch - least, one)])
 
 
+def write_wide(folder, count):
+    """A dump that declares so many variables, each of which changes once."""
+    path = os.path.join(folder, "wide.vcd")
+    with open(path, "w", encoding="utf-8") as file:
+        file.writelines("$var wire 1 a%d s%d $end\n" % (n, n) for n in range(count))
+        file.write("$enddefinitions $end\n")
+        file.writelines("#%d\n1a%d\n" % (n, n) for n in range(count))
+        file.write("#%d\n" % count)
+    return path
+
+
+def print_wide(montre, folder):
+    """Over a dump: patterns that share no reader, since each has as many names as one reads, and
+    the dump must declare those of all."""
+    print_head(["patterns of 64 names", "variables of the dump", "a watch", "for each pattern"])
+    for count in WATCHED:
+        patterns = ["rise(%s)" % " && ".join("s%d" % (64 * n + k) for k in range(64))
+                    for n in range(count)]
+        checks = write_checks(folder, patterns)
+        watch = counted([montre, "--watch", "--format", "vcd", checks], write_wide(folder, 4096))
+        print_row([str(count), "4,096", "%.1f" % watch, "%.1f" % (watch / count)])
+
+
 def main():
     if len(sys.argv) not in (2, 3):
         sys.exit("usage: python3 bench/watch.py PATH_OF_MONTRE [SEGMENTS]")
@@ -108,6 +131,8 @@ def main():
         print_text(montre, folder, segments)
         print("")
         print_dump(montre, folder, 20 * segments)
+        print("")
+        print_wide(montre, folder)
 
 
 if __name__ == "__main__":

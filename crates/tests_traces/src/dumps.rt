@@ -1,11 +1,23 @@
 // Tests of tre_vcd.
 use crate::reading::{feed, read};
-use std::alloc::Global;
+use std::alloc::{AllocError, Global};
+use std::rc::Rc;
 use std::test::Fail;
 use tests_support::names_of;
+use tre_state::Names;
 use tre_trace::TraceKind::{LineTooLong, Spent};
 use tre_trace::{TraceFault, TraceKind, TraceReader};
-use tre_vcd::{TokenReader, VcdReader};
+use tre_vcd::{Needed, TokenReader, VcdReader};
+
+// These names, which a dump must declare.
+fn needed(alloc: Global, names: &Names, events: &Names) -> Result<Rc<Needed>, AllocError> {
+    let mut needed = Needed::new(alloc);
+    needed.add(names, events)?;
+    match Rc::new(alloc, needed) {
+        Ok(needed) => Ok(needed),
+        Err(_) => Err(AllocError),
+    }
+}
 
 // A reader of these propositions and events, which the dump must declare.
 fn reader(alloc: Global, names: &str, events: &str) -> Result<VcdReader, Fail> {
@@ -14,7 +26,7 @@ fn reader(alloc: Global, names: &str, events: &str) -> Result<VcdReader, Fail> {
     let own = names.try_clone()?;
     let own_events = events.try_clone()?;
     let mut reader = TokenReader::new(alloc, own, own_events, 0);
-    reader.must_declare(&names, &events)?;
+    reader.must_declare(&needed(alloc, &names, &events)?)?;
     Ok(VcdReader::new(alloc, reader))
 }
 

@@ -1,36 +1,22 @@
 -- Where the canonical zones are asked for, an input has one answer.
-use Rattle.std.proofs.Common.{◌≡◌, ℕ, ◌<◌, ◌≤◌, Bool, true, List, [], ◌∷◌, length, map, Option, None, Some, IfSome, IsSomeAnd, refl, sym, subst, ap, ◌∙◌, arith}
+use Rattle.std.proofs.Common.{◌≡◌, ℕ, ◌<◌, ◌≤◌, Bool, true, List, [], ◌∷◌, length, Option, None, Some, IfSome, IsSomeAnd, ◌↔◌, refl, sym, subst, ap, ◌∙◌, arith}
 use Rattle.tre_pairs.specs.Pairs.{Pairs}
 use Rattle.tre_show.specs.Order.{IsRising}
+use Rattle.tre_answer.proofs.Strips.{AreStrips-pairs}
 use Rattle.tre_strips.specs.Listed.{AreListed}
 use Rattle.tre_strips.proofs.Listing.{same_listed}
-use Rattle.tre_trace.specs.Reading.{Reading}
-use Rattle.tre_trace.specs.Trace.{Timeline, timeline_of}
+use Rattle.tre_syntax.specs.Rest.{whole, AtomMatches}
+use Rattle.tre_syntax.proofs.Atoms.{IsOrdered-Atom, IsInstant-Empty}
+use Rattle.tre_syntax.proofs.MeaningLaws.{IsOrdered-Meaning}
+use Rattle.tre_tell.specs.Sought.{Sought}
+use Rattle.tre_trace.specs.Trace.{Timeline}
 use Rattle.tre_zone.specs.declared.zone_bounds.ZoneBounds.{ZoneBounds}
-use Rattle.tre_feed.specs.Outcome.{whole_reading}
 use Rattle.tre_answer.specs.Request.{Request}
+use Rattle.tre_answer.specs.Alike.{WantTheSame}
 use Rattle.tre_answer.specs.Wanted.{IsWanted, AreZonesOf, AreZonesFor, IsOfflineAnswer, AreTooMany}
 
 one_value : {X : Type 0} {x y : X} → Some x ≡ Some y → x ≡ y
 one_value e = cc
-
-trace_once : (one other : Timeline) → whole_reading one ≡ whole_reading other → one ≡ other
-trace_once one other e =
-    let segments : one.segments ≡ other.segments = ap (λ (r : Reading). r.segments) e in
-    let last : one.last ≡ other.last = ap (λ (r : Reading). r.last) e in
-    ap (λ s. timeline_of s one.last) segments ∙ ap (λ l. timeline_of other.segments l) last
-
-traces_once : (some others : List Timeline) → map whole_reading some ≡ map whole_reading others
-    → some ≡ others
-traces_once [] [] e = refl
-traces_once [] (other ∷ others) e = cc
-traces_once (one ∷ some) [] e = cc
-traces_once (one ∷ some) (other ∷ others) e =
-    let heads : whole_reading one ≡ whole_reading other = cc in
-    let tails : map whole_reading some ≡ map whole_reading others = cc in
-    let first = trace_once one other heads in
-    let rest = traces_once some others tails in
-    cc
 
 are_listed : (normal : Bool) (wanted : Pairs) (zones : List ZoneBounds)
     → AreZonesOf normal wanted zones → AreListed zones
@@ -38,51 +24,87 @@ unfolding IsRising
 are_listed normal wanted zones of =
     record { rising = of.rising; apart = of.apart; tight = of.tight }
 
+-- what is wanted is rising
+some_rising : (patterns : List Sought) (traces : List Timeline) (a b n : ℕ)
+    → IsWanted patterns traces a b n → a ≤ b
+some_rising (pattern ∷ patterns) (trace ∷ traces) a b n h =
+    (IsOrdered-Meaning (AtomMatches (whole trace)) (IsOrdered-Atom (whole trace))
+    (IsInstant-Empty (whole trace)) pattern.tree).le a b n h.0
+some_rising (pattern ∷ patterns) [] a b n h = absurd h
+some_rising [] traces a b n h = absurd h
+
 -- zones for the same pairs are one list
-one_strips : (normal : Bool) (wanted : Pairs) (zones others : List ZoneBounds) → normal ≡ true
-    → AreZonesOf normal wanted zones → AreZonesOf normal wanted others → zones ≡ others
-one_strips normal wanted zones others is one other =
-    let strips = (one.strips is).exact in
-    let strips' = (other.strips is).exact in
+one_strips : (normal second : Bool) (wanted sought : Pairs) (zones others : List ZoneBounds)
+    → normal ≡ true → second ≡ true → ((a b n : ℕ) → 0 < n → wanted a b n ↔ sought a b n)
+    → AreZonesOf normal wanted zones → AreZonesOf second sought others → zones ≡ others
+one_strips normal second wanted sought zones others is is' same one other =
+    let strips = (AreStrips-pairs wanted sought same zones (one.strips is)).exact in
+    let strips' = (other.strips is').exact in
     same_listed zones others (are_listed normal wanted zones one)
-    (are_listed normal wanted others other) (λ zone. (
+    (are_listed second sought others other) (λ zone. (
       (λ has. (strips' zone).1 ((strips zone).0 has)),
       (λ has. (strips zone).1 ((strips' zone).0 has)),
     ))
 
--- the zones for the same bytes are the same
-zones_once : (request : Request) (bytes : List ℕ) (zones others : List ZoneBounds)
-    → request.job.normal ≡ true → AreZonesFor request bytes zones
-    → AreZonesFor request bytes others → zones ≡ others
-zones_once request bytes zones others normal one other =
-    let same : other.traces ≡ one.traces =
-    traces_once other.traces one.traces (sym other.are.read ∙ one.are.read) in
-    one_strips request.job.normal (IsWanted request.patterns one.traces) zones others normal one.found
-    (subst (λ (traces : List Timeline). AreZonesOf request.job.normal
-    (IsWanted request.patterns traces) others) same other.found)
+-- the zones for inputs of which the same is wanted are the same
+zones_once : (one other : Request) (bytes others : List ℕ) (zones seconds : List ZoneBounds)
+    → WantTheSame one other bytes others → AreZonesFor one bytes zones
+    → AreZonesFor other others seconds → zones ≡ seconds
+zones_once one other bytes others zones seconds same for for' =
+    one_strips one.job.normal other.job.normal (IsWanted one.patterns for.traces)
+    (IsWanted other.patterns for'.traces) zones seconds same.normal.0 same.normal.1
+    (λ a b n some. (
+      (λ h. (same.wanted for.traces for'.traces for.are for'.are a b n some
+          (some_rising one.patterns for.traces a b n h)).0 h),
+      (λ h. (same.wanted for.traces for'.traces for.are for'.are a b n some
+          (some_rising other.patterns for'.traces a b n h)).1 h),
+    )) for.found for'.found
 
-pub canonical_text : (request : Request) (bytes text other : List ℕ) → request.job.normal ≡ true
-    → IsOfflineAnswer request bytes text → IsOfflineAnswer request bytes other → text ≡ other
-canonical_text request bytes text other normal one two =
-    let same = zones_once request bytes one.zones two.zones normal one.right two.right in
-    let printed = one.printed in
-    let printed' = two.printed in
+pub canonical_text : (one other : Request) (bytes others text second : List ℕ)
+    → WantTheSame one other bytes others → IsOfflineAnswer one bytes text
+    → IsOfflineAnswer other others second → text ≡ second
+canonical_text one other bytes others text second alike for for' =
+    let same = zones_once one other bytes others for.zones for'.zones alike for.right for'.right in
+    let scale = alike.scale in
+    let end = alike.end in
+    let printed = for.printed in
+    let printed' = for'.printed in
     cc
 
-pub canonical_count : (request : Request) (bytes : List ℕ) (one other : ℕ)
-    → AreTooMany request bytes one → AreTooMany request bytes other → one ≡ other
-canonical_count request bytes one other are are' =
-    let same = zones_once request bytes are.zones are'.zones are.normal are.right are'.right in
+pub canonical_count : (one other : Request) (bytes others : List ℕ) (count second : ℕ)
+    → WantTheSame one other bytes others → AreTooMany one bytes count
+    → AreTooMany other others second → count ≡ second
+canonical_count one other bytes others count second alike are are' =
+    let same = zones_once one other bytes others are.zones are'.zones alike are.right are'.right in
     sym are.counted ∙ (ap length same ∙ are'.counted)
 
-few_or_many : (most : Option ℕ) (zones count : ℕ) → zones ≡ count
-    → IfSome most (λ limit. zones ≤ limit) → IsSomeAnd most (λ limit. limit < count) → ⊥
-few_or_many None zones count same few many = many
-few_or_many (Some limit) zones count same few many = omega (arith, same, few, many)
+few_or_many : (most limit : Option ℕ) (zones count : ℕ) → most ≡ limit → zones ≡ count
+    → IfSome most (λ limit. zones ≤ limit) → IsSomeAnd limit (λ limit. limit < count) → ⊥
+few_or_many most None zones count one same few many = many
+few_or_many None (Some limit) zones count one same few many = cc
+few_or_many (Some most) (Some limit) zones count one same few many =
+    let equal : most ≡ limit = one_value one in
+    omega (arith, same, few, many, equal)
 
-pub never_both : (request : Request) (bytes text : List ℕ) (count : ℕ)
-    → IsOfflineAnswer request bytes text → AreTooMany request bytes count → ⊥
-never_both request bytes text count one many =
-    let same = zones_once request bytes one.zones many.zones many.normal one.right many.right in
-    few_or_many request.job.max_zones (length one.zones) count (ap length same ∙ many.counted)
-    one.few many.many
+pub never_both : (one other : Request) (bytes others text : List ℕ) (count : ℕ)
+    → WantTheSame one other bytes others → IsOfflineAnswer one bytes text
+    → AreTooMany other others count → ⊥
+never_both one other bytes others text count alike for many =
+    let same = zones_once one other bytes others for.zones many.zones alike for.right many.right in
+    few_or_many one.job.max_zones other.job.max_zones (length for.zones) count alike.most
+    (ap length same ∙ many.counted) for.few many.many
+
+-- a request wants of one input what it wants
+pub same_itself : (request : Request) (bytes : List ℕ) → request.job.normal ≡ true
+    → WantTheSame request request bytes bytes
+same_itself request bytes normal = record {
+  normal = (normal, normal);
+  scale = refl;
+  most = refl;
+  end = refl;
+  wanted = λ traces seconds are are' a b n some le.
+      let same : traces ≡ seconds = are.are ∙ sym are'.are in (
+        (λ h. subst (λ (list : List Timeline). IsWanted request.patterns list a b n) same h),
+        (λ h. subst (λ (list : List Timeline). IsWanted request.patterns list a b n) (sym same) h),
+      );
+}

@@ -1,17 +1,13 @@
 -- What was found over a whole input, and the text that tells it.
-use Rattle.std.proofs.Common.{◌≡◌, ◌∙◌, ℕ, ◌≤◌, ◌<◌, Bool, true, List, [], ◌∷◌, length, get_or, map, Option, None, Some, IfSome, IsSomeAnd, is_some, refl, sym, ap, subst, arith}
+use Rattle.std.proofs.Common.{◌≡◌, ◌∙◌, ℕ, ◌+◌, ◌≤◌, ◌<◌, Bool, true, List, [], ◌∷◌, length, get_or, map, Option, None, Some, IfSome, IsSomeAnd, is_some, refl, sym, ap, subst, arith}
 use Rattle.std.proofs.lemmas.List.{length-map}
 use Rattle.tre_feed.specs.Input.{InputTold, AllReadsGood}
-use Rattle.tre_feed.specs.Outcome.{Outcome, whole_reading, refuses, exceeds}
-use Rattle.tre_feed.specs.Readers.{how_many, readings_in}
-use Rattle.tre_feed.specs.Readings.{common}
-use Rattle.tre_feed.specs.Whole.{IsWhole, IsDecided, StopsReading}
-use Rattle.tre_feed.specs.declared.fault.FeedFault.{FeedFault}
-use Rattle.tre_feed.specs.declared.fault.FeedFault.TheVariants.{Trace as FeedTrace, TooLong as FeedTooLong, Read as FeedRead, Memory as FeedMemory}
-use Rattle.tre_feed.specs.declared.readers.Readers.{Readers}
-use Rattle.tre_feed.proofs.Read.{as_many}
+use Rattle.tre_feed.specs.Comes.{Outcome, refuses, exceeds}
+use Rattle.tre_feed.specs.Traces.{IsWhole, IsDecided, StopsReading, trace_for}
+use Rattle.tre_feed.specs.declared.fault.Fault.{Fault}
+use Rattle.tre_feed.specs.declared.fault.Fault.TheVariants.{Trace, TooLong, TooManyZones, Read, Write, Memory}
 use Rattle.tre_show.specs.Line.{offline_text}
-use Rattle.tre_trace.specs.Reading.{Reading}
+use Rattle.tre_trace.specs.Reading.{Recording, Stretch, Vocabulary, no_names, segments_for}
 use Rattle.tre_trace.specs.Trace.{Timeline, end_of}
 use Rattle.tre_words.specs.Job.{IsJob}
 use Rattle.tre_words.specs.declared.job.Job.{Job}
@@ -20,12 +16,12 @@ use Rattle.tre_zone.specs.ZoneList.{SetHolds, HoldExactly}
 use Rattle.tre_zone.specs.declared.zone_bounds.ZoneBounds.{ZoneBounds}
 use Rattle.tre_zoneset.specs.ZoneSet.{IsZoneSet}
 use Rattle.tre_tell.specs.Outputs.{OutputTold, NothingWritten}
+use Rattle.tre_tell.specs.Sought.{Sought, all_names}
 use Rattle.tre_answer.specs.Ends.{IsAnswerIn, ReadsInput, StandsSoFar, EndsAtInput}
-use Rattle.tre_answer.specs.Parts.{IsFound, IsFoundFor, StopsAs, feed_fault}
-use Rattle.tre_answer.specs.Readings.{readings_of}
+use Rattle.tre_answer.specs.Parts.{IsFound, IsFoundFor, StopsAs}
+use Rattle.tre_answer.specs.Recorded.{recording_for}
 use Rattle.tre_answer.specs.Request.{Request}
 use Rattle.tre_answer.specs.Wanted.{IsWanted, AreZonesOf, AreZonesFor}
-use Rattle.tre_answer.specs.declared.fault.AnswerFault.TheVariants.{TooManyZones, Memory}
 use Rattle.tre_answer.proofs.Wanted.{AreZonesOf-wanted}
 
 -- a limit of zones is one of canonical ones
@@ -38,33 +34,44 @@ normal_limit job is count many = is.together.max_zones (is_limited job.max_zones
     is_limited None many = absurd many
     is_limited (Some limit) many = refl
 
--- there is a trace for each reader
-pub a_trace_each : {R Terms : Type 0} (terms : R → Terms)
-    (reading : Terms → Bool → List ℕ → Reading) (readers : Readers R) (limit : ℕ)
-    (input : InputTold) (traces : List Timeline)
-    → IsWhole (readings_in reading terms readers) limit input traces
-    → length traces ≡ how_many readers
-a_trace_each terms reading readers limit input traces whole =
-    sym (length-map traces whole_reading)
-    ∙ (sym (ap length whole.reads_as) ∙ as_many terms readers reading true whole.bytes)
+-- there is a trace for each list of names
+pub a_trace_each : {asked : List Vocabulary} {recording : Bool → List ℕ → Recording} {limit : ℕ}
+    {input : InputTold} {traces : List Timeline} → IsWhole asked recording limit input traces
+    → length traces ≡ length asked
+a_trace_each {asked} {recording} whole =
+    ap length whole.reads_as ∙ length-map asked (trace_for (recording true whole.bytes))
 
--- what the readings have in common ends where the first trace does
-first_ends : (readings : List Reading) (traces : List Timeline) (d : Timeline)
-    → readings ≡ map whole_reading traces → 0 < length traces
-    → end_of 0 (get_or traces 0 d).segments ≡ end_of 0 (common readings).segments
-first_ends readings [] d e some = absurd (omega (arith, some))
-first_ends readings (trace ∷ traces) d e some = rw e refl
+-- what bytes say ends where each of their traces does
+ends_alike : (start : ℕ) (names : Vocabulary) (stretches : List Stretch)
+    → end_of start (segments_for names stretches) ≡ end_of start (segments_for no_names stretches)
+ends_alike start names [] = refl
+ends_alike start names (stretch ∷ stretches) = ends_alike (start + stretch.len) names stretches
+
+first_ends : (said : Recording) (asked : List Vocabulary) (traces : List Timeline) (d : Timeline)
+    → traces ≡ map (trace_for said) asked → 0 < length traces
+    → end_of 0 (get_or traces 0 d).segments ≡ end_of 0 (segments_for no_names said.stretches)
+first_ends said [] traces d are some = absurd (omega (arith, some, ap length are))
+first_ends said (names ∷ asked) traces d are some = rw are (ends_alike 0 names said.stretches)
+
+-- the traces of names are those of the patterns that have them
+of_patterns : (said : Recording) (patterns : List Sought)
+    → map (trace_for said) (all_names patterns)
+    ≡ map (λ pattern. trace_for said pattern.names) patterns
+of_patterns said [] = refl
+of_patterns said (pattern ∷ patterns) =
+    ap (λ rest. trace_for said pattern.names ∷ rest) (of_patterns said patterns)
 
 -- what is wanted over the traces that a whole input is
 pub IsFound-whole : (request : Request) (input : InputTold)
-    (readings : Bool → List ℕ → List Reading) (traces : List Timeline) (d : Timeline)
-    (set : List ZoneBounds) (end : ℕ) → readings ≡ readings_of request
-    → IsWhole readings request.job.max_bytes input traces → 0 < length traces
+    (recording : Bool → List ℕ → Recording) (limit : ℕ) (traces : List Timeline) (d : Timeline)
+    (set : List ZoneBounds) (end : ℕ) → recording ≡ recording_for request
+    → limit ≡ request.job.max_bytes
+    → IsWhole (all_names request.patterns) recording limit input traces → 0 < length traces
     → HoldExactly set (IsWanted request.patterns traces)
     → end ≡ end_of 0 (get_or traces 0 d).segments → IsFound request input set end
-IsFound-whole request input readings traces d set end same read some exact ends =
-    let whole : IsWhole (readings_of request) request.job.max_bytes input traces =
-    subst (λ rs. IsWhole rs request.job.max_bytes input traces) same read in
+IsFound-whole request input recording limit traces d set end same limited read some exact ends =
+    let whole = rw (same, limited) at read in
+    let said = recording_for request true whole.bytes in
     record {
       reads = whole.reads;
       bytes = whole.bytes;
@@ -72,11 +79,12 @@ IsFound-whole request input readings traces d set end same read some exact ends 
       traces = traces;
       are = record {
         within = whole.within;
-        read = whole.reads_as;
+        whole = whole.faultless;
+        are = whole.reads_as ∙ of_patterns said request.patterns;
         are_traces = whole.are_traces;
       };
       exact = exact;
-      ends = ends ∙ first_ends (readings_of request true whole.bytes) traces d whole.reads_as some;
+      ends = ends ∙ first_ends said (all_names request.patterns) traces d whole.reads_as some;
     }
 
 module _ (request : Request) (input : InputTold) (set zones : List ZoneBounds) (end : ℕ)
@@ -142,7 +150,7 @@ module _ (request : Request) (input : InputTold) (offline : request.job.mode ≡
   StopsAs-wanting reads = λ output unwritten. (reads, nothing_so_far output _ unwritten)
 
   stops_decided : (outcome : Outcome) (output : OutputTold)
-      → IsDecided (readings_of request) request.job.max_bytes input outcome
+      → IsDecided (recording_for request) request.job.max_bytes input outcome
       → NothingWritten output → EndsAtInput outcome request input output
   stops_decided outcome output decided unwritten = record {
     reads_input = reads_here;
@@ -153,27 +161,26 @@ module _ (request : Request) (input : InputTold) (offline : request.job.mode ≡
   }
 
   -- the input couldn't be read as traces
-  StopsAs-unread : (fault : FeedFault)
-      → StopsReading (readings_of request) request.job.max_bytes request.job.input input fault
-      → StopsAs request input (feed_fault fault)
-  StopsAs-unread (FeedTrace fault) stops = λ output unwritten.
+  StopsAs-unread : (fault : Fault)
+      → StopsReading (recording_for request) request.job.max_bytes request.job.input input fault
+      → StopsAs request input fault
+  StopsAs-unread (Trace fault) stops = λ output unwritten.
       (stops.0, stops_decided (refuses fault) output stops.1 unwritten)
-  StopsAs-unread FeedTooLong stops = λ output unwritten.
-      stops_decided exceeds output stops unwritten
-  StopsAs-unread FeedRead stops = λ output unwritten. record {
+  StopsAs-unread TooLong stops = λ output unwritten. stops_decided exceeds output stops unwritten
+  StopsAs-unread (TooManyZones zones) stops = absurd stops
+  StopsAs-unread Read stops = λ output unwritten. record {
     reads_input = reads_here;
     unread = record { cause = stops.cause; unsound = stops.unsound };
     goes_on = stops.goes_on;
     stands = nothing_so_far output _ unwritten;
   }
-  StopsAs-unread FeedMemory stops = StopsAs-wanting stops
+  StopsAs-unread Write stops = absurd stops
+  StopsAs-unread Memory stops = StopsAs-wanting stops
 
-  -- nor by readers of its readings
-  pub StopsAs-readers : (readings : Bool → List ℕ → List Reading) (name : List ℕ)
-      (fault : FeedFault) → readings ≡ readings_of request → name ≡ request.job.input
-      → StopsReading readings request.job.max_bytes name input fault
-      → StopsAs request input (feed_fault fault)
-  StopsAs-readers readings name fault same named stops =
-      StopsAs-unread fault
-      (subst (λ n. StopsReading (readings_of request) request.job.max_bytes n input fault) named
-      (subst (λ rs. StopsReading rs request.job.max_bytes name input fault) same stops))
+  -- nor by an input that says this
+  pub StopsAs-input : (recording : Bool → List ℕ → Recording) (limit : ℕ) (name : List ℕ)
+      (fault : Fault) → recording ≡ recording_for request → limit ≡ request.job.max_bytes
+      → name ≡ request.job.input → StopsReading recording limit name input fault
+      → StopsAs request input fault
+  StopsAs-input recording limit name fault same limited named stops =
+      StopsAs-unread fault (rw (same, limited, named) at stops)

@@ -2,8 +2,7 @@ pub mod Canonical
 pub mod Differences
 pub mod Found
 pub mod OnlineRuns
-pub mod Readings
-pub mod SameReadings
+pub mod Recorded
 pub mod Stops
 pub mod Strips
 pub mod Unread

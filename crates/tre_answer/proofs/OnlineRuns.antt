@@ -1,22 +1,21 @@
 -- The end of an answer that is told as its input comes.
-use Rattle.std.proofs.Common.{◌≡◌, ◌⊎◌, ℕ, Bool, true, MatchBool, List, map, string_bytes, Ok, Err, refl, sym, ◌∙◌, ap, subst}
+use Rattle.std.proofs.Common.{◌≡◌, ◌⊎◌, ℕ, Bool, true, MatchBool, List, map, string_bytes, Result, Ok, Err, refl, sym, ◌∙◌, ap, subst}
 use Rattle.tre_feed.specs.Input.{InputTold, OfAllBytes}
-use Rattle.tre_feed.specs.Outcome.{Outcome, refuses, exceeds}
+use Rattle.tre_feed.specs.Comes.{Outcome, refuses, exceeds}
+use Rattle.tre_feed.specs.declared.fault.Fault.{Fault}
+use Rattle.tre_feed.specs.declared.fault.Fault.TheVariants.{Trace, TooLong, TooManyZones, Read, Write, Memory}
 use Rattle.tre_syntax.specs.declared.pattern.Pattern.{Pattern}
 use Rattle.tre_tell.specs.Ends.{EndsTelling, IsTold, IsToldToFault}
 use Rattle.tre_tell.specs.Outputs.{OutputTold, NothingWritten}
 use Rattle.tre_tell.specs.Watched.{watched_by}
 use Rattle.tre_tell.specs.Standing.{BlockIsCut, EndIsCut, IsOnlineAnswer}
-use Rattle.tre_tell.specs.declared.fault.TellFault.{TellFault}
-use Rattle.tre_tell.specs.declared.fault.TellFault.TheVariants.{Trace as TellTrace, TooLong as TellTooLong, Read as TellRead, Write as TellWrite, Memory as TellMemory}
 use Rattle.tre_num.specs.Defined.{Defined}
-use Rattle.tre_trace.specs.Reading.{Reading}
+use Rattle.tre_trace.specs.Reading.{Recording}
 use Rattle.tre_words.specs.declared.job.Job.{Job}
 use Rattle.tre_words.specs.declared.job.Mode.{Mode}
 use Rattle.tre_words.specs.declared.job.Mode.TheVariants.{Offline, Online, Show, Generate, Watch}
 use Rattle.tre_answer.specs.Ends.{ReadsInput, as_it_comes, IsAnswerIn, StandsSoFar, PartIsWritten, EndsAtInput, EndsOver}
-use Rattle.tre_answer.specs.Parts.{tell_fault}
-use Rattle.tre_answer.specs.Readings.{readings_of, watched_of}
+use Rattle.tre_answer.specs.Recorded.{recording_for, watched_of}
 use Rattle.tre_answer.specs.Request.{Request, request_for}
 use Rattle.tre_answer.specs.declared.asked.Asked.{Asked}
 
@@ -75,18 +74,19 @@ module _ (request : Request) (input : InputTold) (output : OutputTold) where
     }
 
     -- the telling stopped
-    EndsOver-stopped : (fault : TellFault)
+    EndsOver-stopped : (fault : Fault)
         → EndsTelling {T = Unit {0}} (watched_of request) request.job.input input output (Err fault)
-        → EndsOver {T = Unit {0}} request input output (Err (tell_fault fault))
-    EndsOver-stopped (TellTrace fault) told = (told.0, at_fault (refuses fault) told.1)
-    EndsOver-stopped TellTooLong told = at_fault exceeds told
-    EndsOver-stopped TellRead told = record {
+        → EndsOver {T = Unit {0}} request input output (Err fault)
+    EndsOver-stopped (Trace fault) told = (told.0, at_fault (refuses fault) told.1)
+    EndsOver-stopped TooLong told = at_fault exceeds told
+    EndsOver-stopped (TooManyZones zones) told = absurd told
+    EndsOver-stopped Read told = record {
       reads_input = told_reads request.job.mode comes;
       unread = record { cause = told.cause; unsound = told.unsound };
       goes_on = told.goes_on;
       stands = blocks_so_far request.job.mode _ comes told.stands;
     }
-    EndsOver-stopped TellWrite told = record {
+    EndsOver-stopped Write told = record {
       cause = told.cause;
       reads = told.reads;
       stands = subst (λ told. MatchBool told
@@ -94,38 +94,30 @@ module _ (request : Request) (input : InputTold) (output : OutputTold) where
           ⊎ EndIsCut (watched_of request) input output)
           (PartIsWritten request input output)) (sym comes) told.stands;
     }
-    EndsOver-stopped TellMemory told =
+    EndsOver-stopped Memory told =
         (told.reads, blocks_so_far request.job.mode _ comes told.stands)
 
--- What was told of these patterns by their readers is what was asked for.
+-- What was told of these patterns is what was asked for.
 module _ (job : Job) (lets : List Defined) (asked : Asked) (texts : List (List ℕ))
     (patterns : List Pattern) (name : List ℕ)
     (same_texts : texts ≡ map string_bytes asked.labels.items)
     (same_patterns : patterns ≡ asked.patterns.items) (same_name : name ≡ job.input)
-    (readings : Bool → List ℕ → List Reading)
-    (same : readings ≡ readings_of (request_for job lets asked)) (reads : ReadsInput job.mode)
+    (recording : Bool → List ℕ → Recording) (limit : ℕ)
+    (same : recording ≡ recording_for (request_for job lets asked))
+    (limited : limit ≡ job.max_bytes) (reads : ReadsInput job.mode)
     (other : job.mode ≡ Offline → ⊥) (input : InputTold) (output : OutputTold) where
   -- all of it is as was asked for
-  as_asked : watched_by texts patterns readings job.max_bytes job.scale
+  as_asked : watched_by texts patterns recording limit job.scale
       ≡ watched_of (request_for job lets asked)
-  as_asked = ap (λ all. watched_by all patterns readings job.max_bytes job.scale) same_texts
-      ∙ (ap (λ each. watched_by (map string_bytes asked.labels.items) each readings job.max_bytes
-      job.scale) same_patterns
-      ∙ ap (λ said. watched_by (map string_bytes asked.labels.items) asked.patterns.items said
-      job.max_bytes job.scale) same)
+  as_asked = rw (same_texts, same_patterns, same, limited) refl
 
-  pub EndsOver-done : (value : Unit {0})
-      → IsTold (watched_by texts patterns readings job.max_bytes job.scale) input output
-      → EndsOver (request_for job lets asked) input output (Ok value)
-  EndsOver-done value told = EndsOver-told (request_for job lets asked) input output
+  pub EndsOver-told_by : (result : Result (Unit {0}) Fault)
+      → EndsTelling (watched_by texts patterns recording limit job.scale) name input output result
+      → EndsOver (request_for job lets asked) input output result
+  EndsOver-told_by (Ok value) told = EndsOver-told (request_for job lets asked) input output
       (told_way job.mode reads other) value
       (subst (λ watched. IsTold watched input output) as_asked told)
-
-  pub EndsOver-fault : (fault : TellFault)
-      → EndsTelling {T = Unit {0}} (watched_by texts patterns readings job.max_bytes job.scale) name
-      input output (Err fault)
-      → EndsOver {T = Unit {0}} (request_for job lets asked) input output (Err (tell_fault fault))
-  EndsOver-fault fault told = EndsOver-stopped (request_for job lets asked) input output
+  EndsOver-told_by (Err fault) told = EndsOver-stopped (request_for job lets asked) input output
       (told_way job.mode reads other) fault
       (subst (λ n. EndsTelling {T = Unit {0}} (watched_of (request_for job lets asked)) n input
       output (Err fault)) same_name

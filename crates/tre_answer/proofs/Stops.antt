@@ -2,6 +2,8 @@
 use Rattle.std.proofs.Common.{◌≡◌, ◌⊎◌, ℕ, false, MatchBool, List, Result, Ok, Err, OnOk, OnErr, IfErr, refl, sym, ap, subst}
 use Rattle.std.specs.Io.KnownBytes.{Appends}
 use Rattle.tre_feed.specs.Input.{InputTold}
+use Rattle.tre_feed.specs.declared.fault.Fault.{Fault}
+use Rattle.tre_feed.specs.declared.fault.Fault.TheVariants.{Write}
 use Rattle.tre_io.specs.Faults.{counted}
 use Rattle.tre_io.specs.Written.{AppendsPart}
 use Rattle.tre_tell.specs.Outputs.{OutputTold, AllWritesGood}
@@ -10,10 +12,8 @@ use Rattle.tre_words.specs.declared.job.Mode.{Mode}
 use Rattle.tre_words.specs.declared.job.Mode.TheVariants.{Offline, Online, Show, Generate, Watch}
 use Rattle.tre_answer.specs.Ends.{ReadsInput, as_it_comes, PartIsWritten, EndsOver}
 use Rattle.tre_answer.specs.Parts.{IsFoundFor}
-use Rattle.tre_answer.specs.Readings.{watched_of}
+use Rattle.tre_answer.specs.Recorded.{watched_of}
 use Rattle.tre_answer.specs.Request.{Request}
-use Rattle.tre_answer.specs.declared.fault.AnswerFault.{AnswerFault}
-use Rattle.tre_answer.specs.declared.fault.AnswerFault.TheVariants.{Write}
 
 -- the modes in which an answer is written at once
 pub offline_once : (mode : Mode) → mode ≡ Offline → as_it_comes mode ≡ false
@@ -56,7 +56,7 @@ EndsOver-done request input output text value found writes written = record {
 -- an answer of which all, or a first part, was written at once
 pub EndsOver-written : (request : Request) (input : InputTold) (output : OutputTold)
     (text given : List ℕ) → given ≡ text → as_it_comes request.job.mode ≡ false
-    → IsFoundFor request input text → (result : Result (Unit {0}) AnswerFault)
+    → IsFoundFor request input text → (result : Result (Unit {0}) Fault)
     → OnOk result (Appends output.written_before output.written_now given)
     → OnOk result (AllWritesGood output)
     → OnErr result (AppendsPart output.written_before output.written_now given)

@@ -1,7 +1,7 @@
 -- The answer to what is asked, before the input is opened and where none is read.
 use Rattle.std.proofs.Common.{◌≡◌, ◌∙◌, ℕ, zero, suc, List, [], ◌∷◌, ◌++◌, All, length, get_or, flat_map, map, codes, Bool, true, false, MatchBool, string_bytes, Err, refl, sym, ap, subst, append-nil, arith}
 use Rattle.tre_feed.specs.Input.{InputTold, AllReadsGood}
-use Rattle.tre_feed.specs.declared.fault.FeedFault.TheVariants.{Memory as FeedMemory}
+use Rattle.tre_feed.specs.declared.fault.Fault.TheVariants.{Memory}
 use Rattle.tre_generate.specs.Summary.{IsSummary}
 use Rattle.tre_num.specs.Defined.{Defined}
 use Rattle.tre_show.specs.PatternText.{expression_text}
@@ -10,41 +10,35 @@ use Rattle.tre_syntax.specs.declared.pattern.Pattern.{Pattern}
 use Rattle.tre_tell.specs.Outputs.{OutputTold, NothingWritten}
 use Rattle.tre_tell.specs.Sought.{Sought, sought_by}
 use Rattle.tre_tell.specs.Standing.{FirstBlocksStand}
-use Rattle.tre_tell.proofs.Loop.{EndsTelling-unread}
+use Rattle.tre_tell.proofs.Loop.{FirstBlocksStand-unread}
 use Rattle.tre_words.specs.declared.job.Job.{Job}
 use Rattle.tre_words.specs.declared.job.Mode.{Mode}
 use Rattle.tre_words.specs.declared.job.Mode.TheVariants.{Show, Generate}
 use Rattle.tre_answer.specs.Ends.{as_it_comes, IsAnswerIn, EndsOver}
 use Rattle.tre_answer.specs.Parts.{IsFoundFor}
-use Rattle.tre_answer.specs.Readings.{readings_of, watched_of}
+use Rattle.tre_answer.specs.Recorded.{recording_for, watched_of}
 use Rattle.tre_answer.specs.Request.{FitsJob, request_for}
 use Rattle.tre_answer.specs.declared.asked.Asked.{Asked}
-use Rattle.tre_answer.specs.declared.fault.AnswerFault.TheVariants.{Memory}
-use Rattle.tre_answer.proofs.Readings.{nothing_said, faultless_at_first, labels_fit, readings_many}
+use Rattle.tre_answer.proofs.Recorded.{labels_fit, nothing_said}
 
 -- ---- where memory was wanting before the input was opened
 
-module _ (job : Job) (lets : List Defined) (asked : Asked) (fits : FitsJob job asked)
-    (input : InputTold) (output : OutputTold) where
-  early_by : (comes : Bool) → input.opened ≡ false → AllReadsGood input → NothingWritten output
+module _ (job : Job) (lets : List Defined) (asked : Asked) (input : InputTold)
+    (output : OutputTold) where
+  early_by : (comes : Bool) → input.opened ≡ false → NothingWritten output
       → MatchBool comes (FirstBlocksStand (watched_of (request_for job lets asked)) input output)
       (NothingWritten output)
-  early_by false closed reads unwritten = unwritten
-  early_by true closed reads unwritten =
+  early_by false closed unwritten = unwritten
+  early_by true closed unwritten =
       let request = request_for job lets asked in
-      (EndsTelling-unread (map string_bytes asked.labels.items) asked.patterns.items
-      (readings_of request) job.max_bytes job.scale (labels_fit job lets asked fits)
-      (readings_many job lets asked fits) (nothing_said request) job.input input output FeedMemory
-      (faultless_at_first request) (λ is_open. cc) (λ is_open. cc) reads
-      (λ failed wanting. wanting refl) (λ good named is. cc) unwritten.unwritten
-      unwritten.writes).stands
+      FirstBlocksStand-unread (map string_bytes asked.labels.items) asked.patterns.items
+      (recording_for request) job.max_bytes job.scale (nothing_said request) input output
+      (λ is_open. cc) (λ is_open. cc) unwritten
 
   pub EndsOver-early : input.opened ≡ false → AllReadsGood input → NothingWritten output
       → EndsOver {T = Unit {0}} (request_for job lets asked) input output (Err Memory)
-  EndsOver-early closed reads unwritten = (
-    reads,
-    early_by (as_it_comes job.mode) closed reads unwritten,
-  )
+  EndsOver-early closed reads unwritten =
+      (reads, early_by (as_it_comes job.mode) closed unwritten)
 
 -- ---- where no input is read
 

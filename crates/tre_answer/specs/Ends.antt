@@ -2,22 +2,22 @@
 use Rattle.std.specs.Prelude.{◌≡◌, ◌⊎◌, ℕ, Bool, true, false, List, All, IsTrue, MatchBool, ◌++◌, codes, flat_map, Result, Ok, Err}
 use Rattle.std.specs.Io.KnownBytes.{Appends}
 use Rattle.tre_feed.specs.Front.{IsUnreadable}
-use Rattle.tre_feed.specs.Input.{InputTold, AllReadsGood, OfAllBytes, MayGoOn}
-use Rattle.tre_feed.specs.Outcome.{Outcome, IsInputKind, refuses, exceeds, reading_within}
-use Rattle.tre_feed.specs.Readings.{ComesTo, common_of}
+use Rattle.tre_feed.specs.Input.{InputTold, AllReadsGood, OfAllBytes}
+use Rattle.tre_feed.specs.Comes.{ComesTo, MayGoOn, Outcome, refuses, exceeds, recording_within}
+use Rattle.tre_feed.specs.Outcome.{IsInputKind}
+use Rattle.tre_feed.specs.declared.fault.Fault.{Fault}
+use Rattle.tre_feed.specs.declared.fault.Fault.TheVariants.{Trace, TooLong, TooManyZones, Read, Write, Memory}
 use Rattle.tre_generate.specs.Summary.{IsSummary}
 use Rattle.tre_io.specs.Faults.{counted}
 use Rattle.tre_io.specs.Written.{AppendsPart}
 use Rattle.tre_show.specs.PatternText.{expression_text}
 use Rattle.tre_tell.specs.Outputs.{OutputTold, AllWritesGood, NothingWritten}
-use Rattle.tre_tell.specs.Standing.{AllStand, BlocksSoFarStand, FirstBlocksStand, BlockIsCut, IsOnlineAnswer, EndIsCut}
+use Rattle.tre_tell.specs.Standing.{BlocksStand, BlocksSoFarStand, FirstBlocksStand, BlockIsCut, IsOnlineAnswer, EndIsCut}
 use Rattle.tre_words.specs.declared.job.Mode.{Mode}
 use Rattle.tre_words.specs.declared.job.Mode.TheVariants.{Offline, Online, Show, Generate, Watch}
-use Rattle.tre_answer.specs.Readings.{readings_of, watched_of}
+use Rattle.tre_answer.specs.Recorded.{recording_for, watched_of}
 use Rattle.tre_answer.specs.Request.{Request}
 use Rattle.tre_answer.specs.Wanted.{IsOfflineAnswer, AreTooMany}
-use Rattle.tre_answer.specs.declared.fault.AnswerFault.{AnswerFault}
-use Rattle.tre_answer.specs.declared.fault.AnswerFault.TheVariants.{Trace, TooLong, TooManyZones, Read, Write, Memory}
 
 -- The modes in which the input is read.
 abbrev pub ReadsInput : Mode → Type 0
@@ -64,15 +64,16 @@ pub record EndsDone (request : Request) (input : InputTold) (output : OutputTold
   pub written : Appends output.written_before output.written_now text
 
 -- The bytes of the input within the limit have a first fault, or they have none and are too many.
--- The blocks of all segments before that stand there.
+-- The blocks of all stretches before that stand there.
 pub record EndsAtInput (outcome : Outcome) (request : Request) (input : InputTold)
     (output : OutputTold) : Type 0 where
   pub reads_input : ReadsInput request.job.mode
   pub opened : IsTrue input.opened
-  pub cause : ComesTo (readings_of request) request.job.max_bytes input.file input.left outcome
+  pub cause : ComesTo (recording_for request) request.job.max_bytes input.file input.left outcome
   pub reads : AllReadsGood input
-  pub stands : StandsSoFar request.job.mode output (AllStand (watched_of request)
-      (reading_within (readings_of request) request.job.max_bytes cause.bytes) output)
+  pub stands : StandsSoFar request.job.mode output (BlocksStand (watched_of request)
+      (recording_within (recording_for request) request.job.max_bytes cause.bytes).stretches
+      output)
 
 -- The input was read to its end, its zones are so many, and more than there may be.
 pub record EndsTooMany (zones : ℕ) (request : Request) (input : InputTold) (output : OutputTold)
@@ -88,12 +89,12 @@ pub record EndsReadFault (request : Request) (input : InputTold) (output : Outpu
   where
     pub reads_input : ReadsInput request.job.mode
     pub unread : IsUnreadable request.job.input input
-    pub goes_on : MayGoOn (common_of (readings_of request)) request.job.max_bytes input
+    pub goes_on : MayGoOn (recording_for request) request.job.max_bytes input
     pub stands : StandsSoFar request.job.mode output
         (BlocksSoFarStand (watched_of request) input output)
 
 -- One failure to write was counted. There stands a part of the whole text, or of the block of a
--- segment, or of the end behind all blocks.
+-- stretch, or of the end behind all blocks.
 pub record EndsWriteFault (request : Request) (input : InputTold) (output : OutputTold) : Type 0
   where
     pub cause : output.faults_now ≡ counted output.faults_before
@@ -102,14 +103,14 @@ pub record EndsWriteFault (request : Request) (input : InputTold) (output : Outp
         (BlockIsCut (watched_of request) input output ⊎ EndIsCut (watched_of request) input output)
         (PartIsWritten request input output)
 
--- Where memory was wanting there stand the blocks of some first segments of those read, which may
+-- Where memory was wanting there stand the blocks of some first stretches of those read, which may
 -- be all of them and are at least those that were complete when the last read began, and no end.
 abbrev pub StandsAtMemory : Request → InputTold → OutputTold → Type 0
 StandsAtMemory request input output = StandsSoFar request.job.mode output
     (FirstBlocksStand (watched_of request) input output)
 
 -- The end of the answering of a request.
-abbrev pub EndsOver : {T : Type 0} → Request → InputTold → OutputTold → Result T AnswerFault →
+abbrev pub EndsOver : {T : Type 0} → Request → InputTold → OutputTold → Result T Fault →
     Type 0
 EndsOver request input output (Ok value) = EndsDone request input output
 EndsOver request input output (Err (Trace fault)) =

@@ -1,40 +1,25 @@
 -- What the parts of an answer promise each other.
-use Rattle.std.specs.Prelude.{◌≡◌, ℕ, true, List, Err}
+use Rattle.std.specs.Prelude.{◌≡◌, ℕ, true, List, Err, map}
 use Rattle.tre_feed.specs.Input.{InputTold, AllReadsGood, AreAllBytes}
-use Rattle.tre_feed.specs.declared.fault.FeedFault.{FeedFault}
-use Rattle.tre_feed.specs.declared.fault.FeedFault.TheVariants.{Trace as FeedTrace, TooLong as FeedTooLong, Read as FeedRead, Memory as FeedMemory}
-use Rattle.tre_feed.specs.Readings.{common_of}
+use Rattle.tre_feed.specs.declared.fault.Fault.{Fault}
+use Rattle.tre_feed.specs.Standing.{Asks, limit_of}
+use Rattle.tre_feed.specs.declared.input.Input.{Input}
+use Rattle.tre_syntax.specs.Pattern.{names_of}
 use Rattle.tre_tell.specs.Outputs.{OutputTold, NothingWritten}
 use Rattle.tre_tell.specs.Watched.{AreTraces}
-use Rattle.tre_tell.specs.declared.fault.TellFault.{TellFault}
-use Rattle.tre_tell.specs.declared.fault.TellFault.TheVariants.{Trace as TellTrace, TooLong as TellTooLong, Read as TellRead, Write as TellWrite, Memory as TellMemory}
+use Rattle.tre_trace.specs.Reading.{Vocabulary, no_names, segments_for}
 use Rattle.tre_trace.specs.Trace.{Timeline, end_of}
+use Rattle.tre_words.specs.declared.job.Job.{Job}
 use Rattle.tre_zone.specs.ZoneList.{HoldExactly}
 use Rattle.tre_zone.specs.declared.zone_bounds.ZoneBounds.{ZoneBounds}
 use Rattle.tre_answer.specs.Ends.{EndsOver, IsAnswerIn}
-use Rattle.tre_answer.specs.Readings.{readings_of, watched_of}
+use Rattle.tre_answer.specs.Recorded.{recording_for, watched_of}
 use Rattle.tre_answer.specs.Request.{Request}
 use Rattle.tre_answer.specs.Wanted.{IsWanted}
-use Rattle.tre_answer.specs.declared.fault.AnswerFault.{AnswerFault}
-use Rattle.tre_answer.specs.declared.fault.AnswerFault.TheVariants.{Trace, TooLong, Read, Write, Memory}
-
--- what ends an answer where the input couldn't be read as traces
-abbrev pub feed_fault : FeedFault → AnswerFault
-feed_fault (FeedTrace fault) = Trace fault
-feed_fault FeedTooLong = TooLong
-feed_fault FeedRead = Read
-feed_fault FeedMemory = Memory
-
--- what ends it where the input couldn't be told
-abbrev pub tell_fault : TellFault → AnswerFault
-tell_fault (TellTrace fault) = Trace fault
-tell_fault TellTooLong = TooLong
-tell_fault TellRead = Read
-tell_fault TellWrite = Write
-tell_fault TellMemory = Memory
+use Rattle.tre_answer.specs.declared.asked.Asked.{Asked}
 
 -- What was done with the input is as at an end with this fault that wrote nothing.
-abbrev pub StopsAs : Request → InputTold → AnswerFault → Type 0
+abbrev pub StopsAs : Request → InputTold → Fault → Type 0
 StopsAs request input fault = (output : OutputTold) → NothingWritten output →
     EndsOver {T = Unit {0}} request input output (Err fault)
 
@@ -52,4 +37,11 @@ pub record IsFound (request : Request) (input : InputTold) (zones : List ZoneBou
   pub traces : List Timeline
   pub are : AreTraces (watched_of request) bytes traces
   pub exact : HoldExactly zones (IsWanted request.patterns traces)
-  pub ends : end ≡ end_of 0 (common_of (readings_of request) true bytes).segments
+  pub ends : end
+      ≡ end_of 0 (segments_for no_names (recording_for request true bytes).stretches)
+
+-- The input is read for the names of each of the patterns, as far as the limit of the job.
+pub record IsInputOf {R : Type 0} (names : R → Vocabulary) (asked : Asked) (job : Job)
+    (input : Input R) : Type 0 where
+  pub asks : Asks names input (map names_of asked.patterns.items)
+  pub limit : limit_of input ≡ job.max_bytes

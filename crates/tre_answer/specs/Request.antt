@@ -3,7 +3,6 @@
 use Rattle.std.specs.Prelude.{◌≡◌, ◌<◌, List, length, map, string_bytes}
 use Rattle.tre_num.specs.Defined.{Defined}
 use Rattle.tre_tell.specs.Sought.{Sought, sought_by}
-use Rattle.tre_trace.specs.Reading.{Vocabulary}
 use Rattle.tre_words.specs.declared.job.Format.TheVariants.{Csv}
 use Rattle.tre_words.specs.declared.job.Job.{Job}
 use Rattle.tre_answer.specs.declared.asked.Asked.{Asked}
@@ -13,10 +12,6 @@ pub record Request : Type 0 where
   pub job : Job
   pub patterns : List Sought
   pub lets : List Defined
-
--- the names of each of the patterns
-abbrev pub all_names : List Sought → List Vocabulary
-all_names patterns = map (λ pattern. pattern.names) patterns
 
 -- the patterns that are looked for, each behind its label
 abbrev pub sought_in : Asked → List Sought

@@ -1,17 +1,17 @@
 -- The pairs that a request asks for, and the text that tells all of them at once.
 use Rattle.std.specs.Prelude.{◌≡◌, ℕ, ◌<◌, ◌≤◌, ◌⊎◌, Bool, true, List, ◌∷◌, length, IfSome, IsSomeAnd}
-use Rattle.tre_feed.specs.Readings.{common_of}
 use Rattle.tre_pairs.specs.Pairs.{Pairs}
 use Rattle.tre_show.specs.Line.{offline_text}
 use Rattle.tre_show.specs.Order.{IsRising}
 use Rattle.tre_strips.specs.Strips.{AreStrips}
 use Rattle.tre_syntax.specs.Meaning.{Matches}
+use Rattle.tre_trace.specs.Reading.{no_names, segments_for}
 use Rattle.tre_trace.specs.Trace.{Timeline, end_of}
 use Rattle.tre_zone.specs.ZoneList.{IsApart, AreTight, HoldExactly}
 use Rattle.tre_zone.specs.declared.zone_bounds.ZoneBounds.{ZoneBounds}
 use Rattle.tre_tell.specs.Sought.{Sought}
 use Rattle.tre_tell.specs.Watched.{AreTraces}
-use Rattle.tre_answer.specs.Readings.{readings_of, watched_of}
+use Rattle.tre_answer.specs.Recorded.{recording_for, watched_of}
 use Rattle.tre_answer.specs.Request.{Request}
 
 -- A match of one of the patterns, each over its own trace.
@@ -50,7 +50,7 @@ pub record IsOfflineAnswer (request : Request) (bytes text : List ℕ) : Type 0 
   pub right : AreZonesFor request bytes zones
   pub few : IfSome request.job.max_zones (λ most. length zones ≤ most)
   pub printed : text ≡ offline_text request.job.scale zones
-      (end_of 0 (common_of (readings_of request) true bytes).segments)
+      (end_of 0 (segments_for no_names (recording_for request true bytes).stretches))
 
 -- The canonical zones for an input of these bytes are so many, and more than there may be.
 pub record AreTooMany (request : Request) (bytes : List ℕ) (count : ℕ) : Type 0 where

@@ -1,119 +1,110 @@
 // From a request to the text that answers it.
 ghost use Rattle.std.specs.Prelude.{◌≡◌, ◌≤◌, ◌<◌, ◌+◌, ◌++◌, List, codes, false, IsTrue, IfOk, IfSome, length, string_bytes};
 ghost use Rattle.tre_answer.specs.Ends.{EndsOver, ReadsInput};
-ghost use Rattle.tre_answer.specs.Readings.{readings_of};
+ghost use Rattle.tre_answer.specs.Parts.{IsInputOf};
+ghost use Rattle.tre_answer.specs.Recorded.{recording_for};
 ghost use Rattle.tre_answer.specs.Request.{FitsJob, request_for};
 ghost use Rattle.tre_decimal.specs.declared.TheConstants.{SCALE_MAX};
 ghost use Rattle.tre_feed.specs.Input.{TakesAtMost, input_told};
-ghost use Rattle.tre_feed.specs.Readers.{AreFresh, how_many, readings_asked};
-ghost use Rattle.tre_feed.specs.Readings.{AgreeAlways};
+ghost use Rattle.tre_feed.specs.Standing.{IsNew, recording_of};
 ghost use Rattle.tre_num.specs.Defined.{Defined};
 ghost use Rattle.tre_show.specs.PatternText.{expression_text};
 ghost use Rattle.tre_syntax.specs.Pattern.{pattern_tree, names_of};
 ghost use Rattle.tre_tell.specs.Outputs.{output_told};
-ghost use Rattle.tre_tell.specs.Watched.{SayNothing};
 ghost use Rattle.tre_words.specs.Job.{IsJob};
 
 use crate::asked::Asked;
-use crate::fault::AnswerFault;
+use crate::columns::column_input;
 use crate::offline::matches_text;
-use crate::output::write_text;
-use crate::readers::column_readers;
 use std::alloc::{AllocError, Global};
-use tre_feed::Readers;
+use tre_feed::{Fault, Input, dump_input, text_input};
 use tre_generate::summary;
-use tre_group::{dump_readers, text_readers};
 use tre_io::{Sink, Source};
 use tre_num::Definition;
 use tre_show::pattern_text;
 use tre_syntax::Pattern;
-use tre_tell::tell_matches;
+use tre_tell::{tell_matches, write_text};
 use tre_trace::TraceReader;
 use tre_words::{Format, Job, Mode};
 
-// Writes what answers a job of which the readers read the input, one for each pattern.
+// Writes what answers a job of which this is the input, read for the names of its patterns.
 fn answer_by<S: Source, R: TraceReader + Drop, O: Sink>(
     alloc: Global,
     asked: &Asked,
     job: &Job,
-    mut readers: Readers<R>,
-    input: &mut S,
+    mut input: Input<R>,
+    source: &mut S,
     out: &mut O,
-) -> Result<(), AnswerFault>
-    requires closed { S.opened input.old ≡ false }
+) -> Result<(), Fault>
+    requires closed { S.opened source.old ≡ false }
     requires job { IsJob job.now }
     requires reads { ReadsInput job.now.mode }
     requires fits { FitsJob job.now asked.now }
-    requires count { how_many readers ≡ length asked.now.patterns.items }
-    requires fresh { AreFresh R.represents readers }
-    requires alike { AgreeAlways (readings_asked R.recording R.names R.terms readers) }
-    requires nothing { SayNothing (readings_asked R.recording R.names R.terms readers) }
-    ensures ends { (lets : List Defined) →
-        readings_asked R.recording R.names R.terms readers
-        ≡ readings_of (request_for job.now lets asked.now) →
+    requires input { IsInputOf R.names asked.now job.now input }
+    requires new { IsNew R.terms R.represents R.names input }
+    ensures ends { (lets : List Defined) → recording_of R.recording R.terms input
+        ≡ recording_for (request_for job.now lets asked.now) →
         EndsOver (request_for job.now lets asked.now)
-        (input_told S.file_name S.file S.sound S.opened S.left S.found S.faults input.old input.new)
-        (output_told O.written O.faults out.old out.new) result }
-    ensures bounded { IsTrue (S.opened input.new) →
-        TakesAtMost (job.now.max_bytes + 1) (S.file input.old) (S.left input.new) }
-    ensures by_name { IsTrue (S.opened input.new) →
-        IfSome (S.file_name input.old) (λ told. told ≡ job.now.input) }
+        (input_told S.file_name S.file S.sound S.opened S.left S.found S.faults source.old
+        source.new) (output_told O.written O.faults out.old out.new) result }
+    ensures bounded { IsTrue (S.opened source.new) →
+        TakesAtMost (job.now.max_bytes + 1) (S.file source.old) (S.left source.new) }
+    ensures by_name { IsTrue (S.opened source.new) →
+        IfSome (S.file_name source.old) (λ told. told ≡ job.now.input) }
 {
     match &job.mode {
         Mode::Offline => {
-            let text = matches_text(alloc, asked, job, readers, input)?;
+            let text = matches_text(alloc, asked, job, input, source)?;
             write_text(text.as_str(), out)
         }
-        _ => {
-            tell_matches(
-                alloc,
-                job.input.text(),
-                job.max_bytes as usize,
-                &asked.patterns,
-                &asked.labels,
-                job.scale,
-                &mut readers,
-                input,
-                out,
-            )?;
-            Ok(())
-        }
+        _ => tell_matches(
+            alloc,
+            job.input.text(),
+            &asked.patterns,
+            &asked.labels,
+            job.scale,
+            &mut input,
+            source,
+            out,
+        ),
     }
 }
 
-// Writes what answers a job that reads its input, by readers of its format.
+// Writes what answers a job that reads its input, in its format.
 fn answer_input<S: Source, O: Sink>(
     alloc: Global,
     asked: &Asked,
     definitions: Vec<Definition>,
     job: &Job,
-    input: &mut S,
+    source: &mut S,
     out: &mut O,
-) -> Result<(), AnswerFault>
-    requires closed { S.opened input.old ≡ false }
+) -> Result<(), Fault>
+    requires closed { S.opened source.old ≡ false }
     requires job { IsJob job.now }
     requires reads { ReadsInput job.now.mode }
     requires fits { FitsJob job.now asked.now }
     ensures ends { EndsOver (request_for job.now definitions.items asked.now)
-        (input_told S.file_name S.file S.sound S.opened S.left S.found S.faults input.old input.new)
-        (output_told O.written O.faults out.old out.new) result }
-    ensures bounded { IsTrue (S.opened input.new) →
-        TakesAtMost (job.now.max_bytes + 1) (S.file input.old) (S.left input.new) }
-    ensures by_name { IsTrue (S.opened input.new) →
-        IfSome (S.file_name input.old) (λ told. told ≡ job.now.input) }
+        (input_told S.file_name S.file S.sound S.opened S.left S.found S.faults source.old
+        source.new) (output_told O.written O.faults out.old out.new) result }
+    ensures bounded { IsTrue (S.opened source.new) →
+        TakesAtMost (job.now.max_bytes + 1) (S.file source.old) (S.left source.new) }
+    ensures by_name { IsTrue (S.opened source.new) →
+        IfSome (S.file_name source.old) (λ told. told ≡ job.now.input) }
 {
+    let limit = job.max_bytes as usize;
     match job.format {
         Format::Text => {
-            let readers = text_readers(alloc, &asked.patterns, job.scale)?;
-            answer_by(alloc, asked, job, readers, input, out)
+            let input = text_input(alloc, &asked.patterns, job.scale, limit)?;
+            answer_by(alloc, asked, job, input, source, out)
         }
         Format::Vcd => {
-            let readers = dump_readers(alloc, &asked.patterns, job.scale)?;
-            answer_by(alloc, asked, job, readers, input, out)
+            let input = dump_input(alloc, &asked.patterns, job.scale, limit)?;
+            answer_by(alloc, asked, job, input, source, out)
         }
         Format::Csv => {
-            let readers = column_readers(alloc, &asked.patterns[0], definitions, job.scale)?;
-            answer_by(alloc, asked, job, readers, input, out)
+            let pattern = &asked.patterns[0];
+            let input = column_input(alloc, pattern, definitions, job.scale, limit)?;
+            answer_by(alloc, asked, job, input, source, out)
         }
     }
 }
@@ -139,21 +130,21 @@ pub fn answer<S: Source, O: Sink>(
     asked: &Asked,
     definitions: Vec<Definition>,
     job: &Job,
-    input: &mut S,
+    source: &mut S,
     out: &mut O,
-) -> Result<(), AnswerFault>
-    requires closed { S.opened input.old ≡ false }
+) -> Result<(), Fault>
+    requires closed { S.opened source.old ≡ false }
     requires job { IsJob job.now }
     requires fits { FitsJob job.now asked.now }
     requires alone { (ReadsInput job.now.mode → ⊥) → length asked.now.patterns.items ≡ 1 }
     ensures ends { EndsOver (request_for job.now definitions.items asked.now)
-        (input_told S.file_name S.file S.sound S.opened S.left S.found S.faults input.old input.new)
-        (output_told O.written O.faults out.old out.new) result }
-    ensures bounded { IsTrue (S.opened input.new) →
-        TakesAtMost (job.now.max_bytes + 1) (S.file input.old) (S.left input.new) }
-    ensures by_name { IsTrue (S.opened input.new) →
-        IfSome (S.file_name input.old) (λ told. told ≡ job.now.input) }
-    ensures untouched { (ReadsInput job.now.mode → ⊥) → input.new ≡ input.old }
+        (input_told S.file_name S.file S.sound S.opened S.left S.found S.faults source.old
+        source.new) (output_told O.written O.faults out.old out.new) result }
+    ensures bounded { IsTrue (S.opened source.new) →
+        TakesAtMost (job.now.max_bytes + 1) (S.file source.old) (S.left source.new) }
+    ensures by_name { IsTrue (S.opened source.new) →
+        IfSome (S.file_name source.old) (λ told. told ≡ job.now.input) }
+    ensures untouched { (ReadsInput job.now.mode → ⊥) → source.new ≡ source.old }
 {
     match &job.mode {
         Mode::Show => {
@@ -165,6 +156,6 @@ pub fn answer<S: Source, O: Sink>(
             let text = summary(alloc, pattern, *count)?;
             write_text(text.as_str(), out)
         }
-        _ => answer_input(alloc, asked, definitions, job, input, out),
+        _ => answer_input(alloc, asked, definitions, job, source, out),
     }
 }

@@ -1,8 +1,8 @@
 //! What answers a request over an input: the zones of all matches at once, or a block of them for
 //! each segment as the input comes.
 //!
-//! The central call is [`answer`]. It makes a reader of the job's format for each pattern, and
-//! writes what the job asks for; how that ends and what then stands in the output is said in
+//! The central call is [`answer`]. It makes an input of the job's format, and writes what the job
+//! asks for; how that ends and what then stands in the output is said in
 //! specs/Ends.antt, over a request, which is a job with its patterns (specs/Request.antt). Which
 //! pairs are wanted stands in specs/Wanted.antt. The layer above makes requests of the words of a
 //! command line, and knows no reader and no zone.
@@ -15,12 +15,9 @@
 
 mod answering;
 mod asked;
-mod fault;
+mod columns;
 pub mod laws;
 mod offline;
-mod output;
-mod readers;
 
 pub use answering::answer;
 pub use asked::Asked;
-pub use fault::AnswerFault;

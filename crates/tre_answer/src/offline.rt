@@ -1,25 +1,22 @@
 // The matches over a whole input, told at once.
 ghost use Rattle.std.specs.Prelude.{◌≡◌, ◌≤◌, ◌<◌, ◌+◌, ℕ, All, List, [], false, get_or, IsTrue, IfOk, IfErr, IfSome, IsSomeAnd, OnOk, length, string_bytes};
-ghost use Rattle.tre_answer.specs.Parts.{IsFoundFor, StopsAs};
-ghost use Rattle.tre_answer.specs.Readings.{readings_of};
+ghost use Rattle.tre_answer.specs.Parts.{IsFoundFor, IsInputOf, StopsAs};
+ghost use Rattle.tre_answer.specs.Recorded.{recording_for};
 ghost use Rattle.tre_answer.specs.Request.{FitsJob, request_for};
 ghost use Rattle.tre_answer.specs.Wanted.{AreZonesOf, IsWanted, MatchesSome};
 ghost use Rattle.tre_feed.specs.Input.{TakesAtMost, input_told};
-ghost use Rattle.tre_feed.specs.Readers.{AreFresh, how_many, readings_asked};
-ghost use Rattle.tre_feed.specs.Readings.{AgreeAlways};
+ghost use Rattle.tre_feed.specs.Standing.{IsNew, recording_of};
 ghost use Rattle.tre_num.specs.Defined.{Defined};
 ghost use Rattle.tre_pairs.specs.Except.{Except};
 ghost use Rattle.tre_tell.specs.Sought.{sought_by};
-ghost use Rattle.tre_tell.specs.Watched.{SayNothing};
 ghost use Rattle.tre_trace.specs.Trace.{IsTrace, end_of, quiet};
 ghost use Rattle.tre_words.specs.Job.{IsJob};
 ghost use Rattle.tre_zone.specs.ZoneList.{HoldExactly, SetHolds};
 ghost use Rattle.tre_zoneset.specs.ZoneSet.{IsZoneSet};
 
 use crate::asked::Asked;
-use crate::fault::AnswerFault;
 use std::alloc::{AllocError, Global};
-use tre_feed::{Readers, read_traces};
+use tre_feed::{Fault, Input};
 use tre_io::Source;
 use tre_minus::minus;
 use tre_offline::{into_matches, matches_among};
@@ -98,10 +95,10 @@ fn zones_for(alloc: Global, set: ZoneSet, normal: bool) -> Result<Vec<Zone>, All
 }
 
 // Refuses more zones than there may be.
-fn check_count(zones: &[Zone], most: Option<u64>) -> Result<(), AnswerFault>
+fn check_count(zones: &[Zone], most: Option<u64>) -> Result<(), Fault>
     ensures few { OnOk result (IfSome most (λ most. length zones.now ≤ most)) }
     ensures fault { IfErr result (λ fault.
-        fault ≡ AnswerFault.TooManyZones (length zones.now)) }
+        fault ≡ Fault.TooManyZones (length zones.now)) }
     ensures over { IfErr result (λ _. IsSomeAnd most (λ most. most < length zones.now)) }
 {
     match most {
@@ -109,7 +106,7 @@ fn check_count(zones: &[Zone], most: Option<u64>) -> Result<(), AnswerFault>
         Some(most) => {
             let zones = zones.len() as u64;
             if zones > most {
-                return Err(AnswerFault::TooManyZones { zones });
+                return Err(Fault::TooManyZones { zones });
             }
             Ok(())
         }
@@ -121,36 +118,31 @@ pub fn matches_text<S: Source, R: TraceReader + Drop>(
     alloc: Global,
     asked: &Asked,
     job: &Job,
-    readers: Readers<R>,
-    input: &mut S,
-) -> Result<String, AnswerFault>
-    requires closed { S.opened input.old ≡ false }
+    input: Input<R>,
+    source: &mut S,
+) -> Result<String, Fault>
+    requires closed { S.opened source.old ≡ false }
     requires job { IsJob job.now }
     requires offline { job.now.mode ≡ Mode.Offline }
     requires fits { FitsJob job.now asked.now }
-    requires count { how_many readers ≡ length asked.now.patterns.items }
-    requires fresh { AreFresh R.represents readers }
-    requires alike { AgreeAlways (readings_asked R.recording R.names R.terms readers) }
-    requires nothing { SayNothing (readings_asked R.recording R.names R.terms readers) }
-    ensures found { (lets : List Defined) →
-        readings_asked R.recording R.names R.terms readers
-        ≡ readings_of (request_for job.now lets asked.now) →
+    requires input { IsInputOf R.names asked.now job.now input }
+    requires new { IsNew R.terms R.represents R.names input }
+    ensures found { (lets : List Defined) → recording_of R.recording R.terms input
+        ≡ recording_for (request_for job.now lets asked.now) →
         IfOk result (λ text. IsFoundFor (request_for job.now lets asked.now)
-        (input_told S.file_name S.file S.sound S.opened S.left S.found S.faults input.old input.new)
-        (string_bytes text)) }
-    ensures stops { (lets : List Defined) →
-        readings_asked R.recording R.names R.terms readers
-        ≡ readings_of (request_for job.now lets asked.now) →
+        (input_told S.file_name S.file S.sound S.opened S.left S.found S.faults source.old
+        source.new) (string_bytes text)) }
+    ensures stops { (lets : List Defined) → recording_of R.recording R.terms input
+        ≡ recording_for (request_for job.now lets asked.now) →
         IfErr result (StopsAs (request_for job.now lets asked.now)
-        (input_told S.file_name S.file S.sound S.opened S.left S.found S.faults input.old
-        input.new)) }
-    ensures bounded { IsTrue (S.opened input.new) →
-        TakesAtMost (job.now.max_bytes + 1) (S.file input.old) (S.left input.new) }
-    ensures by_name { IsTrue (S.opened input.new) →
-        IfSome (S.file_name input.old) (λ told. told ≡ job.now.input) }
+        (input_told S.file_name S.file S.sound S.opened S.left S.found S.faults source.old
+        source.new)) }
+    ensures bounded { IsTrue (S.opened source.new) →
+        TakesAtMost (job.now.max_bytes + 1) (S.file source.old) (S.left source.new) }
+    ensures by_name { IsTrue (S.opened source.new) →
+        IfSome (S.file_name source.old) (λ told. told ≡ job.now.input) }
 {
-    let limit = job.max_bytes as usize;
-    let traces = read_traces(alloc, job.input.text(), limit, readers, input)?;
+    let traces = input.read_traces(alloc, job.input.text(), source)?;
     let found = wanted_matches(alloc, &asked.patterns, traces)?;
     let zones = zones_for(alloc, found.set, job.normal)?;
     check_count(&zones, job.max_zones)?;

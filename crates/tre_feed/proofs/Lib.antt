@@ -1,14 +1,15 @@
 -- Lemmas.
-pub mod Alike
-pub mod Asking
-pub mod Calls
-pub mod Changed
+mod Begun
+mod Collected
 pub mod Cuts
-pub mod Each
-pub mod Groups
-pub mod Members
+mod Inputs
 pub mod Outcomes
 pub mod Pieces
-pub mod Read
-pub mod Turns
-pub mod Wholes
+mod Seeing
+mod Standing
+pub mod Among
+pub mod Sharing
+mod Grouping
+mod Names
+mod Needing
+mod Parts

@@ -1,22 +1,16 @@
 -- One turn of reading an input: what it fed, and how it stopped.
-use Rattle.std.proofs.Common.{◌≡◌, ◌∙◌, ◌+◌, ◌-◌, ◌≤◌, ◌≢◌, ℕ, Bool, true, false, List, [], ◌∷◌, ◌++◌, All, length, map, take, Option, None, Some, IfSome, Result, Ok, Err, refl, sym, ap, subst, arith, length-append, append-nil}
+use Rattle.std.proofs.Common.{◌≡◌, ◌∙◌, ◌+◌, ◌-◌, ◌≤◌, ◌≢◌, ℕ, Bool, true, false, List, [], ◌∷◌, ◌++◌, length, take, Option, None, Some, IfSome, Result, Ok, Err, refl, sym, ap, subst, arith, length-append, append-nil}
 use Rattle.std.specs.Io.KnownBytes.{Consumes, Keeps, IsAtEnd}
 use Rattle.std.proofs.KnownBytes.{Consumes-trans}
-use Rattle.tre_trace.specs.Reading.{Reading}
-use Rattle.tre_feed.specs.Growth.{Adds}
-use Rattle.tre_trace.specs.declared.segment.Segment.{Segment}
-use Rattle.tre_feed.specs.Feeding.{IsFed, HasRead, GoesOn, IsEnded, StopsTurn, AddsRead}
-use Rattle.tre_feed.specs.Fed.{IsOfReader}
+use Rattle.tre_trace.specs.Reading.{Recording, Stretch}
 use Rattle.tre_feed.specs.Input.{HasReadCause}
-use Rattle.tre_feed.specs.Piece.{StopsPiece}
-use Rattle.tre_feed.specs.Readers.{TakesIn}
-use Rattle.tre_feed.specs.Readings.{AddsEach, adds_none, adds_next, AreAllAlike, AreLevel, common}
+use Rattle.tre_feed.specs.Stops.{IsOfReaders, StopsPiece, TakesIn}
+use Rattle.tre_feed.specs.Turn.{IsFed, HasRead, GoesOn, IsEnded, Keeps as KeepsAll, StopsTurn, TakesOn, TakesRead}
 use Rattle.tre_feed.specs.declared.TheConstants.{PIECE}
-use Rattle.tre_feed.specs.declared.fault.FeedFault.{FeedFault}
-use Rattle.tre_feed.specs.declared.fault.FeedFault.TheVariants.{Trace, TooLong, Read, Memory}
-use Rattle.tre_feed.proofs.Alike.{common_fault}
+use Rattle.tre_feed.specs.declared.fault.Fault.{Fault}
+use Rattle.tre_feed.specs.declared.fault.Fault.TheVariants.{Trace, TooLong, TooManyZones, Read, Write, Memory}
 use Rattle.tre_feed.proofs.Cuts.{take-over}
-use Rattle.tre_feed.proofs.Outcomes.{AllGrow, TellsAll-fault, TellsAll-end, fed_more}
+use Rattle.tre_feed.proofs.Outcomes.{GrowsOn, TellsAll-fault, TellsAll-end, fed_more}
 
 pub Consumes-keeps : (a b c : Option (List ℕ)) (bytes : List ℕ) → Consumes a b bytes → Keeps b c
     → Consumes a c bytes
@@ -25,43 +19,52 @@ Consumes-keeps (Some xs) None c bytes first kept = absurd first
 Consumes-keeps (Some xs) (Some ys) None bytes first kept = absurd kept
 Consumes-keeps (Some xs) (Some ys) (Some zs) bytes first kept = rw kept first
 
--- a reading has nothing beyond itself
-Adds-same : {old new : List Segment} {reading : Reading} → Adds old new reading reading
-    → new ≡ old
-Adds-same {old} {new} {reading} adds =
-    let none : adds.added ≡ [] = append_own reading.segments adds.added adds.beyond in
-    adds.new_is ∙ (ap (λ added. old ++ added) none ∙ append-nil old)
+none_beyond : (xs ys : List Stretch) → xs ≡ xs ++ ys → ys ≡ []
+none_beyond xs ys same =
+    let count : length ys ≡ 0 = omega (arith, ap length same, length-append xs ys) in
+    none_of ys count
   where
-    append_own : (xs ys : List Segment) → xs ≡ xs ++ ys → ys ≡ []
-    append_own xs ys same =
-        let count : length ys ≡ 0 = omega (arith, ap length same, length-append xs ys) in
-        none_of ys count
-      where
-        none_of : (ys : List Segment) → length ys ≡ 0 → ys ≡ []
-        none_of [] count = refl
-        none_of (y ∷ ys) count = absurd (omega (arith, count))
+    none_of : (ys : List Stretch) → length ys ≡ 0 → ys ≡ []
+    none_of [] count = refl
+    none_of (y ∷ ys) count = absurd (omega (arith, count))
 
-pub AddsEach-same : {olds news : List (List Segment)} {befores nows : List Reading}
-    → AddsEach olds news befores nows → befores ≡ nows → news ≡ olds
-AddsEach-same adds_none same = refl
-AddsEach-same (adds_next {old = old} {new = new} {before = before} {now = now} {olds = olds}
-    {news = news} {befores = befores} {nows = nows} adds rest) same =
-    let first : before ≡ now = cc same in
-    let others : befores ≡ nows = cc same in
-    ap (λ row. row ∷ news) (Adds-same (subst (λ reading. Adds old new reading now) first adds))
-    ∙ ap (λ rows. old ∷ rows) (AddsEach-same rest others)
+-- a recording has nothing beyond itself
+pub TakesOn-same : {old new : List Stretch → Type 0} {before now : Recording}
+    → TakesOn old new before now → before ≡ now → KeepsAll old new
+TakesOn-same {old} {new} {before} {now} takes same =
+    let none : takes.added ≡ [] = none_beyond before.stretches takes.added
+    (ap (λ (r : Recording). r.stretches) same ∙ takes.beyond) in
+    record {
+      same = λ waiting wait. subst new
+          (ap (λ added. waiting ++ added) none ∙ append-nil waiting)
+          (takes.then waiting wait);
+    }
 
--- no segment more
-pub AddsEach-none : (rows : List (List Segment)) (readings : List Reading)
-    → length rows ≡ length readings → AddsEach rows rows readings readings
-AddsEach-none [] [] same = adds_none
-AddsEach-none [] (reading ∷ readings) same = absurd (omega (arith, same))
-AddsEach-none (row ∷ rows) [] same = absurd (omega (arith, same))
-AddsEach-none (row ∷ rows) (reading ∷ readings) same = adds_next (record {
+-- no stretch more
+pub TakesOn-nothing : {old new : List Stretch → Type 0} (recording : Recording)
+    → KeepsAll old new → TakesOn old new recording recording
+TakesOn-nothing {old} {new} recording kept = record {
   added = [];
-  new_is = sym (append-nil row);
-  beyond = sym (append-nil reading.segments);
-}) (AddsEach-none rows readings (omega (arith, same)))
+  beyond = sym (append-nil recording.stretches);
+  then = λ waiting wait. subst new (sym (append-nil waiting)) (kept.same waiting wait);
+}
+
+pub Keeps-own : (old : List Stretch → Type 0) → KeepsAll old old
+Keeps-own old = record { same = λ waiting wait. wait }
+
+Keeps-trans : {old mid new : List Stretch → Type 0} → KeepsAll old mid → KeepsAll mid new
+    → KeepsAll old new
+Keeps-trans first then = record {
+  same = λ waiting wait. then.same waiting (first.same waiting wait);
+}
+
+TakesOn-after : {old mid new : List Stretch → Type 0} {before now : Recording} → KeepsAll old mid
+    → TakesOn mid new before now → TakesOn old new before now
+TakesOn-after kept takes = record {
+  added = takes.added;
+  beyond = takes.beyond;
+  then = λ waiting wait. takes.then waiting (kept.same waiting wait);
+}
 
 -- what a read finds left is what is left of what was read
 pub found_behind : (file left found : Option (List ℕ)) (bytes : List ℕ) → Consumes file left bytes
@@ -89,23 +92,25 @@ module _ {were_fed : List ℕ → Type 0} {limit : ℕ} {file left found : Optio
         ∙ fed_more limit bytes piece (omega (arith, so_far.size, inside))
 
     -- what the piece adds, as far as the limit
-    adds_piece : (readings : Bool → List ℕ → List Reading) (old new : List (List Segment))
+    adds_piece : (recording : Bool → List ℕ → Recording) (old new : List Stretch → Type 0)
         (piece : List ℕ)
-        → AddsEach old new (readings false bytes)
-        (readings false (bytes ++ take (limit - count) piece))
-        → AddsEach old new (readings false (take limit bytes))
-        (readings false (take limit (bytes ++ piece)))
-    adds_piece readings old new piece adds = subst (λ front. AddsEach old new (readings false front)
-        (readings false (take limit (bytes ++ piece)))) (sym IsFed-here)
-        (subst (λ all. AddsEach old new (readings false bytes) (readings false all))
+        → TakesOn old new (recording false bytes)
+        (recording false (bytes ++ take (limit - count) piece))
+        → TakesOn old new (recording false (take limit bytes))
+        (recording false (take limit (bytes ++ piece)))
+    adds_piece recording old new piece adds = subst (λ front. TakesOn old new
+        (recording false front)
+        (recording false (take limit (bytes ++ piece)))) (sym IsFed-here)
+        (subst (λ all. TakesOn old new (recording false bytes) (recording false all))
         (IsFed-behind piece) adds)
 
-  module _ (readings : Bool → List ℕ → List Reading) where
+  module _ (recording : Bool → List ℕ → Recording) where
     -- a turn that didn't read
-    pub HasRead-nothing : (rows : List (List Segment)) → AreLevel rows
-        → AddsEach rows rows (readings false (take limit bytes)) (readings false (take limit bytes))
-        → HasRead readings limit file left found bytes rows rows (Err TooLong)
-    HasRead-nothing rows level adds =
+    pub HasRead-nothing : (rows : List Stretch → Type 0)
+        → TakesOn rows rows (recording false (take limit bytes))
+        (recording false (take limit bytes))
+        → HasRead recording limit file left found bytes rows rows (Err TooLong)
+    HasRead-nothing rows adds =
         let last = so_far.last in
         record {
           piece = [];
@@ -123,16 +128,15 @@ module _ {were_fed : List ℕ → Type 0} {limit : ℕ} {file left found : Optio
           all_read = λ e. cc;
           within = λ e. cc;
           adds = rw (append-nil bytes) adds;
-          level = level;
         }
 
     module _ (left' found' : Option (List ℕ)) (finds : Keeps found' left) where
       -- a turn whose read failed
-      pub HasRead-failed : (old new : List (List Segment)) (result : Result Bool FeedFault)
-          → Keeps left left' → AreLevel new
-          → AddsRead readings limit bytes [] false old new result
-          → HasRead readings limit file left' found' bytes old new result
-      HasRead-failed old new result kept level adds = record {
+      pub HasRead-failed : (old new : List Stretch → Type 0) (result : Result Bool Fault)
+          → Keeps left left'
+          → TakesRead recording limit bytes [] false old new result
+          → HasRead recording limit file left' found' bytes old new result
+      HasRead-failed old new result kept adds = record {
         piece = [];
         front = rw (append-nil bytes) (Consumes-keeps file left left' bytes so_far.front kept);
         last = record {
@@ -148,17 +152,16 @@ module _ {were_fed : List ℕ → Type 0} {limit : ℕ} {file left found : Optio
         all_read = λ e. cc;
         within = λ e. cc;
         adds = adds;
-        level = level;
       }
 
       module _ (inside : count ≤ limit) (room : ℕ) (some : room ≤ limit - count + 1)
-          (fits : room ≤ PIECE) (old new : List (List Segment)) where
+          (fits : room ≤ PIECE) (old new : List Stretch → Type 0) where
         -- a turn that read a piece
-        pub HasRead-piece : (piece : List ℕ) (result : Result Bool FeedFault)
-            → Consumes left left' piece → length piece ≤ room → AreLevel new
-            → AddsRead readings limit bytes piece false old new result
-            → HasRead readings limit file left' found' bytes old new result
-        HasRead-piece piece result front short level adds = record {
+        pub HasRead-piece : (piece : List ℕ) (result : Result Bool Fault)
+            → Consumes left left' piece → length piece ≤ room
+            → TakesRead recording limit bytes piece false old new result
+            → HasRead recording limit file left' found' bytes old new result
+        HasRead-piece piece result front short adds = record {
           piece = piece;
           front = Consumes-trans file left left' bytes piece so_far.front front;
           last = record {
@@ -174,65 +177,62 @@ module _ {were_fed : List ℕ → Type 0} {limit : ℕ} {file left found : Optio
           all_read = λ e. cc;
           within = λ e. cc;
           adds = adds;
-          level = level;
         }
 
         pub HasRead-fed : (piece : List ℕ) (more : Bool) → Consumes left left' piece
-            → length piece ≤ room → AreLevel new
-            → AddsEach old new (readings false bytes)
-            (readings false (bytes ++ take (limit - count) piece))
-            → HasRead readings limit file left' found' bytes old new (Ok more)
-        HasRead-fed piece more front short level adds =
-            HasRead-piece piece (Ok more) front short level
-            (adds_piece inside readings old new piece adds)
+            → length piece ≤ room
+            → TakesOn old new (recording false bytes)
+            (recording false (bytes ++ take (limit - count) piece))
+            → HasRead recording limit file left' found' bytes old new (Ok more)
+        HasRead-fed piece more front short adds =
+            HasRead-piece piece (Ok more) front short
+            (adds_piece inside recording old new piece adds)
 
         -- a turn whose piece was refused
-        pub HasRead-stops : (fault : FeedFault) → AreLevel new
-            → length old ≡ length (readings false (take limit bytes)) → StopsPiece readings
+        pub HasRead-stops : (fault : Fault) → StopsPiece recording
             (limit - count) room bytes left left' old new fault
-            → HasRead readings limit file left' found' bytes old new (Err fault)
-        HasRead-stops (Trace fault) level counts stops = HasRead-piece stops.piece
+            → HasRead recording limit file left' found' bytes old new (Err fault)
+        HasRead-stops (Trace fault) stops = HasRead-piece stops.piece
             (Err (Trace fault))
-            stops.front stops.short level (adds_piece inside readings old new stops.piece stops.all)
-        HasRead-stops TooLong level counts stops = absurd stops
-        HasRead-stops Read level counts stops = HasRead-failed old new (Err Read) stops.kept level
-            (rw (append-nil bytes) (subst (λ rows. AddsEach old rows
-            (readings false (take limit bytes))
-            (readings false (take limit bytes))) (sym stops.same) (AddsEach-none old _ counts)))
-        HasRead-stops Memory level counts stops = HasRead-piece stops.piece (Err Memory) stops.front
-            stops.short level stops.same
+            stops.front stops.short (adds_piece inside recording old new stops.piece stops.all)
+        HasRead-stops TooLong stops = absurd stops
+        HasRead-stops (TooManyZones zones) stops = absurd stops
+        HasRead-stops Write stops = absurd stops
+        HasRead-stops Read stops = HasRead-failed old new (Err Read) stops.left
+            (rw (append-nil bytes) (TakesOn-nothing _ stops.kept))
+        HasRead-stops Memory stops = HasRead-piece stops.piece (Err Memory) stops.front
+            stops.short stops.kept
 
         -- what it found
-        pub StopsTurn-piece : (fault : FeedFault) → AllGrow readings
-            → ((bytes : List ℕ) → AreAllAlike (readings false bytes))
-            → StopsPiece readings (limit - count) room bytes left left' old new fault
-            → StopsTurn readings limit file left' bytes old new fault
-        StopsTurn-piece (Trace fault) grows alike stops =
-            let told = subst (λ all. (common (readings false all)).fault ≡ Some fault)
+        pub StopsTurn-piece : (fault : Fault) → GrowsOn recording
+            → StopsPiece recording (limit - count) room bytes left left' old new fault
+            → StopsTurn recording limit file left' bytes old new fault
+        StopsTurn-piece (Trace fault) grows stops =
+            let told = subst (λ all. (recording false all).fault ≡ Some fault)
             (IsFed-behind inside stops.piece) stops.told in (
               stops.kind,
-              TellsAll-fault readings grows limit file left' bytes
+              TellsAll-fault recording limit file left' grows bytes
                   (bytes ++ stops.piece) old new fault
                   (Consumes-trans file left left' bytes stops.piece so_far.front stops.front)
-                  (adds_piece inside readings old new stops.piece stops.all)
-                  (common_fault _ (alike (take limit (bytes ++ stops.piece)))
-                  (Some fault) told) told,
+                  (adds_piece inside recording old new stops.piece stops.all) told,
             )
-        StopsTurn-piece TooLong grows alike stops = absurd stops
-        StopsTurn-piece Read grows alike stops = record {
-          front = Consumes-keeps file left left' bytes so_far.front stops.kept;
-          same = stops.same;
+        StopsTurn-piece TooLong grows stops = absurd stops
+        StopsTurn-piece (TooManyZones zones) grows stops = absurd stops
+        StopsTurn-piece Write grows stops = absurd stops
+        StopsTurn-piece Read grows stops = record {
+          front = Consumes-keeps file left left' bytes so_far.front stops.left;
+          kept = stops.kept;
           within = omega (arith, so_far.size, inside);
         }
-        StopsTurn-piece Memory grows alike stops = stops.same
+        StopsTurn-piece Memory grows stops = stops.kept
 
         -- a turn that fed a piece and goes on
         pub GoesOn-fed : {were_fed' : List ℕ → Type 0} (piece : List ℕ) (added : ℕ)
             → Consumes left left' piece → length piece ≡ added → added ≤ room
             → were_fed' (bytes ++ take (limit - count) piece)
-            → AddsEach old new (readings false bytes)
-            (readings false (bytes ++ take (limit - count) piece))
-            → GoesOn were_fed' readings limit file left' found' (count + added) bytes old new
+            → TakesOn old new (recording false bytes)
+            (recording false (bytes ++ take (limit - count) piece))
+            → GoesOn were_fed' recording limit file left' found' (count + added) bytes old new
         GoesOn-fed {were_fed'} piece added front size short fed adds = record {
           piece = piece;
           fed = record {
@@ -248,7 +248,7 @@ module _ {were_fed : List ℕ → Type 0} {limit : ℕ} {file left found : Optio
             few = omega (arith, short, some, inside);
             fed = subst were_fed' (IsFed-behind inside piece) fed;
           };
-          all = adds_piece inside readings old new piece adds;
+          all = adds_piece inside recording old new piece adds;
         }
 
 -- A read that took no byte: the input ends behind the bytes, which were all fed.
@@ -284,23 +284,23 @@ IsAtEndOf-read {were_fed' = were_fed'} limit file left found left' found' taken 
     }
 
 -- what such a read adds
-pub AddsEach-end : (readings : Bool → List ℕ → List Reading) (limit count : ℕ)
-    (bytes buffer : List ℕ) (old new : List (List Segment)) → count ≡ 0
-    → AddsEach old new (readings false bytes)
-    (readings false (bytes ++ take limit (take count buffer))) → new ≡ old
-AddsEach-end readings limit count bytes buffer old new none adds = AddsEach-same adds
-    (ap (readings false) (sym (ap (λ more. bytes ++ more) (nothing_of limit count buffer none)
+pub Keeps-end : (recording : Bool → List ℕ → Recording) (limit count : ℕ) (bytes buffer : List ℕ)
+    {old new : List Stretch → Type 0} → count ≡ 0
+    → TakesOn old new (recording false bytes)
+    (recording false (bytes ++ take limit (take count buffer))) → KeepsAll old new
+Keeps-end recording limit count bytes buffer none takes = TakesOn-same takes
+    (ap (recording false) (sym (ap (λ more. bytes ++ more) (nothing_of limit count buffer none)
     ∙ append-nil bytes)))
 
-module _ {were_fed : List ℕ → Type 0} (readings : Bool → List ℕ → List Reading) {limit : ℕ}
+module _ {were_fed : List ℕ → Type 0} (recording : Bool → List ℕ → Recording) {limit : ℕ}
     {file left found : Option (List ℕ)} {bytes : List ℕ}
-    (at_end : IsAtEndOf were_fed limit file left found bytes) (old mid new : List (List Segment))
-    (same : mid ≡ old) where
+    (at_end : IsAtEndOf were_fed limit file left found bytes) (old mid new : List Stretch → Type 0)
+    (kept : KeepsAll old mid) where
   -- a turn at the end of the input
-  has_read : (closed : Bool) (result : Result Bool FeedFault) → AreLevel new
-      → AddsRead readings limit bytes [] closed old new result
-      → HasRead readings limit file left found bytes old new result
-  has_read closed result level adds = record {
+  has_read : (closed : Bool) (result : Result Bool Fault)
+      → TakesRead recording limit bytes [] closed old new result
+      → HasRead recording limit file left found bytes old new result
+  has_read closed result adds = record {
     piece = [];
     front = rw (append-nil bytes) at_end.front;
     last = record {
@@ -316,104 +316,110 @@ module _ {were_fed : List ℕ → Type 0} (readings : Bool → List ℕ → List
     all_read = λ e. at_end.all_read;
     within = λ e. rw (append-nil bytes) at_end.within;
     adds = adds;
-    level = level;
   }
 
-  adds_end : AddsEach mid new (readings false bytes) (readings true bytes)
-      → AddsEach old new (readings false (take limit bytes))
-      (readings true (take limit (bytes ++ [])))
-  adds_end adds = subst (λ all. AddsEach old new (readings false (take limit bytes))
-      (readings true (take limit all))) (sym (append-nil bytes))
-      (subst (λ all. AddsEach old new (readings false all) (readings true all))
-      (sym (take-over limit bytes at_end.within))
-      (subst (λ rows. AddsEach rows new (readings false bytes) (readings true bytes)) same adds))
+  adds_end : TakesOn mid new (recording false bytes) (recording true bytes)
+      → TakesOn old new (recording false (take limit bytes))
+      (recording true (take limit (bytes ++ [])))
+  adds_end adds = subst (λ all. TakesOn old new (recording false (take limit bytes))
+      (recording true (take limit all))) (sym (append-nil bytes))
+      (subst (λ all. TakesOn old new (recording false all) (recording true all))
+      (sym (take-over limit bytes at_end.within)) (TakesOn-after kept adds))
 
-  pub HasRead-end : (more : Bool) → AreLevel new
-      → AddsEach mid new (readings false bytes) (readings true bytes)
-      → HasRead readings limit file left found bytes old new (Ok more)
-  HasRead-end more level adds = has_read true (Ok more) level (adds_end adds)
+  pub HasRead-end : (more : Bool)
+      → TakesOn mid new (recording false bytes) (recording true bytes)
+      → HasRead recording limit file left found bytes old new (Ok more)
+  HasRead-end more adds = has_read true (Ok more) (adds_end adds)
 
-  pub HasRead-refused : (fault : FeedFault) → AreLevel new
-      → TakesIn mid new (readings false bytes) (readings true bytes) (Err fault)
-      → HasRead readings limit file left found bytes old new (Err fault)
-  HasRead-refused (Trace fault) level takes =
-      has_read true (Err (Trace fault)) level (adds_end takes.1)
-  HasRead-refused TooLong level takes = absurd takes
-  HasRead-refused Read level takes = absurd takes
-  HasRead-refused Memory level takes = has_read false (Err Memory) level (takes ∙ same)
+  pub HasRead-refused : (fault : Fault)
+      → TakesIn mid new (recording false bytes) (recording true bytes) (Err fault)
+      → HasRead recording limit file left found bytes old new (Err fault)
+  HasRead-refused (Trace fault) takes =
+      has_read true (Err (Trace fault)) (adds_end takes.1)
+  HasRead-refused TooLong takes = absurd takes
+  HasRead-refused (TooManyZones zones) takes = absurd takes
+  HasRead-refused Write takes = absurd takes
+  HasRead-refused Read takes = absurd takes
+  HasRead-refused Memory takes = has_read false (Err Memory) (Keeps-trans kept takes)
 
-  pub IsEnded-end : (lasts : List ℕ)
-      → AddsEach mid new (readings false bytes) (readings true bytes)
-      → All (λ reading. reading.fault ≡ None) (readings true bytes)
-      → lasts ≡ map (λ reading. reading.last) (readings true bytes)
-      → IsEnded readings limit file left bytes old new lasts
-  IsEnded-end lasts adds whole told = record {
+  pub IsEnded-end : (has_ended : (List ℕ → Bool) → Type 0)
+      → TakesOn mid new (recording false bytes) (recording true bytes)
+      → (recording true bytes).fault ≡ None → has_ended (recording true bytes).last
+      → IsEnded recording limit file left bytes old new has_ended
+  IsEnded-end has_ended adds whole ended = record {
     front = at_end.front;
     all_read = at_end.all_read;
     within = at_end.within;
     whole = whole;
-    lasts_are = told;
-    all = subst (λ all. AddsEach old new (readings false all) (readings true bytes))
-        (sym (take-over limit bytes at_end.within))
-        (subst (λ rows. AddsEach rows new (readings false bytes) (readings true bytes)) same adds);
+    ended = ended;
+    all = subst (λ all. TakesOn old new (recording false all) (recording true bytes))
+        (sym (take-over limit bytes at_end.within)) (TakesOn-after kept adds);
   }
 
   -- a turn whose end was refused
-  pub StopsTurn-end : (fault : FeedFault)
-      → TakesIn mid new (readings false bytes) (readings true bytes) (Err fault)
-      → StopsTurn readings limit file left bytes old new fault
+  pub StopsTurn-end : (fault : Fault)
+      → TakesIn mid new (recording false bytes) (recording true bytes) (Err fault)
+      → StopsTurn recording limit file left bytes old new fault
   StopsTurn-end (Trace fault) takes = (
     takes.0,
-    TellsAll-end readings limit file left bytes old new fault at_end.front at_end.all_read
+    TellsAll-end recording limit file left bytes old new fault at_end.front at_end.all_read
         at_end.within
-        (subst (λ rows. AddsEach rows new (readings false bytes)
-        (readings true bytes)) same takes.1)
-        takes.2,
+        (TakesOn-after kept takes.1) takes.2,
   )
   StopsTurn-end TooLong takes = absurd takes
+  StopsTurn-end (TooManyZones zones) takes = absurd takes
+  StopsTurn-end Write takes = absurd takes
   StopsTurn-end Read takes = absurd takes
-  StopsTurn-end Memory takes = takes ∙ same
+  StopsTurn-end Memory takes = Keeps-trans kept takes
 
 -- readers refused what they were fed of a piece
-pub StopsPiece-refused : (readings : Bool → List ℕ → List Reading) (allowed room : ℕ)
-    (bytes piece fed : List ℕ) (before now : Option (List ℕ)) (old new : List (List Segment))
-    (fault : FeedFault) → Consumes before now piece → length piece ≤ room
+pub StopsPiece-refused : (recording : Bool → List ℕ → Recording) (allowed room : ℕ)
+    (bytes piece fed : List ℕ) (before now : Option (List ℕ)) (old new : List Stretch → Type 0)
+    (fault : Fault) → Consumes before now piece → length piece ≤ room
     → fed ≡ take allowed piece
-    → TakesIn old new (readings false bytes) (readings false (bytes ++ fed)) (Err fault)
-    → StopsPiece readings allowed room bytes before now old new fault
-StopsPiece-refused readings allowed room bytes piece fed before now old new (Trace fault) front
+    → TakesIn old new (recording false bytes) (recording false (bytes ++ fed)) (Err fault)
+    → StopsPiece recording allowed room bytes before now old new fault
+StopsPiece-refused recording allowed room bytes piece fed before now old new (Trace fault) front
     short is takes = record {
       kind = takes.0;
       piece = piece;
       front = front;
       short = short;
-      all = subst (λ more. AddsEach old new (readings false bytes) (readings false (bytes ++ more)))
-          is takes.1;
-      told = subst (λ more. (common (readings false
-          (bytes ++ more))).fault ≡ Some fault) is takes.2;
+      all = subst (λ more. TakesOn old new (recording false bytes)
+          (recording false (bytes ++ more))) is takes.1;
+      told = subst (λ more. (recording false (bytes ++ more)).fault ≡ Some fault) is takes.2;
     }
-StopsPiece-refused readings allowed room bytes piece fed before now old new TooLong front short is
+StopsPiece-refused recording allowed room bytes piece fed before now old new TooLong front short is
     takes = absurd takes
-StopsPiece-refused readings allowed room bytes piece fed before now old new Read front short is
+StopsPiece-refused recording allowed room bytes piece fed before now old new
+    (TooManyZones zones) front short is
     takes = absurd takes
-StopsPiece-refused readings allowed room bytes piece fed before now old new Memory front short is
+StopsPiece-refused recording allowed room bytes piece fed before now old new Write front short is
+    takes = absurd takes
+StopsPiece-refused recording allowed room bytes piece fed before now old new Read front short is
+    takes = absurd takes
+StopsPiece-refused recording allowed room bytes piece fed before now old new Memory front short is
     takes = record {
       piece = piece;
       front = front;
       short = short;
-      same = takes;
+      kept = takes;
     }
 
 -- a reader reads no input, so its faults are none of that
-pub cause_of : (before now : ℕ) (fault : FeedFault) → IsOfReader (Err fault) → now ≡ before
+pub cause_of : (before now : ℕ) (fault : Fault) → IsOfReaders (Err fault) → now ≡ before
     → HasReadCause {T = ℕ} before now (Err fault)
 cause_of before now (Trace fault) told same = same
 cause_of before now TooLong told same = same
+cause_of before now (TooManyZones zones) told same = same
+cause_of before now Write told same = same
 cause_of before now Read told same = absurd told
 cause_of before now Memory told same = same
 
-pub never_read : (fault : FeedFault) → IsOfReader (Err fault) → fault ≢ Read
+pub never_read : (fault : Fault) → IsOfReaders (Err fault) → fault ≢ Read
 never_read (Trace fault) told is = cc
 never_read TooLong told is = cc
+never_read (TooManyZones zones) told is = cc
+never_read Write told is = cc
 never_read Read told is = told
 never_read Memory told is = cc

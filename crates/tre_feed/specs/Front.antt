@@ -3,8 +3,8 @@ use Rattle.std.specs.Prelude.{◌≡◌, ◌≢◌, ℕ, ◌<◌, ◌≤◌, Boo
 use Rattle.std.specs.Io.KnownBytes.{Consumes, IsAtEnd}
 use Rattle.tre_io.specs.Faults.{counted}
 use Rattle.tre_feed.specs.Input.{InputTold, AllReadsGood}
-use Rattle.tre_feed.specs.declared.fault.FeedFault.{FeedFault}
-use Rattle.tre_feed.specs.declared.fault.FeedFault.TheVariants.{Read, Memory}
+use Rattle.tre_feed.specs.declared.fault.Fault.{Fault}
+use Rattle.tre_feed.specs.declared.fault.Fault.TheVariants.{Read, Memory}
 
 -- The input was read from its first byte on, and these are its bytes: all of them, or as many as it
 -- may have.
@@ -21,14 +21,14 @@ pub record IsUnreadable (name : List ℕ) (input : InputTold) : Type 0 where
   pub unsound : IsTrue input.sound → input.name ≢ Some name
 
 -- Why it wasn't read.
-abbrev pub StopsFront : List ℕ → InputTold → FeedFault → Type 0
+abbrev pub StopsFront : List ℕ → InputTold → Fault → Type 0
 StopsFront name input Read = IsUnreadable name input
 StopsFront name input Memory = AllReadsGood input
 StopsFront name input fault = ⊥
 
 -- A piece was read behind these bytes, of which there may be at most so many, and was put there.
 pub record IsReadOn (most : ℕ) (old new : List ℕ) (before now : Option (List ℕ))
-    (result : Result Bool FeedFault) : Type 0 where
+    (result : Result Bool Fault) : Type 0 where
   pub piece : List ℕ
   pub front : Consumes before now piece
   pub few : length (old ++ piece) ≤ most

@@ -1,25 +1,24 @@
--- How readings grow, and what a call of a reader adds.
-use Rattle.std.specs.Prelude.{◌≡◌, List, ◌++◌, Some}
-use Rattle.tre_trace.specs.Reading.{Reading}
-use Rattle.tre_trace.specs.declared.fault.TraceFault.{TraceFault}
-use Rattle.tre_trace.specs.declared.segment.Segment.{Segment}
+-- How groups grow: names are put behind those that are there, so places stay.
+use Rattle.std.specs.Prelude.{◌≡◌, ℕ, List, ◌++◌, Some, slice_get}
+use Rattle.tre_trace.specs.Reading.{Vocabulary}
 
--- Nothing is taken back when more bytes come: the segments stay in front, and a fault ends the
--- reading.
-pub record Grows (before now : Reading) : Type 0 where
-  pub added : List Segment
-  pub segments : now.segments ≡ before.segments ++ added
-  pub fault : (fault : TraceFault) → before.fault ≡ Some fault → now ≡ before
-
--- Behind the old segments stand just those that one reading has beyond another.
-pub record Adds (old new : List Segment) (before now : Reading) : Type 0 where
-  pub added : List Segment
+-- Names stand behind those that were there.
+pub record Extends (old new : List (List ℕ)) : Type 0 where
+  pub added : List (List ℕ)
   pub new_is : new ≡ old ++ added
-  pub beyond : now.segments ≡ before.segments ++ added
 
--- Behind the old segments stand the first of those that one reading has beyond another.
-pub record AddsSome (old new : List Segment) (before now : Reading) : Type 0 where
-  pub added : List Segment
-  pub left : List Segment
-  pub new_is : new ≡ old ++ added
-  pub beyond : now.segments ≡ before.segments ++ (added ++ left)
+-- Each list of a group is the old one with names behind it.
+pub record IsWider (old new : Vocabulary) : Type 0 where
+  pub names : Extends old.names new.names
+  pub events : Extends old.events new.events
+
+-- The group of this number has these names or, behind them, more.
+pub record HasWider (groups : List Vocabulary) (number : ℕ) (old : Vocabulary) : Type 0 where
+  pub new : Vocabulary
+  pub is : slice_get groups number ≡ Some new
+  pub wider : IsWider old new
+
+-- Each group is still there under its number, with its names in their places.
+pub record Keep (old new : List Vocabulary) : Type 0 where
+  pub each : (number : ℕ) (group : Vocabulary) → slice_get old number ≡ Some group →
+      HasWider new number group

@@ -1,16 +1,10 @@
 -- What was read of an input.
-use Rattle.std.specs.Prelude.{◌≡◌, ℕ, ◌≤◌, Bool, false, List, [], ◌++◌, length, Option, None, IfSome, IsTrue, Result, Ok, Err}
+use Rattle.std.specs.Prelude.{◌≡◌, ℕ, ◌≤◌, Bool, false, List, [], ◌++◌, length, Option, IfSome, IsTrue, Result, Ok, Err}
 use Rattle.std.specs.Io.KnownBytes.{Consumes, IsAtEnd}
 use Rattle.tre_io.specs.Faults.{counted}
-use Rattle.tre_trace.specs.Reading.{Reading}
 use Rattle.tre_feed.specs.declared.TheConstants.{PIECE}
-use Rattle.tre_feed.specs.declared.fault.FeedFault.{FeedFault}
-use Rattle.tre_feed.specs.declared.fault.FeedFault.TheVariants.{Read}
-
--- How many bytes of an input may be fed, and how many were taken.
-pub record Progress : Type 0 where
-  pub limit : ℕ
-  pub taken : ℕ
+use Rattle.tre_feed.specs.declared.fault.Fault.{Fault}
+use Rattle.tre_feed.specs.declared.fault.Fault.TheVariants.{Read}
 
 -- What a source tells and counts, before it is opened and at the end.
 pub record InputTold : Type 0 where
@@ -76,16 +70,8 @@ pub record TakesAtMost (most : ℕ) (file left : Option (List ℕ)) : Type 0 whe
   pub few : length taken ≤ most
   pub front : Consumes file left taken
 
--- The bytes that were read are within the limit and have no fault, so the input may go on.
-pub record MayGoOn (reading : Bool → List ℕ → Reading) (limit : ℕ) (input : InputTold)
-    : Type 0 where
-  pub bytes : List ℕ
-  pub read : WereRead input bytes
-  pub within : length bytes ≤ limit
-  pub faultless : (reading false bytes).fault ≡ None
-
 -- A failed read is one that was counted, and nothing else raises the count.
-abbrev pub HasReadCause : {T : Type 0} → ℕ → ℕ → Result T FeedFault → Type 0
+abbrev pub HasReadCause : {T : Type 0} → ℕ → ℕ → Result T Fault → Type 0
 HasReadCause before now (Ok value) = now ≡ before
 HasReadCause before now (Err Read) = now ≡ counted before
 HasReadCause before now (Err _) = now ≡ before

@@ -1,18 +1,21 @@
--- What a reader must believe: what bytes come to, what they say for each reader, what was read of
--- an input, how a turn and a whole reading end, and what the front of an input is.
+-- What a reader must believe: what bytes come to, how an input stands, how a turn and a whole
+-- reading end, what was read of an input, and what the front of one is.
 pub mod Outcome
-pub mod Asked
-pub mod Growth
-pub mod Readings
+pub mod Comes
+pub mod Standing
+pub mod Turn
+pub mod Traces
 pub mod Input
-pub mod Leaders
-pub mod Members
-pub mod Readers
-pub mod Feeding
-pub mod Whole
 pub mod Front
+-- Where names stand among others, who shares a reader, and what a view shows.
+pub mod Places
+pub mod Shares
+pub mod Shown
 -- What the functions inside promise each other.
-pub mod Faults
-pub mod Fed
-pub mod Piece
-pub mod Rows
+pub mod Asked
+pub mod Each
+pub mod Seen
+pub mod Stops
+pub mod Taking
+pub mod Growth
+pub mod Dump

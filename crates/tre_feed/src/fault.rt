@@ -1,53 +1,44 @@
-// Why an input couldn't be read to its end.
+// What ends the work on an input before its end.
 use std::alloc::AllocError;
 use tre_io::Failed;
-use tre_trace::{TraceFault, TraceKind};
+use tre_trace::TraceFault;
 
-/// What ends the reading of an input before its end.
+/// What ends the work on an input before its end, here or in a layer above: reading it gives none
+/// of `TooManyZones` and `Write`.
 #[derive(Clone, Copy, Debug, PartialEq, Eq)]
-pub enum FeedFault {
-    /// The first fault of the input, which all readers have.
+pub enum Fault {
+    /// The first fault of the input.
     Trace(TraceFault),
     /// The input has more bytes than it may have.
     TooLong,
+    /// There are more zones than there may be.
+    TooManyZones { zones: u64 },
     /// The input couldn't be opened or read.
     Read,
+    /// The output couldn't be written.
+    Write,
     /// There was no memory.
     Memory,
 }
 
-impl From<TraceFault> for FeedFault {
+impl From<Failed> for Fault {
     ghost use Rattle.std.specs.Prelude.{◌≡◌};
-    ghost use Rattle.tre_feed.specs.Faults.{told_fault};
-
-    ghost from_gives = { λ fault told. told ≡ told_fault fault.kind fault };
-
-    fn from(fault: TraceFault) -> Self {
-        match fault.kind {
-            TraceKind::Memory => FeedFault::Memory,
-            _ => FeedFault::Trace(fault),
-        }
-    }
-}
-
-impl From<Failed> for FeedFault {
-    ghost use Rattle.std.specs.Prelude.{◌≡◌};
-    ghost use Rattle.tre_feed.specs.declared.fault.FeedFault.TheVariants.{Read};
+    ghost use Rattle.tre_feed.specs.declared.fault.Fault.TheVariants.{Read};
 
     ghost from_gives = { λ _ fault. fault ≡ Read };
 
     fn from(_: Failed) -> Self {
-        FeedFault::Read
+        Fault::Read
     }
 }
 
-impl From<AllocError> for FeedFault {
+impl From<AllocError> for Fault {
     ghost use Rattle.std.specs.Prelude.{◌≡◌};
-    ghost use Rattle.tre_feed.specs.declared.fault.FeedFault.TheVariants.{Memory};
+    ghost use Rattle.tre_feed.specs.declared.fault.Fault.TheVariants.{Memory};
 
     ghost from_gives = { λ _ fault. fault ≡ Memory };
 
     fn from(_: AllocError) -> Self {
-        FeedFault::Memory
+        Fault::Memory
     }
 }

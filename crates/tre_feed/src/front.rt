@@ -5,8 +5,8 @@ ghost use Rattle.tre_feed.specs.Front.{IsFront, IsReadOn, StopsFront};
 ghost use Rattle.tre_feed.specs.Input.{HasReadCause, TakesAtMost, input_told};
 
 use crate::PIECE;
-use crate::fault::FeedFault;
-use crate::feed::{buffer_of, read_piece};
+use crate::fault::Fault;
+use crate::piece::{buffer_of, read_piece};
 use std::alloc::Global;
 use tre_io::Source;
 
@@ -17,7 +17,7 @@ pub fn read_front<S: Source>(
     name: &str,
     most: usize,
     input: &mut S,
-) -> Result<Vec<u8>, FeedFault>
+) -> Result<Vec<u8>, Fault>
     requires closed { S.opened input.old ≡ false }
     ensures read { IfOk result (λ bytes. IsFront most
         (input_told S.file_name S.file S.sound S.opened S.left S.found S.faults input.old
@@ -47,7 +47,7 @@ fn read_more<S: Source>(
     bytes: &mut Vec<u8>,
     buffer: &mut [u8],
     input: &mut S,
-) -> Result<bool, FeedFault>
+) -> Result<bool, Fault>
     requires opened { IsTrue (S.opened input.old) }
     requires room { 0 < length buffer.old }
     requires few { length bytes.old.items ≤ most }
@@ -59,8 +59,8 @@ fn read_more<S: Source>(
         length bytes.old.items < length bytes.new.items) }
     ensures length { length buffer.new ≡ length buffer.old }
     ensures cause { HasReadCause (S.faults input.old) (S.faults input.new) result }
-    ensures sound { IsTrue (S.sound input.old) → IsErrOf result FeedFault.Read → ⊥ }
-    ensures named { IfErr result (λ fault. fault ≢ FeedFault.Read → fault ≢ FeedFault.Memory →
+    ensures sound { IsTrue (S.sound input.old) → IsErrOf result Fault.Read → ⊥ }
+    ensures named { IfErr result (λ fault. fault ≢ Fault.Read → fault ≢ Fault.Memory →
         ⊥) }
     ensures same_opened { S.opened input.new ≡ S.opened input.old }
     ensures same_sound { S.sound input.new ≡ S.sound input.old }

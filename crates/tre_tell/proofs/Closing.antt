@@ -12,16 +12,21 @@ use Rattle.tre_online.specs.declared.watch.Watch.{Watch}
 use Rattle.tre_syntax.specs.Pattern.{pattern_tree}
 use Rattle.tre_syntax.specs.declared.pattern.Pattern.{Pattern}
 use Rattle.tre_syntax.specs.PatternTree.{PatternTree}
+use Rattle.tre_trace.specs.Reading.{Vocabulary}
 use Rattle.tre_trace.specs.Trace.{timeline_of, quiet}
 use Rattle.tre_trace.specs.declared.segment.Segment.{Segment}
 use Rattle.tre_zone.specs.declared.zone_bounds.ZoneBounds.{ZoneBounds}
 use Rattle.tre_tell.specs.Blocks.{AreAccounts, blocks_text, ending_text}
 use Rattle.tre_tell.specs.Printed.{IsPrinted, IsTextOf, lines_behind, time_line}
-use Rattle.tre_tell.specs.Sought.{Sought, sought_by}
-use Rattle.tre_tell.specs.Telling.{first_row, timelines, IsLastBlock, BlocksWritten, HasTold, HasClosed, ClosingIsCut}
+use Rattle.tre_tell.specs.Outputs.{OutputTold, NothingWritten}
+use Rattle.tre_tell.specs.Sought.{Sought, all_names, sought_by}
+use Rattle.tre_tell.specs.Standing.{BlocksStand}
+use Rattle.tre_tell.specs.Telling.{first_row, rows_for, timelines, IsLastBlock, HasTold, HasClosed, ClosingIsCut}
 use Rattle.tre_tell.specs.Transcript.{Account, IsTranscript, IsClosing}
+use Rattle.tre_tell.specs.Watched.{Watched, fronts}
 use Rattle.tre_tell.proofs.Accounts.{accounts_closed, blocks_text-closed, ending_text-closed}
 use Rattle.tre_tell.proofs.Lists.{map-map}
+use Rattle.tre_tell.proofs.Stretches.{level_for, quiet_rows}
 use Rattle.tre_tell.proofs.Told.{Appends-none, IsCutBehind-after, told_trees, told_rows, in_accounts, level_of, time_first}
 use Rattle.tre_tell.proofs.Transcripts.{IsTranscript-none, IsTranscript-closed, IsClosing-told}
 
@@ -187,10 +192,6 @@ count_told (tree ∷ trees) (row ∷ rows) (events ∷ lasts) (last ∷ earlier)
 abbrev start_account : Sought → Account
 start_account pattern = record { pattern = pattern; trace = quiet []; blocks = []; closing = [] }
 
--- no segment of each pattern
-abbrev pub nones : {X : Type 0} → List X → List (List Segment)
-nones xs = map (λ _. []) xs
-
 start_trees : (labels : List (List ℕ)) (patterns : List Pattern)
     → length labels ≡ length patterns
     → map pattern_tree patterns ≡ map (λ pattern. pattern.tree) (sought_by labels patterns)
@@ -209,15 +210,10 @@ start_labels (label ∷ labels) [] same = absurd (omega (arith, same))
 start_labels (label ∷ labels) (pattern ∷ patterns) same =
     ap (λ rest. label ∷ rest) (start_labels labels patterns (omega (arith, same)))
 
-start_traces : (labels : List (List ℕ)) (patterns : List Pattern)
-    → length labels ≡ length patterns
-    → map (λ account. account.trace) (map start_account (sought_by labels patterns))
-    ≡ map quiet (nones patterns)
-start_traces [] [] same = refl
-start_traces [] (pattern ∷ patterns) same = absurd (omega (arith, same))
-start_traces (label ∷ labels) [] same = absurd (omega (arith, same))
-start_traces (label ∷ labels) (pattern ∷ patterns) same =
-    ap (λ rest. quiet [] ∷ rest) (start_traces labels patterns (omega (arith, same)))
+start_traces : (patterns : List Sought)
+    → map (λ account. account.trace) (map start_account patterns) ≡ fronts patterns []
+start_traces [] = refl
+start_traces (pattern ∷ patterns) = ap (λ rest. quiet [] ∷ rest) (start_traces patterns)
 
 start_ended : (labels : List (List ℕ)) (patterns : List Pattern)
     → length labels ≡ length patterns
@@ -235,48 +231,63 @@ start_told [] = All-nil IsTranscript
 start_told (pattern ∷ patterns) = All-cons IsTranscript (start_account pattern)
     (map start_account patterns) (IsTranscript-none pattern) (start_told patterns)
 
-none_long : {X : Type 0} (xs : List X)
-    → AllByRecursion (λ (row : List Segment). length row ≡ 0) (nones xs)
-none_long [] = tt
-none_long (x ∷ xs) = (refl, none_long xs)
-
-none_first : {X : Type 0} (xs : List X) → first_row (nones xs) ≡ []
-none_first [] = refl
-none_first (x ∷ xs) = refl
+first_none : (asked : List Vocabulary) → first_row (rows_for asked []) ≡ []
+first_none [] = refl
+first_none (names ∷ asked) = refl
 
 start_text : (scale : ℕ) (accounts : List Account) → blocks_text scale accounts [] ≡ []
 unfolding blocks_text
 start_text scale accounts = refl
 
 -- nothing was written of patterns of which nothing was read
-pub BlocksWritten-start : (labels : List (List ℕ)) (scale : ℕ) (patterns : List Pattern)
-    (told : Option (List ℕ)) → length labels ≡ length patterns
-    → BlocksWritten scale (sought_by labels patterns) (nones patterns) told told
-BlocksWritten-start labels scale patterns told same =
-    let sought = sought_by labels patterns in
-    record {
-      accounts = map start_account sought;
-      are = record {
-        of_patterns = map-map start_account (λ account. account.pattern) sought ∙ map-id sought;
-        over_traces = start_traces labels patterns same;
-        told = start_told sought;
-      };
-      written = rw (none_first patterns, start_text scale (map start_account sought))
-          (Appends-none told);
-    }
+start_accounts : (patterns : List Sought)
+    → AreAccounts patterns (fronts patterns []) (map start_account patterns)
+start_accounts patterns = record {
+  of_patterns = map-map start_account (λ account. account.pattern) patterns ∙ map-id patterns;
+  over_traces = start_traces patterns;
+  told = start_told patterns;
+}
+
+pub BlocksStand-none : (watched : Watched) (output : OutputTold) → NothingWritten output
+    → BlocksStand watched [] output
+BlocksStand-none watched output none = record {
+  writes = none.writes;
+  accounts = map start_account watched.patterns;
+  are = start_accounts watched.patterns;
+  written = rw (none.unwritten, start_text watched.scale (map start_account watched.patterns))
+      (Appends-none output.written_before);
+}
+
+-- no row of a pattern
+rows_none : (labels : List (List ℕ)) (patterns : List Pattern) → length labels ≡ length patterns
+    → map (λ _. []) patterns ≡ rows_for (all_names (sought_by labels patterns)) []
+rows_none [] [] same = refl
+rows_none [] (pattern ∷ patterns) same = absurd (omega (arith, same))
+rows_none (label ∷ labels) [] same = absurd (omega (arith, same))
+rows_none (label ∷ labels) (pattern ∷ patterns) same =
+    ap (λ rest. [] ∷ rest) (rows_none labels patterns (omega (arith, same)))
 
 -- a new watch has told nothing
 pub HasTold-start : (watch : Watch) (labels : List (List ℕ)) (scale : ℕ)
     (patterns : List Pattern) (told : Option (List ℕ)) → length labels ≡ length patterns
-    → Watches watch (nones patterns) → ended_of_each watch ≡ map (λ _. []) patterns
+    → Watches watch (map (λ _. []) patterns)
+    → ended_of_each watch ≡ map (λ _. []) patterns
     → trees_of watch ≡ map pattern_tree patterns
-    → HasTold watch labels scale (sought_by labels patterns) (nones patterns) told told
-unfolding BlocksWritten-start
-HasTold-start watch labels scale patterns told same stands ended trees = record {
-  stands = stands;
-  level = level_of 0 (nones patterns) (none_long patterns);
-  same_trees = trees ∙ start_trees labels patterns same;
-  same_labels = start_labels labels patterns same;
-  told = BlocksWritten-start labels scale patterns told same;
-  ended = rw ended (start_ended labels patterns same);
-}
+    → HasTold watch labels scale (sought_by labels patterns)
+    (rows_for (all_names (sought_by labels patterns)) []) told told
+HasTold-start watch labels scale patterns told same stands ended trees =
+    let sought = sought_by labels patterns in
+    let asked = all_names sought in
+    record {
+      stands = rw (rows_none labels patterns same) at stands;
+      level = level_of 0 (rows_for asked []) (level_for asked []);
+      same_trees = trees ∙ start_trees labels patterns same;
+      same_labels = start_labels labels patterns same;
+      told = record {
+        accounts = map start_account sought;
+        are = rw (quiet_rows sought []) (start_accounts sought);
+        written = rw (first_none asked, start_text scale (map start_account sought))
+            (Appends-none told);
+      };
+      ended = rw ended (start_ended labels patterns same);
+    }

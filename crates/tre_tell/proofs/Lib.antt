@@ -9,4 +9,4 @@ pub mod Rows
 pub mod Tellings
 pub mod Told
 pub mod Transcripts
-pub mod Turns
+pub mod Stretches

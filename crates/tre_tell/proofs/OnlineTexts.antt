@@ -2,13 +2,13 @@
 use Rattle.std.proofs.Common.{◌≡◌, ◌∙◌, ℕ, ◌+◌, ◌<◌, ◌≤◌, ◌^◌, List, [], ◌∷◌, ◌++◌, length, Option, None, Some, IfSome, refl, sym, subst, arith, ap, append_assoc, length-append}
 use Rattle.tre_decimal.specs.Decimal.{number_text}
 use Rattle.tre_pairs.specs.declared.TheConstants.{TIME_MAX}
-use Rattle.tre_feed.specs.Readings.{lengths_of}
 use Rattle.tre_show.specs.Line.{lines_of, offline_text}
 use Rattle.tre_trace.specs.Trace.{end_of}
 use Rattle.tre_trace.specs.declared.segment.Segment.{Segment}
 use Rattle.tre_trace.proofs.Segments.{end_of-le}
 use Rattle.tre_zone.specs.ZoneList.{AreCanonical}
 use Rattle.tre_zone.specs.declared.zone_bounds.ZoneBounds.{ZoneBounds}
+use Rattle.tre_tell.proofs.Stretches.{lengths_of}
 use Rattle.tre_tell.specs.OnlineText.{block_text, block_texts, closing_text, online_text, AreCanonicalBlocks, AreBlocksOf}
 
 -- two lines of the same end go on in the same way

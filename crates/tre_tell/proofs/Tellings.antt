@@ -1,37 +1,30 @@
 -- How the telling of an input ends.
-use Rattle.std.proofs.Common.{◌≡◌, ◌≢◌, ◌∙◌, ℕ, suc, ◌+◌, ◌-◌, ◌<◌, ◌≤◌, Bool, true, false, All, List, [], ◌∷◌, ◌++◌, length, take, drop, map, Option, None, IfErr, IsTrue, nat_le, Result, Ok, Err, refl, sym, ap, subst, inl, inr, arith, take-append-drop}
-use Rattle.std.specs.List.{AllByRecursion}
+use Rattle.std.proofs.Common.{◌≡◌, ◌≢◌, ◌∙◌, ℕ, suc, ◌-◌, ◌<◌, ◌≤◌, Bool, true, false, All, List, [], ◌∷◌, ◌++◌, length, take, drop, map, None, IfErr, IsTrue, Result, Ok, Err, refl, sym, ap, subst, inl, inr, arith, length-append, append-nil, append_assoc, take-append-drop}
 use Rattle.std.specs.Io.KnownBytes.{Consumes, IsAtEnd}
 use Rattle.std.proofs.KnownBytes.{Consumes-whole}
 use Rattle.std.proofs.Math.Seq.{take-append_seam}
-use Rattle.std.proofs.lemmas.List.{take-append-le, take_all}
-use Rattle.std.proofs.lemmas.List.Elements.{All-from_recursion, recursion_from_All}
-use Rattle.tre_feed.specs.Feeding.{AddsRead, HasRead, IsEnded, StopsTurn}
-use Rattle.tre_feed.specs.Input.{InputTold, AllReadsGood, WereRead, AreAllBytes, HasReadCause}
-use Rattle.tre_feed.specs.Outcome.{whole_reading}
-use Rattle.tre_feed.specs.Readings.{common, AreAllAlike, AgreeAlways, rows_in, AddsEach, count_of}
-use Rattle.tre_feed.specs.Readers.{column}
-use Rattle.tre_feed.specs.declared.fault.FeedFault.{FeedFault}
-use Rattle.tre_feed.specs.declared.fault.FeedFault.TheVariants.{Trace as FeedTrace, TooLong as FeedTooLong, Read as FeedRead, Memory as FeedMemory}
+use Rattle.std.proofs.lemmas.List.{take-append-le, take_all, length-map}
+use Rattle.std.proofs.lemmas.List.Elements.{All-map}
+use Rattle.tre_feed.specs.Input.{HasReadCause, InputTold, AllReadsGood, WereRead, AreAllBytes}
 use Rattle.tre_feed.proofs.Cuts.{take_split}
-use Rattle.tre_online.specs.Watch.{pushed_each}
 use Rattle.tre_online.specs.declared.watch.Watch.{Watch}
-use Rattle.tre_trace.specs.Reading.{Reading}
-use Rattle.tre_trace.specs.Trace.{Timeline, IsTrace, timeline_of, quiet}
-use Rattle.tre_trace.specs.declared.fault.TraceFault.{TraceFault}
+use Rattle.tre_trace.specs.Reading.{Grows, Recording, Stretch, Vocabulary, segments_for, events_for}
+use Rattle.tre_trace.specs.Trace.{Timeline, IsTrace}
 use Rattle.tre_trace.specs.declared.segment.Segment.{Segment}
 use Rattle.tre_tell.specs.Blocks.{AreAccounts, blocks_text, ending_text}
 use Rattle.tre_tell.specs.Transcript.{Account, IsClosing}
 use Rattle.tre_tell.specs.Ends.{EndsTelling}
-use Rattle.tre_tell.specs.Faults.{told_fault}
-use Rattle.tre_tell.specs.Outputs.{OutputTold, AllWritesGood, IsCutBehind}
-use Rattle.tre_tell.specs.Standing.{BlocksStand, AllStand, IsPrompt, FirstBlocksStand, IsOnlineAnswer, AnswerIsCut}
-use Rattle.tre_tell.specs.Telling.{first_row, joined, heads, timelines, BlocksWritten, StopsWithin, HasWriteCause, HasClosed, ClosingIsCut, StopsAtEnd}
-use Rattle.tre_tell.specs.Watched.{Watched, fronts}
-use Rattle.tre_tell.specs.declared.fault.TellFault.{TellFault}
-use Rattle.tre_tell.specs.declared.fault.TellFault.TheVariants.{Trace, TooLong, Read, Write, Memory}
-use Rattle.tre_tell.proofs.Rows.{AreEmpty, heads_all, counts_in, count_empty, joined_none, joined_empty, pushed_heads, below_each}
-use Rattle.tre_tell.proofs.Turns.{tops, GrowEach, joined_adds, tops_adds, count_adds, tops_grow, count_grows, first_common, first_tops, fronts_tops, level_common, tops_all}
+use Rattle.tre_feed.specs.Turn.{HasRead, StopsTurn, TakesOn, TakesRead}
+use Rattle.tre_feed.specs.Traces.{trace_for}
+use Rattle.tre_tell.specs.Outputs.{OutputTold, AllWritesGood}
+use Rattle.tre_tell.specs.Sought.{Sought, all_names}
+use Rattle.tre_tell.specs.Standing.{BlocksStand, IsPrompt, FirstBlocksStand, IsOnlineAnswer, AnswerIsCut}
+use Rattle.tre_tell.specs.Telling.{first_row, rows_for, timelines, BlocksWritten, CanTellAll, StopsWithin, HasWriteCause, HasClosed, ClosingIsCut, StopsAtEnd}
+use Rattle.tre_tell.specs.Watched.{Watched}
+use Rattle.tre_feed.specs.declared.fault.Fault.{Fault}
+use Rattle.tre_feed.specs.declared.fault.Fault.TheVariants.{Trace, TooLong, TooManyZones, Read, Write, Memory}
+use Rattle.tre_online.specs.Watch.{Watches}
+use Rattle.tre_tell.proofs.Stretches.{blocks_for-rows, ending_for-rows, pushed_for, quiet_rows}
 
 -- the bytes of an open input
 were_read : (input : InputTold) (bytes : List ℕ) → input.opened ≡ true
@@ -51,24 +44,6 @@ all_bytes input bytes opened front all = record {
   whole = Consumes-whole input.file input.left bytes _ front all refl;
 }
 
--- the blocks of rows that are the fronts of readings stand there
-pub stand_by : (watched : Watched) (readings : List Reading) (count : ℕ)
-    (rows : List (List Segment)) (output : OutputTold) → tops count readings ≡ rows
-    → AllWritesGood output
-    → BlocksWritten watched.scale watched.patterns rows output.written_before output.written_now
-    → BlocksStand watched readings count output
-stand_by watched readings count rows output same writes stand =
-    let fronts_are : fronts count readings ≡ map quiet rows =
-    fronts_tops count readings ∙ ap (map quiet) same in
-    let first : take count (common readings).segments ≡ first_row rows =
-    sym (first_tops count readings) ∙ ap first_row same in
-    record {
-      writes = writes;
-      accounts = stand.accounts;
-      are = rw fronts_are stand.are;
-      written = rw first stand.written;
-    }
-
 -- of two ways to cut a list, the shorter front is the front of the longer
 front_of : (xs ys zs ws : List ℕ) → xs ++ ys ≡ zs ++ ws → length zs ≤ length xs
     → xs ≡ zs ++ drop (length zs) xs
@@ -78,392 +53,421 @@ front_of xs ys zs ws same shorter =
     (sym (take-append-le (length zs) xs ys shorter)
     ∙ (ap (take (length zs)) same ∙ take-append_seam zs ws))
 
--- What is known of rows that were told in a turn.
-pub record KnowRows (before now : List Reading) (waiting : List (List Segment)) : Type 0 where
-  pub are : (place : ℕ) → place ≤ count_of waiting
-      → tops (length (common before).segments + place) now
-      ≡ joined (rows_in before) (heads place waiting)
-  pub few : length (common before).segments + count_of waiting ≤ length (common now).segments
+-- What is known of whatever bytes say: without a byte it is nothing, nothing is taken back when more
+-- come, and it is a trace for any names.
+pub record HasLaws (recording : Bool → List ℕ → Recording) : Type 0 where
+  pub starts : (recording false []).stretches ≡ []
+  pub grows : (closed : Bool) (first more : List ℕ)
+      → Grows (recording false first) (recording closed (first ++ more))
+  pub is_trace : (names : Vocabulary) (closed : Bool) (bytes : List ℕ)
+      → IsTrace (segments_for names (recording closed bytes).stretches)
 
-module _ (watched : Watched) (grows : GrowEach watched.readings)
-    (agree : AgreeAlways watched.readings) where
+-- The first of the stretches that one recording has beyond another wait.
+pub record WaitsOf (before now : Recording) (waits : List Stretch → Type 0) : Type 0 where
+  pub added : List Stretch
+  pub left : List Stretch
+  pub beyond : now.stretches ≡ before.stretches ++ (added ++ left)
+  pub wait : waits added
+  pub is_trace : (names : Vocabulary)
+      → IsTrace (segments_for names (before.stretches ++ added))
+
+-- the front of a list, and of what it has behind that
+front_taken : {X : Type 0} (xs front rest : List X) → xs ≡ front ++ rest
+    → take (length front) xs ≡ front
+front_taken xs front rest same =
+    ap (take (length front)) same ∙ take-append_seam front rest
+
+module _ (watched : Watched) (some : 0 < length watched.patterns) where
+  -- the names of the patterns
+  abbrev pub asked : List Vocabulary
+  asked = all_names watched.patterns
+
+  -- there is one at least
+  some_asked : 0 < length asked
+  some_asked = rw (length-map watched.patterns (λ pattern. pattern.names)) some
+
+  -- the blocks of these stretches were written
+  abbrev pub Written : OutputTold → List Stretch → Type 0
+  Written output stretches = BlocksWritten watched.scale watched.patterns
+      (rows_for asked stretches) output.written_before output.written_now
+
+  -- they stand there
+  pub stand_by : (stretches : List Stretch) (output : OutputTold) → AllWritesGood output
+      → Written output stretches → BlocksStand watched stretches output
+  stand_by stretches output writes stand = record {
+    writes = writes;
+    accounts = stand.accounts;
+    are = rw (quiet_rows watched.patterns stretches) at stand.are;
+    written = rw (blocks_for-rows watched.scale stand.accounts stretches asked some_asked)
+        stand.written;
+  }
+
   -- what bytes said before a turn, as far as the limit
-  abbrev pub before_turn : List ℕ → List Reading
-  before_turn bytes = watched.readings false (take watched.limit bytes)
+  abbrev pub before_turn : List ℕ → Recording
+  before_turn bytes = watched.recording false (take watched.limit bytes)
 
-  -- how many segments that has
-  abbrev pub count_before : List ℕ → ℕ
-  count_before bytes = length (common (before_turn bytes)).segments
+  -- how many stretches that has
+  abbrev count_before : List ℕ → ℕ
+  count_before bytes = length (before_turn bytes).stretches
 
-  level_before : (bytes : List ℕ)
-      → AllByRecursion (λ row. length row ≡ count_before bytes) (rows_in (before_turn bytes))
-  level_before bytes = level_common (before_turn bytes) (agree false (take watched.limit bytes))
+  module _ (waits then_waits : List Stretch → Type 0) where
+    -- A turn that read on behind these bytes, where nothing waited before.
+    pub record IsTurn (input : InputTold) (bytes : List ℕ) (fed : Result Bool Fault)
+        : Type 0 where
+      pub has : HasRead watched.recording watched.limit input.file input.left input.found bytes
+          waits then_waits fed
+      pub none : waits []
+      pub opened : input.opened ≡ true
 
-  -- what is known of more bytes
-  grows_on : (closed : Bool) (bytes piece : List ℕ)
-      → tops (count_before bytes) (watched.readings closed (take watched.limit (bytes ++ piece)))
-      ≡ rows_in (before_turn bytes)
-  grows_on closed bytes piece =
-      rw (take_split watched.limit bytes piece)
-      (tops_grow (count_before bytes) (before_turn bytes) _
-      (grows closed (take watched.limit bytes) (take (watched.limit - length bytes) piece))
-      (level_before bytes))
+    -- Whatever waits was written behind the blocks before the turn.
+    abbrev pub AllWritten : OutputTold → List ℕ → Type 0
+    AllWritten output bytes = (waiting : List Stretch) → then_waits waiting
+        → Written output ((before_turn bytes).stretches ++ waiting)
 
-  counts_on : (closed : Bool) (bytes piece : List ℕ) → count_before bytes
-      ≤ length (common (watched.readings closed (take watched.limit (bytes ++ piece)))).segments
-  counts_on closed bytes piece =
-      rw (take_split watched.limit bytes piece)
-      (count_grows (before_turn bytes) _
-      (grows closed (take watched.limit bytes) (take (watched.limit - length bytes) piece)))
+    module _ (laws : HasLaws watched.recording) where
+      -- what is known of more bytes
+      grows_on : (closed : Bool) (bytes piece : List ℕ) → Grows (before_turn bytes)
+          (watched.recording closed (take watched.limit (bytes ++ piece)))
+      grows_on closed bytes piece =
+          rw (take_split watched.limit bytes piece)
+          (laws.grows closed (take watched.limit bytes)
+          (take (watched.limit - length bytes) piece))
 
-  module _ (file left found : Option (List ℕ)) (bytes : List ℕ)
-      (old waiting : List (List Segment)) (fed : Result Bool FeedFault)
-      (has : HasRead watched.readings watched.limit file left found bytes old waiting fed)
-      (empty : AreEmpty old)
-      (count : length waiting ≡ length (rows_in (before_turn bytes))) where
-    -- the readings of all that was read
-    abbrev pub after_turn : List Reading
-    after_turn = watched.readings has.closed (take watched.limit (bytes ++ has.piece))
+      counts_on : (bytes piece : List ℕ) → count_before bytes ≤ count_before (bytes ++ piece)
+      counts_on bytes piece =
+          let more = grows_on false bytes piece in
+          omega (
+            arith,
+            ap length more.stretches,
+            length-append (before_turn bytes).stretches more.added,
+          )
 
-    from_adds : AddsEach old waiting (before_turn bytes) after_turn
-        → KnowRows (before_turn bytes) after_turn waiting
-    from_adds adds = record {
-      are = λ place below. tops_adds (count_before bytes) place adds empty (level_before bytes);
-      few = omega (arith, count_adds adds empty);
-    }
+      module _ (input : InputTold) (bytes : List ℕ) (fed : Result Bool Fault)
+          (turn : IsTurn input bytes fed) where
+        -- what all that was read says
+        abbrev pub now : Recording
+        now = watched.recording turn.has.closed (take watched.limit (bytes ++ turn.has.piece))
 
-    from_none : waiting ≡ old → KnowRows (before_turn bytes) after_turn waiting
-    from_none same =
-        let nothing : AreEmpty waiting = subst AreEmpty (sym same) empty in
-        let none : count_of waiting ≡ 0 = count_empty waiting nothing in
-        record {
-          are = λ place below.
-              let first : place ≡ 0 = omega (arith, below, none) in
-              let here : count_before bytes + 0 ≡ count_before bytes = omega arith in
-              rw (
-                first,
-                here,
-                joined_none (rows_in (before_turn bytes)) waiting (sym count),
-              ) (grows_on has.closed bytes has.piece);
-          few = omega (arith, none, counts_on has.closed bytes has.piece);
+        waits_all : TakesOn waits then_waits (before_turn bytes) now
+            → WaitsOf (before_turn bytes) now then_waits
+        waits_all takes = record {
+          added = takes.added;
+          left = [];
+          beyond = rw (append-nil takes.added) takes.beyond;
+          wait = takes.then [] turn.none;
+          is_trace = λ names. subst (λ all. IsTrace (segments_for names all)) takes.beyond
+              (laws.is_trace names turn.has.closed
+              (take watched.limit (bytes ++ turn.has.piece)));
         }
 
-    known_by : (result : Result Bool FeedFault)
-        → AddsRead watched.readings watched.limit bytes has.piece has.closed old waiting result
-        → KnowRows (before_turn bytes) after_turn waiting
-    known_by (Ok more) adds = from_adds adds
-    known_by (Err (FeedTrace fault)) adds = from_adds adds
-    known_by (Err FeedTooLong) adds = from_adds adds
-    known_by (Err FeedRead) adds = from_adds adds
-    known_by (Err FeedMemory) adds = from_none adds
+        waits_by : (result : Result Bool Fault)
+            → TakesRead watched.recording watched.limit bytes turn.has.piece turn.has.closed waits
+            then_waits result → WaitsOf (before_turn bytes) now then_waits
+        waits_by (Ok more) takes = waits_all takes
+        waits_by (Err (Trace fault)) takes = waits_all takes
+        waits_by (Err TooLong) takes = waits_all takes
+        waits_by (Err (TooManyZones zones)) takes = waits_all takes
+        waits_by (Err Read) takes = waits_all takes
+        waits_by (Err Write) takes = waits_all takes
+        waits_by (Err Memory) keeps =
+            let more = grows_on turn.has.closed bytes turn.has.piece in
+            record {
+              added = [];
+              left = more.added;
+              beyond = more.stretches;
+              wait = keeps.same [] turn.none;
+              is_trace = λ names. rw (append-nil (before_turn bytes).stretches)
+                  (laws.is_trace names false (take watched.limit bytes));
+            }
 
-  -- A turn that read on behind these bytes, where no segment waited before.
-  pub record IsTurn (input : InputTold) (bytes : List ℕ) (waiting : List (List Segment))
-      (fed : Result Bool FeedFault) : Type 0 where
-    pub old : List (List Segment)
-    pub has : HasRead watched.readings watched.limit input.file input.left input.found bytes old
-        waiting fed
-    pub empty : AreEmpty old
-    pub count : length waiting ≡ length (rows_in (before_turn bytes))
-    pub opened : input.opened ≡ true
+        -- what waits then
+        pub known : WaitsOf (before_turn bytes) now then_waits
+        known = waits_by fed turn.has.adds
 
-  module _ (input : InputTold) (bytes : List ℕ) (waiting : List (List Segment))
-      (fed : Result Bool FeedFault) (turn : IsTurn input bytes waiting fed) where
-    -- the readings of all that was read
-    abbrev pub readings_now : List Reading
-    readings_now =
-        watched.readings turn.has.closed (take watched.limit (bytes ++ turn.has.piece))
-
-    pub known : KnowRows (before_turn bytes) readings_now waiting
-    known = known_by input.file input.left input.found bytes turn.old waiting fed turn.has
-        turn.empty turn.count fed turn.has.adds
-
-    -- no segment was complete when the last read began that wasn't told before the turn
-    prompt_with : (count : ℕ) → count_before bytes ≤ count
-        → IsPrompt watched input readings_now count
-    prompt_with count enough =
-        let last = turn.has.last in
-        let rest = drop (length last.earlier) bytes in
-        let split : bytes ≡ last.earlier ++ rest =
-        front_of bytes turn.has.piece last.earlier last.piece last.split turn.has.early in
-        let early : count_before last.earlier ≤ count_before bytes =
-        subst (λ all. count_before last.earlier ≤ count_before all) (sym split)
-        (counts_on false last.earlier rest) in
-        record {
-          bytes = bytes ++ turn.has.piece;
-          read = were_read input (bytes ++ turn.has.piece) turn.opened turn.has.front;
-          closed = turn.has.closed;
-          all_read = turn.has.all_read;
-          within = turn.has.within;
-          known = refl;
-          last = record {
-            earlier = last.earlier;
-            piece = last.piece;
-            split = last.split;
-            short = last.short;
-            behind = λ is_open. last.behind;
-          };
-          prompt = omega (arith, early, enough);
+        -- it can be told
+        pub CanTell-turn : (watch : Watch)
+            → Watches watch (rows_for asked (before_turn bytes).stretches)
+            → CanTellAll watch asked known.added
+        CanTell-turn watch stands = record {
+          told = (before_turn bytes).stretches;
+          some = some_asked;
+          stands = stands;
+          is_trace = known.is_trace;
         }
 
-    -- the first blocks stand there, as far as a place
-    first_at_place : (output : OutputTold) (place : ℕ) → place ≤ count_of waiting
-        → AllWritesGood output
-        → BlocksWritten watched.scale watched.patterns
-        (joined (rows_in (before_turn bytes)) (heads place waiting)) output.written_before
-        output.written_now → FirstBlocksStand watched input output
-    first_at_place output place below writes stand = record {
-      readings = readings_now;
-      count = count_before bytes + place;
-      prompt = prompt_with (count_before bytes + place) (omega arith);
-      few = omega (arith, below, known.few);
-      stand = stand_by watched readings_now (count_before bytes + place) _ output
-          (known.are place below) writes stand;
-    }
+        -- no stretch was complete when the last read began that wasn't told before the turn
+        prompt_with : (count : ℕ) → count_before bytes ≤ count
+            → IsPrompt watched input now count
+        prompt_with count enough =
+            let last = turn.has.last in
+            let rest = drop (length last.earlier) bytes in
+            let split : bytes ≡ last.earlier ++ rest =
+            front_of bytes turn.has.piece last.earlier last.piece last.split turn.has.early in
+            let early : count_before last.earlier ≤ count_before bytes =
+            subst (λ all. count_before last.earlier ≤ count_before all) (sym split)
+            (counts_on last.earlier rest) in
+            record {
+              bytes = bytes ++ turn.has.piece;
+              read = were_read input (bytes ++ turn.has.piece) turn.opened turn.has.front;
+              closed = turn.has.closed;
+              all_read = turn.has.all_read;
+              within = turn.has.within;
+              known = refl;
+              last = record {
+                earlier = last.earlier;
+                piece = last.piece;
+                split = last.split;
+                short = last.short;
+                behind = λ is_open. last.behind;
+              };
+              prompt = omega (arith, early, enough);
+            }
 
-    -- all blocks of the turn
-    pub first_stand : (output : OutputTold) → AllWritesGood output
-        → BlocksWritten watched.scale watched.patterns
-        (joined (rows_in (before_turn bytes)) waiting) output.written_before output.written_now
-        → FirstBlocksStand watched input output
-    first_stand output writes stand =
-        let all : heads (count_of waiting) waiting ≡ waiting =
-        heads_all (count_of waiting) waiting (counts_in waiting turn.has.level) in
-        first_at_place output (count_of waiting) (omega arith) writes (rw all stand)
+        -- the first blocks stand there
+        first_at : (output : OutputTold) (front rest : List Stretch) → known.added ≡ front ++ rest
+            → AllWritesGood output → Written output ((before_turn bytes).stretches ++ front)
+            → FirstBlocksStand watched input output
+        first_at output front rest split writes stand =
+            let told = (before_turn bytes).stretches ++ front in
+            let behind : now.stretches ≡ told ++ (rest ++ known.left) =
+            known.beyond ∙ (ap (λ more. (before_turn bytes).stretches ++ (more ++ known.left)) split
+            ∙ (ap (λ more. (before_turn bytes).stretches ++ more)
+            (append_assoc front rest known.left)
+            ∙ sym (append_assoc (before_turn bytes).stretches front (rest ++ known.left)))) in
+            record {
+              recording = now;
+              count = length told;
+              prompt = prompt_with (length told)
+                  (omega (arith, length-append (before_turn bytes).stretches front));
+              few = omega (arith, ap length behind, length-append told (rest ++ known.left));
+              stand = rw (front_taken now.stretches told (rest ++ known.left) behind)
+                  (stand_by told output writes stand);
+            }
 
-    -- where a column was told, no read failed
-    reads_good : (result : Result Bool FeedFault) (place : ℕ) → place < count_of waiting
-        → HasReadCause input.faults_before input.faults_now result
-        → IfErr result (StopsTurn watched.readings watched.limit input.file input.left bytes
-        turn.old waiting) → AllReadsGood input
-    reads_good (Ok more) place below cause stops = cause
-    reads_good (Err (FeedTrace fault)) place below cause stops = cause
-    reads_good (Err FeedTooLong) place below cause stops = cause
-    reads_good (Err FeedMemory) place below cause stops = cause
-    reads_good (Err FeedRead) place below cause stops =
-        let none : count_of waiting ≡ 0 =
-        count_empty waiting (subst AreEmpty (sym stops.same) turn.empty) in
-        absurd (omega (arith, below, none))
+        -- all blocks of the turn
+        pub first_stand : (output : OutputTold) → AllWritesGood output → AllWritten output bytes
+            → FirstBlocksStand watched input output
+        first_stand output writes written = first_at output known.added []
+            (sym (append-nil known.added)) writes (written known.added known.wait)
 
-    -- the telling stopped at a column
-    pub EndsTelling-within : (name : List ℕ) (output : OutputTold) (fault : TellFault)
-        → HasReadCause input.faults_before input.faults_now fed
-        → IfErr fed (StopsTurn watched.readings watched.limit input.file input.left bytes turn.old
-        waiting)
-        → HasWriteCause {T = Watch} output.faults_before output.faults_now (Err fault)
-        → StopsWithin watched.scale watched.patterns (rows_in (before_turn bytes)) waiting
-        output.written_before output.written_now fault
-        → EndsTelling {T = Unit {0}} watched name input output (Err fault)
-    EndsTelling-within name output Write read stops write within =
-        let place = within.place in
-        let count = count_before bytes + place in
-        let rows = rows_in (before_turn bytes) in
-        let here : tops count readings_now ≡ joined rows (heads place waiting) =
-        known.are place (omega (arith, within.below)) in
-        let next : count_before bytes + suc place ≡ suc count = omega arith in
-        let more : tops (suc count) readings_now
-        ≡ pushed_each (joined rows (heads place waiting)) (column place waiting) =
-        ap (λ k. tops k readings_now) (sym next)
-        ∙ (known.are (suc place) (omega (arith, within.below))
-        ∙ sym (pushed_heads place rows waiting (below_each place (count_of waiting) waiting
-        within.below (counts_in waiting turn.has.level)))) in
-        let front : take count (common readings_now).segments
-        ≡ first_row (joined rows (heads place waiting)) =
-        sym (first_tops count readings_now) ∙ ap first_row here in
-        let whole : take (suc count) (common readings_now).segments
-        ≡ first_row (pushed_each (joined rows (heads place waiting)) (column place waiting)) =
-        sym (first_tops (suc count) readings_now) ∙ ap first_row more in
-        let fronts_are : fronts (suc count) readings_now
-        ≡ map quiet (pushed_each (joined rows (heads place waiting)) (column place waiting)) =
-        fronts_tops (suc count) readings_now ∙ ap (map quiet) more in
-        record {
-          cause = write;
-          reads = reads_good fed place within.below read stops;
-          stands = inl (record {
+        -- It stopped at a stretch of whatever waits.
+        abbrev pub StopsAtOne : OutputTold → Fault → Type 0
+        StopsAtOne output fault = (waiting : List Stretch) → then_waits waiting
+            → StopsWithin watched.scale watched.patterns (before_turn bytes).stretches waiting
+            output.written_before output.written_now fault
+
+        -- then no read failed
+        reads_good : (result : Result Bool Fault) (output : OutputTold) (fault : Fault)
+            → StopsAtOne output fault
+            → HasReadCause input.faults_before input.faults_now result
+            → IfErr result (StopsTurn watched.recording watched.limit input.file input.left bytes
+            waits then_waits) → AllReadsGood input
+        reads_good (Ok more) output fault one cause stops = cause
+        reads_good (Err (Trace first)) output fault one cause stops = cause
+        reads_good (Err TooLong) output fault one cause stops = cause
+        reads_good (Err Memory) output fault one cause stops = cause
+        reads_good (Err (TooManyZones zones)) output fault one cause stops = absurd stops
+        reads_good (Err Write) output fault one cause stops = absurd stops
+        reads_good (Err Read) output fault one cause stops =
+            let within = one [] (stops.kept.same [] turn.none) in
+            absurd (omega (
+              arith,
+              ap length within.split,
+              length-append within.front (within.next ∷ within.rest),
+            ))
+
+        -- the telling stopped at a stretch
+        pub EndsTelling-within : (name : List ℕ) (output : OutputTold) (fault : Fault)
+            → HasReadCause input.faults_before input.faults_now fed
+            → IfErr fed (StopsTurn watched.recording watched.limit input.file input.left bytes
+            waits then_waits)
+            → HasWriteCause {T = Watch} output.faults_before output.faults_now (Err fault)
+            → StopsAtOne output fault
+            → EndsTelling {T = Unit {0}} watched name input output (Err fault)
+        EndsTelling-within name output Write read stops write one =
+            let within = one known.added known.wait in
+            let front = within.front in
+            let next = within.next in
+            let rest = within.rest in
+            let old = (before_turn bytes).stretches in
+            let told = old ++ front in
+            let accounts = within.stops.accounts in
+            let behind : now.stretches ≡ told ++ (next ∷ rest ++ known.left) =
+            known.beyond ∙ (ap (λ more. old ++ (more ++ known.left)) within.split
+            ∙ (ap (λ more. old ++ more) (append_assoc front (next ∷ rest) known.left)
+            ∙ sym (append_assoc old front (next ∷ rest ++ known.left)))) in
+            let further : now.stretches ≡ (told ++ next ∷ []) ++ (rest ++ known.left) =
+            behind ∙ sym (append_assoc told (next ∷ []) (rest ++ known.left)) in
+            let more : length (told ++ next ∷ []) ≡ suc (length told) =
+            omega (arith, length-append told (next ∷ [])) in
+            record {
+              cause = write;
+              reads = reads_good fed output Write one read stops;
+              stands = inl (record {
+                opened = turn.opened;
+                recording = now;
+                count = length told;
+                prompt = prompt_with (length told) (omega (arith, length-append old front));
+                few = omega (
+                  arith,
+                  ap length behind,
+                  length-append told (next ∷ rest ++ known.left),
+                );
+                accounts = accounts;
+                are = rw (sym more, front_taken now.stretches (told ++ next ∷ []) _ further)
+                    (rw (
+                      pushed_for asked told next,
+                      quiet_rows watched.patterns (told ++ next ∷ []),
+                    ) at within.stops.are);
+                cut = rw (
+                  front_taken now.stretches told _ behind,
+                  sym more,
+                  front_taken now.stretches (told ++ next ∷ []) _ further,
+                  blocks_for-rows watched.scale accounts told asked some_asked,
+                  blocks_for-rows watched.scale accounts (told ++ next ∷ []) asked some_asked,
+                ) (rw (pushed_for asked told next) at within.stops.cut);
+              });
+            }
+        EndsTelling-within name output Memory read stops write one =
+            let within = one known.added known.wait in
+            record {
+              reads = reads_good fed output Memory one read stops;
+              stands = first_at output within.front (within.next ∷ within.rest) within.split write
+                  within.stops;
+            }
+        EndsTelling-within name output (Trace fault) read stops write one =
+            absurd (one known.added known.wait).stops
+        EndsTelling-within name output TooLong read stops write one =
+            absurd (one known.added known.wait).stops
+        EndsTelling-within name output (TooManyZones zones) read stops write one =
+            absurd (one known.added known.wait).stops
+        EndsTelling-within name output Read read stops write one =
+            absurd (one known.added known.wait).stops
+
+      -- all that was taken on was written
+      all_stand : (output : OutputTold) (bytes : List ℕ) (decisive : Recording) → waits []
+          → TakesOn waits then_waits (before_turn bytes) decisive → AllWritesGood output
+          → AllWritten output bytes → BlocksStand watched decisive.stretches output
+      all_stand output bytes decisive none takes writes written = rw takes.beyond
+          (stand_by ((before_turn bytes).stretches ++ takes.added) output writes
+          (written takes.added (takes.then [] none)))
+
+      -- the input stopped, and all that it gave was told
+      pub EndsTelling-stopped : (input : InputTold) (bytes : List ℕ) (fault : Fault)
+          (name : List ℕ) (output : OutputTold) → IsTurn input bytes (Err fault)
+          → HasReadCause {T = Bool} input.faults_before input.faults_now (Err fault)
+          → (IsTrue input.sound → fault ≢ Read)
+          → StopsTurn watched.recording watched.limit input.file input.left bytes waits then_waits
+          fault → (before_turn bytes).fault ≡ None → AllWritesGood output
+          → AllWritten output bytes
+          → EndsTelling {T = Unit {0}} watched name input output (Err fault)
+      EndsTelling-stopped input bytes (Trace fault) name output turn read sound stops none writes
+          written = (
+            stops.0,
+            record {
+              opened = turn.opened;
+              cause = stops.1.cause;
+              reads = read;
+              stands = all_stand output bytes _ turn.none stops.1.all writes written;
+            },
+          )
+      EndsTelling-stopped input bytes TooLong name output turn read sound stops none writes
+          written = record {
             opened = turn.opened;
-            readings = readings_now;
-            count = count;
-            prompt = prompt_with count (omega arith);
-            few = omega (arith, within.below, known.few);
-            accounts = within.stops.accounts;
-            are = rw fronts_are within.stops.are;
-            cut = rw (front, whole) within.stops.cut;
-          });
-        }
-    EndsTelling-within name output Memory read stops write within = record {
-      reads = reads_good fed within.place within.below read stops;
-      stands = first_at_place output within.place (omega (arith, within.below)) write within.stops;
-    }
-    EndsTelling-within name output (Trace fault) read stops write within = absurd within.stops
-    EndsTelling-within name output TooLong read stops write within = absurd within.stops
-    EndsTelling-within name output Read read stops write within = absurd within.stops
+            cause = stops.cause;
+            reads = read;
+            stands = all_stand output bytes _ turn.none stops.all writes written;
+          }
+      EndsTelling-stopped input bytes Read name output turn read sound stops none writes written =
+          record {
+            cause = read;
+            unsound = λ good. absurd (sound good refl);
+            goes_on = record {
+              bytes = bytes;
+              read = were_read input bytes turn.opened stops.front;
+              within = stops.within;
+              faultless = subst (λ all. (watched.recording false all).fault ≡ None)
+                  (take_all watched.limit bytes stops.within) none;
+            };
+            stands = record {
+              bytes = bytes;
+              read = were_read input bytes turn.opened stops.front;
+              stand = stand_by (before_turn bytes).stretches output writes
+                  (rw (append-nil (before_turn bytes).stretches) at
+                  (written [] (stops.kept.same [] turn.none)));
+            };
+          }
+      EndsTelling-stopped input bytes Memory name output turn read sound stops none writes
+          written = record {
+            reads = read;
+            stands = first_stand input bytes (Err Memory) turn output writes written;
+          }
+      EndsTelling-stopped input bytes (TooManyZones zones) name output turn read sound stops none
+          writes written = absurd stops
+      EndsTelling-stopped input bytes Write name output turn read sound stops none writes written =
+          absurd stops
 
-  -- all blocks of what decides stand there
-  all_stand : (bytes : List ℕ) (old waiting : List (List Segment)) (output : OutputTold)
-      (decisive : List Reading) → AreAllAlike decisive
-      → AddsEach old waiting (before_turn bytes) decisive → AreEmpty old → AllWritesGood output
-      → BlocksWritten watched.scale watched.patterns (joined (rows_in (before_turn bytes)) waiting)
-      output.written_before output.written_now → AllStand watched decisive output
-  all_stand bytes old waiting output decisive alike adds empty writes stand =
-      stand_by watched decisive (length (common decisive).segments) _ output
-      (tops_all _ decisive (level_common decisive alike) ∙ sym (joined_adds adds empty)) writes
-      stand
+  -- the rows of a recording with its ends are its traces
+  lines_whole : (said : Recording) (patterns : List Sought)
+      → timelines (rows_for (all_names patterns) said.stretches)
+      (map (λ names. events_for names said.last) (all_names patterns))
+      ≡ map (λ pattern. trace_for said pattern.names) patterns
+  lines_whole said [] = refl
+  lines_whole said (pattern ∷ patterns) =
+      ap (λ rest. trace_for said pattern.names ∷ rest) (lines_whole said patterns)
 
-  -- the input stopped, and all that it gave was told
-  pub EndsTelling-stopped : (input : InputTold) (bytes : List ℕ) (waiting : List (List Segment))
-      (fault : FeedFault) (name : List ℕ) (output : OutputTold)
-      → (turn : IsTurn input bytes waiting (Err fault))
-      → HasReadCause {T = Bool} input.faults_before input.faults_now (Err fault)
-      → (IsTrue input.sound → fault ≢ FeedRead)
-      → StopsTurn watched.readings watched.limit input.file input.left bytes turn.old waiting fault
-      → (common (before_turn bytes)).fault ≡ None
-      → AllWritesGood output
-      → BlocksWritten watched.scale watched.patterns (joined (rows_in (before_turn bytes)) waiting)
-      output.written_before output.written_now
-      → EndsTelling {T = Unit {0}} watched name input output (Err (told_fault fault))
-  EndsTelling-stopped input bytes waiting (FeedTrace fault) name output turn read sound stops none
-      writes stand = (
-        stops.0,
-        record {
-          opened = turn.opened;
-          cause = stops.1.cause;
-          reads = read;
-          stands = all_stand bytes turn.old waiting output _
-              (agree (nat_le (length stops.1.cause.bytes) watched.limit)
-              (take watched.limit stops.1.cause.bytes)) stops.1.all turn.empty writes stand;
-        },
-      )
-  EndsTelling-stopped input bytes waiting FeedTooLong name output turn read sound stops none writes
-      stand = record {
-        opened = turn.opened;
-        cause = stops.cause;
-        reads = read;
-        stands = all_stand bytes turn.old waiting output _
-            (agree (nat_le (length stops.cause.bytes) watched.limit)
-            (take watched.limit stops.cause.bytes)) stops.all turn.empty writes stand;
-      }
-  EndsTelling-stopped input bytes waiting FeedRead name output turn read sound stops none writes
-      stand =
-      let nothing : AreEmpty waiting = subst AreEmpty (sym stops.same) turn.empty in
-      let rows : joined (rows_in (before_turn bytes)) waiting ≡ rows_in (before_turn bytes) =
-      joined_empty (rows_in (before_turn bytes)) waiting (sym turn.count) nothing in
-      record {
-        cause = read;
-        unsound = λ good. absurd (sound good refl);
-        goes_on = record {
-          bytes = bytes;
-          read = were_read input bytes turn.opened stops.front;
-          within = stops.within;
-          faultless = subst (λ all. (common (watched.readings false all)).fault ≡ None)
-              (take_all watched.limit bytes stops.within) none;
-        };
-        stands = record {
-          bytes = bytes;
-          read = were_read input bytes turn.opened stops.front;
-          stand = stand_by watched (before_turn bytes) (count_before bytes)
-              (joined (rows_in (before_turn bytes)) waiting) output
-              (tops_all (count_before bytes) (before_turn bytes) (level_before bytes) ∙ sym rows)
-              writes stand;
-        };
-      }
-  EndsTelling-stopped input bytes waiting FeedMemory name output turn read sound stops none writes
-      stand = record {
-        reads = read;
-        stands = first_stand input bytes waiting (Err FeedMemory) turn output writes stand;
-      }
+  module _ (input : InputTold) (name bytes : List ℕ) (laws : HasLaws watched.recording)
+      (front : Consumes input.file input.left bytes) (all_read : IsAtEnd input.left)
+      (within : length bytes ≤ watched.limit)
+      (whole : (watched.recording true bytes).fault ≡ None) (opened : input.opened ≡ true) where
+    -- what all bytes say
+    abbrev pub said : Recording
+    said = watched.recording true bytes
 
--- the rows of whole readings, with their last events, are their traces
-whole_of : Reading → Timeline
-whole_of reading = timeline_of reading.segments reading.last
+    -- its rows, and the events at their ends
+    abbrev pub whole_rows : List (List Segment)
+    whole_rows = rows_for asked said.stretches
 
-timelines_of : (readings : List Reading)
-    → timelines (rows_in readings) (map (λ reading. reading.last) readings)
-    ≡ map whole_of readings
-unfolding whole_of
-timelines_of [] = refl
-timelines_of (reading ∷ readings) =
-    ap (λ rest. whole_of reading ∷ rest) (timelines_of readings)
-
--- readings without a fault are these traces
-whole_readings : (readings : List Reading)
-    → AllByRecursion (λ reading. reading.fault ≡ None) readings
-    → readings ≡ map whole_reading (map whole_of readings)
-unfolding whole_of
-whole_readings [] none = refl
-whole_readings (reading ∷ readings) none =
-    ap (λ rest. reading ∷ rest) (whole_readings readings none.1)
-    ∙ ap (λ one. one ∷ map whole_reading (map whole_of readings))
-    (ap (λ fault. with_fault reading.segments reading.last fault) none.0)
-  where
-    with_fault : List Segment → ℕ → Option TraceFault → Reading
-    with_fault segments last fault =
-        record { segments = segments; last = last; fault = fault }
-
-whole_traces : (readings : List Reading)
-    → AllByRecursion (λ reading. IsTrace reading.segments) readings
-    → AllByRecursion (λ (trace : Timeline). IsTrace trace.segments) (map whole_of readings)
-unfolding whole_of
-whole_traces [] traces = tt
-whole_traces (reading ∷ readings) traces = (traces.0, whole_traces readings traces.1)
-
-module _ (watched : Watched) (input : InputTold) (name bytes : List ℕ)
-    (old waiting : List (List Segment)) (lasts : List ℕ)
-    (ended : IsEnded watched.readings watched.limit input.file input.left bytes old waiting lasts)
-    (empty : AreEmpty old) (opened : input.opened ≡ true)
-    (traces : AllByRecursion (λ reading. IsTrace reading.segments) (watched.readings true bytes))
-  where
-    -- the rows of the whole input
-    rows_whole : joined (rows_in (watched.readings false (take watched.limit bytes))) waiting
-        ≡ rows_in (watched.readings true bytes)
-    rows_whole = joined_adds ended.all empty
+    abbrev pub whole_lasts : List ℕ
+    whole_lasts = map (λ names. events_for names said.last) asked
 
     -- the text of accounts that are closed is right
     right_text : (accounts : List Account)
-        → AreAccounts watched.patterns (timelines (joined (rows_in (watched.readings false
-        (take watched.limit bytes))) waiting) lasts) accounts → All IsClosing accounts
-        → IsOnlineAnswer watched bytes
-        (blocks_text watched.scale accounts (first_row (joined (rows_in (watched.readings false
-        (take watched.limit bytes))) waiting))
-        ++ ending_text watched.scale accounts (first_row (joined (rows_in (watched.readings false
-        (take watched.limit bytes))) waiting)))
-    right_text accounts are closed =
-        let readings = watched.readings true bytes in
-        let lines : timelines (joined (rows_in (watched.readings false (take watched.limit bytes)))
-        waiting) lasts ≡ map whole_of readings =
-        ap (λ rows. timelines rows lasts) rows_whole
-        ∙ (ap (timelines (rows_in readings)) ended.lasts_are ∙ timelines_of readings) in
-        let first : first_row (joined (rows_in (watched.readings false (take watched.limit bytes)))
-        waiting) ≡ (common readings).segments =
-        ap first_row rows_whole ∙ first_common readings in
-        record {
-          traces = map whole_of readings;
-          are = record {
-            within = ended.within;
-            read = whole_readings readings (recursion_from_All (λ (reading : Reading). reading.fault
-                ≡ None) readings ended.whole);
-            are_traces = All-from_recursion (λ (trace : Timeline). IsTrace trace.segments)
-                (map whole_of readings) (whole_traces readings traces);
-          };
-          accounts = accounts;
-          told = subst (λ all. AreAccounts watched.patterns all accounts) lines are;
-          closed = closed;
-          printed = ap (λ segments. blocks_text watched.scale accounts segments
-              ++ ending_text watched.scale accounts segments) first;
-        }
+        → AreAccounts watched.patterns (timelines whole_rows whole_lasts) accounts
+        → All IsClosing accounts
+        → IsOnlineAnswer watched bytes (blocks_text watched.scale accounts (first_row whole_rows)
+        ++ ending_text watched.scale accounts (first_row whole_rows))
+    right_text accounts are closed = record {
+      traces = map (λ pattern. trace_for said pattern.names) watched.patterns;
+      are = record {
+        within = within;
+        whole = whole;
+        are = refl;
+        are_traces = All-map (λ (trace : Timeline). IsTrace trace.segments)
+            (λ (pattern : Sought). trace_for said pattern.names) watched.patterns
+            (λ k d below. laws.is_trace _ true bytes);
+      };
+      accounts = accounts;
+      told = subst (λ all. AreAccounts watched.patterns all accounts)
+          (lines_whole said watched.patterns) are;
+      closed = closed;
+      printed = rw (
+        blocks_for-rows watched.scale accounts said.stretches asked some_asked,
+        ending_for-rows watched.scale accounts said.stretches asked some_asked,
+      ) refl;
+    }
 
     -- all was told, with what the end completes
     pub EndsTelling-done : (output : OutputTold) → AllReadsGood input → AllWritesGood output
-        → HasClosed watched.scale watched.patterns
-        (joined (rows_in (watched.readings false (take watched.limit bytes))) waiting)
-        (timelines (joined (rows_in (watched.readings false (take watched.limit bytes))) waiting)
-        lasts) output.written_before output.written_now
+        → HasClosed watched.scale watched.patterns whole_rows (timelines whole_rows whole_lasts)
+        output.written_before output.written_now
         → EndsTelling {T = Unit {0}} watched name input output (Ok tt)
     EndsTelling-done output reads writes told = record {
       reads = reads;
       text = _;
       right = record {
         bytes = bytes;
-        all = all_bytes input bytes opened ended.front ended.all_read;
+        all = all_bytes input bytes opened front all_read;
         is_so = right_text told.accounts told.are told.closed;
       };
       writes = writes;
@@ -472,50 +476,47 @@ module _ (watched : Watched) (input : InputTold) (name bytes : List ℕ)
 
     -- all was told, and a write failed within what the end completes
     end_is_cut : (output : OutputTold)
-        → ClosingIsCut watched.scale watched.patterns
-        (joined (rows_in (watched.readings false (take watched.limit bytes))) waiting)
-        (timelines (joined (rows_in (watched.readings false (take watched.limit bytes))) waiting)
-        lasts) output.written_before output.written_now
+        → ClosingIsCut watched.scale watched.patterns whole_rows
+        (timelines whole_rows whole_lasts) output.written_before output.written_now
         → AnswerIsCut watched output bytes
     unfolding right_text
-    end_is_cut output cut =
-        let segments = first_row (joined (rows_in (watched.readings false (take watched.limit
-        bytes))) waiting) in
-        let text = blocks_text watched.scale cut.accounts segments
-        ++ ending_text watched.scale cut.accounts segments in
-        let first : segments ≡ (common (watched.readings true bytes)).segments =
-        ap first_row rows_whole ∙ first_common (watched.readings true bytes) in
-        record {
-          text = text;
-          right = right_text cut.accounts cut.are cut.closed;
-          cut = subst (λ all. IsCutBehind (blocks_text watched.scale cut.accounts all) text
-              output.written_before output.written_now) first cut.cut;
-        }
+    end_is_cut output cut = record {
+      text = _;
+      right = right_text cut.accounts cut.are cut.closed;
+      cut = rw (blocks_for-rows watched.scale cut.accounts said.stretches asked some_asked) cut.cut;
+    }
 
     -- all was told, and what the end completes wasn't, or not all of it
-    pub EndsTelling-cut : (grows : GrowEach watched.readings)
-        (agree : AgreeAlways watched.readings) (fed : Result Bool FeedFault)
-        (turn : IsTurn watched grows agree input bytes waiting fed) (output : OutputTold)
-        (fault : TellFault) → AllReadsGood input
+    pub EndsTelling-cut : (waits then_waits : List Stretch → Type 0) (fed : Result Bool Fault)
+        (turn : IsTurn waits then_waits input bytes fed)
+        → TakesOn waits then_waits (before_turn bytes) said → (output : OutputTold)
+        (fault : Fault) → AllReadsGood input
         → HasWriteCause {T = Unit {0}} output.faults_before output.faults_now (Err fault)
+        → ((waiting : List Stretch) → then_waits waiting
         → StopsAtEnd watched.scale watched.patterns
-        (joined (rows_in (watched.readings false (take watched.limit bytes))) waiting)
-        (timelines (joined (rows_in (watched.readings false (take watched.limit bytes))) waiting)
-        lasts) output.written_before output.written_now fault
+        (rows_for asked ((before_turn bytes).stretches ++ waiting))
+        (timelines (rows_for asked ((before_turn bytes).stretches ++ waiting)) whole_lasts)
+        output.written_before output.written_now fault)
         → EndsTelling {T = Unit {0}} watched name input output (Err fault)
-    EndsTelling-cut grows agree fed turn output Write reads write stops = record {
+    EndsTelling-cut waits then_waits fed turn takes output Write reads write stops = record {
       cause = write;
       reads = reads;
       stands = inr (record {
         bytes = bytes;
-        all = all_bytes input bytes opened ended.front ended.all_read;
-        is_so = end_is_cut output stops;
+        all = all_bytes input bytes opened front all_read;
+        is_so = end_is_cut output (rw (sym takes.beyond) at
+            (stops takes.added (takes.then [] turn.none)));
       });
     }
-    EndsTelling-cut grows agree fed turn output Memory reads write stops = record {
+    EndsTelling-cut waits then_waits fed turn takes output Memory reads write stops = record {
       reads = reads;
-      stands = first_stand watched grows agree input bytes waiting fed turn output write stops;
+      stands = first_stand waits then_waits laws input bytes fed turn output write stops;
     }
-    EndsTelling-cut grows agree fed turn output (Trace fault) reads write stops = absurd stops
-    EndsTelling-cut grows agree fed turn output TooLong reads write stops = absurd stops
-    EndsTelling-cut grows agree fed turn output Read reads write stops = absurd stops
+    EndsTelling-cut waits then_waits fed turn takes output (Trace fault) reads write stops =
+        absurd (stops takes.added (takes.then [] turn.none))
+    EndsTelling-cut waits then_waits fed turn takes output TooLong reads write stops =
+        absurd (stops takes.added (takes.then [] turn.none))
+    EndsTelling-cut waits then_waits fed turn takes output (TooManyZones zones) reads write stops =
+        absurd (stops takes.added (takes.then [] turn.none))
+    EndsTelling-cut waits then_waits fed turn takes output Read reads write stops =
+        absurd (stops takes.added (takes.then [] turn.none))

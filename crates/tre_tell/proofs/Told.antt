@@ -7,7 +7,6 @@ use Rattle.std.proofs.KnownBytes.{Appends-trans}
 use Rattle.std.proofs.Math.Seq.{take-append-add, get_or-append_seam}
 use Rattle.std.proofs.lemmas.List.{length-map, map-id}
 use Rattle.std.proofs.lemmas.List.Elements.{All-nil, All-head, All-tail, All-from_recursion, recursion_from_All}
-use Rattle.tre_feed.specs.Readings.{AreLevel, count_of}
 use Rattle.tre_io.specs.Written.{AppendsPart}
 use Rattle.tre_online.specs.Watch.{sessions_of, trees_of, ended_of_each, first_at, time_of, StandForEach, Watches, pushed_each, AreRefusedFor, TellEach}
 use Rattle.tre_online.specs.declared.session.Session.{Session}
@@ -22,7 +21,7 @@ use Rattle.tre_tell.specs.Blocks.{AreAccounts, blocks_text}
 use Rattle.tre_tell.specs.Outputs.{IsCutBehind}
 use Rattle.tre_tell.specs.Printed.{IsPrinted, IsTextOf, lines_behind, time_line}
 use Rattle.tre_tell.specs.Sought.{Sought}
-use Rattle.tre_tell.specs.Telling.{first_row, FirstFits, IsLastBlock, HasTold, LastBlockIsCut}
+use Rattle.tre_tell.specs.Telling.{first_row, AreLevel, count_of, FirstFits, IsLastBlock, HasTold, LastBlockIsCut}
 use Rattle.tre_tell.specs.Transcript.{Account, block_before, IsTranscript}
 use Rattle.tre_tell.proofs.Accounts.{accounts_more, HaveBlocks, labels_of, blocks_text-more, blocks_text-before}
 use Rattle.tre_tell.proofs.Lists.{map-map}

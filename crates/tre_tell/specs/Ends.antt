@@ -1,15 +1,15 @@
 -- How the telling of an input ends.
 use Rattle.std.specs.Prelude.{◌≡◌, ◌≢◌, ◌⊎◌, ℕ, List, Some, IsTrue, Result, Ok, Err}
 use Rattle.std.specs.Io.KnownBytes.{Appends}
-use Rattle.tre_feed.specs.Input.{InputTold, AllReadsGood, OfAllBytes, MayGoOn}
-use Rattle.tre_feed.specs.Outcome.{Outcome, IsInputKind, refuses, exceeds, reading_within}
-use Rattle.tre_feed.specs.Readings.{ComesTo, common_of}
+use Rattle.tre_feed.specs.Input.{InputTold, AllReadsGood, OfAllBytes}
+use Rattle.tre_feed.specs.Outcome.{IsInputKind}
+use Rattle.tre_feed.specs.Comes.{ComesTo, MayGoOn, Outcome, refuses, exceeds, recording_within}
 use Rattle.tre_io.specs.Faults.{counted}
 use Rattle.tre_tell.specs.Outputs.{OutputTold, AllWritesGood}
-use Rattle.tre_tell.specs.Standing.{AllStand, BlocksSoFarStand, FirstBlocksStand, BlockIsCut, IsOnlineAnswer, EndIsCut}
+use Rattle.tre_tell.specs.Standing.{BlocksStand, BlocksSoFarStand, FirstBlocksStand, BlockIsCut, IsOnlineAnswer, EndIsCut}
 use Rattle.tre_tell.specs.Watched.{Watched}
-use Rattle.tre_tell.specs.declared.fault.TellFault.{TellFault}
-use Rattle.tre_tell.specs.declared.fault.TellFault.TheVariants.{Trace, TooLong, Read, Write, Memory}
+use Rattle.tre_feed.specs.declared.fault.Fault.{Fault}
+use Rattle.tre_feed.specs.declared.fault.Fault.TheVariants.{Trace, TooLong, Read, Write, Memory}
 
 -- The whole input was told, with what its end completes.
 pub record IsTold (watched : Watched) (input : InputTold) (output : OutputTold) : Type 0 where
@@ -23,9 +23,10 @@ pub record IsTold (watched : Watched) (input : InputTold) (output : OutputTold) 
 pub record IsToldToFault (watched : Watched) (input : InputTold) (output : OutputTold)
     (outcome : Outcome) : Type 0 where
   pub opened : IsTrue input.opened
-  pub cause : ComesTo watched.readings watched.limit input.file input.left outcome
+  pub cause : ComesTo watched.recording watched.limit input.file input.left outcome
   pub reads : AllReadsGood input
-  pub stands : AllStand watched (reading_within watched.readings watched.limit cause.bytes) output
+  pub stands : BlocksStand watched
+      (recording_within watched.recording watched.limit cause.bytes).stretches output
 
 -- The input of this name couldn't be opened, or a read failed where it might go on: one failure was
 -- counted, and a source that is sound under the name has none. All that was complete was told.
@@ -33,7 +34,7 @@ pub record IsToldToFailedRead (watched : Watched) (name : List ℕ) (input : Inp
     (output : OutputTold) : Type 0 where
   pub cause : input.faults_now ≡ counted input.faults_before
   pub unsound : IsTrue input.sound → input.name ≢ Some name
-  pub goes_on : MayGoOn (common_of watched.readings) watched.limit input
+  pub goes_on : MayGoOn watched.recording watched.limit input
   pub stands : BlocksSoFarStand watched input output
 
 -- A write failed, within the block of a segment or behind all blocks: one failure was counted.
@@ -43,7 +44,7 @@ pub record IsToldToFailedWrite (watched : Watched) (input : InputTold) (output :
   pub reads : AllReadsGood input
   pub stands : BlockIsCut watched input output ⊎ EndIsCut watched input output
 
--- Memory was wanting. No failure was counted, and the blocks of some first segments of those read
+-- Memory was wanting. No failure was counted, and the blocks of some first stretches of those read
 -- stand there: they may be all, and are at least those that were complete when the last read began.
 pub record IsToldToMemory (watched : Watched) (input : InputTold) (output : OutputTold) : Type 0
   where
@@ -52,7 +53,7 @@ pub record IsToldToMemory (watched : Watched) (input : InputTold) (output : Outp
 
 -- How the telling of an input of this name ends: with its end, or with each of the faults.
 abbrev pub EndsTelling : {T : Type 0} → Watched → List ℕ → InputTold → OutputTold →
-    Result T TellFault → Type 0
+    Result T Fault → Type 0
 EndsTelling watched name input output (Ok value) = IsTold watched input output
 EndsTelling watched name input output (Err (Trace fault)) =
     IsInputKind fault.kind × IsToldToFault watched input output (refuses fault)
@@ -60,3 +61,4 @@ EndsTelling watched name input output (Err TooLong) = IsToldToFault watched inpu
 EndsTelling watched name input output (Err Read) = IsToldToFailedRead watched name input output
 EndsTelling watched name input output (Err Write) = IsToldToFailedWrite watched input output
 EndsTelling watched name input output (Err Memory) = IsToldToMemory watched input output
+EndsTelling watched name input output (Err fault) = ⊥

@@ -1,4 +1,4 @@
--- What a reader must believe: what is looked for and over which readings, what is told of it, what
+-- What a reader must believe: what is looked for and what the bytes say, what is told of it, what
 -- stands in the output, and how that ends.
 pub mod Sought
 pub mod Watched
@@ -8,7 +8,6 @@ pub mod OnlineText
 pub mod Outputs
 pub mod Standing
 pub mod Ends
-pub mod Faults
 -- What the functions inside promise each other.
 pub mod Printed
 pub mod Telling

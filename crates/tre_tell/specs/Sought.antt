@@ -1,5 +1,5 @@
 -- What is looked for: patterns, each behind a label.
-use Rattle.std.specs.Prelude.{ℕ, List, [], ◌∷◌}
+use Rattle.std.specs.Prelude.{ℕ, List, [], ◌∷◌, map}
 use Rattle.tre_syntax.specs.Pattern.{pattern_tree, names_of}
 use Rattle.tre_syntax.specs.PatternTree.{PatternTree}
 use Rattle.tre_syntax.specs.declared.pattern.Pattern.{Pattern}
@@ -10,6 +10,10 @@ pub record Sought : Type 0 where
   pub label : List ℕ
   pub tree : PatternTree
   pub names : Vocabulary
+
+-- the names of each of the patterns
+abbrev pub all_names : List Sought → List Vocabulary
+all_names patterns = map (λ pattern. pattern.names) patterns
 
 -- what is looked for by patterns behind these labels
 abbrev pub sought_by : List (List ℕ) → List Pattern → List Sought

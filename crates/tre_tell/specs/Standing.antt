@@ -1,77 +1,76 @@
 -- What the telling of an input leaves in the output, however it ends.
 use Rattle.std.specs.Prelude.{◌≡◌, ℕ, suc, ◌<◌, ◌≤◌, Bool, true, false, All, List, ◌++◌, length, take, IsTrue}
 use Rattle.std.specs.Io.KnownBytes.{Appends, IsAtEnd}
-use Rattle.tre_trace.specs.Reading.{Reading}
+use Rattle.tre_trace.specs.Reading.{Recording, Stretch, no_names, segments_for}
 use Rattle.tre_trace.specs.Trace.{Timeline}
 use Rattle.tre_tell.specs.Blocks.{AreAccounts, blocks_text, ending_text}
 use Rattle.tre_tell.specs.Transcript.{Account, IsClosing}
 use Rattle.tre_feed.specs.Input.{InputTold, WereRead, OfAllBytes, HasLastPiece}
-use Rattle.tre_feed.specs.Readings.{common, common_of}
 use Rattle.tre_tell.specs.Outputs.{OutputTold, AllWritesGood, IsCutBehind}
 use Rattle.tre_tell.specs.Watched.{Watched, fronts, AreTraces}
 
--- The blocks of the first segments of the readings were written, as many as `count`, and nothing
--- else.
-pub record BlocksStand (watched : Watched) (readings : List Reading) (count : ℕ)
-    (output : OutputTold) : Type 0 where
+-- The text of the blocks of stretches, which tells how long they are.
+abbrev pub blocks_for : Watched → List Account → List Stretch → List ℕ
+blocks_for watched accounts stretches =
+    blocks_text watched.scale accounts (segments_for no_names stretches)
+
+-- The blocks of these stretches were written, and nothing else.
+pub record BlocksStand (watched : Watched) (stretches : List Stretch) (output : OutputTold)
+    : Type 0 where
   pub writes : AllWritesGood output
   pub accounts : List Account
-  pub are : AreAccounts watched.patterns (fronts count readings) accounts
+  pub are : AreAccounts watched.patterns (fronts watched.patterns stretches) accounts
   pub written : Appends output.written_before output.written_now
-      (blocks_text watched.scale accounts (take count (common readings).segments))
+      (blocks_for watched accounts stretches)
 
--- The blocks of all their segments were.
-abbrev pub AllStand : Watched → List Reading → OutputTold → Type 0
-AllStand watched readings output =
-    BlocksStand watched readings (length (common readings).segments) output
-
--- The blocks of all segments that the bytes read complete stand there. The input wasn't seen to
--- end, so the bytes behind its last complete segment say nothing.
+-- The blocks of all stretches that the bytes read complete stand there. The input wasn't seen to
+-- end, so the bytes behind its last complete stretch say nothing.
 pub record BlocksSoFarStand (watched : Watched) (input : InputTold) (output : OutputTold) : Type 0
   where
     pub bytes : List ℕ
     pub read : WereRead input bytes
-    pub stand : AllStand watched (watched.readings false (take watched.limit bytes)) output
+    pub stand : BlocksStand watched
+        (watched.recording false (take watched.limit bytes)).stretches output
 
--- These are the readings of what was read. The input is closed only where nothing of it is left,
--- and it has no byte past the limit. No more than `count` segments were complete when the last read
--- began: of those the blocks weren't held back.
-pub record IsPrompt (watched : Watched) (input : InputTold) (readings : List Reading) (count : ℕ)
+-- This is what the bytes that were read say. The input is closed only where nothing of it is left,
+-- and it has no byte past the limit. No more than `count` stretches were complete when the last
+-- read began: of those the blocks weren't held back.
+pub record IsPrompt (watched : Watched) (input : InputTold) (recording : Recording) (count : ℕ)
     : Type 0 where
   pub bytes : List ℕ
   pub read : WereRead input bytes
   pub closed : Bool
   pub all_read : closed ≡ true → IsAtEnd input.left
   pub within : closed ≡ true → length bytes ≤ watched.limit
-  pub known : readings ≡ watched.readings closed (take watched.limit bytes)
+  pub known : recording ≡ watched.recording closed (take watched.limit bytes)
   pub last : HasLastPiece input bytes
-  pub prompt : length (common_of watched.readings false (take watched.limit last.earlier)).segments
+  pub prompt : length (watched.recording false (take watched.limit last.earlier)).stretches
       ≤ count
 
--- The blocks of the first of the segments that are known stand there.
+-- The blocks of the first of the stretches that are known stand there.
 pub record FirstBlocksStand (watched : Watched) (input : InputTold) (output : OutputTold) : Type 0
   where
-    pub readings : List Reading
+    pub recording : Recording
     pub count : ℕ
-    pub prompt : IsPrompt watched input readings count
-    pub few : count ≤ length (common readings).segments
-    pub stand : BlocksStand watched readings count output
+    pub prompt : IsPrompt watched input recording count
+    pub few : count ≤ length recording.stretches
+    pub stand : BlocksStand watched (take count recording.stretches) output
 
--- The block of a segment is cut, and those of all segments before it stand there.
+-- The block of a stretch is cut, and those of all stretches before it stand there.
 pub record BlockIsCut (watched : Watched) (input : InputTold) (output : OutputTold) : Type 0 where
   pub opened : IsTrue input.opened
-  pub readings : List Reading
+  pub recording : Recording
   pub count : ℕ
-  pub prompt : IsPrompt watched input readings count
-  pub few : count < length (common readings).segments
+  pub prompt : IsPrompt watched input recording count
+  pub few : count < length recording.stretches
   pub accounts : List Account
-  pub are : AreAccounts watched.patterns (fronts (suc count) readings) accounts
-  pub cut : IsCutBehind
-      (blocks_text watched.scale accounts (take count (common readings).segments))
-      (blocks_text watched.scale accounts (take (suc count) (common readings).segments))
+  pub are : AreAccounts watched.patterns
+      (fronts watched.patterns (take (suc count) recording.stretches)) accounts
+  pub cut : IsCutBehind (blocks_for watched accounts (take count recording.stretches))
+      (blocks_for watched accounts (take (suc count) recording.stretches))
       output.written_before output.written_now
 
--- The text is right where all of an input of these bytes is told: the blocks of all segments, and
+-- The text is right where all of an input of these bytes is told: the blocks of all stretches, and
 -- what the end completes.
 pub record IsOnlineAnswer (watched : Watched) (bytes text : List ℕ) : Type 0 where
   pub traces : List Timeline
@@ -79,16 +78,16 @@ pub record IsOnlineAnswer (watched : Watched) (bytes text : List ℕ) : Type 0 w
   pub accounts : List Account
   pub told : AreAccounts watched.patterns traces accounts
   pub closed : All IsClosing accounts
-  pub printed : text
-      ≡ blocks_text watched.scale accounts (common_of watched.readings true bytes).segments
-      ++ ending_text watched.scale accounts (common_of watched.readings true bytes).segments
+  pub printed : text ≡ blocks_for watched accounts (watched.recording true bytes).stretches
+      ++ ending_text watched.scale accounts
+      (segments_for no_names (watched.recording true bytes).stretches)
 
 -- The text is right over these bytes, and its end is cut: all blocks stand there.
 pub record AnswerIsCut (watched : Watched) (output : OutputTold) (bytes : List ℕ) : Type 0 where
   pub text : List ℕ
   pub right : IsOnlineAnswer watched bytes text
   pub cut : IsCutBehind
-      (blocks_text watched.scale right.accounts (common_of watched.readings true bytes).segments)
+      (blocks_for watched right.accounts (watched.recording true bytes).stretches)
       text output.written_before output.written_now
 
 -- The whole input was read, and the end of its right answer is cut.

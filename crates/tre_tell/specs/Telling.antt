@@ -1,41 +1,49 @@
 -- What the parts of a telling promise each other of what was told. A row is the segments of one
 -- pattern, and a column the segments of all patterns at one place.
-use Rattle.std.specs.Prelude.{◌≡◌, ◌<◌, ℕ, All, List, [], ◌∷◌, ◌++◌, length, take, map, Option, Result, Ok, Err, IsPermutation}
-use Rattle.std.specs.List.{AllByRecursion, AllZip}
+use Rattle.std.specs.Prelude.{◌≡◌, ◌<◌, ℕ, All, List, [], ◌∷◌, ◌++◌, length, map, Option, Result, Ok, Err, IsPermutation}
+use Rattle.std.specs.List.{AllZip}
 use Rattle.std.specs.Io.KnownBytes.{Appends}
-use Rattle.tre_feed.specs.Readers.{column}
-use Rattle.tre_feed.specs.Readings.{AreLevel, count_of, lengths_of}
+use Rattle.tre_feed.specs.Standing.{Asks, Wait}
+use Rattle.tre_feed.specs.declared.input.Input.{Input}
 use Rattle.tre_io.specs.Faults.{counted}
 use Rattle.tre_online.specs.Watch.{trees_of, ended_of_each, Watches, AreAlike, pushed_each}
 use Rattle.tre_online.specs.declared.watch.Watch.{Watch}
+use Rattle.tre_trace.specs.Reading.{Stretch, Vocabulary, segment_for, segments_for}
 use Rattle.tre_trace.specs.Trace.{Timeline, timeline_of, quiet, Fits, IsTrace}
 use Rattle.tre_trace.specs.declared.segment.Segment.{Segment}
 use Rattle.tre_zone.specs.declared.zone_bounds.ZoneBounds.{ZoneBounds}
 use Rattle.tre_tell.specs.Blocks.{AreAccounts, blocks_text, ending_text}
 use Rattle.tre_tell.specs.Outputs.{IsCutBehind}
-use Rattle.tre_tell.specs.Sought.{Sought}
+use Rattle.tre_tell.specs.Sought.{Sought, all_names}
 use Rattle.tre_tell.specs.Transcript.{Account, IsClosing, block_before}
-use Rattle.tre_tell.specs.declared.fault.TellFault.{TellFault}
-use Rattle.tre_tell.specs.declared.fault.TellFault.TheVariants.{Write, Memory}
+use Rattle.tre_feed.specs.declared.fault.Fault.{Fault}
+use Rattle.tre_feed.specs.declared.fault.Fault.TheVariants.{Write, Memory}
+
+-- the row of stretches for each of these names
+abbrev pub rows_for : List Vocabulary → List Stretch → List (List Segment)
+rows_for asked stretches = map (λ names. segments_for names stretches) asked
+
+-- the column of one
+abbrev pub column_for : List Vocabulary → Stretch → List Segment
+column_for asked stretch = map (λ names. segment_for names stretch) asked
 
 -- the first of the rows, which tells how long the segments of all are
 abbrev pub first_row : List (List Segment) → List Segment
 first_row [] = []
 first_row (row ∷ rows) = row
 
+-- how many segments each has, where each has as many
+abbrev pub count_of : List (List Segment) → ℕ
+count_of rows = length (first_row rows)
+
+-- Each row has as many segments.
+abbrev pub AreLevel : List (List Segment) → Type 0
+AreLevel rows = All (λ row. length row ≡ count_of rows) rows
+
 -- each row, with these events at its end
 abbrev pub timelines : List (List Segment) → List ℕ → List Timeline
 timelines (row ∷ rows) (last ∷ lasts) = timeline_of row last ∷ timelines rows lasts
 timelines rows lasts = []
-
--- each row, with more segments behind it
-abbrev pub joined : List (List Segment) → List (List Segment) → List (List Segment)
-joined (row ∷ rows) (more ∷ others) = (row ++ more) ∷ joined rows others
-joined rows others = []
-
--- the first segments of each row, as many as `count`
-abbrev pub heads : ℕ → List (List Segment) → List (List Segment)
-heads count rows = map (λ row. take count row) rows
 
 -- The first segment of the column can stand behind the first row.
 abbrev pub FirstFits : List (List Segment) → List Segment → Type 0
@@ -51,14 +59,22 @@ pub record CanTell (watch : Watch) (column : List Segment) : Type 0 where
   pub alike : AreAlike column
   pub fits : FirstFits rows column
 
--- It has read rows, and these come behind them: as many segments of each, and of the same lengths.
-pub record CanTellAll (watch : Watch) (waiting : List (List Segment)) : Type 0 where
-  pub rows : List (List Segment)
-  pub lengths : List ℕ
-  pub stands : Watches watch rows
-  pub count : length waiting ≡ length (trees_of watch)
-  pub alike : AllByRecursion (λ row. lengths_of row ≡ lengths) waiting
-  pub is_trace : IsTrace (first_row rows ++ first_row waiting)
+-- It was told stretches for these names, and more come behind them.
+pub record CanTellAll (watch : Watch) (asked : List Vocabulary) (waiting : List Stretch)
+    : Type 0 where
+  pub told : List Stretch
+  pub some : 0 < length asked
+  pub stands : Watches watch (rows_for asked told)
+  pub is_trace : (names : Vocabulary) → IsTrace (segments_for names (told ++ waiting))
+
+-- What waits of the input can be told to the watch.
+pub record CanTellWaiting {R : Type 0} (names : R → Vocabulary) (watch : Watch) (input : Input R)
+    : Type 0 where
+  pub asked : List Vocabulary
+  pub waiting : List Stretch
+  pub asks : Asks names input asked
+  pub wait : Wait names input waiting
+  pub can : CanTellAll watch asked waiting
 
 -- It has read some rows.
 pub record HasRows (watch : Watch) : Type 0 where
@@ -97,23 +113,25 @@ pub record LastBlockIsCut (scale : ℕ) (patterns : List Sought) (rows : List (L
 -- A column was to be told behind rows, and it stopped there: memory was wanting and nothing of its
 -- block was written, or a write failed within it.
 abbrev pub StopsAtColumn : ℕ → List Sought → List (List Segment) → List Segment →
-    Option (List ℕ) → Option (List ℕ) → TellFault → Type 0
+    Option (List ℕ) → Option (List ℕ) → Fault → Type 0
 StopsAtColumn scale patterns rows column before now Write =
     LastBlockIsCut scale patterns rows column before now
 StopsAtColumn scale patterns rows column before now Memory =
     BlocksWritten scale patterns rows before now
 StopsAtColumn scale patterns rows column before now fault = ⊥
 
--- Of rows that wait behind others the telling stopped at a column.
-pub record StopsWithin (scale : ℕ) (patterns : List Sought) (rows waiting : List (List Segment))
-    (before now : Option (List ℕ)) (fault : TellFault) : Type 0 where
-  pub place : ℕ
-  pub below : place < count_of waiting
-  pub stops : StopsAtColumn scale patterns (joined rows (heads place waiting))
-      (column place waiting) before now fault
+-- Of stretches that wait behind others, which were told, the telling stopped at one.
+pub record StopsWithin (scale : ℕ) (patterns : List Sought) (told waiting : List Stretch)
+    (before now : Option (List ℕ)) (fault : Fault) : Type 0 where
+  pub front : List Stretch
+  pub next : Stretch
+  pub rest : List Stretch
+  pub split : waiting ≡ front ++ next ∷ rest
+  pub stops : StopsAtColumn scale patterns (rows_for (all_names patterns) (told ++ front))
+      (column_for (all_names patterns) next) before now fault
 
 -- A failed write is one that was counted, and nothing else raises the count.
-abbrev pub HasWriteCause : {T : Type 0} → ℕ → ℕ → Result T TellFault → Type 0
+abbrev pub HasWriteCause : {T : Type 0} → ℕ → ℕ → Result T Fault → Type 0
 HasWriteCause before now (Ok value) = now ≡ before
 HasWriteCause before now (Err Write) = now ≡ counted before
 HasWriteCause before now (Err fault) = now ≡ before
@@ -139,7 +157,7 @@ pub record ClosingIsCut (scale : ℕ) (patterns : List Sought) (rows : List (Lis
 
 -- What stands there where the ends of the traces weren't told, or a first part of it was.
 abbrev pub StopsAtEnd : ℕ → List Sought → List (List Segment) → List Timeline → Option (List ℕ) →
-    Option (List ℕ) → TellFault → Type 0
+    Option (List ℕ) → Fault → Type 0
 StopsAtEnd scale patterns rows traces before now Write =
     ClosingIsCut scale patterns rows traces before now
 StopsAtEnd scale patterns rows traces before now Memory =

@@ -6,26 +6,26 @@ ghost use Rattle.tre_tell.specs.Sought.{Sought};
 ghost use Rattle.tre_tell.specs.Telling.{timelines, CanTell, HasRows, HasTold, StopsAtColumn, HasWriteCause, HasClosed, StopsAtEnd};
 ghost use Rattle.tre_trace.specs.declared.segment.Segment.{Segment};
 
-use crate::fault::TellFault;
 use crate::output::write_text;
 use crate::text::write_sets;
+use tre_feed::Fault;
 use tre_io::Sink;
 use tre_online::{Told, Watch};
 use tre_trace::{PushFault, Segment};
 
 // The end of a telling at the refusal of segments that fit.
-fn want_of_memory(fault: PushFault) -> TellFault
+fn want_of_memory(fault: PushFault) -> Fault
     requires { fault ≡ PushFault.Memory }
-    ensures { result ≡ TellFault.Memory }
+    ensures { result ≡ Fault.Memory }
 {
     match fault {
-        PushFault::Memory => TellFault::Memory,
+        PushFault::Memory => Fault::Memory,
         PushFault::Zero | PushFault::TooLate { .. } => unreachable!(),
     }
 }
 
 // What the watch tells of the next column, which only want of memory can refuse.
-fn told_of(column: &[Segment], watch: Watch) -> Result<(Watch, Told), TellFault>
+fn told_of(column: &[Segment], watch: Watch) -> Result<(Watch, Told), Fault>
     requires { CanTell watch column.now }
     ensures stands { (rows : List (List Segment)) → Watches watch rows →
         IfOk result (λ both. Watches both.0 (pushed_each rows column.now)) }
@@ -34,7 +34,7 @@ fn told_of(column: &[Segment], watch: Watch) -> Result<(Watch, Told), TellFault>
         (sets_of both.1)) }
     ensures ended { IfOk result (λ both. ended_of_each both.0 ≡ sets_of both.1) }
     ensures trees { IfOk result (λ both. trees_of both.0 ≡ trees_of watch) }
-    ensures failed { IfErr result (λ fault. fault ≡ TellFault.Memory) }
+    ensures failed { IfErr result (λ fault. fault ≡ Fault.Memory) }
 {
     match watch.segment(column) {
         Ok(both) => Ok(both),
@@ -50,7 +50,7 @@ pub fn tell_block<O: Sink>(
     watch: Watch,
     text: &mut String,
     out: &mut O,
-) -> Result<Watch, TellFault>
+) -> Result<Watch, Fault>
     requires comes { CanTell watch column.now }
     requires labels { length labels.now ≡ length (trees_of watch) }
     requires scale { scale ≤ SCALE_MAX }
@@ -82,7 +82,7 @@ pub fn tell_end<O: Sink>(
     watch: Watch,
     text: &mut String,
     out: &mut O,
-) -> Result<(), TellFault>
+) -> Result<(), Fault>
     requires reads { HasRows watch }
     requires count { length lasts.now ≡ length (trees_of watch) }
     requires labels { length labels.now ≡ length (trees_of watch) }

@@ -8,8 +8,8 @@ ghost use Rattle.tre_tell.specs.Transcript.{Account};
 ghost use Rattle.tre_tell.specs.OnlineText.{AreBlocksOf, online_text};
 ghost use Rattle.tre_tell.specs.Outputs.{OutputTold, NothingWritten};
 ghost use Rattle.tre_tell.specs.Standing.{FirstBlocksStand};
-ghost use Rattle.tre_tell.specs.Watched.{SayNothing, watched_by};
-ghost use Rattle.tre_trace.specs.Reading.{Reading};
+ghost use Rattle.tre_tell.specs.Watched.{watched_by};
+ghost use Rattle.tre_trace.specs.Reading.{Recording};
 ghost use Rattle.tre_trace.specs.declared.segment.Segment.{Segment};
 ghost use Rattle.tre_zone.specs.declared.zone_bounds.ZoneBounds.{ZoneBounds};
 
@@ -52,12 +52,11 @@ pub fn one_online_text()
 }
 
 /// Of an input that wasn't opened nothing is told: where nothing was written, all its blocks stand
-/// there, which are none. Each pattern has a label and a reading, and no bytes say no segment.
+/// there, which are none.
 pub fn nothing_told()
     ensures { (labels : List (List ℕ)) (patterns : List Pattern)
-        (readings : Bool → List ℕ → List Reading) (limit scale : ℕ) (input : InputTold)
-        (output : OutputTold) → length labels ≡ length patterns →
-        length (readings false []) ≡ length patterns → SayNothing readings →
-        input.opened ≡ false → NothingWritten output →
-        FirstBlocksStand (watched_by labels patterns readings limit scale) input output }
+        (recording : Bool → List ℕ → Recording) (limit scale : ℕ) (input : InputTold)
+        (output : OutputTold) → (recording false []).stretches ≡ [] → input.opened ≡ false →
+        NothingWritten output →
+        FirstBlocksStand (watched_by labels patterns recording limit scale) input output }
 {}

@@ -1,22 +1,20 @@
-// An input that is told as it comes: a block for each segment, and what its end completes.
-ghost use Rattle.std.specs.Prelude.{◌≡◌, ◌≤◌, ◌+◌, ℕ, List, Option, IsTrue, IfOk, IfErr, IfSome, false, length, map, string_bytes};
+// An input that is told as it comes: a block for each stretch, and what its end completes.
+ghost use Rattle.std.specs.Prelude.{◌≡◌, ◌≤◌, ◌<◌, ◌+◌, ◌++◌, ℕ, List, Option, IsTrue, IfOk, IfErr, IfSome, false, length, map, string_bytes};
 ghost use Rattle.tre_decimal.specs.declared.TheConstants.{SCALE_MAX};
 ghost use Rattle.tre_feed.specs.Input.{input_told, TakesAtMost};
-ghost use Rattle.tre_feed.specs.Readers.{AreFresh, how_many, readings_asked, rows_of};
-ghost use Rattle.tre_feed.specs.Readings.{AgreeAlways};
+ghost use Rattle.tre_feed.specs.Standing.{Asks, IsNew, Wait, limit_of, recording_of};
 ghost use Rattle.tre_online.specs.Watch.{trees_of};
+ghost use Rattle.tre_syntax.specs.Pattern.{names_of};
 ghost use Rattle.tre_tell.specs.Ends.{EndsTelling};
 ghost use Rattle.tre_tell.specs.Outputs.{output_told};
-ghost use Rattle.tre_tell.specs.Sought.{Sought};
-ghost use Rattle.tre_tell.specs.Telling.{joined, CanTellAll, HasTold, StopsWithin, HasWriteCause};
-ghost use Rattle.tre_tell.specs.Watched.{watched_by, SayNothing};
-ghost use Rattle.tre_trace.specs.declared.reader.TheConstants.{FED_MAX};
-ghost use Rattle.tre_trace.specs.declared.segment.Segment.{Segment};
+ghost use Rattle.tre_tell.specs.Sought.{Sought, all_names};
+ghost use Rattle.tre_tell.specs.Telling.{rows_for, CanTellWaiting, HasTold, StopsWithin, HasWriteCause};
+ghost use Rattle.tre_tell.specs.Watched.{watched_by};
+ghost use Rattle.tre_trace.specs.Reading.{Stretch};
 
 use crate::block::{tell_block, tell_end};
-use crate::fault::TellFault;
 use std::alloc::Global;
-use tre_feed::{Feed, Readers};
+use tre_feed::{Fault, Input};
 use tre_io::{Sink, Source};
 use tre_online::Watch;
 use tre_syntax::Pattern;
@@ -38,83 +36,81 @@ impl Room {
     }
 }
 
-// Gives the segments that wait to the watch, column by column, and writes each block before the
+// Gives the stretches that wait to the watch, column by column, and writes each block before the
 // next is taken.
 fn tell_blocks<R: TraceReader + Drop, O: Sink>(
     labels: &[String],
     scale: u8,
-    readers: &Readers<R>,
+    input: &Input<R>,
     watch: Watch,
     room: &mut Room,
     out: &mut O,
-) -> Result<Watch, TellFault>
-    requires comes { CanTellAll watch (rows_of readers.now) }
+) -> Result<Watch, Fault>
+    requires comes { CanTellWaiting R.names watch input.now }
     requires labels { length labels.now ≡ length (trees_of watch) }
     requires scale { scale ≤ SCALE_MAX }
     ensures trees { IfOk result (λ then. trees_of then ≡ trees_of watch) }
-    ensures told { (patterns : List Sought) (rows : List (List Segment))
-        (before : Option (List ℕ)) →
-        HasTold watch (map string_bytes labels.now) scale patterns rows before (O.written out.old) →
+    ensures told { (patterns : List Sought) (told waiting : List Stretch)
+        (before : Option (List ℕ)) → Asks R.names input.now (all_names patterns) →
+        Wait R.names input.now waiting → HasTold watch (map string_bytes labels.now) scale patterns
+        (rows_for (all_names patterns) told) before (O.written out.old) →
         IfOk result (λ then. HasTold then (map string_bytes labels.now) scale patterns
-        (joined rows (rows_of readers.now)) before (O.written out.new)) }
-    ensures stops { (patterns : List Sought) (rows : List (List Segment))
-        (before : Option (List ℕ)) →
-        HasTold watch (map string_bytes labels.now) scale patterns rows before (O.written out.old) →
-        IfErr result (StopsWithin scale patterns rows (rows_of readers.now) before
-        (O.written out.new)) }
+        (rows_for (all_names patterns) (told ++ waiting)) before (O.written out.new)) }
+    ensures stops { (patterns : List Sought) (told waiting : List Stretch)
+        (before : Option (List ℕ)) → Asks R.names input.now (all_names patterns) →
+        Wait R.names input.now waiting → HasTold watch (map string_bytes labels.now) scale patterns
+        (rows_for (all_names patterns) told) before (O.written out.old) →
+        IfErr result (StopsWithin scale patterns told waiting before (O.written out.new)) }
     ensures cause { HasWriteCause (O.faults out.old) (O.faults out.new) result }
 {
     let mut watch = watch;
-    for place in 0..readers.waiting() {
-        readers.at(place, &mut room.column)?;
+    for place in 0..input.waiting() {
+        input.column(place, &mut room.column)?;
         watch = tell_block(&room.column, labels, scale, watch, &mut room.text, out)?;
     }
     Ok(watch)
 }
 
-/// Tells the patterns as the input of this name comes, of which at most `limit` bytes count: the
-/// block of each segment, as soon as the readers have it, and at the end what that completes. Each
-/// pattern has its reader and its label, at its place.
+/// Tells the patterns as the input comes from the source of this name: the block of each stretch,
+/// as soon as it is read, and at the end what that completes. The input is read for the names of
+/// each pattern, and each has its label, at its place.
 pub fn tell_matches<S: Source, R: TraceReader + Drop, O: Sink>(
     alloc: Global,
     name: &str,
-    limit: usize,
     patterns: &[Pattern],
     labels: &[String],
     scale: u8,
-    readers: &mut Readers<R>,
-    input: &mut S,
+    input: &mut Input<R>,
+    source: &mut S,
     out: &mut O,
-) -> Result<(), TellFault>
-    requires closed { S.opened input.old ≡ false }
-    requires fits { limit ≤ FED_MAX }
+) -> Result<(), Fault>
+    requires closed { S.opened source.old ≡ false }
     requires scale { scale ≤ SCALE_MAX }
+    requires some { 0 < length patterns.now }
     requires labels { length labels.now ≡ length patterns.now }
-    requires readers { how_many readers.old ≡ length patterns.now }
-    requires fresh { AreFresh R.represents readers.old }
-    requires alike { AgreeAlways (readings_asked R.recording R.names R.terms readers.old) }
-    requires nothing { SayNothing (readings_asked R.recording R.names R.terms readers.old) }
+    requires asks { Asks R.names input.old (map names_of patterns.now) }
+    requires new { IsNew R.terms R.represents R.names input.old }
     ensures ends { EndsTelling (watched_by (map string_bytes labels.now) patterns.now
-        (readings_asked R.recording R.names R.terms readers.old) limit scale) name.now
-        (input_told S.file_name S.file S.sound S.opened S.left S.found S.faults input.old input.new)
-        (output_told O.written O.faults out.old out.new) result }
-    ensures bounded { IsTrue (S.opened input.new) →
-        TakesAtMost (limit + 1) (S.file input.old) (S.left input.new) }
-    ensures by_name { IsTrue (S.opened input.new) →
-        IfSome (S.file_name input.old) (λ told. told ≡ name.now) }
+        (recording_of R.recording R.terms input.old) (limit_of input.old) scale) name.now
+        (input_told S.file_name S.file S.sound S.opened S.left S.found S.faults source.old
+        source.new) (output_told O.written O.faults out.old out.new) result }
+    ensures bounded { IsTrue (S.opened source.new) →
+        TakesAtMost (limit_of input.old + 1) (S.file source.old) (S.left source.new) }
+    ensures by_name { IsTrue (S.opened source.new) →
+        IfSome (S.file_name source.old) (λ told. told ≡ name.now) }
 {
     let mut watch = Watch::new(alloc, patterns)?;
     let mut room = Room::new(alloc);
-    let mut feed = Feed::open(alloc, name, limit, input)?;
+    input.open(name, source)?;
     loop {
-        let fed = feed.next(readers, input);
-        watch = tell_blocks(labels, scale, readers, watch, &mut room, out)?;
-        readers.clear();
-        if !fed? {
+        let read = input.next(source);
+        watch = tell_blocks(labels, scale, input, watch, &mut room, out)?;
+        input.clear();
+        if !read? {
             break;
         }
     }
-    let lasts = readers.last_events(alloc)?;
+    let lasts = input.lasts(alloc)?;
     tell_end(&lasts, labels, scale, watch, &mut room.text, out)?;
     Ok(())
 }

@@ -2,26 +2,26 @@
 -- wanting, or what they ask for was answered.
 use Rattle.std.proofs.Common.{◌≡◌, ◌≢◌, Result, Ok, Err, refl, inl, inr}
 use Rattle.tre_answer.specs.Ends.{EndsOver}
-use Rattle.tre_answer.specs.declared.fault.AnswerFault.{AnswerFault}
-use Rattle.tre_answer.specs.declared.fault.AnswerFault.TheVariants.{Trace as AnswerTrace, TooLong as AnswerTooLong, TooManyZones as AnswerTooMany, Read as AnswerRead, Write as AnswerWrite}
+use Rattle.tre_feed.specs.declared.fault.Fault.{Fault}
+use Rattle.tre_feed.specs.declared.fault.Fault.TheVariants.{Trace as FaultTrace, TooLong as FaultTooLong, TooManyZones as FaultTooMany, Read as FaultRead, Write as FaultWrite, Memory as FaultMemory}
 use Rattle.tre_feed.specs.Input.{InputTold}
 use Rattle.tre_tell.specs.Outputs.{OutputTold}
 use Rattle.tre_words.specs.declared.job.Job.{Job}
 use Rattle.tre_tool.specs.Checks.{ChecksWereRead}
 use Rattle.tre_tool.specs.Request.{IsRefused, GiveNone}
 use Rattle.tre_tool.specs.Run.{EndsUnread, EndsMemory, AsksAs, EndsAs}
-use Rattle.tre_tool.specs.Status.{answer_status}
+use Rattle.tre_tool.specs.Status.{fault_status}
 use Rattle.tre_tool.specs.declared.status.Status.{Status}
 use Rattle.tre_tool.specs.declared.status.Status.TheVariants.{Done, Usage, Expression, Minus, Definitions, Watch, Trace, InputTooLong, TooManyZones, ReadFault, WriteFault, Memory}
 
 -- An answer, or what ended it.
 abbrev pub Answer : Type 0
-Answer = Result (Unit {0}) AnswerFault
+Answer = Result (Unit {0}) Fault
 
 -- how a run ends that was answered so
 abbrev pub answered_status : Answer → Status
 answered_status (Ok value) = Done
-answered_status (Err fault) = answer_status fault
+answered_status (Err fault) = fault_status fault
 
 module _ (Gives : Job → Type 0) (checks input : InputTold) (output : OutputTold) where
   pub data Ended (status : Status) : Type 0 where
@@ -49,14 +49,14 @@ module _ (Gives : Job → Type 0) (checks input : InputTold) (output : OutputTol
   ended_of (Minus fault) ends = by_refusal ends.0
   ended_of (Definitions fault) ends = by_refusal ends.0
   ended_of (Watch fault) ends = by_refusal ends.0
-  ended_of (Trace fault) ends = by_answer (Err (AnswerTrace fault)) refl (record {
+  ended_of (Trace fault) ends = by_answer (Err (FaultTrace fault)) refl (record {
     request = ends.1.request;
     asks = ends.1.asks;
     is_so = (ends.0, ends.1.is_so);
   })
-  ended_of InputTooLong ends = by_answer (Err AnswerTooLong) refl ends
-  ended_of (TooManyZones zones) ends = by_answer (Err (AnswerTooMany zones)) refl ends
+  ended_of InputTooLong ends = by_answer (Err FaultTooLong) refl ends
+  ended_of (TooManyZones zones) ends = by_answer (Err (FaultTooMany zones)) refl ends
   ended_of ReadFault (inl ends) = by_unread refl ends
-  ended_of ReadFault (inr ends) = by_answer (Err AnswerRead) refl ends
-  ended_of WriteFault ends = by_answer (Err AnswerWrite) refl ends
+  ended_of ReadFault (inr ends) = by_answer (Err FaultRead) refl ends
+  ended_of WriteFault ends = by_answer (Err FaultWrite) refl ends
   ended_of Memory ends = by_memory refl ends

@@ -3,9 +3,9 @@ use Rattle.std.proofs.Common.{◌≡◌, ◌∙◌, ℕ, Bool, true, List, [], A
 use Rattle.std.specs.Prelude.{◌⊎◌, MatchBool, option_map}
 use Rattle.std.proofs.lemmas.Bool.Decides.{when_true}
 use Rattle.tre_answer.specs.Ends.{ReadsInput, as_it_comes, IsAnswerIn, StandsSoFar, PartIsWritten, EndsOver, StandsAtMemory}
-use Rattle.tre_answer.specs.Readings.{watched_of}
+use Rattle.tre_answer.specs.Recorded.{watched_of}
 use Rattle.tre_answer.specs.Request.{Request}
-use Rattle.tre_answer.specs.declared.fault.AnswerFault.TheVariants.{Trace as AnswerTrace, TooLong as AnswerTooLong, TooManyZones as AnswerTooMany, Read as AnswerRead, Write as AnswerWrite, Memory as AnswerMemory}
+use Rattle.tre_feed.specs.declared.fault.Fault.TheVariants.{Trace as FaultTrace, TooLong as FaultTooLong, TooManyZones as FaultTooMany, Read as FaultRead, Write as FaultWrite, Memory as FaultMemory}
 use Rattle.tre_feed.specs.Input.{InputTold}
 use Rattle.tre_generate.specs.FixedPattern.{fixed_tree, fixed_vocabulary}
 use Rattle.tre_generate.specs.Summary.{IsSummary}
@@ -85,17 +85,17 @@ module _ (words : List (List ℕ)) (count : ℕ) (asks : AsksForMadeRun words co
       writes = done.writes;
       written = done.written;
     }
-    answered_made request input output (Err (AnswerTrace fault)) asked found =
+    answered_made request input output (Err (FaultTrace fault)) asked found =
         reads_nothing request asked found.1.reads_input
-    answered_made request input output (Err AnswerTooLong) asked found =
+    answered_made request input output (Err FaultTooLong) asked found =
         reads_nothing request asked found.reads_input
-    answered_made request input output (Err (AnswerTooMany zones)) asked many =
+    answered_made request input output (Err (FaultTooMany zones)) asked many =
         let modes : Generate count ≡ Offline =
         sym (mode_given request.job asked.gives) ∙ many.offline in
         cc
-    answered_made request input output (Err AnswerRead) asked found =
+    answered_made request input output (Err FaultRead) asked found =
         reads_nothing request asked found.reads_input
-    answered_made request input output (Err AnswerWrite) asked found =
+    answered_made request input output (Err FaultWrite) asked found =
         let here : PartIsWritten request input output =
         subst (λ (mode : Mode). MatchBool (as_it_comes mode)
         (BlockIsCut (watched_of request) input output ⊎ EndIsCut (watched_of request) input output)
@@ -107,7 +107,7 @@ module _ (words : List (List ℕ)) (count : ℕ) (asks : AsksForMadeRun words co
           cause = found.cause;
           written = here.written;
         }
-    answered_made request input output (Err AnswerMemory) asked found =
+    answered_made request input output (Err FaultMemory) asked found =
         stands_nothing request input output asked found.1
 
   module _ (checks input : InputTold) (output : OutputTold) where

@@ -4,8 +4,8 @@ use Rattle.std.specs.Io.KnownBytes.{Appends}
 use Rattle.tre_answer.specs.Ends.{ReadsInput, EndsOver, EndsDone}
 use Rattle.tre_answer.specs.Request.{Request, request_for, sought_in}
 use Rattle.tre_answer.specs.declared.asked.Asked.{Asked}
-use Rattle.tre_answer.specs.declared.fault.AnswerFault.{AnswerFault}
-use Rattle.tre_answer.specs.declared.fault.AnswerFault.TheVariants.{Trace as AnswerTrace, TooLong as AnswerTooLong, TooManyZones as AnswerTooMany, Read as AnswerRead, Write as AnswerWrite, Memory as AnswerMemory}
+use Rattle.tre_feed.specs.declared.fault.Fault.{Fault}
+use Rattle.tre_feed.specs.declared.fault.Fault.TheVariants.{Trace as FaultTrace, TooLong as FaultTooLong, TooManyZones as FaultTooMany, Read as FaultRead, Write as FaultWrite, Memory as FaultMemory}
 use Rattle.tre_feed.specs.Front.{IsUnreadable}
 use Rattle.tre_feed.specs.Input.{InputTold, AllReadsGood}
 use Rattle.tre_io.specs.Faults.{HasCause}
@@ -24,7 +24,7 @@ use Rattle.tre_words.proofs.Jobs.{job_unique}
 use Rattle.tre_tool.specs.Checks.{ChecksWereRead}
 use Rattle.tre_tool.specs.Request.{ArePatterns, AreDefinitions, IsRefusalOf, IsRefusalOfFile, IsRefusalIn, AsksFor, IsRefused, GiveNone}
 use Rattle.tre_tool.specs.Run.{ReadsChecks, ComesFirst, NothingDone, EndsAs, IsLineTold}
-use Rattle.tre_tool.specs.Status.{words_status, answer_status}
+use Rattle.tre_tool.specs.Status.{words_status, fault_status}
 use Rattle.tre_tool.specs.declared.status.Status.{Status}
 use Rattle.tre_tool.specs.declared.status.Status.TheVariants.{Done, Usage, Expression, Minus, Definitions, Watch, Trace, InputTooLong, TooManyZones, ReadFault, WriteFault, Memory}
 
@@ -122,23 +122,23 @@ module _ (Gives : Job → Type 0) (checks input : InputTold) (output : OutputTol
 
 -- it ended so, before its end
 pub EndsAs-answered : (Gives : Job → Type 0) (checks input : InputTold)
-    (output : OutputTold) (request : Request) (fault : AnswerFault)
+    (output : OutputTold) (request : Request) (fault : Fault)
     → AsksFor Gives (ChecksWereRead checks) request → AllReadsGood checks
     → EndsOver {T = Unit {0}} request input output (Err fault)
-    → EndsAs Gives checks input output (answer_status fault)
-EndsAs-answered Gives checks input output request (AnswerTrace fault) asks good over = (
+    → EndsAs Gives checks input output (fault_status fault)
+EndsAs-answered Gives checks input output request (FaultTrace fault) asks good over = (
   over.0,
   record { request = request; asks = asks; is_so = over.1 },
 )
-EndsAs-answered Gives checks input output request AnswerTooLong asks good over =
+EndsAs-answered Gives checks input output request FaultTooLong asks good over =
     record { request = request; asks = asks; is_so = over }
-EndsAs-answered Gives checks input output request (AnswerTooMany zones) asks good over =
+EndsAs-answered Gives checks input output request (FaultTooMany zones) asks good over =
     record { request = request; asks = asks; is_so = over }
-EndsAs-answered Gives checks input output request AnswerRead asks good over =
+EndsAs-answered Gives checks input output request FaultRead asks good over =
     inr (record { request = request; asks = asks; is_so = over })
-EndsAs-answered Gives checks input output request AnswerWrite asks good over =
+EndsAs-answered Gives checks input output request FaultWrite asks good over =
     record { request = request; asks = asks; is_so = over }
-EndsAs-answered Gives checks input output request AnswerMemory asks good over = record {
+EndsAs-answered Gives checks input output request FaultMemory asks good over = record {
   checks_read = good;
   reads = over.0;
   stands = inr (record { request = request; asks = asks; is_so = over.1 });
@@ -152,13 +152,13 @@ EndsAs-done Gives checks input output request asks done =
     record { request = request; asks = asks; is_so = done }
 
 -- its end comes behind a look at the input
-pub never_first : (fault : AnswerFault) → ComesFirst (answer_status fault) → ⊥
-never_first (AnswerTrace fault) first = first
-never_first AnswerTooLong first = first
-never_first (AnswerTooMany zones) first = first
-never_first AnswerRead first = first
-never_first AnswerWrite first = first
-never_first AnswerMemory first = first
+pub never_first : (fault : Fault) → ComesFirst (fault_status fault) → ⊥
+never_first (FaultTrace fault) first = first
+never_first FaultTooLong first = first
+never_first (FaultTooMany zones) first = first
+never_first FaultRead first = first
+never_first FaultWrite first = first
+never_first FaultMemory first = first
 
 -- a call that tells a line, or fails
 pub IsLineTold-of : {T : Type 0} (output : OutputTold) (line : List ℕ) (result : Result T Failed)

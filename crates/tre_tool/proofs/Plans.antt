@@ -9,8 +9,8 @@ use Rattle.std.specs.Char.{is_newline}
 use Rattle.std.specs.List.{slice_split}
 use Rattle.tre_feed.specs.Front.{IsFront, IsUnreadable, StopsFront}
 use Rattle.tre_feed.specs.Input.{InputTold, AllReadsGood}
-use Rattle.tre_feed.specs.declared.fault.FeedFault.{FeedFault}
-use Rattle.tre_feed.specs.declared.fault.FeedFault.TheVariants.{Trace as FeedTrace, TooLong as FeedTooLong, Read as FeedRead, Memory as FeedMemory}
+use Rattle.tre_feed.specs.declared.fault.Fault.{Fault}
+use Rattle.tre_feed.specs.declared.fault.Fault.TheVariants.{Trace as FaultTrace, TooLong as FaultTooLong, TooManyZones as FaultTooMany, Read as FaultRead, Write as FaultWrite, Memory as FaultMemory}
 use Rattle.tre_parse.specs.Outcome.{Outcome as Parsed, spelt, refused, IsOutcome as ParsesTo}
 use Rattle.tre_state.specs.Names.{place_of}
 use Rattle.tre_state.specs.declared.names.TheConstants.{NAMES_MAX}
@@ -23,7 +23,7 @@ use Rattle.tre_watch.specs.declared.fault.WatchFault.{WatchFault}
 use Rattle.tre_watch.specs.declared.fault.WatchFault.TheVariants.{TooLarge, BadLine, TooMany, Twice, Pattern as PatternFault, Empty, Memory as WatchMemory}
 use Rattle.tre_watch.specs.declared.reader.TheConstants.{FILE_MAX}
 use Rattle.tre_tool.specs.Checks.{ChecksWereRead, labelled}
-use Rattle.tre_tool.specs.Parts.{feed_status}
+use Rattle.tre_tool.specs.Status.{fault_status}
 use Rattle.tre_tool.specs.Request.{IsRefusalOfFile}
 use Rattle.tre_tool.specs.Status.{watch_status}
 use Rattle.tre_tool.specs.declared.status.Status.TheVariants.{Watch, ReadFault, Memory}
@@ -210,24 +210,30 @@ read_though (PatternFault line fault) is = cc
 read_though Empty is = cc
 
 module _ (file : List ℕ) (checks : InputTold) where
-  pub is_unreadable : (fault : FeedFault) → StopsFront file checks fault
-      → feed_status fault ≡ ReadFault → IsUnreadable file checks
-  is_unreadable FeedRead stops is = stops
-  is_unreadable FeedMemory stops is = absurd (cc)
-  is_unreadable (FeedTrace fault) stops is = absurd stops
-  is_unreadable FeedTooLong stops is = absurd stops
+  pub is_unreadable : (fault : Fault) → StopsFront file checks fault
+      → fault_status fault ≡ ReadFault → IsUnreadable file checks
+  is_unreadable FaultRead stops is = stops
+  is_unreadable FaultMemory stops is = absurd (cc)
+  is_unreadable (FaultTrace fault) stops is = absurd stops
+  is_unreadable FaultTooLong stops is = absurd stops
+  is_unreadable (FaultTooMany zones) stops is = absurd stops
+  is_unreadable FaultWrite stops is = absurd stops
 
-  pub good_unless_unread : (fault : FeedFault) → StopsFront file checks fault
-      → feed_status fault ≢ ReadFault → AllReadsGood checks
-  good_unless_unread FeedRead stops other = absurd (other refl)
-  good_unless_unread FeedMemory stops other = stops
-  good_unless_unread (FeedTrace fault) stops other = absurd stops
-  good_unless_unread FeedTooLong stops other = absurd stops
+  pub good_unless_unread : (fault : Fault) → StopsFront file checks fault
+      → fault_status fault ≢ ReadFault → AllReadsGood checks
+  good_unless_unread FaultRead stops other = absurd (other refl)
+  good_unless_unread FaultMemory stops other = stops
+  good_unless_unread (FaultTrace fault) stops other = absurd stops
+  good_unless_unread FaultTooLong stops other = absurd stops
+  good_unless_unread (FaultTooMany zones) stops other = absurd stops
+  good_unless_unread FaultWrite stops other = absurd stops
 
-  pub IsRefusalOfFile-unread : (scale : ℕ) (fault : FeedFault) → StopsFront file checks fault
-      → feed_status fault ≢ Memory → feed_status fault ≢ ReadFault
-      → IsRefusalOfFile (ChecksWereRead checks) scale (feed_status fault)
-  IsRefusalOfFile-unread scale FeedRead stops memory unread = absurd (unread refl)
-  IsRefusalOfFile-unread scale FeedMemory stops memory unread = absurd (memory refl)
-  IsRefusalOfFile-unread scale (FeedTrace fault) stops memory unread = absurd stops
-  IsRefusalOfFile-unread scale FeedTooLong stops memory unread = absurd stops
+  pub IsRefusalOfFile-unread : (scale : ℕ) (fault : Fault) → StopsFront file checks fault
+      → fault_status fault ≢ Memory → fault_status fault ≢ ReadFault
+      → IsRefusalOfFile (ChecksWereRead checks) scale (fault_status fault)
+  IsRefusalOfFile-unread scale FaultRead stops memory unread = absurd (unread refl)
+  IsRefusalOfFile-unread scale FaultMemory stops memory unread = absurd (memory refl)
+  IsRefusalOfFile-unread scale (FaultTrace fault) stops memory unread = absurd stops
+  IsRefusalOfFile-unread scale FaultTooLong stops memory unread = absurd stops
+  IsRefusalOfFile-unread scale (FaultTooMany zones) stops memory unread = absurd stops
+  IsRefusalOfFile-unread scale FaultWrite stops memory unread = absurd stops

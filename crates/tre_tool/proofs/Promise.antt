@@ -1,12 +1,11 @@
 -- What the end of a run says of each part of its promise.
 use Rattle.std.proofs.Common.{◌≡◌, ◌≤◌, ℕ, Bool, true, List, [], ◌∷◌, Option, None, Some, IfSome, Ok, Err, length, refl, sym, subst, inl, inr, ap, arith}
 use Rattle.tre_answer.specs.Ends.{ReadsInput, IsAnswerIn, EndsOver}
-use Rattle.tre_answer.specs.Readings.{readings_of, watched_of, outcome_for}
+use Rattle.tre_answer.specs.Recorded.{recording_for, watched_of, outcome_for}
 use Rattle.tre_answer.specs.Request.{Request}
-use Rattle.tre_answer.specs.declared.fault.AnswerFault.TheVariants.{Trace as AnswerTrace, TooLong as AnswerTooLong, TooManyZones as AnswerTooMany, Read as AnswerRead, Write as AnswerWrite, Memory as AnswerMemory}
+use Rattle.tre_feed.specs.declared.fault.Fault.TheVariants.{Trace as FaultTrace, TooLong as FaultTooLong, TooManyZones as FaultTooMany, Read as FaultRead, Write as FaultWrite, Memory as FaultMemory}
 use Rattle.tre_feed.specs.Input.{InputTold}
-use Rattle.tre_feed.specs.Outcome.{Outcome, completes, refuses, exceeds, IsReadingOf, outcome_of, reading_within}
-use Rattle.tre_feed.specs.Readings.{common, common_of}
+use Rattle.tre_feed.specs.Comes.{Outcome, completes, refuses, exceeds, outcome_of, recording_within}
 use Rattle.tre_feed.proofs.Cuts.{take-over}
 use Rattle.tre_feed.proofs.Outcomes.{within}
 use Rattle.tre_io.specs.Faults.{counted, Rises}
@@ -61,7 +60,7 @@ free None Q f = tt
 free (Some x) Q f = f x
 
 memory_is_free : (outcome : Outcome) → IsStatusFor outcome Memory
-memory_is_free (completes trace) = inr refl
+memory_is_free completes = inr refl
 memory_is_free (refuses fault) = inr refl
 memory_is_free exceeds = inr refl
 
@@ -69,43 +68,26 @@ memory_is_free exceeds = inr refl
 one_more : (before now : ℕ) → now ≡ counted before → Rises before now
 one_more before now e = rw e (omega arith)
 
--- a whole input that reads as a trace completes
-outcome_of-completes : (reading : Bool → List ℕ → Reading) (limit : ℕ) (bytes : List ℕ)
-    (trace : Timeline) → length bytes ≤ limit → IsReadingOf trace (reading true bytes)
-    → outcome_of reading limit bytes ≡ completes trace
-unfolding outcome_of
-outcome_of-completes reading limit bytes trace inside reads = rw (
-  within (length bytes) limit inside,
-  take-over limit bytes inside,
-  reading_within,
-  reads,
-) refl
-
 -- traces that were read complete, whether their answer was written or has too many zones
 traces_complete : (request : Request) (bytes : List ℕ) (traces : List Timeline)
-    → AreTraces (watched_of request) bytes traces
-    → (trace : Timeline) × (outcome_for request bytes ≡ completes trace)
-traces_complete request bytes [] are = (
-  quiet [],
-  outcome_of-completes (common_of (readings_of request)) request.job.max_bytes bytes (quiet [])
-      are.within (ap common are.read),
-)
-traces_complete request bytes (trace ∷ traces) are = (
-  trace,
-  outcome_of-completes (common_of (readings_of request)) request.job.max_bytes bytes trace
-      are.within (ap common are.read),
-)
+    → AreTraces (watched_of request) bytes traces → outcome_for request bytes ≡ completes
+unfolding outcome_of
+traces_complete request bytes traces are = rw (
+  within (length bytes) request.job.max_bytes are.within,
+  take-over request.job.max_bytes bytes are.within,
+  are.whole,
+) refl
 
 done_completes : (request : Request) (bytes : List ℕ) (traces : List Timeline)
     → AreTraces (watched_of request) bytes traces → IsStatusFor (outcome_for request bytes) Done
 done_completes request bytes traces are =
-    rw (traces_complete request bytes traces are).1 (inl tt)
+    rw (traces_complete request bytes traces are) (inl tt)
 
 many_completes : (request : Request) (bytes : List ℕ) (zones : ℕ) (traces : List Timeline)
     → AreTraces (watched_of request) bytes traces
     → IsStatusFor (outcome_for request bytes) (TooManyZones zones)
 many_completes request bytes zones traces are =
-    rw (traces_complete request bytes traces are).1 (inl tt)
+    rw (traces_complete request bytes traces are) (inl tt)
 
 -- a run that is done, in each mode that reads its input
 done_in : (mode : Mode) (request : Request) (input : InputTold) (text : List ℕ)
@@ -132,18 +114,18 @@ module _ (request : Request) (input : InputTold) (output : OutputTold) where
       IsStatusFor (outcome_for request bytes) (answered_status answer))
   answered_read (Ok value) done reads read written =
       done_in request.job.mode request input done.text done.right reads
-  answered_read (Err (AnswerTrace fault)) found reads read written =
+  answered_read (Err (FaultTrace fault)) found reads read written =
       weaker input.file _ _ (λ bytes e. rw e (inl refl)) found.1.cause.whole
-  answered_read (Err AnswerTooLong) found reads read written =
+  answered_read (Err FaultTooLong) found reads read written =
       weaker input.file _ _ (λ bytes e. rw e (inl refl)) found.cause.whole
-  answered_read (Err (AnswerTooMany zones)) many reads read written =
+  answered_read (Err (FaultTooMany zones)) many reads read written =
       weaker input.file _ _ (λ told is. rw is (many_completes request many.cause.bytes zones
       many.cause.is_so.right.traces many.cause.is_so.right.are)) many.cause.all.whole
-  answered_read (Err AnswerRead) found reads read written =
+  answered_read (Err FaultRead) found reads read written =
       absurd (read (one_more _ _ found.unread.cause))
-  answered_read (Err AnswerWrite) found reads read written =
+  answered_read (Err FaultWrite) found reads read written =
       absurd (written (one_more _ _ found.cause))
-  answered_read (Err AnswerMemory) found reads read written =
+  answered_read (Err FaultMemory) found reads read written =
       free input.file _ (λ bytes. memory_is_free (outcome_for request bytes))
 
   -- what must come of one whose input isn't
@@ -151,15 +133,15 @@ module _ (request : Request) (input : InputTold) (output : OutputTold) where
       → ¬ ReadsInput request.job.mode → ¬ Rises output.faults_before output.faults_now
       → IsUnlessMemory Done (answered_status answer)
   answered_unread (Ok value) done unread written = inl refl
-  answered_unread (Err (AnswerTrace fault)) found unread written =
+  answered_unread (Err (FaultTrace fault)) found unread written =
       absurd (unread found.1.reads_input)
-  answered_unread (Err AnswerTooLong) found unread written = absurd (unread found.reads_input)
-  answered_unread (Err (AnswerTooMany zones)) many unread written =
+  answered_unread (Err FaultTooLong) found unread written = absurd (unread found.reads_input)
+  answered_unread (Err (FaultTooMany zones)) many unread written =
       absurd (unread (rw many.offline tt))
-  answered_unread (Err AnswerRead) found unread written = absurd (unread found.reads_input)
-  answered_unread (Err AnswerWrite) found unread written =
+  answered_unread (Err FaultRead) found unread written = absurd (unread found.reads_input)
+  answered_unread (Err FaultWrite) found unread written =
       absurd (written (one_more _ _ found.cause))
-  answered_unread (Err AnswerMemory) found unread written = inr refl
+  answered_unread (Err FaultMemory) found unread written = inr refl
 
 module _ (Gives : Job → Type 0) (once : GiveOne Gives) (checks input : InputTold)
     (output : OutputTold) where

@@ -1,26 +1,17 @@
 -- What the parts of a run promise each other.
 use Rattle.std.specs.Prelude.{ℕ, List, [], ◌∷◌, codes, Option, None, Some, Result, Ok, Err}
-use Rattle.tre_feed.specs.declared.fault.FeedFault.{FeedFault}
-use Rattle.tre_feed.specs.declared.fault.FeedFault.TheVariants.{Trace as FeedTrace, TooLong as FeedTooLong, Read as FeedRead, Memory as FeedMemory}
 use Rattle.tre_parse.specs.declared.fault.ParseFault.{ParseFault}
 use Rattle.tre_parse.specs.declared.fault.ParseFault.TheVariants.{TooLong, BadByte, Number, TooDeep, Syntax, EmptyInterval, TooManyNames, TooLarge, Memory as ParseMemory}
 use Rattle.tre_syntax.specs.Pattern.{pattern_tree, names_of}
 use Rattle.tre_syntax.specs.declared.pattern.Pattern.{Pattern}
 use Rattle.tre_tell.specs.Sought.{Sought}
 use Rattle.tre_tool.specs.declared.status.Status.{Status}
-use Rattle.tre_tool.specs.declared.status.Status.TheVariants.{Done, Trace, InputTooLong, ReadFault, Memory}
+use Rattle.tre_tool.specs.declared.status.Status.TheVariants.{Done}
 
 -- how a run ended that went on as `?` does
 abbrev pub status_of : {T : Type 0} → Result T Status → Status
 status_of (Ok value) = Done
 status_of (Err status) = status
-
--- how a run ends where a file couldn't be read
-abbrev pub feed_status : FeedFault → Status
-feed_status (FeedTrace fault) = Trace fault
-feed_status FeedTooLong = InputTooLong
-feed_status FeedRead = ReadFault
-feed_status FeedMemory = Memory
 
 -- what is looked for by a pattern that has no label
 abbrev pub plain_sought : Pattern → Sought

@@ -3,11 +3,12 @@
 use Rattle.std.specs.Prelude.{◌≡◌, ◌⊎◌, ℕ, List, IfSome, false}
 use Rattle.std.specs.Io.KnownBytes.{Appends}
 use Rattle.tre_answer.specs.Ends.{ReadsInput, StandsAtMemory, EndsDone, EndsAtInput, EndsTooMany, EndsReadFault, EndsWriteFault}
-use Rattle.tre_answer.specs.Readings.{outcome_for}
+use Rattle.tre_answer.specs.Recorded.{outcome_for}
 use Rattle.tre_answer.specs.Request.{Request}
 use Rattle.tre_feed.specs.Front.{IsUnreadable}
 use Rattle.tre_feed.specs.Input.{InputTold, AllReadsGood}
-use Rattle.tre_feed.specs.Outcome.{Outcome, completes, refuses, exceeds, IsInputKind}
+use Rattle.tre_feed.specs.Comes.{Outcome, completes, refuses, exceeds}
+use Rattle.tre_feed.specs.Outcome.{IsInputKind}
 use Rattle.tre_io.specs.Faults.{counted, Rises}
 use Rattle.tre_io.specs.Written.{AppendsPart}
 use Rattle.tre_tell.specs.Outputs.{OutputTold, AllWritesGood, NothingWritten}
@@ -110,7 +111,7 @@ IsAnswered status = ⊥
 
 -- the status that must come for what the input comes to; want of memory is free
 abbrev pub IsStatusFor : Outcome → Status → Type 0
-IsStatusFor (completes trace) status = IsAnswered status ⊎ (status ≡ Memory)
+IsStatusFor completes status = IsAnswered status ⊎ (status ≡ Memory)
 IsStatusFor (refuses fault) status = IsUnlessMemory (Trace fault) status
 IsStatusFor exceeds status = IsUnlessMemory InputTooLong status
 

@@ -6,8 +6,8 @@ use Rattle.tre_parse.specs.declared.fault.ParseFault.{ParseFault}
 use Rattle.tre_parse.specs.declared.fault.ParseFault.TheVariants.{TooLong, BadByte, Number, TooDeep, Syntax, EmptyInterval, TooManyNames, TooLarge, Memory as ParseMemory}
 use Rattle.tre_num.specs.declared.let_fault.LetFault.{LetFault}
 use Rattle.tre_num.specs.declared.let_fault.LetFault.TheVariants.{BadLet, Twice, Memory as LetMemory}
-use Rattle.tre_answer.specs.declared.fault.AnswerFault.{AnswerFault}
-use Rattle.tre_answer.specs.declared.fault.AnswerFault.TheVariants.{Trace as AnswerTrace, TooLong as AnswerTooLong, TooManyZones as AnswerTooMany, Read as AnswerRead, Write as AnswerWrite, Memory as AnswerMemory}
+use Rattle.tre_feed.specs.declared.fault.Fault.{Fault}
+use Rattle.tre_feed.specs.declared.fault.Fault.TheVariants.{Trace as FaultTrace, TooLong as FaultTooLong, TooManyZones as FaultTooMany, Read as FaultRead, Write as FaultWrite, Memory as FaultMemory}
 use Rattle.tre_watch.specs.declared.fault.WatchFault.{WatchFault}
 use Rattle.tre_watch.specs.declared.fault.WatchFault.TheVariants.{TooLarge as FileTooLarge, BadLine, TooMany, Twice as NameTwice, Pattern, Empty, Memory as WatchMemory}
 use Rattle.tre_words.specs.declared.job.WordsFault.{WordsFault}
@@ -40,14 +40,14 @@ abbrev pub watch_status : WatchFault → Status
 watch_status WatchMemory = Memory
 watch_status fault = Watch fault
 
--- how it ends where its answer does with this fault
-abbrev pub answer_status : AnswerFault → Status
-answer_status (AnswerTrace fault) = Trace fault
-answer_status AnswerTooLong = InputTooLong
-answer_status (AnswerTooMany zones) = TooManyZones zones
-answer_status AnswerRead = ReadFault
-answer_status AnswerWrite = WriteFault
-answer_status AnswerMemory = Memory
+-- how it ends where its input couldn't be answered, or its file of checks couldn't be read
+abbrev pub fault_status : Fault → Status
+fault_status (FaultTrace fault) = Trace fault
+fault_status FaultTooLong = InputTooLong
+fault_status (FaultTooMany zones) = TooManyZones zones
+fault_status FaultRead = ReadFault
+fault_status FaultWrite = WriteFault
+fault_status FaultMemory = Memory
 
 -- the program's exit status
 abbrev pub code_of : Status → ℕ

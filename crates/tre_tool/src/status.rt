@@ -1,8 +1,7 @@
 ghost use Rattle.std.specs.Prelude.{◌≡◌};
 
 use std::alloc::AllocError;
-use tre_answer::AnswerFault;
-use tre_feed::FeedFault;
+use tre_feed::Fault;
 use tre_num::LetFault;
 use tre_parse::ParseFault;
 use tre_trace::TraceFault;
@@ -129,37 +128,21 @@ impl From<WatchFault> for Status {
     }
 }
 
-/// A file that couldn't be read whole.
-impl From<FeedFault> for Status {
+/// An input, or a file, that couldn't be answered.
+impl From<Fault> for Status {
     ghost use Rattle.std.specs.Prelude.{◌≡◌};
-    ghost use Rattle.tre_tool.specs.Parts.{feed_status};
+    ghost use Rattle.tre_tool.specs.Status.{fault_status};
 
-    ghost from_gives = { λ fault status. status ≡ feed_status fault };
+    ghost from_gives = { λ fault status. status ≡ fault_status fault };
 
-    fn from(fault: FeedFault) -> Self {
+    fn from(fault: Fault) -> Self {
         match fault {
-            FeedFault::Trace(fault) => Status::Trace(fault),
-            FeedFault::TooLong => Status::InputTooLong,
-            FeedFault::Read => Status::ReadFault,
-            FeedFault::Memory => Status::Memory,
-        }
-    }
-}
-
-impl From<AnswerFault> for Status {
-    ghost use Rattle.std.specs.Prelude.{◌≡◌};
-    ghost use Rattle.tre_tool.specs.Status.{answer_status};
-
-    ghost from_gives = { λ fault status. status ≡ answer_status fault };
-
-    fn from(fault: AnswerFault) -> Self {
-        match fault {
-            AnswerFault::Trace(fault) => Status::Trace(fault),
-            AnswerFault::TooLong => Status::InputTooLong,
-            AnswerFault::TooManyZones { zones } => Status::TooManyZones { zones },
-            AnswerFault::Read => Status::ReadFault,
-            AnswerFault::Write => Status::WriteFault,
-            AnswerFault::Memory => Status::Memory,
+            Fault::Trace(fault) => Status::Trace(fault),
+            Fault::TooLong => Status::InputTooLong,
+            Fault::TooManyZones { zones } => Status::TooManyZones { zones },
+            Fault::Read => Status::ReadFault,
+            Fault::Write => Status::WriteFault,
+            Fault::Memory => Status::Memory,
         }
     }
 }

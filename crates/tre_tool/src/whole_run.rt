@@ -47,12 +47,10 @@ fn run_words<P: Source, S: Source, O: Sink>(
         (ReadsInput job.mode → ⊥) → input.new ≡ input.old }
     ensures checks_untouched { ReadNoChecks (GivesJob (map string_bytes words.now)) →
         checks.new ≡ checks.old }
-    ensures by_name { (job : Job) → GivesJob (map string_bytes words.now) job →
+    ensures reads { (job : Job) → GivesJob (map string_bytes words.now) job →
         IsTrue (S.opened input.new) →
-        IfSome (S.file_name input.old) (λ told. told ≡ job.input) }
-    ensures reads_at_most { (job : Job) → GivesJob (map string_bytes words.now) job →
-        IsTrue (S.opened input.new) →
-        TakesAtMost (job.max_bytes + 1) (S.file input.old) (S.left input.new) }
+        IfSome (S.file_name input.old) (λ told. told ≡ job.input)
+        × TakesAtMost (job.max_bytes + 1) (S.file input.old) (S.left input.new) }
     ensures checks_by_name { (job : Job) (file : List ℕ) →
         GivesJob (map string_bytes words.now) job → job.mode ≡ Watch file →
         IsTrue (P.opened checks.new) →

@@ -1,6 +1,7 @@
 -- What is kept of the identifiers of names, one declaration later.
 use Rattle.std.proofs.Common.{◌≡◌, ◌≢◌, ◌⊎◌, ℕ, zero, suc, ◌<◌, ◌≤◌, Bool, true, false, ◌&&◌, List, [], ◌∷◌, ◌++◌, length, get_or, set, Option, None, Some, refl, sym, ap, ◌∙◌, inl, inr, arith, if◌then◌else◌}
 use Rattle.std.specs.List.{list_all}
+use Rattle.std.specs.Prelude.{All}
 use Rattle.std.specs.Option.{is_some, option_map, option_or}
 use Rattle.std.specs.Str.{bytes_eq}
 use Rattle.std.proofs.lemmas.Bool.{cases_lt}
@@ -8,22 +9,33 @@ use Rattle.tre_vcd.specs.Kept.{AreKnown, IsSieveOf, KeepsNames, and_declared, id
 use Rattle.tre_vcd.specs.declared.variable.Variable.{Variable}
 use Rattle.tre_vcd.specs.declared.variables.Variables.{Variables}
 
-pub known-same : (old new : List ℕ → Option (List ℕ)) (names : List (List ℕ))
-    (variables : List Variable) → ((name : List ℕ) → new name ≡ old name)
+pub known-among : (old new : List ℕ → Option (List ℕ)) (names : List (List ℕ))
+    (variables : List Variable) → All (λ name. new name ≡ old name) names
     → AreKnown old names variables → AreKnown new names variables
-known-same old new [] variables same known = known
-known-same old new (name ∷ names) [] same known =
-    (same name ∙ known.0, known-same old new names [] same known.1)
-known-same old new (name ∷ names) (variable ∷ variables) same known =
-    (known.0 ∙ sym (same name), known-same old new names variables same known.1)
+known-among old new [] variables same known = known
+known-among old new (name ∷ names) [] same known = (
+  same 0 [] (omega arith) ∙ known.0,
+  known-among old new names [] (λ k d below. same (suc k) d (omega (arith, below))) known.1,
+)
+known-among old new (name ∷ names) (variable ∷ variables) same known = (
+  known.0 ∙ sym (same 0 [] (omega arith)),
+  known-among old new names variables (λ k d below. same (suc k) d (omega (arith, below)))
+      known.1,
+)
+
+pub keeps-among : (old new : List ℕ → Option (List ℕ)) (names : List (List ℕ))
+    (kept : Variables) → All (λ name. new name ≡ old name) names → KeepsNames old names kept
+    → KeepsNames new names kept
+keeps-among old new names kept same keeps = record {
+  known = known-among old new names kept.list.items same keeps.known;
+  sieve = keeps.sieve;
+}
 
 pub keeps-same : (old new : List ℕ → Option (List ℕ)) (names : List (List ℕ)) (kept : Variables)
     → ((name : List ℕ) → new name ≡ old name) → KeepsNames old names kept
     → KeepsNames new names kept
-keeps-same old new names kept same keeps = record {
-  known = known-same old new names kept.list.items same keeps.known;
-  sieve = keeps.sieve;
-}
+keeps-same old new names kept same keeps =
+    keeps-among old new names kept (λ k d below. same (get_or names k d)) keeps
 
 known-none : (names : List (List ℕ)) → AreKnown (λ name. None) names []
 known-none [] = refl
@@ -77,7 +89,7 @@ known-declared identified (name ∷ names) (variable ∷ variables) same known =
     some-kept variable ∙ ap is_some known.0 in
     rw (head, known-declared identified names variables (omega (arith, same)) known.1) refl
 
-not-both : (a : Bool) → (a && false) ≡ false
+pub not-both : (a : Bool) → (a && false) ≡ false
 not-both true = refl
 not-both false = refl
 

@@ -1,9 +1,13 @@
 mod Bits
 mod Deciding
 mod Dumps
+mod Flagging
+mod Gathering
 mod Groups
 mod Knowing
 mod Letters
+pub mod Listing
+mod Longest
 mod Naming
 mod Needing
 mod NoRule

@@ -1,62 +1,106 @@
 -- What is known of the names that must be declared.
-use Rattle.std.proofs.Common.{◌≡◌, ℕ, Bool, List, [], ◌∷◌, ◌++◌, length, take, drop, sym, ap, ◌∙◌, subst}
+use Rattle.std.proofs.Common.{◌≡◌, ◌≤◌, ℕ, Bool, List, [], ◌∷◌, ◌++◌, length, map, take, drop, sym, ap, ◌∙◌, subst, arith}
+use Rattle.std.specs.Prelude.{All}
 use Rattle.std.proofs.Math.Seq.{take-append_seam}
+use Rattle.std.proofs.lemmas.List.{map-append}
+use Rattle.tre_trace.specs.Reading.{Vocabulary}
 use Rattle.tre_vcd.specs.VcdReading.{Statement, var, scopes_at, is_signal, is_event, identifier_of}
-use Rattle.tre_vcd.specs.Kept.{KnowsNeeded, KnowsAll, DeclaresNone}
-use Rattle.tre_vcd.specs.declared.needed.Needed.{Needed}
-use Rattle.tre_vcd.proofs.Knowing.{keeps-same}
-use Rattle.tre_vcd.proofs.Pasts.{keeps-undeclared}
+use Rattle.tre_vcd.specs.Kept.{KnowsNeeded, KnowsAll, IsWithin, AreWithin, DeclaresNoneWithin, vocabulary_of}
+use Rattle.tre_vcd.specs.declared.found.Found.{Found}
+use Rattle.tre_vcd.proofs.Flagging.{flags-same, flags-within}
 
 -- where a look back finds the same declarations
-pub needed-same : (past now : List Statement) (all : List Needed)
+pub needed-same : (past now : List Statement) (all : List Found)
     → ((test : List ℕ → List ℕ → Bool) (name : List ℕ)
     → identifier_of test now name ≡ identifier_of test past name)
     → KnowsAll past all → KnowsAll now all
 needed-same past now [] same knows = tt
-needed-same past now (needed ∷ others) same knows = (
+needed-same past now (found ∷ others) same knows = (
   record {
-    propositions =
-        keeps-same (identifier_of is_signal past) (identifier_of is_signal now) needed.names
-        needed.propositions (same is_signal) knows.0.propositions;
-    events =
-        keeps-same (identifier_of is_event past) (identifier_of is_event now) needed.events
-        needed.happenings (same is_event) knows.0.events;
+    names = flags-same is_signal past now (vocabulary_of found).names found.names.items
+        (same is_signal) knows.0.names;
+    events = flags-same is_event past now (vocabulary_of found).events found.events.items
+        (same is_event) knows.0.events;
   },
   needed-same past now others same knows.1,
 )
 
--- behind a declaration of neither a proposition nor an event
-pub needed-undeclared : (past : List Statement) (tokens : List (List ℕ)) (all : List Needed)
-    → DeclaresNone is_signal (scopes_at past) tokens
-    → DeclaresNone is_event (scopes_at past) tokens → KnowsAll past all
+-- behind a declaration of neither a proposition nor an event, but of one that is longer
+pub needed-within : (past : List Statement) (longest : ℕ) (tokens : List (List ℕ))
+    (all : List Found)
+    → DeclaresNoneWithin longest is_signal (scopes_at past) tokens
+    → DeclaresNoneWithin longest is_event (scopes_at past) tokens
+    → AreWithin longest (map vocabulary_of all) → KnowsAll past all
     → KnowsAll (var tokens ∷ past) all
-needed-undeclared past tokens [] signals said knows = tt
-needed-undeclared past tokens (needed ∷ others) signals said knows = (
+needed-within past longest tokens [] signals said within knows = tt
+needed-within past longest tokens (found ∷ others) signals said within knows = (
   record {
-    propositions =
-        keeps-undeclared is_signal past tokens needed.names needed.propositions signals
-        knows.0.propositions;
-    events =
-        keeps-undeclared is_event past tokens needed.events needed.happenings said
-        knows.0.events;
+    names = flags-within is_signal past longest tokens (vocabulary_of found).names
+        found.names.items signals within.0.names knows.0.names;
+    events = flags-within is_event past longest tokens (vocabulary_of found).events
+        found.events.items said within.0.events knows.0.events;
   },
-  needed-undeclared past tokens others signals said knows.1,
+  needed-within past longest tokens others signals said within.1 knows.1,
 )
 
-pub needed-more : (past : List Statement) (all : List Needed) (needed : Needed)
-    → KnowsAll past all → KnowsNeeded past needed → KnowsAll past (all ++ needed ∷ [])
-needed-more past [] needed knows more = (more, tt)
-needed-more past (first ∷ others) needed knows more =
-    (knows.0, needed-more past others needed knows.1 more)
+pub needed-more : (past : List Statement) (all : List Found) (found : Found)
+    → KnowsAll past all → KnowsNeeded past found → KnowsAll past (all ++ found ∷ [])
+needed-more past [] found knows more = (more, tt)
+needed-more past (first ∷ others) found knows more =
+    (knows.0, needed-more past others found knows.1 more)
 
-pub needed-none : (past : List Statement) (all : List Needed) → all ≡ [] → KnowsAll past all
+pub needed-none : (past : List Statement) (all : List Found) → all ≡ [] → KnowsAll past all
 needed-none past [] none = tt
 needed-none past (first ∷ others) none = cc (none)
 
 -- where all are written back into the vector that they came from
-pub written-back : (past : List Statement) (now all : List Needed) (len : ℕ) → length now ≡ len
+pub written-back : (past : List Statement) (now all : List Found) (len : ℕ) → length now ≡ len
     → KnowsAll past now → KnowsAll past (take len (now ++ drop (length now) all))
 written-back past now all len same knows =
     subst (KnowsAll past)
     (sym (ap (λ n. take n (now ++ drop (length now) all)) (sym same)
     ∙ take-append_seam now (drop (length now) all))) knows
+
+-- ---- names that are longer
+
+longer : (a b : ℕ) (names : List (List ℕ)) → a ≤ b → All (λ name. length name ≤ a) names
+    → All (λ name. length name ≤ b) names
+longer a b names more all = λ k d below. omega (arith, all k d below, more)
+
+pub within-more : (a b : ℕ) (asked : Vocabulary) → a ≤ b → IsWithin a asked → IsWithin b asked
+within-more a b asked more is = record {
+  names = longer a b asked.names more is.names;
+  events = longer a b asked.events more is.events;
+}
+
+-- with one list of names more, and where longer names are let in
+pub all-within : (a b : ℕ) (all : List Vocabulary) (asked : Vocabulary) → a ≤ b
+    → AreWithin a all → IsWithin b asked → AreWithin b (all ++ asked ∷ [])
+all-within a b [] asked more are is = (is, tt)
+all-within a b (first ∷ others) asked more are is =
+    (within-more a b first more are.0, all-within a b others asked more are.1 is)
+
+pub within-same : (longest now : ℕ) (asked own : Vocabulary) (all others : List Vocabulary)
+    → now ≡ longest → own ≡ asked → others ≡ all → AreWithin longest (asked ∷ all)
+    → AreWithin now (own ∷ others)
+within-same longest now asked own all others same names needed is =
+    subst (λ n. AreWithin n (own ∷ others)) (sym same)
+    (subst (λ (one : Vocabulary). AreWithin longest (one ∷ others)) (sym names)
+    (subst (λ (rest : List Vocabulary). AreWithin longest (asked ∷ rest)) (sym needed) is))
+
+pub within-push : (a b : ℕ) (all new : List Found) (found : Found) → a ≤ b
+    → new ≡ all ++ found ∷ [] → AreWithin a (map vocabulary_of all)
+    → IsWithin b (vocabulary_of found) → AreWithin b (map vocabulary_of new)
+within-push a b all new found more is are also =
+    subst (AreWithin b)
+    (sym (ap (map vocabulary_of) is ∙ map-append vocabulary_of all (found ∷ [])))
+    (all-within a b (map vocabulary_of all) (vocabulary_of found) more are also)
+
+-- the longer of two is the longest of all
+pub within-both : (names events : List (List ℕ)) (a b n : ℕ) → a ≤ n → b ≤ n
+    → All (λ name. length name ≤ a) names → All (λ name. length name ≤ b) events
+    → IsWithin n (record { names = names; events = events })
+within-both names events a b n one two first second = record {
+  names = longer a n names one first;
+  events = longer b n events two second;
+}

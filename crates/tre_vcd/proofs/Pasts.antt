@@ -1,16 +1,18 @@
 -- What is known of the past, one statement later.
-use Rattle.std.proofs.Common.{◌≡◌, ◌≢◌, ℕ, ◌==◌, ◌||◌, ◌&&◌, not, Bool, true, false, None, List, ◌∷◌, [], length, refl, sym, ap, ◌∙◌, arith, if◌then◌else◌}
+use Rattle.std.proofs.Common.{◌≡◌, ◌≢◌, ℕ, ◌==◌, ◌≤◌, ◌||◌, ◌&&◌, not, Bool, true, false, None, List, ◌∷◌, [], length, get_or, refl, sym, ap, ◌∙◌, arith, if◌then◌else◌}
 use Rattle.std.specs.Int.{bit_at}
 use Rattle.std.specs.Str.{bytes_eq}
 use Rattle.std.proofs.lemmas.Slice.Eq.{bytes_eq-Decides}
 use Rattle.std.proofs.lemmas.Bool.Decides.{nat_tests}
 use Rattle.std.specs.Option.{option_or}
+use Rattle.std.specs.Prelude.{All}
+use Rattle.tre_trace.specs.Reading.{Vocabulary}
 use Rattle.tre_vcd.specs.VcdReading.{Form, Statement, var, time, change, scalar, is_defined, time_at, scopes_at, in_dump, value_at, happened_at, is_signal, is_event, identifier_of, path}
-use Rattle.tre_vcd.specs.Kept.{Knows, IsQuiet, AreScopes, AreKnown, KeepsNames, AreHaving, Declares, DeclaresNone, and_declared, valuation_at, events_at}
+use Rattle.tre_vcd.specs.Kept.{Knows, IsQuiet, AreScopes, AreKnown, KeepsNames, AreHaving, IsWithin, Declares, DeclaresNone, DeclaresNoneWithin, and_declared, valuation_at, events_at}
 use Rattle.tre_vcd.specs.declared.scopes.Scopes.{Scopes}
 use Rattle.tre_vcd.specs.declared.past.Past.{Past}
 use Rattle.tre_vcd.specs.declared.variables.Variables.{Variables}
-use Rattle.tre_vcd.proofs.Knowing.{keeps-same, option_or-none, false_of}
+use Rattle.tre_vcd.proofs.Knowing.{keeps-among, keeps-same, option_or-none, false_of}
 use Rattle.tre_vcd.proofs.Valuing.{mask-same, mask-quiet, mask-empty, mask-changed}
 
 -- Looking back from two pasts, the same is found.
@@ -394,14 +396,29 @@ knows-declared names event_names kept past tokens propositions events before sig
       quiet = λ e. record { values = quiet.values; events = quiet.events };
     }
 
--- a declaration of neither a proposition nor an event
-pub knows-undeclared : (names event_names : List (List ℕ)) (kept : Past) (past : List Statement)
+keeps-within : (longest : ℕ) (test : List ℕ → List ℕ → Bool) (past : List Statement)
+    (tokens names : List (List ℕ)) (kept : Variables)
+    → DeclaresNoneWithin longest test (scopes_at past) tokens
+    → All (λ name. length name ≤ longest) names
+    → KeepsNames (identifier_of test past) names kept
+    → KeepsNames (identifier_of test (var tokens ∷ past)) names kept
+keeps-within longest test past tokens names kept none within keeps =
+    keeps-among (identifier_of test past) (identifier_of test (var tokens ∷ past)) names kept
+    (λ k d below.
+    ap (option_or (identifier_of test past (get_or names k d)))
+    (none.is (get_or names k d) (within k d below))
+    ∙ option_or-none (identifier_of test past (get_or names k d))) keeps
+
+-- a declaration of neither a proposition nor an event, but of one that is longer than each name
+pub knows-within : (longest : ℕ) (asked : Vocabulary) (kept : Past) (past : List Statement)
     (tokens : List (List ℕ)) → is_defined past ≡ false
-    → DeclaresNone is_signal (scopes_at past) tokens
-    → DeclaresNone is_event (scopes_at past) tokens → Knows names event_names kept past
-    → Knows names event_names kept (var tokens ∷ past)
-knows-undeclared names event_names kept past tokens before signals said known =
-    knows-declared names event_names kept past tokens kept.propositions kept.events before
-    (keeps-undeclared is_signal past tokens names kept.propositions signals
+    → DeclaresNoneWithin longest is_signal (scopes_at past) tokens
+    → DeclaresNoneWithin longest is_event (scopes_at past) tokens → IsWithin longest asked
+    → Knows asked.names asked.events kept past
+    → Knows asked.names asked.events kept (var tokens ∷ past)
+knows-within longest asked kept past tokens before signals said within known =
+    knows-declared asked.names asked.events kept past tokens kept.propositions kept.events before
+    (keeps-within longest is_signal past tokens asked.names kept.propositions signals within.names
     known.propositions)
-    (keeps-undeclared is_event past tokens event_names kept.events said known.events) known
+    (keeps-within longest is_event past tokens asked.events kept.events said within.events
+    known.events) known

@@ -1,5 +1,5 @@
 -- The text of the open scopes.
-use Rattle.std.proofs.Common.{◌≡◌, ℕ, ◌+◌, ◌==◌, List, [], ◌∷◌, ◌++◌, append_assoc, length, length-append, refl, sym, ap, ◌∙◌, arith}
+use Rattle.std.proofs.Common.{◌≡◌, ℕ, ◌+◌, ◌<◌, ◌==◌, nat_lt, true, List, [], ◌∷◌, ◌++◌, append_assoc, length, length-append, refl, sym, ap, ◌∙◌, arith}
 use Rattle.std.proofs.lemmas.Bool.Decides.{nat_tests}
 use Rattle.tre_vcd.specs.VcdReading.{path}
 use Rattle.tre_vcd.specs.Kept.{AreScopes}
@@ -20,3 +20,6 @@ scopes-empty (name ∷ scopes) prefix lens are =
     let long : length lens ≡ length are.front_lens + 1 =
     ap length are.starts ∙ length-append are.front_lens (length are.front ∷ []) in
     grind (arith, nat_tests)
+
+pub is-less : (a b : ℕ) → nat_lt a b ≡ true → a < b
+is-less a b is = grind (arith, nat_tests)

@@ -9,7 +9,9 @@ use Rattle.tre_vcd.specs.declared.command.Command.{Command}
 use Rattle.tre_vcd.specs.declared.command.Command.TheVariants.{Scope, Upscope, Var, EndDefinitions, Other}
 use Rattle.tre_parts.specs.Format.{Step}
 use Rattle.tre_trace.specs.declared.fault.TraceKind.{TraceKind}
-use Rattle.tre_vcd.specs.Kept.{Declares, DeclaresNone}
+use Rattle.tre_vcd.specs.Kept.{Declares, DeclaresNone, DeclaresNoneWithin}
+use Rattle.std.proofs.lemmas.Slice.Eq.{bytes_eq-Decides}
+use Rattle.tre_vcd.proofs.Knowing.{false_of, not-both}
 
 -- ---- sections, by their first five tokens
 
@@ -68,6 +70,36 @@ pub declares-none : (test : List ℕ → List ℕ → Bool) (scopes tokens : Lis
     → DeclaresNone test scopes tokens
 declares-none test scopes tokens other =
     record { is = declares-no_name test scopes tokens other }
+
+-- nor do four tokens whose path is longer
+pub declares-longer : (longest : ℕ) (test : List ℕ → List ℕ → Bool)
+    (scopes tokens : List (List ℕ)) (reference : List ℕ) → length (take 5 tokens) ≡ 4
+    → reference ≡ get_or (take 5 tokens) 3 [] → longest < length (path scopes reference)
+    → DeclaresNoneWithin longest test scopes tokens
+declares-longer longest test scopes [] reference four is long = absurd (omega (arith, four))
+declares-longer longest test scopes (a ∷ []) reference four is long =
+    absurd (omega (arith, four))
+declares-longer longest test scopes (a ∷ b ∷ []) reference four is long =
+    absurd (omega (arith, four))
+declares-longer longest test scopes (a ∷ b ∷ c ∷ []) reference four is long =
+    absurd (omega (arith, four))
+declares-longer longest test scopes (a ∷ b ∷ c ∷ d ∷ []) reference four is long = record {
+  is = λ name within.
+      let other : bytes_eq name (path scopes d) ≡ false =
+      false_of (bytes_eq name (path scopes d)) (λ same.
+      let as_long = ap length ((bytes_eq-Decides name (path scopes d)).0 same) in
+      let its : length (path scopes reference) ≡ length (path scopes d) =
+      ap (λ own. length (path scopes own)) is in
+      omega (arith, within, long, as_long, its)) in
+      ap (λ (s : Bool). if test a b && s then Some c else None) other
+      ∙ ap (λ (s : Bool). if s then Some c else None) (not-both (test a b));
+}
+declares-longer longest test scopes (a ∷ b ∷ c ∷ d ∷ e ∷ tokens) reference four is long =
+    absurd (omega (arith, four))
+
+pub none-within : (longest : ℕ) (test : List ℕ → List ℕ → Bool) (scopes tokens : List (List ℕ))
+    → DeclaresNone test scopes tokens → DeclaresNoneWithin longest test scopes tokens
+none-within longest test scopes tokens none = record { is = λ name within. none.is name }
 
 signal-no : (one two three other : Bool) → (one && not (two || three || other)) ≡ true
     → other ≡ false

@@ -1,6 +1,6 @@
 -- What the reader keeps of the past: each field is what a look back over it finds.
-use Rattle.std.specs.Prelude.{◌≡◌, ℕ, zero, suc, ◌+◌, ◌^◌, Bool, false, List, [], ◌∷◌, ◌++◌, length, Option, None, Some, if◌then◌else◌}
-use Rattle.std.specs.Option.{option_map, option_map_or, option_or}
+use Rattle.std.specs.Prelude.{◌≡◌, ◌≤◌, ℕ, zero, suc, ◌+◌, ◌^◌, Bool, false, List, [], ◌∷◌, ◌++◌, length, map, All, Option, None, Some, if◌then◌else◌}
+use Rattle.std.specs.Option.{is_some, option_map, option_map_or, option_or}
 use Rattle.std.specs.Str.{bytes_eq}
 use Rattle.std.specs.Int.{bit_at}
 use Rattle.tre_state.specs.Sieve.{MayBe}
@@ -9,7 +9,8 @@ use Rattle.tre_vcd.specs.VcdReading.{Statement, is_defined, time_at, scopes_at, 
 use Rattle.tre_vcd.specs.declared.variable.Variable.{Variable}
 use Rattle.tre_vcd.specs.declared.variables.Variables.{Variables}
 use Rattle.tre_vcd.specs.declared.past.Past.{Past}
-use Rattle.tre_vcd.specs.declared.needed.Needed.{Needed}
+use Rattle.tre_vcd.specs.declared.found.Found.{Found}
+use Rattle.tre_vcd.specs.Needs.{needs}
 
 -- The names that have an identifier which passes the test, the first of which has bit i.
 abbrev pub mask_from : (List ℕ → Option (List ℕ)) → (List ℕ → Bool) → ℕ → List (List ℕ) → ℕ
@@ -110,18 +111,34 @@ pub record Knows (names event_names : List (List ℕ)) (kept : Past) (past : Lis
 
 -- ---- names that must be declared
 
-abbrev pub vocabulary_of : Needed → Vocabulary
-vocabulary_of needed = record { names = needed.names; events = needed.events }
+abbrev pub vocabulary_of : Found → Vocabulary
+vocabulary_of found = needs found.needed.value
+
+-- which of the names have been declared by variables that pass the test
+abbrev pub flags_of : (List ℕ → List ℕ → Bool) → List Statement → List (List ℕ) → List Bool
+flags_of test past names = map (λ name. is_some (identifier_of test past name)) names
 
 -- It is kept which of the names that are needed were declared.
-pub record KnowsNeeded (past : List Statement) (needed : Needed) : Type 0 where
-  pub propositions : KeepsNames (identifier_of is_signal past) needed.names needed.propositions
-  pub events : KeepsNames (identifier_of is_event past) needed.events needed.happenings
+pub record KnowsNeeded (past : List Statement) (found : Found) : Type 0 where
+  pub names : found.names.items ≡ flags_of is_signal past (vocabulary_of found).names
+  pub events : found.events.items ≡ flags_of is_event past (vocabulary_of found).events
 
 -- It is kept of each of them.
-abbrev pub KnowsAll : List Statement → List Needed → Type 0
+abbrev pub KnowsAll : List Statement → List Found → Type 0
 KnowsAll past [] = Unit {0}
-KnowsAll past (needed ∷ others) = KnowsNeeded past needed × KnowsAll past others
+KnowsAll past (found ∷ others) = KnowsNeeded past found × KnowsAll past others
+
+-- ---- how long names are
+
+-- None of the names is longer.
+pub record IsWithin (longest : ℕ) (asked : Vocabulary) : Type 0 where
+  pub names : All (λ name. length name ≤ longest) asked.names
+  pub events : All (λ name. length name ≤ longest) asked.events
+
+-- None of all these names is.
+abbrev pub AreWithin : ℕ → List Vocabulary → Type 0
+AreWithin longest [] = Unit {0}
+AreWithin longest (asked ∷ others) = IsWithin longest asked × AreWithin longest others
 
 -- ---- what a declaration declares
 
@@ -135,3 +152,8 @@ pub record Declares (test : List ℕ → List ℕ → Bool) (scopes tokens : Lis
 pub record DeclaresNone (test : List ℕ → List ℕ → Bool) (scopes tokens : List (List ℕ)) : Type 0
   where
     pub is : (name : List ℕ) → identifier_in test scopes name tokens ≡ None
+
+-- By variables that pass the test, the tokens declare no name that isn't longer.
+pub record DeclaresNoneWithin (longest : ℕ) (test : List ℕ → List ℕ → Bool)
+    (scopes tokens : List (List ℕ)) : Type 0 where
+  pub is : (name : List ℕ) → length name ≤ longest → identifier_in test scopes name tokens ≡ None

@@ -1,5 +1,6 @@
 -- What a reader must believe.
 pub mod VcdReading
+pub mod Needs
 pub mod Deciding
 pub mod Dumps
 -- What the functions inside promise each other.

@@ -6,7 +6,7 @@ use Rattle.tre_trace.specs.Reading.{Vocabulary}
 use Rattle.tre_trace.specs.declared.fault.TraceKind.{TraceKind}
 use Rattle.tre_trace.specs.declared.fault.TraceKind.TheVariants.{BadToken}
 use Rattle.tre_vcd.specs.VcdReading.{Terms, Statement, dump, dump_end, Open, nothing, section, comment, vector, number, Place, is_defined, in_dump, goes_to}
-use Rattle.tre_vcd.specs.Kept.{Knows, KnowsAll, vocabulary_of}
+use Rattle.tre_vcd.specs.Kept.{Knows, KnowsAll, AreWithin, vocabulary_of}
 use Rattle.tre_vcd.specs.declared.command.Command.{Command}
 use Rattle.tre_vcd.specs.declared.command.Command.TheVariants.{Scope, Upscope, Var, EndDefinitions, Other}
 use Rattle.tre_vcd.specs.declared.inside.Inside.{Inside}
@@ -70,6 +70,7 @@ terms_kept reader = record {
 pub record Holds (reader : TokenReader) (place : Place) : Type 0 where
   pub past : Knows reader.names reader.events reader.past place.past
   pub needed : KnowsAll place.past reader.needed.items
+  pub within : AreWithin reader.longest (asked_of reader ∷ (terms_kept reader).declared)
   pub inside : reader.inside ≡ inside_of place.inside
   pub tokens : map (λ token. token.items) reader.tokens.items
       ≡ take KEPT_MAX (tokens_of place.inside)

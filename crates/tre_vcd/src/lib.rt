@@ -16,6 +16,7 @@
 #![tactic(auto)]
 
 mod command;
+mod found;
 mod inside;
 pub mod laws;
 mod needed;
@@ -28,6 +29,7 @@ mod variable;
 mod variables;
 mod white;
 
+pub use needed::Needed;
 pub use token_reader::TokenReader;
 use tre_parts::Parts;
 

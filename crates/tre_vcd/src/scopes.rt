@@ -1,4 +1,4 @@
-ghost use Rattle.std.specs.Prelude.{◌≡◌, ◌==◌, ℕ, List, [], ◌∷◌, drop, length, IfOk, OnOk};
+ghost use Rattle.std.specs.Prelude.{◌≡◌, ◌==◌, ◌<◌, ℕ, List, [], ◌∷◌, drop, length, IfOk, OnOk, true};
 ghost use Rattle.tre_vcd.specs.VcdReading.{path};
 ghost use Rattle.tre_vcd.specs.Kept.{AreScopes};
 
@@ -54,6 +54,15 @@ impl Scopes {
         if let Some(len) = self.lens.pop() {
             self.prefix.truncate(len);
         }
+    }
+
+    // Whether the name of what has this reference in these scopes is longer than this.
+    pub fn is_path_longer(&self, reference: &[u8], most: usize) -> bool
+        ensures { (scopes : List (List ℕ)) →
+            AreScopes scopes self.now.prefix.items self.now.lens.items →
+            result ≡ true → most < length (path scopes reference.now) }
+    {
+        self.prefix.len().saturating_add(reference.len()) > most
     }
 
     // The name of what has this reference in these scopes.

@@ -1,17 +1,19 @@
 // The tokens of a dump, one after the other.
-ghost use Rattle.std.specs.Prelude.{◌≡◌, ◌≢◌, ◌≤◌, ℕ, List, [], ◌∷◌, ◌++◌, map, true, false, not, ◌&&◌, OnOk};
+ghost use Rattle.std.specs.Prelude.{◌≡◌, ◌≢◌, ◌≤◌, ℕ, List, [], ◌∷◌, ◌++◌, length, map, true, false, not, ◌&&◌, All, OnOk};
 ghost use Rattle.tre_decimal.specs.declared.TheConstants.{SCALE_MAX};
 ghost use Rattle.tre_parts.specs.Walk.{Tells};
 ghost use Rattle.tre_parts.specs.declared.said.Said.{Said};
 ghost use Rattle.tre_trace.specs.declared.fault.TraceKind.TheVariants.{Spent};
 ghost use Rattle.tre_vcd.specs.VcdReading.{Terms, requiring, first_place, wide, Statement, var, Place, nothing, section, comment, vector, number, is_defined, goes_to, vcd_format, command_says, section_says, ticks_say, keyword_says, scalar_says, vector_says, value_says, scope_says, declaration_says, change, token_at};
 ghost use Rattle.tre_vcd.specs.Sections.{Holds, asked_of, terms_kept, command_of, is_nothing, dump_says, dump_end_says};
-ghost use Rattle.tre_vcd.specs.Kept.{Knows, KnowsAll};
+ghost use Rattle.tre_vcd.specs.Needs.{needs};
+ghost use Rattle.tre_vcd.specs.Kept.{Knows, KnowsAll, AreWithin};
 ghost use Rattle.tre_vcd.specs.Times.{vcd-keeps_time};
 
 use crate::command::{Command, command_of};
+use crate::found::{Found, are_declared, declare, declare_event};
 use crate::inside::Inside;
-use crate::needed::{Needed, are_declared, declare, declare_event};
+use crate::needed::Needed;
 use crate::past::Past;
 use crate::scale::Scale;
 use crate::token::{
@@ -19,6 +21,7 @@ use crate::token::{
 };
 use crate::white::White;
 use std::alloc::{AllocError, Global};
+use std::rc::Rc;
 use tre_pairs::TIME_MAX;
 use tre_parts::{PartReader, Said, Spot, first_of};
 use tre_state::Names;
@@ -36,7 +39,9 @@ const KEPT_MAX: usize = 5;
 pub struct TokenReader {
     names: Names,
     events: Names,
-    needed: Vec<Needed>,
+    needed: Vec<Found>,
+    // No name that is asked or needed is longer.
+    longest: usize,
     scale: Scale,
     past: Past,
     inside: Inside,
@@ -53,10 +58,12 @@ impl TokenReader {
         ensures names { ⟦<TokenReader as PartReader>⟧.names result
             ≡ record { names = names; events = events } }
     {
+        let longest = longest_of(&names).max(longest_of(&events));
         TokenReader {
             names,
             events,
             needed: Vec::new(alloc),
+            longest,
             scale: Scale::new(scale),
             past: Past::new(alloc),
             inside: Inside::Nothing,
@@ -66,17 +73,18 @@ impl TokenReader {
 
     /// The dump must declare these names and events too, whether they are read or not. To be called
     /// before the first token.
-    pub fn must_declare(&mut self, names: &Names, events: &Names) -> Result<(), AllocError>
+    pub fn must_declare(&mut self, needed: &Rc<Needed>) -> Result<(), AllocError>
         ensures begins { ⟦<TokenReader as PartReader>⟧.holds self.old first_place →
             OnOk result (⟦<TokenReader as PartReader>⟧.holds self.new first_place) }
         ensures terms { OnOk result (⟦<TokenReader as PartReader>⟧.terms self.new
-            ≡ requiring (⟦<TokenReader as PartReader>⟧.terms self.old)
-            (record { names = names.now; events = events.now })) }
+            ≡ requiring (⟦<TokenReader as PartReader>⟧.terms self.old) (needs needed.now.value)) }
         ensures names { ⟦<TokenReader as PartReader>⟧.names self.new
             ≡ ⟦<TokenReader as PartReader>⟧.names self.old }
     {
-        let needed = Needed::new(self.past.alloc, names, events)?;
-        self.needed.push(needed)?;
+        let found = Found::new(self.past.alloc, needed)?;
+        let longest = self.longest.max(found.longest());
+        self.needed.push(found)?;
+        self.longest = longest;
         Ok(())
     }
 
@@ -316,6 +324,7 @@ impl TokenReader {
         ensures holds { (past : List Statement) →
             Knows self.old.names self.old.events self.old.past past →
             KnowsAll past self.old.needed.items →
+            AreWithin self.old.longest (asked_of self.old ∷ (terms_kept self.old).declared) →
             Holds self.new (record { past = past; inside = nothing }) }
         ensures same_terms { terms_kept self.new ≡ terms_kept self.old }
         ensures same_names { asked_of self.new ≡ asked_of self.old }
@@ -345,12 +354,14 @@ impl TokenReader {
         }
     }
 
-    // Four tokens declare a proposition, an event or neither, and any other number declares none.
+    // Four tokens declare a proposition, an event or neither, and any other number declares none. A
+    // path that is longer than each name is that of none, and isn't put together.
     fn declare(&mut self) -> Result<(), AllocError>
         ensures knows { (past : List Statement) (word : List ℕ) (tokens : List (List ℕ)) →
             Holds self.old (record { past = past; inside = section word tokens }) →
             OnOk result (Knows self.new.names self.new.events self.new.past (var tokens ∷ past)
             × KnowsAll (var tokens ∷ past) self.new.needed.items) }
+        ensures same_longest { self.new.longest ≡ self.old.longest }
         ensures same_terms { terms_kept self.new ≡ terms_kept self.old }
         ensures same_names { asked_of self.new ≡ asked_of self.old }
     {
@@ -361,16 +372,19 @@ impl TokenReader {
         let alloc = self.past.alloc;
         let identifier = tokens[2].as_slice();
         let reference = tokens[3].as_slice();
+        if self.past.scopes.is_path_longer(reference, self.longest) {
+            return Ok(());
+        }
         if is_signal(&tokens[0], &tokens[1]) {
             let path = self.past.scopes.path(alloc, reference)?;
             let name = path.as_slice();
             self.past.declare(&self.names, name, identifier)?;
-            declare(&mut self.needed, alloc, name, identifier)?;
+            declare(&mut self.needed, name);
         } else if is_event(&tokens[0]) {
             let path = self.past.scopes.path(alloc, reference)?;
             let name = path.as_slice();
             self.past.declare_event(&self.events, name, identifier)?;
-            declare_event(&mut self.needed, alloc, name, identifier)?;
+            declare_event(&mut self.needed, name);
         }
         Ok(())
     }
@@ -540,4 +554,18 @@ fn push_token(tokens: &mut Vec<Vec<u8>>, alloc: Global, token: &[u8]) -> Result<
 {
     tokens.push(Vec::from_slice(alloc, token)?)?;
     Ok(())
+}
+
+// The length of the longest of the names.
+fn longest_of(names: &Names) -> usize
+    ensures { All (λ name. length name ≤ result) names.now }
+{
+    let mut longest: usize = 0;
+    for number in 0..names.len() as u8 {
+        match names.name(number) {
+            Some(name) => longest = longest.max(name.len()),
+            None => unreachable!(),
+        }
+    }
+    longest
 }

@@ -10,7 +10,7 @@ pub returns-in_err-text-in-Show-clause-ends : goal.returns-in_err-text-in-Show-c
 returns-in_err-text-in-Show-clause-ends g c =
     let p = err_from_is_err_and c.from_residual.result c.from_residual.ensures.1 in
     rw (p.1, p.2) (EndsOver-early c.args.job.now c.args.definitions.items c.args.asked.now
-    c.requires.fits _ _ c.requires.closed refl (record { unwritten = refl; writes = refl }))
+    _ _ c.requires.closed refl (record { unwritten = refl; writes = refl }))
 
 pub returns-in_ok-text-in-Show-clause-ends : goal.returns-in_ok-text-in-Show-clause-ends
 returns-in_ok-text-in-Show-clause-ends g c =
@@ -30,14 +30,14 @@ returns-in_err-pattern-in-Generate-clause-ends g c =
     let p = err_from_is_err_and c.from_residual-in_err-pattern-in-Generate.result
     c.from_residual-in_err-pattern-in-Generate.ensures.1 in
     rw (p.1, p.2) (EndsOver-early c.args.job.now c.args.definitions.items c.args.asked.now
-    c.requires.fits _ _ c.requires.closed refl (record { unwritten = refl; writes = refl }))
+    _ _ c.requires.closed refl (record { unwritten = refl; writes = refl }))
 
 pub returns-in_err-text-in-Generate-clause-ends : goal.returns-in_err-text-in-Generate-clause-ends
 returns-in_err-text-in-Generate-clause-ends g c =
     let p = err_from_is_err_and c.from_residual-in_err-text-in-Generate.result
     c.from_residual-in_err-text-in-Generate.ensures.1 in
     rw (p.1, p.2) (EndsOver-early c.args.job.now c.args.definitions.items c.args.asked.now
-    c.requires.fits _ _ c.requires.closed refl (record { unwritten = refl; writes = refl }))
+    _ _ c.requires.closed refl (record { unwritten = refl; writes = refl }))
 
 pub returns-in_ok-text-in-Generate-clause-ends : goal.returns-in_ok-text-in-Generate-clause-ends
 returns-in_ok-text-in-Generate-clause-ends g c =

@@ -1,7 +1,7 @@
 use Rattle.std.proofs.Common.{map, string_bytes, refl, ap}
 use Rattle.std.proofs.lemmas.Result.{err_from_is_err_and}
 use Rattle.tre_answer.specs.Request.{request_for}
-use Rattle.tre_answer.proofs.OnlineRuns.{EndsOver-done, EndsOver-fault}
+use Rattle.tre_answer.proofs.OnlineRuns.{EndsOver-told_by}
 use Rattle.tre_answer.proofs.Stops.{EndsOver-written, offline_once}
 use Rattle.tre_answer.proofs.answering.answer_by.Goals as goal
 
@@ -23,20 +23,9 @@ returns-in_ok-text-in-Offline-clause-ends g c = λ lets same.
     c.write_text.ensures.all c.write_text.ensures.good c.write_text.ensures.part
     c.write_text.ensures.cause c.write_text.ensures.fault
 
-pub returns-in_err-tell_matches-in_default-clause-ends :
-    goal.returns-in_err-tell_matches-in_default-clause-ends
-returns-in_err-tell_matches-in_default-clause-ends g c =
-    let p = err_from_is_err_and c.from_residual-in_err-tell_matches-in_default.result
-    c.from_residual-in_err-tell_matches-in_default.ensures.1 in
-    λ lets same. rw (p.1, p.2) (EndsOver-fault c.args.job.now lets c.args.asked.now _ _ _
-    (ap (map string_bytes) c.deref-in_default.ensures.value) c.deref.ensures.value c.text.ensures _
-    same c.requires.reads c.in_default.not-Offline _ _
-    c.in_err-tell_matches-in_default.field-0.0 c.in_err-tell_matches-in_default.ensures.ends)
-
-pub returns-in_ok-tell_matches-in_default-clause-ends :
-    goal.returns-in_ok-tell_matches-in_default-clause-ends
-returns-in_ok-tell_matches-in_default-clause-ends g c = λ lets same.
-    EndsOver-done c.args.job.now lets c.args.asked.now _ _ _
-    (ap (map string_bytes) c.deref-in_default.ensures.value) c.deref.ensures.value c.text.ensures _
-    same c.requires.reads c.in_default.not-Offline _ _ _
-    c.in_ok-tell_matches-in_default.ensures.ends
+pub returns-in_default-clause-ends : goal.returns-in_default-clause-ends
+returns-in_default-clause-ends g c = λ lets same.
+    EndsOver-told_by c.args.job.now lets c.args.asked.now _ _ _
+    (ap (map string_bytes) c.deref-in_default.ensures.value) c.deref.ensures.value c.text.ensures _ _
+    same c.requires.input.limit c.requires.reads c.in_default.not-Offline _ _
+    c.tell_matches.result c.tell_matches.ensures.ends

@@ -1,5 +1,10 @@
-use Rattle.tre_answer.proofs.Canonical.{canonical_text, canonical_count, never_both}
+use Rattle.tre_answer.proofs.Canonical.{canonical_text, canonical_count, never_both, same_itself}
 use Rattle.tre_answer.proofs.laws.one_canonical_answer.Goals as goal
 
 pub returns : goal.returns
-returns c = record { text = canonical_text; count = canonical_count; apart = never_both }
+returns c = record {
+  text = canonical_text;
+  count = canonical_count;
+  apart = never_both;
+  itself = same_itself;
+}

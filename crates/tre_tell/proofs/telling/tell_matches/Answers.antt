@@ -1,519 +1,444 @@
-use Rattle.std.proofs.Common.{◌≡◌, ◌∙◌, ◌+◌, List, Bool, false, true, Err, None, [], length, map, string_bytes, take, refl, sym, subst, ap}
+use Rattle.std.proofs.Common.{◌≡◌, ◌∙◌, ◌++◌, ℕ, List, Bool, false, true, Err, None, [], map, string_bytes, take, refl, sym, subst, ap}
 use Rattle.std.proofs.lemmas.List.{length-map}
-use Rattle.std.proofs.lemmas.List.Elements.{recursion_from_All}
 use Rattle.std.proofs.lemmas.Result.{err_from_is_err_and}
 use Rattle.tre_feed.specs.Input.{input_told}
-use Rattle.tre_feed.specs.Readers.{WereFed, lasts_of, readings_asked, rows_of}
-use Rattle.tre_feed.specs.Readings.{AgreeAlways, common, rows_in}
-use Rattle.tre_feed.specs.declared.fault.FeedFault.TheVariants.{Memory as FeedMemory}
-use Rattle.tre_feed.proofs.Read.{all_grow, as_many, faultless_now, lasts_count}
-use Rattle.tre_feed.proofs.Wholes.{HasRead-bounded, IsFed-start}
-use Rattle.tre_online.specs.Watch.{trees_of}
+use Rattle.tre_feed.specs.Standing.{Wait, limit_of, recording_of}
 use Rattle.tre_online.specs.declared.watch.Watch.{Watch}
-use Rattle.tre_trace.specs.declared.segment.Segment.{Segment}
-use Rattle.tre_tell.specs.Outputs.{output_told}
+use Rattle.tre_trace.specs.Reading.{Recording}
+use Rattle.tre_tell.specs.Sought.{all_names, sought_by}
 use Rattle.tre_tell.specs.Watched.{watched_by}
-use Rattle.tre_tell.specs.declared.fault.TellFault.TheVariants.{Memory}
-use Rattle.tre_tell.proofs.Loop.{TakesAtMost-none, turn_stops, HasReadCause-from, HasWriteCause-from, IsTelling-more, labels_count, CanTell-turn, WereFedAtMost-taken, count_readers, HasTold-nothing, EndsTelling-unread}
-use Rattle.tre_tell.proofs.Rows.{count_rows}
-use Rattle.tre_tell.proofs.Tellings.{IsTurn, EndsTelling-within, EndsTelling-stopped, EndsTelling-done, EndsTelling-cut}
-use Rattle.tre_tell.proofs.Turns.{GrowEach, GrowEach-by, traces_by}
-use Rattle.tre_feed.proofs.Asking.{asked-grows}
-use Rattle.tre_feed.specs.Asked.{asked_by, reading_asked}
+use Rattle.tre_feed.specs.declared.fault.Fault.TheVariants.{Memory}
+use Rattle.tre_tell.proofs.Loop.{HasReadCause-from, HasWriteCause-from, HasTold-nothing, EndsTelling-unread, IsAsked-next, TakesAtMost-read, asked_sought, count_lasts, faultless_by, faultless_new, labels_count, laws_of, some_sought, turn_stops}
+use Rattle.tre_tell.proofs.Tellings.{IsTurn, CanTell-turn, EndsTelling-cut, EndsTelling-done, EndsTelling-stopped, EndsTelling-within, first_stand, known}
 use Rattle.tre_tell.proofs.telling.tell_matches.Goals as goal
 
 pub returns-in_err-watch-clause-ends : goal.returns-in_err-watch-clause-ends
 returns-in_err-watch-clause-ends g c =
     let p = err_from_is_err_and c.from_residual.result c.from_residual.ensures.1 in
     let reader = g.R.TraceReader in
-    let readings = readings_asked reader.recording reader.names reader.terms c.args.readers.now in
-    let labels = map string_bytes c.args.labels.now in
-    let same : length labels ≡ length c.args.patterns.now =
-    length-map c.args.labels.now string_bytes ∙ c.requires.labels in
-    let many : length (readings false []) ≡ length c.args.patterns.now =
-    as_many (asked_by reader.names reader.terms) c.args.readers.now (reading_asked reader.recording)
-    false [] ∙ c.requires.readers in
-    let faultless : (common (readings false [])).fault ≡ None =
-    faultless_now (asked_by reader.names reader.terms) reader.represents
-    (reading_asked reader.recording) g.met.R.TraceReader.faultless
-    c.args.readers.now [] c.requires.fresh.fed in
-    rw (p.1, p.2) (EndsTelling-unread labels c.args.patterns.now readings c.args.limit c.args.scale
-    same many c.requires.nothing c.args.name.now (input_told g.S.Source.file_name g.S.Source.file
-    g.S.Source.sound g.S.Source.opened g.S.Source.left g.S.Source.found g.S.Source.faults
-    c.args.input.now c.args.input.now)
-    (output_told g.O.Sink.written g.O.Sink.faults c.args.out.now c.args.out.now) FeedMemory
-    faultless (λ is_open. cc)
-    (λ is_open. cc) refl (λ failed wanting. wanting refl) (λ good named is. cc) refl refl)
+    let met = g.met.R.TraceReader in
+    let laws = laws_of reader.recording reader.terms met.starts met.grows met.is_trace
+    c.args.input.now.each.items in
+    rw (p.1, p.2) (EndsTelling-unread (map string_bytes c.args.labels.now) c.args.patterns.now
+    (recording_of reader.recording reader.terms c.args.input.now) (limit_of c.args.input.now)
+    c.args.scale laws.starts c.args.name.now _ _ Memory
+    (faultless_new reader.recording reader.terms reader.represents reader.names met.faultless
+    c.args.input.now c.requires.new) (λ is_open. cc) (λ is_open. cc) refl
+    (λ failed wanting. wanting refl) (λ good named is. cc)
+    (record { unwritten = refl; writes = refl }))
 
-pub returns-in_err-feed-clause-ends : goal.returns-in_err-feed-clause-ends
-returns-in_err-feed-clause-ends g c =
-    let p = err_from_is_err_and c.from_residual-in_err-feed.result
-    c.from_residual-in_err-feed.ensures.1 in
+pub returns-in_err-open-clause-ends : goal.returns-in_err-open-clause-ends
+returns-in_err-open-clause-ends g c =
+    let p = err_from_is_err_and c.from_residual-in_err-open.result
+    c.from_residual-in_err-open.ensures.1 in
     let reader = g.R.TraceReader in
-    let readings = readings_asked reader.recording reader.names reader.terms c.args.readers.now in
-    let labels = map string_bytes c.args.labels.now in
-    let same : length labels ≡ length c.args.patterns.now =
-    length-map c.args.labels.now string_bytes ∙ c.requires.labels in
-    let many : length (readings false []) ≡ length c.args.patterns.now =
-    as_many (asked_by reader.names reader.terms) c.args.readers.now (reading_asked reader.recording)
-    false [] ∙ c.requires.readers in
-    let faultless : (common (readings false [])).fault ≡ None =
-    faultless_now (asked_by reader.names reader.terms) reader.represents
-    (reading_asked reader.recording) g.met.R.TraceReader.faultless
-    c.args.readers.now [] c.requires.fresh.fed in
-    rw (p.1, p.2) (EndsTelling-unread labels c.args.patterns.now readings c.args.limit c.args.scale
-    same many c.requires.nothing c.args.name.now (input_told g.S.Source.file_name g.S.Source.file
-    g.S.Source.sound g.S.Source.opened g.S.Source.left g.S.Source.found g.S.Source.faults
-    c.args.input.now c.open.new.input)
-    (output_told g.O.Sink.written g.O.Sink.faults c.args.out.now c.args.out.now)
-    c.in_err-feed.field-0.0 faultless
-    c.in_err-feed.ensures.nothing c.in_err-feed.ensures.finds c.in_err-feed.ensures.cause
-    c.in_err-feed.ensures.named
-    (λ good named is. c.in_err-feed.ensures.sound good named (ap Err is)) refl refl)
+    let met = g.met.R.TraceReader in
+    let laws = laws_of reader.recording reader.terms met.starts met.grows met.is_trace
+    c.args.input.now.each.items in
+    let refused = c.in_err-open.ensures.refused in
+    rw (p.1, p.2) (EndsTelling-unread (map string_bytes c.args.labels.now) c.args.patterns.now
+    (recording_of reader.recording reader.terms c.args.input.now) (limit_of c.args.input.now)
+    c.args.scale laws.starts c.args.name.now _ _ c.in_err-open.field-0.0
+    (faultless_new reader.recording reader.terms reader.represents reader.names met.faultless
+    c.args.input.now c.requires.new) (λ is_open. cc) (λ is_open. cc) c.in_err-open.ensures.cause
+    (λ other wanting. other c.in_err-open.ensures.read)
+    (λ good named is. c.in_err-open.ensures.sound good named (ap Err is))
+    (record { unwritten = refl; writes = refl }))
 
-pub returns-in_err-feed-clause-bounded : goal.returns-in_err-feed-clause-bounded
-returns-in_err-feed-clause-bounded g c = λ opened. TakesAtMost-none (c.args.limit + 1)
-    (g.S.Source.file c.args.input.now) (g.S.Source.left c.open.new.input)
-    (c.in_err-feed.ensures.nothing opened)
+pub returns-in_err-open-clause-bounded : goal.returns-in_err-open-clause-bounded
+returns-in_err-open-clause-bounded g c =
+    let refused = c.in_err-open.ensures.refused in
+    λ opened. cc
 
-pub loop-feed-init : goal.loop-feed-init
-loop-feed-init g c =
+pub loop-room-init : goal.loop-room-init
+loop-room-init g c =
     let reader = g.R.TraceReader in
-    let readings = readings_asked reader.recording reader.names reader.terms c.args.readers.now in
-    let labels = map string_bytes c.args.labels.now in
-    let same : length labels ≡ length c.args.patterns.now =
-    length-map c.args.labels.now string_bytes ∙ c.requires.labels in
-    let many : length (readings false []) ≡ length c.args.patterns.now =
-    as_many (asked_by reader.names reader.terms) c.args.readers.now (reading_asked reader.recording)
-    false [] ∙ c.requires.readers in
+    let met = g.met.R.TraceReader in
+    let laws = laws_of reader.recording reader.terms met.starts met.grows met.is_trace
+    c.args.input.now.each.items in
     record {
       telling = record {
         bytes = [];
-        fed = IsFed-start c.args.limit (g.S.Source.file c.args.input.now)
-            (g.S.Source.left c.open.new.input) (g.S.Source.found c.open.new.input)
-            c.in_ok-feed.feed.taken c.requires.fresh.fed c.in_ok-feed.ensures.bytes
-            (c.in_ok-feed.ensures.finds c.in_ok-feed.ensures.opened)
-            (ap (λ feed. feed.taken) c.in_ok-feed.ensures.start);
-        told = HasTold-nothing labels c.args.patterns.now readings c.args.limit c.args.scale same
-            many c.requires.nothing c.in_ok-watch.watch (g.O.Sink.written c.args.out.now)
+        fed = c.in_ok-open.ensures.fed c.requires.new;
+        told = HasTold-nothing (map string_bytes c.args.labels.now) c.args.patterns.now
+            (recording_of reader.recording reader.terms c.args.input.now)
+            (limit_of c.args.input.now) c.args.scale laws.starts c.in_ok-watch.watch
+            (g.O.Sink.written c.args.out.now)
+            (length-map c.args.labels.now string_bytes ∙ c.requires.labels)
             c.in_ok-watch.ensures.stands c.in_ok-watch.ensures.ended c.in_ok-watch.ensures.trees;
       };
-      empty = recursion_from_All (λ (row : List Segment). row ≡ []) (rows_of c.args.readers.now)
-          c.requires.fresh.none;
-      same = refl;
-      opened = c.in_ok-feed.ensures.opened;
-      sound = c.in_ok-feed.ensures.same_sound;
-      no_fault = c.in_ok-feed.ensures.cause;
+      none = c.requires.new.none;
+      same = record { asks = λ asked asks. asks; said = refl; limit = refl };
+      opened = c.in_ok-open.ensures.opened;
+      sound = c.in_ok-open.ensures.same_sound;
+      no_fault = c.in_ok-open.ensures.cause;
       good = refl;
-      limit = ap (λ feed. feed.limit) c.in_ok-feed.ensures.start;
     }
 
-pub next-fed-requires-clause-opened : goal.next-fed-requires-clause-opened
-next-fed-requires-clause-opened g c = c.loop-feed.invariant.opened
+pub next-read-requires-clause-opened : goal.next-read-requires-clause-opened
+next-read-requires-clause-opened g c = c.loop-room.invariant.opened
 
-pub next-fed-requires-clause-fed : goal.next-fed-requires-clause-fed
-next-fed-requires-clause-fed g c =
-    let tel = c.loop-feed.invariant.telling in
-    let reader = g.R.TraceReader in
-    WereFedAtMost-taken reader.represents reader.fed_of
-    (λ one bytes so. (g.met.R.TraceReader.counts one bytes so).0) c.loop-feed.readers c.args.limit
-    c.loop-feed.feed.taken tel.bytes tel.fed.size tel.fed.fed
-
-pub next-fed-requires-clause-alike : goal.next-fed-requires-clause-alike
-next-fed-requires-clause-alike g c =
-    subst AgreeAlways (sym c.loop-feed.invariant.same) c.requires.alike
+pub next-read-requires-clause-reads_on : goal.next-read-requires-clause-reads_on
+next-read-requires-clause-reads_on g c =
+    let inv = c.loop-room.invariant in
+    let tel = inv.telling in
+    record { bytes = tel.bytes; size = tel.fed.size; fed = rw inv.same.limit tel.fed.fed }
 
 pub tell_blocks-requires-clause-comes : goal.tell_blocks-requires-clause-comes
 tell_blocks-requires-clause-comes g c =
-    let inv = c.loop-feed.invariant in
+    let inv = c.loop-room.invariant in
     let tel = inv.telling in
     let source = g.S.Source in
     let reader = g.R.TraceReader in
-    let readings = readings_asked reader.recording reader.names reader.terms c.args.readers.now in
+    let met = g.met.R.TraceReader in
     let labels = map string_bytes c.args.labels.now in
-    let watched = watched_by labels c.args.patterns.now readings c.args.limit c.args.scale in
-    let file = source.file c.args.input.now in
-    let waiting = rows_of c.next-fed.new.readers in
+    let watched = watched_by labels c.args.patterns.now
+    (recording_of reader.recording reader.terms c.args.input.now) (limit_of c.args.input.now)
+    c.args.scale in
+    let same = length-map c.args.labels.now string_bytes ∙ c.requires.labels in
+    let some = some_sought labels c.args.patterns.now same c.requires.some in
+    let waits = Wait reader.names c.loop-room.input in
+    let then_waits = Wait reader.names c.next-read.new.self in
+    let laws = laws_of reader.recording reader.terms met.starts met.grows met.is_trace
+    c.args.input.now.each.items in
     let input = input_told source.file_name source.file source.sound source.opened source.left
-    source.found source.faults c.args.input.now c.next-fed.new.input in
-    let grows : GrowEach readings = GrowEach-by readings
-    (all_grow (asked_by reader.names reader.terms) (reading_asked reader.recording)
-    (asked-grows reader.recording g.met.R.TraceReader.grows) c.args.readers.now) in
-    let same_readings = c.next-fed.ensures.same ∙ inv.same in
-    let turn : IsTurn watched grows c.requires.alike input tel.bytes waiting c.next-fed.result =
-    record {
-      old = rows_of c.loop-feed.readers;
-      has = rw (inv.same, inv.limit) at c.next-fed.ensures.read file tel.bytes tel.fed;
-      empty = inv.empty;
-      count = subst (λ all. length waiting ≡ length (rows_in (all false
-          (take c.args.limit tel.bytes)))) same_readings
-          (count_readers (asked_by reader.names reader.terms) (reading_asked reader.recording)
-          c.next-fed.new.readers false (take c.args.limit tel.bytes));
-      opened = c.next-fed.ensures.same_opened ∙ inv.opened;
+    source.found source.faults c.args.source.now c.next-read.new.source in
+    let turn : IsTurn watched some waits then_waits input tel.bytes c.next-read.result = record {
+      has = rw (inv.same.said, inv.same.limit) at c.next-read.ensures.read
+          (source.file c.args.source.now) tel.bytes tel.fed;
+      none = inv.none;
+      opened = c.next-read.ensures.same_opened ∙ inv.opened;
     } in
-    CanTell-turn watched grows c.requires.alike
-    (λ closed bytes. traces_by (asked_by reader.names reader.terms) (reading_asked reader.recording)
-    (λ asked. g.met.R.TraceReader.is_trace asked.terms asked.names)
-    c.args.readers.now closed bytes) input tel.bytes waiting
-    c.loop-feed.watch tel.told.stands c.next-fed.result turn
+    let waiting = known watched some waits then_waits laws input tel.bytes c.next-read.result turn
+    in
+    record {
+      asked = all_names watched.patterns;
+      waiting = waiting.added;
+      asks = c.next-read.ensures.same.asks _ (inv.same.asks _ (rw (asked_sought labels
+          c.args.patterns.now same) c.requires.asks));
+      wait = waiting.wait;
+      can = CanTell-turn watched some waits then_waits laws input tel.bytes c.next-read.result turn
+          c.loop-room.watch tel.told.stands;
+    }
 
 pub tell_blocks-requires-clause-labels : goal.tell_blocks-requires-clause-labels
 tell_blocks-requires-clause-labels g c =
     sym (length-map c.args.labels.now string_bytes)
-    ∙ labels_count c.loop-feed.invariant.telling.told
+    ∙ labels_count c.loop-room.invariant.telling.told
 
 pub returns-in_err-watch-2-clause-ends : goal.returns-in_err-watch-2-clause-ends
 returns-in_err-watch-2-clause-ends g c =
     let p = err_from_is_err_and c.from_residual-in_err-watch-2.result
     c.from_residual-in_err-watch-2.ensures.1 in
-    let inv = c.loop-feed.invariant in
+    let inv = c.loop-room.invariant in
     let tel = inv.telling in
     let source = g.S.Source in
     let reader = g.R.TraceReader in
-    let readings = readings_asked reader.recording reader.names reader.terms c.args.readers.now in
+    let met = g.met.R.TraceReader in
     let labels = map string_bytes c.args.labels.now in
-    let watched = watched_by labels c.args.patterns.now readings c.args.limit c.args.scale in
-    let file = source.file c.args.input.now in
-    let waiting = rows_of c.next-fed.new.readers in
+    let watched = watched_by labels c.args.patterns.now
+    (recording_of reader.recording reader.terms c.args.input.now) (limit_of c.args.input.now)
+    c.args.scale in
+    let same = length-map c.args.labels.now string_bytes ∙ c.requires.labels in
+    let some = some_sought labels c.args.patterns.now same c.requires.some in
+    let waits = Wait reader.names c.loop-room.input in
+    let then_waits = Wait reader.names c.next-read.new.self in
+    let laws = laws_of reader.recording reader.terms met.starts met.grows met.is_trace
+    c.args.input.now.each.items in
+    let file = source.file c.args.source.now in
     let input = input_told source.file_name source.file source.sound source.opened source.left
-    source.found source.faults c.args.input.now c.next-fed.new.input in
-    let output = output_told g.O.Sink.written g.O.Sink.faults c.args.out.now
-    c.tell_blocks.new.out in
-    let grows : GrowEach readings = GrowEach-by readings
-    (all_grow (asked_by reader.names reader.terms) (reading_asked reader.recording)
-    (asked-grows reader.recording g.met.R.TraceReader.grows) c.args.readers.now) in
-    let same_readings = c.next-fed.ensures.same ∙ inv.same in
-    let turn : IsTurn watched grows c.requires.alike input tel.bytes waiting c.next-fed.result =
-    record {
-      old = rows_of c.loop-feed.readers;
-      has = rw (inv.same, inv.limit) at c.next-fed.ensures.read file tel.bytes tel.fed;
-      empty = inv.empty;
-      count = subst (λ all. length waiting ≡ length (rows_in (all false
-          (take c.args.limit tel.bytes)))) same_readings
-          (count_readers (asked_by reader.names reader.terms) (reading_asked reader.recording)
-          c.next-fed.new.readers false (take c.args.limit tel.bytes));
-      opened = c.next-fed.ensures.same_opened ∙ inv.opened;
+    source.found source.faults c.args.source.now c.next-read.new.source in
+    let turn : IsTurn watched some waits then_waits input tel.bytes c.next-read.result = record {
+      has = rw (inv.same.said, inv.same.limit) at c.next-read.ensures.read file tel.bytes
+          tel.fed;
+      none = inv.none;
+      opened = c.next-read.ensures.same_opened ∙ inv.opened;
     } in
-    let stops = turn_stops (WereFed reader.represents c.next-fed.new.readers) readings c.args.limit
-    file (source.left c.next-fed.new.input) (source.found c.next-fed.new.input)
-    c.next-fed.new.self.taken tel.bytes (rows_of c.loop-feed.readers) waiting
-    (lasts_of c.next-fed.new.readers) c.next-fed.result
-    (rw (inv.same, inv.limit) at c.next-fed.ensures.ends file tel.bytes tel.fed) in
-    rw (p.1, p.2) (EndsTelling-within watched grows c.requires.alike input tel.bytes waiting
-    c.next-fed.result turn c.args.name.now output c.in_err-watch-2.field-0.0
-    (HasReadCause-from _ _ input.faults_now c.next-fed.result inv.no_fault
-    c.next-fed.ensures.cause) stops
-    (HasWriteCause-from {T = Watch} _ _ output.faults_now (Err c.in_err-watch-2.field-0.0)
+    let asks = c.next-read.ensures.same.asks _ (inv.same.asks _ (rw (asked_sought labels
+    c.args.patterns.now same) c.requires.asks)) in
+    let stops = turn_stops _ _ _ file _ _ _ tel.bytes waits then_waits _ c.next-read.result
+    (rw (inv.same.said, inv.same.limit) at c.next-read.ensures.ends file tel.bytes tel.fed) in
+    rw (p.1, p.2) (EndsTelling-within watched some waits then_waits laws input tel.bytes
+    c.next-read.result turn c.args.name.now _ c.in_err-watch-2.field-0.0
+    (HasReadCause-from _ _ input.faults_now c.next-read.result inv.no_fault
+    c.next-read.ensures.cause) stops
+    (HasWriteCause-from {T = Watch} _ _ _ (Err c.in_err-watch-2.field-0.0)
     inv.good c.in_err-watch-2.ensures.cause)
-    (c.in_err-watch-2.ensures.stops watched.patterns
-    (rows_in (readings false (take c.args.limit tel.bytes))) (g.O.Sink.written c.args.out.now)
-    tel.told))
+    (λ waiting wait. c.in_err-watch-2.ensures.stops watched.patterns _ waiting
+    (g.O.Sink.written c.args.out.now) asks wait tel.told))
 
 pub returns-in_err-watch-2-clause-bounded : goal.returns-in_err-watch-2-clause-bounded
 returns-in_err-watch-2-clause-bounded g c =
-    let inv = c.loop-feed.invariant in
+    let inv = c.loop-room.invariant in
     let tel = inv.telling in
-    λ opened. HasRead-bounded (rw inv.limit at c.next-fed.ensures.read
-    (g.S.Source.file c.args.input.now) tel.bytes tel.fed)
+    λ opened. TakesAtMost-read (rw inv.same.limit at c.next-read.ensures.read
+    (g.S.Source.file c.args.source.now) tel.bytes tel.fed)
 
-pub returns-in_err-fed-clause-ends : goal.returns-in_err-fed-clause-ends
-returns-in_err-fed-clause-ends g c =
-    let p = err_from_is_err_and c.from_residual-in_err-fed.result
-    c.from_residual-in_err-fed.ensures.1 in
-    let inv = c.loop-feed.invariant in
+pub returns-in_err-read-clause-ends : goal.returns-in_err-read-clause-ends
+returns-in_err-read-clause-ends g c =
+    let p = err_from_is_err_and c.from_residual-in_err-read.result
+    c.from_residual-in_err-read.ensures.1 in
+    let inv = c.loop-room.invariant in
     let tel = inv.telling in
     let source = g.S.Source in
     let reader = g.R.TraceReader in
-    let readings = readings_asked reader.recording reader.names reader.terms c.args.readers.now in
+    let met = g.met.R.TraceReader in
     let labels = map string_bytes c.args.labels.now in
-    let watched = watched_by labels c.args.patterns.now readings c.args.limit c.args.scale in
-    let file = source.file c.args.input.now in
-    let waiting = rows_of c.next-fed.new.readers in
+    let watched = watched_by labels c.args.patterns.now
+    (recording_of reader.recording reader.terms c.args.input.now) (limit_of c.args.input.now)
+    c.args.scale in
+    let same = length-map c.args.labels.now string_bytes ∙ c.requires.labels in
+    let some = some_sought labels c.args.patterns.now same c.requires.some in
+    let waits = Wait reader.names c.loop-room.input in
+    let then_waits = Wait reader.names c.next-read.new.self in
+    let laws = laws_of reader.recording reader.terms met.starts met.grows met.is_trace
+    c.args.input.now.each.items in
+    let file = source.file c.args.source.now in
     let input = input_told source.file_name source.file source.sound source.opened source.left
-    source.found source.faults c.args.input.now c.next-fed.new.input in
-    let output = output_told g.O.Sink.written g.O.Sink.faults c.args.out.now
-    c.tell_blocks.new.out in
-    let grows : GrowEach readings = GrowEach-by readings
-    (all_grow (asked_by reader.names reader.terms) (reading_asked reader.recording)
-    (asked-grows reader.recording g.met.R.TraceReader.grows) c.args.readers.now) in
-    let same_readings = c.next-fed.ensures.same ∙ inv.same in
-    let turn : IsTurn watched grows c.requires.alike input tel.bytes waiting
-    (Err c.in_err-fed.field-0.0) = record {
-      old = rows_of c.loop-feed.readers;
-      has = rw (inv.same, inv.limit) at c.in_err-fed.ensures.read file tel.bytes tel.fed;
-      empty = inv.empty;
-      count = subst (λ all. length waiting ≡ length (rows_in (all false
-          (take c.args.limit tel.bytes)))) same_readings
-          (count_readers (asked_by reader.names reader.terms) (reading_asked reader.recording)
-          c.next-fed.new.readers false (take c.args.limit tel.bytes));
-      opened = c.next-fed.ensures.same_opened ∙ inv.opened;
+    source.found source.faults c.args.source.now c.next-read.new.source in
+    let turn : IsTurn watched some waits then_waits input tel.bytes
+    (Err c.in_err-read.field-0.0) = record {
+      has = rw (inv.same.said, inv.same.limit) at c.in_err-read.ensures.read file tel.bytes
+          tel.fed;
+      none = inv.none;
+      opened = c.next-read.ensures.same_opened ∙ inv.opened;
     } in
-    let told = c.in_ok-watch-2.ensures.told watched.patterns
-    (rows_in (readings false (take c.args.limit tel.bytes))) (g.O.Sink.written c.args.out.now)
-    tel.told in
-    let none : (common (readings false (take c.args.limit tel.bytes))).fault ≡ None =
-    subst (λ all. (common (all false (take c.args.limit tel.bytes))).fault ≡ None) inv.same
-    (faultless_now (asked_by reader.names reader.terms) reader.represents
-    (reading_asked reader.recording) g.met.R.TraceReader.faultless
-    c.loop-feed.readers (take c.args.limit tel.bytes) tel.fed.fed) in
-    rw (p.1, p.2) (EndsTelling-stopped watched grows c.requires.alike input tel.bytes waiting
-    c.in_err-fed.field-0.0 c.args.name.now output turn
-    (HasReadCause-from {T = Bool} _ _ input.faults_now (Err c.in_err-fed.field-0.0) inv.no_fault
-    c.in_err-fed.ensures.cause)
-    (λ good is. c.in_err-fed.ensures.sound (rw inv.sound good) (ap Err is))
-    (rw (inv.same, inv.limit) at c.in_err-fed.ensures.ends file tel.bytes tel.fed) none
-    (c.in_ok-watch-2.ensures.cause ∙ inv.good) told.told)
+    let asks = c.next-read.ensures.same.asks _ (inv.same.asks _ (rw (asked_sought labels
+    c.args.patterns.now same) c.requires.asks)) in
+    let fed = take (limit_of c.args.input.now) tel.bytes in
+    let none : (watched.recording false fed).fault ≡ None =
+    subst (λ (said : Bool → List ℕ → Recording). (said false fed).fault ≡ None) inv.same.said
+    (faultless_by reader.recording reader.terms reader.represents met.faultless
+    c.loop-room.input fed tel.fed.fed) in
+    rw (p.1, p.2) (EndsTelling-stopped watched some waits then_waits laws input tel.bytes
+    c.in_err-read.field-0.0 c.args.name.now _ turn
+    (HasReadCause-from {T = Bool} _ _ input.faults_now (Err c.in_err-read.field-0.0) inv.no_fault
+    c.in_err-read.ensures.cause)
+    (λ good is. c.in_err-read.ensures.sound (rw inv.sound good) (ap Err is))
+    (rw (inv.same.said, inv.same.limit) at c.in_err-read.ensures.ends file tel.bytes tel.fed)
+    none
+    (c.in_ok-watch-2.ensures.cause ∙ inv.good)
+    (λ waiting wait. (c.in_ok-watch-2.ensures.told watched.patterns _ waiting
+    (g.O.Sink.written c.args.out.now) asks wait tel.told).told))
 
-pub returns-in_err-fed-clause-bounded : goal.returns-in_err-fed-clause-bounded
-returns-in_err-fed-clause-bounded g c =
-    let inv = c.loop-feed.invariant in
+pub returns-in_err-read-clause-bounded : goal.returns-in_err-read-clause-bounded
+returns-in_err-read-clause-bounded g c =
+    let inv = c.loop-room.invariant in
     let tel = inv.telling in
-    λ opened. HasRead-bounded (rw inv.limit at c.next-fed.ensures.read
-    (g.S.Source.file c.args.input.now) tel.bytes tel.fed)
+    λ opened. TakesAtMost-read (rw inv.same.limit at c.next-read.ensures.read
+    (g.S.Source.file c.args.source.now) tel.bytes tel.fed)
 
-pub loop-feed-preserved : goal.loop-feed-preserved
-loop-feed-preserved g c =
-    let inv = c.loop-feed.invariant in
+pub loop-room-preserved : goal.loop-room-preserved
+loop-room-preserved g c =
+    let inv = c.loop-room.invariant in
     let tel = inv.telling in
-    let source = g.S.Source in
-    let reader = g.R.TraceReader in
-    let readings = readings_asked reader.recording reader.names reader.terms c.args.readers.now in
     let labels = map string_bytes c.args.labels.now in
-    let watched = watched_by labels c.args.patterns.now readings c.args.limit c.args.scale in
-    let file = source.file c.args.input.now in
-    let waiting = rows_of c.next-fed.new.readers in
-    let told = c.in_ok-watch-2.ensures.told watched.patterns
-    (rows_in (readings false (take c.args.limit tel.bytes))) (g.O.Sink.written c.args.out.now)
-    tel.told in
-    let more = rw (inv.same, inv.limit, c.if-not-branch.false) at
-    c.in_ok-fed.ensures.ends file tel.bytes tel.fed in
+    let same = length-map c.args.labels.now string_bytes ∙ c.requires.labels in
+    let asks = c.next-read.ensures.same.asks _ (inv.same.asks _ (rw (asked_sought labels
+    c.args.patterns.now same) c.requires.asks)) in
+    let more = rw (inv.same.said, inv.same.limit, c.if-not-branch.false) at
+    c.in_ok-read.ensures.ends (g.S.Source.file c.args.source.now) tel.bytes tel.fed in
     record {
-      telling = IsTelling-more watched (WereFed reader.represents c.next-fed.new.readers)
-          (WereFed reader.represents c.clear.new.self) file (source.left c.next-fed.new.input)
-          (source.found c.next-fed.new.input) c.next-fed.new.self.taken c.in_ok-watch-2.watch labels
-          tel.bytes (rows_of c.loop-feed.readers) waiting (g.O.Sink.written c.args.out.now)
-          (g.O.Sink.written c.tell_blocks.new.out) c.clear.ensures.fed more inv.empty told;
-      empty = recursion_from_All (λ (row : List Segment). row ≡ []) (rows_of c.clear.new.self)
-          c.clear.ensures.none;
-      same = c.clear.ensures.same ∙ (c.next-fed.ensures.same ∙ inv.same);
-      opened = c.next-fed.ensures.same_opened ∙ inv.opened;
-      sound = c.next-fed.ensures.same_sound ∙ inv.sound;
-      no_fault = c.in_ok-fed.ensures.cause ∙ inv.no_fault;
+      telling = record {
+        bytes = tel.bytes ++ more.piece;
+        fed = record {
+          front = more.fed.front;
+          last = more.fed.last;
+          size = more.fed.size ∙ sym c.clear.ensures.taken;
+          few = rw c.clear.ensures.taken more.fed.few;
+          fed = c.clear.ensures.fed _ more.fed.fed;
+        };
+        told = rw more.all.beyond (c.in_ok-watch-2.ensures.told
+            (sought_by labels c.args.patterns.now) _ more.all.added
+            (g.O.Sink.written c.args.out.now) asks (more.all.then [] inv.none) tel.told);
+      };
+      none = c.clear.ensures.none;
+      same = IsAsked-next (IsAsked-next inv.same c.next-read.ensures.same) c.clear.ensures.same;
+      opened = c.next-read.ensures.same_opened ∙ inv.opened;
+      sound = c.next-read.ensures.same_sound ∙ inv.sound;
+      no_fault = c.in_ok-read.ensures.cause ∙ inv.no_fault;
       good = c.in_ok-watch-2.ensures.cause ∙ inv.good;
-      limit = c.next-fed.ensures.limit ∙ inv.limit;
     }
 
 pub returns-in_err-lasts-clause-ends : goal.returns-in_err-lasts-clause-ends
 returns-in_err-lasts-clause-ends g c =
     let p = err_from_is_err_and c.from_residual-in_err-lasts.result
     c.from_residual-in_err-lasts.ensures.1 in
-    let inv = c.loop-feed.invariant in
+    let inv = c.loop-room.invariant in
     let tel = inv.telling in
     let source = g.S.Source in
     let reader = g.R.TraceReader in
-    let readings = readings_asked reader.recording reader.names reader.terms c.args.readers.now in
+    let met = g.met.R.TraceReader in
     let labels = map string_bytes c.args.labels.now in
-    let watched = watched_by labels c.args.patterns.now readings c.args.limit c.args.scale in
-    let file = source.file c.args.input.now in
-    let waiting = rows_of c.next-fed.new.readers in
+    let watched = watched_by labels c.args.patterns.now
+    (recording_of reader.recording reader.terms c.args.input.now) (limit_of c.args.input.now)
+    c.args.scale in
+    let same = length-map c.args.labels.now string_bytes ∙ c.requires.labels in
+    let some = some_sought labels c.args.patterns.now same c.requires.some in
+    let waits = Wait reader.names c.loop-room.input in
+    let then_waits = Wait reader.names c.next-read.new.self in
+    let laws = laws_of reader.recording reader.terms met.starts met.grows met.is_trace
+    c.args.input.now.each.items in
+    let file = source.file c.args.source.now in
     let input = input_told source.file_name source.file source.sound source.opened source.left
-    source.found source.faults c.args.input.now c.next-fed.new.input in
-    let output = output_told g.O.Sink.written g.O.Sink.faults c.args.out.now
-    c.tell_blocks.new.out in
-    let grows : GrowEach readings = GrowEach-by readings
-    (all_grow (asked_by reader.names reader.terms) (reading_asked reader.recording)
-    (asked-grows reader.recording g.met.R.TraceReader.grows) c.args.readers.now) in
-    let same_readings = c.next-fed.ensures.same ∙ inv.same in
-    let turn : IsTurn watched grows c.requires.alike input tel.bytes waiting c.next-fed.result =
-    record {
-      old = rows_of c.loop-feed.readers;
-      has = rw (inv.same, inv.limit) at c.next-fed.ensures.read file tel.bytes tel.fed;
-      empty = inv.empty;
-      count = subst (λ all. length waiting ≡ length (rows_in (all false
-          (take c.args.limit tel.bytes)))) same_readings
-          (count_readers (asked_by reader.names reader.terms) (reading_asked reader.recording)
-          c.next-fed.new.readers false (take c.args.limit tel.bytes));
-      opened = c.next-fed.ensures.same_opened ∙ inv.opened;
+    source.found source.faults c.args.source.now c.next-read.new.source in
+    let turn : IsTurn watched some waits then_waits input tel.bytes c.next-read.result = record {
+      has = rw (inv.same.said, inv.same.limit) at c.next-read.ensures.read file tel.bytes
+          tel.fed;
+      none = inv.none;
+      opened = c.next-read.ensures.same_opened ∙ inv.opened;
     } in
-    let told = c.in_ok-watch-2.ensures.told watched.patterns
-    (rows_in (readings false (take c.args.limit tel.bytes))) (g.O.Sink.written c.args.out.now)
-    tel.told in
-    let ended = rw (inv.same, inv.limit, c.if-not-branch.true) at
-    c.in_ok-fed.ensures.ends file tel.bytes tel.fed in
-    rw (p.1, p.2) (EndsTelling-cut watched input c.args.name.now tel.bytes
-    (rows_of c.loop-feed.readers) waiting (lasts_of c.next-fed.new.readers) ended inv.empty
-    (c.next-fed.ensures.same_opened ∙ inv.opened)
-    (traces_by (asked_by reader.names reader.terms) (reading_asked reader.recording)
-    (λ asked. g.met.R.TraceReader.is_trace asked.terms asked.names) c.args.readers.now true
-    tel.bytes)
-    grows c.requires.alike c.next-fed.result turn output Memory
-    (c.in_ok-fed.ensures.cause ∙ inv.no_fault) (c.in_ok-watch-2.ensures.cause ∙ inv.good)
-    told.told)
+    let asks = c.next-read.ensures.same.asks _ (inv.same.asks _ (rw (asked_sought labels
+    c.args.patterns.now same) c.requires.asks)) in
+    let reads = c.in_ok-read.ensures.cause ∙ inv.no_fault in
+    let writes = c.in_ok-watch-2.ensures.cause ∙ inv.good in
+    rw (p.1, p.2) (record {
+      reads = reads;
+      stands = first_stand watched some waits then_waits laws input tel.bytes c.next-read.result
+          turn _ writes (λ waiting wait. (c.in_ok-watch-2.ensures.told watched.patterns _ waiting
+          (g.O.Sink.written c.args.out.now) asks wait tel.told).told);
+    })
 
 pub returns-in_err-lasts-clause-bounded : goal.returns-in_err-lasts-clause-bounded
 returns-in_err-lasts-clause-bounded g c =
-    let inv = c.loop-feed.invariant in
+    let inv = c.loop-room.invariant in
     let tel = inv.telling in
-    λ opened. HasRead-bounded (rw inv.limit at c.next-fed.ensures.read
-    (g.S.Source.file c.args.input.now) tel.bytes tel.fed)
+    λ opened. TakesAtMost-read (rw inv.same.limit at c.next-read.ensures.read
+    (g.S.Source.file c.args.source.now) tel.bytes tel.fed)
 
 pub tell_end-requires-clause-reads : goal.tell_end-requires-clause-reads
 tell_end-requires-clause-reads g c =
-    let inv = c.loop-feed.invariant in
+    let inv = c.loop-room.invariant in
     let tel = inv.telling in
-    let reader = g.R.TraceReader in
-    let readings = readings_asked reader.recording reader.names reader.terms c.args.readers.now in
     let labels = map string_bytes c.args.labels.now in
-    let watched = watched_by labels c.args.patterns.now readings c.args.limit c.args.scale in
-    let told = c.in_ok-watch-2.ensures.told watched.patterns
-    (rows_in (readings false (take c.args.limit tel.bytes))) (g.O.Sink.written c.args.out.now)
-    tel.told in
+    let same = length-map c.args.labels.now string_bytes ∙ c.requires.labels in
+    let asks = c.next-read.ensures.same.asks _ (inv.same.asks _ (rw (asked_sought labels
+    c.args.patterns.now same) c.requires.asks)) in
+    let ended = rw (inv.same.said, inv.same.limit, c.if-not-branch.true) at
+    c.in_ok-read.ensures.ends (g.S.Source.file c.args.source.now) tel.bytes tel.fed in
+    let told = c.in_ok-watch-2.ensures.told (sought_by labels c.args.patterns.now) _ _
+    (g.O.Sink.written c.args.out.now) asks (ended.all.then [] inv.none) tel.told in
     record { rows = _; stands = told.stands }
 
 pub tell_end-requires-clause-count : goal.tell_end-requires-clause-count
 tell_end-requires-clause-count g c =
-    let inv = c.loop-feed.invariant in
+    let inv = c.loop-room.invariant in
     let tel = inv.telling in
-    let source = g.S.Source in
-    let reader = g.R.TraceReader in
-    let readings = readings_asked reader.recording reader.names reader.terms c.args.readers.now in
     let labels = map string_bytes c.args.labels.now in
-    let watched = watched_by labels c.args.patterns.now readings c.args.limit c.args.scale in
-    let file = source.file c.args.input.now in
-    let waiting = rows_of c.next-fed.new.readers in
-    let input = input_told source.file_name source.file source.sound source.opened source.left
-    source.found source.faults c.args.input.now c.next-fed.new.input in
-    let grows : GrowEach readings = GrowEach-by readings
-    (all_grow (asked_by reader.names reader.terms) (reading_asked reader.recording)
-    (asked-grows reader.recording g.met.R.TraceReader.grows) c.args.readers.now) in
-    let same_readings = c.next-fed.ensures.same ∙ inv.same in
-    let turn : IsTurn watched grows c.requires.alike input tel.bytes waiting c.next-fed.result =
-    record {
-      old = rows_of c.loop-feed.readers;
-      has = rw (inv.same, inv.limit) at c.next-fed.ensures.read file tel.bytes tel.fed;
-      empty = inv.empty;
-      count = subst (λ all. length waiting ≡ length (rows_in (all false
-          (take c.args.limit tel.bytes)))) same_readings
-          (count_readers (asked_by reader.names reader.terms) (reading_asked reader.recording)
-          c.next-fed.new.readers false (take c.args.limit tel.bytes));
-      opened = c.next-fed.ensures.same_opened ∙ inv.opened;
-    } in
-    let many : length (lasts_of c.next-fed.new.readers) ≡ length (trees_of c.loop-feed.watch) =
-    lasts_count c.next-fed.new.readers ∙ (turn.count
-    ∙ count_rows c.loop-feed.watch (rows_in (readings false (take c.args.limit tel.bytes)))
-    tel.told.stands) in
+    let same = length-map c.args.labels.now string_bytes ∙ c.requires.labels in
+    let asks = c.clear.ensures.same.asks _ (c.next-read.ensures.same.asks _ (inv.same.asks _
+    (rw (asked_sought labels c.args.patterns.now same) c.requires.asks))) in
+    let ended = rw (inv.same.said, inv.same.limit, c.if-not-branch.true) at
+    c.in_ok-read.ensures.ends (g.S.Source.file c.args.source.now) tel.bytes tel.fed in
+    let asked = all_names (sought_by labels c.args.patterns.now) in
+    let last = (recording_of g.R.TraceReader.recording g.R.TraceReader.terms c.args.input.now true
+    tel.bytes).last in
     rw (
       c.deref.ensures.value,
-      c.in_ok-lasts.ensures,
-      c.clear.ensures.lasts,
+      c.in_ok-lasts.ensures asked last asks (c.clear.ensures.ended last ended.ended),
       c.in_ok-watch-2.ensures.trees,
-    ) many
+    ) (count_lasts c.loop-room.watch asked _ last tel.told.stands)
 
 pub tell_end-requires-clause-labels : goal.tell_end-requires-clause-labels
 tell_end-requires-clause-labels g c =
-    let inv = c.loop-feed.invariant in
+    let inv = c.loop-room.invariant in
     let tel = inv.telling in
-    let reader = g.R.TraceReader in
-    let readings = readings_asked reader.recording reader.names reader.terms c.args.readers.now in
     let labels = map string_bytes c.args.labels.now in
-    let watched = watched_by labels c.args.patterns.now readings c.args.limit c.args.scale in
-    let told = c.in_ok-watch-2.ensures.told watched.patterns
-    (rows_in (readings false (take c.args.limit tel.bytes))) (g.O.Sink.written c.args.out.now)
-    tel.told in
+    let same = length-map c.args.labels.now string_bytes ∙ c.requires.labels in
+    let asks = c.next-read.ensures.same.asks _ (inv.same.asks _ (rw (asked_sought labels
+    c.args.patterns.now same) c.requires.asks)) in
+    let ended = rw (inv.same.said, inv.same.limit, c.if-not-branch.true) at
+    c.in_ok-read.ensures.ends (g.S.Source.file c.args.source.now) tel.bytes tel.fed in
+    let told = c.in_ok-watch-2.ensures.told (sought_by labels c.args.patterns.now) _ _
+    (g.O.Sink.written c.args.out.now) asks (ended.all.then [] inv.none) tel.told in
     sym (length-map c.args.labels.now string_bytes) ∙ labels_count told
 
 pub returns-in_err-tell_end-clause-ends : goal.returns-in_err-tell_end-clause-ends
 returns-in_err-tell_end-clause-ends g c =
     let p = err_from_is_err_and c.from_residual-in_err-tell_end.result
     c.from_residual-in_err-tell_end.ensures.1 in
-    let inv = c.loop-feed.invariant in
+    let inv = c.loop-room.invariant in
     let tel = inv.telling in
     let source = g.S.Source in
     let reader = g.R.TraceReader in
-    let readings = readings_asked reader.recording reader.names reader.terms c.args.readers.now in
+    let met = g.met.R.TraceReader in
     let labels = map string_bytes c.args.labels.now in
-    let watched = watched_by labels c.args.patterns.now readings c.args.limit c.args.scale in
-    let file = source.file c.args.input.now in
-    let waiting = rows_of c.next-fed.new.readers in
+    let recording = recording_of reader.recording reader.terms c.args.input.now in
+    let watched = watched_by labels c.args.patterns.now recording (limit_of c.args.input.now)
+    c.args.scale in
+    let same = length-map c.args.labels.now string_bytes ∙ c.requires.labels in
+    let some = some_sought labels c.args.patterns.now same c.requires.some in
+    let waits = Wait reader.names c.loop-room.input in
+    let then_waits = Wait reader.names c.next-read.new.self in
+    let laws = laws_of reader.recording reader.terms met.starts met.grows met.is_trace
+    c.args.input.now.each.items in
+    let file = source.file c.args.source.now in
     let input = input_told source.file_name source.file source.sound source.opened source.left
-    source.found source.faults c.args.input.now c.next-fed.new.input in
-    let output = output_told g.O.Sink.written g.O.Sink.faults c.args.out.now
-    c.tell_end.new.out in
-    let grows : GrowEach readings = GrowEach-by readings
-    (all_grow (asked_by reader.names reader.terms) (reading_asked reader.recording)
-    (asked-grows reader.recording g.met.R.TraceReader.grows) c.args.readers.now) in
-    let same_readings = c.next-fed.ensures.same ∙ inv.same in
-    let turn : IsTurn watched grows c.requires.alike input tel.bytes waiting c.next-fed.result =
-    record {
-      old = rows_of c.loop-feed.readers;
-      has = rw (inv.same, inv.limit) at c.next-fed.ensures.read file tel.bytes tel.fed;
-      empty = inv.empty;
-      count = subst (λ all. length waiting ≡ length (rows_in (all false
-          (take c.args.limit tel.bytes)))) same_readings
-          (count_readers (asked_by reader.names reader.terms) (reading_asked reader.recording)
-          c.next-fed.new.readers false (take c.args.limit tel.bytes));
-      opened = c.next-fed.ensures.same_opened ∙ inv.opened;
+    source.found source.faults c.args.source.now c.next-read.new.source in
+    let opened = c.next-read.ensures.same_opened ∙ inv.opened in
+    let turn : IsTurn watched some waits then_waits input tel.bytes c.next-read.result = record {
+      has = rw (inv.same.said, inv.same.limit) at c.next-read.ensures.read file tel.bytes
+          tel.fed;
+      none = inv.none;
+      opened = opened;
     } in
-    let told = c.in_ok-watch-2.ensures.told watched.patterns
-    (rows_in (readings false (take c.args.limit tel.bytes))) (g.O.Sink.written c.args.out.now)
-    tel.told in
-    let ended = rw (inv.same, inv.limit, c.if-not-branch.true) at
-    c.in_ok-fed.ensures.ends file tel.bytes tel.fed in
-    rw (p.1, p.2) (EndsTelling-cut watched input c.args.name.now tel.bytes
-    (rows_of c.loop-feed.readers) waiting (lasts_of c.next-fed.new.readers) ended inv.empty
-    (c.next-fed.ensures.same_opened ∙ inv.opened)
-    (traces_by (asked_by reader.names reader.terms) (reading_asked reader.recording)
-    (λ asked. g.met.R.TraceReader.is_trace asked.terms asked.names) c.args.readers.now true
-    tel.bytes)
-    grows c.requires.alike c.next-fed.result turn output c.in_err-tell_end.field-0.0
-    (c.in_ok-fed.ensures.cause ∙ inv.no_fault)
-    (HasWriteCause-from {T = Unit {0}} _ _ output.faults_now
-    (Err c.in_err-tell_end.field-0.0) (c.in_ok-watch-2.ensures.cause ∙ inv.good)
+    let asks = c.next-read.ensures.same.asks _ (inv.same.asks _ (rw (asked_sought labels
+    c.args.patterns.now same) c.requires.asks)) in
+    let ended = rw (inv.same.said, inv.same.limit, c.if-not-branch.true) at
+    c.in_ok-read.ensures.ends file tel.bytes tel.fed in
+    let writes = c.in_ok-watch-2.ensures.cause ∙ inv.good in
+    let lasts = c.in_ok-lasts.ensures _ _ (c.clear.ensures.same.asks _ asks)
+    (c.clear.ensures.ended _ ended.ended) in
+    rw (p.1, p.2) (EndsTelling-cut watched some input c.args.name.now tel.bytes laws ended.front
+    ended.all_read ended.within ended.whole opened waits then_waits c.next-read.result turn
+    ended.all _ c.in_err-tell_end.field-0.0 (c.in_ok-read.ensures.cause ∙ inv.no_fault)
+    (HasWriteCause-from {T = Unit {0}} _ _ _ (Err c.in_err-tell_end.field-0.0) writes
     c.in_err-tell_end.ensures.cause)
-    (rw (c.deref.ensures.value, c.in_ok-lasts.ensures, c.clear.ensures.lasts) at
-    c.in_err-tell_end.ensures.stops watched.patterns _ (g.O.Sink.written c.args.out.now) told))
+    (λ waiting wait. rw (c.deref.ensures.value, lasts) at c.in_err-tell_end.ensures.stops
+    watched.patterns _ (g.O.Sink.written c.args.out.now) (c.in_ok-watch-2.ensures.told
+    watched.patterns _ waiting (g.O.Sink.written c.args.out.now) asks wait tel.told)))
 
 pub returns-in_err-tell_end-clause-bounded : goal.returns-in_err-tell_end-clause-bounded
 returns-in_err-tell_end-clause-bounded g c =
-    let inv = c.loop-feed.invariant in
+    let inv = c.loop-room.invariant in
     let tel = inv.telling in
-    λ opened. HasRead-bounded (rw inv.limit at c.next-fed.ensures.read
-    (g.S.Source.file c.args.input.now) tel.bytes tel.fed)
+    λ opened. TakesAtMost-read (rw inv.same.limit at c.next-read.ensures.read
+    (g.S.Source.file c.args.source.now) tel.bytes tel.fed)
 
 pub returns-clause-ends : goal.returns-clause-ends
 returns-clause-ends g c =
-    let inv = c.loop-feed.invariant in
+    let inv = c.loop-room.invariant in
     let tel = inv.telling in
     let source = g.S.Source in
     let reader = g.R.TraceReader in
-    let readings = readings_asked reader.recording reader.names reader.terms c.args.readers.now in
+    let met = g.met.R.TraceReader in
     let labels = map string_bytes c.args.labels.now in
-    let watched = watched_by labels c.args.patterns.now readings c.args.limit c.args.scale in
-    let file = source.file c.args.input.now in
-    let waiting = rows_of c.next-fed.new.readers in
-    let input = input_told source.file_name source.file source.sound source.opened source.left
-    source.found source.faults c.args.input.now c.next-fed.new.input in
-    let output = output_told g.O.Sink.written g.O.Sink.faults c.args.out.now
-    c.tell_end.new.out in
-    let told = c.in_ok-watch-2.ensures.told watched.patterns
-    (rows_in (readings false (take c.args.limit tel.bytes))) (g.O.Sink.written c.args.out.now)
-    tel.told in
-    let ended = rw (inv.same, inv.limit, c.if-not-branch.true) at
-    c.in_ok-fed.ensures.ends file tel.bytes tel.fed in
-    EndsTelling-done watched input c.args.name.now tel.bytes
-    (rows_of c.loop-feed.readers) waiting (lasts_of c.next-fed.new.readers) ended inv.empty
-    (c.next-fed.ensures.same_opened ∙ inv.opened)
-    (traces_by (asked_by reader.names reader.terms) (reading_asked reader.recording)
-    (λ asked. g.met.R.TraceReader.is_trace asked.terms asked.names) c.args.readers.now true
-    tel.bytes) output
-    (c.in_ok-fed.ensures.cause ∙ inv.no_fault)
+    let watched = watched_by labels c.args.patterns.now
+    (recording_of reader.recording reader.terms c.args.input.now) (limit_of c.args.input.now)
+    c.args.scale in
+    let same = length-map c.args.labels.now string_bytes ∙ c.requires.labels in
+    let some = some_sought labels c.args.patterns.now same c.requires.some in
+    let laws = laws_of reader.recording reader.terms met.starts met.grows met.is_trace
+    c.args.input.now.each.items in
+    let asks = c.next-read.ensures.same.asks _ (inv.same.asks _ (rw (asked_sought labels
+    c.args.patterns.now same) c.requires.asks)) in
+    let ended = rw (inv.same.said, inv.same.limit, c.if-not-branch.true) at
+    c.in_ok-read.ensures.ends (source.file c.args.source.now) tel.bytes tel.fed in
+    let told = c.in_ok-watch-2.ensures.told watched.patterns _ _
+    (g.O.Sink.written c.args.out.now) asks (ended.all.then [] inv.none) tel.told in
+    let lasts = c.in_ok-lasts.ensures _ _ (c.clear.ensures.same.asks _ asks)
+    (c.clear.ensures.ended _ ended.ended) in
+    EndsTelling-done watched some (input_told source.file_name source.file source.sound
+    source.opened source.left source.found source.faults c.args.source.now c.next-read.new.source)
+    c.args.name.now tel.bytes laws ended.front ended.all_read ended.within ended.whole
+    (c.next-read.ensures.same_opened ∙ inv.opened) _ (c.in_ok-read.ensures.cause ∙ inv.no_fault)
     (c.in_ok-tell_end.ensures.cause ∙ (c.in_ok-watch-2.ensures.cause ∙ inv.good))
-    (rw (c.deref.ensures.value, c.in_ok-lasts.ensures, c.clear.ensures.lasts) at
-    c.in_ok-tell_end.ensures.told watched.patterns _ (g.O.Sink.written c.args.out.now) told)
+    (rw (sym ended.all.beyond) at (rw (c.deref.ensures.value, lasts) at
+    c.in_ok-tell_end.ensures.told watched.patterns _ (g.O.Sink.written c.args.out.now) told))
 
 pub returns-clause-bounded : goal.returns-clause-bounded
 returns-clause-bounded g c =
-    let inv = c.loop-feed.invariant in
+    let inv = c.loop-room.invariant in
     let tel = inv.telling in
-    λ opened. HasRead-bounded (rw inv.limit at c.next-fed.ensures.read
-    (g.S.Source.file c.args.input.now) tel.bytes tel.fed)
+    λ opened. TakesAtMost-read (rw inv.same.limit at c.next-read.ensures.read
+    (g.S.Source.file c.args.source.now) tel.bytes tel.fed)

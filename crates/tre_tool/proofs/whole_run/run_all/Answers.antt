@@ -12,3 +12,10 @@ returns-clause-complete g c = rw c.ending-status.ensures
 pub returns-clause-error_part : goal.returns-clause-error_part
 returns-clause-error_part g c = IsLineTold-of _ _ c.tell_status.result
     c.tell_status.ensures.cause c.tell_status.ensures.line c.tell_status.ensures.part
+
+pub returns-clause-reads_at_most : goal.returns-clause-reads_at_most
+returns-clause-reads_at_most g c = λ job gives opened.
+    (c.run_words.ensures.reads job gives opened).1
+
+pub returns-clause-by_name : goal.returns-clause-by_name
+returns-clause-by_name g c = λ job gives opened. (c.run_words.ensures.reads job gives opened).0

@@ -88,18 +88,13 @@ returns-in_err-answer-clause-checks_untouched g c = λ never.
     kept_by (map string_bytes c.args.words.now) c.in_ok-job.job _ c.in_ok-job.ensures.ok
     c.in_ok-question.ensures.untouched never
 
-pub returns-in_err-answer-clause-by_name : goal.returns-in_err-answer-clause-by_name
-returns-in_err-answer-clause-by_name g c = λ job gives opened.
+pub returns-in_err-answer-clause-reads : goal.returns-in_err-answer-clause-reads
+returns-in_err-answer-clause-reads g c = λ job gives opened.
     of_job (map string_bytes c.args.words.now) c.in_ok-job.job job
-    (λ job. IfSome (g.S.Source.file_name c.args.input.now) (λ told. told ≡ job.input))
-    c.in_ok-job.ensures.ok gives (c.in_err-answer.ensures.by_name opened)
-
-pub returns-in_err-answer-clause-reads_at_most : goal.returns-in_err-answer-clause-reads_at_most
-returns-in_err-answer-clause-reads_at_most g c = λ job gives opened.
-    of_job (map string_bytes c.args.words.now) c.in_ok-job.job job
-    (λ job. TakesAtMost (job.max_bytes + 1) (g.S.Source.file c.args.input.now)
-    (g.S.Source.left c.answer.new.input))
-    c.in_ok-job.ensures.ok gives (c.in_err-answer.ensures.bounded opened)
+    (λ job. IfSome (g.S.Source.file_name c.args.input.now) (λ told. told ≡ job.input)
+    × TakesAtMost (job.max_bytes + 1) (g.S.Source.file c.args.input.now)
+    (g.S.Source.left c.answer.new.source)) c.in_ok-job.ensures.ok gives
+    (c.in_err-answer.ensures.by_name opened, c.in_err-answer.ensures.bounded opened)
 
 pub returns-in_err-answer-clause-checks_by_name : goal.returns-in_err-answer-clause-checks_by_name
 returns-in_err-answer-clause-checks_by_name g c = λ job file gives watches opened.
@@ -139,18 +134,13 @@ returns-clause-checks_untouched g c = λ never.
     kept_by (map string_bytes c.args.words.now) c.in_ok-job.job _ c.in_ok-job.ensures.ok
     c.in_ok-question.ensures.untouched never
 
-pub returns-clause-by_name : goal.returns-clause-by_name
-returns-clause-by_name g c = λ job gives opened.
+pub returns-clause-reads : goal.returns-clause-reads
+returns-clause-reads g c = λ job gives opened.
     of_job (map string_bytes c.args.words.now) c.in_ok-job.job job
-    (λ job. IfSome (g.S.Source.file_name c.args.input.now) (λ told. told ≡ job.input))
-    c.in_ok-job.ensures.ok gives (c.in_ok-answer.ensures.by_name opened)
-
-pub returns-clause-reads_at_most : goal.returns-clause-reads_at_most
-returns-clause-reads_at_most g c = λ job gives opened.
-    of_job (map string_bytes c.args.words.now) c.in_ok-job.job job
-    (λ job. TakesAtMost (job.max_bytes + 1) (g.S.Source.file c.args.input.now)
-    (g.S.Source.left c.answer.new.input))
-    c.in_ok-job.ensures.ok gives (c.in_ok-answer.ensures.bounded opened)
+    (λ job. IfSome (g.S.Source.file_name c.args.input.now) (λ told. told ≡ job.input)
+    × TakesAtMost (job.max_bytes + 1) (g.S.Source.file c.args.input.now)
+    (g.S.Source.left c.answer.new.source)) c.in_ok-job.ensures.ok gives
+    (c.in_ok-answer.ensures.by_name opened, c.in_ok-answer.ensures.bounded opened)
 
 pub returns-clause-checks_by_name : goal.returns-clause-checks_by_name
 returns-clause-checks_by_name g c = λ job file gives watches opened.

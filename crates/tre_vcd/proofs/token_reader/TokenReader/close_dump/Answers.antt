@@ -16,6 +16,7 @@ returns-clause-tells c = λ past holds defined.
         needed =
             needed-same past (dump_end ∷ past) c.args.self.now.needed.items (λ test name. refl)
             holds.needed;
+        within = holds.within;
         inside = holds.inside;
         tokens = holds.tokens;
         suits = tt;

@@ -1,10 +1,11 @@
-use Rattle.std.proofs.Common.{◌≡◌, ◌∷◌, length, map, take, true, false, sym, ap, subst, ◌∙◌, arith}
+use Rattle.std.proofs.Common.{◌≡◌, ℕ, List, Bool, ◌∷◌, length, map, take, true, false, sym, ap, subst, ◌∙◌, arith}
 use Rattle.std.proofs.lemmas.List.{length-map}
 use Rattle.tre_vcd.specs.VcdReading.{var, path, scopes_at, is_signal, is_event}
 use Rattle.tre_vcd.specs.Kept.{KnowsAll}
-use Rattle.tre_vcd.proofs.Needing.{needed-undeclared, written-back}
-use Rattle.tre_vcd.proofs.Pasts.{knows-undeclared}
-use Rattle.tre_vcd.proofs.Tokens.{declares-kept, declares-none, kept-at, same-test, signal-no_event}
+use Rattle.tre_vcd.specs.Sections.{asked_of}
+use Rattle.tre_vcd.proofs.Needing.{needed-within, written-back}
+use Rattle.tre_vcd.proofs.Pasts.{knows-within}
+use Rattle.tre_vcd.proofs.Tokens.{declares-kept, declares-longer, declares-none, none-within, kept-at, same-test, signal-no_event}
 use Rattle.tre_vcd.proofs.token_reader.TokenReader.declare.Goals as goal
 
 pub returns-then-tokens-ne4-clause-knows : goal.returns-then-tokens-ne4-clause-knows
@@ -19,13 +20,41 @@ returns-then-tokens-ne4-clause-knows c = λ past word tokens holds.
     (λ four. absurd (c.if-tokens-ne4.true (count ∙ four))) in
     let silent = declares-none is_event (scopes_at past) tokens
     (λ four. absurd (c.if-tokens-ne4.true (count ∙ four))) in (
-      knows-undeclared reader.names reader.events reader.past past tokens holds.suits none silent
+      knows-within reader.longest (asked_of reader) reader.past past tokens holds.suits
+          (none-within reader.longest is_signal (scopes_at past) tokens none)
+          (none-within reader.longest is_event (scopes_at past) tokens silent) holds.within.0
           holds.past,
-      needed-undeclared past tokens reader.needed.items none silent holds.needed,
+      needed-within past reader.longest tokens reader.needed.items
+          (none-within reader.longest is_signal (scopes_at past) tokens none)
+          (none-within reader.longest is_event (scopes_at past) tokens silent) holds.within.1
+          holds.needed,
     )
 
-pub returns-in_ok-declare-2-clause-knows : goal.returns-in_ok-declare-2-clause-knows
-returns-in_ok-declare-2-clause-knows c = λ past word tokens holds.
+pub returns-then-is_path_longer-clause-knows : goal.returns-then-is_path_longer-clause-knows
+returns-then-is_path_longer-clause-knows c = λ past word tokens holds.
+    let reader = c.args.self.now in
+    let all = c.as_slice-tokens.result.now in
+    let kept : map (λ token. token.items) all ≡ take 5 tokens =
+    ap (map (λ token. token.items)) c.as_slice-tokens.ensures.value ∙ holds.tokens in
+    let count : length all ≡ length (take 5 tokens) =
+    sym (length-map all (λ token. token.items)) ∙ ap length kept in
+    let four : length all ≡ 4 = omega (arith, c.if-tokens-ne4.false) in
+    let fourth = kept-at (λ token. token.items) all (take 5 tokens) 3 c.index-tokens-3.result
+    c.index-tokens-3.result c.as_slice-reference.result.now kept (omega (arith, four))
+    c.index-tokens-3.is c.as_slice-reference.ensures.value in
+    let long = c.is_path_longer.ensures (scopes_at past) holds.past.scopes
+    c.if-is_path_longer.true in
+    let longer = λ (test : List ℕ → List ℕ → Bool).
+    declares-longer reader.longest test (scopes_at past) tokens
+    c.as_slice-reference.result.now (sym count ∙ four) fourth long in (
+      knows-within reader.longest (asked_of reader) reader.past past tokens holds.suits
+          (longer is_signal) (longer is_event) holds.within.0 holds.past,
+      needed-within past reader.longest tokens reader.needed.items (longer is_signal)
+          (longer is_event) holds.within.1 holds.needed,
+    )
+
+pub returns-in_ok-declare-clause-knows : goal.returns-in_ok-declare-clause-knows
+returns-in_ok-declare-clause-knows c = λ past word tokens holds.
     let reader = c.args.self.now in
     let all = c.as_slice-tokens.result.now in
     let kept : map (λ token. token.items) all ≡ take 5 tokens =
@@ -61,12 +90,12 @@ returns-in_ok-declare-2-clause-knows c = λ past word tokens holds.
       c.in_ok-declare.ensures reader.events past tokens holds.past holds.suits declares none,
       written-back (var tokens ∷ past) c.declare-then-is_signal.new.all reader.needed.items reader.needed.len
           (omega (arith, c.declare-then-is_signal.auto.all, c.deref_mut.ensures.len))
-          (c.in_ok-declare-2.ensures.knows past tokens
+          (c.declare-then-is_signal.ensures.knows past c.as_slice-identifier.result.now tokens
           (subst (KnowsAll past) (sym c.deref_mut.ensures.value) holds.needed) declares none),
     )
 
-pub returns-in_ok-declare_event-2-clause-knows : goal.returns-in_ok-declare_event-2-clause-knows
-returns-in_ok-declare_event-2-clause-knows c = λ past word tokens holds.
+pub returns-in_ok-declare_event-clause-knows : goal.returns-in_ok-declare_event-clause-knows
+returns-in_ok-declare_event-clause-knows c = λ past word tokens holds.
     let reader = c.args.self.now in
     let all = c.as_slice-tokens.result.now in
     let kept : map (λ token. token.items) all ≡ take 5 tokens =
@@ -104,7 +133,7 @@ returns-in_ok-declare_event-2-clause-knows c = λ past word tokens holds.
       c.in_ok-declare_event.ensures reader.names past tokens holds.past holds.suits declares none,
       written-back (var tokens ∷ past) c.declare_event-then-is_event.new.all reader.needed.items reader.needed.len
           (omega (arith, c.declare_event-then-is_event.auto.all, c.deref_mut-then-is_event.ensures.len))
-          (c.in_ok-declare_event-2.ensures.knows past tokens
+          (c.declare_event-then-is_event.ensures.knows past c.as_slice-identifier.result.now tokens
           (subst (KnowsAll past) (sym c.deref_mut-then-is_event.ensures.value) holds.needed) declares none),
     )
 
@@ -133,7 +162,12 @@ returns-else-is_event-clause-knows c = λ past word tokens holds.
     (λ _. same-test is_event (take 5 tokens) c.deref-else-is_signal.result.now
     c.deref-2.result.now false kind second
     (sym (c.is_event.ensures c.deref-2.result.now) ∙ c.if-is_event.false)) in (
-      knows-undeclared reader.names reader.events reader.past past tokens holds.suits none silent
+      knows-within reader.longest (asked_of reader) reader.past past tokens holds.suits
+          (none-within reader.longest is_signal (scopes_at past) tokens none)
+          (none-within reader.longest is_event (scopes_at past) tokens silent) holds.within.0
           holds.past,
-      needed-undeclared past tokens reader.needed.items none silent holds.needed,
+      needed-within past reader.longest tokens reader.needed.items
+          (none-within reader.longest is_signal (scopes_at past) tokens none)
+          (none-within reader.longest is_event (scopes_at past) tokens silent) holds.within.1
+          holds.needed,
     )

@@ -1,6 +1,7 @@
 use Rattle.std.proofs.Common.{◌≡◌, ◌∷◌, length, map, take, sym, ap, ◌∙◌, arith}
 use Rattle.std.proofs.lemmas.List.{length-map}
 use Rattle.tre_vcd.specs.VcdReading.{var, nothing}
+use Rattle.tre_vcd.proofs.Needing.{within-same}
 use Rattle.tre_vcd.proofs.Tokens.{declaration-long}
 use Rattle.tre_vcd.proofs.token_reader.TokenReader.end_declaration.Goals as goal
 
@@ -16,5 +17,7 @@ returns-in-Ok-clause-tells c = λ past word tokens holds.
       says = declaration-long past tokens (omega (arith, count, c.if-as_slice-lt4.false));
       is_held = c.close.ensures.holds (var tokens ∷ past)
           (c.in-Ok.ensures.knows past word tokens holds).0
-          (c.in-Ok.ensures.knows past word tokens holds).1;
+          (c.in-Ok.ensures.knows past word tokens holds).1
+          (within-same _ _ _ _ _ _ c.in-Ok.ensures.same_longest c.in-Ok.ensures.same_names
+          (ap (λ terms. terms.declared) c.in-Ok.ensures.same_terms) holds.within);
     }

@@ -29,5 +29,5 @@ returns-in-Ok-clause-tells c = λ past word tokens holds.
       is_held = c.close.ensures.holds (scope name ∷ past)
           (c.in-Ok.ensures reader.names reader.events past holds.past)
           (needed-same past (scope name ∷ past) reader.needed.items (λ test name. refl)
-          holds.needed);
+          holds.needed) holds.within;
     }

@@ -28,7 +28,7 @@ returns-in-Upscope-clause-tells c = λ past word tokens holds is. record {
   is_held = c.close.ensures.holds (upscope ∷ past)
       (c.leave.ensures c.args.self.now.names c.args.self.now.events past holds.past)
       (needed-same past (upscope ∷ past) c.args.self.now.needed.items (λ test name. refl)
-      holds.needed);
+      holds.needed) holds.within;
 }
 
 pub returns-in-EndDefinitions-clause-tells : goal.returns-in-EndDefinitions-clause-tells
@@ -38,5 +38,5 @@ returns-in-EndDefinitions-clause-tells c = λ past word tokens holds is. record 
   is_held = c.close-in-EndDefinitions.ensures.holds (definitions ∷ past)
       (c.define.ensures c.args.self.now.names c.args.self.now.events past holds.past)
       (needed-same past (definitions ∷ past) c.args.self.now.needed.items (λ test name. refl)
-      holds.needed);
+      holds.needed) holds.within;
 }

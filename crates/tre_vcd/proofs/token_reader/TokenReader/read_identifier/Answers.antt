@@ -16,6 +16,7 @@ returns-clause-tells c = λ past holds. record {
     needed =
         needed-same past (change wide c.args.identifier.now c.args.value ∷ past)
         c.args.self.now.needed.items (λ test name. refl) holds.needed;
+    within = holds.within;
     inside = refl;
     tokens = holds.tokens;
     suits = tt;

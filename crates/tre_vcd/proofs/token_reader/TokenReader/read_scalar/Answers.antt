@@ -19,6 +19,7 @@ returns-clause-tells c = λ past holds defined. record {
     needed =
         needed-same past (change scalar c.args.identifier.now (c.args.letter == 49) ∷ past)
         c.args.self.now.needed.items (λ test name. refl) holds.needed;
+    within = holds.within;
     inside = holds.inside;
     tokens = holds.tokens;
     suits = tt;

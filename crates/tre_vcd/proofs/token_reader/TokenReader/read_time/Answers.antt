@@ -22,6 +22,7 @@ returns-then-ticks-self-2-clause-tells c = λ past holds defined.
         past = c.reach.ensures reader.names reader.events past holds.past;
         needed = needed-same past (time ticks ∷ past) reader.needed.items (λ test name. refl)
             holds.needed;
+        within = holds.within;
         inside = holds.inside;
         tokens = holds.tokens;
         suits = tt;
@@ -50,6 +51,7 @@ returns-clause-tells c = λ past holds defined.
           past = c.reach-2.ensures reader.names reader.events past holds.past;
           needed = needed-same past (time ticks ∷ past) reader.needed.items (λ test name. refl)
               holds.needed;
+          within = holds.within;
           inside = holds.inside;
           tokens = holds.tokens;
           suits = tt;

@@ -14,6 +14,7 @@ returns-in-Number-clause-tells c past holds defined =
       is_held = record {
         past = holds.past;
         needed = holds.needed;
+        within = holds.within;
         inside = refl;
         tokens = holds.tokens;
         suits = defined;

@@ -36,6 +36,7 @@ returns-then-not-is_empty-clause-tells c = λ state holds.
         needed =
             needed-same state.past (change scalar rest (letter == 49) ∷ state.past)
             reader.needed.items (λ test name. refl) holds.needed;
+        within = holds.within;
         inside = reads.stays;
         tokens = reads.tokens;
         suits = tt;

@@ -1,0 +1,109 @@
+-- What the inputs of a request say, and that no bytes say nothing.
+use Rattle.std.proofs.Common.{◌≡◌, ◌∙◌, ◌<◌, ℕ, suc, Bool, false, List, [], ◌∷◌, length, get_or, map, string_bytes, refl, sym, ap, arith}
+use Rattle.std.proofs.lemmas.List.{length-map}
+use Rattle.tre_num.specs.Defined.{Defined}
+use Rattle.tre_num.specs.Rows.{Terms as RowTerms, rows_recording}
+use Rattle.tre_parts.specs.Format.{recording_from}
+use Rattle.tre_syntax.specs.Pattern.{names_of}
+use Rattle.tre_syntax.specs.declared.pattern.Pattern.{Pattern}
+use Rattle.tre_tell.specs.Sought.{all_names, sought_by}
+use Rattle.tre_tell.proofs.Loop.{asked_sought}
+use Rattle.tre_text.specs.TextReading.{text_recording}
+use Rattle.tre_trace.specs.Reading.{Recording, Vocabulary}
+use Rattle.tre_vcd.specs.VcdReading.{Terms as DumpTerms, vcd_recording}
+use Rattle.tre_words.specs.declared.job.Format.{Format}
+use Rattle.tre_words.specs.declared.job.Format.TheVariants.{Text, Vcd, Csv}
+use Rattle.tre_words.specs.declared.job.Job.{Job}
+use Rattle.tre_answer.specs.Recorded.{first_names, recording_for, recording_in}
+use Rattle.tre_answer.specs.Request.{Request, FitsJob, request_for}
+use Rattle.tre_answer.specs.declared.asked.Asked.{Asked}
+
+-- ---- what no bytes say
+
+text_nothing : (scale : ℕ) → (text_recording scale false []).stretches ≡ []
+unfolding recording_from
+text_nothing scale = refl
+
+dump_nothing : (terms : DumpTerms) → (vcd_recording terms false []).stretches ≡ []
+unfolding recording_from
+dump_nothing terms = refl
+
+nothing_in : (format : Format) (request : Request)
+    → (recording_in format request false []).stretches ≡ []
+nothing_in Text request = text_nothing request.job.scale
+nothing_in Vcd request = dump_nothing _
+nothing_in Csv request = refl
+
+pub nothing_said : (request : Request) → (recording_for request false []).stretches ≡ []
+nothing_said request = nothing_in request.job.format request
+
+-- ---- what inputs say
+
+-- two lists of names are a vocabulary
+pub vocabulary_same : (names events : List (List ℕ)) (other : Vocabulary) → names ≡ other.names
+    → events ≡ other.events → record { names = names; events = events } ≡ other
+vocabulary_same names events other same same' =
+    ap (λ all. vocabulary_of all events) same ∙ ap (vocabulary_of other.names) same'
+  where
+    vocabulary_of : List (List ℕ) → List (List ℕ) → Vocabulary
+    vocabulary_of all more = record { names = all; events = more }
+
+abbrev pub rows_terms_of : List Defined → Vocabulary → ℕ → RowTerms
+rows_terms_of lets names scale = record { definitions = lets; names = names; scale = scale }
+
+pub rows_terms : (lets : List Defined) (scale : ℕ) {names other : Vocabulary} → names ≡ other
+    → rows_terms_of lets names scale ≡ rows_terms_of lets other scale
+rows_terms lets scale same = ap (λ names. rows_terms_of lets names scale) same
+
+-- the names of the only pattern
+pub alone_names : (patterns : List Pattern) (pattern : Pattern) → length patterns ≡ 1
+    → pattern ≡ get_or patterns 0 pattern → names_of pattern ∷ [] ≡ map names_of patterns
+alone_names (first ∷ []) pattern one is = ap (λ p. names_of p ∷ []) is
+alone_names [] pattern one is = absurd (omega (arith, one))
+alone_names (first ∷ second ∷ patterns) pattern one is = absurd (omega (arith, one))
+
+names_first : (labels : List (List ℕ)) (patterns : List Pattern) (pattern : Pattern)
+    → length labels ≡ length patterns → 0 < length patterns
+    → pattern ≡ get_or patterns 0 pattern
+    → names_of pattern ≡ first_names (sought_by labels patterns)
+names_first labels [] pattern same some is = absurd (omega (arith, some))
+names_first [] (first ∷ patterns) pattern same some is = absurd (omega (arith, same))
+names_first (label ∷ labels) (first ∷ patterns) pattern same some is = ap names_of is
+
+module _ (job : Job) (lets : List Defined) (asked : Asked) (fits : FitsJob job asked) where
+  pub labels_fit : length (map string_bytes asked.labels.items) ≡ length asked.patterns.items
+  labels_fit = length-map asked.labels.items string_bytes ∙ fits.labels
+
+  -- an input in the format of the job says what is asked for
+  in_format : (format : Format) → job.format ≡ format → recording_in format
+      (request_for job lets asked) ≡ recording_for (request_for job lets asked)
+  in_format format is = ap (λ f. recording_in f (request_for job lets asked)) (sym is)
+
+  pub text_says : {said : Bool → List ℕ → Recording} → job.format ≡ Text
+      → said ≡ text_recording job.scale → said ≡ recording_for (request_for job lets asked)
+  text_says is says = says ∙ in_format Text is
+
+  pub dump_says : {said : Bool → List ℕ → Recording} (patterns : List Pattern)
+      → patterns ≡ asked.patterns.items → job.format ≡ Vcd
+      → said ≡ vcd_recording (record { declared = map names_of patterns; scale = job.scale })
+      → said ≡ recording_for (request_for job lets asked)
+  dump_says patterns all is says =
+      says ∙ (ap (λ names. vcd_recording (record { declared = names; scale = job.scale }))
+      (ap (map names_of) all
+      ∙ sym (asked_sought (map string_bytes asked.labels.items) asked.patterns.items labels_fit))
+      ∙ in_format Vcd is)
+
+  pub rows_says : {said : Bool → List ℕ → Recording} (pattern : Pattern)
+      → pattern ≡ get_or asked.patterns.items 0 pattern → job.format ≡ Csv
+      → said ≡ rows_recording (record {
+        definitions = lets;
+        names = names_of pattern;
+        scale = job.scale;
+      }) → said ≡ recording_for (request_for job lets asked)
+  rows_says pattern first is says =
+      says ∙ (ap (λ names. rows_recording (record {
+        definitions = lets;
+        names = names;
+        scale = job.scale;
+      })) (names_first (map string_bytes asked.labels.items) asked.patterns.items pattern labels_fit
+      fits.some first) ∙ in_format Csv is)

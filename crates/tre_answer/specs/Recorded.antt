@@ -1,0 +1,46 @@
+-- What the bytes of an input say, in the format of a request.
+use Rattle.std.specs.Prelude.{ℕ, Bool, List, [], ◌∷◌}
+use Rattle.tre_feed.specs.Comes.{Outcome, outcome_of}
+use Rattle.tre_num.specs.Rows.{rows_recording}
+use Rattle.tre_tell.specs.Sought.{Sought, all_names}
+use Rattle.tre_tell.specs.Watched.{Watched}
+use Rattle.tre_text.specs.TextReading.{text_recording}
+use Rattle.tre_trace.specs.Reading.{Recording, Vocabulary, no_names}
+use Rattle.tre_vcd.specs.VcdReading.{vcd_recording}
+use Rattle.tre_words.specs.declared.job.Format.{Format}
+use Rattle.tre_words.specs.declared.job.Format.TheVariants.{Text, Vcd, Csv}
+use Rattle.tre_answer.specs.Request.{Request}
+
+-- the names of the first pattern
+abbrev pub first_names : List Sought → Vocabulary
+first_names [] = no_names
+first_names (pattern ∷ patterns) = pattern.names
+
+-- What bytes in this format say, at the scale of the request. A dump must declare the names of all
+-- patterns, and rows those of the only one.
+abbrev pub recording_in : Format → Request → Bool → List ℕ → Recording
+recording_in Text request = text_recording request.job.scale
+recording_in Vcd request =
+    vcd_recording (record { declared = all_names request.patterns; scale = request.job.scale })
+recording_in Csv request = rows_recording (record {
+  definitions = request.lets;
+  names = first_names request.patterns;
+  scale = request.job.scale;
+})
+
+-- What bytes say for a request, closed or not yet.
+abbrev pub recording_for : Request → Bool → List ℕ → Recording
+recording_for request = recording_in request.job.format request
+
+-- What is watched where the request is told as its input comes.
+abbrev pub watched_of : Request → Watched
+watched_of request = record {
+  patterns = request.patterns;
+  recording = recording_for request;
+  limit = request.job.max_bytes;
+  scale = request.job.scale;
+}
+
+-- What the bytes of an input come to for a request.
+abbrev pub outcome_for : Request → List ℕ → Outcome
+outcome_for request bytes = outcome_of (recording_for request) request.job.max_bytes bytes

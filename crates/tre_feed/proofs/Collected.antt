@@ -1,0 +1,181 @@
+-- What was read of an input, from no bytes to its end.
+use Rattle.std.proofs.Common.{◌≡◌, ◌≢◌, ◌+◌, ◌<◌, ℕ, Bool, true, false, List, [], ◌∷◌, ◌++◌, All, length, get_or, map, take, Option, None, Some, IsTrue, Result, Err, refl, sym, subst, arith}
+use Rattle.std.specs.Io.KnownBytes.{Consumes, IsAtEnd}
+use Rattle.std.proofs.KnownBytes.{Consumes-whole}
+use Rattle.std.proofs.lemmas.List.{length-map}
+use Rattle.tre_trace.specs.Reading.{Recording, Stretch, Vocabulary, no_names, reading_for, segments_for}
+use Rattle.tre_trace.specs.Trace.{Timeline, IsTrace}
+use Rattle.tre_feed.specs.Each.{recording_by}
+use Rattle.tre_feed.specs.Input.{InputTold, WereRead, AllReadsGood, AreAllBytes, TakesAtMost, HasReadCause}
+use Rattle.tre_feed.specs.Traces.{IsWhole, StopsReading, trace_for}
+use Rattle.tre_feed.specs.Turn.{IsFed, HasRead, GoesOn, IsEnded, StopsTurn, TakesOn}
+use Rattle.tre_feed.specs.declared.fault.Fault.{Fault}
+use Rattle.tre_feed.specs.declared.fault.Fault.TheVariants.{Trace, TooLong, TooManyZones, Read, Write, Memory}
+use Rattle.tre_feed.specs.declared.each.Fed.{Fed}
+use Rattle.tre_feed.proofs.Cuts.{take-over}
+use Rattle.tre_feed.proofs.Seeing.{at_mapped}
+
+module _ {R Terms : Type 0} (terms : R → Terms) (recording : Terms → Bool → List ℕ → Recording)
+  where
+    -- no bytes say nothing
+    pub starts_by : ((all : Terms) → (recording all false []).stretches ≡ [])
+        → (each : List (Fed R)) → (recording_by recording terms each false []).stretches ≡ []
+    starts_by starts [] = refl
+    starts_by starts (fed ∷ each) = starts (terms fed.reader)
+
+    -- what bytes say is a trace, for any names
+    pub traces_by : ((all : Terms) (asked : Vocabulary) (closed : Bool) (bytes : List ℕ)
+        → IsTrace (reading_for asked (recording all closed bytes)).segments)
+        → (each : List (Fed R)) (closed : Bool) (bytes : List ℕ) (asked : Vocabulary)
+        → IsTrace (segments_for asked (recording_by recording terms each closed bytes).stretches)
+    traces_by traces [] closed bytes asked = record { long = tt; in_time = omega arith }
+    traces_by traces (fed ∷ each) closed bytes asked = traces (terms fed.reader) asked closed bytes
+
+-- These bytes were fed, and what they say waits.
+pub record IsCollected (were_fed : List ℕ → Type 0) (waits : List Stretch → Type 0)
+    (recording : Bool → List ℕ → Recording) (limit : ℕ) (file left found : Option (List ℕ))
+    (count : ℕ) : Type 0 where
+  pub bytes : List ℕ
+  pub fed : IsFed were_fed limit file left found count bytes
+  pub told : waits (recording false (take limit bytes)).stretches
+
+-- what waits before a byte is read
+pub told_start : (waits : List Stretch → Type 0) (recording : Bool → List ℕ → Recording)
+    (limit : ℕ) → (recording false []).stretches ≡ [] → waits []
+    → waits (recording false (take limit [])).stretches
+told_start waits recording limit nothing none =
+    subst (λ bytes. waits (recording false bytes).stretches)
+    (sym (take-over {X = ℕ} limit [] (omega arith))) (subst waits (sym nothing) none)
+
+-- what waits behind a turn
+pub told_more : {waits then_waits : List Stretch → Type 0} {before now : Recording}
+    → TakesOn waits then_waits before now → waits before.stretches → then_waits now.stretches
+told_more {then_waits = then_waits} {before = before} takes told =
+    subst then_waits (sym takes.beyond) (takes.then before.stretches told)
+
+-- a turn went on
+pub IsCollected-more : {were_fed : List ℕ → Type 0} (recording : Bool → List ℕ → Recording)
+    (limit : ℕ) (file left found : Option (List ℕ)) (count : ℕ) (bytes : List ℕ)
+    {waits then_waits : List Stretch → Type 0}
+    → GoesOn were_fed recording limit file left found count bytes waits then_waits
+    → waits (recording false (take limit bytes)).stretches
+    → IsCollected were_fed then_waits recording limit file left found count
+IsCollected-more recording limit file left found count bytes more told = record {
+  bytes = bytes ++ more.piece;
+  fed = more.fed;
+  told = told_more more.all told;
+}
+
+-- however a turn ended, what was taken is at most one byte past the limit
+pub HasRead-bounded : {recording : Bool → List ℕ → Recording} {limit : ℕ}
+    {file left found : Option (List ℕ)} {bytes : List ℕ} {waits then_waits : List Stretch → Type 0}
+    {result : Result Bool Fault}
+    → HasRead recording limit file left found bytes waits then_waits result
+    → TakesAtMost (limit + 1) file left
+HasRead-bounded {bytes = bytes} has = record {
+  taken = bytes ++ has.piece;
+  few = has.few;
+  front = has.front;
+}
+
+-- the bytes of an open input
+were_read : (input : InputTold) (bytes : List ℕ) → input.opened ≡ true
+    → Consumes input.file input.left bytes → WereRead input bytes
+were_read input bytes opened front = record {
+  of_open = λ is_open. front;
+  of_closed = λ closed. cc;
+}
+
+-- of one that was read to its end
+AreAllBytes-read : (input : InputTold) (bytes : List ℕ) → input.opened ≡ true
+    → Consumes input.file input.left bytes → IsAtEnd input.left → AreAllBytes input bytes
+AreAllBytes-read input bytes opened front all = record {
+  opened = opened;
+  read = were_read input bytes opened front;
+  all_read = all;
+  whole = Consumes-whole input.file input.left bytes _ front all refl;
+}
+
+module _ (recording : Bool → List ℕ → Recording) (limit : ℕ) (name : List ℕ)
+    (input : InputTold) where
+  -- a turn stopped
+  pub StopsReading-turn : (bytes : List ℕ) (waits then_waits : List Stretch → Type 0)
+      (fault : Fault) → input.opened ≡ true
+      → HasReadCause {T = Bool} input.faults_before input.faults_now (Err fault)
+      → (IsTrue input.sound → fault ≢ Read)
+      → (recording false (take limit bytes)).fault ≡ None
+      → StopsTurn recording limit input.file input.left bytes waits then_waits fault
+      → StopsReading recording limit name input fault
+  StopsReading-turn bytes waits then_waits (Trace fault) opened cause sound none stops =
+      (stops.0, record { opened = opened; cause = stops.1.cause; reads = cause })
+  StopsReading-turn bytes waits then_waits TooLong opened cause sound none stops =
+      record { opened = opened; cause = stops.cause; reads = cause }
+  StopsReading-turn bytes waits then_waits Read opened cause sound none stops = record {
+    cause = cause;
+    unsound = λ good. absurd (sound good refl);
+    goes_on = record {
+      bytes = bytes;
+      read = were_read input bytes opened stops.front;
+      within = stops.within;
+      faultless = subst (λ all. (recording false all).fault ≡ None)
+          (take-over limit bytes stops.within) none;
+    };
+  }
+  StopsReading-turn bytes waits then_waits (TooManyZones zones) opened cause sound none stops =
+      absurd stops
+  StopsReading-turn bytes waits then_waits Write opened cause sound none stops = absurd stops
+  StopsReading-turn bytes waits then_waits Memory opened cause sound none stops = cause
+
+  -- the input couldn't be opened
+  pub StopsReading-unread : (fault : Fault) → fault ≡ Read
+      → (recording false []).fault ≡ None → input.opened ≡ false
+      → HasReadCause {T = Unit {0}} input.faults_before input.faults_now (Err fault)
+      → (IsTrue input.sound → input.name ≡ Some name → fault ≢ Read)
+      → StopsReading recording limit name input fault
+  StopsReading-unread Read is none closed cause sound = record {
+    cause = cause;
+    unsound = λ good named. sound good named refl;
+    goes_on = record {
+      bytes = [];
+      read = record {
+        of_open = λ is_open. cc;
+        of_closed = λ same. refl;
+      };
+      within = omega arith;
+      faultless = none;
+    };
+  }
+  StopsReading-unread Memory is none closed cause sound = cc
+  StopsReading-unread (Trace fault) is none closed cause sound = cc
+  StopsReading-unread TooLong is none closed cause sound = cc
+  StopsReading-unread (TooManyZones zones) is none closed cause sound = cc
+  StopsReading-unread Write is none closed cause sound = cc
+
+traces_each : (said : Recording) (asked : List Vocabulary)
+    → ((names : Vocabulary) → IsTrace (segments_for names said.stretches))
+    → All (λ (trace : Timeline). IsTrace trace.segments) (map (trace_for said) asked)
+traces_each said asked traces = λ k d below.
+    let inside : k < length asked = omega (arith, below, length-map asked (trace_for said)) in
+    subst (λ (trace : Timeline). IsTrace trace.segments)
+    (sym (at_mapped (trace_for said) asked k no_names d inside))
+    (traces (get_or asked k no_names))
+
+-- the whole input was read, and these are the traces of all its bytes
+pub IsWhole-ended : (asked : List Vocabulary) (recording : Bool → List ℕ → Recording)
+    (limit : ℕ) (input : InputTold) (bytes : List ℕ) (traces : List Timeline)
+    {waits then_waits : List Stretch → Type 0} {has_ended : (List ℕ → Bool) → Type 0}
+    → input.opened ≡ true → AllReadsGood input
+    → IsEnded recording limit input.file input.left bytes waits then_waits has_ended
+    → traces ≡ map (trace_for (recording true bytes)) asked
+    → ((names : Vocabulary) → IsTrace (segments_for names (recording true bytes).stretches))
+    → IsWhole asked recording limit input traces
+IsWhole-ended asked recording limit input bytes traces opened reads ended are is_trace = record {
+  reads = reads;
+  bytes = bytes;
+  all = AreAllBytes-read input bytes opened ended.front ended.all_read;
+  within = ended.within;
+  faultless = ended.whole;
+  reads_as = are;
+  are_traces = subst (All (λ (trace : Timeline). IsTrace trace.segments)) (sym are)
+      (traces_each (recording true bytes) asked is_trace);
+}

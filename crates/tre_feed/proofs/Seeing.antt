@@ -1,0 +1,222 @@
+-- What views show of the rows, for the names of each who asks.
+use Rattle.std.proofs.Common.{◌≡◌, ◌∙◌, ℕ, zero, suc, ◌+◌, ◌<◌, Bool, List, [], ◌∷◌, All, length, map, get_or, drop, refl, sym, ap, ap₂, subst, arith}
+use Rattle.std.proofs.lemmas.List.{drop_more, length-map}
+use Rattle.std.proofs.lemmas.Option.{get_or_from_slice_get, slice_get_within}
+use Rattle.tre_feed.specs.Places.{places_of}
+use Rattle.tre_feed.specs.Shares.{IsViewOf, Shows, group_of}
+use Rattle.tre_feed.specs.Shown.{shown_events, shown_segment}
+use Rattle.tre_feed.specs.declared.view.View.{View}
+use Rattle.tre_feed.proofs.Among.{seen-places}
+use Rattle.tre_trace.specs.Reading.{Recording, Stretch, Vocabulary, events_for, no_names, segment_for, segments_for}
+use Rattle.tre_trace.specs.Segments.{segment_with}
+use Rattle.tre_trace.specs.Trace.{AreLong, IsTrace, Timeline, end_of, timeline_of}
+use Rattle.tre_trace.specs.declared.segment.Segment.{Segment}
+use Rattle.tre_feed.specs.Each.{LastsAre, RowsAre, groups_in}
+use Rattle.tre_feed.specs.Seen.{AreKept, last_seen, lasts_in, no_segment, row_seen, rows_in, segment_seen, trace_seen}
+use Rattle.tre_feed.specs.Standing.{AreFor, no_stretch}
+use Rattle.tre_feed.specs.Traces.{trace_for}
+use Rattle.tre_feed.specs.declared.each.Fed.{Fed}
+
+pub at_mapped : {A B : Type 0} (f : A → B) (xs : List A) (k : ℕ) (d : A) (e : B) → k < length xs
+    → get_or (map f xs) k e ≡ f (get_or xs k d)
+at_mapped f [] k d e below = absurd (omega (arith, below))
+at_mapped f (x ∷ xs) zero d e below = refl
+at_mapped f (x ∷ xs) (suc k) d e below = at_mapped f xs k d e (omega (arith, below))
+
+module _ {R : Type 0} (names : R → Vocabulary) where
+  -- the row of a group is what waits, for its names
+  pub row_at : (each : List (Fed R)) (group : ℕ) (stretches : List Stretch)
+      → RowsAre names each stretches → group < length each
+      → get_or (rows_in each) group []
+      ≡ segments_for (get_or (groups_in names each) group no_names) stretches
+  row_at [] group stretches rows below = absurd (omega (arith, below))
+  row_at (fed ∷ each) zero stretches rows below = rows.0
+  row_at (fed ∷ each) (suc group) stretches rows below =
+      row_at each group stretches rows.1 (omega (arith, below))
+
+  pub last_in : (each : List (Fed R)) (group : ℕ) (last : List ℕ → Bool)
+      → LastsAre names each last → group < length each
+      → get_or (lasts_in each) group 0
+      ≡ events_for (get_or (groups_in names each) group no_names) last
+  last_in [] group last lasts below = absurd (omega (arith, below))
+  last_in (fed ∷ each) zero last lasts below = lasts.0
+  last_in (fed ∷ each) (suc group) last lasts below =
+      last_in each group last lasts.1 (omega (arith, below))
+
+  -- each row is as long as what waits
+  pub rows_below : (each : List (Fed R)) (views : List View) (stretches : List Stretch)
+      (place : ℕ) → All (λ view. group_of view < length each) views
+      → RowsAre names each stretches → place < length stretches
+      → All (λ view. place < length (row_seen (rows_in each) view)) views
+  rows_below each views stretches place within rows below = λ k d inside.
+      let view = get_or views k d in
+      let size : length (row_seen (rows_in each) view) ≡ length stretches =
+      ap length (row_at each (group_of view) stretches rows (within k d inside))
+      ∙ length-map stretches
+      (segment_for (get_or (groups_in names each) (group_of view) no_names)) in
+      omega (arith, size, below)
+
+  -- what views show of rows that are traces is a trace
+  pub rows_traces : (each : List (Fed R)) (views : List View) (stretches : List Stretch)
+      → All (λ view. group_of view < length each) views → RowsAre names each stretches
+      → ((asked : Vocabulary) → IsTrace (segments_for asked stretches))
+      → All (λ view. IsTrace (map (shown_segment view) (row_seen (rows_in each) view))) views
+  rows_traces each views stretches within rows traces = λ k d inside.
+      let view = get_or views k d in
+      trace_shown view (row_seen (rows_in each) view) (subst IsTrace
+      (sym (row_at each (group_of view) stretches rows (within k d inside)))
+      (traces (get_or (groups_in names each) (group_of view) no_names)))
+    where
+      long_shown : (view : View) (row : List Segment) → AreLong row
+          → AreLong (map (shown_segment view) row)
+      long_shown view [] long = tt
+      long_shown view (segment ∷ row) long = (long.0, long_shown view row long.1)
+
+      end_shown : (view : View) (row : List Segment) (start : ℕ)
+          → end_of start (map (shown_segment view) row) ≡ end_of start row
+      end_shown view [] start = refl
+      end_shown view (segment ∷ row) start = end_shown view row (start + segment.len)
+
+      trace_shown : (view : View) (row : List Segment) → IsTrace row
+          → IsTrace (map (shown_segment view) row)
+      trace_shown view row is = record {
+        long = long_shown view row is.long;
+        in_time = omega (arith, is.in_time, end_shown view row 0);
+      }
+
+-- one who asks, of a group
+module _ (asked all : Vocabulary) (view : View) (shows : Shows asked all view) where
+  segment_shown : (stretch : Stretch)
+      → shown_segment view (segment_for all stretch) ≡ segment_for asked stretch
+  segment_shown stretch = ap₂ (λ val ev. segment_with stretch.len val ev)
+      (seen-places asked.names all.names (places_of view.names) stretch.is_true shows.names)
+      (seen-places asked.events all.events (places_of view.events) stretch.happens shows.events)
+
+  segments_shown : (stretches : List Stretch)
+      → map (shown_segment view) (segments_for all stretches) ≡ segments_for asked stretches
+  segments_shown [] = refl
+  segments_shown (stretch ∷ stretches) = ap₂ (λ (first : Segment) rest. first ∷ rest)
+      (segment_shown stretch) (segments_shown stretches)
+
+  last_shown : (last : List ℕ → Bool)
+      → shown_events view (events_for all last) ≡ events_for asked last
+  last_shown last =
+      seen-places asked.events all.events (places_of view.events) last shows.events
+
+module _ {R : Type 0} (names : R → Vocabulary) (each : List (Fed R)) where
+  group_within : (asked : Vocabulary) (view : View) → IsViewOf (groups_in names each) asked view
+      → group_of view < length each
+  group_within asked view own =
+      let inside : group_of view < length (groups_in names each) =
+      slice_get_within (groups_in names each) (group_of view) own.all own.group in
+      omega (arith, inside, length-map each (λ (fed : Fed R). names fed.reader))
+
+  names_at : (asked : Vocabulary) (view : View)
+      → (own : IsViewOf (groups_in names each) asked view)
+      → get_or (groups_in names each) (group_of view) no_names ≡ own.all
+  names_at asked view own =
+      get_or_from_slice_get (groups_in names each) (group_of view) own.all no_names own.group
+
+  segment_is : (asked : Vocabulary) (view : View) (stretches : List Stretch) (place : ℕ)
+      → IsViewOf (groups_in names each) asked view → RowsAre names each stretches
+      → place < length stretches
+      → segment_seen (rows_in each) place view
+      ≡ segment_for asked (get_or stretches place no_stretch)
+  segment_is asked view stretches place own rows below =
+      ap (λ (row : List Segment). shown_segment view (get_or row place no_segment))
+      (row_at names each (group_of view) stretches rows (group_within asked view own)
+      ∙ ap (λ (group : Vocabulary). segments_for group stretches) (names_at asked view own))
+      ∙ (ap (shown_segment view)
+      (at_mapped (segment_for own.all) stretches place no_stretch no_segment below)
+      ∙ segment_shown asked own.all view own.shows (get_or stretches place no_stretch))
+
+  last_is : (asked : Vocabulary) (view : View) (last : List ℕ → Bool)
+      → IsViewOf (groups_in names each) asked view → LastsAre names each last
+      → last_seen (lasts_in each) view ≡ events_for asked last
+  last_is asked view last own lasts =
+      ap (shown_events view)
+      (last_in names each (group_of view) last lasts (group_within asked view own)
+      ∙ ap (λ (group : Vocabulary). events_for group last) (names_at asked view own))
+      ∙ last_shown asked own.all view own.shows last
+
+  row_is : (asked : Vocabulary) (view : View) (stretches : List Stretch)
+      → IsViewOf (groups_in names each) asked view → RowsAre names each stretches
+      → map (shown_segment view) (row_seen (rows_in each) view) ≡ segments_for asked stretches
+  row_is asked view stretches own rows =
+      ap (map (shown_segment view))
+      (row_at names each (group_of view) stretches rows (group_within asked view own)
+      ∙ ap (λ (group : Vocabulary). segments_for group stretches) (names_at asked view own))
+      ∙ segments_shown asked own.all view own.shows stretches
+
+  -- what all views show is what all who ask are to be told
+  pub column_is : (asked : List Vocabulary) (views : List View) (stretches : List Stretch)
+      (place : ℕ) → AreFor asked (groups_in names each) views → RowsAre names each stretches
+      → place < length stretches
+      → map (segment_seen (rows_in each) place) views
+      ≡ map (λ one. segment_for one (get_or stretches place no_stretch)) asked
+  column_is [] [] stretches place are rows below = refl
+  column_is [] (view ∷ views) stretches place are rows below = absurd are
+  column_is (one ∷ asked) [] stretches place are rows below = absurd are
+  column_is (one ∷ asked) (view ∷ views) stretches place are rows below =
+      ap₂ (λ (first : Segment) rest. first ∷ rest)
+      (segment_is one view stretches place are.0 rows below)
+      (column_is asked views stretches place are.1 rows below)
+
+  pub lasts_are : (asked : List Vocabulary) (views : List View) (last : List ℕ → Bool)
+      → AreFor asked (groups_in names each) views → LastsAre names each last
+      → map (last_seen (lasts_in each)) views ≡ map (λ one. events_for one last) asked
+  lasts_are [] [] last are lasts = refl
+  lasts_are [] (view ∷ views) last are lasts = absurd are
+  lasts_are (one ∷ asked) [] last are lasts = absurd are
+  lasts_are (one ∷ asked) (view ∷ views) last are lasts =
+      ap₂ (λ (first : ℕ) rest. first ∷ rest) (last_is one view last are.0 lasts)
+      (lasts_are asked views last are.1 lasts)
+
+  pub traces_are : (asked : List Vocabulary) (views : List View) (said : Recording)
+      → AreFor asked (groups_in names each) views → RowsAre names each said.stretches
+      → LastsAre names each said.last
+      → map (trace_seen (rows_in each) (lasts_in each)) views ≡ map (trace_for said) asked
+  traces_are [] [] said are rows lasts = refl
+  traces_are [] (view ∷ views) said are rows lasts = absurd are
+  traces_are (one ∷ asked) [] said are rows lasts = absurd are
+  traces_are (one ∷ asked) (view ∷ views) said are rows lasts =
+      ap₂ (λ (first : Timeline) rest. first ∷ rest)
+      (ap₂ timeline_of (row_is one view said.stretches are.0 rows)
+      (last_is one view said.last are.0 lasts))
+      (traces_are asked views said are.1 rows lasts)
+
+-- ---- rows that later views still need
+
+module _ {R : Type 0} {old new : List (Fed R)} where
+  -- what the first of them is of is as it was
+  pub kept_first : (at : ℕ) (views : List View) (d : View) → at < length views
+      → AreKept (drop at views) old new
+      → row_seen (rows_in new) (get_or views at d) ≡ row_seen (rows_in old) (get_or views at d)
+  kept_first zero [] d below kept = absurd (omega (arith, below))
+  kept_first zero (view ∷ views) d below kept = kept.rows 0 d (omega arith)
+  kept_first (suc at) [] d below kept = absurd (omega (arith, below))
+  kept_first (suc at) (view ∷ views) d below kept =
+      kept_first at views d (omega (arith, below)) kept
+
+all_rest : {A : Type 0} (P : A → Type 0) (x : A) (xs : List A) → All P (x ∷ xs) → All P xs
+all_rest P x xs all = λ k d below. all (suc k) d (omega (arith, below))
+
+-- those behind it are of what they were
+pub kept_then : {R : Type 0} {old mid new : List (Fed R)} (at : ℕ) (views : List View)
+    → at < length views → AreKept (drop at views) old mid
+    → AreKept (drop (at + 1) views) mid new → AreKept (drop (at + 1) views) old new
+kept_then {old = old} {mid = mid} {new = new} at views below first second = record {
+  rows = λ k d inside. second.rows k d inside ∙ earlier k d inside;
+  lasts = second.lasts ∙ first.lasts;
+  count = second.count ∙ first.count;
+}
+  where
+    earlier : (k : ℕ) (d : View) → k < length (drop (at + 1) views)
+        → row_seen (rows_in mid) (get_or (drop (at + 1) views) k d)
+        ≡ row_seen (rows_in old) (get_or (drop (at + 1) views) k d)
+    earlier k d inside = all_rest
+        (λ (one : View). row_seen (rows_in mid) one ≡ row_seen (rows_in old) one)
+        (get_or views at d) (drop (at + 1) views)
+        (subst (All (λ (one : View). row_seen (rows_in mid) one ≡ row_seen (rows_in old) one))
+        (drop_more views at d below) first.rows)
+        k d inside

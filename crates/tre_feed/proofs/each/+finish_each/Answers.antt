@@ -1,0 +1,49 @@
+use Rattle.std.proofs.Common.{◌≡◌, ◌++◌, length, take, ap, sym, subst}
+use Rattle.tre_trace.specs.Reading.{Vocabulary, segments_for}
+use Rattle.tre_feed.specs.Asked.{Asked}
+use Rattle.tre_feed.proofs.Standing.{row_begins, row_more, rows_begin}
+use Rattle.tre_feed.proofs.each.+finish_each.Goals as goal
+
+pub returns-then-not-finish-clause-front : goal.returns-then-not-finish-clause-front
+returns-then-not-finish-clause-front g t c = λ terms bytes waiting stand rows.
+    let cases = c.in-Some.ensures.cases.0 in
+    let all = rw cases at stand in
+    let are = rw cases at rows in
+    let same = ap (λ (asked : Asked g.R.TraceReader.Terms). asked.names) c.finish.ensures.same in (
+      subst (λ (names : Vocabulary). take (length waiting) c.finish.new.self.row.items
+          ≡ segments_for names waiting) (sym same)
+          (row_begins _ _ _ _ _ _ _ (c.finish.ensures.takes bytes all.0.1) waiting are.0),
+      rows_begin g.R.TraceReader.names c.in-Some.later.now waiting are.1,
+    )
+
+pub returns-clause-rows : goal.returns-clause-rows
+returns-clause-rows g t c = λ terms bytes added waiting stand beyond rows ok.
+    let cases = c.in-Some.ensures.cases.0 in
+    let all = rw cases at stand in
+    let are = rw cases at rows in
+    let same = ap (λ (asked : Asked g.R.TraceReader.Terms). asked.names) c.finish.ensures.same in
+    let takes = rw all.0.0 at (c.if-not-finish.ensures.takes bytes all.0.1) in (
+      subst (λ (names : Vocabulary). c.finish.new.self.row.items
+          ≡ segments_for names (waiting ++ added)) (sym same)
+          (row_more _ _ _ _ _ takes.0 waiting added beyond are.0),
+      c.finish_each.ensures.rows terms bytes added waiting all.1 beyond are.1 ok,
+    )
+
+pub returns-clause-faults : goal.returns-clause-faults
+returns-clause-faults g t c = λ terms bytes stand ok.
+    let cases = c.in-Some.ensures.cases.0 in
+    let all = rw cases at stand in
+    let takes = rw all.0.0 at (c.if-not-finish.ensures.takes bytes all.0.1) in
+    (takes.1, c.finish_each.ensures.faults terms bytes all.1 ok)
+
+pub returns-clause-front : goal.returns-clause-front
+returns-clause-front g t c = λ terms bytes waiting stand rows.
+    let cases = c.in-Some.ensures.cases.0 in
+    let all = rw cases at stand in
+    let are = rw cases at rows in
+    let same = ap (λ (asked : Asked g.R.TraceReader.Terms). asked.names) c.finish.ensures.same in (
+      subst (λ (names : Vocabulary). take (length waiting) c.finish.new.self.row.items
+          ≡ segments_for names waiting) (sym same)
+          (row_begins _ _ _ _ _ _ _ (c.finish.ensures.takes bytes all.0.1) waiting are.0),
+      c.finish_each.ensures.front terms bytes waiting all.1 are.1,
+    )

@@ -1,0 +1,38 @@
+use Rattle.std.proofs.Common.{◌++◌, false, refl, sym}
+use Rattle.tre_feed.proofs.Standing.{by_terms, on_ok_told, takes_told}
+use Rattle.tre_feed.proofs.each.feed_all.Goals as goal
+
+pub returns-then-not-feed_each-clause-takes : goal.returns-then-not-feed_each-clause-takes
+returns-then-not-feed_each-clause-takes g c = λ bytes were. record {
+  same = λ waiting wait. record {
+    rows = c.cut_each.ensures.rows waiting
+        (sym (c.waiting_in-waiting.ensures waiting wait.rows))
+        (c.feed_each.ensures.front were.all bytes waiting were.stand wait.rows);
+  };
+}
+
+pub returns-clause-takes : goal.returns-clause-takes
+returns-clause-takes g c = λ bytes were.
+    let reader = g.R.TraceReader in
+    let by = by_terms reader.terms reader.recording reader.represents c.args.each.now bytes
+    were.all c.requires.some were.stand in
+    let told = c.told_by.ensures.told (reader.recording were.all false (bytes ++ c.args.piece.now))
+    (c.if-not-feed_each.ensures.faults were.all bytes were.stand refl) in
+    let grown = g.met.R.TraceReader.grows were.all false bytes c.args.piece.now in
+    rw by (takes_told _ _ _ _ _ (record {
+      added = grown.added;
+      beyond = grown.stretches;
+      then = λ waiting wait. record {
+        rows = c.if-not-feed_each.ensures.rows were.all bytes grown.added waiting were.stand
+            grown.stretches wait.rows refl;
+      };
+    }) told)
+
+pub returns-clause-goes_on : goal.returns-clause-goes_on
+returns-clause-goes_on g c = λ bytes were.
+    let now = g.R.TraceReader.recording were.all false (bytes ++ c.args.piece.now) in
+    on_ok_told now _ _ (c.told_by.ensures.told now
+    (c.if-not-feed_each.ensures.faults were.all bytes were.stand refl)) (λ none. record {
+      all = were.all;
+      stand = c.if-not-feed_each.ensures.goes_on were.all bytes were.stand none refl;
+    })

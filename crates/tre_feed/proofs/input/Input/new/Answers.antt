@@ -1,0 +1,37 @@
+use Rattle.std.proofs.Common.{◌≡◌, ◌<◌, List, [], length, refl, subst, arith}
+use Rattle.tre_trace.specs.Reading.{Vocabulary}
+use Rattle.tre_feed.specs.Standing.{AreFor}
+use Rattle.tre_feed.proofs.Begun.{readers_count, readers_names, readers_so}
+use Rattle.tre_feed.proofs.Standing.{by_terms}
+use Rattle.tre_feed.proofs.input.Input.new.Goals as goal
+
+pub returns-clause-new : goal.returns-clause-new
+returns-clause-new g c =
+    let reader = g.R.TraceReader in
+    λ terms stand. record {
+      fed = record {
+        all = terms;
+        stand = readers_so (λ one. (reader.terms one ≡ terms) × reader.represents one [])
+            c.in_ok-each.each.items c.args.each.items c.in_ok-each.ensures.readers stand;
+      };
+      none = record { rows = c.in_ok-each.ensures.none };
+      taken = refl;
+    }
+
+pub returns-clause-asks : goal.returns-clause-asks
+returns-clause-asks g c = λ asked are. record {
+  views = subst (λ (groups : List Vocabulary). AreFor asked groups c.args.views.items)
+      (readers_names g.R.TraceReader.names c.in_ok-each.each.items c.args.each.items
+      c.in_ok-each.ensures.readers) are;
+}
+
+pub returns-clause-recording : goal.returns-clause-recording
+returns-clause-recording g c =
+    let reader = g.R.TraceReader in
+    let count = readers_count c.in_ok-each.each.items c.args.each.items
+    c.in_ok-each.ensures.readers in
+    let some : 0 < length c.in_ok-each.each.items = omega (arith, count, c.requires.some) in
+    λ terms stand. by_terms reader.terms reader.recording reader.represents
+    c.in_ok-each.each.items [] terms some
+    (readers_so (λ one. (reader.terms one ≡ terms) × reader.represents one [])
+    c.in_ok-each.each.items c.args.each.items c.in_ok-each.ensures.readers stand)

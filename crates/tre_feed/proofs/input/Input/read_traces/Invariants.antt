@@ -1,0 +1,24 @@
+use Rattle.std.proofs.Common.{◌≡◌, ◌+◌, ◌-◌, true}
+use Rattle.tre_feed.specs.Standing.{IsAsked, Wait, WereFed, recording_of}
+use Rattle.tre_feed.proofs.Collected.{IsCollected}
+use Rattle.tre_feed.proofs.input.Input.read_traces.Given as goal
+
+-- the bytes so far were fed as far as the limit, and what they say waits; no fault was counted, and
+-- the input is asked what it was
+abbrev pub invariant-loop-self : goal.invariant-loop-self
+invariant-loop-self g l =
+    let source = g.S.Source in
+    let reader = g.R.TraceReader in
+    record {
+      collected : IsCollected (WereFed reader.terms reader.represents l.self)
+          (Wait reader.names l.self) (recording_of reader.recording reader.terms l.self)
+          l.self.limit (source.file l.fn.source) (source.left l.source) (source.found l.source)
+          l.self.taken;
+      same : IsAsked reader.names reader.terms reader.recording l.fn.self l.self;
+      opened : source.opened l.source ≡ true;
+      sound : source.sound l.source ≡ source.sound l.fn.source;
+      no_fault : source.faults l.source ≡ source.faults l.fn.source;
+    }
+
+abbrev pub decreases-loop-self : goal.decreases-loop-self
+decreases-loop-self g l = l.self.limit + 1 - l.self.taken

@@ -1,0 +1,23 @@
+use Rattle.std.proofs.Common.{◌≡◌, ◌∙◌, [], sym, append-nil, rules}
+use Rattle.tre_feed.specs.Each.{readers_in}
+use Rattle.tre_feed.proofs.Begun.{none_left, none_more, readers_more}
+use Rattle.tre_feed.proofs.input.fed_each.Goals as goal
+
+pub loop-reader-preserved : goal.loop-reader-preserved
+loop-reader-preserved g c =
+    let left = rw c.in-Some.ensures.steps.0 at c.loop-reader.invariant.left in
+    record {
+      can = search rules;
+      ends = search rules;
+      left = rw c.in_ok-push.ensures.items (readers_more c.loop-reader.each.items c.new.result
+          c.in-Some.reader _ _ c.new.ensures.reader left);
+      none = rw c.in_ok-push.ensures.items (none_more c.loop-reader.each.items c.new.result
+          c.loop-reader.invariant.none c.new.ensures.none);
+    }
+
+pub returns-clause-readers : goal.returns-clause-readers
+returns-clause-readers g c =
+    let rest = c.loop-reader.reader-iterator.rest in
+    let none : rest.items ≡ [] = none_left rest.items (sym rest.ok.0 ∙ c.in-None.ensures.steps.0) in
+    sym (append-nil (readers_in c.loop-reader.each.items))
+    ∙ (rw none at c.loop-reader.invariant.left)

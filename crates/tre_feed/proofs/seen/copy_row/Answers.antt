@@ -1,0 +1,12 @@
+use Rattle.std.proofs.Common.{[], sym}
+use Rattle.tre_feed.specs.Seen.{row_of}
+use Rattle.tre_feed.proofs.Seeing.{at_mapped}
+use Rattle.tre_feed.proofs.seen.copy_row.Goals as goal
+
+pub returns : goal.returns
+returns g c =
+    rw (
+      c.in_ok-extend_from_slice.ensures.items,
+      c.new-row.ensures.items,
+      c.deref.ensures.value,
+    ) (sym (at_mapped row_of c.args.each.now c.args.group c.index-each-group.result [] c.requires))

@@ -1,0 +1,240 @@
+use Rattle.std.proofs.Common.{◌+◌, ◌-◌, ◌≤◌, ℕ, Bool, List, false, true, Result, Err, length, take, arith, subst, length-take}
+use Rattle.std.proofs.lemmas.Result.{err_from_is_err_and}
+use Rattle.tre_trace.specs.Reading.{Recording}
+use Rattle.tre_trace.specs.declared.reader.TheConstants.{FED_MAX}
+use Rattle.tre_feed.specs.Each.{AllEnded, AllWait, AllWereFed, recording_by}
+use Rattle.tre_feed.specs.Stops.{TakesIn}
+use Rattle.tre_feed.specs.declared.fault.Fault.{Fault}
+use Rattle.tre_feed.specs.declared.TheConstants.{PIECE}
+use Rattle.tre_feed.proofs.Outcomes.{TellsAll-exceeds}
+use Rattle.tre_feed.proofs.Standing.{faultless_by, grows_by, recording_same, room_each}
+use Rattle.tre_feed.proofs.Pieces.{Keeps-end, Keeps-own, TakesOn-nothing, GoesOn-fed, HasRead-end, HasRead-fed, HasRead-nothing, HasRead-refused, HasRead-stops, IsAtEndOf-read, IsEnded-end, IsFed-all, StopsTurn-end, StopsTurn-piece}
+use Rattle.tre_feed.proofs.turn.feed_next.Goals as goal
+
+pub feed_piece-requires-clause-fits : goal.feed_piece-requires-clause-fits
+feed_piece-requires-clause-fits g c = room_each g.R.TraceReader.fed_of c.args.each.now
+    c.args.taken.now c.args.limit FED_MAX c.requires.fed c.if-taken-limit.false c.requires.fits
+
+pub returns-then-taken-limit-clause-read : goal.returns-then-taken-limit-clause-read
+returns-then-taken-limit-clause-read g c =
+    let reader = g.R.TraceReader in
+    let recording = recording_by reader.recording reader.terms c.args.each.now in
+    let old = AllWait reader.names c.args.each.now in
+    λ file bytes so_far. HasRead-nothing so_far recording old
+    (TakesOn-nothing (recording false (take c.args.limit bytes)) (Keeps-own old))
+
+pub returns-then-taken-limit-clause-ends : goal.returns-then-taken-limit-clause-ends
+returns-then-taken-limit-clause-ends g c =
+    let reader = g.R.TraceReader in
+    let recording = recording_by reader.recording reader.terms c.args.each.now in
+    let old = AllWait reader.names c.args.each.now in
+    λ file bytes so_far. TellsAll-exceeds recording c.args.limit file _ bytes old
+    so_far.front (omega (arith, so_far.size, c.if-taken-limit.true))
+    (faultless_by reader.terms reader.recording reader.represents
+    g.met.R.TraceReader.faultless c.args.each.now (take c.args.limit bytes) so_far.fed)
+    (TakesOn-nothing (recording false (take c.args.limit bytes)) (Keeps-own old))
+
+pub returns-in_err-count-clause-read : goal.returns-in_err-count-clause-read
+returns-in_err-count-clause-read g c =
+    let reader = g.R.TraceReader in
+    let recording = recording_by reader.recording reader.terms c.args.each.now in
+    let old = AllWait reader.names c.args.each.now in
+    let inside = c.if-taken-limit.false in
+    let piece_room = take c.min-room.result c.args.buffer.now in
+    let some : length piece_room ≤ c.args.limit - c.args.taken.now + 1
+    = omega (arith, length-take {A = ℕ} c.min-room.result c.args.buffer.now, c.min-room.ensures) in
+    let fits : length piece_room ≤ PIECE
+    = omega (arith, length-take {A = ℕ} c.min-room.result c.args.buffer.now, c.requires.short) in
+    let p = err_from_is_err_and c.from_residual.result c.from_residual.ensures.1 in
+    λ file bytes so_far. rw (p.1, p.2) (HasRead-stops so_far recording
+    (g.S.Source.left c.feed_piece.new.source) (g.S.Source.found c.feed_piece.new.source)
+    c.feed_piece.ensures.finds inside (length piece_room) some fits old
+    (AllWait reader.names c.feed_piece.new.each) c.in_err-count.field-0.0
+    (c.in_err-count.ensures.stops bytes (IsFed-all so_far inside)))
+
+pub returns-in_err-count-clause-ends : goal.returns-in_err-count-clause-ends
+returns-in_err-count-clause-ends g c =
+    let reader = g.R.TraceReader in
+    let recording = recording_by reader.recording reader.terms c.args.each.now in
+    let old = AllWait reader.names c.args.each.now in
+    let inside = c.if-taken-limit.false in
+    let piece_room = take c.min-room.result c.args.buffer.now in
+    let some : length piece_room ≤ c.args.limit - c.args.taken.now + 1
+    = omega (arith, length-take {A = ℕ} c.min-room.result c.args.buffer.now, c.min-room.ensures) in
+    let fits : length piece_room ≤ PIECE
+    = omega (arith, length-take {A = ℕ} c.min-room.result c.args.buffer.now, c.requires.short) in
+    let p = err_from_is_err_and c.from_residual.result c.from_residual.ensures.1 in
+    λ file bytes so_far. rw (p.1, p.2) (StopsTurn-piece so_far recording
+    (g.S.Source.left c.feed_piece.new.source) (g.S.Source.found c.feed_piece.new.source)
+    c.feed_piece.ensures.finds inside (length piece_room) some fits old
+    (AllWait reader.names c.feed_piece.new.each) c.in_err-count.field-0.0
+    (grows_by reader.terms reader.recording g.met.R.TraceReader.grows c.args.each.now)
+    (c.in_err-count.ensures.stops bytes (IsFed-all so_far inside)))
+
+pub returns-in_err-finish_all-clause-read : goal.returns-in_err-finish_all-clause-read
+returns-in_err-finish_all-clause-read g c =
+    let reader = g.R.TraceReader in
+    let recording = recording_by reader.recording reader.terms c.args.each.now in
+    let old = AllWait reader.names c.args.each.now in
+    let inside = c.if-taken-limit.false in
+    let count = c.in_ok-count.count in
+    let buffer = c.feed_piece.new.buffer in
+    let p = err_from_is_err_and c.from_residual-in_err-finish_all.result
+    c.from_residual-in_err-finish_all.ensures.1 in
+    let none = c.if-count-eq0.true in
+    λ file bytes so_far.
+    let fed = IsFed-all so_far inside in
+    let at_end = IsAtEndOf-read {were_fed' = AllWereFed reader.terms reader.represents
+    c.feed_piece.new.each}
+    c.args.limit file (g.S.Source.left c.args.source.now) (g.S.Source.found c.args.source.now)
+    (g.S.Source.left c.feed_piece.new.source) (g.S.Source.found c.feed_piece.new.source)
+    c.args.taken.now count bytes buffer so_far inside c.in_ok-count.ensures.taken
+    c.feed_piece.ensures.finds (c.in_ok-count.ensures.end none) none
+    (c.in_ok-count.ensures.goes_on bytes fed) in
+    let same = Keeps-end recording (c.args.limit - c.args.taken.now) count bytes buffer none
+    (c.in_ok-count.ensures.adds bytes fed) in
+    let fault : Result (Unit {0}) Fault = Err c.in_err-finish_all.field-0.0 in
+    let takes = subst (λ (said : Bool → List ℕ → Recording). TakesIn
+    (AllWait reader.names c.feed_piece.new.each) (AllWait reader.names c.finish_all.new.each)
+    (said false bytes) (said true bytes) fault)
+    (recording_same reader.names reader.terms reader.recording c.feed_piece.new.each
+    c.args.each.now c.in_ok-count.ensures.same)
+    (c.in_err-finish_all.ensures.takes bytes at_end.fed) in
+    rw (p.1, p.2) (HasRead-refused recording at_end old
+    (AllWait reader.names c.feed_piece.new.each) (AllWait reader.names c.finish_all.new.each) same
+    c.in_err-finish_all.field-0.0
+    takes)
+
+pub returns-in_err-finish_all-clause-ends : goal.returns-in_err-finish_all-clause-ends
+returns-in_err-finish_all-clause-ends g c =
+    let reader = g.R.TraceReader in
+    let recording = recording_by reader.recording reader.terms c.args.each.now in
+    let old = AllWait reader.names c.args.each.now in
+    let inside = c.if-taken-limit.false in
+    let count = c.in_ok-count.count in
+    let buffer = c.feed_piece.new.buffer in
+    let p = err_from_is_err_and c.from_residual-in_err-finish_all.result
+    c.from_residual-in_err-finish_all.ensures.1 in
+    let none = c.if-count-eq0.true in
+    λ file bytes so_far.
+    let fed = IsFed-all so_far inside in
+    let at_end = IsAtEndOf-read {were_fed' = AllWereFed reader.terms reader.represents
+    c.feed_piece.new.each}
+    c.args.limit file (g.S.Source.left c.args.source.now) (g.S.Source.found c.args.source.now)
+    (g.S.Source.left c.feed_piece.new.source) (g.S.Source.found c.feed_piece.new.source)
+    c.args.taken.now count bytes buffer so_far inside c.in_ok-count.ensures.taken
+    c.feed_piece.ensures.finds (c.in_ok-count.ensures.end none) none
+    (c.in_ok-count.ensures.goes_on bytes fed) in
+    let same = Keeps-end recording (c.args.limit - c.args.taken.now) count bytes buffer none
+    (c.in_ok-count.ensures.adds bytes fed) in
+    let fault : Result (Unit {0}) Fault = Err c.in_err-finish_all.field-0.0 in
+    let takes = subst (λ (said : Bool → List ℕ → Recording). TakesIn
+    (AllWait reader.names c.feed_piece.new.each) (AllWait reader.names c.finish_all.new.each)
+    (said false bytes) (said true bytes) fault)
+    (recording_same reader.names reader.terms reader.recording c.feed_piece.new.each
+    c.args.each.now c.in_ok-count.ensures.same)
+    (c.in_err-finish_all.ensures.takes bytes at_end.fed) in
+    rw (p.1, p.2) (StopsTurn-end recording at_end old
+    (AllWait reader.names c.feed_piece.new.each) (AllWait reader.names c.finish_all.new.each) same
+    c.in_err-finish_all.field-0.0
+    takes)
+
+pub returns-then-count-eq0-clause-read : goal.returns-then-count-eq0-clause-read
+returns-then-count-eq0-clause-read g c =
+    let reader = g.R.TraceReader in
+    let recording = recording_by reader.recording reader.terms c.args.each.now in
+    let old = AllWait reader.names c.args.each.now in
+    let inside = c.if-taken-limit.false in
+    let count = c.in_ok-count.count in
+    let buffer = c.feed_piece.new.buffer in
+    let none = c.if-count-eq0.true in
+    λ file bytes so_far.
+    let fed = IsFed-all so_far inside in
+    let at_end = IsAtEndOf-read {were_fed' = AllWereFed reader.terms reader.represents
+    c.feed_piece.new.each}
+    c.args.limit file (g.S.Source.left c.args.source.now) (g.S.Source.found c.args.source.now)
+    (g.S.Source.left c.feed_piece.new.source) (g.S.Source.found c.feed_piece.new.source)
+    c.args.taken.now count bytes buffer so_far inside c.in_ok-count.ensures.taken
+    c.feed_piece.ensures.finds (c.in_ok-count.ensures.end none) none
+    (c.in_ok-count.ensures.goes_on bytes fed) in
+    let same = Keeps-end recording (c.args.limit - c.args.taken.now) count bytes buffer none
+    (c.in_ok-count.ensures.adds bytes fed) in
+    let said = recording_same reader.names reader.terms reader.recording c.feed_piece.new.each
+    c.args.each.now c.in_ok-count.ensures.same in
+    let takes = rw said at (c.in_ok-finish_all.ensures.takes bytes at_end.fed) in
+    HasRead-end recording at_end old (AllWait reader.names c.feed_piece.new.each)
+    (AllWait reader.names c.finish_all.new.each) same false takes.0
+
+pub returns-then-count-eq0-clause-ends : goal.returns-then-count-eq0-clause-ends
+returns-then-count-eq0-clause-ends g c =
+    let reader = g.R.TraceReader in
+    let recording = recording_by reader.recording reader.terms c.args.each.now in
+    let old = AllWait reader.names c.args.each.now in
+    let inside = c.if-taken-limit.false in
+    let count = c.in_ok-count.count in
+    let buffer = c.feed_piece.new.buffer in
+    let none = c.if-count-eq0.true in
+    λ file bytes so_far.
+    let fed = IsFed-all so_far inside in
+    let at_end = IsAtEndOf-read {were_fed' = AllWereFed reader.terms reader.represents
+    c.feed_piece.new.each}
+    c.args.limit file (g.S.Source.left c.args.source.now) (g.S.Source.found c.args.source.now)
+    (g.S.Source.left c.feed_piece.new.source) (g.S.Source.found c.feed_piece.new.source)
+    c.args.taken.now count bytes buffer so_far inside c.in_ok-count.ensures.taken
+    c.feed_piece.ensures.finds (c.in_ok-count.ensures.end none) none
+    (c.in_ok-count.ensures.goes_on bytes fed) in
+    let same = Keeps-end recording (c.args.limit - c.args.taken.now) count bytes buffer none
+    (c.in_ok-count.ensures.adds bytes fed) in
+    let said = recording_same reader.names reader.terms reader.recording c.feed_piece.new.each
+    c.args.each.now c.in_ok-count.ensures.same in
+    let takes = rw said at (c.in_ok-finish_all.ensures.takes bytes at_end.fed) in
+    IsEnded-end recording at_end old (AllWait reader.names c.feed_piece.new.each)
+    (AllWait reader.names c.finish_all.new.each) same
+    (AllEnded reader.names c.finish_all.new.each) takes.0 takes.1
+    (subst (λ (said : Bool → List ℕ → Recording). AllEnded reader.names c.finish_all.new.each
+    (said true bytes).last) said (c.in_ok-finish_all.ensures.ended bytes at_end.fed))
+
+pub returns-clause-read : goal.returns-clause-read
+returns-clause-read g c =
+    let reader = g.R.TraceReader in
+    let recording = recording_by reader.recording reader.terms c.args.each.now in
+    let old = AllWait reader.names c.args.each.now in
+    let inside = c.if-taken-limit.false in
+    let piece_room = take c.min-room.result c.args.buffer.now in
+    let some : length piece_room ≤ c.args.limit - c.args.taken.now + 1
+    = omega (arith, length-take {A = ℕ} c.min-room.result c.args.buffer.now, c.min-room.ensures) in
+    let fits : length piece_room ≤ PIECE
+    = omega (arith, length-take {A = ℕ} c.min-room.result c.args.buffer.now, c.requires.short) in
+    let count = c.in_ok-count.count in
+    let buffer = c.feed_piece.new.buffer in
+    λ file bytes so_far. HasRead-fed so_far recording
+    (g.S.Source.left c.feed_piece.new.source) (g.S.Source.found c.feed_piece.new.source)
+    c.feed_piece.ensures.finds inside (length piece_room) some fits old
+    (AllWait reader.names c.feed_piece.new.each) (take count buffer) true
+    c.in_ok-count.ensures.taken
+    (omega (arith, length-take {A = ℕ} count buffer, c.in_ok-count.ensures.length))
+    (c.in_ok-count.ensures.adds bytes (IsFed-all so_far inside))
+
+pub returns-clause-ends : goal.returns-clause-ends
+returns-clause-ends g c =
+    let reader = g.R.TraceReader in
+    let recording = recording_by reader.recording reader.terms c.args.each.now in
+    let old = AllWait reader.names c.args.each.now in
+    let inside = c.if-taken-limit.false in
+    let piece_room = take c.min-room.result c.args.buffer.now in
+    let some : length piece_room ≤ c.args.limit - c.args.taken.now + 1
+    = omega (arith, length-take {A = ℕ} c.min-room.result c.args.buffer.now, c.min-room.ensures) in
+    let fits : length piece_room ≤ PIECE
+    = omega (arith, length-take {A = ℕ} c.min-room.result c.args.buffer.now, c.requires.short) in
+    let count = c.in_ok-count.count in
+    let buffer = c.feed_piece.new.buffer in
+    λ file bytes so_far. GoesOn-fed so_far recording
+    (g.S.Source.left c.feed_piece.new.source) (g.S.Source.found c.feed_piece.new.source)
+    c.feed_piece.ensures.finds inside (length piece_room) some fits old
+    (AllWait reader.names c.feed_piece.new.each)
+    {were_fed' = AllWereFed reader.terms reader.represents
+    c.feed_piece.new.each} (take count buffer) count c.in_ok-count.ensures.taken
+    (omega (arith, length-take {A = ℕ} count buffer, c.in_ok-count.ensures.within))
+    (omega (arith, c.in_ok-count.ensures.within, c.in_ok-count.ensures.length))
+    (c.in_ok-count.ensures.goes_on bytes (IsFed-all so_far inside))
+    (c.in_ok-count.ensures.adds bytes (IsFed-all so_far inside))

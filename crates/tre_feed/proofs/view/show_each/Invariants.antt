@@ -1,0 +1,8 @@
+use Rattle.std.proofs.Common.{◌≡◌, ◌++◌, map, take, drop}
+use Rattle.tre_feed.specs.Shown.{shown_segment}
+use Rattle.tre_feed.proofs.view.show_each.Given as goal
+
+abbrev pub invariant-loop-segment : goal.invariant-loop-segment
+invariant-loop-segment l = l.segment-items
+    ≡ map (shown_segment l.view) (take l.segment-index l.fn.row)
+    ++ drop l.segment-index l.fn.row

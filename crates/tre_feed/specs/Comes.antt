@@ -1,0 +1,48 @@
+-- What the bytes of an input come to.
+use Rattle.std.specs.Prelude.{◌≡◌, ℕ, ◌≤◌, nat_le, Bool, true, false, List, length, take, Option, None, Some, IfSome}
+use Rattle.std.specs.Io.KnownBytes.{Consumes}
+use Rattle.tre_trace.specs.Reading.{Recording}
+use Rattle.tre_trace.specs.declared.fault.TraceFault.{TraceFault}
+use Rattle.tre_feed.specs.Input.{InputTold, WereRead}
+
+-- They are a trace, they have a first fault, or they have no fault and are too many.
+pub data Outcome : Type 0 where
+  completes : Outcome
+  refuses : TraceFault → Outcome
+  exceeds : Outcome
+
+-- a fault comes first, and then the limit
+abbrev pub outcome_from : Bool → Option TraceFault → Outcome
+outcome_from closed (Some fault) = refuses fault
+outcome_from true None = completes
+outcome_from false None = exceeds
+
+-- What the bytes of an input say that may have `limit` of them. Bytes past the limit are not
+-- judged, and the input is closed only where there are none past it.
+abbrev pub recording_within : (Bool → List ℕ → Recording) → ℕ → List ℕ → Recording
+recording_within recording limit bytes =
+    recording (nat_le (length bytes) limit) (take limit bytes)
+
+-- What they come to.
+unfoldable pub outcome_of : (Bool → List ℕ → Recording) → ℕ → List ℕ → Outcome
+outcome_of recording limit bytes =
+    outcome_from (nat_le (length bytes) limit) (recording_within recording limit bytes).fault
+
+-- The bytes that were read of an input come to this. So do all its bytes, where the source tells
+-- them, and within the limit they say the same stretches.
+pub record ComesTo (recording : Bool → List ℕ → Recording) (limit : ℕ)
+    (file left : Option (List ℕ)) (outcome : Outcome) : Type 0 where
+  pub bytes : List ℕ
+  pub front : Consumes file left bytes
+  pub comes : outcome_of recording limit bytes ≡ outcome
+  pub whole : IfSome file (λ all. outcome_of recording limit all ≡ outcome)
+  pub same : IfSome file (λ all. (recording_within recording limit all).stretches
+      ≡ (recording_within recording limit bytes).stretches)
+
+-- The bytes that were read are within the limit and have no fault, so the input may go on.
+pub record MayGoOn (recording : Bool → List ℕ → Recording) (limit : ℕ) (input : InputTold)
+    : Type 0 where
+  pub bytes : List ℕ
+  pub read : WereRead input bytes
+  pub within : length bytes ≤ limit
+  pub faultless : (recording false bytes).fault ≡ None

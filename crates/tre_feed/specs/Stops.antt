@@ -1,0 +1,73 @@
+-- What the parts of a turn promise each other of one piece, of which `allowed` bytes may be fed and
+-- `room` may come. It is read where `before` was left of the input, and `now` is left behind it.
+use Rattle.std.specs.Prelude.{◌≡◌, ℕ, ◌≤◌, Bool, false, List, ◌++◌, length, take, Option, None, Some, Result, Ok, Err}
+use Rattle.std.specs.Io.KnownBytes.{Consumes, Keeps as KeepsBytes}
+use Rattle.tre_trace.specs.Reading.{Recording, Stretch}
+use Rattle.tre_trace.specs.declared.fault.TraceFault.{TraceFault}
+use Rattle.tre_feed.specs.Outcome.{IsInputKind}
+use Rattle.tre_feed.specs.Turn.{Keeps, TakesOn}
+use Rattle.tre_feed.specs.declared.fault.Fault.{Fault}
+use Rattle.tre_feed.specs.declared.fault.Fault.TheVariants.{Trace, Read, Memory}
+
+-- How a call ended that had all readers read on from one recording to another. The stretches wait
+-- that the later one has beyond the earlier, and the fault is its first. Where memory was wanting,
+-- those wait that did.
+abbrev pub TakesIn : (List Stretch → Type 0) → (List Stretch → Type 0) → Recording → Recording →
+    Result (Unit {0}) Fault → Type 0
+TakesIn waits then_waits before now (Ok done) =
+    TakesOn waits then_waits before now × (now.fault ≡ None)
+TakesIn waits then_waits before now (Err (Trace fault)) =
+    IsInputKind fault.kind × TakesOn waits then_waits before now × (now.fault ≡ Some fault)
+TakesIn waits then_waits before now (Err Memory) = Keeps waits then_waits
+TakesIn waits then_waits before now (Err fault) = ⊥
+
+-- A call told no fault, one of the input, or want of memory.
+abbrev pub IsOfReaders : Result (Unit {0}) Fault → Type 0
+IsOfReaders (Ok done) = Unit {0}
+IsOfReaders (Err (Trace fault)) = Unit {0}
+IsOfReaders (Err Memory) = Unit {0}
+IsOfReaders (Err fault) = ⊥
+
+-- It tells the first fault of the input, or none.
+abbrev pub IsToldOf : Recording → Result (Unit {0}) Fault → Type 0
+IsToldOf now (Ok done) = now.fault ≡ None
+IsToldOf now (Err (Trace fault)) = IsInputKind fault.kind × (now.fault ≡ Some fault)
+IsToldOf now (Err fault) = ⊥
+
+-- A piece was read behind these bytes that has this first fault, and the stretches are all those
+-- that it completes.
+pub record HasFault (recording : Bool → List ℕ → Recording) (allowed room : ℕ) (bytes : List ℕ)
+    (before now : Option (List ℕ)) (waits then_waits : List Stretch → Type 0)
+    (fault : TraceFault) : Type 0 where
+  pub kind : IsInputKind fault.kind
+  pub piece : List ℕ
+  pub front : Consumes before now piece
+  pub short : length piece ≤ room
+  pub all : TakesOn waits then_waits
+      (recording false bytes) (recording false (bytes ++ take allowed piece))
+  pub told : (recording false (bytes ++ take allowed piece)).fault ≡ Some fault
+
+-- A piece was read, and there was no memory for what it says.
+pub record IsLost (room : ℕ) (before now : Option (List ℕ))
+    (waits then_waits : List Stretch → Type 0) : Type 0 where
+  pub piece : List ℕ
+  pub front : Consumes before now piece
+  pub short : length piece ≤ room
+  pub kept : Keeps waits then_waits
+
+-- A read failed: it took no byte.
+pub record ReadsNothing (before now : Option (List ℕ))
+    (waits then_waits : List Stretch → Type 0) : Type 0 where
+  pub left : KeepsBytes before now
+  pub kept : Keeps waits then_waits
+
+-- Why a piece behind these bytes wasn't fed.
+abbrev pub StopsPiece : (Bool → List ℕ → Recording) → ℕ → ℕ → List ℕ → Option (List ℕ) →
+    Option (List ℕ) → (List Stretch → Type 0) → (List Stretch → Type 0) → Fault → Type 0
+StopsPiece recording allowed room bytes before now waits then_waits (Trace fault) =
+    HasFault recording allowed room bytes before now waits then_waits fault
+StopsPiece recording allowed room bytes before now waits then_waits Read =
+    ReadsNothing before now waits then_waits
+StopsPiece recording allowed room bytes before now waits then_waits Memory =
+    IsLost room before now waits then_waits
+StopsPiece recording allowed room bytes before now waits then_waits fault = ⊥

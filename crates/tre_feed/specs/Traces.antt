@@ -1,0 +1,65 @@
+-- How a whole input is read as traces.
+use Rattle.std.specs.Prelude.{◌≡◌, ◌≢◌, ℕ, ◌≤◌, Bool, true, List, length, map, All, None, Some, IsTrue}
+use Rattle.tre_io.specs.Faults.{counted}
+use Rattle.tre_trace.specs.Reading.{Recording, Vocabulary, events_for, segments_for}
+use Rattle.tre_trace.specs.Trace.{Timeline, timeline_of, IsTrace}
+use Rattle.tre_feed.specs.Comes.{ComesTo, MayGoOn, Outcome, exceeds, refuses}
+use Rattle.tre_feed.specs.Input.{InputTold, AllReadsGood, AreAllBytes}
+use Rattle.tre_feed.specs.Outcome.{IsInputKind}
+use Rattle.tre_feed.specs.Standing.{HasEnded, Wait}
+use Rattle.tre_feed.specs.declared.fault.Fault.{Fault}
+use Rattle.tre_feed.specs.declared.fault.Fault.TheVariants.{Trace, TooLong, Read, Memory}
+use Rattle.tre_feed.specs.declared.input.Input.{Input}
+
+-- The trace that a recording is for these names.
+abbrev pub trace_for : Recording → Vocabulary → Timeline
+trace_for said asked =
+    timeline_of (segments_for asked said.stretches) (events_for asked said.last)
+
+-- All that this recording says waits, up to its end, and for any names it is a trace.
+pub record IsAllRead {R : Type 0} (names : R → Vocabulary) (input : Input R) (said : Recording)
+    : Type 0 where
+  pub wait : Wait names input said.stretches
+  pub ended : HasEnded names input said.last
+  pub is_trace : (asked : Vocabulary) → IsTrace (segments_for asked said.stretches)
+
+-- So it is, of some recording.
+pub record IsWholeInput {R : Type 0} (names : R → Vocabulary) (input : Input R) : Type 0 where
+  pub said : Recording
+  pub all : IsAllRead names input said
+
+-- The whole input was read, it is within the limit, and it is these traces: one for each of the
+-- lists of names.
+pub record IsWhole (asked : List Vocabulary) (recording : Bool → List ℕ → Recording) (limit : ℕ)
+    (input : InputTold) (traces : List Timeline) : Type 0 where
+  pub reads : AllReadsGood input
+  pub bytes : List ℕ
+  pub all : AreAllBytes input bytes
+  pub within : length bytes ≤ limit
+  pub faultless : (recording true bytes).fault ≡ None
+  pub reads_as : traces ≡ map (trace_for (recording true bytes)) asked
+  pub are_traces : All (λ trace. IsTrace trace.segments) traces
+
+-- The input comes to this, whatever of it is still to be read.
+pub record IsDecided (recording : Bool → List ℕ → Recording) (limit : ℕ) (input : InputTold)
+    (outcome : Outcome) : Type 0 where
+  pub opened : IsTrue input.opened
+  pub cause : ComesTo recording limit input.file input.left outcome
+  pub reads : AllReadsGood input
+
+-- The input of this name couldn't be opened or read where it might go on.
+pub record IsUnread (recording : Bool → List ℕ → Recording) (limit : ℕ) (name : List ℕ)
+    (input : InputTold) : Type 0 where
+  pub cause : input.faults_now ≡ counted input.faults_before
+  pub unsound : IsTrue input.sound → input.name ≢ Some name
+  pub goes_on : MayGoOn recording limit input
+
+-- Why an input of this name was read as no traces within the limit.
+abbrev pub StopsReading : (Bool → List ℕ → Recording) → ℕ → List ℕ → InputTold → Fault →
+    Type 0
+StopsReading recording limit name input (Trace fault) =
+    IsInputKind fault.kind × IsDecided recording limit input (refuses fault)
+StopsReading recording limit name input TooLong = IsDecided recording limit input exceeds
+StopsReading recording limit name input Read = IsUnread recording limit name input
+StopsReading recording limit name input Memory = AllReadsGood input
+StopsReading recording limit name input fault = ⊥

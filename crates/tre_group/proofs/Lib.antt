@@ -1,4 +1,0 @@
-pub mod Few
-pub mod Joining
-pub mod Names
-pub mod Parts

@@ -1,2 +1,0 @@
--- Which groups have readers.
-pub mod Begun

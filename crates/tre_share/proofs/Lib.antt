@@ -1,4 +1,0 @@
-pub mod Standing
-pub mod Sharing
-pub mod Apart
-mod Whole

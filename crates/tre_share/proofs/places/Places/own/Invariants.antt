@@ -1,7 +1,0 @@
-use Rattle.std.proofs.Common.{take}
-use Rattle.tre_share.specs.Places.{ArePlaces}
-use Rattle.tre_share.proofs.places.Places.own.Given as goal
-
--- the names so far have their places
-abbrev pub invariant-loop-number : goal.invariant-loop-number
-invariant-loop-number l = ArePlaces (take l.number l.names) l.names l.places.items

@@ -1,7 +1,0 @@
-use Rattle.std.proofs.Common.{take, map}
-use Rattle.tre_syntax.specs.Pattern.{names_of}
-use Rattle.tre_share.specs.Shares.{AreShared}
-use Rattle.tre_share.proofs.shares.share.Given as goal
-
-abbrev pub invariant-loop-pattern : goal.invariant-loop-pattern
-invariant-loop-pattern l = AreShared (map names_of (take l.pattern-index l.patterns)) l.shares

@@ -1,0 +1,18 @@
+use Rattle.std.specs.Option.{is_some}
+use Rattle.tre_vcd.specs.VcdReading.{is_signal, is_event, identifier_of}
+use Rattle.tre_vcd.specs.Kept.{vocabulary_of}
+use Rattle.tre_vcd.proofs.Flagging.{flags-declared, flags-undeclared}
+use Rattle.tre_vcd.proofs.found.Found.declare_event.Goals as goal
+
+pub returns-clause-knows : goal.returns-clause-knows
+returns-clause-knows c = λ past identifier tokens knows declares none.
+    let found = c.args.self.now in
+    record {
+      names =
+          flags-undeclared is_signal past tokens (vocabulary_of found).names found.names.items
+          none knows.names;
+      events =
+          flags-declared is_event past identifier c.args.path.now tokens
+          (vocabulary_of found).events c.flag.new.flags.items declares
+          ((rw c.deref.ensures at c.flag.ensures) (λ name. is_some (identifier_of is_event past name)) knows.events);
+    }

@@ -1,0 +1,28 @@
+use Rattle.std.proofs.Common.{◌<◌, [], length, map, arith}
+use Rattle.std.proofs.lemmas.Option.{slice_get-get_or}
+use Rattle.tre_vcd.proofs.Gathering.{joins-none, joins-more, joins-all}
+use Rattle.tre_vcd.proofs.needed.add_all.Goals as goal
+
+pub loop-number-init : goal.loop-number-init
+loop-number-init c = joins-none (map _ c.args.set.now.keys)
+
+pub loop-number-preserved : goal.loop-number-preserved
+loop-number-preserved c =
+    joins-more (map _ c.args.set.now.keys) c.args.names.now (map _ c.loop-number.set.keys)
+    (map _ c.add.new.set.keys) c.loop-number.number c.in-Some.name.now c.as_bytes.result.now
+    c.in-Some.ensures c.as_bytes.ensures.value c.loop-number.invariant
+    c.in_ok-add-in-Some.ensures
+
+pub returns : goal.returns
+returns c =
+    joins-all (map _ c.args.set.now.keys) c.args.names.now (map _ c.loop-number.set.keys)
+    c.loop-number.number (omega (arith, c.loop-number-test.false, c.len-number-end.ensures.len))
+    c.loop-number.invariant
+
+pub unreachable-requires : goal.unreachable-requires
+unreachable-requires c =
+    let within : c.loop-number.number < length c.args.names.now =
+    omega (arith, c.loop-number-test.true, c.len-number-end.ensures.len) in
+    let there = slice_get-get_or c.args.names.now c.loop-number.number [] within in
+    let none = c.in-None.ensures in
+    cc (there, none)
