@@ -66,18 +66,42 @@ def matching(programs, folder):
                   + [ratio(online, before)])
 
 
+def one_name(place):
+    """A duration and the pattern's name, so that there is one zone."""
+    return "%d p\n" % (1 + place % 9)
+
+
+def lines_rows(folder):
+    """Lines of text: a label, the options, and the file."""
+    short, long = os.path.join(folder, "short"), os.path.join(folder, "long")
+    write_file(short, one_name, MEGABYTES)
+    write_file(long, six_names, MEGABYTES)
+    return [("lines of one name, which is asked for", ["p"], short),
+            ("lines of six names, none asked for", ["none"], long),
+            ("the same, one asked for", [PATTERN], long),
+            ("the same, of six asked for", [pattern_of(6)], long),
+            ("the same, of 64 asked for", [pattern_of(64)], long)]
+
+
+def dump_rows(folder):
+    """Dumps, likewise."""
+    labels = [("a dump of 64 signals, two asked for", vcd.ALL),
+              ("a dump of two signals, both asked for", vcd.FEW),
+              ("a dump of 2,000 signals, two asked for", vcd.MANY),
+              ("a dump mostly of vectors, two bits asked for", vcd.VECTORS)]
+    rows = []
+    for place, (label, dump) in enumerate(labels):
+        path = os.path.join(folder, "dump%d" % place)
+        vcd.write_dump(path, dump, dump.block, MEGABYTES)
+        rows.append((label, ["--format", "vcd", dump.pattern()], path))
+    every = ("the same, 56 asked for", ["--format", "vcd", vcd.ALL.pattern_of_all()], rows[0][2])
+    return rows[:1] + [every] + rows[1:]
+
+
 def reading(programs, folder):
     """A row for each form of a trace, and how many of its names the pattern asks for."""
     print_head(["2 MB of", "millions of instructions"] + ["ratio"] * (len(programs) - 1))
-    text, dump = os.path.join(folder, "text"), os.path.join(folder, "dump")
-    write_file(text, six_names, MEGABYTES)
-    vcd.write_dump(dump, vcd.all_signals, MEGABYTES)
-    rows = [("lines of six names, none asked for", ["none"], text),
-            ("the same, one asked for", [PATTERN], text),
-            ("the same, of 64 asked for", [pattern_of(64)], text),
-            ("a dump of 64 signals, two asked for", ["--format", "vcd", vcd.PATTERN], dump),
-            ("the same, 56 asked for", ["--format", "vcd", vcd.pattern_of_all()], dump)]
-    for label, options, given in rows:
+    for label, options, given in lines_rows(folder) + dump_rows(folder):
         print_row([label] + cells(programs, options, given)[1])
 
 

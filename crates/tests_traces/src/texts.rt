@@ -73,3 +73,30 @@ fn a_line_may_have_no_more_bytes(rt: HostRuntime) -> Result<(), Fail> {
     assert!(rt; segments.is_empty());
     Ok(())
 }
+
+// Lines of one tick, on every other of which `p` is true, and behind them one of none.
+fn many_lines(alloc: Global) -> Result<Vec<u8>, Fail> {
+    let mut lines = Vec::new(alloc);
+    for _ in 0..20_000 {
+        lines.extend_from_slice(b"1 p\n1\n")?;
+    }
+    lines.extend_from_slice(b"0\n1\n")?;
+    Ok(lines)
+}
+
+// Whether all of them are read up to the fault, where they come in pieces of so many bytes.
+fn are_read(alloc: Global, lines: &[u8], most: usize) -> Result<bool, Fail> {
+    let said = read(alloc, &mut reader(alloc, "p", "")?, lines, most)?;
+    let is_whole = said.len() == 20_000 * "1:1 1:0 ".len() + "Zero 40001".len();
+    Ok(is_whole && said.starts_with("1:1 1:0 1:1 ") && said.ends_with(" 1:1 1:0 Zero 40001"))
+}
+
+// A run gives no piece of more than 65,536 bytes.
+#[test]
+fn a_piece_may_have_more_bytes_than_a_line(rt: HostRuntime) -> Result<(), Fail> {
+    let lines = many_lines(rt.alloc())?;
+    for most in [200_000, 65_536, 5] {
+        assert!(rt; are_read(rt.alloc(), &lines, most)?, "{most}");
+    }
+    Ok(())
+}

@@ -3,6 +3,7 @@ use Rattle.std.proofs.Common.{◌≡◌, ℕ, suc, ◌+◌, ◌<◌, ◌≤◌, 
 use Rattle.tre_parts.proofs.Cuts.{split_around}
 use Rattle.tre_parts.specs.Growing.{reading-grows}
 use Rattle.tre_parts.specs.Format.{Format, recording_of}
+use Rattle.tre_parts.specs.Skims.{IsFed}
 use Rattle.tre_parts.specs.Walk.{IsInside, EndsAt, IsAt}
 use Rattle.tre_parts.specs.declared.spot.Spot.{Spot}
 use Rattle.tre_trace.specs.declared.reader.TheConstants.{FED_MAX}
@@ -10,26 +11,6 @@ use Rattle.tre_trace.proofs.Readings.{Adds-trans, IsRefused-after, IsRefused-gro
 use Rattle.tre_trace.specs.Reading.{Vocabulary, Adds, IsRefused}
 use Rattle.tre_trace.specs.declared.segment.Segment.{Segment}
 use Rattle.tre_trace.specs.declared.fault.TraceFault.{TraceFault}
-
--- The front of the piece was read, and this is its rest.
-pub record IsFed {Reader Terms State : Type 0} (gv : Reader → Vocabulary)
-    (tm : Reader → Terms) (fm : Terms → Format State)
-    (hd : Reader → State → Type 0)
-    (reader : Reader) (part : List ℕ) (spot : Spot) (old : List Segment) (piece : List ℕ)
-    (reader_now : Reader) (part_now : List ℕ) (spot_now : Spot) (new : List Segment) (rest : List ℕ)
-    : Type 0 where
-  pub taken : List ℕ
-  pub cut : piece ≡ taken ++ rest
-  pub same_terms : tm reader_now ≡ tm reader
-  pub same_groups : gv reader_now ≡ gv reader
-  pub behind : (terms : Terms) (bytes : List ℕ) → IsAt tm fm hd terms reader part spot bytes
-      → length bytes + length piece ≤ FED_MAX
-      → IsAt tm fm hd terms reader_now part_now spot_now (bytes ++ taken)
-  pub adds : (terms : Terms) (bytes : List ℕ) → IsAt tm fm hd terms reader part spot bytes
-      → length bytes + length piece ≤ FED_MAX
-      → Adds (gv reader) old new (recording_of (fm terms) false bytes)
-      (recording_of (fm terms) false
-      (bytes ++ taken))
 
 -- all bytes of the piece, in three stretches
 pub in_stretches : (bytes piece taken rest front later : List ℕ) → piece ≡ taken ++ rest → rest
@@ -76,7 +57,7 @@ fed-refused {gv = gv} {fm = fm} {reader = reader} {old = old} {mid = mid} {new =
     (IsRefused-after (gv reader) old mid new _ _ _ fault (fed.adds terms bytes here few)
     (subst (λ (gs : Vocabulary). IsRefused gs mid new
     (recording_of f false (bytes ++ fed.taken))
-    (recording_of f false ((bytes ++ fed.taken) ++ front)) fault) fed.same_groups refused))
+    (recording_of f false ((bytes ++ fed.taken) ++ front)) fault) fed.same_names refused))
     (reading-grows f false ((bytes ++ fed.taken) ++ front) later))
 
 -- what a part needs of where it stands
@@ -143,7 +124,7 @@ fed-step {gv = gv} {tm = tm} {fm = fm} {hd = hd} {reader = reader} {next = next}
       cut = fed.cut ∙ ap (λ more. fed.taken ++ more) (around rest k ends.within
           ∙ ap (λ later. front ++ later) (sym is)) ∙ sym (append_assoc fed.taken front _);
       same_terms = same ∙ fed.same_terms;
-      same_groups = same_gs ∙ fed.same_groups;
+      same_names = same_gs ∙ fed.same_names;
       behind = λ terms bytes here few.
           subst (λ (all : List ℕ). IsAt tm fm hd terms next part_next spot_next all)
           (append_assoc bytes fed.taken front)
@@ -154,6 +135,6 @@ fed-step {gv = gv} {tm = tm} {fm = fm} {hd = hd} {reader = reader} {next = next}
           (Adds-trans (gv reader) old mid new _ _ _ (fed.adds terms bytes here few)
           (subst (λ (gs : Vocabulary). Adds gs mid new
           (recording_of (fm terms) false (bytes ++ fed.taken))
-          (recording_of (fm terms) false ((bytes ++ fed.taken) ++ front))) fed.same_groups
+          (recording_of (fm terms) false ((bytes ++ fed.taken) ++ front))) fed.same_names
           (takes terms (bytes ++ fed.taken) (fed-room fed terms bytes here few ends)).1));
     }

@@ -10,7 +10,9 @@ use Rattle.std.proofs.lemmas.Nat.{shr-shr}
 use Rattle.std.proofs.lemmas.Nat.Bits.{bit_at-zero, bit_at-trailing_zeros}
 use Rattle.std.proofs.lemmas.Simd.{bit_mask_l, length-chunk, get_or-chunk}
 use Rattle.tre_parts.specs.Bytes.{NoneBetween, IsNextAt}
+use Rattle.tre_parts.specs.Marks.{AreMarks}
 use Rattle.tre_parts.specs.Walk.{EndsAt}
+use Rattle.tre_parts.specs.declared.marks.Marks.{Marks}
 use lib.Lanes.{mask_l, chunk}
 
 no_one : (b : Bool) → ◌≡◌ {A = ℕ} 0 (cond b 1 0) → b ≡ false
@@ -95,6 +97,15 @@ module _ (p : ℕ → Bool) (bytes : List ℕ) (i mask : ℕ) (room : i + 16 ≤
           here = set_is place run at within bit.1;
         }
 
+    -- it is one of the sixteen
+    pub found_within : mask / 2 ^ by ≢ 0 → mask < 2 ^ 64
+        → by + trailing_zeros w64 (mask / 2 ^ by) < 16
+    found_within some fits =
+        let found = mask / 2 ^ by in
+        let run = trailing_zeros w64 found in
+        let bit = bit_at-trailing_zeros w64 found (omega (arith, some)) (omega (arith, fits, div-le_self mask (2 ^ by))) in
+        bit_within (by + run) (sym (shifted run) ∙ bit.1)
+
 -- ---- one stretch after another
 
 pub none_joined : (p : ℕ → Bool) (bytes : List ℕ) (from place to : ℕ)
@@ -126,6 +137,48 @@ first_in p bytes i mask room is some fits =
     let same : mask / 2 ^ 0 ≡ mask = omega arith in
     subst (λ m. IsNextAt p bytes i (i + trailing_zeros w64 m)) same
     (first_found p bytes i mask room is 0 i (omega arith) (λ none. some (sym same ∙ none)) fits)
+
+-- behind the first one, the mask of the sixteen is still theirs
+pub marks_behind : (p : ℕ → Bool) (bytes : List ℕ) (from : ℕ) (marks : Marks)
+    → AreMarks p bytes from marks → marks.bits / 2 ^ (from - marks.block) ≢ 0
+    → AreMarks p bytes (from + trailing_zeros w64 (marks.bits / 2 ^ (from - marks.block)) + 1) marks
+marks_behind p bytes from marks are some =
+    let within = found_within p bytes marks.block marks.bits are.within are.bits
+    (from - marks.block) some are.fits in
+    record {
+      behind = omega (arith, are.behind);
+      near = omega (arith, are.behind, within);
+      within = are.within;
+      fits = are.fits;
+      bits = are.bits;
+    }
+
+pub marks_found : (p : ℕ → Bool) (bytes : List ℕ) (from : ℕ) (marks : Marks)
+    → AreMarks p bytes from marks → marks.bits / 2 ^ (from - marks.block) ≢ 0
+    → IsNextAt p bytes from (from + trailing_zeros w64 (marks.bits / 2 ^ (from - marks.block)))
+marks_found p bytes from marks are some =
+    first_found p bytes marks.block marks.bits are.within are.bits (from - marks.block) from
+    (omega (arith, are.behind)) some are.fits
+
+-- none of the sixteen is left, and this is the first one behind them
+pub marks_past : (p : ℕ → Bool) (bytes : List ℕ) (from place : ℕ) (marks : Marks)
+    → AreMarks p bytes from marks → marks.bits / 2 ^ (from - marks.block) ≡ 0
+    → IsNextAt p bytes (marks.block + 16) place → IsNextAt p bytes from place
+marks_past p bytes from place marks are none is =
+    next_after p bytes from (marks.block + 16) place are.near
+    (none_found p bytes marks.block marks.bits are.within are.bits (from - marks.block) from
+    (omega (arith, are.behind)) none) is
+
+-- the marks of a block in which the first one was found
+pub marks_new : (p : ℕ → Bool) (bytes : List ℕ) (block bits : ℕ) → block + 16 ≤ length bytes
+    → bits ≡ mask_l (map p (chunk block 16 bytes)) → bits ≢ 0 → bits < 2 ^ 64
+    → AreMarks p bytes (block + trailing_zeros w64 bits + 1) (record { block = block; bits = bits })
+marks_new p bytes block bits room is some fits =
+    let same : bits / 2 ^ 0 ≡ bits = omega arith in
+    let within : 0 + trailing_zeros w64 bits < 16 =
+    subst (λ m. 0 + trailing_zeros w64 m < 16) same
+    (found_within p bytes block bits room is 0 (λ none. some (sym same ∙ none)) fits) in
+    record { behind = omega arith; near = omega (arith, within); within = room; fits = fits; bits = is }
 
 -- ---- from the first place on
 

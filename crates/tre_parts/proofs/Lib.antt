@@ -1,5 +1,6 @@
-mod Cuts
+pub mod Cuts
 pub mod Walks
+pub mod Skimming
 mod Feeding
 mod Fed
 mod Lanes

@@ -16,7 +16,7 @@ use Rattle.tre_trace.specs.declared.fault.TraceFault.{TraceFault}
 use Rattle.tre_trace.specs.declared.fault.TraceKind.{TraceKind}
 use Rattle.tre_trace.specs.declared.fault.TraceKind.TheVariants.{LineTooLong, Memory, Spent}
 
-behind-behind : (told stretches : List Stretch) (more : Recording)
+pub behind-behind : (told stretches : List Stretch) (more : Recording)
     → behind told (behind stretches more)
     ≡ behind (told ++ stretches) more
 behind-behind told stretches more = ap

@@ -2,7 +2,9 @@
 pub mod Format
 -- What the functions inside promise each other.
 pub mod Walk
+pub mod Skims
 pub mod Bytes
+pub mod Marks
 pub mod Parts
 -- Why a mask of sixteen bytes tells a class, which the impl of one cites.
 pub mod Lanes

@@ -2,10 +2,11 @@
 //!
 //! A [`PartReader`] says what one part says. [`Parts`] makes a reader of pieces of it: a part
 //! that lies whole in a piece is read where it lies, and only one that a piece cuts is kept until
-//! its end comes. The layers above rely on [`Parts`] being a `TraceReader` of the format, however
-//! the bytes are cut. What the bytes of a format say is in specs/Format.antt. [`find_name`] and
-//! [`first_of`] read what parts of both formats have in common: names of a pattern, and bytes up
-//! to the first of a class.
+//! its end comes. Whole plain parts may be skimmed: read many at a time, up to the first that is
+//! not plain or has a fault. The layers above rely on [`Parts`] being a `TraceReader` of the
+//! format, however the bytes are cut. What the bytes of a format say is in specs/Format.antt.
+//! [`find_name`], [`first_of`] and [`Marks`] read what parts of both formats have in common: names
+//! of a pattern, bytes up to the first of a class, and the bytes of a class one after the other.
 //!
 //! ```text
 //! let mut lines = Parts::new(alloc, LineReader { .. });
@@ -14,18 +15,22 @@
 #![tactic(auto)]
 
 mod byte_class;
+mod marks;
 mod names;
 mod part_reader;
 mod parts;
 mod said;
+mod skimmed;
 mod spot;
 mod walk;
 
 pub use byte_class::{ByteClass, first_from, first_of};
+pub use marks::Marks;
 pub use names::find_name;
 pub use part_reader::PartReader;
 pub use parts::Parts;
 pub use said::Said;
+pub use skimmed::Skimmed;
 pub use spot::Spot;
 
 /// How many bytes a part may have.

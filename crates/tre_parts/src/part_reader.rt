@@ -3,10 +3,11 @@ ghost use Rattle.tre_parts.specs.Format.{Format, KeepsTime};
 ghost use Rattle.tre_parts.specs.declared.said.Said.{Said};
 ghost use Rattle.tre_trace.specs.Reading.{Vocabulary, events_for};
 ghost use Rattle.tre_trace.specs.declared.fault.TraceKind.TheVariants.{Spent, Memory};
+ghost use Rattle.tre_parts.specs.Skims.{Skims};
 ghost use Rattle.tre_parts.specs.Walk.{IsInside, EndsAt, Tells};
 
-use crate::{PART_MAX, Said, Spot};
-use tre_trace::TraceKind;
+use crate::{PART_MAX, Said, Skimmed, Spot};
+use tre_trace::{Segment, TraceKind};
 
 /// Reads the parts of a format, one after the other.
 pub trait PartReader {
@@ -32,6 +33,18 @@ pub trait PartReader {
     fn separator_in(&self, bytes: &[u8]) -> Option<usize>
         ensures none { IfNone result (IsInside (format (terms self.now)).separates bytes.now) }
         ensures first { IfSome result (EndsAt (format (terms self.now)).separates bytes.now) };
+
+    /// Reads whole parts from the front of the bytes on, each with the separator behind it, as long
+    /// as they are plain, and puts their segments behind the others. It may stop before any part,
+    /// and stops before one that has a fault: `read` is asked for that.
+    fn skim(&mut self, bytes: &[u8], segments: &mut Vec<Segment>) -> Skimmed
+        requires short { length bytes.now ≤ PART_MAX }
+        ensures skims { (state : State) → holds self.old state →
+            Skims (names self.old) (format (terms self.old)) (holds self.new) state bytes.now
+            segments.old.items segments.new.items result }
+        ensures within { result.bytes ≤ length bytes.now }
+        ensures same_terms { terms self.new ≡ terms self.old }
+        ensures same_names { names self.new ≡ names self.old };
 
     /// Reads the next part. After `Wrong` it is not asked again, so nothing is said of what it then
     /// knows.

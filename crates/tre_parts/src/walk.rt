@@ -1,6 +1,7 @@
 // Where a reader is in its input.
-ghost use Rattle.std.specs.Prelude.{◌≡◌, ◌≢◌, ℕ, ◌+◌, ◌≤◌, List, [], ◌∷◌, None, ◌++◌, length, true, false, OnOk, IfErr};
+ghost use Rattle.std.specs.Prelude.{◌≡◌, ◌≢◌, ℕ, ◌+◌, ◌≤◌, List, [], ◌∷◌, None, ◌++◌, length, drop, true, false, OnOk, IfErr};
 ghost use Rattle.tre_parts.specs.Format.{recording_of, part_says};
+ghost use Rattle.tre_parts.specs.Skims.{IsFed};
 ghost use Rattle.tre_parts.specs.Walk.{IsInside, IsAt, AddsPart, IsRefusedPart, IsEnded, Takes};
 ghost use Rattle.tre_trace.specs.Reading.{IsPlaced, Vocabulary};
 ghost use Rattle.tre_trace.specs.declared.fault.TraceKind.TheVariants.{Spent};
@@ -59,6 +60,19 @@ fn out_of_memory() -> TraceFault
 {
     let kind = TraceKind::Memory;
     TraceFault { place: 0, kind }
+}
+
+// The first bytes, at most so many.
+#[inline(always)]
+fn first_bytes(bytes: &[u8], most: usize) -> &[u8]
+    ensures cut { bytes.now ≡ result.now ++ drop (length result.now) bytes.now }
+    ensures within { length result.now ≤ length bytes.now }
+    ensures short { length result.now ≤ most }
+{
+    if bytes.len() <= most {
+        return bytes;
+    }
+    &bytes[..most]
 }
 
 impl<R: PartReader + Drop> Walk<R> {
@@ -164,6 +178,23 @@ impl<R: PartReader + Drop> Walk<R> {
         Ok(())
     }
 
+    // Reads whole parts at once from the front of the bytes on, where no part was begun, and gives
+    // what is left.
+    #[inline(always)]
+    fn skim<'a>(&mut self, bytes: &'a [u8], segments: &mut Vec<Segment>) -> &'a [u8]
+        ensures fed { IsFed R.names R.terms R.format R.holds self.old.reader self.old.part.items
+            self.old.spot segments.old.items bytes.now self.new.reader self.new.part.items
+            self.new.spot segments.new.items result.now }
+        ensures shorter { length result.now ≤ length bytes.now }
+    {
+        if !self.part.is_empty() {
+            return bytes;
+        }
+        let read = self.reader.skim(first_bytes(bytes, PART_MAX), segments);
+        self.spot = self.spot.behind(read);
+        &bytes[read.bytes..]
+    }
+
     // Reads a piece: the parts that end in it, and then what is kept of it.
     pub fn feed(&mut self, piece: &[u8], segments: &mut Vec<Segment>) -> Result<(), TraceFault>
         ensures takes { (terms : R.Terms) (bytes : List ℕ) →
@@ -180,10 +211,10 @@ impl<R: PartReader + Drop> Walk<R> {
         ensures same_terms { R.terms self.new.reader ≡ R.terms self.old.reader }
         ensures same_names { R.names self.new.reader ≡ R.names self.old.reader }
     {
-        let mut rest = piece;
+        let mut rest = self.skim(piece, segments);
         while let Some(place) = self.reader.separator_in(rest) {
             self.end_part(&rest[..place], segments)?;
-            rest = &rest[place + 1..];
+            rest = self.skim(&rest[place + 1..], segments);
         }
         self.keep(rest)?;
         Ok(())

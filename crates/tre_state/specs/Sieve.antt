@@ -9,9 +9,15 @@ slot_of bytes =
     (slice_index_or bytes (length bytes - 1) 0 + 10 * slice_index_or bytes (length bytes - 2) 0
     + 4 * slice_index_or bytes (length bytes / 2) 0 + 13 * (length bytes % 64)) % 64
 
--- Bytes may have a number where its bit is set in their slot.
+-- the last byte; 0 where there is none
+unfoldable pub last_of : List ℕ → ℕ
+last_of bytes = slice_index_or bytes (length bytes - 1) 0
+
+-- Bytes may have a number where its bit is set in their slot, and in that of their last byte.
 abbrev pub MayBe : List ℕ → List ℕ → ℕ → Type 0
-MayBe masks bytes k = bit_at (slice_index_or masks (slot_of bytes) 0) k ≡ 1
+MayBe masks bytes k =
+    (bit_at (slice_index_or masks (slot_of bytes) 0) k ≡ 1)
+    × (bit_at (slice_index_or masks (64 + last_of bytes) 0) k ≡ 1)
 
 -- Each of the texts may have its place as its number.
 pub record AreSifted (texts : List (List ℕ)) (masks : List ℕ) : Type 0 where

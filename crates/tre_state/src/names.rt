@@ -1,4 +1,4 @@
-ghost use Rattle.std.specs.Prelude.{ℕ, ◌≡◌, ◌<◌, ◌↔◌, [], ◌∷◌, ◌++◌, length, map, slice_get, true, Some, IsTrue, IsSome, IsOk, IfOk, OnOk, OnErr};
+ghost use Rattle.std.specs.Prelude.{ℕ, ◌≡◌, ◌<◌, ◌↔◌, [], ◌∷◌, ◌++◌, length, map, slice_get, true, false, Some, IsTrue, IsSome, IsOk, IfOk, OnOk, OnErr};
 ghost use Rattle.std.specs.Int.{bit_at};
 ghost use Rattle.std.specs.String.{string_bytes};
 ghost use Rattle.std.specs.Option.{option_map};
@@ -88,6 +88,15 @@ impl Names {
         ensures { result ≡ place_of self.now name.now }
     {
         self.find_bytes(name.as_bytes())
+    }
+
+    /// Whether a name may have these bytes: one ends as they do. A reader asks it before it looks
+    /// for the number, since most words are no names.
+    #[inline(always)]
+    pub fn may_hold(&self, bytes: &[u8]) -> bool
+        ensures { result ≡ false → place_of self.now bytes.now ≡ None }
+    {
+        self.sieve.may_be(bytes)
     }
 
     /// The number of the name that has these bytes, if it is held. They need not be text.

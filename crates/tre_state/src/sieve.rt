@@ -1,11 +1,14 @@
-ghost use Rattle.std.specs.Prelude.{◌≡◌, ◌≢◌, ℕ, ◌<◌, List};
+ghost use Rattle.std.specs.Prelude.{◌≡◌, ◌≢◌, ℕ, ◌<◌, List, false, slice_index_or};
 ghost use Rattle.std.specs.Int.{bit_at};
-ghost use Rattle.tre_state.specs.Sieve.{slot_of, MayBe};
+ghost use Rattle.tre_state.specs.Sieve.{slot_of, last_of, MayBe};
 
 use std::marker::Model;
 
 // How many slots there are. No more texts are told apart, so a slot has a bit for each of them.
 const SLOTS: usize = 64;
+
+// Those and one for each byte that a text may end with.
+const ALL: usize = 320;
 
 /// Which of up to 64 texts some bytes may be.
 ///
@@ -14,7 +17,7 @@ const SLOTS: usize = 64;
 /// there are.
 #[derive(Debug, Drop)]
 pub struct Sieve {
-    masks: [u64; SLOTS],
+    masks: [u64; ALL],
 }
 
 impl Model for Sieve {
@@ -28,7 +31,7 @@ impl Model for Sieve {
 impl Sieve {
     /// It names no number.
     pub fn new() -> Sieve {
-        Sieve { masks: [0; SLOTS] }
+        Sieve { masks: [0; ALL] }
     }
 
     /// The same once more.
@@ -45,7 +48,27 @@ impl Sieve {
         ensures kept { (other : List ℕ) (k : ℕ) → MayBe self.old other k →
             MayBe self.new other k }
     {
-        self.masks[slot_of(bytes)] |= 1 << number;
+        self.add_at(slot_of(bytes), number);
+        self.add_at(SLOTS + last_of(bytes), number);
+    }
+
+    // The number is one of this slot.
+    fn add_at(&mut self, slot: usize, number: u8)
+        requires within { slot < ALL }
+        requires small { number < 64 }
+        ensures added { bit_at (slice_index_or self.new slot 0) number ≡ 1 }
+        ensures kept { (other k : ℕ) → bit_at (slice_index_or self.old other 0) k ≡ 1 →
+            bit_at (slice_index_or self.new other 0) k ≡ 1 }
+    {
+        self.masks[slot] |= 1 << number;
+    }
+
+    /// Whether these bytes may have a number: a text ends as they do.
+    #[inline(always)]
+    pub fn may_be(&self, bytes: &[u8]) -> bool
+        ensures { result ≡ false → (k : ℕ) → MayBe self.now bytes.now k → ⊥ }
+    {
+        self.masks[SLOTS + last_of(bytes)] != 0
     }
 
     /// The numbers that these bytes may have: bit k stands for number k.
@@ -53,9 +76,21 @@ impl Sieve {
     pub fn numbers(&self, bytes: &[u8]) -> u64
         ensures { (k : ℕ) → MayBe self.now bytes.now k → bit_at result k ≡ 1 }
     {
-        let slot = slot_of(bytes);
-        self.masks[slot]
+        self.masks[slot_of(bytes)] & self.masks[SLOTS + last_of(bytes)]
     }
+}
+
+// The last byte; 0 where there is none.
+#[inline(always)]
+fn last_of(bytes: &[u8]) -> usize
+    ensures last { result ≡ last_of bytes.now }
+    ensures within { result < 256 }
+{
+    let len = bytes.len();
+    if len == 0 {
+        return 0;
+    }
+    usize::from(bytes[len - 1])
 }
 
 // Texts that are numbered differ in their last bytes most often, so these count by themselves.

@@ -5,5 +5,6 @@ pub mod TraceLines
 -- What the functions inside promise each other.
 pub mod Lines
 pub mod Words
+pub mod Plain
 -- Why the law of the format holds, which its impl cites.
 pub mod Times

@@ -21,6 +21,8 @@ pub mod laws;
 mod line;
 mod line_end;
 mod line_reader;
+mod open_line;
+mod skim;
 mod word;
 
 pub use line_reader::LineReader;

@@ -19,11 +19,14 @@ use tre_trace::TraceKind;
 
 // The bits, with that of this name set besides.
 #[inline(always)]
-fn with_name(names: &Names, bits: u64, field: &[u8]) -> u64
+pub fn with_name(names: &Names, bits: u64, field: &[u8]) -> u64
     ensures { result ≡ with_name names.now bits field.now }
 {
     // For the proof: the call says that there are at most 64 names.
     let _ = names.len();
+    if !names.may_hold(field) {
+        return bits;
+    }
     match find_name(names, field) {
         Some(place) => bits | (1 << place),
         None => bits,
@@ -64,7 +67,7 @@ fn is_events(first: &[u8]) -> bool
 // The number of units that the field is. Most are one digit, and need no loop where a unit is a
 // tick.
 #[inline(always)]
-fn length_of(field: &[u8], scale: u8) -> Option<u64>
+pub fn length_of(field: &[u8], scale: u8) -> Option<u64>
     requires { scale ≤ SCALE_MAX }
     ensures { result ≡ option_map (λ units. min units (2 ^ 64 - 1)) (units_of scale field.now) }
 {

@@ -9,7 +9,9 @@ use crate::found::Found;
 use crate::known::Known;
 use crate::line::read_line;
 use crate::line_end::line_end_in;
-use tre_parts::{PartReader, Said, Spot};
+use crate::skim::skim_lines;
+use std::alloc::Global;
+use tre_parts::{PartReader, Said, Skimmed, Spot};
 use tre_state::Names;
 use tre_trace::{Segment, TraceKind};
 
@@ -66,6 +68,14 @@ impl PartReader for LineReader {
     #[inline(always)]
     fn separator_in(&self, bytes: &[u8]) -> Option<usize> {
         line_end_in(bytes)
+    }
+
+    #[inline(always)]
+    fn skim(&mut self, bytes: &[u8], segments: &mut Vec<Segment>) -> Skimmed {
+        if bytes.len() < 16 {
+            return Skimmed { bytes: 0, parts: 0 };
+        }
+        skim_lines(&self.names, self.scale, &mut self.known, bytes, segments)
     }
 
     #[inline(always)]

@@ -9,7 +9,7 @@ use tre_parts::{ByteClass, first_from};
 use tre_state::{continues_name, starts_name};
 
 // The bytes that no name goes on with.
-struct Stop;
+pub struct Stop;
 
 impl ByteClass for Stop {
     ghost has = { stops_name };

@@ -23,7 +23,7 @@ use crate::white::White;
 use std::alloc::{AllocError, Global};
 use std::rc::Rc;
 use tre_pairs::TIME_MAX;
-use tre_parts::{PartReader, Said, Spot, first_of};
+use tre_parts::{PartReader, Said, Skimmed, Spot, first_of};
 use tre_state::Names;
 use tre_trace::{Segment, TraceKind};
 
@@ -506,6 +506,11 @@ impl PartReader for TokenReader {
     #[inline(always)]
     fn separator_in(&self, bytes: &[u8]) -> Option<usize> {
         first_of::<White>(bytes)
+    }
+
+    // Each token is read by itself.
+    fn skim(&mut self, bytes: &[u8], segments: &mut Vec<Segment>) -> Skimmed {
+        Skimmed { bytes: 0, parts: 0 }
     }
 
     #[inline(always)]

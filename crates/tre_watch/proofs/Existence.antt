@@ -1,12 +1,12 @@
 -- Every file has an outcome.
-use Rattle.std.proofs.Common.{◌≡◌, ℕ, suc, ◌+◌, ◌<◌, ◌≤◌, ◌⊎◌, IsTrue, Bool, true, false, nat_le, nat_lt, MatchBool, is_some, List, [], ◌∷◌, ◌++◌, length, get_or, take, drop, refl, inl, inr, arith}
+use Rattle.std.proofs.Common.{◌≡◌, ℕ, suc, ◌+◌, ◌<◌, ◌≤◌, ◌⊎◌, Bool, true, false, nat_le, nat_lt, MatchBool, is_some, List, [], ◌∷◌, ◌++◌, length, get_or, take, drop, refl, inl, inr, arith}
 use Rattle.std.proofs.lemmas.Bool.{cases_Bool, cases_eq, cases_lt}
-use Rattle.std.proofs.lemmas.List.Sums.{AllPass-from_list_all, list_all-from_AllPass}
 use Rattle.std.proofs.lemmas.Str.Ascii.{IsAscii-nil, IsAscii-cons}
 use Rattle.std.specs.Char.{is_newline}
-use Rattle.std.specs.List.{AllPass, list_all, prefix_len, slice_split}
+use Rattle.std.specs.List.{prefix_len, slice_split}
 use Rattle.std.specs.Str.{IsAscii}
-use Rattle.tre_state.specs.Name.{starts_name, continues_name, is_reserved, IsWord, IsName}
+use Rattle.tre_state.proofs.Deciding.{Decided, name_or}
+use Rattle.tre_state.specs.Name.{continues_name, IsName}
 use Rattle.tre_state.specs.Names.{place_of}
 use Rattle.tre_state.specs.declared.names.TheConstants.{NAMES_MAX}
 use Rattle.tre_parse.specs.Outcome.{Outcome as Parsed, spelt, refused, IsOutcome as ParsesTo}
@@ -18,38 +18,6 @@ use Rattle.tre_watch.specs.Outcome.{SpeltPattern, Outcome, faulty, AfterText, Fo
 use Rattle.tre_watch.proofs.Checks.{found_check, no_check-sign, no_check-name}
 
 -- ---- whether a line has a check
-
--- A fact, or that it is none.
-abbrev Decided : Type 0 → Type 0
-Decided P = P ⊎ (P → ⊥)
-
-both_or : {P Q : Type 0} → Decided P → Decided Q → Decided (P × Q)
-both_or (inl p) (inl q) = inl (p, q)
-both_or (inl p) (inr never) = inr (λ h. never h.1)
-both_or (inr never) _ = inr (λ h. never h.0)
-
-not_or : {P : Type 0} → Decided P → Decided (P → ⊥)
-not_or (inl p) = inr (λ never. never p)
-not_or (inr never) = inl never
-
-true_or : (t : Bool) → Decided (IsTrue t)
-true_or true = inl refl
-true_or false = inr (λ e. absurd (cc))
-
-pass_or : (p : ℕ → Bool) (bytes : List ℕ) → (list_all p bytes ≡ true) ⊎ (list_all p bytes ≡ false)
-    → Decided (AllPass p bytes)
-pass_or p bytes (inl all) = inl (AllPass-from_list_all p bytes all)
-pass_or p bytes (inr other) =
-    inr (λ h. let all = list_all-from_AllPass p bytes h in absurd (cc))
-
-word_or : (bytes : List ℕ) → Decided (IsWord bytes)
-word_or [] = inr (λ h. h)
-word_or (first ∷ rest) =
-    both_or (true_or (starts_name first))
-    (pass_or continues_name rest (cases_Bool (list_all continues_name rest)))
-
-name_or : (bytes : List ℕ) → Decided (IsName bytes)
-name_or bytes = both_or (word_or bytes) (not_or (true_or (is_reserved bytes)))
 
 ascii_with : (byte : ℕ) (bytes : List ℕ) → (byte < 128) ⊎ (128 ≤ byte) → Decided (IsAscii bytes)
     → Decided (IsAscii (byte ∷ bytes))

@@ -7,7 +7,7 @@ ghost use Rattle.tre_state.specs.Name.{continues_name};
 ghost use Rattle.tre_watch.specs.Lines.{is_blank, behind, is_silent, IsCheck, Says, said_on};
 
 use std::str;
-use tre_state::{continues_name, is_name};
+use tre_state::{continues_name, front_len, is_name};
 
 /// A line, as far as a plan goes.
 #[derive(Clone, Copy, Debug)]
@@ -59,12 +59,7 @@ fn blanks_len(bytes: &[u8]) -> usize
     ensures len { result ≡ prefix_len is_blank bytes.now }
     ensures within { result ≤ length bytes.now }
 {
-    for (place, &byte) in bytes.iter().enumerate() {
-        if !is_blank(byte) {
-            return place;
-        }
-    }
-    bytes.len()
+    front_len(bytes, is_blank)
 }
 
 // How many bytes of a name they begin with.
@@ -72,12 +67,7 @@ fn name_len(bytes: &[u8]) -> usize
     ensures len { result ≡ prefix_len continues_name bytes.now }
     ensures within { result ≤ length bytes.now }
 {
-    for (place, &byte) in bytes.iter().enumerate() {
-        if !continues_name(byte) {
-            return place;
-        }
-    }
-    bytes.len()
+    front_len(bytes, |byte| continues_name(byte))
 }
 
 // Whether nothing stands there, or a comment.

@@ -2,13 +2,14 @@ use Rattle.std.proofs.Common.{◌≡◌, ◌+◌, suc, ◌++◌, [], ◌∷◌, 
 use Rattle.std.proofs.lemmas.Result.{err_from_is_err_and}
 use Rattle.tre_parts.proofs.Cuts.{take-rest}
 use Rattle.tre_parts.proofs.Feeding.{in_two, around, fed-refused, fed-room, fed-step}
+use Rattle.tre_parts.proofs.Skimming.{fed-trans}
 use Rattle.tre_trace.proofs.Readings.{Adds-trans}
 use Rattle.tre_parts.proofs.walk.Walk.feed.Goals as goal
 
 pub returns-in_err-end_part-clause-takes : goal.returns-in_err-end_part-clause-takes
 returns-in_err-end_part-clause-takes g c = λ terms bytes here few.
     let p = err_from_is_err_and c.from_residual.result c.from_residual.ensures.1 in
-    let fed = c.loop-place.invariant in
+    let fed = fed-trans c.skim-rest.ensures.fed c.loop-place.invariant in
     let rest = c.loop-place.rest.now in
     let k = c.in-Some.place in
     let ends = c.in-Some.ensures.first in
@@ -24,17 +25,17 @@ loop-place-preserved g c =
     let rest = c.loop-place.rest.now in
     let k = c.in-Some.place in
     let one : k + 1 ≡ suc k = omega arith in
-    fed-step c.loop-place.invariant c.in-Some.ensures.first c.in_ok-end_part.ensures.same_terms
-    c.in_ok-end_part.ensures.same_names
+    fed-trans (fed-step c.loop-place.invariant c.in-Some.ensures.first
+    c.in_ok-end_part.ensures.same_terms c.in_ok-end_part.ensures.same_names
     (λ terms bytes room. c.in_ok-end_part.ensures.takes terms bytes (get_or rest k 0) room.at
     room.inside room.ends room.few)
-    (rw one (take-rest (suc k) rest))
+    (rw one (take-rest (suc k) rest))) c.skim-rest-in-Some.ensures.fed
 
 pub returns-in_err-keep-clause-takes : goal.returns-in_err-keep-clause-takes
 returns-in_err-keep-clause-takes g c = λ terms bytes here few.
     let p = err_from_is_err_and c.from_residual-in_err-keep.result
     c.from_residual-in_err-keep.ensures.1 in
-    let fed = c.loop-place.invariant in
+    let fed = fed-trans c.skim-rest.ensures.fed c.loop-place.invariant in
     let rest = c.loop-place.rest.now in
     let at = fed.behind terms bytes here few in
     let inside = rw at.named at c.in_default.ensures.none in
@@ -46,7 +47,7 @@ returns-in_err-keep-clause-takes g c = λ terms bytes here few.
 
 pub returns-clause-takes : goal.returns-clause-takes
 returns-clause-takes g c = λ terms bytes here few.
-    let fed = c.loop-place.invariant in
+    let fed = fed-trans c.skim-rest.ensures.fed c.loop-place.invariant in
     let rest = c.loop-place.rest.now in
     let at = fed.behind terms bytes here few in
     let inside = rw at.named at c.in_default.ensures.none in

@@ -1,5 +1,5 @@
 use Rattle.std.proofs.Common.{length}
-use Rattle.tre_parts.proofs.Feeding.{IsFed}
+use Rattle.tre_parts.specs.Skims.{IsFed}
 use Rattle.tre_parts.proofs.walk.Walk.feed.Given as goal
 
 abbrev pub invariant-loop-place : goal.invariant-loop-place
